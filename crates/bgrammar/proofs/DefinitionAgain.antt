@@ -4,7 +4,7 @@ use Rattle.blang.specs.declared.token.Token.{Token}
 use Rattle.blang.specs.declared.token.Token.TheVariants as token
 use Rattle.blang.specs.declared.token.Keyword.TheVariants as keyword
 use Rattle.blang.specs.declared.token.Placed.{Placed}
-use Rattle.blang.specs.Trees.{mark, Identifier, Number, Character, name_token, Stmt, Headed, Compound, If, IfElse, While, Switch, Goto, Break, Return, ReturnValue, Evaluate, Empty, keyword_mark, Ival, Ival_constant, Ival_text, Ival_name, Definition, Simple, Vector, Function}
+use Rattle.blang.specs.Trees.{mark, Identifier, Number, Character, name_token, Stmt, Headed, Compound, If, IfElse, While, Empty, keyword_mark, Ival, Ival_constant, Ival_text, Ival_name, Definition, Simple, Vector, Function}
 use Rattle.bgrammar.specs.Spelling.{list_spelling, size_spelling, spell_heading, spell_condition, spell_statement, ival_spelling, spell_values}
 use Rattle.blang.specs.Walk.{spell_definition, walk_value, walk_parameter}
 use Rattle.blang.specs.WellFormed.{IsNonempty, IsFormed}
@@ -29,9 +29,7 @@ ival_again before (Ival_name w) rest f = refl
 
 ival_no_semicolon : (v : Ival) (rest : List Placed) → is_semicolon (first (ival_spelling v ++ rest)) ≡ false
 ival_no_semicolon (Ival_constant (Number n)) rest = refl
-ival_no_semicolon (Ival_constant (Character n)) rest = refl
-ival_no_semicolon (Ival_text bytes offset) rest = refl
-ival_no_semicolon (Ival_name w) rest = refl
+ival_no_semicolon _ rest = refl
 
 values_no_semicolon : (values : List Ival) → IsNonempty values → (rest : List Placed) → is_semicolon (first (list_spelling walk_value values ++ rest)) ≡ false
 values_no_semicolon [] n rest = absurd n
@@ -102,13 +100,7 @@ with_else (If e s) (suc k) off f o = go (statement.is_open s) refl (λ h. with_e
 with_else (IfElse e s other) zero off f o = absurd f.1
 with_else (IfElse e s other) (suc k) off f o = let i = with_else other k (off + words e + statement_words s) f.1.2 o in (IfElse e s i.0, (f.0, (f.1.0, f.1.1, i.1)), ap (λ l. keyword_mark keyword.If ∷ (spell_condition e ++ (spell_statement s ++ (keyword_mark keyword.Else ∷ l)))) i.2 ∙ ap (λ l. keyword_mark keyword.If ∷ (spell_condition e ++ l)) (sym (append_assoc (spell_statement s) (keyword_mark keyword.Else ∷ spell_statement other) else_empty)) ∙ ap (λ l. keyword_mark keyword.If ∷ l) (sym (append_assoc (spell_condition e) (spell_statement s ++ (keyword_mark keyword.Else ∷ spell_statement other)) else_empty)))
 with_else (Compound ss) room off f o = cc
-with_else (Switch e ss) room off f o = cc
-with_else (Goto e) room off f o = cc
-with_else (Break line) room off f o = cc
-with_else Return room off f o = cc
-with_else (ReturnValue e) room off f o = cc
-with_else (Evaluate e) room off f o = cc
-with_else Empty room off f o = cc
+with_else _ room off f o = cc
 
 pub definition_longer : (d : Definition) → IsFormed d → is_open_definition d ≡ true → (d2 : Definition) × IsFormed d2 × (spell_definition d2 ≡ spell_definition d ++ (keyword_mark keyword.Else ∷ mark token.Semicolon ∷ []))
 definition_longer (Simple w values) f o = cc

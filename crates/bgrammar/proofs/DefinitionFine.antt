@@ -15,7 +15,7 @@ use Rattle.bgrammar.proofs.Fine.{Near, Any, Fine, Start, bind_fine, shift, stuck
 use Rattle.bgrammar.proofs.ExpressionFine.{one}
 use Rattle.bgrammar.proofs.ExpressionFine as E
 use Rattle.bgrammar.proofs.CommaLaws.{list_fine}
-use Rattle.bgrammar.proofs.StatementFine.{Closer, closing, safer, name_fine, size_fine_at, statement_fine}
+use Rattle.bgrammar.proofs.StatementFine.{Closer, closing, at_closers, safer, name_fine, size_fine_at, statement_fine}
 
 ival_fine_at : (before : List Ival) (t : Token) (ts : List Placed) → first ts ≡ t → Fine E.Closer (ival before) ts
 ival_fine_at before (token.Number n) (t ∷ ts) e = shift E.closing (ival before) (λ y. Got (Ival_constant (Number n)) y) t (λ y. rw e refl) ts (got_fine E.closing (Ival_constant (Number n)) ts)
@@ -31,16 +31,6 @@ ival_fine_at before _ ts e = stuck E.closing (ival before) ts (λ new n. rw (n �
 pub ival_fine : (before : List Ival) (ts : List Placed) → Fine E.Closer (ival before) ts
 ival_fine before ts = ival_fine_at before (first ts) ts refl
 
-no_semicolon : (t : Token) → Closer t → is_semicolon t ≡ false
-no_semicolon token.CloseBrace h = refl
-no_semicolon token.End h = refl
-no_semicolon _ h = cc
-
-no_paren : (t : Token) → Closer t → is_close_paren t ≡ false
-no_paren token.CloseBrace h = refl
-no_paren token.End h = refl
-no_paren _ h = cc
-
 valued_start : (made : List Ival → Definition) → Start closing Any (valued made)
 valued_start made = record { with_ = mark token.Semicolon ∷ []; value = made []; done = λ k h. refl; front = λ k h. tt }
 
@@ -51,7 +41,7 @@ valued_fine_at made ts false h = same closing (valued made) (λ x. list_reader i
   where
     near : (new : List Placed) → Near Closer ts new → valued made new ≡ (list_reader ival new >>= λ values r. expect is_semicolon r >>= λ o. Got (made values))
     near new (inl n) = rw (ap is_semicolon n ∙ h) refl
-    near new (inr n) = rw (no_semicolon (first new) n) refl
+    near new (inr n) = rw (at_closers (λ t. is_semicolon t ≡ false) refl refl (first new) n) refl
 
 valued_fine : (made : List Ival → Definition) (ts : List Placed) → Fine Closer (valued made) ts
 valued_fine made ts = valued_fine_at made ts (is_semicolon (first ts)) refl
@@ -76,22 +66,17 @@ function_fine_at w ts false h = same closing (function w) (λ x. list_reader (λ
   where
     near : (new : List Placed) → Near Closer ts new → function w new ≡ (list_reader (λ before. name) new >>= λ parameters r. expect is_close_paren r >>= λ o. function_body w parameters)
     near new (inl n) = rw (ap is_close_paren n ∙ h) refl
-    near new (inr n) = rw (no_paren (first new) n) refl
+    near new (inr n) = rw (at_closers (λ t. is_close_paren t ≡ false) refl refl (first new) n) refl
 
 after_start : (Safe : Token → Type 0) → Safe token.Semicolon → (w : Identifier) → Start closing Safe (after_name w)
 after_start Safe safe w = record { with_ = mark token.Semicolon ∷ []; value = Simple w []; done = λ k h. refl; front = λ k h. safe }
-
-closer_is_valued : (w : Identifier) (t : Token) (ts : List Placed) → Closer t → after_name_at w t ts ≡ valued (Simple w) ts
-closer_is_valued w token.CloseBrace ts h = refl
-closer_is_valued w token.End ts h = refl
-closer_is_valued w _ ts h = cc
 
 other : (w : Identifier) (t : Token) → ((ts : List Placed) → after_name_at w t ts ≡ valued (Simple w) ts) → (ts : List Placed) → first ts ≡ t → Fine Closer (after_name w) ts
 other w t is ts e = same closing (after_name w) (valued (Simple w)) ts near (after_start Any tt w) (valued_fine (Simple w) ts)
   where
     near : (new : List Placed) → Near Closer ts new → after_name w new ≡ valued (Simple w) new
     near new (inl n) = ap (λ x. after_name_at w x new) (n ∙ e) ∙ is new
-    near new (inr n) = closer_is_valued w (first new) new n
+    near new (inr n) = at_closers (λ t. after_name_at w t new ≡ valued (Simple w) new) refl refl (first new) n
 
 after_fine_at : (w : Identifier) (t : Token) (ts : List Placed) → first ts ≡ t → Fine Closer (after_name w) ts
 after_fine_at w token.OpenBracket [] e = cc

@@ -16,7 +16,7 @@ use Rattle.bgrammar.specs.Commas.{list_reader}
 use Rattle.bgrammar.specs.StatementReader.{is_semicolon, is_else, name, size, statement}
 use Rattle.bgrammar.specs.DefinitionReader.{ival_at, ival, valued, vector, function_body, function, after_name_at, after_name, definition, is_open_definition}
 use Rattle.bgrammar.proofs.ExpressionSound.{Sound, by_first}
-use Rattle.bgrammar.proofs.Forms.{Close_paren, Close_bracket, Semicolon, marked}
+use Rattle.bgrammar.proofs.Forms.{close_paren, close_bracket, semicolon}
 use Rattle.bgrammar.proofs.FormLaws.{expect_mark}
 use Rattle.bgrammar.proofs.StatementSound.{Spelled, statement_sound, name_sound, size_sound}
 use Rattle.bgrammar.proofs.CommaLaws.{list_sound}
@@ -39,12 +39,12 @@ SpelledDefinition whole (Stop rest) = Unit {0}
 
 valued_sound : (pre : List Placed) (made : List Ival → Definition) → ((values : List Ival) → spell_definition (made values) ≡ pre ++ spell_values values) → ((values : List Ival) → EachAfter IvalFits [] values → IsFormed (made values)) → ((values : List Ival) → is_open_definition (made values) ≡ false) → (ts : List Placed) (b : Bool) → is_semicolon (first ts) ≡ b → SpelledDefinition (pre ++ kept_tokens ts) (valued made ts)
 valued_sound pre made shape formed shut [] true h = cc
-valued_sound pre made shape formed shut (t ∷ ts) true h = rw h (ap (λ x. pre ++ (x ∷ kept_tokens ts)) (ap (λ x. kept (placed x t.line)) ((marked Semicolon).only t.token h)) ∙ sym (append_assoc pre (mark token.Semicolon ∷ []) (kept_tokens ts)) ∙ ap (λ l. l ++ kept_tokens ts) (sym (shape [])), formed [] tt, λ n. let m : true ≡ false = sym n ∙ shut [] in cc)
+valued_sound pre made shape formed shut (t ∷ ts) true h = rw h (ap (λ x. pre ++ (x ∷ kept_tokens ts)) (ap (λ x. kept (placed x t.line)) (semicolon.only t.token h)) ∙ sym (append_assoc pre (mark token.Semicolon ∷ []) (kept_tokens ts)) ∙ ap (λ l. l ++ kept_tokens ts) (sym (shape [])), formed [] tt, λ n. let m : true ≡ false = sym n ∙ shut [] in cc)
 valued_sound pre made shape formed shut ts false h = rw h (go (list_reader ival ts) (list_sound ival walk_value IvalFits ival_sound ts))
   where
     go : (x : Read (List Ival)) → Sound (list_spelling walk_value) (λ xs. IsNonempty xs × EachAfter IvalFits [] xs) (kept_tokens ts) x → SpelledDefinition (pre ++ kept_tokens ts) (x >>= λ values r. expect is_semicolon r >>= λ o. Got (made values))
     go (Stop r) s = tt
-    go (Got values r) s = expect_mark (SpelledDefinition (pre ++ kept_tokens ts)) (λ r. tt) Semicolon (λ y. Got (made values) y) r
+    go (Got values r) s = expect_mark (SpelledDefinition (pre ++ kept_tokens ts)) (λ r. tt) semicolon (λ y. Got (made values) y) r
         (λ r2 e. let eq = s.0 ∙ ap (λ l. list_spelling walk_value values ++ l) e in (ap (λ l. pre ++ l) (eq ∙ sym (append_assoc (list_spelling walk_value values) (mark token.Semicolon ∷ []) (kept_tokens r2))) ∙ sym (append_assoc pre (spell_values values) (kept_tokens r2)) ∙ ap (λ l. l ++ kept_tokens r2) (sym (shape values)), formed values s.1.1, λ n. let m : true ≡ false = sym n ∙ shut values in cc))
 
 vector_sound : (w : Identifier) (ts : List Placed) → SpelledDefinition (name_token w ∷ mark token.OpenBracket ∷ kept_tokens ts) (vector w ts)
@@ -52,7 +52,7 @@ vector_sound w ts = go (size ts) (size_sound ts)
   where
     go : (x : Read (Option ℕ)) → Sound size_spelling (λ n. Unit {0}) (kept_tokens ts) x → SpelledDefinition (name_token w ∷ mark token.OpenBracket ∷ kept_tokens ts) (x >>= λ n r. expect is_close_bracket r >>= λ o. valued (Vector w n))
     go (Stop r) s = tt
-    go (Got n r) s = expect_mark (SpelledDefinition (name_token w ∷ mark token.OpenBracket ∷ kept_tokens ts)) (λ r. tt) Close_bracket (valued (Vector w n)) r
+    go (Got n r) s = expect_mark (SpelledDefinition (name_token w ∷ mark token.OpenBracket ∷ kept_tokens ts)) (λ r. tt) close_bracket (valued (Vector w n)) r
         (λ r2 e. let eq = s.0 ∙ ap (λ l. size_spelling n ++ l) e in subst (λ l. SpelledDefinition l (valued (Vector w n) r2)) (ap (λ l. name_token w ∷ mark token.OpenBracket ∷ l) (append_assoc (size_spelling n) (mark token.CloseBracket ∷ []) (kept_tokens r2) ∙ sym eq))
         (valued_sound (name_token w ∷ mark token.OpenBracket ∷ (size_spelling n ++ (mark token.CloseBracket ∷ []))) (Vector w n) (λ values. ap (λ l. name_token w ∷ mark token.OpenBracket ∷ l) (sym (append_assoc (size_spelling n) (mark token.CloseBracket ∷ []) (spell_values values)))) (λ values f. in_formed (Vector w n values) f) (λ values. refl) r2 (is_semicolon (first r2)) refl))
 
@@ -65,12 +65,12 @@ body_sound w parameters ts = go (statement MAX_NESTING 0 ts) (statement_sound MA
 
 function_sound : (w : Identifier) (ts : List Placed) (b : Bool) → is_close_paren (first ts) ≡ b → SpelledDefinition (name_token w ∷ mark token.OpenParen ∷ kept_tokens ts) (function w ts)
 function_sound w [] true h = cc
-function_sound w (t ∷ ts) true h = rw h (subst (λ x. SpelledDefinition (name_token w ∷ mark token.OpenParen ∷ x ∷ kept_tokens ts) (function_body w [] ts)) (sym (ap (λ x. kept (placed x t.line)) ((marked Close_paren).only t.token h))) (body_sound w [] ts))
+function_sound w (t ∷ ts) true h = rw h (subst (λ x. SpelledDefinition (name_token w ∷ mark token.OpenParen ∷ x ∷ kept_tokens ts) (function_body w [] ts)) (sym (ap (λ x. kept (placed x t.line)) (close_paren.only t.token h))) (body_sound w [] ts))
 function_sound w ts false h = rw h (go (list_reader (λ before. name) ts) (list_sound (λ before. name) walk_parameter (λ before w. Unit {0}) (λ before. name_sound) ts))
   where
     go : (x : Read (List Identifier)) → Sound (list_spelling walk_parameter) (λ xs. IsNonempty xs × EachAfter (λ before w. Unit {0}) [] xs) (kept_tokens ts) x → SpelledDefinition (name_token w ∷ mark token.OpenParen ∷ kept_tokens ts) (x >>= λ parameters r. expect is_close_paren r >>= λ o. function_body w parameters)
     go (Stop r) s = tt
-    go (Got parameters r) s = expect_mark (SpelledDefinition (name_token w ∷ mark token.OpenParen ∷ kept_tokens ts)) (λ r. tt) Close_paren (function_body w parameters) r
+    go (Got parameters r) s = expect_mark (SpelledDefinition (name_token w ∷ mark token.OpenParen ∷ kept_tokens ts)) (λ r. tt) close_paren (function_body w parameters) r
         (λ r2 e. let eq = s.0 ∙ ap (λ l. list_spelling walk_parameter parameters ++ l) e in subst (λ l. SpelledDefinition (name_token w ∷ mark token.OpenParen ∷ l) (function_body w parameters r2)) (sym eq) (body_sound w parameters r2))
 
 after_sound_at : (w : Identifier) (t : Token) (line : ℕ) (ts : List Placed) → SpelledDefinition (name_token w ∷ kept_tokens (placed t line ∷ ts)) (after_name_at w t (placed t line ∷ ts))

@@ -18,9 +18,9 @@ use Rattle.blang.specs.declared.limits.TheConstants.{MAX_NESTING}
 use Rattle.bgrammar.specs.Fitting.{Sits, statement_words}
 use Rattle.blang.specs.Scan.{NameKind, Automatic, External, Unlabelled, Labelled, kind_of, Scope, no_scope, scan, function_events, function_scope, scope_fault}
 use Rattle.bgrammar.specs.Spelling.{size_spelling, spell_statement, list_spelling}
-use Rattle.blang.specs.Walk.{spell_definition, Event, AutoHere, ExtrnHere, Mention, LabelHere, CaseHere, DefaultHere, BreakHere, LvalueWanted, LoopBegins, LoopEnds, SwitchBegins, SwitchEnds, walk_list, events_in, walk_statement, walk_parameter, walk_value}
+use Rattle.blang.specs.Walk.{spell_definition, Event, AutoHere, ExtrnHere, walk_list, events_in, walk_statement, walk_parameter, walk_value}
 use Rattle.bword.specs.Words.{same_name}
-use Rattle.blang.specs.Code.{Referent, In_frame, Outside, At_label, referent_of, environment_of, ival_code, vector_words, string_words_of, clean, code_of, fits_limits, or_too_large, fault_of, fragment}
+use Rattle.blang.specs.Code.{Referent, In_frame, referent_of, environment_of, ival_code, vector_words, string_words_of, clean, code_of, fits_limits, or_too_large, fault_of, fragment}
 use Rattle.bgrammar.proofs.CodeLaws.{counts_words, statement_ends}
 use Rattle.bgrammar.proofs.Fitting.{simple_strings, vector_strings, function_strings, formed_in, statement_both}
 use Rattle.bgrammar.proofs.Holds.{Holds, Holds-nil, Holds-cons, Holds-first, Holds-rest, Holds-append, Holds-front, Holds-back, Holds-weaker, Holds-All}
@@ -50,29 +50,18 @@ meaning_within sizes (Some (Unlabelled line)) f = tt
 
 no_vector : (sizes : Sizes) (m : Referent) → IsVectorWithin sizes m None
 no_vector sizes (In_frame k) = tt
-no_vector sizes Outside = tt
-no_vector sizes (At_label k) = tt
+no_vector sizes _ = tt
 
 vector_within : (sizes : Sizes) (c : ℕ) (kind : NameKind) → ((k : ℕ) → kind ≡ Automatic k → k + 1 < sizes.frame) → IsVectorWithin sizes (referent_of (Some kind)) (Some c)
 vector_within sizes c (Automatic word) f = f word refl
 vector_within sizes c External f = tt
-vector_within sizes c (Unlabelled line) f = tt
-vector_within sizes c (Labelled number) f = tt
+vector_within sizes c _ f = tt
 
 event_within : (sizes : Sizes) (t : Scope) → t.frame ≡ sizes.frame → (e : Event) → IsSettled t e → IsEventWithin sizes (environment_of t.names) e
 event_within sizes t f (AutoHere w (Some c)) h = rw h.is (vector_within sizes c h.kind (λ k q. let r = h.room k q in omega arith))
 event_within sizes t f (AutoHere w None) h = no_vector sizes (environment_of t.names w.text)
 event_within sizes t f (ExtrnHere w) h = tt
-event_within sizes t f (Mention called w) h = tt
-event_within sizes t f (LabelHere w) h = tt
-event_within sizes t f (CaseHere line value) h = tt
-event_within sizes t f (LvalueWanted line e) h = tt
-event_within sizes t f (DefaultHere line) h = tt
-event_within sizes t f (BreakHere line) h = tt
-event_within sizes t f LoopBegins h = tt
-event_within sizes t f LoopEnds h = tt
-event_within sizes t f SwitchBegins h = tt
-event_within sizes t f SwitchEnds h = tt
+event_within sizes t f _ h = tt
 
 -- Functions.
 -- the code of a function with this scope

@@ -5,7 +5,7 @@ use Rattle.blang.specs.declared.token.Keyword.TheVariants as keyword
 use Rattle.blang.specs.declared.token.Token.{Token}
 use Rattle.blang.specs.declared.token.Token.TheVariants as token
 use Rattle.blang.specs.declared.token.Placed.{Placed}
-use Rattle.blang.specs.Trees.{bare, Constant, Number, Character, Expr, Arguments, PrefixOp, Negate, Not, Indirection, Address, PreIncrement, PreDecrement, PostfixOp, PostIncrement, PostDecrement, Named, Literal, Text, Grouped, Indexed, Called, Postfixed, Prefixed, Binary, Conditional, Assigned, No_arguments, Another, constant_token, prefix_token, postfix_token, Heading, Auto, Extrn, Label, Case, Default, Stmt, Headed, Compound, If, IfElse, While, Switch, Goto, Break, Return, ReturnValue, Evaluate, Empty, Stmts, Nothing, More, Ival, Ival_constant, Ival_text, Ival_name, Definition, Simple, Vector, Function}
+use Rattle.blang.specs.Trees.{bare, Constant, Number, Character, Expr, Arguments, PrefixOp, Negate, PostfixOp, PostIncrement, PostDecrement, Named, Literal, Text, Grouped, Indexed, Called, Postfixed, Prefixed, Binary, Conditional, Assigned, No_arguments, Another, constant_token, prefix_token, postfix_token, Heading, Auto, Extrn, Label, Case, Default, Stmt, Headed, Compound, If, IfElse, While, Switch, Goto, Break, Return, ReturnValue, Evaluate, Empty, Stmts, Nothing, More, Ival, Ival_constant, Ival_text, Ival_name, Definition, Simple, Vector, Function}
 use Rattle.bgrammar.specs.Spelling.{spell, list_spelling, spell_heading, spell_condition, spell_statement, spell_body}
 use Rattle.blang.specs.Walk.{spell_definition, spell_all, Walk, Said, Level, ◌▸◌, Event, tokens_in, callee, walk, walk_arguments, comma_before_next, walk_commas, walk_list, walk_size, walk_declared, walk_import, walk_heading, walk_parenthesized, walk_statement, walk_body, walk_value, walk_values, walk_parameter, walk_definition}
 use Rattle.blang.specs.WellFormed.{is_open, IsHeading, StatementBinds, BodyBinds, IsFormed, AllFormed}
@@ -66,11 +66,7 @@ constant_same (Character n) = refl
 
 prefix_same : (op : PrefixOp) → prefix_token op ≡ old (prefix_token op)
 prefix_same Negate = refl
-prefix_same Not = refl
-prefix_same Indirection = refl
-prefix_same Address = refl
-prefix_same PreIncrement = refl
-prefix_same PreDecrement = refl
+prefix_same _ = refl
 
 postfix_same : (op : PostfixOp) → postfix_token op ≡ old (postfix_token op)
 postfix_same PostIncrement = refl
@@ -284,9 +280,7 @@ mutual
   statement_old (Goto e) o = tt
   statement_old (Break line) o = let e = o.0 in cc
   statement_old Return o = tt
-  statement_old (ReturnValue e) o = tt
-  statement_old (Evaluate e) o = tt
-  statement_old Empty o = tt
+  statement_old _ o = tt
 
   body_old : (body : Stmts) → AllOld (map bare (spell_body body)) → IsOldBody body
   body_old Nothing o = tt

@@ -15,7 +15,7 @@ use Rattle.bgrammar.specs.Fitting.{words, argument_words, Deeper, Fits, Argument
 use Rattle.bgrammar.specs.Reading.{Got, Reader, ◌>>=◌, first, expect, many}
 use Rattle.bgrammar.specs.ExpressionReader.{is_close_paren, is_close_bracket, is_question, is_colon, prefix_op, having_rank, op_at, Suffix, Index, Call, Step, suffix, comma, always, Choice, Rvalue, another, arguments, postfix_with, postfix, operand, operation, chain, conditional, assigns, rvalue_from, inner, reader, is_operand}
 use Rattle.bgrammar.proofs.Fine.{Loop, many_none, many_some}
-use Rattle.bgrammar.proofs.ExpressionFine.{closing, Good, has_room, suffix_loop, comma_loop, op_loop, reader_fine, reader_one}
+use Rattle.bgrammar.proofs.ExpressionFine.{Closer, closing, one_tree, no_suffix, no_operator, no_question, no_assign, Good, has_room, suffix_loop, comma_loop, op_loop, reader_fine, reader_one}
 use Rattle.bgrammar.proofs.Spelling.{called_spelling}
 
 -- nothing that goes on after an operand, and no operator of these ranks, begins with this token
@@ -131,30 +131,21 @@ no_prefix_first (Indexed e g) room off p f rest = ap prefix_op (first_of_first (
 no_prefix_first (Called e args) room off p f rest = ap (λ l. prefix_op (first (l ++ rest))) (called_spelling e args) ∙ ap prefix_op (first_of_first (spell e) (mark token.OpenParen ∷ (spell_arguments args ++ (mark token.CloseParen ∷ []))) rest) ∙ no_prefix_first e room off f.0 f.1 _
 no_prefix_first (Postfixed op line e) room off p f rest = ap prefix_op (first_of_first (spell e) (placed (postfix_token op) line ∷ []) rest) ∙ no_prefix_first e room off f.0 f.1 _
 no_prefix_first (Prefixed op line e) room off p f rest = absurd p
-no_prefix_first (Binary op line e g) room off p f rest = absurd p
-no_prefix_first (Conditional e g h) room off p f rest = absurd p
-no_prefix_first (Assigned op line e g) room off p f rest = absurd p
+no_prefix_first _ room off p f rest = absurd p
 
 reads_post : (e : Expr) → IsPostfix e → ((r room off : ℕ) → Fits e r room off → Fits e 0 room off) → ((room off : ℕ) → Fits e 0 room off → (rest : List Placed) → postfix (inner room) off (spell e ++ rest) ≡ many (always suffix) (postfix_with (inner room) off) e rest) → Reads e
 reads_post e is low post = reads_operand e (λ p room off f rest. post room off f rest) low (λ room off f rest n. rw (no_prefix_first e room off is f rest) (post room off f rest ∙ many_none (always suffix) (postfix_with (inner room) off) e rest n))
 
-pub ends_close_paren : Ends token.CloseParen
-ends_close_paren = record { below = record { no_suffix = refl; no_operator = λ i le. refl }; no_question = refl; no_assign = λ e. refl }
-
-ends_bracket : Ends token.CloseBracket
-ends_bracket = record { below = record { no_suffix = refl; no_operator = λ i le. refl }; no_question = refl; no_assign = λ e. refl }
-
-ends_colon : Ends token.Colon
-ends_colon = record { below = record { no_suffix = refl; no_operator = λ i le. refl }; no_question = refl; no_assign = λ e. refl }
+-- a token that ends each expression
+pub ends : (t : Token) → Closer t → Ends t
+ends t h = record {
+  below = record { no_suffix = no_suffix one_tree t h; no_operator = λ i le. no_operator i one_tree t h };
+  no_question = no_question t h;
+  no_assign = λ e. no_assign e t h;
+}
 
 ends_comma : Ends token.Comma
 ends_comma = record { below = record { no_suffix = refl; no_operator = λ i le. refl }; no_question = refl; no_assign = λ e. refl }
-
-pub ends_semicolon : Ends token.Semicolon
-ends_semicolon = record { below = record { no_suffix = refl; no_operator = λ i le. refl }; no_question = refl; no_assign = λ e. refl }
-
-pub ends_open_brace : Ends token.OpenBrace
-ends_open_brace = record { below = record { no_suffix = refl; no_operator = λ i le. refl }; no_question = refl; no_assign = λ e. refl }
 
 below_question : Below or_rank token.Question
 below_question = record { no_suffix = refl; no_operator = λ i le. refl }
@@ -164,37 +155,11 @@ below_assign op = record { no_suffix = refl; no_operator = λ i le. refl }
 
 rank_positive : (o : BinOp) → 1 ≤ rank o
 rank_positive op.Mul = omega arith
-rank_positive op.Div = omega arith
-rank_positive op.Rem = omega arith
-rank_positive op.Add = omega arith
-rank_positive op.Sub = omega arith
-rank_positive op.Shl = omega arith
-rank_positive op.Shr = omega arith
-rank_positive op.Lt = omega arith
-rank_positive op.Le = omega arith
-rank_positive op.Gt = omega arith
-rank_positive op.Ge = omega arith
-rank_positive op.Eq = omega arith
-rank_positive op.Ne = omega arith
-rank_positive op.And = omega arith
-rank_positive op.Or = omega arith
+rank_positive _ = omega arith
 
 rank_most : (o : BinOp) → rank o ≤ 7
 rank_most op.Mul = omega arith
-rank_most op.Div = omega arith
-rank_most op.Rem = omega arith
-rank_most op.Add = omega arith
-rank_most op.Sub = omega arith
-rank_most op.Shl = omega arith
-rank_most op.Shr = omega arith
-rank_most op.Lt = omega arith
-rank_most op.Le = omega arith
-rank_most op.Gt = omega arith
-rank_most op.Ge = omega arith
-rank_most op.Eq = omega arith
-rank_most op.Ne = omega arith
-rank_most op.And = omega arith
-rank_most op.Or = omega arith
+rank_most _ = omega arith
 
 having_none : (i : ℕ) (op : BinOp) → i < rank op → having_rank i op ≡ None
 having_none i op lt = go (nat_eq (rank op) i) refl
@@ -235,7 +200,7 @@ reads_group e re = reads_post (Grouped e) tt (λ r room off f. f) post
   where
     post : (room off : ℕ) → Fits (Grouped e) 0 room off → (rest : List Placed) → postfix (inner room) off (spell (Grouped e) ++ rest) ≡ many (always suffix) (postfix_with (inner room) off) (Grouped e) rest
     post zero off f rest = absurd f
-    post (suc k) off f rest = ap (λ x. (x >>= λ e r. expect is_close_paren r >>= λ o. Got (Grouped e)) >>= many (always suffix) (postfix_with (inner (suc k)) off)) (ap (reader k Rvalue off) (append_assoc (spell e) (mark token.CloseParen ∷ []) rest) ∙ re.rvalue k off f (mark token.CloseParen ∷ rest) ends_close_paren)
+    post (suc k) off f rest = ap (λ x. (x >>= λ e r. expect is_close_paren r >>= λ o. Got (Grouped e)) >>= many (always suffix) (postfix_with (inner (suc k)) off)) (ap (reader k Rvalue off) (append_assoc (spell e) (mark token.CloseParen ∷ []) rest) ∙ re.rvalue k off f (mark token.CloseParen ∷ rest) (ends token.CloseParen refl))
 
 -- after a postfix expression, one suffix more
 suffix_again : (e : Expr) → Reads e → (room off : ℕ) → IsPostfix e → Fits e 0 room off → (b : Suffix) (following rest : List Placed) → suffix (first following) ≡ Some b → (g : Expr) → postfix_with (inner room) off b e following ≡ Got g rest → postfix (inner room) off (spell e ++ following) ≡ many (always suffix) (postfix_with (inner room) off) g rest
@@ -249,7 +214,7 @@ reads_indexed e f re rf = reads_post (Indexed e f) tt (λ r room off h. h) post
     post (suc k) off h rest =
         ap (postfix (inner (suc k)) off) (append_assoc (spell e) (mark token.OpenBracket ∷ (spell f ++ (mark token.CloseBracket ∷ []))) rest)
         ∙ suffix_again e re (suc k) off h.0 h.1 Index (mark token.OpenBracket ∷ ((spell f ++ (mark token.CloseBracket ∷ [])) ++ rest)) rest refl (Indexed e f)
-        (ap (λ x. x >>= λ f r. expect is_close_bracket r >>= λ o. Got (Indexed e f)) (ap (reader k Rvalue (off + words e)) (append_assoc (spell f) (mark token.CloseBracket ∷ []) rest) ∙ rf.rvalue k (off + words e) h.2 (mark token.CloseBracket ∷ rest) ends_bracket))
+        (ap (λ x. x >>= λ f r. expect is_close_bracket r >>= λ o. Got (Indexed e f)) (ap (reader k Rvalue (off + words e)) (append_assoc (spell f) (mark token.CloseBracket ∷ []) rest) ∙ rf.rvalue k (off + words e) h.2 (mark token.CloseBracket ∷ rest) (ends token.CloseBracket refl)))
 
 reads_postfixed : (op : PostfixOp) (line : ℕ) (e : Expr) → Reads e → Reads (Postfixed op line e)
 reads_postfixed op line e re = reads_post (Postfixed op line e) tt (λ r room off h. h) (post op)
@@ -292,15 +257,11 @@ reads_called e args re ra = reads_post (Called e args) tt (λ r room off h. h) (
     post (Another before f) ra (suc k) off h rest =
         ap (postfix (inner (suc k)) off) (following (Another before f) rest)
         ∙ suffix_again e re (suc k) off h.0 h.1 Call (mark token.OpenParen ∷ (spell_arguments (Another before f) ++ (mark token.CloseParen ∷ rest))) rest refl (Called e (Another before f))
-        (rw (not_closing _ (arguments_open (Another before f) tt (mark token.CloseParen ∷ rest))) (ap (λ x. x >>= λ args r. expect is_close_paren r >>= λ o. Got (Called e args)) (ra.again tt k (off + words e) h.2 (mark token.CloseParen ∷ rest) ends_close_paren ∙ many_none (always comma) (another (inner (suc k)) (off + words e)) (Another before f) (mark token.CloseParen ∷ rest) refl)))
+        (rw (not_closing _ (arguments_open (Another before f) tt (mark token.CloseParen ∷ rest))) (ap (λ x. x >>= λ args r. expect is_close_paren r >>= λ o. Got (Called e args)) (ra.again tt k (off + words e) h.2 (mark token.CloseParen ∷ rest) (ends token.CloseParen refl) ∙ many_none (always comma) (another (inner (suc k)) (off + words e)) (Another before f) (mark token.CloseParen ∷ rest) refl)))
 
 prefix_found : (op : PrefixOp) → prefix_op (prefix_token op) ≡ Some op
 prefix_found Negate = refl
-prefix_found Not = refl
-prefix_found Indirection = refl
-prefix_found Address = refl
-prefix_found PreIncrement = refl
-prefix_found PreDecrement = refl
+prefix_found _ = refl
 
 reads_prefixed : (op : PrefixOp) (line : ℕ) (e : Expr) → Reads e → Reads (Prefixed op line e)
 reads_prefixed op line e re = reads_operand (Prefixed op line e) (λ p. absurd p) (λ r room off f. f) here
@@ -348,7 +309,7 @@ reads_conditional e f g re rf rg = record { post = λ p. absurd p; spine = λ j 
 
     asked : (k off : ℕ) → Fits f rvalue_rank k (off + words e) → Fits g conditional_rank k (off + words e + words f) → (rest : List Placed) → Ends (first rest) → conditional (inner (suc k)) off e (mark token.Question ∷ (spell f ++ (mark token.Colon ∷ (spell g ++ rest)))) ≡ Got (Conditional e f g) rest
     asked k off hf hg rest n =
-        ap (λ x. x >>= λ f r. expect is_colon r >>= λ o r. reader k Choice (off + words e + words f) r >>= λ g. Got (Conditional e f g)) (rf.rvalue k (off + words e) hf (mark token.Colon ∷ (spell g ++ rest)) ends_colon)
+        ap (λ x. x >>= λ f r. expect is_colon r >>= λ o r. reader k Choice (off + words e + words f) r >>= λ g. Got (Conditional e f g)) (rf.rvalue k (off + words e) hf (mark token.Colon ∷ (spell g ++ rest)) (ends token.Colon refl))
         ∙ ap (λ x. x >>= λ g. Got (Conditional e f g)) (rg.side k (off + words e + words f) hg rest n)
 
     side : (room off : ℕ) → Fits e or_rank room off → Deeper (λ k. Fits f rvalue_rank k (off + words e) × Fits g conditional_rank k (off + words e + words f)) room → (rest : List Placed) → Ends (first rest) → reader room Choice off (spell (Conditional e f g) ++ rest) ≡ Got (Conditional e f g) rest

@@ -25,8 +25,7 @@ word-value_of (Character n) h = h
 -- No code is empty.
 some_name_word : (m : Referent) (x : List ℕ) → 1 ≤ length (name_word_code m x)
 some_name_word (In_frame k) x = omega arith
-some_name_word Outside x = omega arith
-some_name_word (At_label k) x = omega arith
+some_name_word _ x = omega arith
 
 module _ (names : Environment) where
   mutual

@@ -28,6 +28,26 @@ Closer t = closes t ≡ true
 abbrev pub closing : Closing
 closing = record { Is = Closer; at_end = refl }
 
+-- no expression goes on with such a token
+pub no_suffix : (e : Expr) (t : Token) → Closer t → suffix t ≡ None
+no_suffix e token.OpenBracket h = cc
+no_suffix e token.OpenParen h = cc
+no_suffix e token.Increment h = cc
+no_suffix e token.Decrement h = cc
+no_suffix e _ h = refl
+
+pub no_operator : (r : ℕ) (e : Expr) (t : Token) → Closer t → op_at r t ≡ None
+no_operator r e (token.Operator op) h = cc
+no_operator r e _ h = refl
+
+pub no_question : (t : Token) → Closer t → is_question t ≡ false
+no_question token.Question h = cc
+no_question _ h = refl
+
+pub no_assign : (e : Expr) (t : Token) → Closer t → assigns e t ≡ None
+no_assign e (token.Assign op) h = cc
+no_assign e _ h = refl
+
 -- the shortest expression
 abbrev pub one : Placed
 one = mark (token.Number 1)
@@ -90,13 +110,6 @@ module _ (inner : Inner) (room : Room inner) where
   call_fine_at good off e (t ∷ ts) true h = shift closing (call inner off e) (λ x. Got (Called e No_arguments) x) t (λ x. rw h refl) ts (got_fine closing (Called e No_arguments) ts)
   call_fine_at good off e ts false h = same_eats closing (call inner off e) (filled off e) ts (λ new n. rw (ap is_close_paren n ∙ h) refl) (call_start off e) (λ b. closed_eats closing (arguments inner (off + words e)) is_close_paren refl (λ args. Called e args) ts (arguments_fine good (off + words e) ts) b) (closes_paren (λ args. Called e args) (arguments inner (off + words e)) ts (arguments_fine good (off + words e) ts))
 
-  no_suffix : (e : Expr) (t : Token) → Closer t → suffix t ≡ None
-  no_suffix e token.OpenBracket h = cc
-  no_suffix e token.OpenParen h = cc
-  no_suffix e token.Increment h = cc
-  no_suffix e token.Decrement h = cc
-  no_suffix e _ h = refl
-
   suffix_opened : (off : ℕ) (b : Suffix) (e : Expr) (t : Placed) → Opened closing (postfix_with inner off b e) t
   suffix_opened off Index e t = entered inner room (λ r. inner.read Rvalue (off + words e) r >>= λ f r. expect is_close_bracket r >>= λ o. Got (Indexed e f)) (λ good ts. closed_fine closing Closer (inner.read Rvalue (off + words e)) is_close_bracket token.CloseBracket refl refl refl (λ t h. h) (λ f. Indexed e f) ts (good.fine Rvalue (off + words e) ts)) t
   suffix_opened off Call e t = entered inner room (call inner off e) (λ good ts. call_fine_at good off e ts (is_close_paren (first ts)) refl) t
@@ -142,10 +155,6 @@ module _ (inner : Inner) (room : Room inner) where
       near new (inl e) = rw (ap prefix_op e ∙ h) refl
       near new (inr e) = rw (no_prefix (first new) e) refl
 
-  no_operator : (r : ℕ) (e : Expr) (t : Token) → Closer t → op_at r t ≡ None
-  no_operator r e (token.Operator op) h = cc
-  no_operator r e _ h = refl
-
   chain_one : (r off : ℕ) (k : List Placed) → Closer (first k) → chain inner r off (one ∷ k) ≡ Got one_tree k
   chain_one zero off k h = operand_one off k h
   chain_one (suc r) off k h = ap (λ x. x >>= many (always (op_at (suc r))) (operation (chain inner r) off)) (chain_one r off k h) ∙ many_none (always (op_at (suc r))) (operation (chain inner r) off) one_tree k (no_operator (suc r) one_tree (first k) h)
@@ -161,10 +170,6 @@ module _ (inner : Inner) (room : Room inner) where
 
   pub op_loop : (r off : ℕ) → Loop closing (always (op_at (suc r))) (operation (chain inner r) off)
   op_loop r off = op_loop_of r off (chain_fine r)
-
-  no_question : (t : Token) → Closer t → is_question t ≡ false
-  no_question token.Question h = cc
-  no_question _ h = refl
 
   abbrev conditional_start : (off : ℕ) (e : Expr) → Start closing Closer (conditional inner off e)
   conditional_start off e = record { with_ = []; value = e; done = λ k h. rw (no_question (first k) h) refl; front = λ k h. h }
@@ -192,10 +197,6 @@ module _ (inner : Inner) (room : Room inner) where
       near : (new : List Placed) → Near Closer ts new → conditional inner off e new ≡ Got e new
       near new (inl n) = rw (ap is_question n ∙ h) refl
       near new (inr n) = rw (no_question (first new) n) refl
-
-  no_assign : (e : Expr) (t : Token) → Closer t → assigns e t ≡ None
-  no_assign e (token.Assign op) h = cc
-  no_assign e _ h = refl
 
   abbrev rvalue_from_start : (off : ℕ) (e : Expr) → Start closing Closer (rvalue_from inner off e)
   rvalue_from_start off e = record { with_ = []; value = e; done = λ k h. rw (no_assign e (first k) h) ((conditional_start off e).done k h); front = λ k h. h }
@@ -247,8 +248,8 @@ module _ (k off : ℕ) (w : Identifier) where
   from_name_fine ts = then_fine closing (λ x. chain (inner k) or_rank off (name_token w ∷ x)) (rvalue_from (inner k) off) (rvalue_from_start (inner k) (has_room k) off) ts (chain_from_name or_rank ts) (λ a r. rvalue_from_fine_at (inner k) (has_room k) off a r (assigns a (first r)) refl)
 
   chain_name_one : (r : ℕ) (ts : List Placed) → Closer (first ts) → chain (inner k) r off (name_token w ∷ ts) ≡ Got (Named w) ts
-  chain_name_one zero ts h = many_none (always suffix) (postfix_with (inner k) off) (Named w) ts (no_suffix (inner k) (has_room k) (Named w) (first ts) h)
-  chain_name_one (suc r) ts h = ap (λ x. x >>= many (always (op_at (suc r))) (operation (chain (inner k) r) off)) (chain_name_one r ts h) ∙ many_none (always (op_at (suc r))) (operation (chain (inner k) r) off) (Named w) ts (no_operator (inner k) (has_room k) (suc r) (Named w) (first ts) h)
+  chain_name_one zero ts h = many_none (always suffix) (postfix_with (inner k) off) (Named w) ts (no_suffix (Named w) (first ts) h)
+  chain_name_one (suc r) ts h = ap (λ x. x >>= many (always (op_at (suc r))) (operation (chain (inner k) r) off)) (chain_name_one r ts h) ∙ many_none (always (op_at (suc r))) (operation (chain (inner k) r) off) (Named w) ts (no_operator (suc r) (Named w) (first ts) h)
 
   -- that name alone
   pub from_name_one : (ts : List Placed) → Closer (first ts) → reader k Rvalue off (name_token w ∷ ts) ≡ Got (Named w) ts

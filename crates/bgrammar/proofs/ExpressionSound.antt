@@ -15,6 +15,7 @@ use Rattle.bgrammar.specs.Fitting.{words, argument_words, Deeper, Fits, Argument
 use Rattle.bgrammar.specs.Reading.{Read, Got, Stop, Reader, ◌>>=◌, first, expect, turns, many}
 use Rattle.bgrammar.specs.ExpressionReader.{is_close_paren, is_close_bracket, is_colon, prefix_op, having_rank, op_at, Suffix, Index, Call, Step, suffix, comma, always, ExpressionKind, Operand, Choice, Rvalue, Inner, primary, another, arguments, call, postfix_with, postfix, prefixed, operand, operation, chain, choices, conditional, assigns, assigned, rvalue_from, read_at, inner, reader, is_operand}
 use Rattle.bgrammar.proofs.Spelling.{called_spelling}
+use Rattle.bgrammar.proofs.Forms.{Mark, close_paren, close_bracket}
 
 -- the tokens are the spelling of what was read, and what is left
 abbrev pub Sound : {A : Type 0} → (A → List Placed) → (A → Type 0) → List Placed → Read A → Type 0
@@ -62,8 +63,7 @@ looser (Called e args) r r2 room off le h = h
 looser (Postfixed op line e) r r2 room off le h = h
 looser (Prefixed op line e) r r2 room off le h = h
 looser (Binary op line e f) r r2 room off le h = (omega (arith, h.0), h.1, h.2)
-looser (Conditional e f g) r r2 room off le h = (omega (arith, h.0), h.1, h.2)
-looser (Assigned op line e f) r r2 room off le h = (omega (arith, h.0), h.1, h.2)
+looser _ r r2 room off le h = (omega (arith, h.0), h.1, h.2)
 
 -- the operator that was found
 having_is : (r : ℕ) (o op : BinOp) → having_rank r o ≡ Some op → (o ≡ op) × (rank op ≡ r)
@@ -89,11 +89,7 @@ prefix_is _ p h = cc
 -- a prefix operator keeps its line
 pub prefix_kept : (p : PrefixOp) (line : ℕ) → kept (placed (prefix_token p) line) ≡ placed (prefix_token p) line
 prefix_kept Negate line = refl
-prefix_kept Not line = refl
-prefix_kept Indirection line = refl
-prefix_kept Address line = refl
-prefix_kept PreIncrement line = refl
-prefix_kept PreDecrement line = refl
+prefix_kept _ line = refl
 
 pub both_deeper : (P Q : ℕ → Type 0) (room : ℕ) → Deeper P room → Deeper Q room → Deeper (λ k. P k × Q k) room
 both_deeper P Q zero p q = p
@@ -105,13 +101,7 @@ operand_fits (Binary op line e f) r room off h fits = cc
 operand_fits (Conditional e f g) r room off h fits = cc
 operand_fits (Assigned op line e f) r room off h fits = cc
 operand_fits (Named w) r room off h fits = fits
-operand_fits (Literal c) r room off h fits = fits
-operand_fits (Text bytes offset) r room off h fits = fits
-operand_fits (Grouped e) r room off h fits = fits
-operand_fits (Indexed e f) r room off h fits = fits
-operand_fits (Called e args) r room off h fits = fits
-operand_fits (Postfixed op line e) r room off h fits = fits
-operand_fits (Prefixed op line e) r room off h fits = fits
+operand_fits _ r room off h fits = fits
 
 -- What is one level deeper is sound, for what fits there; the token before it is dropped only where there is room.
 pub record SoundInner (room : ℕ) (inner : Inner) : Type 1 where
@@ -119,26 +109,18 @@ pub record SoundInner (room : ℕ) (inner : Inner) : Type 1 where
   pub reads : (kind : ExpressionKind) (off : ℕ) (ts : List Placed) → Sound spell (Below room kind off) (kept_tokens ts) (inner.read kind off ts)
 
 -- something with a token that closes it
-pub shut : {A B : Type 0} (say : A → List Placed) (tell : B → List Placed) (P : A → Type 0) (Q : B → Type 0) (is : Token → Bool) (c : Token) → ((t : Token) → is t ≡ true → t ≡ c) → is token.End ≡ false → ((line : ℕ) → kept (placed c line) ≡ mark c) → (f : A → B) (whole ts : List Placed) (x : Read A) → Sound say P ts x → ((a : A) (r : List Placed) → P a → ts ≡ say a ++ (mark c ∷ kept_tokens r) → (whole ≡ tell (f a) ++ kept_tokens r) × Q (f a)) → Sound tell Q whole (x >>= λ a r. expect is r >>= λ o. Got (f a))
-shut say tell P Q is c only end unkept f whole ts (Stop r) s h = tt
-shut say tell P Q is c only end unkept f whole ts (Got a []) s h = rw end tt
-shut {A} say tell P Q is c only end unkept f whole ts (Got a (t ∷ r)) s h = go (is t.token) refl
+pub shut : {A B : Type 0} (say : A → List Placed) (tell : B → List Placed) (P : A → Type 0) (Q : B → Type 0) (m : Mark) (f : A → B) (whole ts : List Placed) (x : Read A) → Sound say P ts x → ((a : A) (r : List Placed) → P a → ts ≡ say a ++ (mark m.it ∷ kept_tokens r) → (whole ≡ tell (f a) ++ kept_tokens r) × Q (f a)) → Sound tell Q whole (x >>= λ a r. expect m.is r >>= λ o. Got (f a))
+shut say tell P Q m f whole ts (Stop r) s h = tt
+shut say tell P Q m f whole ts (Got a []) s h = rw m.unended tt
+shut {A} say tell P Q m f whole ts (Got a (t ∷ r)) s h = go (m.is t.token) refl
   where
-    go : (b : Bool) → is t.token ≡ b → Sound tell Q whole (expect is (t ∷ r) >>= λ o. Got (f a))
-    go true e = rw e (h a r s.1 (s.0 ∙ ap (λ x. say a ++ (x ∷ kept_tokens r)) (ap (λ x. kept (placed x t.line)) (only t.token e) ∙ unkept t.line)))
+    go : (b : Bool) → m.is t.token ≡ b → Sound tell Q whole (expect m.is (t ∷ r) >>= λ o. Got (f a))
+    go true e = rw e (h a r s.1 (s.0 ∙ ap (λ x. say a ++ (x ∷ kept_tokens r)) (ap (λ x. kept (placed x t.line)) (m.only t.token e) ∙ m.unlined t.line)))
     go false e = rw e tt
-
-pub only_paren : (t : Token) → is_close_paren t ≡ true → t ≡ token.CloseParen
-only_paren token.CloseParen h = refl
-only_paren _ h = cc
 
 module _ (room : ℕ) (inner : Inner) (sound : SoundInner room inner) where
   abbrev Post : ℕ → Expr → Type 0
   Post off e = IsPostfix e × Fits e 0 room off
-
-  only_bracket : (t : Token) → is_close_bracket t ≡ true → t ≡ token.CloseBracket
-  only_bracket token.CloseBracket h = refl
-  only_bracket _ h = cc
 
   primary_sound_at : (off : ℕ) (t : Token) (line : ℕ) (ts : List Placed) → Sound spell (Post off) (kept_tokens (placed t line ∷ ts)) (primary inner off (placed t line ∷ ts))
   primary_sound_at off (token.Name x) line ts = (refl, (tt, tt))
@@ -146,7 +128,7 @@ module _ (room : ℕ) (inner : Inner) (sound : SoundInner room inner) where
   primary_sound_at off (token.Character n) line ts = (refl, (tt, tt))
   primary_sound_at off (token.String s) line ts = (refl, (tt, refl))
   primary_sound_at off token.OpenParen line ts = sound.enters (placed token.OpenParen line) ts Expr spell (Post off) (mark token.OpenParen ∷ kept_tokens ts) (λ r. inner.read Rvalue off r >>= λ e r. expect is_close_paren r >>= λ o. Got (Grouped e)) (λ o.
-      shut spell spell (Below room Rvalue off) (Post off) is_close_paren token.CloseParen only_paren refl (λ line. refl) Grouped (mark token.OpenParen ∷ kept_tokens ts) (kept_tokens ts) (inner.read Rvalue off ts) (sound.reads Rvalue off ts)
+      shut spell spell (Below room Rvalue off) (Post off) close_paren Grouped (mark token.OpenParen ∷ kept_tokens ts) (kept_tokens ts) (inner.read Rvalue off ts) (sound.reads Rvalue off ts)
       (λ e r fits eq. (ap (λ x. mark token.OpenParen ∷ x) (eq ∙ sym (append_assoc (spell e) (mark token.CloseParen ∷ []) (kept_tokens r))), (tt, fits))))
   primary_sound_at off _ line ts = tt
 
@@ -192,7 +174,7 @@ module _ (room : ℕ) (inner : Inner) (sound : SoundInner room inner) where
 
   call_filled : (off : ℕ) (e : Expr) (ts : List Placed) → Post off e → Sound spell (Post off) (spell e ++ (mark token.OpenParen ∷ kept_tokens ts)) (arguments inner (off + words e) ts >>= λ args r. expect is_close_paren r >>= λ o. Got (Called e args))
   unfolding AllFit
-  call_filled off e ts p = shut spell_arguments spell (λ args. Deeper (λ k. ArgumentsFit args k (off + words e)) room) (Post off) is_close_paren token.CloseParen only_paren refl (λ line. refl) (λ args. Called e args) (spell e ++ (mark token.OpenParen ∷ kept_tokens ts)) (kept_tokens ts) (arguments inner (off + words e) ts) (arguments_sound (off + words e) ts)
+  call_filled off e ts p = shut spell_arguments spell (λ args. Deeper (λ k. ArgumentsFit args k (off + words e)) room) (Post off) close_paren (λ args. Called e args) (spell e ++ (mark token.OpenParen ∷ kept_tokens ts)) (kept_tokens ts) (arguments inner (off + words e) ts) (arguments_sound (off + words e) ts)
       (λ args r fits eq. (ap (λ x. spell e ++ (mark token.OpenParen ∷ x)) (eq ∙ sym (append_assoc (spell_arguments args) (mark token.CloseParen ∷ []) (kept_tokens r))) ∙ sym (append_assoc (spell e) (mark token.OpenParen ∷ (spell_arguments args ++ (mark token.CloseParen ∷ []))) (kept_tokens r)) ∙ ap (λ l. l ++ kept_tokens r) (sym (called_spelling e args)), (tt, (p.0, p.1, fits))))
 
   call_sound_at : (off : ℕ) (e : Expr) (t : Token) (line : ℕ) (ts : List Placed) → Post off e → Deeper (λ k. Unit {0}) room → Sound spell (Post off) (spell e ++ (mark token.OpenParen ∷ kept_tokens (placed t line ∷ ts))) (call inner off e (placed t line ∷ ts))
@@ -205,7 +187,7 @@ module _ (room : ℕ) (inner : Inner) (sound : SoundInner room inner) where
 
   postfix_with_at : (off : ℕ) (b : Suffix) (e : Expr) (t : Token) (line : ℕ) (ts : List Placed) → suffix t ≡ Some b → Post off e → Sound spell (Post off) (spell e ++ kept_tokens (placed t line ∷ ts)) (postfix_with inner off b e (placed t line ∷ ts))
   postfix_with_at off Index e token.OpenBracket line ts h p = sound.enters (placed token.OpenBracket line) ts Expr spell (Post off) (spell e ++ (mark token.OpenBracket ∷ kept_tokens ts)) (λ r. inner.read Rvalue (off + words e) r >>= λ f r. expect is_close_bracket r >>= λ o. Got (Indexed e f)) (λ o.
-      shut spell spell (Below room Rvalue (off + words e)) (Post off) is_close_bracket token.CloseBracket only_bracket refl (λ line. refl) (λ f. Indexed e f) (spell e ++ (mark token.OpenBracket ∷ kept_tokens ts)) (kept_tokens ts) (inner.read Rvalue (off + words e) ts) (sound.reads Rvalue (off + words e) ts)
+      shut spell spell (Below room Rvalue (off + words e)) (Post off) close_bracket (λ f. Indexed e f) (spell e ++ (mark token.OpenBracket ∷ kept_tokens ts)) (kept_tokens ts) (inner.read Rvalue (off + words e) ts) (sound.reads Rvalue (off + words e) ts)
       (λ f r fits eq. (ap (λ x. spell e ++ (mark token.OpenBracket ∷ x)) (eq ∙ sym (append_assoc (spell f) (mark token.CloseBracket ∷ []) (kept_tokens r))) ∙ sym (append_assoc (spell e) (mark token.OpenBracket ∷ (spell f ++ (mark token.CloseBracket ∷ []))) (kept_tokens r)), (tt, (p.0, p.1, fits)))))
   postfix_with_at off Call e token.OpenParen line ts h p = sound.enters (placed token.OpenParen line) ts Expr spell (Post off) (spell e ++ (mark token.OpenParen ∷ kept_tokens ts)) (call inner off e) (λ o. call_sound off e ts p o)
   postfix_with_at off (Step PostIncrement) e token.Increment line ts h p = (sym (append_assoc (spell e) (placed token.Increment line ∷ []) (kept_tokens ts)), (tt, (p.0, p.1)))
@@ -213,8 +195,7 @@ module _ (room : ℕ) (inner : Inner) (sound : SoundInner room inner) where
   postfix_with_at off (Step op) e token.Increment line ts h p = cc
   postfix_with_at off (Step op) e token.Decrement line ts h p = cc
   postfix_with_at off Index e _ line ts h p = cc
-  postfix_with_at off Call e _ line ts h p = cc
-  postfix_with_at off (Step op) e _ line ts h p = cc
+  postfix_with_at off _ e _ line ts h p = cc
 
   postfix_with_sound : (off : ℕ) (b : Suffix) (e : Expr) (ts : List Placed) → suffix (first ts) ≡ Some b → Post off e → Sound spell (Post off) (spell e ++ kept_tokens ts) (postfix_with inner off b e ts)
   postfix_with_sound off b e [] h p = cc

@@ -14,13 +14,13 @@ use Rattle.bgrammar.proofs.Unread.{first-kept, blind_bind, blind_expect}
 use Rattle.bgrammar.proofs.ExpressionSound.{Sound}
 use Rattle.bgrammar.proofs.ExpressionFine as E
 use Rattle.bgrammar.proofs.Fine.{Any, Fine, Closing, Start, bind_fine, expect_then, expect_start}
-use Rattle.bgrammar.proofs.Forms.{Mark, token_of, is_mark, marked, Thing, Inner, Body, Tree, walk_of, words_of, read, Fit, Shut, Part, Sign, Item, Fields, walk_parts, onto, onto_is, read_parts, FieldsFit}
+use Rattle.bgrammar.proofs.Forms.{Mark, Thing, Inner, Body, Tree, walk_of, words_of, read, Fit, Shut, Part, Sign, Item, Fields, walk_parts, onto, onto_is, read_parts, FieldsFit}
 
 module _ (level : statements.Level) where
   -- 1. Lines that trees don't keep are never read.
   pub blind_parts : {B : Type 0} → ((j : Thing) (off : ℕ) → IsBlind (read level j off)) → (ps : List Part) (off : ℕ) (made : Fields ps → Reader B) → ((x : Fields ps) → IsBlind (made x)) → IsBlind (read_parts level ps off made)
   blind_parts blind [] off made h = h tt
-  blind_parts blind (Sign m ∷ ps) off made h = blind_expect (is_mark m) (read_parts level ps off made) (blind_parts blind ps off made h)
+  blind_parts blind (Sign m ∷ ps) off made h = blind_expect m.is (read_parts level ps off made) (blind_parts blind ps off made h)
   blind_parts blind (Item j ∷ ps) off made h = blind_bind (read level j off) (λ a. read_parts level ps (off + words_of j a) (λ x. made (a, x))) (blind j off) (λ a. blind_parts blind ps (off + words_of j a) (λ x. made (a, x)) (λ x. h (a, x)))
 
   -- 2. A spelling is read again: each thing is, before the tokens of the parts after it.
@@ -32,7 +32,7 @@ module _ (level : statements.Level) where
 
   pub parts_again : {B : Type 0} (ps : List Part) (x : Fields ps) (off : ℕ) (made : Fields ps → Reader B) (rest : List Placed) → Again ps x off rest → read_parts level ps off made (onto (walk_parts ps x) rest) ≡ made x rest
   parts_again [] x off made rest h = refl
-  parts_again (Sign m ∷ ps) x off made rest h = rw (marked m).found (parts_again ps x off made rest h)
+  parts_again (Sign m ∷ ps) x off made rest h = rw m.found (parts_again ps x off made rest h)
   parts_again (Item j ∷ ps) (a, x) off made rest h = ap (λ y. y >>= λ a. read_parts level ps (off + words_of j a) (λ x. made (a, x))) h.0 ∙ parts_again ps x (off + words_of j a) (λ x. made (a, x)) rest h.1
 
 -- 3. What is read is spelled by the tokens that it took, fits, and has no else of its own after it.
@@ -48,12 +48,12 @@ abbrev pub ToldThing : (room off : ℕ) (j : Thing) → List Placed → Read (Tr
 ToldThing room off j whole x = Told (λ a. tokens_in (walk_of j a)) (λ a. Fit j a room off) (λ a t. Shut j a t) whole x
 
 -- a token that must come, whatever is claimed of what stands after it
-pub expect_mark : {B : Type 0} (Q : Read B → Type 0) → ((r : List Placed) → Q (Stop r)) → (m : Mark) (f : Reader B) (ts : List Placed) → ((r : List Placed) → kept_tokens ts ≡ mark (token_of m) ∷ kept_tokens r → Q (f r)) → Q (expect (is_mark m) ts >>= λ o. f)
-expect_mark Q stop m f [] h = rw (marked m).unended (stop [])
-expect_mark {B} Q stop m f (t ∷ ts) h = go (is_mark m t.token) refl
+pub expect_mark : {B : Type 0} (Q : Read B → Type 0) → ((r : List Placed) → Q (Stop r)) → (m : Mark) (f : Reader B) (ts : List Placed) → ((r : List Placed) → kept_tokens ts ≡ mark m.it ∷ kept_tokens r → Q (f r)) → Q (expect m.is ts >>= λ o. f)
+expect_mark Q stop m f [] h = rw m.unended (stop [])
+expect_mark {B} Q stop m f (t ∷ ts) h = go (m.is t.token) refl
   where
-    go : (b : Bool) → is_mark m t.token ≡ b → Q (expect (is_mark m) (t ∷ ts) >>= λ o. f)
-    go true e = rw e (h ts (ap (λ k. k ∷ kept_tokens ts) (ap (λ u. kept (placed u t.line)) ((marked m).only t.token e) ∙ (marked m).unlined t.line)))
+    go : (b : Bool) → m.is t.token ≡ b → Q (expect m.is (t ∷ ts) >>= λ o. f)
+    go true e = rw e (h ts (ap (λ k. k ∷ kept_tokens ts) (ap (λ u. kept (placed u t.line)) (m.only t.token e) ∙ m.unlined t.line)))
     go false e = rw e (stop (t ∷ ts))
 
 module _ (room : ℕ) (level : statements.Level) (each : (j : Thing) (off : ℕ) (ts : List Placed) → ToldThing room off j (kept_tokens ts) (read level j off ts)) where
@@ -69,7 +69,7 @@ module _ (room : ℕ) (level : statements.Level) (each : (j : Thing) (off : ℕ)
 
   pub sound_parts : {B : Type 0} (Q : Read B → Type 0) → ((r : List Placed) → Q (Stop r)) → (ps : List Part) (off : ℕ) (made : Fields ps → Reader B) (ts : List Placed) → Shown Q ps off made ts → Q (read_parts level ps off made ts)
   sound_parts Q stop [] off made ts h = h tt ts refl tt
-  sound_parts Q stop (Sign m ∷ ps) off made ts h = expect_mark Q stop m (read_parts level ps off made) ts (λ r e. sound_parts Q stop ps off made r (λ x r2 e2 f. h x r2 (e ∙ ap (λ l. mark (token_of m) ∷ l) e2) f))
+  sound_parts Q stop (Sign m ∷ ps) off made ts h = expect_mark Q stop m (read_parts level ps off made) ts (λ r e. sound_parts Q stop ps off made r (λ x r2 e2 f. h x r2 (e ∙ ap (λ l. mark m.it ∷ l) e2) f))
   sound_parts Q stop (Item j ∷ ps) off made ts h = after_thing Q stop j ps off made ts (read level j off ts) (each j off ts) h (λ a r s. sound_parts Q stop ps (off + words_of j a) (λ x. made (a, x)) r s)
 
 -- 4. A reader reads on, where after each thing comes a token that ends it.
@@ -89,7 +89,7 @@ module _ (C : Closing) where
   -- these parts begin with a token of this class
   abbrev pub Begins : (Token → Type 0) → List Part → Type 0
   Begins Safe [] = (t : Token) → C.Is t → Safe t
-  Begins Safe (Sign m ∷ ps) = Safe (token_of m)
+  Begins Safe (Sign m ∷ ps) = Safe (m.it)
   Begins Safe (Item j ∷ ps) = (t : Token) → Safe t
 
   begins_any : (ps : List Part) → Begins Any ps
@@ -109,7 +109,7 @@ module _ (C : Closing) where
 
     pub start_parts : {B : Type 0} (Safe : Token → Type 0) (ps : List Part) (off : ℕ) (made : Fields ps → Reader B) → Follow ps → Begins Safe ps → ((x : Fields ps) → Start C C.Is (made x)) → Start C Safe (read_parts level ps off made)
     start_parts Safe [] off made f b s = wider Safe b (s tt)
-    start_parts Safe (Sign m ∷ ps) off made f b s = expect_start C Safe (is_mark m) (token_of m) (marked m).found b (read_parts level ps off made) (start_parts Any ps off made f (begins_any ps) s)
+    start_parts Safe (Sign m ∷ ps) off made f b s = expect_start C Safe m.is (m.it) m.found b (read_parts level ps off made) (start_parts Any ps off made f (begins_any ps) s)
     start_parts Safe (Item j ∷ ps) off made f b s =
         let a = (each j).least in
         let r = start_parts (After j) ps (off + words_of j a) (λ x. made (a, x)) f.2 f.1 (λ x. s (a, x)) in
@@ -122,7 +122,7 @@ module _ (C : Closing) where
 
     pub fine_parts : {B : Type 0} (ps : List Part) (off : ℕ) (made : Fields ps → Reader B) → Follow ps → ((x : Fields ps) → Start C C.Is (made x)) → ((x : Fields ps) (r : List Placed) → Fine C.Is (made x) r) → (ts : List Placed) → Fine C.Is (read_parts level ps off made) ts
     fine_parts [] off made f s h ts = h tt ts
-    fine_parts (Sign m ∷ ps) off made f s h ts = expect_then C (is_mark m) (token_of m) (marked m).found (marked m).unended (read_parts level ps off made) (start_parts Any ps off made f (begins_any ps) s) (fine_parts ps off made f s h) ts
+    fine_parts (Sign m ∷ ps) off made f s h ts = expect_then C m.is (m.it) m.found m.unended (read_parts level ps off made) (start_parts Any ps off made f (begins_any ps) s) (fine_parts ps off made f s h) ts
     fine_parts (Item j ∷ ps) off made f s h ts =
         bind_fine C (After j) (read level j off) (λ a. read_parts level ps (off + words_of j a) (λ x. made (a, x))) f.0 (λ a. start_parts (After j) ps (off + words_of j a) (λ x. made (a, x)) f.2 f.1 (λ x. s (a, x))) ts ((each j).fine off ts)
         (λ a u r e g. fine_parts ps (off + words_of j a) (λ x. made (a, x)) f.2 (λ x. s (a, x)) (λ x. h (a, x)) r)

@@ -14,65 +14,63 @@ use Rattle.bgrammar.specs.Commas.{list_reader}
 use Rattle.bgrammar.specs.StatementReader as statements
 use Rattle.bgrammar.specs.StatementReader.{is_open_paren, is_open_brace, is_close_brace, is_semicolon, is_else, name, constant, declared, goes_on, one_more}
 
--- a token that must come
-pub data Mark : Type 0 where
-  Open_paren : Mark
-  Close_paren : Mark
-  Open_brace : Mark
-  Close_brace : Mark
-  Close_bracket : Mark
-  Colon : Mark
-  Semicolon : Mark
-
-abbrev pub token_of : Mark → Token
-token_of Open_paren = token.OpenParen
-token_of Close_paren = token.CloseParen
-token_of Open_brace = token.OpenBrace
-token_of Close_brace = token.CloseBrace
-token_of Close_bracket = token.CloseBracket
-token_of Colon = token.Colon
-token_of Semicolon = token.Semicolon
-
-abbrev pub is_mark : Mark → Token → Bool
-is_mark Open_paren t = is_open_paren t
-is_mark Close_paren t = is_close_paren t
-is_mark Open_brace t = is_open_brace t
-is_mark Close_brace t = is_close_brace t
-is_mark Close_bracket t = is_close_bracket t
-is_mark Colon t = is_colon t
-is_mark Semicolon t = is_semicolon t
-
-only : (m : Mark) (t : Token) → is_mark m t ≡ true → t ≡ token_of m
-only Open_paren token.OpenParen h = refl
-only Close_paren token.CloseParen h = refl
-only Open_brace token.OpenBrace h = refl
-only Close_brace token.CloseBrace h = refl
-only Close_bracket token.CloseBracket h = refl
-only Colon token.Colon h = refl
-only Semicolon token.Semicolon h = refl
-only Open_paren _ h = cc
-only Close_paren _ h = cc
-only Open_brace _ h = cc
-only Close_brace _ h = cc
-only Close_bracket _ h = cc
-only Colon _ h = cc
-only Semicolon _ h = cc
-
--- what is known of the test for a mark
-pub record IsMark (t : Token) (is : Token → Bool) : Type 0 where
-  pub found : is t ≡ true
-  pub only : (u : Token) → is u ≡ true → u ≡ t
+-- a token that must come, and its test, which no other token passes
+pub record Mark : Type 0 where
+  pub it : Token
+  pub is : Token → Bool
+  pub found : is it ≡ true
+  pub only : (t : Token) → is t ≡ true → t ≡ it
   pub unended : is token.End ≡ false
-  pub unlined : (line : ℕ) → kept (placed t line) ≡ mark t
+  pub unlined : (line : ℕ) → kept (placed it line) ≡ mark it
 
-pub marked : (m : Mark) → IsMark (token_of m) (is_mark m)
-marked Open_paren = record { found = refl; only = only Open_paren; unended = refl; unlined = λ line. refl }
-marked Close_paren = record { found = refl; only = only Close_paren; unended = refl; unlined = λ line. refl }
-marked Open_brace = record { found = refl; only = only Open_brace; unended = refl; unlined = λ line. refl }
-marked Close_brace = record { found = refl; only = only Close_brace; unended = refl; unlined = λ line. refl }
-marked Close_bracket = record { found = refl; only = only Close_bracket; unended = refl; unlined = λ line. refl }
-marked Colon = record { found = refl; only = only Colon; unended = refl; unlined = λ line. refl }
-marked Semicolon = record { found = refl; only = only Semicolon; unended = refl; unlined = λ line. refl }
+pub only_open_paren : (t : Token) → is_open_paren t ≡ true → t ≡ token.OpenParen
+only_open_paren token.OpenParen h = refl
+only_open_paren _ h = cc
+
+abbrev pub open_paren : Mark
+open_paren = record { it = token.OpenParen; is = is_open_paren; found = refl; only = only_open_paren; unended = refl; unlined = λ line. refl }
+
+pub only_close_paren : (t : Token) → is_close_paren t ≡ true → t ≡ token.CloseParen
+only_close_paren token.CloseParen h = refl
+only_close_paren _ h = cc
+
+abbrev pub close_paren : Mark
+close_paren = record { it = token.CloseParen; is = is_close_paren; found = refl; only = only_close_paren; unended = refl; unlined = λ line. refl }
+
+pub only_close_bracket : (t : Token) → is_close_bracket t ≡ true → t ≡ token.CloseBracket
+only_close_bracket token.CloseBracket h = refl
+only_close_bracket _ h = cc
+
+abbrev pub close_bracket : Mark
+close_bracket = record { it = token.CloseBracket; is = is_close_bracket; found = refl; only = only_close_bracket; unended = refl; unlined = λ line. refl }
+
+pub only_open_brace : (t : Token) → is_open_brace t ≡ true → t ≡ token.OpenBrace
+only_open_brace token.OpenBrace h = refl
+only_open_brace _ h = cc
+
+abbrev pub open_brace : Mark
+open_brace = record { it = token.OpenBrace; is = is_open_brace; found = refl; only = only_open_brace; unended = refl; unlined = λ line. refl }
+
+pub only_close_brace : (t : Token) → is_close_brace t ≡ true → t ≡ token.CloseBrace
+only_close_brace token.CloseBrace h = refl
+only_close_brace _ h = cc
+
+abbrev pub close_brace : Mark
+close_brace = record { it = token.CloseBrace; is = is_close_brace; found = refl; only = only_close_brace; unended = refl; unlined = λ line. refl }
+
+pub only_colon : (t : Token) → is_colon t ≡ true → t ≡ token.Colon
+only_colon token.Colon h = refl
+only_colon _ h = cc
+
+abbrev pub colon : Mark
+colon = record { it = token.Colon; is = is_colon; found = refl; only = only_colon; unended = refl; unlined = λ line. refl }
+
+pub only_semicolon : (t : Token) → is_semicolon t ≡ true → t ≡ token.Semicolon
+only_semicolon token.Semicolon h = refl
+only_semicolon _ h = cc
+
+abbrev pub semicolon : Mark
+semicolon = record { it = token.Semicolon; is = is_semicolon; found = refl; only = only_semicolon; unended = refl; unlined = λ line. refl }
 
 -- a thing that is read
 pub data Thing : Type 0 where
@@ -136,7 +134,7 @@ Fields (Item j ∷ ps) = Tree j × Fields ps
 
 abbrev pub walk_parts : (ps : List Part) → Fields ps → Walk
 walk_parts [] x = NothingHere
-walk_parts (Sign m ∷ ps) x = plain (token_of m) ▸ walk_parts ps x
+walk_parts (Sign m ∷ ps) x = plain m.it ▸ walk_parts ps x
 walk_parts (Item j ∷ ps) (a, x) = walk_of j a ▸ walk_parts ps x
 
 -- the tokens of a walk, with these after them
@@ -155,7 +153,7 @@ onto_is _ rest = refl
 -- the reader of a row, and what is done with what it read
 abbrev pub read_parts : {B : Type 0} → statements.Level → (ps : List Part) → (off : ℕ) → (Fields ps → Reader B) → Reader B
 read_parts level [] off made ts = made tt ts
-read_parts level (Sign m ∷ ps) off made ts = expect (is_mark m) ts >>= λ o. read_parts level ps off made
+read_parts level (Sign m ∷ ps) off made ts = expect m.is ts >>= λ o. read_parts level ps off made
 read_parts level (Item j ∷ ps) off made ts = read level j off ts >>= λ a. read_parts level ps (off + words_of j a) (λ x. made (a, x))
 
 -- What was read fits, before these tokens.
@@ -175,35 +173,35 @@ flat room = record {
 
 -- the rows, after the first token of each
 abbrev pub block_parts : List Part
-block_parts = Item Body ∷ Sign Close_brace ∷ []
+block_parts = Item Body ∷ Sign close_brace ∷ []
 
 abbrev pub tested_parts : List Part
-tested_parts = Sign Open_paren ∷ Item Value ∷ Sign Close_paren ∷ Item Inner ∷ []
+tested_parts = Sign open_paren ∷ Item Value ∷ Sign close_paren ∷ Item Inner ∷ []
 
 abbrev pub switch_parts : List Part
-switch_parts = Item Value ∷ Sign Open_brace ∷ block_parts
+switch_parts = Item Value ∷ Sign open_brace ∷ block_parts
 
 abbrev pub value_parts : List Part
-value_parts = Item Value ∷ Sign Semicolon ∷ []
+value_parts = Item Value ∷ Sign semicolon ∷ []
 
 -- of a return with a value, after its opening parenthesis
 abbrev pub paid_parts : List Part
-paid_parts = Item Value ∷ Sign Close_paren ∷ Sign Semicolon ∷ []
+paid_parts = Item Value ∷ Sign close_paren ∷ Sign semicolon ∷ []
 
 abbrev pub return_parts : List Part
-return_parts = Sign Open_paren ∷ paid_parts
+return_parts = Sign open_paren ∷ paid_parts
 
 abbrev pub end_parts : List Part
-end_parts = Sign Semicolon ∷ []
+end_parts = Sign semicolon ∷ []
 
 abbrev pub declaration_parts : List Part
-declaration_parts = Item Declarations ∷ Sign Semicolon ∷ []
+declaration_parts = Item Declarations ∷ Sign semicolon ∷ []
 
 abbrev pub import_parts : List Part
-import_parts = Item Names ∷ Sign Semicolon ∷ []
+import_parts = Item Names ∷ Sign semicolon ∷ []
 
 abbrev pub case_parts : List Part
-case_parts = Item A_constant ∷ Sign Colon ∷ []
+case_parts = Item A_constant ∷ Sign colon ∷ []
 
 abbrev pub default_parts : List Part
-default_parts = Sign Colon ∷ []
+default_parts = Sign colon ∷ []

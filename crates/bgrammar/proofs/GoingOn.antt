@@ -2,7 +2,7 @@
 use Rattle.std.proofs.Common.{subst, sym, ◌≡◌, ℕ, false, List, [], ◌∷◌, ◌++◌, refl, Option, Some, None}
 use Rattle.blang.specs.declared.token.Placed.{Placed}
 use Rattle.blang.specs.Cut.{is_last}
-use Rattle.blang.specs.Trees.{Identifier, Constant, Number, Character, Expr, Arguments, PrefixOp, Negate, Not, Indirection, Address, PreIncrement, PreDecrement, PostfixOp, PostIncrement, PostDecrement, Named, Literal, Text, Grouped, Indexed, Called, Postfixed, Prefixed, Binary, Conditional, Assigned, No_arguments, Another, constant_token, prefix_token, postfix_token, Heading, Auto, Extrn, Label, Case, Default, Stmt, Headed, Compound, If, IfElse, While, Switch, Goto, Break, Return, ReturnValue, Evaluate, Empty, Stmts, Nothing, More, Ival, Ival_constant, Ival_text, Ival_name, Definition, Simple, Vector, Function}
+use Rattle.blang.specs.Trees.{Identifier, Constant, Number, Character, Expr, Arguments, PrefixOp, Negate, PostfixOp, PostIncrement, PostDecrement, Named, Literal, Text, Grouped, Indexed, Called, Postfixed, Prefixed, Binary, Conditional, Assigned, No_arguments, Another, constant_token, prefix_token, postfix_token, Heading, Auto, Extrn, Label, Case, Default, Stmt, Headed, Compound, If, IfElse, While, Switch, Goto, Break, Return, ReturnValue, Evaluate, Empty, Stmts, Nothing, More, Ival, Ival_constant, Ival_text, Ival_name, Definition, Simple, Vector, Function}
 use Rattle.bgrammar.specs.Spelling.{comma_after, spell, spell_arguments, comma_spelling, list_spelling, size_spelling, name_spelling, spell_heading, spell_condition, spell_statement, spell_body, ival_spelling, spell_values, spelling}
 use Rattle.blang.specs.Walk.{spell_definition, Walk, walk_value, walk_parameter, walk_declared, walk_import}
 use Rattle.bgrammar.proofs.Spelling.{called_spelling}
@@ -32,11 +32,7 @@ constant_goes_on (Character n) = refl
 
 prefix_goes_on : (op : PrefixOp) → is_last (prefix_token op) ≡ false
 prefix_goes_on Negate = refl
-prefix_goes_on Not = refl
-prefix_goes_on Indirection = refl
-prefix_goes_on Address = refl
-prefix_goes_on PreIncrement = refl
-prefix_goes_on PreDecrement = refl
+prefix_goes_on _ = refl
 
 postfix_goes_on : (op : PostfixOp) → is_last (postfix_token op) ≡ false
 postfix_goes_on PostIncrement = refl

@@ -2,7 +2,7 @@
 use Rattle.std.proofs.Common.{◌≡◌, ℕ, ◌+◌, ◌≤◌, List, [], ◌∷◌, length, length-append, refl, arith}
 use Rattle.std.specs.Prelude.{Option, Some, None, sum_by}
 use Rattle.std.proofs.lemmas.List.Sums.{sum_by-append, sum_by-cons}
-use Rattle.blang.specs.Trees.{Identifier, Expr, Arguments, PrefixOp, Negate, Not, Indirection, Address, PreIncrement, PreDecrement, Named, Literal, Text, Grouped, Indexed, Called, Postfixed, Prefixed, Binary, Conditional, Assigned, No_arguments, Another, Declared, Heading, Auto, Extrn, Label, Case, Default, Stmt, Headed, Compound, If, IfElse, While, Switch, Goto, Break, Return, ReturnValue, Evaluate, Empty, Stmts, Nothing, More}
+use Rattle.blang.specs.Trees.{Identifier, Expr, Arguments, PrefixOp, Negate, Not, Indirection, Address, Named, Literal, Text, Grouped, Indexed, Called, Postfixed, Prefixed, Binary, Conditional, Assigned, No_arguments, Another, Declared, Heading, Auto, Extrn, Label, Stmt, Headed, Compound, If, IfElse, While, Switch, Goto, Break, Return, ReturnValue, Evaluate, Empty, Stmts, Nothing, More}
 use Rattle.blang.specs.Walk.{AutoHere, LvalueWanted, Walk, Noted, Level, ◌▸◌, events_in, prefix_events, callee, walk, walk_arguments, comma_before_next, walk_size, walk_commas, walk_list, walk_declared, walk_import, walk_heading, walk_statement, walk_body, walk_parameter, walk_function}
 use Rattle.blang.specs.Scan.{function_events}
 use Rattle.blang.specs.Code.{Environment, word_code, heading_code, heading_targets, fragment, body_fragment}
@@ -25,8 +25,7 @@ prefix_labels Negate line e = refl
 prefix_labels Not line e = refl
 prefix_labels Indirection line e = refl
 prefix_labels Address line e = sum_by-cons label_in (LvalueWanted line e) []
-prefix_labels PreIncrement line e = sum_by-cons label_in (LvalueWanted line e) []
-prefix_labels PreDecrement line e = sum_by-cons label_in (LvalueWanted line e) []
+prefix_labels _ line e = sum_by-cons label_in (LvalueWanted line e) []
 
 callee_labels : (e : Expr) → labels_in (walk e) ≡ 0 → labels_in (callee e (walk e)) ≡ 0
 callee_labels (Named w) h = refl
@@ -76,8 +75,7 @@ module _ (names : Environment) where
   heading_labels (Auto declared) p = omega (arith, no_list_labels walk_declared declared_labels declared)
   heading_labels (Extrn ws) p = omega (arith, no_list_labels walk_import (λ w. refl) ws)
   heading_labels (Label w) p = refl
-  heading_labels (Case line c) p = refl
-  heading_labels (Default line) p = refl
+  heading_labels _ p = refl
 
   mutual
     statement_labels : (s : Stmt) (p : ℕ) → labels_in (walk_statement s) ≡ length ((fragment names s p).targets.labels)

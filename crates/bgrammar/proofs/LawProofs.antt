@@ -14,7 +14,7 @@ use Rattle.bgrammar.specs.StatementReader.{statement}
 use Rattle.bgrammar.specs.DefinitionReader.{definition}
 use Rattle.bgrammar.specs.Laws.{ReadsSpelling, DefinitionRead, StatementRead, ExpressionRead, ReadsAgain, GoesOnWithElse, HasTwin, ReadsOn, BeginsWithName, OneExpression, OneStatement, OneDefinition}
 use Rattle.bgrammar.proofs.KeptLemmas.{kept-twice}
-use Rattle.bgrammar.proofs.ExpressionAgain.{Ends, reader_again}
+use Rattle.bgrammar.proofs.ExpressionAgain.{ends, reader_again}
 use Rattle.bgrammar.proofs.StatementAgain.{statement_again}
 use Rattle.bgrammar.proofs.ExpressionSound.{Sound, reader_sound}
 use Rattle.bgrammar.proofs.StatementSound.{Spelled, statement_sound}
@@ -66,13 +66,10 @@ begins_with_name (Simple w values) = (w, _, refl)
 begins_with_name (Vector w size values) = (w, _, refl)
 begins_with_name (Function w parameters body) = (w, _, refl)
 
-ends_end : Ends token.End
-ends_end = record { below = record { no_suffix = refl; no_operator = λ i le. refl }; no_question = refl; no_assign = λ e. refl }
-
 pub one_expression : OneExpression
 one_expression e f room off he hf same =
-    let a : reader room Rvalue off (spell e ++ []) ≡ Got e [] = reader_again e room off he [] ends_end in
-    let b : reader room Rvalue off (spell f ++ []) ≡ Got f [] = reader_again f room off hf [] ends_end in
+    let a : reader room Rvalue off (spell e ++ []) ≡ Got e [] = reader_again e room off he [] (ends token.End refl) in
+    let b : reader room Rvalue off (spell f ++ []) ≡ Got f [] = reader_again f room off hf [] (ends token.End refl) in
     let c : Got e [] ≡ Got f [] = sym a ∙ ap (λ l. reader room Rvalue off (l ++ [])) same ∙ b in cc
 
 pub one_statement : OneStatement

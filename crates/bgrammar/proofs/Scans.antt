@@ -167,17 +167,7 @@ advances SwitchEnds s t h = scope_is SwitchEnds s t _ h (same_scope _ s _ refl r
 settled_on : (e : Event) (t u : Scope) → ((x : List ℕ) → Settled x t.names t.frame → Settled x u.names u.frame) → IsSettled t e → IsSettled u e
 settled_on (AutoHere w (Some c)) t u k h = k w.text h
 settled_on (AutoHere w None) t u k h = tt
-settled_on (ExtrnHere w) t u k h = tt
-settled_on (Mention called w) t u k h = tt
-settled_on (LabelHere w) t u k h = tt
-settled_on (CaseHere line value) t u k h = tt
-settled_on (LvalueWanted line e) t u k h = tt
-settled_on (DefaultHere line) t u k h = tt
-settled_on (BreakHere line) t u k h = tt
-settled_on LoopBegins t u k h = tt
-settled_on LoopEnds t u k h = tt
-settled_on SwitchBegins t u k h = tt
-settled_on SwitchEnds t u k h = tt
+settled_on _ t u k h = tt
 
 Advances-cons : (e : Event) (es : List Event) (s t u : Scope) → Advances (e ∷ []) s t → Advances es t u → Advances (e ∷ es) s u
 Advances-cons e es s t u h k =

@@ -37,9 +37,7 @@ labels_of-length (e ∷ es) = omega (arith, labels_of-length es, at_most_one e.k
   where
     at_most_one : (k : NameKind) → is_labelled k ≤ 1
     at_most_one (Labelled n) = omega arith
-    at_most_one (Automatic word) = omega arith
-    at_most_one External = omega arith
-    at_most_one (Unlabelled line) = omega arith
+    at_most_one _ = omega arith
 
 -- A table with words of this frame, and these many labels.
 abbrev pub IsKindWithin : ℕ → ℕ → NameKind → Type 0

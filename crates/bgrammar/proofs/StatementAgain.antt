@@ -1,26 +1,27 @@
 -- The spelling of a statement that sits is read as that statement.
-use Rattle.std.proofs.Common.{◌≡◌, ℕ, zero, suc, ◌+◌, List, [], ◌∷◌, ◌++◌, true, false, sym, ap, ◌∙◌, refl, subst, append_assoc, Option, Some, None}
+use Rattle.std.proofs.Common.{◌≡◌, ℕ, zero, suc, ◌+◌, List, [], ◌∷◌, ◌++◌, Bool, true, false, sym, ap, ◌∙◌, refl, Option, Some, None}
 use Rattle.blang.specs.declared.token.Token.{Token}
 use Rattle.blang.specs.declared.token.Token.TheVariants as token
 use Rattle.blang.specs.declared.token.Keyword.TheVariants as keyword
 use Rattle.blang.specs.declared.token.Placed.{Placed}
-use Rattle.blang.specs.Trees.{mark, Identifier, Constant, Number, Character, Expr, PrefixOp, Negate, Not, Indirection, Address, PreIncrement, PreDecrement, PostfixOp, PostIncrement, PostDecrement, Named, Literal, Text, Grouped, Indexed, Called, Postfixed, Prefixed, Binary, Conditional, Assigned, name_token, constant_token, prefix_token, postfix_token, Declared, Heading, Auto, Extrn, Label, Case, Default, Stmt, Headed, Compound, If, IfElse, While, Switch, Goto, Break, Return, ReturnValue, Evaluate, Empty, Stmts, Nothing, More, keyword_mark}
-use Rattle.bgrammar.specs.Spelling.{spell, spell_arguments, size_spelling, declared_spelling, spell_statement}
+use Rattle.blang.specs.Trees.{mark, Identifier, Constant, Number, Character, Expr, Named, name_token, constant_token, Declared, Heading, Auto, Extrn, Label, Case, Default, Stmt, Headed, Compound, If, IfElse, While, Switch, Goto, Break, Return, ReturnValue, Evaluate, Empty, Stmts, Nothing, More, keyword_mark}
+use Rattle.bgrammar.specs.Spelling.{spell, size_spelling, declared_spelling, spell_statement}
 use Rattle.blang.specs.Cut.{placed}
 use Rattle.blang.specs.WellFormed.{rvalue_rank, IsNonempty, is_open, IsHeading}
 use Rattle.bgrammar.specs.Fitting.{words, Fits, EachAfter, statement_words, body_words, Sits, AllSit}
-use Rattle.bgrammar.specs.Reading.{Got, Reader, ◌>>=◌, first, after, expect, many}
+use Rattle.bgrammar.specs.Reading.{Got, Stop, Reader, ◌>>=◌, first, expect, many}
 use Rattle.bgrammar.specs.ExpressionReader.{is_colon, always, Rvalue, reader}
 use Rattle.bgrammar.specs.Commas.{list_reader}
 use Rattle.bgrammar.specs.StatementReader.{is_semicolon, is_else, name, constant, size_at, declared, Headings, No_heading, Then, headed, Lead, Step, Declares, Imports, Selects, Defaults, Mentions, Labels, step_at, lead_step, lead_turn, goes_on, else_part, one_more, ended, stmt_at, stmt_after, level, statement}
 use Rattle.bgrammar.proofs.Fine.{many_none, many_some}
-use Rattle.bgrammar.proofs.ExpressionAgain.{Ends, opens, expr_opens, reader_again, ends_close_paren, ends_semicolon, ends_open_brace}
+use Rattle.bgrammar.proofs.ExpressionFine.{from_name_one}
+use Rattle.bgrammar.proofs.ExpressionFine as E
+use Rattle.bgrammar.proofs.ExpressionAgain.{opens, expr_opens, reader_again, ends}
 use Rattle.bgrammar.proofs.CommaLaws.{list_again}
 use Rattle.bgrammar.proofs.StatementFine.{lasting, closing, name_fine, declared_fine, lead_loop, body_loop, starts, statement_starts, level_good}
-use Rattle.bgrammar.proofs.Forms.{Body, Fields, read, onto, onto_is, flat, block_parts, tested_parts, switch_parts, value_parts, paid_parts, declaration_parts, import_parts, case_parts}
+use Rattle.bgrammar.proofs.Forms.{colon, Body, Fields, read, onto, onto_is, flat, block_parts, tested_parts, switch_parts, value_parts, paid_parts, declaration_parts, import_parts, case_parts}
 use Rattle.bgrammar.proofs.FormLaws.{parts_again}
 use Rattle.blang.specs.Walk.{walk, walk_list, walk_declared, walk_import, walk_heading, walk_statement, walk_body}
-use Rattle.bgrammar.proofs.Spelling.{called_spelling}
 
 -- a statement from what stands before it on
 abbrev following : ℕ → ℕ → Lead → Reader Stmt
@@ -83,42 +84,12 @@ direct room off hs s ts rest n e =
     ap (λ x. x >>= following room off) (many_none lead_step lead_turn (after_headings hs) ts n)
     ∙ ap (λ x. x >>= λ s. Got (headed hs s)) e
 
--- a colon is never the second token of an expression that begins with a name
-second_at : (a b rest : List Placed) (x : List ℕ) → (first (a ++ (b ++ rest)) ≡ token.Name x → is_colon (first (after (a ++ (b ++ rest)))) ≡ false) → first ((a ++ b) ++ rest) ≡ token.Name x → is_colon (first (after ((a ++ b) ++ rest))) ≡ false
-second_at a b rest x = subst (λ l. first l ≡ token.Name x → is_colon (first (after l)) ≡ false) (sym (append_assoc a b rest))
-
-second_token : (e : Expr) (rest : List Placed) → is_colon (first rest) ≡ false → (x : List ℕ) → first (spell e ++ rest) ≡ token.Name x → is_colon (first (after (spell e ++ rest))) ≡ false
-second_token (Named w) rest n x h = n
-second_token (Literal (Number m)) rest n x h = cc
-second_token (Literal (Character m)) rest n x h = cc
-second_token (Text bytes offset) rest n x h = cc
-second_token (Grouped e) rest n x h = cc
-second_token (Indexed e f) rest n x h = second_at (spell e) (mark token.OpenBracket ∷ (spell f ++ (mark token.CloseBracket ∷ []))) rest x (second_token e _ refl x) h
-second_token (Called e args) rest n x h = subst (λ l. first (l ++ rest) ≡ token.Name x → is_colon (first (after (l ++ rest))) ≡ false) (sym (called_spelling e args)) (second_at (spell e) (mark token.OpenParen ∷ (spell_arguments args ++ (mark token.CloseParen ∷ []))) rest x (second_token e _ refl x)) h
-second_token (Postfixed op line e) rest n x h = second_at (spell e) (placed (postfix_token op) line ∷ []) rest x (second_token e _ (no_colon op) x) h
-  where
-    no_colon : (op : PostfixOp) → is_colon (postfix_token op) ≡ false
-    no_colon PostIncrement = refl
-    no_colon PostDecrement = refl
-second_token (Prefixed op line e) rest n x h = absurd (named op h)
-  where
-    named : (op : PrefixOp) → prefix_token op ≡ token.Name x → ⊥
-    named Negate h = cc
-    named Not h = cc
-    named Indirection h = cc
-    named Address h = cc
-    named PreIncrement h = cc
-    named PreDecrement h = cc
-second_token (Binary op line e f) rest n x h = second_at (spell e) (placed (token.Operator op) line ∷ spell f) rest x (second_token e _ refl x) h
-second_token (Conditional e f g) rest n x h = second_at (spell e) (mark token.Question ∷ (spell f ++ (mark token.Colon ∷ spell g))) rest x (second_token e _ refl x) h
-second_token (Assigned op line e f) rest n x h = second_at (spell e) (placed (token.Assign op) line ∷ spell f) rest x (second_token e _ refl x) h
-
 no_label : (w : Identifier) (t : Token) → is_colon t ≡ false → step_at (Some w) t ≡ None
 no_label w token.Colon h = cc
 no_label w _ h = refl
 
 ended_again : (room off : ℕ) (made : Expr → Stmt) (e : Expr) → Fits e rvalue_rank room off → (rest : List Placed) → ended room off made (spell e ++ (mark token.Semicolon ∷ rest)) ≡ Got (made e) rest
-ended_again room off made e f rest = ap (λ x. x >>= λ e r. expect is_semicolon r >>= λ o. Got (made e)) (reader_again e room off f (mark token.Semicolon ∷ rest) ends_semicolon)
+ended_again room off made e f rest = ap (λ x. x >>= λ e r. expect is_semicolon r >>= λ o. Got (made e)) (reader_again e room off f (mark token.Semicolon ∷ rest) (ends token.Semicolon refl))
 
 opens_no_step : (t : Token) → opens t ≡ true → ((x : List ℕ) → t ≡ token.Name x → ⊥) → step_at None t ≡ None
 opens_no_step (token.Name x) h n = absurd (n x refl)
@@ -131,15 +102,29 @@ opens_ends room off token.OpenBrace ts h = cc
 opens_ends room off token.Semicolon ts h = cc
 opens_ends room off _ ts h = refl
 
+-- a name that an expression begins with has no colon after it
+not_labelled : (room off : ℕ) (w : Identifier) (ts rest : List Placed) (s : Stmt) → ended room off Evaluate (name_token w ∷ ts) ≡ Got s rest → is_colon (first ts) ≡ false
+not_labelled room off w ts rest s h = go (is_colon (first ts)) refl
+  where
+    go : (b : Bool) → is_colon (first ts) ≡ b → is_colon (first ts) ≡ false
+    go false e = e
+    go true e =
+        let colon : first ts ≡ token.Colon = colon.only (first ts) e in
+        let alone : ended room off Evaluate (name_token w ∷ ts) ≡ (expect is_semicolon ts >>= λ o. Got (Evaluate (Named w))) = ap (λ x. x >>= λ e r. expect is_semicolon r >>= λ o. Got (Evaluate e)) (from_name_one room off w ts (ap E.closes colon)) in
+        let stops : (expect is_semicolon ts >>= λ o. Got (Evaluate (Named w))) ≡ Stop ts = rw (ap is_semicolon colon) refl in
+        let never : Got s rest ≡ Stop ts = sym h ∙ alone ∙ stops in cc
+
 -- an expression as a statement; the reader may have to take a name before it knows
-expression_again : (room off : ℕ) (hs : Headings) (e : Expr) (rest ts : List Placed) (t : Token) → first ts ≡ t → opens t ≡ true → ((x : List ℕ) → t ≡ token.Name x → is_colon (first (after ts)) ≡ false) → ended room off Evaluate ts ≡ Got (Evaluate e) rest → from room off (after_headings hs) ts ≡ Got (headed hs (Evaluate e)) rest
-expression_again room off hs e rest [] t f o n read = let g : opens token.End ≡ true = ap opens f ∙ o in cc
-expression_again room off hs e rest (p ∷ ts) (token.Name x) f o n read =
+expression_again : (room off : ℕ) (hs : Headings) (e : Expr) (rest ts : List Placed) (t : Token) → first ts ≡ t → opens t ≡ true → ended room off Evaluate ts ≡ Got (Evaluate e) rest → from room off (after_headings hs) ts ≡ Got (headed hs (Evaluate e)) rest
+expression_again room off hs e rest [] t f o read = let g : opens token.End ≡ true = ap opens f ∙ o in cc
+expression_again room off hs e rest (p ∷ ts) (token.Name x) f o read =
+    let w : Identifier = record { text = x; line = p.line } in
+    let named : ended room off Evaluate (name_token w ∷ ts) ≡ Got (Evaluate e) rest = ap (λ t. ended room off Evaluate (placed t p.line ∷ ts)) (sym f) ∙ read in
     ap (λ y. y >>= following room off)
     (many_some lasting lead_step lead_turn lead_loop (Mentions x) (after_headings hs) (p ∷ ts) (ap (step_at None) f)
-    ∙ many_none lead_step lead_turn (record { headings = hs; word = Some (record { text = x; line = p.line }) }) ts (no_label (record { text = x; line = p.line }) (first ts) (n x refl)))
-    ∙ ap (λ y. y >>= λ s. Got (headed hs s)) (ap (λ t. ended room off Evaluate (placed t p.line ∷ ts)) (sym f) ∙ read)
-expression_again room off hs e rest (p ∷ ts) t f o n read = direct room off hs (Evaluate e) (p ∷ ts) rest (ap (step_at None) f ∙ opens_no_step t o (λ x e. cc)) (ap (λ y. stmt_at room (level room) off y (p ∷ ts)) f ∙ opens_ends room off t (p ∷ ts) o ∙ read)
+    ∙ many_none lead_step lead_turn (record { headings = hs; word = Some w }) ts (no_label w (first ts) (not_labelled room off w ts rest (Evaluate e) named)))
+    ∙ ap (λ y. y >>= λ s. Got (headed hs s)) named
+expression_again room off hs e rest (p ∷ ts) t f o read = direct room off hs (Evaluate e) (p ∷ ts) rest (ap (step_at None) f ∙ opens_no_step t o (λ x e. cc)) (ap (λ y. stmt_at room (level room) off y (p ∷ ts)) f ∙ opens_ends room off t (p ∷ ts) o ∙ read)
 
 -- what may follow it
 abbrev Follows : Stmt → List Placed → Type 0
@@ -152,8 +137,8 @@ record ReadsBody (ss : Stmts) : Type 0 where
   again : (k off : ℕ) → AllSit ss k off → (rest : List Placed) → is_else (first rest) ≡ false → many (always goes_on) (one_more (level (suc k)) off) Nothing (onto (walk_body ss) rest) ≡ many (always goes_on) (one_more (level (suc k)) off) ss rest
 
 -- things, before a token that ends them
-value : (e : Expr) (k off : ℕ) → Fits e rvalue_rank k off → (rest : List Placed) → Ends (first rest) → reader k Rvalue off (onto (walk e) rest) ≡ Got e rest
-value e k off f rest n = ap (reader k Rvalue off) (onto_is (walk e) rest) ∙ reader_again e k off f rest n
+value : (e : Expr) (k off : ℕ) → Fits e rvalue_rank k off → (rest : List Placed) → E.Closer (first rest) → reader k Rvalue off (onto (walk e) rest) ≡ Got e rest
+value e k off f rest n = ap (reader k Rvalue off) (onto_is (walk e) rest) ∙ reader_again e k off f rest (ends (first rest) n)
 
 inner : {s : Stmt} → Reads s → (k off : ℕ) → Sits s k off → (rest : List Placed) → Follows s rest → (level (suc k)).stmt off (onto (walk_statement s) rest) ≡ Got s rest
 inner rs k off f rest n = rs.again k off f No_heading rest n
@@ -179,24 +164,24 @@ else_after k off x = else_part (level (suc k)) off x.0 x.1.0
 reads_if : (e : Expr) (s : Stmt) → Reads s → Reads (If e s)
 reads_if e s rs =
     deep (If e s) (λ rest. refl) (λ off f. f)
-    (λ k off f rest n. parts_again (level (suc k)) tested_parts (e, (s, tt)) off (else_after k off) rest (value e k off f.0 _ ends_close_paren, (inner rs k (off + words e) f.1 rest (λ o. n refl), tt)) ∙ no_else_after off e s k rest (n refl))
+    (λ k off f rest n. parts_again (level (suc k)) tested_parts (e, (s, tt)) off (else_after k off) rest (value e k off f.0 _ refl, (inner rs k (off + words e) f.1 rest (λ o. n refl), tt)) ∙ no_else_after off e s k rest (n refl))
 
 reads_if_else : (e : Expr) (s other : Stmt) → Reads s → Reads other → Reads (IfElse e s other)
 reads_if_else e s other rs ro =
     deep (IfElse e s other) (λ rest. refl) (λ off f. f.1)
     (λ k off f rest n.
     let after = keyword_mark keyword.Else ∷ onto (walk_statement other) rest in
-    parts_again (level (suc k)) tested_parts (e, (s, tt)) off (else_after k off) after (value e k off f.1.0 _ ends_close_paren, (inner rs k (off + words e) f.1.1 after (λ o. let b : false ≡ true = sym f.0 ∙ o in cc), tt))
+    parts_again (level (suc k)) tested_parts (e, (s, tt)) off (else_after k off) after (value e k off f.1.0 _ refl, (inner rs k (off + words e) f.1.1 after (λ o. let b : false ≡ true = sym f.0 ∙ o in cc), tt))
     ∙ ap (λ x. x >>= λ other. Got (IfElse e s other)) (inner ro k (off + words e + statement_words s) f.1.2 rest n))
 
 reads_while : (e : Expr) (s : Stmt) → Reads s → Reads (While e s)
-reads_while e s rs = deep (While e s) (λ rest. refl) (λ off f. f) (λ k off f rest n. parts_again (level (suc k)) tested_parts (e, (s, tt)) off (λ x. Got (While x.0 x.1.0)) rest (value e k off f.0 _ ends_close_paren, (inner rs k (off + words e) f.1 rest n, tt)))
+reads_while e s rs = deep (While e s) (λ rest. refl) (λ off f. f) (λ k off f rest n. parts_again (level (suc k)) tested_parts (e, (s, tt)) off (λ x. Got (While x.0 x.1.0)) rest (value e k off f.0 _ refl, (inner rs k (off + words e) f.1 rest n, tt)))
 
 reads_compound : (ss : Stmts) → ReadsBody ss → Reads (Compound ss)
 reads_compound ss rb = deep (Compound ss) (λ rest. refl) (λ off f. f) (λ k off f rest n. parts_again (level (suc k)) block_parts (ss, tt) off (λ x. Got (Compound x.0)) rest (body_read rb k off f rest, tt))
 
 reads_switch : (e : Expr) (ss : Stmts) → ReadsBody ss → Reads (Switch e ss)
-reads_switch e ss rb = deep (Switch e ss) (λ rest. refl) (λ off f. f) (λ k off f rest n. parts_again (level (suc k)) switch_parts (e, (ss, tt)) off (λ x. Got (Switch x.0 x.1.0)) rest (value e k off f.0 _ ends_open_brace, (body_read rb k (off + words e) f.1 rest, tt)))
+reads_switch e ss rb = deep (Switch e ss) (λ rest. refl) (λ off f. f) (λ k off f rest n. parts_again (level (suc k)) switch_parts (e, (ss, tt)) off (λ x. Got (Switch x.0 x.1.0)) rest (value e k off f.0 _ refl, (body_read rb k (off + words e) f.1 rest, tt)))
 
 -- one that opens none, after its first token
 here : (s : Stmt) → ((rest : List Placed) → step_at None (first (onto (walk_statement s) rest)) ≡ None)
@@ -207,7 +192,7 @@ reads_evaluate : (e : Expr) → Reads (Evaluate e)
 reads_evaluate e = record {
   again = λ room off f hs rest n.
       ap (from room off (after_headings hs)) (onto_is (walk e) (mark token.Semicolon ∷ rest))
-      ∙ expression_again room off hs e rest (spell e ++ (mark token.Semicolon ∷ rest)) (first (spell e ++ (mark token.Semicolon ∷ rest))) refl (expr_opens e (mark token.Semicolon ∷ rest)) (second_token e (mark token.Semicolon ∷ rest) refl) (ended_again room off Evaluate e f rest);
+      ∙ expression_again room off hs e rest (spell e ++ (mark token.Semicolon ∷ rest)) (first (spell e ++ (mark token.Semicolon ∷ rest))) refl (expr_opens e (mark token.Semicolon ∷ rest)) (ended_again room off Evaluate e f rest);
 }
 
 reads_headed : (h : Heading) (s : Stmt) → Reads s → Reads (Headed h s)
@@ -239,10 +224,10 @@ mutual
   reads (IfElse e s other) = reads_if_else e s other (reads s) (reads other)
   reads (While e s) = reads_while e s (reads s)
   reads (Switch e ss) = reads_switch e ss (reads_body ss)
-  reads (Goto e) = here (Goto e) (λ rest. refl) (λ room off f rest. parts_again (flat room) value_parts (e, tt) off (λ x. Got (Goto x.0)) rest (value e room off f _ ends_semicolon, tt))
+  reads (Goto e) = here (Goto e) (λ rest. refl) (λ room off f rest. parts_again (flat room) value_parts (e, tt) off (λ x. Got (Goto x.0)) rest (value e room off f _ refl, tt))
   reads (Break line) = here (Break line) (λ rest. refl) (λ room off f rest. refl)
   reads Return = here Return (λ rest. refl) (λ room off f rest. refl)
-  reads (ReturnValue e) = here (ReturnValue e) (λ rest. refl) (λ room off f rest. parts_again (flat room) paid_parts (e, tt) off (λ x. Got (ReturnValue x.0)) rest (value e room off f _ ends_close_paren, tt))
+  reads (ReturnValue e) = here (ReturnValue e) (λ rest. refl) (λ room off f rest. parts_again (flat room) paid_parts (e, tt) off (λ x. Got (ReturnValue x.0)) rest (value e room off f _ refl, tt))
   reads (Evaluate e) = reads_evaluate e
   reads Empty = here Empty (λ rest. refl) (λ room off f rest. refl)
 

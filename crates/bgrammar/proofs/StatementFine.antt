@@ -45,15 +45,14 @@ last_is_safe token.CloseBrace h = refl
 last_is_safe token.End h = refl
 last_is_safe _ h = cc
 
-pub safer : (t : Token) → Closer t → E.Closer t
-safer token.CloseBrace h = refl
-safer token.End h = refl
-safer _ h = cc
+-- what holds of the two closers
+pub at_closers : (P : Token → Type 0) → P token.CloseBrace → P token.End → (t : Token) → Closer t → P t
+at_closers P brace end token.CloseBrace h = brace
+at_closers P brace end token.End h = end
+at_closers P brace end _ h = cc
 
-closer_is_last : (t : Token) → Closer t → Last t
-closer_is_last token.CloseBrace h = refl
-closer_is_last token.End h = refl
-closer_is_last _ h = cc
+pub safer : (t : Token) → Closer t → E.Closer t
+safer = at_closers E.Closer refl refl
 
 -- a name, a constant, a declared name
 abbrev pub some_word : Identifier
@@ -109,9 +108,7 @@ pub record Good (level : Level) : Type 0 where
   pub stmt_takes : (off : ℕ) (ts r : List Placed) (s : Stmt) → level.stmt off ts ≡ Got s r → length r < length ts
 
 goes_to_end : (t : Token) → Closer t → goes_on t ≡ None
-goes_to_end token.CloseBrace h = refl
-goes_to_end token.End h = refl
-goes_to_end _ h = cc
+goes_to_end = at_closers (λ t. goes_on t ≡ None) refl refl
 
 no_comma : (t : Token) → E.Closer t → comma t ≡ None
 no_comma token.Comma h = cc
@@ -204,9 +201,7 @@ lead_fine ts = many_fine lasting lead_step lead_turn lead_loop no_lead ts
 
 -- the rest of an if, after its statement
 no_else : (t : Token) → Closer t → is_else t ≡ false
-no_else token.CloseBrace h = refl
-no_else token.End h = refl
-no_else _ h = cc
+no_else = at_closers (λ t. is_else t ≡ false) refl refl
 
 module _ (level : Level) (off : ℕ) (e : Expr) (s : Stmt) where
   else_start : Start closing Closer (else_part level off e s)
@@ -248,11 +243,6 @@ module _ (room : ℕ) (has : LevelGood room) where
   ended_fine : (off : ℕ) (made : Expr → Stmt) (ts : List Placed) → Fine Closer (ended room off made) ts
   ended_fine off made ts = flat_fine closing room value_parts off (λ x. made x.0) (safer, refl, tt) ts
 
-  no_value : (t : Token) → Closer t → is_open_paren t ≡ false
-  no_value token.CloseBrace h = refl
-  no_value token.End h = refl
-  no_value _ h = cc
-
   returned_start : (off : ℕ) → Start closing Any (returned room off)
   returned_start off = record { with_ = mark token.Semicolon ∷ []; value = Return; done = λ k h. refl; front = λ k h. tt }
 
@@ -263,19 +253,14 @@ module _ (room : ℕ) (has : LevelGood room) where
     where
       near : (new : List Placed) → Near Closer ts new → returned room off new ≡ (expect is_semicolon new >>= λ o. Got Return)
       near new (inl n) = rw (ap is_open_paren n ∙ h) refl
-      near new (inr n) = rw (no_value (first new) n) refl
-
-  ends_it : (off : ℕ) (t : Token) (ts : List Placed) → Closer t → stmt_at room (level room) off t ts ≡ ended room off Evaluate ts
-  ends_it off token.CloseBrace ts h = refl
-  ends_it off token.End ts h = refl
-  ends_it off _ ts h = cc
+      near new (inr n) = rw (at_closers (λ t. is_open_paren t ≡ false) refl refl (first new) n) refl
 
   other : (off : ℕ) (t : Token) → ((ts : List Placed) → stmt_at room (level room) off t ts ≡ ended room off Evaluate ts) → (ts : List Placed) → first ts ≡ t → Fine Closer (at_first room off) ts
   other off t is ts e = same closing (at_first room off) (ended room off Evaluate) ts near (stmt_start room off) (ended_fine off Evaluate ts)
     where
       near : (new : List Placed) → Near Closer ts new → stmt_at room (level room) off (first new) new ≡ ended room off Evaluate new
       near new (inl n) = ap (λ x. stmt_at room (level room) off x new) (n ∙ e) ∙ is new
-      near new (inr n) = ends_it off (first new) new n
+      near new (inr n) = at_closers (λ t. stmt_at room (level room) off t new ≡ ended room off Evaluate new) refl refl (first new) n
 
   stmt_fine_at : (off : ℕ) (t : Token) (ts : List Placed) → first ts ≡ t → Fine Closer (at_first room off) ts
   stmt_fine_at off token.OpenBrace ts e = entered room has off token.OpenBrace block_parts (λ x. Got (Compound x.0)) ((λ t h. h), refl, tt) (λ x. got_start closing (Compound x.0)) (λ g x r. got_fine closing (Compound x.0) r) (λ new. refl) (λ n. cc) ts e
@@ -303,7 +288,7 @@ module _ (room : ℕ) (has : LevelGood room) where
   after_one off (Some w) k = ap (λ x. x >>= λ e r. expect is_semicolon r >>= λ o. Got (Evaluate e)) (from_name_one room off w (mark token.Semicolon ∷ k) refl)
 
   stmt_with_fine : (off : ℕ) (ts : List Placed) → Fine Closer (stmt_with room (level room) off) ts
-  stmt_with_fine off ts = bind_fine closing Last lead (λ l r. stmt_after room (level room) off l.word r >>= λ s. Got (headed l.headings s)) closer_is_last (λ l. record { with_ = mark token.Semicolon ∷ []; value = headed l.headings (shortest l.word); done = λ k h. ap (λ x. x >>= λ s. Got (headed l.headings s)) (after_one off l.word k); front = λ k h. refl }) ts (lead_fine ts) (λ l u r h g. map_fine closing (stmt_after room (level room) off l.word) (headed l.headings) r (after_fine off l.word r))
+  stmt_with_fine off ts = bind_fine closing Last lead (λ l r. stmt_after room (level room) off l.word r >>= λ s. Got (headed l.headings s)) (at_closers Last refl refl) (λ l. record { with_ = mark token.Semicolon ∷ []; value = headed l.headings (shortest l.word); done = λ k h. ap (λ x. x >>= λ s. Got (headed l.headings s)) (after_one off l.word k); front = λ k h. refl }) ts (lead_fine ts) (λ l u r h g. map_fine closing (stmt_after room (level room) off l.word) (headed l.headings) r (after_fine off l.word r))
 
 statement_takes : (room off : ℕ) (ts r : List Placed) (s : Stmt) → statement room off ts ≡ Got s r → length r < length ts
 statement_takes room off ts r s h = takes (λ s. Sits s room off) ts r s _ (statement_sound room off ts) h

@@ -15,7 +15,7 @@ use Rattle.bgrammar.specs.StatementReader.{is_open_paren, is_else, name_at, name
 use Rattle.bgrammar.proofs.ExpressionSound.{Sound, sound_bind, sound_weaken, sound_turns, by_first, reader_sound}
 use Rattle.bgrammar.proofs.CommaLaws.{list_sound}
 use Rattle.bgrammar.proofs.Unread.{first-kept}
-use Rattle.bgrammar.proofs.Forms.{Semicolon, Thing, Value, Inner, Body, Declarations, Names, A_constant, read, Part, Item, Fields, walk_parts, onto, onto_is, read_parts, FieldsFit, flat, block_parts, tested_parts, switch_parts, value_parts, return_parts, end_parts, declaration_parts, import_parts, case_parts, default_parts}
+use Rattle.bgrammar.proofs.Forms.{semicolon, Thing, Value, Inner, Body, Declarations, Names, A_constant, read, Part, Item, Fields, walk_parts, onto, onto_is, read_parts, FieldsFit, flat, block_parts, tested_parts, switch_parts, value_parts, return_parts, end_parts, declaration_parts, import_parts, case_parts, default_parts}
 use Rattle.bgrammar.proofs.FormLaws.{Told, told, ToldThing, expect_mark, sound_parts}
 use Rattle.blang.specs.Walk.{walk_declared, walk_import, walk_heading, walk_statement}
 
@@ -74,7 +74,7 @@ module _ (room : ℕ) (level : Level) (expr : (off : ℕ) (ts : List Placed) →
   things_told A_constant off ts = told constant_spelling (λ c. Unit {0}) (kept_tokens ts) (constant ts) (constant_sound ts)
 
 pub flat_told : (room : ℕ) (j : Thing) (off : ℕ) (ts : List Placed) → ToldThing room off j (kept_tokens ts) (read (flat room) j off ts)
-flat_told room = things_told room (flat room) (λ off ts. reader_sound room Rvalue off ts) (λ off ts. expect_mark (Spelled (λ s. Sits s room off) (kept_tokens ts)) (λ r. tt) Semicolon (λ x. Got Empty x) ts (λ r e. (e, tt, λ n. cc)))
+flat_told room = things_told room (flat room) (λ off ts. reader_sound room Rvalue off ts) (λ off ts. expect_mark (Spelled (λ s. Sits s room off) (kept_tokens ts)) (λ r. tt) semicolon (λ x. Got Empty x) ts (λ r e. (e, tt, λ n. cc)))
 
 -- what was taken before a statement
 abbrev pub spell_headings : Headings → List Placed
