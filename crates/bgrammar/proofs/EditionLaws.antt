@@ -1,5 +1,5 @@
 -- Each break can be a return, and each default a label: with these the other tokens stay, and no level gets deeper.
-use Rattle.std.proofs.Common.{◌≡◌, ℕ, List, [], ◌∷◌, ◌++◌, false, Option, Some, None, refl, ap, ◌∙◌, map}
+use Rattle.std.proofs.Common.{◌≡◌, ◌≤◌, ℕ, zero, suc, ◌+◌, List, [], ◌∷◌, ◌++◌, false, Option, Some, None, refl, sym, ap, ◌∙◌, map, arith}
 use Rattle.std.proofs.lemmas.List.{map-append}
 use Rattle.blang.specs.declared.token.Keyword.TheVariants as keyword
 use Rattle.blang.specs.declared.token.Token.{Token}
@@ -7,11 +7,12 @@ use Rattle.blang.specs.declared.token.Token.TheVariants as token
 use Rattle.blang.specs.declared.token.Placed.{Placed}
 use Rattle.blang.specs.Trees.{bare, Constant, Number, Character, Expr, Arguments, PrefixOp, Negate, PostfixOp, PostIncrement, PostDecrement, Named, Literal, Text, Grouped, Indexed, Called, Postfixed, Prefixed, Binary, Conditional, Assigned, No_arguments, Another, constant_token, prefix_token, postfix_token, Heading, Auto, Extrn, Label, Case, Default, Stmt, Headed, Compound, If, IfElse, While, Switch, Goto, Break, Return, ReturnValue, Evaluate, Empty, Stmts, Nothing, More, Ival, Ival_constant, Ival_text, Ival_name, Definition, Simple, Vector, Function}
 use Rattle.bgrammar.specs.Spelling.{spell, list_spelling, spell_heading, spell_condition, spell_statement, spell_body}
-use Rattle.blang.specs.Walk.{spell_definition, spell_all, Walk, Said, Level, ◌▸◌, Event, tokens_in, callee, walk, walk_arguments, comma_before_next, walk_commas, walk_list, walk_size, walk_declared, walk_import, walk_heading, walk_parenthesized, walk_statement, walk_body, walk_value, walk_values, walk_parameter, walk_definition}
-use Rattle.blang.specs.WellFormed.{is_open, IsHeading, StatementBinds, BodyBinds, IsFormed, AllFormed}
+use Rattle.blang.specs.Walk.{spell_definition, spell_all, Walk, Said, Level, ◌▸◌, Event, tokens_in, texts_in, levels_in, callee, walk, walk_arguments, comma_before_next, walk_commas, walk_list, walk_size, walk_declared, walk_import, walk_heading, walk_parenthesized, walk_statement, walk_body, walk_value, walk_values, walk_parameter, walk_definition}
+use Rattle.blang.specs.WellFormed.{is_open, IsHeading, StatementBinds, BodyBinds, IsFormed, AllFormed, OffsetsFrom}
 use Rattle.blang.specs.declared.limits.TheConstants.{MAX_NESTING}
 use Rattle.bgrammar.specs.Editions.{is_new, AllOld, IsOldHeading, IsOld, IsOldBody, OldTokensOldTree, BeginsOld, PartOfOld}
-use Rattle.bgrammar.proofs.Relined.{Like, like_itself, like_plain, beside, opening, like_levels, like_offsets}
+use Rattle.bgrammar.specs.Fitting.{words_in, Deeper, FitsIn}
+use Rattle.bgrammar.proofs.WalkLaws.{fits_in, in_room, in_order, at_offset, IsPlain, plain_words, plain_fits}
 
 -- a word of the first edition in place of a new one
 abbrev old : Token → Token
@@ -71,6 +72,36 @@ prefix_same _ = refl
 postfix_same : (op : PostfixOp) → postfix_token op ≡ old (postfix_token op)
 postfix_same PostIncrement = refl
 postfix_same PostDecrement = refl
+
+-- The second walk fits wherever the first one does, with as many string words.
+record Like (v w : Walk) : Type 0 where
+  words : words_in w ≡ words_in v
+  fits : (room off : ℕ) → FitsIn v room off → FitsIn w room off
+
+like_itself : (w : Walk) → Like w w
+like_itself w = record { words = refl; fits = λ room off h. h }
+
+like_plain : (v w : Walk) → IsPlain v → IsPlain w → Like v w
+like_plain v w p q = record { words = plain_words w q ∙ sym (plain_words v p); fits = λ room off h. plain_fits w q room off }
+
+beside : {v v2 w w2 : Walk} → Like v v2 → Like w w2 → Like (v ▸ w) (v2 ▸ w2)
+beside {v} {v2} {w} {w2} a b = record {
+  words = let e = a.words in let f = b.words in omega arith;
+  fits = λ room off h. (a.fits room off h.0, at_offset w2 room (off + words_in v) (off + words_in v2) (ap (λ n. off + n) (sym a.words)) (b.fits room (off + words_in v) h.1));
+}
+
+opening : {w w2 : Walk} (p p2 : Placed) (end end2 : List Event) → Like w w2 → Like (Level p w end) (Level p2 w2 end2)
+opening {w} {w2} p p2 end end2 a = record { words = a.words; fits = λ room off h. inside room off h }
+  where
+    inside : (room off : ℕ) → Deeper (λ k. FitsIn w k off) room → Deeper (λ k. FitsIn w2 k off) room
+    inside zero off h = h
+    inside (suc k) off h = a.fits k off h
+
+like_levels : {v w : Walk} (most : ℕ) → Like v w → levels_in v ≤ most → OffsetsFrom 0 (texts_in v) → levels_in w ≤ most
+like_levels {v} {w} most a l o = in_room w most 0 (a.fits most 0 (fits_in v most 0 l o))
+
+like_offsets : {v w : Walk} → Like v w → OffsetsFrom 0 (texts_in v) → OffsetsFrom 0 (texts_in w)
+like_offsets {v} {w} a o = in_order w (levels_in v) 0 (a.fits (levels_in v) 0 (fits_in v (levels_in v) 0 (omega arith) o))
 
 -- The second walk has the first one's tokens with old words, and fits wherever it does.
 record Ages (v w : Walk) : Type 0 where

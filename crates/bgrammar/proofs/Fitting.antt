@@ -14,7 +14,7 @@ use Rattle.bgrammar.proofs.WalkLaws.{callee_words, strings_are, fits_in, in_room
 comma_words : (args : Arguments) → words_in (comma_before_next args) ≡ 0
 comma_words args = plain_words (comma_before_next args) (comma_plain args)
 
-heading_words : (h : Heading) → words_in (walk_heading h) ≡ 0
+pub heading_words : (h : Heading) → words_in (walk_heading h) ≡ 0
 heading_words h = plain_words (walk_heading h) (heading_plain h)
 
 -- past tokens, which have no words
@@ -175,7 +175,7 @@ any_room (Ival_constant c) room other off h = tt
 any_room (Ival_text bytes offset) room other off h = h
 any_room (Ival_name w) room other off h = tt
 
-one_value : (before : List Ival) (v : Ival) → values_words (before ++ v ∷ []) ≡ values_words before + ival_words v
+pub one_value : (before : List Ival) (v : Ival) → values_words (before ++ v ∷ []) ≡ values_words before + ival_words v
 one_value before v = omega (arith, sum_by-append ival_words before (v ∷ []), sum_by-cons ival_words v [])
 
 module _ (room : ℕ) where

@@ -1,6 +1,5 @@
--- Four laws of reading, once for all rows of parts: lines that trees don't keep are never read, what is read is spelled
--- so, a spelling is read again, and a reader reads on from what it has and can be ended wherever it stops.
-use Rattle.std.proofs.Common.{◌≡◌, ℕ, ◌+◌, List, [], ◌∷◌, ◌++◌, Bool, true, false, sym, ap, ◌∙◌, refl, subst, append_assoc}
+-- Four laws of reading, once for all rows of parts: lines decide nothing, what is read is spelled so, a spelling is read again, and a reader reads on from what it has and can be ended wherever it stops.
+use Rattle.std.proofs.Common.{◌≡◌, ℕ, ◌+◌, List, [], ◌∷◌, ◌++◌, Bool, true, false, sym, ap, ◌∙◌, refl, subst, append_assoc, arith}
 use Rattle.blang.specs.declared.token.Token.{Token}
 use Rattle.blang.specs.declared.token.Placed.{Placed}
 use Rattle.blang.specs.Cut.{placed}
@@ -8,20 +7,28 @@ use Rattle.blang.specs.Trees.{mark, kept, kept_tokens}
 use Rattle.blang.specs.Walk.{tokens_in}
 use Rattle.bgrammar.specs.Reading.{Read, Got, Stop, Reader, ◌>>=◌, first, expect}
 use Rattle.bgrammar.specs.StatementReader as statements
-use Rattle.bgrammar.specs.Unread.{IsBlind}
 use Rattle.bgrammar.specs.ReadingOn.{Closer}
-use Rattle.bgrammar.proofs.Unread.{first-kept, blind_bind, blind_expect}
+use Rattle.bgrammar.proofs.KeptLemmas.{first-kept}
+use Rattle.bgrammar.proofs.Lineless.{Lineless, bind_lineless, expect_lineless}
 use Rattle.bgrammar.proofs.ExpressionSound.{Sound}
 use Rattle.bgrammar.proofs.ExpressionFine as E
 use Rattle.bgrammar.proofs.Fine.{Any, Fine, Closing, Start, bind_fine, expect_then, expect_start}
 use Rattle.bgrammar.proofs.Forms.{Mark, Thing, Inner, Body, Tree, walk_of, words_of, read, Fit, Shut, Part, Sign, Item, Fields, walk_parts, onto, onto_is, read_parts, FieldsFit}
 
 module _ (level : statements.Level) where
-  -- 1. Lines that trees don't keep are never read.
-  pub blind_parts : {B : Type 0} → ((j : Thing) (off : ℕ) → IsBlind (read level j off)) → (ps : List Part) (off : ℕ) (made : Fields ps → Reader B) → ((x : Fields ps) → IsBlind (made x)) → IsBlind (read_parts level ps off made)
-  blind_parts blind [] off made h = h tt
-  blind_parts blind (Sign m ∷ ps) off made h = blind_expect m.is (read_parts level ps off made) (blind_parts blind ps off made h)
-  blind_parts blind (Item j ∷ ps) off made h = blind_bind (read level j off) (λ a. read_parts level ps (off + words_of j a) (λ x. made (a, x))) (blind j off) (λ a. blind_parts blind ps (off + words_of j a) (λ x. made (a, x)) (λ x. h (a, x)))
+  -- 1. Lines decide nothing, where as many string words are read for each thing.
+  abbrev pub FieldsAlike : (ps : List Part) → Fields ps → Fields ps → Type 0
+  FieldsAlike [] x y = Unit {0}
+  FieldsAlike (Sign m ∷ ps) x y = FieldsAlike ps x y
+  FieldsAlike (Item j ∷ ps) (a, x) (b, y) = (words_of j a ≡ words_of j b) × FieldsAlike ps x y
+
+  pub parts_lineless : {B : Type 0} (R : B → B → Type 0) → ((j : Thing) (off : ℕ) → Lineless (λ a b. words_of j a ≡ words_of j b) (read level j off) (read level j off)) → (ps : List Part) (off off2 : ℕ) → off ≡ off2 → (made made2 : Fields ps → Reader B)
+      → ((x y : Fields ps) → FieldsAlike ps x y → Lineless R (made x) (made2 y)) → Lineless R (read_parts level ps off made) (read_parts level ps off2 made2)
+  parts_lineless R each [] off off2 same made made2 h = h tt tt tt
+  parts_lineless R each (Sign m ∷ ps) off off2 same made made2 h = expect_lineless R m.is (read_parts level ps off made) (read_parts level ps off2 made2) (parts_lineless R each ps off off2 same made made2 h)
+  parts_lineless R each (Item j ∷ ps) off off2 same made made2 h =
+      bind_lineless (λ a b. words_of j a ≡ words_of j b) R (read level j off) (read level j off2) _ _ (subst (λ n. Lineless (λ a b. words_of j a ≡ words_of j b) (read level j off) (read level j n)) same (each j off))
+      (λ a b w. parts_lineless R each ps (off + words_of j a) (off2 + words_of j b) (omega (arith, same, w)) (λ x. made (a, x)) (λ x. made2 (b, x)) (λ x y k. h (a, x) (b, y) (w, k)))
 
   -- 2. A spelling is read again: each thing is, before the tokens of the parts after it.
   abbrev pub Again : (ps : List Part) → Fields ps → (off : ℕ) → List Placed → Type 0

@@ -15,11 +15,10 @@ use Rattle.blang.specs.Code.{fault_of}
 use Rattle.blang.specs.WellFormed.{fault_at}
 use Rattle.bgrammar.specs.Unread.{kept_read}
 use Rattle.blang.specs.Compiles.{Defined, Compilation, compiled_text, CompilesTo}
-use Rattle.bgrammar.proofs.LawProofs.{reads_on}
+use Rattle.bgrammar.proofs.LawProofs.{reads_on, lines_unread}
 use Rattle.bgrammar.proofs.GoingOn.{GoOn, definition_goes_on}
 use Rattle.bgrammar.proofs.ProgramLaws.{read_there}
 use Rattle.bgrammar.proofs.Outcomes.{Ended, ended_after, go_on_kept}
-use Rattle.bgrammar.proofs.StatementUnread.{lines_unread}
 use Rattle.bgrammar.proofs.GoesLaws.{goes_stop, goes_after, goes_fault}
 
 -- the tokens that were taken before these

@@ -1,7 +1,9 @@
 -- Tokens with what trees keep of them, and lists that are split.
 use Rattle.std.proofs.Common.{◌≡◌, suc, Bool, true, false, List, [], ◌∷◌, ◌++◌, length, map, ap, ◌∙◌, refl, sym, if◌then◌else◌}
+use Rattle.std.proofs.lemmas.List.{map-append}
 use Rattle.blang.specs.declared.token.Token.{Token}
 use Rattle.blang.specs.declared.token.Placed.{Placed}
+use Rattle.bgrammar.specs.Reading.{first}
 use Rattle.blang.specs.Trees.{mark, kept, kept_tokens, bare, keeps_line}
 
 pub kept-length : (ts : List Placed) → length (kept_tokens ts) ≡ length ts
@@ -14,6 +16,10 @@ bare_if false p = refl
 
 pub bare-kept : (p : Placed) → bare (kept p) ≡ bare p
 bare-kept p = bare_if (keeps_line p.token) p
+
+pub first-kept : (ts : List Placed) → first (kept_tokens ts) ≡ first ts
+first-kept [] = refl
+first-kept (p ∷ ts) = bare-kept p
 
 pub map_bare-kept : (ts : List Placed) → map bare (map kept ts) ≡ map bare ts
 map_bare-kept [] = refl
@@ -33,6 +39,9 @@ kept-twice (t ∷ ts) = ap (λ x. x ∷ kept_tokens (kept_tokens ts)) (kept-kept
 pub map_bare-mark : (ts : List Token) → map bare (map mark ts) ≡ ts
 map_bare-mark [] = refl
 map_bare-mark (t ∷ ts) = ap (λ l. t ∷ l) (map_bare-mark ts)
+
+pub kept-append : (a b : List Placed) → kept_tokens (a ++ b) ≡ kept_tokens a ++ kept_tokens b
+kept-append a b = map-append kept a b
 
 -- a list whose image falls into two falls into two
 pub record Split {A B : Type 0} (f : A → B) (ps : List A) (xs ys : List B) : Type 0 where

@@ -11,10 +11,6 @@ pub mod StatementAgain
 pub mod DefinitionSound
 pub mod DefinitionFine
 pub mod DefinitionAgain
-pub mod Relined
-pub mod ExpressionRelined
-pub mod StatementRelined
-pub mod DefinitionRelined
 pub mod KeptLemmas
 pub mod LawProofs
 pub mod CodeLaws
@@ -34,8 +30,8 @@ pub mod SourceRows
 pub mod Levels
 pub mod Ending
 pub mod ProgramRules
-pub mod Unread
-pub mod StatementUnread
+pub mod Lineless
+pub mod StatementLineless
 pub mod EditionLaws
 pub mod EditionTokens
 pub mod Membership

@@ -12,9 +12,8 @@ use Rattle.blang.specs.Walk.{spell_definition, spell_all}
 use Rattle.bgrammar.specs.Reading.{Got, first}
 use Rattle.blang.specs.WellFormed.{IsFormed, AllFormed, IsProgram, BeginsProgram, IsViable, StopsAt, Parts, Parted}
 use Rattle.bgrammar.specs.DefinitionReader.{definition}
-use Rattle.bgrammar.proofs.Relined.{kept-append}
 use Rattle.bgrammar.proofs.GoingOn.{GoOn}
-use Rattle.bgrammar.proofs.KeptLemmas.{bare-kept, map_bare-kept, map_bare-mark, split_map, Order, together, sooner, later, order}
+use Rattle.bgrammar.proofs.KeptLemmas.{kept-append, bare-kept, map_bare-kept, map_bare-mark, split_map, Order, together, sooner, later, order}
 use Rattle.bgrammar.proofs.ProgramLaws.{bare-append, all_relined, read_there, read_first, program_goes_on, viable_cases, viable_end, viable_next, one_before, begins_before, stops_begins, stops_there}
 use Rattle.bgrammar.proofs.Parting.{got_on, not_nothing, first_there}
 

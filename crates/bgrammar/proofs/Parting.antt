@@ -11,8 +11,7 @@ use Rattle.bgrammar.specs.ReadingOn.{Fine, goes, halts, Closer}
 use Rattle.blang.specs.WellFormed.{IsFormed, AllFormed, IsProgram, BeginsProgram, IsViable, StopsAt, IsPart, Parts, Parted, fault_at}
 use Rattle.bgrammar.specs.DefinitionReader.{definition}
 use Rattle.bgrammar.proofs.CommaLaws.{append-nil}
-use Rattle.bgrammar.proofs.Relined.{kept-append}
-use Rattle.bgrammar.proofs.KeptLemmas.{bare-kept, map_bare-kept, map_bare-mark, kept-twice}
+use Rattle.bgrammar.proofs.KeptLemmas.{kept-append, bare-kept, map_bare-kept, map_bare-mark, kept-twice}
 use Rattle.bgrammar.proofs.DefinitionSound.{SpelledDefinition, definition_sound}
 use Rattle.bgrammar.proofs.LawProofs.{reads_on, begins_with_name}
 use Rattle.bgrammar.proofs.ProgramLaws.{bare-append, all_relined, read_first, viable_cases, stops_there, reads_first}

@@ -15,9 +15,8 @@ use Rattle.bgrammar.specs.StatementReader.{is_else}
 use Rattle.blang.specs.WellFormed.{IsFormed, AllFormed, IsProgram, BeginsProgram, IsViable, StopsAt, IsPart}
 use Rattle.bgrammar.specs.DefinitionReader.{definition, is_open_definition}
 use Rattle.bgrammar.proofs.CommaLaws.{append-nil}
-use Rattle.bgrammar.proofs.Relined.{kept-append}
 use Rattle.bgrammar.proofs.GoingOn.{GoOn, GoOn-append, definition_goes_on}
-use Rattle.bgrammar.proofs.KeptLemmas.{bare-kept, split_map}
+use Rattle.bgrammar.proofs.KeptLemmas.{kept-append, bare-kept, split_map}
 use Rattle.bgrammar.proofs.LawProofs.{reads_spelling, reads_again, goes_on_with_else, has_twin, begins_with_name}
 
 pub bare-append : (us vs : List Placed) → map bare (us ++ vs) ≡ map bare us ++ map bare vs

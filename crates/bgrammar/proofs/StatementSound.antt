@@ -14,7 +14,7 @@ use Rattle.bgrammar.specs.ExpressionReader.{always, Rvalue}
 use Rattle.bgrammar.specs.StatementReader.{is_open_paren, is_else, name_at, name, constant_at, constant, size_at, size, declared, Headings, No_heading, Then, headed, Lead, no_lead, Step, Declares, Imports, Selects, Defaults, Mentions, Labels, step_at, lead_step, lead_turn, lead, goes_on, Level, else_part, one_more, ended, returned, stmt_at, stmt_after, stmt_with, level, statement}
 use Rattle.bgrammar.proofs.ExpressionSound.{Sound, sound_bind, sound_weaken, sound_turns, by_first, reader_sound}
 use Rattle.bgrammar.proofs.CommaLaws.{list_sound}
-use Rattle.bgrammar.proofs.Unread.{first-kept}
+use Rattle.bgrammar.proofs.KeptLemmas.{first-kept}
 use Rattle.bgrammar.proofs.Forms.{semicolon, Thing, Value, Inner, Body, Declarations, Names, A_constant, read, Part, Item, Fields, walk_parts, onto, onto_is, read_parts, FieldsFit, flat, block_parts, tested_parts, switch_parts, value_parts, return_parts, end_parts, declaration_parts, import_parts, case_parts, default_parts}
 use Rattle.bgrammar.proofs.FormLaws.{Told, told, ToldThing, expect_mark, sound_parts}
 use Rattle.blang.specs.Walk.{walk_declared, walk_import, walk_heading, walk_statement}

@@ -119,7 +119,7 @@ module _ {A : Type 0} (say : A → Walk) (each : (x : A) → IsPlain (say x)) wh
   commas_plain [] = tt
   commas_plain (x ∷ xs) = (tt, (each x, commas_plain xs))
 
-  list_plain : (xs : List A) → IsPlain (walk_list say xs)
+  pub list_plain : (xs : List A) → IsPlain (walk_list say xs)
   list_plain [] = tt
   list_plain (x ∷ xs) = (each x, commas_plain xs)
 

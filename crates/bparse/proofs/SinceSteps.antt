@@ -23,9 +23,8 @@ use Rattle.bgrammar.specs.Unread.{kept_read}
 use Rattle.bgrammar.proofs.Membership.{are_names_after, are_names_push}
 use Rattle.bgrammar.proofs.GoesLaws.{goes_once, goes_some}
 use Rattle.bgrammar.proofs.GoesReads.{Taken, got_taken}
-use Rattle.bgrammar.proofs.LawProofs.{definition_read}
+use Rattle.bgrammar.proofs.LawProofs.{definition_read, lines_unread}
 use Rattle.bgrammar.proofs.ProgramLaws.{read_there}
-use Rattle.bgrammar.proofs.StatementUnread.{lines_unread}
 use Rattle.bread.specs.Tokens.{tokens_of, IsReady, LooksAt, last_ahead}
 use Rattle.bword.specs.ByteEnds.{CanFollow}
 use Rattle.bread.proofs.TokenSteps.{EndsWith-append}

@@ -14,9 +14,8 @@ use Rattle.bgrammar.specs.Reading.{after}
 use Rattle.bgrammar.specs.Unread.{kept_read}
 use Rattle.bgrammar.proofs.GoesReads.{got_taken, stop_taken}
 use Rattle.bgrammar.proofs.KeptLemmas.{map_bare-kept}
-use Rattle.bgrammar.proofs.LawProofs.{definition_read}
+use Rattle.bgrammar.proofs.LawProofs.{definition_read, lines_unread}
 use Rattle.bgrammar.proofs.Parting.{stop_on, bare_spelled}
-use Rattle.bgrammar.proofs.StatementUnread.{lines_unread}
 use Rattle.bread.specs.Tokens.{Tokens, tokens_of, tokens_with, last_ahead, IsSingle}
 use Rattle.bparse.specs.Compilers.{Compiler, HasWrittenSince, ReadNoFurther}
 use Rattle.bparse.specs.Steps.{StandsAt}
