@@ -488,7 +488,8 @@ class Change:
         self.text = text
         for start, end, new in self.edits:
             self.text = self.text[:start] + new + self.text[end:]
-        self.said = "; ".join(f"{shown(text, start, end)} -> {new or 'nothing'}" for start, end, new in self.edits[::-1])
+        said = [f"{shown(text, start, end)} -> {new or 'nothing'}" for start, end, new in self.edits[::-1]]
+        self.said = "; ".join(said)
 
     def __str__(self):
         return f"{self.module}.{self.number} line {self.line}, {self.name}: " + " ".join(self.said.split())

@@ -1,5 +1,5 @@
--- Closed facts: what each construct asks of its parts. The parts are an assignment, a conditional and a bitwise or, which
--- ask for 9, 8 and 7: so each fact shows how loosely the operators of each part may bind.
+-- Closed facts: what each construct asks of its parts. The parts are an assignment, a conditional and a bitwise or,
+-- which ask for 9, 8 and 7: so each fact shows how loosely the operators of each part may bind.
 use Rattle.std.specs.Prelude.{◌≡◌, ◌≤◌, ◌++◌, ◌⊎◌, ℕ, List, [], ◌∷◌, map, true, false, Bool, codes, None, Some, refl}
 use Rattle.bword.specs.declared.operators.BinOp.TheVariants as op
 use Rattle.blang.specs.declared.token.Placed.{Placed}

@@ -4,7 +4,7 @@ use Rattle.std.specs.Fmt.{digits}
 use Rattle.blang.specs.declared.run.Library.TheVariants.{Char, Lchar, Getchar, Putchar, Printn, Exit}
 use Rattle.blang.specs.declared.run.Trap.TheVariants.{BadBase, NoRoom, TooDeep}
 use Rattle.blang.specs.Layout.{World, Gives, Ends, Exited, Trapped, library, with_words, callee_of, NoFunction}
-use Rattle.blang.specs.Layout.{OfLibrary, OfProgram, refusal, parameter_words, is_base}
+use Rattle.blang.specs.Layout.{OfLibrary, OfProgram, refusal, parameter_words, is_base, character_bytes}
 
 -- the string "hi" and its final *e at word 2, the input "ab"
 abbrev world : World
@@ -175,6 +175,11 @@ char_high : map (λ i. library Char (0 ∷ i ∷ []) (record world { store = 513
 char_high = refl
 
 -- further arguments count for nothing
+-- around the greatest low byte
+bytes_of_characters : map character_bytes (0 ∷ 255 ∷ 256 ∷ 257 ∷ 511 ∷ 512 ∷ [])
+    ≡ (0 ∷ []) ∷ (255 ∷ []) ∷ (1 ∷ 0 ∷ []) ∷ (1 ∷ 1 ∷ []) ∷ (1 ∷ 255 ∷ []) ∷ (2 ∷ 0 ∷ []) ∷ []
+bytes_of_characters = refl
+
 putchar_extra : library Putchar (120 ∷ 121 ∷ []) world ≡ Gives 120 (record world { output = codes ".x" })
 putchar_extra = refl
 

@@ -2,10 +2,12 @@
 use Rattle.std.specs.Prelude.{◌≡◌, ℕ, List, [], ◌∷◌, map, codes, replicate, true, false, Option, Some, None, refl}
 use Rattle.std.specs.Fmt.{digits}
 use Rattle.bword.specs.declared.operators.BinOp.TheVariants as op
-use Rattle.blang.specs.Trees.{Identifier, Number, Character, Expr, Arguments, Address, Indirection, Not, PreIncrement, PostIncrement}
+use Rattle.blang.specs.Trees.{Identifier, Number, Character, Expr, Arguments, Negate, Address, Indirection, Not}
+use Rattle.blang.specs.Trees.{PreIncrement, PreDecrement, PostIncrement}
 use Rattle.blang.specs.Trees.{PostDecrement, Named, Literal, Text, Grouped, Indexed, Called, Postfixed, Prefixed}
 use Rattle.blang.specs.Trees.{Binary, Conditional, Assigned, No_arguments, Another, Auto, Extrn, Label, Case, Default}
-use Rattle.blang.specs.Trees.{Stmt, Headed, Compound, If, IfElse, While, Switch, Goto, Break, ReturnValue, Evaluate, Empty}
+use Rattle.blang.specs.Trees.{Stmt, Headed, Compound, If, IfElse, While, Switch, Goto, Break, Return, ReturnValue}
+use Rattle.blang.specs.Trees.{Evaluate, Empty}
 use Rattle.blang.specs.Trees.{Stmts, Nothing, More, Definition, Ival_constant}
 use Rattle.blang.specs.declared.run.Trap.TheVariants.{ZeroDivisor, NotAFunction, NotALabel, NoRoom, TooDeep}
 use Rattle.blang.specs.Layout.{Ending, Exited, Trapped}
@@ -238,6 +240,10 @@ parameters = refl
 too_deep : does (main (Evaluate (call (codes "main") []) ∷ []) ∷ []) [] 4095 ≡ (Some (Trapped TooDeep), [])
 too_deep = refl
 
+-- with one fuel less no call is refused yet
+not_too_deep : does (main (Evaluate (call (codes "main") []) ∷ []) ∷ []) [] 4094 ≡ (None, [])
+not_too_deep = refl
+
 -- printn(n,b){extrn putchar; auto a; if(a=n/b) printn(a,b); putchar(n%b+'0');} main(){printn(1972,10);}: the library's
 -- is hidden
 hides_printn : does
@@ -446,3 +452,83 @@ above_32767 : does
     ∷ printn (Text (codes "a") 0) ∷ []) ∷ []) [] 0 ≡ (Some (Exited 0), codes "75-32760-32754-32752-32755")
 unfolding digits
 above_32767 = refl
+
+-- f() S; main() exit(f()+7);: what returns no value gives 0, also where a break was last
+abbrev after_f : Stmt → List Definition
+after_f s =
+    function (codes "f") [] (s ∷ [])
+    ∷ main (Evaluate (call (codes "exit") (Binary op.Add 1 (call (codes "f") []) (number 7) ∷ [])) ∷ []) ∷ []
+
+gives_0 : map (λ s. does (after_f s) [] 3) (Empty ∷ Return ∷ Evaluate (number 5) ∷ While (number 0) Empty
+    ∷ While (number 1) (Break 1) ∷ Switch (number 1) Nothing
+    ∷ Switch (number 1) (More Nothing (case 1 (Break 1))) ∷ [])
+    ≡ replicate 7 (Some (Exited 7), [])
+gives_0 = refl
+
+-- main(){auto a; auto v 2; a=5; v[1]=9; exit(E);}, by what each E is
+abbrev variable : Expr
+variable = name (codes "a")
+
+abbrev vector : Expr
+vector = name (codes "v")
+
+abbrev element : Expr
+element = Indexed vector (number 1)
+
+abbrev plus : Expr → Expr → Expr
+plus e f = Binary op.Add 1 e f
+
+-- an assignment and what was stored
+abbrev and_then : Expr → Expr → Expr
+and_then e f = plus (Assigned None 1 e (number 3)) f
+
+abbrev ends_with : Expr → Option Ending
+ends_with e = (does (main (auto (codes "a") None (auto (codes "v") (Some 2) (set (codes "a") (number 5)))
+    ∷ Evaluate (Assigned None 1 element (number 9)) ∷ Evaluate (call (codes "exit") (e ∷ [])) ∷ []) ∷ []) [] 0).0
+
+abbrev exits : List ℕ → List (Option Ending)
+exits statuses = map (λ n. Some (Exited n)) statuses
+
+primaries : map ends_with
+    (number 7 ∷ Literal (Character 97) ∷ variable ∷ Grouped variable ∷ element ∷ Indexed (number 1) vector
+    ∷ Prefixed Indirection 1 (plus vector (number 1))
+    ∷ Prefixed Indirection 1 (Prefixed Address 1 variable) ∷ Prefixed Not 1 variable
+    ∷ Prefixed Not 1 (number 0) ∷ plus (Prefixed Negate 1 variable) (number 6)
+    ∷ Binary op.Sub 1 (Prefixed Address 1 element) vector ∷ Binary op.Sub 1 vector (Prefixed Address 1 variable) ∷ [])
+    ≡ exits (7 ∷ 97 ∷ 5 ∷ 5 ∷ 9 ∷ 9 ∷ 9 ∷ 5 ∷ 0 ∷ 1 ∷ 1 ∷ 1 ∷ 2 ∷ [])
+primaries = refl
+
+choices : map ends_with (Conditional variable (number 1) (number 2) ∷ Conditional (number 0) (number 1) (number 2)
+    ∷ Conditional (number 0) (number 1) (Conditional (number 0) (number 2) (number 3)) ∷ []) ≡ exits (1 ∷ 2 ∷ 3 ∷ [])
+choices = refl
+
+assignments : map ends_with
+    (and_then variable variable ∷ and_then (Grouped variable) variable ∷ and_then element element
+    ∷ and_then (Prefixed Indirection 1 (plus vector (number 1))) element ∷ and_then (Grouped (Grouped element)) element
+    ∷ plus (Assigned (Some op.Sub) 1 variable (number 3)) variable
+    ∷ plus (Assigned (Some op.Add) 1 element variable) element ∷ [])
+    ≡ exits (6 ∷ 6 ∷ 6 ∷ 6 ∷ 6 ∷ 4 ∷ 28 ∷ [])
+assignments = refl
+
+counts : map ends_with
+    (plus (Postfixed PostIncrement 1 variable) variable ∷ plus (Postfixed PostDecrement 1 variable) variable
+    ∷ plus (Prefixed PreIncrement 1 variable) variable ∷ plus (Prefixed PreDecrement 1 variable) variable
+    ∷ plus (Postfixed PostIncrement 1 (Grouped element)) element ∷ []) ≡ exits (11 ∷ 9 ∷ 12 ∷ 8 ∷ 19 ∷ [])
+counts = refl
+
+-- main(){while(1) {S putchar('x');} putchar('k');}: each S breaks the loop
+breaks : map
+    (λ s. does (main (While (number 1) (block (s ∷ putchar (number 120) ∷ [])) ∷ putchar (number 107) ∷ []) ∷ []) [] 1)
+    (Break 1 ∷ label (codes "l") (Break 1) ∷ block (Empty ∷ Break 1 ∷ []) ∷ block (Break 1 ∷ Empty ∷ [])
+    ∷ If (number 1) (Break 1) ∷ IfElse (number 1) (Break 1) Empty ∷ IfElse (number 0) Empty (Break 1) ∷ [])
+    ≡ replicate 7 (Some (Exited 0), codes "k")
+breaks = refl
+
+-- main(){while(1) {S putchar('x'); break;} putchar('k');}: no S breaks it
+goes_on : map (λ s. does (main (While (number 1) (block (s ∷ putchar (number 120) ∷ Break 1 ∷ []))
+    ∷ putchar (number 107) ∷ []) ∷ []) [] 2)
+    (Empty ∷ label (codes "l") Empty ∷ Compound Nothing ∷ If (number 0) (Break 1) ∷ IfElse (number 1) Empty (Break 1)
+    ∷ IfElse (number 0) (Break 1) Empty ∷ While (number 0) (Break 1) ∷ While (number 1) (Break 1)
+    ∷ Switch (number 1) (More Nothing (Break 1)) ∷ Switch (number 1) (More Nothing (case 1 (Break 1))) ∷ [])
+    ≡ replicate 10 (Some (Exited 0), codes "xk")
+goes_on = refl
