@@ -4,9 +4,9 @@ use Rattle.std.proofs.lemmas.List.{map-append}
 use Rattle.blang.specs.declared.token.Token.TheVariants as token
 use Rattle.blang.specs.declared.token.Keyword.TheVariants as keyword
 use Rattle.blang.specs.declared.token.Placed.{Placed}
-use Rattle.blang.specs.Trees.{mark, keyword_mark, kept_tokens, bare, Definition, Simple, Vector, Function}
+use Rattle.blang.specs.Trees.{mark, keyword_mark, kept_tokens, bare, Expr, Definition, Simple, Vector, Function}
 use Rattle.bgrammar.specs.Spelling.{spell, spell_statement}
-use Rattle.blang.specs.Walk.{spell_definition}
+use Rattle.blang.specs.Walk.{spell_definition, walk}
 use Rattle.blang.specs.WellFormed.{rvalue_rank, IsFormed}
 use Rattle.bgrammar.specs.Fitting.{Fits, Sits}
 use Rattle.bgrammar.specs.Reading.{Read, Got, Stop}
@@ -17,6 +17,7 @@ use Rattle.bgrammar.specs.StatementReader.{statement}
 use Rattle.bgrammar.specs.DefinitionReader.{definition, is_open_definition}
 use Rattle.bgrammar.specs.Laws.{ReadsSpelling, DefinitionRead, StatementRead, ExpressionRead, ReadsAgain, GoesOnWithElse, HasTwin, ReadsOn, BeginsWithName, OneExpression, OneStatement, OneDefinition}
 use Rattle.bgrammar.proofs.KeptLemmas.{kept-length, kept-append, kept-twice, map_bare-kept}
+use Rattle.bgrammar.proofs.Forms.{onto_is}
 use Rattle.bgrammar.proofs.ExpressionAgain.{ends, reader_again}
 use Rattle.bgrammar.proofs.StatementAgain.{statement_again}
 use Rattle.bgrammar.proofs.ExpressionSound.{Sound, reader_sound}
@@ -99,9 +100,8 @@ begins_with_name (Function w parameters body) = (w, _, refl)
 
 pub one_expression : OneExpression
 one_expression e f room off he hf same =
-    let a : reader room Rvalue off (spell e ++ []) ≡ Got e [] = reader_again e room off he [] (ends token.End refl) in
-    let b : reader room Rvalue off (spell f ++ []) ≡ Got f [] = reader_again f room off hf [] (ends token.End refl) in
-    let c : Got e [] ≡ Got f [] = sym a ∙ ap (λ l. reader room Rvalue off (l ++ [])) same ∙ b in cc
+    let there : (g : Expr) → Fits g rvalue_rank room off → reader room Rvalue off (spell g ++ []) ≡ Got g [] = λ g h. ap (reader room Rvalue off) (sym (onto_is (walk g) [])) ∙ reader_again g room off h [] (ends token.End refl) in
+    let c : Got e [] ≡ Got f [] = sym (there e he) ∙ ap (λ l. reader room Rvalue off (l ++ [])) same ∙ there f hf in cc
 
 pub one_statement : OneStatement
 one_statement s t room off hs ht same =

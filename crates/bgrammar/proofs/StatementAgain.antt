@@ -5,7 +5,7 @@ use Rattle.blang.specs.declared.token.Token.TheVariants as token
 use Rattle.blang.specs.declared.token.Keyword.TheVariants as keyword
 use Rattle.blang.specs.declared.token.Placed.{Placed}
 use Rattle.blang.specs.Trees.{mark, Identifier, Constant, Number, Character, Expr, Named, name_token, constant_token, Declared, Heading, Auto, Extrn, Label, Case, Default, Stmt, Headed, Compound, If, IfElse, While, Switch, Goto, Break, Return, ReturnValue, Evaluate, Empty, Stmts, Nothing, More, keyword_mark}
-use Rattle.bgrammar.specs.Spelling.{spell, size_spelling, declared_spelling, spell_statement}
+use Rattle.bgrammar.specs.Spelling.{size_spelling, declared_spelling, spell_statement}
 use Rattle.blang.specs.Cut.{placed}
 use Rattle.blang.specs.WellFormed.{rvalue_rank, IsNonempty, is_open, IsHeading}
 use Rattle.bgrammar.specs.Fitting.{words, Fits, EachAfter, statement_words, body_words, Sits, AllSit}
@@ -88,7 +88,7 @@ no_label : (w : Identifier) (t : Token) → is_colon t ≡ false → step_at (So
 no_label w token.Colon h = cc
 no_label w _ h = refl
 
-ended_again : (room off : ℕ) (made : Expr → Stmt) (e : Expr) → Fits e rvalue_rank room off → (rest : List Placed) → ended room off made (spell e ++ (mark token.Semicolon ∷ rest)) ≡ Got (made e) rest
+ended_again : (room off : ℕ) (made : Expr → Stmt) (e : Expr) → Fits e rvalue_rank room off → (rest : List Placed) → ended room off made (onto (walk e) (mark token.Semicolon ∷ rest)) ≡ Got (made e) rest
 ended_again room off made e f rest = ap (λ x. x >>= λ e r. expect is_semicolon r >>= λ o. Got (made e)) (reader_again e room off f (mark token.Semicolon ∷ rest) (ends token.Semicolon refl))
 
 opens_no_step : (t : Token) → opens t ≡ true → ((x : List ℕ) → t ≡ token.Name x → ⊥) → step_at None t ≡ None
@@ -138,7 +138,7 @@ record ReadsBody (ss : Stmts) : Type 0 where
 
 -- things, before a token that ends them
 value : (e : Expr) (k off : ℕ) → Fits e rvalue_rank k off → (rest : List Placed) → E.Closer (first rest) → reader k Rvalue off (onto (walk e) rest) ≡ Got e rest
-value e k off f rest n = ap (reader k Rvalue off) (onto_is (walk e) rest) ∙ reader_again e k off f rest (ends (first rest) n)
+value e k off f rest n = reader_again e k off f rest (ends (first rest) n)
 
 inner : {s : Stmt} → Reads s → (k off : ℕ) → Sits s k off → (rest : List Placed) → Follows s rest → (level (suc k)).stmt off (onto (walk_statement s) rest) ≡ Got s rest
 inner rs k off f rest n = rs.again k off f No_heading rest n
@@ -191,8 +191,7 @@ here s step read = record { again = λ room off f hs rest n. direct room off hs 
 reads_evaluate : (e : Expr) → Reads (Evaluate e)
 reads_evaluate e = record {
   again = λ room off f hs rest n.
-      ap (from room off (after_headings hs)) (onto_is (walk e) (mark token.Semicolon ∷ rest))
-      ∙ expression_again room off hs e rest (spell e ++ (mark token.Semicolon ∷ rest)) (first (spell e ++ (mark token.Semicolon ∷ rest))) refl (expr_opens e (mark token.Semicolon ∷ rest)) (ended_again room off Evaluate e f rest);
+      expression_again room off hs e rest (onto (walk e) (mark token.Semicolon ∷ rest)) (first (onto (walk e) (mark token.Semicolon ∷ rest))) refl (expr_opens e (mark token.Semicolon ∷ rest)) (ended_again room off Evaluate e f rest);
 }
 
 reads_headed : (h : Heading) (s : Stmt) → Reads s → Reads (Headed h s)

@@ -11,7 +11,7 @@ use Rattle.bgrammar.specs.Reading.{Read, Got, Stop, Reader, ◌>>=◌, first, ex
 use Rattle.bgrammar.specs.ExpressionReader.{comma, always, Rvalue, reader}
 pub use Rattle.bgrammar.specs.ReadingOn.{closes, Closer}
 use Rattle.bgrammar.specs.Commas.{comma_item}
-use Rattle.blang.specs.Walk.{walk, walk_heading, walk_statement}
+use Rattle.blang.specs.Walk.{walk_heading, walk_statement}
 use Rattle.bgrammar.specs.StatementReader.{is_open_paren, is_semicolon, is_else, name, constant, size_at, size, declared, headed, Lead, no_lead, with_heading, Step, Declares, Imports, Selects, Defaults, Mentions, Labels, step_at, lead_step, lead_turn, lead, goes_on, Level, else_part, one_more, ended, returned, stmt_at, stmt_after, stmt_with, level, statement}
 use Rattle.bgrammar.proofs.Fine.{Near, Any, Fine, Closing, Start, startable, bind_fine, then_fine, shift, idle, stuck, same, got_fine, got_start, map_fine, expect_then, closed_fine, Opened, enters, Loop, opened_loop, runs, many_none, many_fine}
 use Rattle.bgrammar.proofs.ExpressionFine.{one, one_tree, reader_fine, reader_one, from_name_fine, from_name_one}
@@ -155,7 +155,7 @@ heading_starts _ rest = refl
 
 pub statement_starts : (s : Stmt) (rest : List Placed) → starts (first (onto (walk_statement s) rest)) ≡ true
 statement_starts (Headed h s) rest = heading_starts h (onto (walk_statement s) rest)
-statement_starts (Evaluate e) rest = ap (λ l. starts (first l)) (onto_is (walk e) (mark token.Semicolon ∷ rest)) ∙ opens_starts _ (expr_opens e (mark token.Semicolon ∷ rest))
+statement_starts (Evaluate e) rest = opens_starts _ (expr_opens e (mark token.Semicolon ∷ rest))
 statement_starts _ rest = refl
 
 spelled : (ts : List Placed) → starts (first (ts ++ [])) ≡ true → 1 ≤ length ts
