@@ -228,6 +228,41 @@ statements =
     ∷ (codes "f() while(1) ;", codes "F f 0 0 0 0 5\nc 1\nz 3\nj 0\nc 0\nr\nE\n", [])
     ∷ (codes "f() switch 1 { ; }", codes "F f 0 0 0 0 6\nc 1\nj 3\nj 4\np\nc 0\nr\nE\n", [])
     ∷ (codes "f() switch 1 { case 2: ; }", codes "F f 0 0 0 0 7\nc 1\nj 3\nj 5\ne 2 2\np\nc 0\nr\nE\n", [])
+    ∷ (
+      codes "f() { if(1) {} else ; if(1) { 2; } else ; if(1) goto 2; else ; if(1) return; else ; if(1) return(2); else ; }",
+      codes "F f 0 0 0 0 25\nc 1\nz 3\nj 3\nc 1\nz 8\nc 2\np\nj 8\nc 1\nz 13\nc 2\ng\nj 13\nc 1\nz 18\nc 0\nr\n"
+          ++ codes "j 18\nc 1\nz 23\nc 2\nr\nj 23\nc 0\nr\nE\n",
+      [],
+    )
+    ∷ (
+      codes "f() { if(1) if(2) ; else ; else ; if(1) while(2) ; else ; if(1) switch 2 {} else ; }",
+      codes "F f 0 0 0 0 21\nc 1\nz 6\nc 2\nz 5\nj 5\nj 6\nc 1\nz 12\nc 2\nz 11\nj 8\nj 12\nc 1\nz 19\nc 2\n"
+          ++ codes "j 17\nj 18\np\nj 19\nc 0\nr\nE\n",
+      [],
+    )
+    ∷ (
+      codes "f() { if(1) auto b; ; else ; if(1) auto c 1; ; else ; if(1) extrn d; ; else ; if(1) M: ; else ; }",
+      codes "F f 0 4 1 0 18\nt 15\nc 1\nz 3\nj 3\nc 1\nz 10\na 1\na 2\nw\np\nj 10\nc 1\nz 13\nj 13\nc 1\nz 16\n"
+          ++ codes "j 16\nc 0\nr\nE\n",
+      [],
+    )
+    ∷ (
+      codes "f() { auto b; ; extrn c; ; M: ; {} { 2; } if(2) ; if(2) ; else ; while(2) ; switch 2 {} return; return(2); ; }",
+      codes "F f 0 1 1 0 20\nt 0\nc 2\np\nc 2\nz 4\nc 2\nz 7\nj 7\nc 2\nz 10\nj 7\nc 2\nj 13\nj 14\np\nc 0\nr\n"
+          ++ codes "c 2\nr\nc 0\nr\nE\n",
+      [],
+    )
+    ∷ (
+      codes "f() switch 1 { ; auto b; ; auto c 1; ; extrn d; ; M: ; {} { 2; } if(2) ; if(2) ; else ; while(2) ; ; }",
+      codes "F f 0 4 1 0 20\nt 6\nc 1\nj 17\na 1\na 2\nw\np\nc 2\np\nc 2\nz 10\nc 2\nz 13\nj 13\nc 2\nz 16\n"
+          ++ codes "j 13\nj 18\np\nc 0\nr\nE\n",
+      [],
+    )
+    ∷ (
+      codes "f() switch 1 { ; switch 2 {} goto 2; return; return(2); 2; ; }",
+      codes "F f 0 0 0 0 18\nc 1\nj 15\nc 2\nj 5\nj 6\np\nc 2\ng\nc 0\nr\nc 2\nr\nc 2\np\nj 16\np\nc 0\nr\nE\n",
+      [],
+    )
     ∷ []
 
 -- a case at each place of a statement in a switch
@@ -264,6 +299,16 @@ cases =
       [],
     )
     ∷ (codes "f() switch 1 { case 'a': ; }", codes "F f 0 0 0 0 7\nc 1\nj 3\nj 5\ne 97 2\np\nc 0\nr\nE\n", [])
+    ∷ (
+      codes "f() switch 1 { if(1) case 3: ; else ; }",
+      codes "F f 0 0 0 0 10\nc 1\nj 6\nc 1\nz 5\nj 5\nj 8\ne 3 4\np\nc 0\nr\nE\n",
+      [],
+    )
+    ∷ (
+      codes "f() switch 1 { { ; case 3: ; } ; case 4: ; }",
+      codes "F f 0 0 0 0 8\nc 1\nj 3\nj 6\ne 3 2\ne 4 2\np\nc 0\nr\nE\n",
+      [],
+    )
     ∷ []
 
 -- the loosest forms at each place of an rvalue
@@ -395,6 +440,15 @@ operands =
     ∷ (codes "f() \"\";", codes "F f 0 0 0 1 4\nw 4\ns 0\np\nc 0\nr\nE\n", [])
     ∷ (codes "f() \"abc\";", codes "F f 0 0 0 2 4\nw 25185\nw 1123\ns 0\np\nc 0\nr\nE\n", [])
     ∷ (codes "f() 65535;", codes "F f 0 0 0 0 4\nc 65535\np\nc 0\nr\nE\n", [])
+    ∷ (codes "f(a) (a)[1];", codes "F f 1 1 0 0 8\na 0\nv\nc 1\nb +\nv\np\nc 0\nr\nE\n", [])
+    ∷ (codes "f(a) a++[1];", codes "F f 1 1 0 0 8\na 0\ni 2\nc 1\nb +\nv\np\nc 0\nr\nE\n", [])
+    ∷ (codes "f(a) a--();", codes "F f 1 1 0 0 6\na 0\ni 3\nk 0\np\nc 0\nr\nE\n", [])
+    ∷ (codes "f() \"a\"();", codes "F f 0 0 0 1 5\nw 1121\ns 0\nk 0\np\nc 0\nr\nE\n", [])
+    ∷ (codes "f(a) (a)++;", codes "F f 1 1 0 0 5\na 0\ni 2\np\nc 0\nr\nE\n", [])
+    ∷ (codes "f(a) --(a);", codes "F f 1 1 0 0 5\na 0\ni 1\np\nc 0\nr\nE\n", [])
+    ∷ (codes "f(a) **a;", codes "F f 1 1 0 0 7\na 0\nv\nv\nv\np\nc 0\nr\nE\n", [])
+    ∷ (codes "f() *1;", codes "F f 0 0 0 0 5\nc 1\nv\np\nc 0\nr\nE\n", [])
+    ∷ (codes "f(a) !-a;", codes "F f 1 1 0 0 7\na 0\nv\nn\nh\np\nc 0\nr\nE\n", [])
     ∷ []
 
 -- with which no program begins
@@ -506,6 +560,76 @@ statements_of_two =
       [],
     )
     ∷ (codes "f() while(1) { { break; } }", codes "B 2\nF f 0 0 0 0 6\nc 1\nz 4\nj 4\nj 0\nc 0\nr\nE\n", [])
+    ∷ (codes "f() switch 1 { default: auto b; ; }", codes "B 2\nF f 0 1 0 0 7\nc 1\nj 3\nj 5\np\nj 2\nc 0\nr\nE\n", [])
+    ∷ (
+      codes "f() switch 1 { default: auto b 1; ; }",
+      codes "B 2\nF f 0 3 0 0 11\nc 1\nj 7\na 0\na 1\nw\np\nj 9\np\nj 2\nc 0\nr\nE\n",
+      [],
+    )
+    ∷ (codes "f() switch 1 { default: extrn b; ; }", codes "B 2\nF f 0 0 0 0 7\nc 1\nj 3\nj 5\np\nj 2\nc 0\nr\nE\n", [])
+    ∷ (codes "f() switch 1 { default: M: ; }", codes "B 2\nF f 0 0 1 0 7\nt 2\nc 1\nj 3\nj 5\np\nj 2\nc 0\nr\nE\n", [])
+    ∷ (codes "f() switch 1 { default: {} }", codes "B 2\nF f 0 0 0 0 7\nc 1\nj 3\nj 5\np\nj 2\nc 0\nr\nE\n", [])
+    ∷ (
+      codes "f() switch 1 { default: { 2; } }",
+      codes "B 2\nF f 0 0 0 0 9\nc 1\nj 5\nc 2\np\nj 7\np\nj 2\nc 0\nr\nE\n",
+      [],
+    )
+    ∷ (
+      codes "f() switch 1 { default: if(2) ; }",
+      codes "B 2\nF f 0 0 0 0 9\nc 1\nj 5\nc 2\nz 4\nj 7\np\nj 2\nc 0\nr\nE\n",
+      [],
+    )
+    ∷ (
+      codes "f() switch 1 { default: if(2) ; else ; }",
+      codes "B 2\nF f 0 0 0 0 10\nc 1\nj 6\nc 2\nz 5\nj 5\nj 8\np\nj 2\nc 0\nr\nE\n",
+      [],
+    )
+    ∷ (
+      codes "f() switch 1 { default: while(2) ; }",
+      codes "B 2\nF f 0 0 0 0 10\nc 1\nj 6\nc 2\nz 5\nj 2\nj 8\np\nj 2\nc 0\nr\nE\n",
+      [],
+    )
+    ∷ (
+      codes "f() switch 1 { default: switch 2 {} }",
+      codes "B 2\nF f 0 0 0 0 11\nc 1\nj 7\nc 2\nj 5\nj 6\np\nj 9\np\nj 2\nc 0\nr\nE\n",
+      [],
+    )
+    ∷ (
+      codes "f() switch 1 { default: goto 2; }",
+      codes "B 2\nF f 0 0 0 0 9\nc 1\nj 5\nc 2\ng\nj 7\np\nj 2\nc 0\nr\nE\n",
+      [],
+    )
+    ∷ (
+      codes "f() switch 1 { default: return; }",
+      codes "B 2\nF f 0 0 0 0 9\nc 1\nj 5\nc 0\nr\nj 7\np\nj 2\nc 0\nr\nE\n",
+      [],
+    )
+    ∷ (
+      codes "f() switch 1 { default: return(2); }",
+      codes "B 2\nF f 0 0 0 0 9\nc 1\nj 5\nc 2\nr\nj 7\np\nj 2\nc 0\nr\nE\n",
+      [],
+    )
+    ∷ (codes "f() switch 1 { default: 2; }", codes "B 2\nF f 0 0 0 0 9\nc 1\nj 5\nc 2\np\nj 7\np\nj 2\nc 0\nr\nE\n", [])
+    ∷ (
+      codes "f() switch 1 { if(1) default: break; else ; }",
+      codes "B 2\nF f 0 0 0 0 11\nc 1\nj 7\nc 1\nz 6\nj 9\nj 6\nj 9\np\nj 4\nc 0\nr\nE\n",
+      [],
+    )
+    ∷ (
+      codes "f() while(1) if(2) break; else ;",
+      codes "B 2\nF f 0 0 0 0 9\nc 1\nz 7\nc 2\nz 6\nj 7\nj 6\nj 0\nc 0\nr\nE\n",
+      [],
+    )
+    ∷ (
+      codes "f() switch 1 { ; default: ; break; ; }",
+      codes "B 2\nF f 0 0 0 0 8\nc 1\nj 4\nj 6\nj 6\np\nj 2\nc 0\nr\nE\n",
+      [],
+    )
+    ∷ (
+      codes "f() while(1) { { ; break; } break; ; }",
+      codes "B 2\nF f 0 0 0 0 7\nc 1\nz 5\nj 5\nj 5\nj 0\nc 0\nr\nE\n",
+      [],
+    )
     ∷ []
 
 -- with which no program of the second edition begins
