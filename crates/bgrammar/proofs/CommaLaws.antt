@@ -13,7 +13,8 @@ use Rattle.bgrammar.specs.Commas.{comma_item, list_reader}
 use Rattle.bgrammar.proofs.Fine.{Fine, then_fine, map_fine, enters, Loop, opened_loop, many_none, many_some, many_start, many_fine}
 use Rattle.bgrammar.proofs.ExpressionFine.{Closer, closing}
 use Rattle.bgrammar.proofs.ExpressionSound.{Sound, sound_turns}
-use Rattle.blang.specs.Walk.{Walk}
+use Rattle.blang.specs.Walk.{Walk, walk_commas, walk_list}
+use Rattle.bgrammar.proofs.Forms.{onto}
 
 pub append-nil : {A : Type 0} (xs : List A) → xs ++ [] ≡ xs
 append-nil [] = refl
@@ -70,23 +71,21 @@ module _ {A : Type 0} (item : List A → Reader A) (say : A → Walk) (P : List 
       go (Got a r) s = subst (λ w. Sound (list_spelling say) IsListed w (many (always comma) (comma_item item) (a ∷ []) r)) (ap (λ l. l ++ kept_tokens r) (append-nil (spelling say a)) ∙ sym s.0) (sound_turns (list_spelling say) IsListed (always comma) (comma_item item) item_sound _ (a ∷ []) r (tt, (s.1, tt)))
       go (Stop r) s = tt
 
-module _ {A : Type 0} (item : List A → Reader A) (say : A → Walk) (P : List A → A → Type 0) (fine : (before : List A) (ts : List Placed) → Fine Closer (item before) ts) (Follow : Token → Type 0) (comma_follows : Follow token.Comma) (again : (before : List A) (a : A) (rest : List Placed) → P before a → Follow (first rest) → item before (spelling say a ++ rest) ≡ Got a rest) where
-  follows : (xs : List A) (rest : List Placed) → Follow (first rest) → Follow (first (comma_spelling say xs ++ rest))
+module _ {A : Type 0} (item : List A → Reader A) (say : A → Walk) (P : List A → A → Type 0) (fine : (before : List A) (ts : List Placed) → Fine Closer (item before) ts) (Follow : Token → Type 0) (comma_follows : Follow token.Comma) (again : (before : List A) (a : A) (rest : List Placed) → P before a → Follow (first rest) → item before (onto (say a) rest) ≡ Got a rest) where
+  follows : (xs : List A) (rest : List Placed) → Follow (first rest) → Follow (first (onto (walk_commas say xs) rest))
   follows [] rest f = f
   follows (x ∷ xs) rest f = comma_follows
 
-  many_again : (before xs : List A) (rest : List Placed) → EachAfter P before xs → Follow (first rest) → comma (first rest) ≡ None → many (always comma) (comma_item item) before (comma_spelling say xs ++ rest) ≡ Got (before ++ xs) rest
+  many_again : (before xs : List A) (rest : List Placed) → EachAfter P before xs → Follow (first rest) → comma (first rest) ≡ None → many (always comma) (comma_item item) before (onto (walk_commas say xs) rest) ≡ Got (before ++ xs) rest
   many_again before [] rest e f n = many_none (always comma) (comma_item item) before rest n ∙ ap (λ l. Got l rest) (sym (append-nil before))
   many_again before (x ∷ xs) rest e f n =
-      ap (λ l. many (always comma) (comma_item item) before (mark token.Comma ∷ l)) (append_assoc (spelling say x) (comma_spelling say xs) rest)
-      ∙ many_some closing (always comma) (comma_item item) (comma_loop item fine) tt before (mark token.Comma ∷ (spelling say x ++ (comma_spelling say xs ++ rest))) refl
-      ∙ ap (λ y. (y >>= λ a. Got (before ++ a ∷ [])) >>= many (always comma) (comma_item item)) (again before x (comma_spelling say xs ++ rest) e.0 (follows xs rest f))
+      many_some closing (always comma) (comma_item item) (comma_loop item fine) tt before (mark token.Comma ∷ onto (say x) (onto (walk_commas say xs) rest)) refl
+      ∙ ap (λ y. (y >>= λ a. Got (before ++ a ∷ [])) >>= many (always comma) (comma_item item)) (again before x (onto (walk_commas say xs) rest) e.0 (follows xs rest f))
       ∙ many_again (before ++ x ∷ []) xs rest e.1 f n
       ∙ ap (λ l. Got l rest) (append_assoc before (x ∷ []) xs)
 
-  pub list_again : (xs : List A) (rest : List Placed) → IsNonempty xs → EachAfter P [] xs → Follow (first rest) → comma (first rest) ≡ None → list_reader item (list_spelling say xs ++ rest) ≡ Got xs rest
+  pub list_again : (xs : List A) (rest : List Placed) → IsNonempty xs → EachAfter P [] xs → Follow (first rest) → comma (first rest) ≡ None → list_reader item (onto (walk_list say xs) rest) ≡ Got xs rest
   list_again [] rest i e f n = absurd i
   list_again (x ∷ xs) rest i e f n =
-      ap (list_reader item) (append_assoc (spelling say x) (comma_spelling say xs) rest)
-      ∙ ap (λ y. y >>= λ a. many (always comma) (comma_item item) (a ∷ [])) (again [] x (comma_spelling say xs ++ rest) e.0 (follows xs rest f))
+      ap (λ y. y >>= λ a. many (always comma) (comma_item item) (a ∷ [])) (again [] x (onto (walk_commas say xs) rest) e.0 (follows xs rest f))
       ∙ many_again (x ∷ []) xs rest e.1 f n

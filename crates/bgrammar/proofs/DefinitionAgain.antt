@@ -1,12 +1,11 @@
 -- The spelling of a well-formed definition is read as that definition, and an open one goes on with an else.
 use Rattle.std.proofs.Common.{◌≡◌, ℕ, zero, suc, ◌+◌, List, [], ◌∷◌, ◌++◌, Bool, true, false, sym, ap, ◌∙◌, refl, append_assoc, Option, Some, None}
-use Rattle.blang.specs.declared.token.Token.{Token}
 use Rattle.blang.specs.declared.token.Token.TheVariants as token
 use Rattle.blang.specs.declared.token.Keyword.TheVariants as keyword
 use Rattle.blang.specs.declared.token.Placed.{Placed}
 use Rattle.blang.specs.Trees.{mark, Identifier, Number, Character, name_token, Stmt, Headed, Compound, If, IfElse, While, Empty, keyword_mark, Ival, Ival_constant, Ival_text, Ival_name, Definition, Simple, Vector, Function}
-use Rattle.bgrammar.specs.Spelling.{list_spelling, size_spelling, spell_heading, spell_condition, spell_statement, ival_spelling, spell_values}
-use Rattle.blang.specs.Walk.{spell_definition, walk_value, walk_parameter}
+use Rattle.bgrammar.specs.Spelling.{list_spelling, spell_heading, spell_condition, spell_statement}
+use Rattle.blang.specs.Walk.{spell_definition, walk_commas, walk_list, walk_size, walk_value, walk_values, walk_parameter, walk_statement, walk_definition}
 use Rattle.blang.specs.WellFormed.{IsNonempty, IsFormed}
 use Rattle.blang.specs.declared.limits.TheConstants.{MAX_NESTING}
 use Rattle.bgrammar.specs.Fitting.{words, EachAfter, statement_words, Sits, IvalFits}
@@ -14,71 +13,58 @@ use Rattle.bgrammar.specs.Reading.{Got, ◌>>=◌, first, expect}
 use Rattle.bgrammar.specs.ExpressionReader.{is_close_paren, is_close_bracket}
 use Rattle.blang.specs.WellFormed as statement
 use Rattle.bgrammar.specs.StatementReader.{is_semicolon, is_else, name, size}
-use Rattle.bgrammar.specs.DefinitionReader.{ival, valued, vector, function_body, function, after_name_at, after_name, definition, is_open_definition}
+use Rattle.bgrammar.specs.DefinitionReader.{ival, valued, vector, function_body, function, after_name, definition, is_open_definition}
 use Rattle.bgrammar.proofs.CommaLaws.{list_again}
 use Rattle.bgrammar.proofs.StatementFine.{name_fine}
-use Rattle.bgrammar.proofs.StatementAgain.{each_any, statement_again}
+use Rattle.bgrammar.proofs.Forms.{onto, onto_is}
+use Rattle.bgrammar.proofs.StatementAgain.{each_any, statement_read_again}
 use Rattle.bgrammar.proofs.DefinitionFine.{ival_fine}
 use Rattle.bgrammar.proofs.Fitting.{formed_in, in_formed}
 
-ival_again : (before : List Ival) (v : Ival) (rest : List Placed) → IvalFits before v → ival before (ival_spelling v ++ rest) ≡ Got v rest
+ival_again : (before : List Ival) (v : Ival) (rest : List Placed) → IvalFits before v → ival before (onto (walk_value v) rest) ≡ Got v rest
 ival_again before (Ival_constant (Number n)) rest f = refl
 ival_again before (Ival_constant (Character n)) rest f = refl
 ival_again before (Ival_text bytes offset) rest f = ap (λ o. Got (Ival_text bytes o) rest) (sym f)
 ival_again before (Ival_name w) rest f = refl
 
-ival_no_semicolon : (v : Ival) (rest : List Placed) → is_semicolon (first (ival_spelling v ++ rest)) ≡ false
+ival_no_semicolon : (v : Ival) (rest : List Placed) → is_semicolon (first (onto (walk_value v) rest)) ≡ false
 ival_no_semicolon (Ival_constant (Number n)) rest = refl
 ival_no_semicolon _ rest = refl
 
-values_no_semicolon : (values : List Ival) → IsNonempty values → (rest : List Placed) → is_semicolon (first (list_spelling walk_value values ++ rest)) ≡ false
-values_no_semicolon [] n rest = absurd n
-values_no_semicolon (v ∷ values) n rest = ap (λ l. is_semicolon (first l)) (append_assoc (ival_spelling v) _ rest) ∙ ival_no_semicolon v _
-
-valued_again : (made : List Ival → Definition) (values : List Ival) → EachAfter IvalFits [] values → (rest : List Placed) → valued made (spell_values values ++ rest) ≡ Got (made values) rest
+valued_again : (made : List Ival → Definition) (values : List Ival) → EachAfter IvalFits [] values → (rest : List Placed) → valued made (onto (walk_values values) rest) ≡ Got (made values) rest
 valued_again made [] f rest = refl
 valued_again made (v ∷ values) f rest =
-    ap (valued made) (append_assoc (list_spelling walk_value (v ∷ values)) (mark token.Semicolon ∷ []) rest)
-    ∙ rw (values_no_semicolon (v ∷ values) tt (mark token.Semicolon ∷ rest)) (ap (λ x. x >>= λ values r. expect is_semicolon r >>= λ o. Got (made values)) (list_again ival walk_value IvalFits ival_fine (λ t. Unit {0}) tt (λ before a rest p n. ival_again before a rest p) (v ∷ values) (mark token.Semicolon ∷ rest) tt f tt refl))
+    rw (ival_no_semicolon v (onto (walk_commas walk_value values) (mark token.Semicolon ∷ rest)))
+    (ap (λ x. x >>= λ values r. expect is_semicolon r >>= λ o. Got (made values)) (list_again ival walk_value IvalFits ival_fine (λ t. Unit {0}) tt (λ before a rest p n. ival_again before a rest p) (v ∷ values) (mark token.Semicolon ∷ rest) tt f tt refl))
 
-size_again : (n : Option ℕ) (rest : List Placed) → size (size_spelling n ++ (mark token.CloseBracket ∷ rest)) ≡ Got n (mark token.CloseBracket ∷ rest)
+size_again : (n : Option ℕ) (rest : List Placed) → size (onto (walk_size n) (mark token.CloseBracket ∷ rest)) ≡ Got n (mark token.CloseBracket ∷ rest)
 size_again None rest = refl
 size_again (Some n) rest = refl
 
-vector_again : (w : Identifier) (n : Option ℕ) (values : List Ival) → EachAfter IvalFits [] values → (rest : List Placed) → vector w ((size_spelling n ++ (mark token.CloseBracket ∷ spell_values values)) ++ rest) ≡ Got (Vector w n values) rest
-vector_again w n values f rest =
-    ap (vector w) (append_assoc (size_spelling n) (mark token.CloseBracket ∷ spell_values values) rest)
-    ∙ ap (λ x. x >>= λ n r. expect is_close_bracket r >>= λ o. valued (Vector w n)) (size_again n (spell_values values ++ rest))
-    ∙ valued_again (Vector w n) values f rest
+vector_again : (w : Identifier) (n : Option ℕ) (values : List Ival) → EachAfter IvalFits [] values → (rest : List Placed) → vector w (onto (walk_size n) (mark token.CloseBracket ∷ onto (walk_values values) rest)) ≡ Got (Vector w n values) rest
+vector_again w n values f rest = ap (λ x. x >>= λ n r. expect is_close_bracket r >>= λ o. valued (Vector w n)) (size_again n (onto (walk_values values) rest)) ∙ valued_again (Vector w n) values f rest
 
-body_again : (w : Identifier) (parameters : List Identifier) (body : Stmt) → Sits body MAX_NESTING 0 → (rest : List Placed) → (statement.is_open body ≡ true → is_else (first rest) ≡ false) → function_body w parameters (spell_statement body ++ rest) ≡ Got (Function w parameters body) rest
-body_again w parameters body f rest n = ap (λ x. x >>= λ s. Got (Function w parameters s)) (statement_again body MAX_NESTING 0 f rest n)
+body_again : (w : Identifier) (parameters : List Identifier) (body : Stmt) → Sits body MAX_NESTING 0 → (rest : List Placed) → (statement.is_open body ≡ true → is_else (first rest) ≡ false) → function_body w parameters (onto (walk_statement body) rest) ≡ Got (Function w parameters body) rest
+body_again w parameters body f rest n = ap (λ x. x >>= λ s. Got (Function w parameters s)) (statement_read_again body MAX_NESTING 0 f rest n)
 
-names_no_paren : (parameters : List Identifier) → IsNonempty parameters → (rest : List Placed) → is_close_paren (first (list_spelling walk_parameter parameters ++ rest)) ≡ false
-names_no_paren [] n rest = absurd n
-names_no_paren (w ∷ parameters) n rest = refl
-
-function_again : (w : Identifier) (parameters : List Identifier) (body : Stmt) → Sits body MAX_NESTING 0 → (rest : List Placed) → (statement.is_open body ≡ true → is_else (first rest) ≡ false) → function w ((list_spelling walk_parameter parameters ++ (mark token.CloseParen ∷ spell_statement body)) ++ rest) ≡ Got (Function w parameters body) rest
+function_again : (w : Identifier) (parameters : List Identifier) (body : Stmt) → Sits body MAX_NESTING 0 → (rest : List Placed) → (statement.is_open body ≡ true → is_else (first rest) ≡ false) → function w (onto (walk_list walk_parameter parameters) (mark token.CloseParen ∷ onto (walk_statement body) rest)) ≡ Got (Function w parameters body) rest
 function_again w [] body f rest n = body_again w [] body f rest n
 function_again w (p ∷ parameters) body f rest n =
-    ap (function w) (append_assoc (list_spelling walk_parameter (p ∷ parameters)) (mark token.CloseParen ∷ spell_statement body) rest)
-    ∙ ap (λ x. x >>= λ parameters r. expect is_close_paren r >>= λ o. function_body w parameters) (list_again (λ before. name) walk_parameter (λ before w. Unit {0}) (λ before. name_fine) (λ t. Unit {0}) tt (λ before w rest p n. refl) (p ∷ parameters) (mark token.CloseParen ∷ (spell_statement body ++ rest)) tt (each_any [] (p ∷ parameters)) tt refl)
+    ap (λ x. x >>= λ parameters r. expect is_close_paren r >>= λ o. function_body w parameters) (list_again (λ before. name) walk_parameter (λ before w. Unit {0}) (λ before. name_fine) (λ t. Unit {0}) tt (λ before w rest p n. refl) (p ∷ parameters) (mark token.CloseParen ∷ onto (walk_statement body) rest) tt (each_any [] (p ∷ parameters)) tt refl)
     ∙ body_again w (p ∷ parameters) body f rest n
 
-simple_at : (w : Identifier) (t : Token) (ts : List Placed) → after_name_at w t ts ≡ valued (Simple w) ts → first ts ≡ t → after_name w ts ≡ valued (Simple w) ts
-simple_at w t ts h e = ap (λ x. after_name_at w x ts) e ∙ h
-
-simple_again : (w : Identifier) (values : List Ival) → EachAfter IvalFits [] values → (rest : List Placed) → after_name w (spell_values values ++ rest) ≡ Got (Simple w values) rest
-simple_again w [] f rest = refl
+simple_again : (w : Identifier) (values : List Ival) → EachAfter IvalFits [] values → (rest : List Placed) → after_name w (onto (walk_values values) rest) ≡ Got (Simple w values) rest
 simple_again w (Ival_constant (Number n) ∷ values) f rest = valued_again (Simple w) (Ival_constant (Number n) ∷ values) f rest
-simple_again w (Ival_constant (Character n) ∷ values) f rest = valued_again (Simple w) (Ival_constant (Character n) ∷ values) f rest
-simple_again w (Ival_text bytes offset ∷ values) f rest = valued_again (Simple w) (Ival_text bytes offset ∷ values) f rest
-simple_again w (Ival_name x ∷ values) f rest = valued_again (Simple w) (Ival_name x ∷ values) f rest
+simple_again w [] f rest = refl
+simple_again w (v ∷ values) f rest = valued_again (Simple w) (v ∷ values) f rest
+
+again : (d : Definition) → IsFormed d → (rest : List Placed) → (is_open_definition d ≡ true → is_else (first rest) ≡ false) → definition (onto (walk_definition d) rest) ≡ Got d rest
+again (Simple w values) f rest n = simple_again w values (formed_in (Simple w values) f) rest
+again (Vector w size values) f rest n = vector_again w size values (formed_in (Vector w size values) f) rest
+again (Function w parameters body) f rest n = function_again w parameters body (formed_in (Function w parameters body) f) rest n
 
 pub definition_again : (d : Definition) → IsFormed d → (rest : List Placed) → (is_open_definition d ≡ true → is_else (first rest) ≡ false) → definition (spell_definition d ++ rest) ≡ Got d rest
-definition_again (Simple w values) f rest n = simple_again w values (formed_in (Simple w values) f) rest
-definition_again (Vector w size values) f rest n = vector_again w size values (formed_in (Vector w size values) f) rest
-definition_again (Function w parameters body) f rest n = function_again w parameters body (formed_in (Function w parameters body) f) rest n
+definition_again d f rest n = ap definition (sym (onto_is (walk_definition d) rest)) ∙ again d f rest n
 
 -- where an else could go on, the statement with it
 abbrev Longer : Stmt → ℕ → ℕ → Type 0

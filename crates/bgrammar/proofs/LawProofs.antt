@@ -4,9 +4,9 @@ use Rattle.std.proofs.lemmas.List.{map-append}
 use Rattle.blang.specs.declared.token.Token.TheVariants as token
 use Rattle.blang.specs.declared.token.Keyword.TheVariants as keyword
 use Rattle.blang.specs.declared.token.Placed.{Placed}
-use Rattle.blang.specs.Trees.{mark, keyword_mark, kept_tokens, bare, Expr, Definition, Simple, Vector, Function}
+use Rattle.blang.specs.Trees.{mark, keyword_mark, kept_tokens, bare, Expr, Stmt, Definition, Simple, Vector, Function}
 use Rattle.bgrammar.specs.Spelling.{spell, spell_statement}
-use Rattle.blang.specs.Walk.{spell_definition, walk}
+use Rattle.blang.specs.Walk.{spell_definition, walk, walk_statement}
 use Rattle.blang.specs.WellFormed.{rvalue_rank, IsFormed}
 use Rattle.bgrammar.specs.Fitting.{Fits, Sits}
 use Rattle.bgrammar.specs.Reading.{Read, Got, Stop}
@@ -19,7 +19,7 @@ use Rattle.bgrammar.specs.Laws.{ReadsSpelling, DefinitionRead, StatementRead, Ex
 use Rattle.bgrammar.proofs.KeptLemmas.{kept-length, kept-append, kept-twice, map_bare-kept}
 use Rattle.bgrammar.proofs.Forms.{onto_is}
 use Rattle.bgrammar.proofs.ExpressionAgain.{ends, reader_again}
-use Rattle.bgrammar.proofs.StatementAgain.{statement_again}
+use Rattle.bgrammar.proofs.StatementAgain.{statement_read_again}
 use Rattle.bgrammar.proofs.ExpressionSound.{Sound, reader_sound}
 use Rattle.bgrammar.proofs.StatementSound.{Spelled, statement_sound}
 use Rattle.bgrammar.proofs.DefinitionSound.{SpelledDefinition, definition_sound}
@@ -105,9 +105,8 @@ one_expression e f room off he hf same =
 
 pub one_statement : OneStatement
 one_statement s t room off hs ht same =
-    let a : statement room off (spell_statement s ++ []) ≡ Got s [] = statement_again s room off hs [] (λ o. refl) in
-    let b : statement room off (spell_statement t ++ []) ≡ Got t [] = statement_again t room off ht [] (λ o. refl) in
-    let c : Got s [] ≡ Got t [] = sym a ∙ ap (λ l. statement room off (l ++ [])) same ∙ b in cc
+    let there : (u : Stmt) → Sits u room off → statement room off (spell_statement u ++ []) ≡ Got u [] = λ u h. ap (statement room off) (sym (onto_is (walk_statement u) [])) ∙ statement_read_again u room off h [] (λ o. refl) in
+    let c : Got s [] ≡ Got t [] = sym (there s hs) ∙ ap (λ l. statement room off (l ++ [])) same ∙ there t ht in cc
 
 pub one_definition : OneDefinition
 one_definition d e hd he same =

@@ -5,7 +5,6 @@ use Rattle.blang.specs.declared.token.Token.TheVariants as token
 use Rattle.blang.specs.declared.token.Keyword.TheVariants as keyword
 use Rattle.blang.specs.declared.token.Placed.{Placed}
 use Rattle.blang.specs.Trees.{mark, Identifier, Constant, Number, Character, Expr, Named, name_token, constant_token, Declared, Heading, Auto, Extrn, Label, Case, Default, Stmt, Headed, Compound, If, IfElse, While, Switch, Goto, Break, Return, ReturnValue, Evaluate, Empty, Stmts, Nothing, More, keyword_mark}
-use Rattle.bgrammar.specs.Spelling.{size_spelling, declared_spelling, spell_statement}
 use Rattle.blang.specs.Cut.{placed}
 use Rattle.blang.specs.WellFormed.{rvalue_rank, IsNonempty, is_open, IsHeading}
 use Rattle.bgrammar.specs.Fitting.{words, Fits, EachAfter, statement_words, body_words, Sits, AllSit}
@@ -19,9 +18,9 @@ use Rattle.bgrammar.proofs.ExpressionFine as E
 use Rattle.bgrammar.proofs.ExpressionAgain.{opens, expr_opens, reader_again, ends}
 use Rattle.bgrammar.proofs.CommaLaws.{list_again}
 use Rattle.bgrammar.proofs.StatementFine.{lasting, closing, name_fine, declared_fine, lead_loop, body_loop, starts, statement_starts, level_good}
-use Rattle.bgrammar.proofs.Forms.{colon, Body, Fields, read, onto, onto_is, flat, block_parts, tested_parts, switch_parts, value_parts, paid_parts, declaration_parts, import_parts, case_parts}
+use Rattle.bgrammar.proofs.Forms.{colon, Body, Fields, read, onto, flat, block_parts, tested_parts, switch_parts, value_parts, paid_parts, declaration_parts, import_parts, case_parts}
 use Rattle.bgrammar.proofs.FormLaws.{parts_again}
-use Rattle.blang.specs.Walk.{walk, walk_list, walk_declared, walk_import, walk_heading, walk_statement, walk_body}
+use Rattle.blang.specs.Walk.{walk, walk_list, walk_size, walk_declared, walk_import, walk_heading, walk_statement, walk_body}
 
 -- a statement from what stands before it on
 abbrev following : ℕ → ℕ → Lead → Reader Stmt
@@ -41,23 +40,21 @@ each_any before (x ∷ xs) = (tt, each_any (before ++ x ∷ []) xs)
 abbrev Unsized : Token → Type 0
 Unsized t = (ts : List Placed) → size_at t ts ≡ Got None ts
 
-declared_again : (d : Declared) (rest : List Placed) → Unsized (first rest) → declared (declared_spelling d ++ rest) ≡ Got d rest
+declared_again : (d : Declared) (rest : List Placed) → Unsized (first rest) → declared (onto (walk_declared d) rest) ≡ Got d rest
 declared_again d rest n = go d.word d.size
   where
-    go : (w : Identifier) (o : Option ℕ) → declared (name_token w ∷ (size_spelling o ++ rest)) ≡ Got (record { word = w; size = o }) rest
+    go : (w : Identifier) (o : Option ℕ) → declared (name_token w ∷ onto (walk_size o) rest) ≡ Got (record { word = w; size = o }) rest
     go w (Some m) = refl
     go w None = ap (λ x. x >>= λ n. Got (record { word = w; size = n })) (n rest)
 
 -- headings, which are rows without statements after their first token
 declarations_read : (ds : List Declared) → IsNonempty ds → (rest : List Placed) → list_reader (λ before. declared) (onto (walk_list walk_declared ds) (mark token.Semicolon ∷ rest)) ≡ Got ds (mark token.Semicolon ∷ rest)
 declarations_read ds n rest =
-    ap (list_reader (λ before. declared)) (onto_is (walk_list walk_declared ds) (mark token.Semicolon ∷ rest))
-    ∙ list_again (λ before. declared) walk_declared (λ before a. Unit {0}) (λ before. declared_fine) Unsized (λ ts. refl) (λ before d rest o n. declared_again d rest n) ds (mark token.Semicolon ∷ rest) n (each_any [] ds) (λ ts. refl) refl
+    list_again (λ before. declared) walk_declared (λ before a. Unit {0}) (λ before. declared_fine) Unsized (λ ts. refl) (λ before d rest o n. declared_again d rest n) ds (mark token.Semicolon ∷ rest) n (each_any [] ds) (λ ts. refl) refl
 
 names_read : (ws : List Identifier) → IsNonempty ws → (rest : List Placed) → list_reader (λ before. name) (onto (walk_list walk_import ws) (mark token.Semicolon ∷ rest)) ≡ Got ws (mark token.Semicolon ∷ rest)
 names_read ws n rest =
-    ap (list_reader (λ before. name)) (onto_is (walk_list walk_import ws) (mark token.Semicolon ∷ rest))
-    ∙ list_again (λ before. name) walk_import (λ before a. Unit {0}) (λ before. name_fine) (λ t. Unit {0}) tt (λ before w rest o n. refl) ws (mark token.Semicolon ∷ rest) n (each_any [] ws) tt refl
+    list_again (λ before. name) walk_import (λ before a. Unit {0}) (λ before. name_fine) (λ t. Unit {0}) tt (λ before w rest o n. refl) ws (mark token.Semicolon ∷ rest) n (each_any [] ws) tt refl
 
 constant_read : (c : Constant) (rest : List Placed) → constant (mark (constant_token c) ∷ rest) ≡ Got c rest
 constant_read (Number n) rest = refl
@@ -234,5 +231,5 @@ mutual
   reads_body Nothing = record { again = λ k off f rest n. refl }
   reads_body (More before s) = reads_more before s (reads_body before) (reads s)
 
-pub statement_again : (s : Stmt) (room off : ℕ) → Sits s room off → (rest : List Placed) → (is_open s ≡ true → is_else (first rest) ≡ false) → statement room off (spell_statement s ++ rest) ≡ Got s rest
-statement_again s room off f rest n = ap (statement room off) (sym (onto_is (walk_statement s) rest)) ∙ (reads s).again room off f No_heading rest n
+pub statement_read_again : (s : Stmt) (room off : ℕ) → Sits s room off → (rest : List Placed) → (is_open s ≡ true → is_else (first rest) ≡ false) → statement room off (onto (walk_statement s) rest) ≡ Got s rest
+statement_read_again s room off f rest n = (reads s).again room off f No_heading rest n
