@@ -30,9 +30,10 @@ Agrees (Running call below w) answer = IsBeginningOf w.output (answer_world answ
 Agrees (Halted e w) answer = answer ≡ Ends e w
 Agrees (Stuck w) answer = ⊥
 
--- A machine, by the number of its steps, does what a program means, by its fuel. After any number of steps it agrees with
--- the answer to one fuel more. Where the program wants more fuel, the machine still runs after as many steps or more, and
--- is then in the same world: so it writes all that the program writes. Where the program ends, it halts so at some step.
+-- A machine, by the number of its steps, does what a program means, by its fuel. After any number of steps it agrees
+-- with the answer to one fuel more. Where the program wants more fuel, the machine still runs after as many steps or
+-- more, and is then in the same world: so it writes all that the program writes. Where the program ends, it halts so at
+-- some step.
 pub record AsMeant (state : ℕ → State) (answer : ℕ → Answer ⊥) : Type 0 where
   pub agrees : (n : ℕ) → Agrees (state n) (answer (n + 1))
   pub keeps_up : (n : ℕ) (w : World) → answer n ≡ Wants w
@@ -132,8 +133,8 @@ pub record IsLimit (ds : List Definition) (input : List ℕ) (steps : ℕ) (ends
   pub says : Says ends status world.input world.output (report_text report.Limit) LIMIT
 
 -- Where the code halts within so many steps, that is the end which the program means, and it is what was written and
--- answered. Else the limit is reached, as it always is where the program wants more fuel at every number. Past the limit,
--- too, the code does what the program means.
+-- answered. Else the limit is reached, as it always is where the program wants more fuel at every number. Past the
+-- limit, too, the code does what the program means.
 pub record RunAnswers (ds : List Definition) (input : List ℕ) (steps : ℕ) (ends : RunEnds) (status : ℕ) : Type 0 where
   pub halts : (n : ℕ) → n ≤ steps → (e : Ending) (w : World) → machine (map code_of ds) input n ≡ Halted e w
       → IsEnd ds input (n + 1) e w ends status
