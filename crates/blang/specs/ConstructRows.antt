@@ -1,5 +1,6 @@
 -- Closed facts: the code of each construct at place 7. A part is often the choice `1?2:3`, whose jumps show its place.
-use Rattle.std.specs.Prelude.{◌≡◌, ◌+◌, ℕ, List, [], ◌∷◌, ◌++◌, map, codes, Option, Some, None, refl}
+use Rattle.std.specs.Prelude.{◌≡◌, ◌+◌, ℕ, List, [], ◌∷◌, ◌++◌, map, codes, replicate, Option, Some, None}
+use Rattle.std.specs.Prelude.{refl}
 use Rattle.bword.specs.declared.operators.BinOp.TheVariants as op
 use Rattle.blang.specs.declared.code.Instr.{Instr}
 use Rattle.blang.specs.declared.code.Instr.TheVariants as instr
@@ -12,8 +13,12 @@ use Rattle.blang.specs.Trees.{Prefixed, Binary, Conditional, Assigned, No_argume
 use Rattle.blang.specs.Trees.{Default, Stmt, Headed, Compound, If, IfElse, While, Switch, Goto, Break, Return}
 use Rattle.blang.specs.Trees.{ReturnValue}
 use Rattle.blang.specs.Trees.{Evaluate, Empty, Stmts, Nothing, More}
+use Rattle.blang.specs.Trees.{Ival_constant, Ival_text, Ival_name, Simple, Vector, Function}
+use Rattle.blang.specs.declared.code.Definition as coded
+use Rattle.blang.specs.declared.code.Definition.TheVariants as code
+use Rattle.blang.specs.declared.code.Ival.TheVariants as ival
 use Rattle.blang.specs.Scan.{Entry, NameKind, Automatic, External, Labelled}
-use Rattle.blang.specs.Code.{Environment, environment_of, Arms, Fragment, word_code, fragment}
+use Rattle.blang.specs.Code.{Environment, environment_of, Arms, Fragment, word_code, fragment, code_of}
 
 abbrev entry : List ℕ → NameKind → Entry
 entry name kind = record { name = name; kind = kind }
@@ -208,3 +213,42 @@ of_switches = refl
 of_cases_alone : Makes (Switch choice (block (Headed (Case 1 (Number 5)) Empty ∷ [])))
     (choice_code 7 ++ instr.Jump 14 ∷ instr.Jump 16 ∷ instr.JumpIfCase 5 13 ∷ instr.Pop ∷ []) 16 [] []
 of_cases_alone = refl
+
+-- Definitions. A vector has a word more than its constant, and no fewer than its values.
+values_of_each_kind : code_of (Simple (word (codes "a")) (Ival_constant (Number 5) ∷ Ival_constant (Character 98)
+    ∷ Ival_text (codes "cd") 0 ∷ Ival_text (codes "e") 2 ∷ Ival_name (word (codes "f")) ∷ []))
+    ≡ code.Simple (record {
+      name = codes "a";
+      values = ival.Number 5 ∷ ival.Number 98 ∷ ival.Text 0 ∷ ival.Text 2 ∷ ival.Name (codes "f") ∷ [];
+      strings = 25699 ∷ 4 ∷ 1125 ∷ [];
+    })
+values_of_each_kind = refl
+
+abbrev vector : Option ℕ → ℕ → coded.Definition
+vector size n = code_of (Vector (word (codes "v")) size (replicate n (Ival_constant (Number 5))))
+
+abbrev of_words : ℕ → ℕ → coded.Definition
+of_words words n =
+    code.Vector (record { name = codes "v"; words = words; values = replicate n (ival.Number 5); strings = [] })
+
+vectors : vector None 0 ∷ vector None 3 ∷ vector (Some 0) 1 ∷ vector (Some 5) 2 ∷ vector (Some 1) 2 ∷ vector (Some 1) 3
+    ∷ [] ≡ of_words 1 0 ∷ of_words 3 3 ∷ of_words 1 1 ∷ of_words 6 2 ∷ of_words 2 2 ∷ of_words 3 3 ∷ []
+vectors = refl
+
+vector_with_string : code_of (Vector (word (codes "v")) None (Ival_text (codes "e") 0 ∷ []))
+    ≡ code.Vector (record { name = codes "v"; words = 1; values = ival.Text 0 ∷ []; strings = 1125 ∷ [] })
+vector_with_string = refl
+
+-- f(a, b) { auto c; ; l: "e"; }
+function_with_string : code_of (Function (word (codes "f")) (word (codes "a") ∷ word (codes "b") ∷ [])
+    (Headed (Auto (record { word = word (codes "c"); size = None } ∷ []))
+    (Compound (block (Empty ∷ Headed (Label (word (codes "l"))) (Evaluate (Text (codes "e") 0)) ∷ [])))))
+    ≡ code.Function (record {
+      name = codes "f";
+      parameters = 2;
+      frame = 3;
+      targets = 0 ∷ [];
+      strings = 1125 ∷ [];
+      code = instr.Text 0 ∷ instr.Pop ∷ instr.Constant 0 ∷ instr.Return ∷ [];
+    })
+function_with_string = refl
