@@ -5,4 +5,5 @@ pub mod FaultSteps
 pub mod FindingTexts
 pub mod OnLine
 pub mod PlaceSteps
+pub mod FaultLines
 pub mod Reasons

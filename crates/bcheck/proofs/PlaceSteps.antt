@@ -1,16 +1,17 @@
 -- Lines and columns along a text, and what stands where a source comes to a fault.
-use Rattle.std.proofs.Common.{◌≡◌, ◌∙◌, ◌+◌, ◌<◌, ℕ, zero, suc, List, [], ◌∷◌, ◌++◌, Bool, true, false, Some, Ok, ap, arith, get_or, length, refl, subst, sym, take}
+use Rattle.std.proofs.Common.{◌≡◌, ◌∙◌, ◌+◌, ◌<◌, ◌⊎◌, ℕ, zero, suc, List, [], ◌∷◌, ◌++◌, Bool, true, false, Some, Ok, ap, arith, drop, get_or, inl, inr, length, refl, subst, sym, take, if◌then◌else◌}
+use Rattle.std.proofs.lemmas.List.{drop_all, take_all}
 use Rattle.std.proofs.Math.Nat.{min-le_right}
 use Rattle.std.specs.Prelude.{nat_lt, not, ◌==◌, ◌≤◌, map, min}
 use Rattle.bsources.specs.Files.{file_shown}
 use Rattle.bsources.specs.declared.files.SourceFile.{SourceFile}
 use Rattle.std.proofs.lemmas.Bool.Decides.{nat_tests}
 use Rattle.bword.specs.declared.edition.Edition.{Edition}
-use Rattle.bword.specs.ByteEnds.{Incoming, Outgoing, incoming_of}
+use Rattle.bword.specs.ByteEnds.{Incoming, Outgoing, incoming_of, most}
 use Rattle.bword.proofs.Remaining.{rest_after}
 use Rattle.bword.proofs.Taking.{Took-append}
 use Rattle.blang.specs.Compiles.{Compilation, CompilesTo}
-use Rattle.blang.specs.Cut.{line_number_after, next_line, placed, tokens_from}
+use Rattle.blang.specs.Cut.{cut, line_number_after, next_line, placed, tokens_from}
 use Rattle.blang.specs.declared.token.Diagnostic.{Diagnostic}
 use Rattle.blang.specs.declared.token.Placed.{Placed}
 use Rattle.blex.specs.Calls.{first_tokens}
@@ -23,7 +24,7 @@ use Rattle.blex.proofs.CallLaws.{calls_give_first}
 use Rattle.bparse.specs.Compiles.{CodeGives}
 use Rattle.bparse.specs.Compilers.{Compiler, CompilerGives}
 use Rattle.bparse.specs.declared.step.Step.TheVariants as step
-use Rattle.bcheck.specs.Checks.{IsOver, column_after, next_column}
+use Rattle.bcheck.specs.Checks.{IsOver, StandsOn, column_after, next_column}
 use Rattle.bcheck.specs.Findings.{IsMilestone}
 use Rattle.bcheck.specs.declared.places.Milestone.{Milestone}
 
@@ -92,6 +93,25 @@ pub stop_is : (edition : Edition) (source : List ℕ) (o p : Outgoing) (j : Inco
 stop_is edition source o p j fault h =
     let l = h.gives in
     stopped edition source l.old h.last fault (ap (λ x. x.edition) l.keeps_old.first ∙ h.edition_is, ap (λ x. x.source) l.keeps_old.first ∙ h.source) l.gives
+
+-- nothing is left where a source ends
+over_at_end : (edition : Edition) → IsOver edition []
+unfolding tokens_from cut
+over_at_end edition = (1, [], refl)
+
+-- a line that comes, or was passed
+pub line_near : (b : Bool) (now line : ℕ) → now < line → (if b then min (now + 1) most else now) ≤ line
+line_near true now line h = omega arith
+line_near false now line h = omega arith
+
+-- where a line begins, or the source ends before it
+pub stands_there : (edition : Edition) (line start : ℕ) (source : List ℕ) → (line_number_after 1 (take start source) ≡ line) ⊎ ((start ≡ length source) × (line_number_after 1 source < line))
+    → StandsOn edition line (take start source) (drop start source)
+stands_there edition line start source (inl is) = inl is
+stands_there edition line start source (inr (end, less)) =
+    let all : take start source ≡ source = take_all start source (omega (arith, end)) in
+    let none : drop start source ≡ [] = drop_all start source (omega (arith, end)) in
+    inr (subst (λ (xs : List ℕ). line_number_after 1 xs < line) (sym all) less, subst (IsOver edition) (sym none) (over_at_end edition))
 
 -- the source begins with a milestone
 pub at_first : (source : List ℕ) (m : Milestone) → m.start ≡ 0 → m.line ≡ 1 → m.column ≡ 1 → IsMilestone source m

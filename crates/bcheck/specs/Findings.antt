@@ -1,12 +1,13 @@
 -- Promise: what is known of a finding before it is told.
 use Rattle.std.specs.Prelude.{◌≡◌, ℕ, ◌<◌, IsTrue, false, List, [], ◌++◌, codes, drop, length, take}
-use Rattle.std.specs.Prelude.{Option, Some, IfSome, ◌≤◌}
+use Rattle.std.specs.Prelude.{Option, Some, None, IfSome, MatchResult, ◌≤◌, map}
 use Rattle.bword.specs.declared.edition.Edition.{Edition}
 use Rattle.bword.specs.ByteEnds.{Unread, incoming_of, outgoing_of}
+use Rattle.blang.specs.declared.code.Definition.{Definition}
+use Rattle.blang.specs.Code.{code_of}
 use Rattle.blang.specs.Compiles.{Compilation, CompilesTo}
 use Rattle.blang.specs.Cut.{line_number_after, tokens_from}
 use Rattle.blang.specs.declared.token.Diagnostic.{Diagnostic}
-use Rattle.bparse.specs.Compiles.{CodeGives}
 use Rattle.bsources.specs.Files.{Files, line_shown, own_line}
 use Rattle.bcheck.specs.Checks.{EachOutcome, FindingParts, Outcome, Reason, StandsOn, column_after, diagnostic_code}
 use Rattle.bcheck.specs.Checks.{finding_text, is_in_line, is_of_several}
@@ -14,6 +15,9 @@ use Rattle.bcheck.specs.declared.advice.Matter.{Matter}
 use Rattle.bcheck.specs.declared.advice.Matter.TheVariants as matter
 use Rattle.bcheck.specs.declared.warnings.Warning.{Warning}
 use Rattle.bcheck.specs.declared.warnings.Warning.TheVariants as warning
+use Rattle.bparse.specs.Compiles.{CodeGives}
+use Rattle.bcheck.specs.SourceFaults.{IsSourceFault}
+use Rattle.bcheck.specs.declared.compiled.Answered.{Answered}
 use Rattle.bcheck.specs.declared.compiled.Compiled.{Compiled}
 use Rattle.bcheck.specs.declared.excerpt.Excerpt.{Excerpt}
 use Rattle.bcheck.specs.declared.finding.Finding.{Finding}
@@ -79,16 +83,26 @@ matter_code matter.DataTooLarge = codes "load 2"
 matter_code (matter.NotDefined undefined) = codes "load 3"
 matter_code (matter.Warning warning) = warning_code warning
 
--- what was compiled is this source: all of it, or up to its first fault
+-- the source has no fault, and this is the code of its definitions
+abbrev pub IsCodeOf : Edition → List ℕ → List Definition → Type 0
+IsCodeOf edition source ds =
+    (r : Compilation) (g : CompilesTo [] (tokens_from edition 1 source) r)
+    → (r.stop ≡ None) × (map code_of g.definitions ≡ ds)
+
+-- what was compiled is this source: the code of its definitions, or its fault
 abbrev pub IsCompiled : Edition → List ℕ → Compiled → Type 0
 IsCompiled edition source c =
+    MatchResult c.code (λ v. IsCodeOf edition source v.items) (λ d. IsSourceFault edition source (Some d))
+
+-- the compiler was given this source, over memory
+abbrev pub WasAnswered : Edition → List ℕ → Answered → Type 0
+WasAnswered edition source a =
     (following : Unread) × CodeGives edition (incoming_of (record { left = source; is_over = false }))
-    (outgoing_of (record { bytes = []; refusals = 0 })) c.last (incoming_of following) (outgoing_of c.code)
+    (outgoing_of (record { bytes = []; refusals = 0 })) a.last (incoming_of following) (outgoing_of a.code)
 
 -- the diagnostic of a verdict is the one that the source comes to
 abbrev pub IsStopOf : Edition → List ℕ → Verdict → Type 0
-IsStopOf edition source (verdict.Faulty line d) =
-    (r : Compilation) → CompilesTo [] (tokens_from edition 1 source) r → r.stop ≡ Some d
+IsStopOf edition source (verdict.Faulty line d) = IsSourceFault edition source (Some d)
 IsStopOf edition source v = Unit {0}
 
 -- the matter is that of the diagnostic, and the place is one for it

@@ -1,5 +1,5 @@
 //! Checking a source.
-ghost use Rattle.std.specs.Prelude.{◌≡◌};
+ghost use Rattle.std.specs.Prelude.{◌≡◌, ◌++◌, IfOk};
 ghost use Rattle.bcheck.specs.Checks.{AreFindings, Checks, Outcome, TellsFirst, verdict_line, shown_in_form};
 ghost use Rattle.bcheck.specs.Excluded.{Excluded};
 ghost use Rattle.bsources.specs.Files.{Files, files_shown};
@@ -10,9 +10,9 @@ use crate::form::{FindingForm, Request};
 use crate::spans::Source;
 use crate::verdict::{Verdict, judge};
 use blang::status::{self, Status};
-use btools::tell;
-use bword::{ByteOut, MemOut};
-use std::alloc::Global;
+use btools::{Text, tell};
+use bword::ByteOut;
+use std::alloc::{AllocError, Global};
 
 /// Says what is wrong with a source, if something is: first the very line that compiling it or running its code
 /// writes, and then for a reader where and why, and how to fix it. If nothing is wrong, it tells what is probably a
@@ -69,14 +69,20 @@ fn tell_both<O: ByteOut>(
         → TellsFirst form o files first.now status (O.outgoing out.old) (O.outgoing out.new) result }
     ensures out_lender { O.lender out.new ≡ O.lender out.old }
 {
-    let mut text = MemOut::new(alloc);
-    let Ok(()) = text.put(first) else {
-        return status::MEMORY;
-    };
-    let Ok(()) = text.put(more) else {
-        return status::MEMORY;
-    };
-    tell(text.bytes(), status, out)
+    match both(alloc, first, more) {
+        Ok(text) => tell(text.as_slice(), status, out),
+        Err(_) => status::MEMORY,
+    }
+}
+
+// A text after another.
+fn both(alloc: Global, first: &[u8], more: &[u8]) -> Result<Text, AllocError>
+    ensures { IfOk result (λ text. text ≡ first.now ++ more.now) }
+{
+    let mut text = Text::new(alloc);
+    text.push(first)?;
+    text.push(more)?;
+    Ok(text)
 }
 
 /// What no check tells: the line left out or last, one of the other edition or one without a fault, a fault without a

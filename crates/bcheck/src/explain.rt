@@ -1,6 +1,6 @@
 //! What is said of a source after the line of the compiler.
 ghost use Rattle.std.specs.List.{All};
-ghost use Rattle.std.specs.Prelude.{◌≡◌, ◌≢◌, IfOk, IfSome, None, length, vec_items};
+ghost use Rattle.std.specs.Prelude.{◌≡◌, ◌≢◌, ◌<◌, IfOk, IfSome, None, length, vec_items};
 ghost use Rattle.blang.specs.declared.status.TheConstants.{DONE};
 ghost use Rattle.bsources.specs.Files.{files_shown};
 ghost use Rattle.bcheck.specs.Checks.{AreFindings, EachOutcome, Judged, status_told};
@@ -127,19 +127,16 @@ fn fault_of(
     compiled: &Compiled,
     diagnostic: &Diagnostic,
 ) -> Result<Finding, AllocError>
+    requires { 0 < diagnostic.now.line }
     ensures { IfOk result (TellsFault source.entry.edition source.entry.text.now diagnostic.now) }
 {
     let found = faults::finding(alloc, source, compiled, *diagnostic)?;
-    // Each diagnostic has a line of the source.
     let (text, edition, line) = (source.text, source.edition, diagnostic.line);
-    let Some(place) = place_on(text, edition, &found.place, line) else {
-        return Err(AllocError);
-    };
     Ok(Finding {
         matter: found.matter,
         name: found.name,
         other: found.other,
-        place,
+        place: place_on(text, edition, &found.place, line),
         related: found.related,
     })
 }

@@ -2,24 +2,14 @@
 use crate::compiled::Extent;
 use crate::faults::token_named;
 use crate::spans::{Spans, lexeme_at, place_of};
-use bcode::read_code;
 use blang::{Definition, Instr, Ival, Keyword, View};
 use blex::Lexeme;
 use bword::Name;
-use std::alloc::{AllocError, Global};
 
-/// The first definition of a code text that mentions an external, by its place among the definitions.
-#[inline(never)]
-pub(crate) fn first_mention(
-    alloc: Global,
-    code: &[u8],
-    name: Name,
-) -> Result<Option<usize>, AllocError> {
-    let Ok(definitions) = read_code(alloc, code) else {
-        return Err(AllocError);
-    };
-    let mut all = definitions.as_slice().iter();
-    Ok(all.position(|definition| mentions(definition, name)))
+/// The first definition of a code that mentions an external, by its place among the definitions.
+pub(crate) fn first_mention(definitions: &[Definition], name: Name) -> Option<usize> {
+    let mut all = definitions.iter();
+    all.position(|definition| mentions(definition, name))
 }
 
 // Whether an instruction or an initial value mentions the external.

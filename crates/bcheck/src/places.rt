@@ -1,6 +1,6 @@
 //! Where a place stands in the source.
 ghost use Rattle.std.specs.List.{All};
-ghost use Rattle.std.specs.Prelude.{ℕ, List, OnOk, ◌≡◌, ◌<◌, ◌≤◌, IfOk, IfSome, IsTrue, drop, take, vec_items};
+ghost use Rattle.std.specs.Prelude.{ℕ, List, OnOk, ◌≡◌, ◌<◌, ◌≤◌, ◌⊎◌, IfOk, IsTrue, drop, length, take, vec_items};
 ghost use Rattle.blang.specs.Cut.{line_number_after, next_line};
 ghost use Rattle.bcheck.specs.Checks.{IsOver, StandsOn, column_after, next_column};
 ghost use Rattle.bcheck.specs.Findings.{IsMilestone, IsSecond};
@@ -145,27 +145,27 @@ fn next_column(column: usize, byte: u8) -> usize
     }
 }
 
-/// The place, where it stands on this line, or before it and no token comes any more; else the beginning of the line,
-/// if the source has it.
-pub(crate) fn place_on(source: &[u8], edition: Edition, place: &Place, line: u64) -> Option<Place>
-    ensures { IfSome result (λ p. StandsOn edition line (take p.start source.now) (drop p.start source.now)) }
+/// The place, where it stands on this line, or before it and no token comes any more; else the beginning of the line, or
+/// the end of a source that has fewer lines.
+pub(crate) fn place_on(source: &[u8], edition: Edition, place: &Place, line: u64) -> Place
+    requires { 0 < line }
+    ensures { StandsOn edition line (take result.start source.now) (drop result.start source.now) }
 {
     let (before, rest) = parts(source, place.start);
     let here = line_after(before);
     if here == line {
-        return Some(*place);
+        return *place;
     }
     if here < line {
         if is_over(rest, edition) {
-            return Some(*place);
+            return *place;
         }
     }
-    let start = line_start(source, line)?;
-    Some(Place {
+    Place {
         line,
-        start,
+        start: line_start(source, line),
         len: 1,
-    })
+    }
 }
 
 // The number of the line after a text.
@@ -193,20 +193,18 @@ fn is_over(rest: &[u8], edition: Edition) -> bool
     }
 }
 
-// Where a line begins.
-fn line_start(source: &[u8], line: u64) -> Option<usize>
-    ensures { IfSome result (λ start. line_number_after 1 (take start source.now) ≡ line) }
+// Where a line begins, or the end of a source that has fewer lines.
+fn line_start(source: &[u8], line: u64) -> usize
+    requires { 0 < line }
+    ensures { (line_number_after 1 (take result source.now) ≡ line)
+        ⊎ ((result ≡ length source.now) × (line_number_after 1 source.now < line)) }
 {
     let mut now: u64 = 1;
     for index in 0..source.len() {
         if now == line {
-            return Some(index);
+            return index;
         }
         now = next_line(now, source[index]);
     }
-    if now == line {
-        Some(source.len())
-    } else {
-        None
-    }
+    source.len()
 }

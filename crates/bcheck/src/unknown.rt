@@ -192,7 +192,7 @@ pub(crate) fn undefined_name(
 ) -> Result<Finding, AllocError>
     ensures { IfOk result (λ finding. matter_code finding.matter ≡ codes "load 3") }
 {
-    let mention = first_mention(alloc, compiled.code.bytes(), name)?;
+    let mention = first_mention(compiled.definitions(), name);
     let extent = compiled.extent(mention.unwrap_or(0));
     let spans = Spans::between(alloc, source, extent)?;
     let token = token_of_mention(&spans, extent, name);

@@ -1,24 +1,21 @@
 //! What the compiler and the loader say of a source.
-ghost use Rattle.std.specs.Prelude.{◌≡◌, ◌≢◌, IfOk, List, map, None};
-ghost use Rattle.blang.specs.Text.{IsCodeText};
-ghost use Rattle.blang.specs.declared.code.Definition.{Definition};
+ghost use Rattle.std.specs.Prelude.{◌≡◌, ◌≢◌, IfOk, List, None, ℕ};
+ghost use Rattle.blang.specs.Compiles.{line_of};
 ghost use Rattle.blang.specs.Layout.{load_fault};
 ghost use Rattle.blang.specs.declared.status.TheConstants.{FAULT};
-ghost use Rattle.blang.specs.declared.token.Diagnostic.{Diagnostic};
+ghost use Rattle.bword.specs.declared.edition.Edition.{Edition};
 ghost use Rattle.bcheck.specs.Checks.{Judged, severity_of, verdict_line, status_told, told_first};
 ghost use Rattle.bcheck.specs.Findings.{IsCompiled, IsStopOf};
-ghost use Rattle.bcheck.specs.declared.verdict.Verdict.TheVariants as verdict;
 
 use crate::compiled::{Compiled, compile};
 use crate::finding::Severity;
 use crate::spans::Source;
-use bcode::read_code;
 use blang::status::{self, Status};
-use blang::{Diagnostic, LoadFault};
-use bmach::load;
-use bparse::{Step, compile_edition};
-use btools::{Sink, load_line};
-use bword::{MemIn, MemOut};
+use blang::{Definition, Diagnostic, LoadFault};
+use bmach::load_slice;
+use bparse::write_diagnostic;
+use btools::load_line;
+use bword::{EndFault, MemOut};
 use std::alloc::{AllocError, Global};
 
 /// What is said of a source.
@@ -79,46 +76,41 @@ pub(crate) fn judge(alloc: Global, source: Source<'_>) -> Result<Judgement, Allo
     ensures stop { IfOk result (λ j. IsStopOf source.entry.edition source.entry.text.now j.verdict) }
 {
     let compiled = compile(alloc, source)?;
-    let verdict = verdict_of(alloc, source, &compiled)?;
+    let verdict = verdict_of(alloc, &compiled)?;
     Ok(Judgement { verdict, compiled })
 }
 
 // The verdict on a source that was compiled.
-fn verdict_of(alloc: Global, source: Source<'_>, compiled: &Compiled) -> Result<Verdict, AllocError>
-    requires { IsCompiled source.edition source.text.now compiled.now }
-    ensures judged { IfOk result (Judged source.entry.edition source.entry.text.now) }
-    ensures stop { IfOk result (IsStopOf source.entry.edition source.entry.text.now) }
+fn verdict_of(alloc: Global, compiled: &Compiled) -> Result<Verdict, AllocError>
+    ensures judged { IfOk result (λ v. (edition : Edition) (source : List ℕ) → IsCompiled edition source compiled.now
+        → Judged edition source v) }
+    ensures stop { IfOk result (λ v. (edition : Edition) (source : List ℕ) → IsCompiled edition source compiled.now
+        → IsStopOf edition source v) }
 {
-    match compiled.last {
-        Step::Finished => judge_code(alloc, compiled.code.bytes()),
-        Step::Fault(diagnostic) => Ok(Verdict::Faulty(line_of(alloc, source)?, diagnostic)),
-        _ => Err(AllocError),
+    match &compiled.code {
+        Ok(definitions) => judge_code(alloc, definitions),
+        Err(fault) => Ok(Verdict::Faulty(line_of(alloc, fault)?, *fault)),
     }
 }
 
-// The line of the compiler of a source that has a fault.
-#[inline(never)]
-fn line_of(alloc: Global, source: Source<'_>) -> Result<MemOut, AllocError>
-    ensures { IfOk result (λ line. (d : Diagnostic) → Judged source.entry.edition source.entry.text.now (verdict.Faulty line d)) }
+// The line of the compiler of a fault.
+fn line_of(alloc: Global, fault: &Diagnostic) -> Result<MemOut, AllocError>
+    ensures { IfOk result (λ line. line.bytes ≡ line_of fault.now) }
 {
     let mut line = MemOut::new(alloc);
-    let mut input = MemIn::new(source.text);
-    match compile_edition(alloc, &mut input, &mut Sink, &mut line, source.edition) {
-        status::FAULT => Ok(line),
-        _ => Err(AllocError),
+    match write_diagnostic(fault, &mut line) {
+        Ok(()) => Ok(line),
+        Err(EndFault::Memory) => Err(AllocError),
+        Err(EndFault::Device) => unreachable!(),
     }
 }
 
-// What the loader says of a code text.
-fn judge_code(alloc: Global, code: &[u8]) -> Result<Verdict, AllocError>
-    ensures told { IfOk result (λ v. (ds : List Definition) → IsCodeText code.now ds
-        → (verdict_line v, status_told v) ≡ told_first None (load_fault ds)) }
+// What the loader says of the definitions of a code text.
+fn judge_code(alloc: Global, definitions: &[Definition]) -> Result<Verdict, AllocError>
+    ensures told { IfOk result (λ v. (verdict_line v, status_told v) ≡ told_first None (load_fault definitions.now)) }
     ensures other { IfOk result (λ v. status_told v ≢ FAULT) }
 {
-    let Ok(definitions) = read_code(alloc, code) else {
-        return Err(AllocError);
-    };
-    let Err(fault) = load(alloc, definitions) else {
+    let Err(fault) = load_slice(alloc, definitions) else {
         return Ok(Verdict::Clean);
     };
     match fault {

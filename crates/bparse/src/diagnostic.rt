@@ -12,7 +12,7 @@ use itoa::Buffer;
 const DIAGNOSTIC_LEN: usize = 64;
 
 /// Writes the line of a diagnostic.
-pub(crate) fn write_diagnostic<D: ByteOut>(fault: &Diagnostic, diag: &mut D) -> Result<(), EndFault>
+pub fn write_diagnostic<D: ByteOut>(fault: &Diagnostic, diag: &mut D) -> Result<(), EndFault>
     ensures gives { PutGives (D.outgoing diag.old) (line_of fault.now) result (D.outgoing diag.new) }
     ensures same { D.lender diag.new ≡ D.lender diag.old }
 {

@@ -1,24 +1,19 @@
-use Rattle.std.proofs.Common.{refl, subst, sym}
-use Rattle.blang.specs.Text.{IsCodeText}
-use Rattle.bcheck.proofs.CheckSteps.{clean_judged, no_stop, stop_judged}
+use Rattle.std.proofs.Common.{◌≡◌, IfOk, List, None, subst}
+use Rattle.blang.specs.declared.code.Definition.{Definition}
+use Rattle.blang.specs.Layout.{load_fault}
+use Rattle.bcheck.specs.Checks.{status_told, told_first, verdict_line}
+use Rattle.bcheck.proofs.CheckSteps.{clean_judged, faulty_judged, no_stop}
 use Rattle.bcheck.proofs.Reasons.{if_ok}
 use Rattle.bcheck.proofs.verdict.verdict_of.Goals as goal
 
-pub returns-in-Finished-clause-judged : goal.returns-in-Finished-clause-judged
-returns-in-Finished-clause-judged c =
-    let compiled = c.args.compiled.now in
-    if_ok c.judge_code.result _ _ (λ v told.
-    clean_judged c.args.source.edition c.args.source.text.now compiled compiled.last v c.requires refl c.in-Finished.is
-    (λ ds is. told ds (subst (λ text. IsCodeText text ds) (sym c.bytes.ensures) is))) c.judge_code.ensures.told
+pub returns-in-Ok-clause-judged : goal.returns-in-Ok-clause-judged
+returns-in-Ok-clause-judged c =
+    let told = subst (λ (ds : List Definition). IfOk c.judge_code.result (λ v. (verdict_line v, status_told v) ≡ told_first None (load_fault ds))) c.deref.ensures.value c.judge_code.ensures.told in
+    if_ok c.judge_code.result _ _ (λ v told edition source is. clean_judged edition source c.in-Ok.definitions.items v (rw c.in-Ok.is at is) told) told
 
-pub returns-in-Finished-clause-stop : goal.returns-in-Finished-clause-stop
-returns-in-Finished-clause-stop c =
-    if_ok c.judge_code.result _ _ (λ v other. no_stop c.args.source.edition c.args.source.text.now v other) c.judge_code.ensures.other
+pub returns-in-Ok-clause-stop : goal.returns-in-Ok-clause-stop
+returns-in-Ok-clause-stop c = if_ok c.judge_code.result _ _ (λ v other edition source is. no_stop edition source v other) c.judge_code.ensures.other
 
-pub returns-in_ok-line_of-in-Fault-clause-judged : goal.returns-in_ok-line_of-in-Fault-clause-judged
-returns-in_ok-line_of-in-Fault-clause-judged c = c.in_ok-line_of-in-Fault.ensures c.in-Fault.diagnostic
-
-pub returns-in_ok-line_of-in-Fault-clause-stop : goal.returns-in_ok-line_of-in-Fault-clause-stop
-returns-in_ok-line_of-in-Fault-clause-stop c =
-    let compiled = c.args.compiled.now in
-    stop_judged c.args.source.edition c.args.source.text.now compiled compiled.last c.in_ok-line_of-in-Fault.field-0 c.in-Fault.diagnostic c.requires refl c.in-Fault.is
+pub returns-in_ok-line_of-in-Err-clause-judged : goal.returns-in_ok-line_of-in-Err-clause-judged
+returns-in_ok-line_of-in-Err-clause-judged c =
+    λ edition source is. faulty_judged edition source c.in_ok-line_of-in-Err.field-0 c.in-Err.fault (rw c.in-Err.is at is) c.in_ok-line_of-in-Err.ensures
