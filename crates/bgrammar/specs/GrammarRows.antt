@@ -14,6 +14,7 @@ definitions =
     ∷ (codes "f() ; ;", codes "F f 0 0 0 0 2\nc 0\nr\n", codes "sx 1\n")
     ∷ (codes "n;;", codes "X n 0 0\n", codes "sx 1\n")
     ∷ (codes "f(a) a.b;", [], codes "ch 1\n")
+    ∷ (codes "a b;", codes "X a 1 0\nx b\nE\n", [])
     ∷ []
 
 -- each statement at each place of one
@@ -263,6 +264,8 @@ statements =
       codes "F f 0 0 0 0 18\nc 1\nj 15\nc 2\nj 5\nj 6\np\nc 2\ng\nc 0\nr\nc 2\nr\nc 2\np\nj 16\np\nc 0\nr\nE\n",
       [],
     )
+    ∷ (codes "f() auto a,b; a=b;", codes "F f 0 2 0 0 7\na 0\na 1\nv\nw\np\nc 0\nr\nE\n", [])
+    ∷ (codes "f() extrn a,b; a=b;", codes "F f 0 0 0 0 7\nx a\nx b\nv\nw\np\nc 0\nr\nE\n", [])
     ∷ []
 
 -- a case at each place of a statement in a switch
@@ -402,6 +405,40 @@ operators =
     ∷ (codes "f() 1&2==3;", codes "F f 0 0 0 0 8\nc 1\nc 2\nc 3\nb ==\nb &\np\nc 0\nr\nE\n", [])
     ∷ (codes "f() 1&2|3;", codes "F f 0 0 0 0 8\nc 1\nc 2\nb &\nc 3\nb |\np\nc 0\nr\nE\n", [])
     ∷ (codes "f() 1|2&3;", codes "F f 0 0 0 0 8\nc 1\nc 2\nc 3\nb &\nb |\np\nc 0\nr\nE\n", [])
+    ∷ (
+      codes "f() 1|2&3!=4<=5>>6-7/8;",
+      codes "F f 0 0 0 0 18\nc 1\nc 2\nc 3\nc 4\nc 5\nc 6\nc 7\nc 8\nb /\nb -\nb >>\nb <=\nb !=\nb &\nb |\np\n"
+          ++ codes "c 0\nr\nE\n",
+      [],
+    )
+    ∷ (
+      codes "f() 1/2-3>>4<=5!=6&7|8;",
+      codes "F f 0 0 0 0 18\nc 1\nc 2\nb /\nc 3\nb -\nc 4\nb >>\nc 5\nb <=\nc 6\nb !=\nc 7\nb &\nc 8\nb |\np\n"
+          ++ codes "c 0\nr\nE\n",
+      [],
+    )
+    ∷ (
+      codes "f() 1|2&3==4>5<<6+7%8;",
+      codes "F f 0 0 0 0 18\nc 1\nc 2\nc 3\nc 4\nc 5\nc 6\nc 7\nc 8\nb %\nb +\nb <<\nb >\nb ==\nb &\nb |\np\n"
+          ++ codes "c 0\nr\nE\n",
+      [],
+    )
+    ∷ (
+      codes "f() 1%2+3<<4>5==6&7|8;",
+      codes "F f 0 0 0 0 18\nc 1\nc 2\nb %\nc 3\nb +\nc 4\nb <<\nc 5\nb >\nc 6\nb ==\nc 7\nb &\nc 8\nb |\np\n"
+          ++ codes "c 0\nr\nE\n",
+      [],
+    )
+    ∷ (
+      codes "f() 1!=2>=3-4%5;",
+      codes "F f 0 0 0 0 12\nc 1\nc 2\nc 3\nc 4\nc 5\nb %\nb -\nb >=\nb !=\np\nc 0\nr\nE\n",
+      [],
+    )
+    ∷ (
+      codes "f() 1%2-3>=4!=5;",
+      codes "F f 0 0 0 0 12\nc 1\nc 2\nb %\nc 3\nb -\nc 4\nb >=\nc 5\nb !=\np\nc 0\nr\nE\n",
+      [],
+    )
     ∷ []
 
 -- operands: prefix operators, indices, arguments, constants
@@ -449,6 +486,9 @@ operands =
     ∷ (codes "f(a) **a;", codes "F f 1 1 0 0 7\na 0\nv\nv\nv\np\nc 0\nr\nE\n", [])
     ∷ (codes "f() *1;", codes "F f 0 0 0 0 5\nc 1\nv\np\nc 0\nr\nE\n", [])
     ∷ (codes "f(a) !-a;", codes "F f 1 1 0 0 7\na 0\nv\nn\nh\np\nc 0\nr\nE\n", [])
+    ∷ (codes "f() &1;", [], codes "lv 1\n")
+    ∷ (codes "f() --1;", [], codes "lv 1\n")
+    ∷ (codes "f() 1--;", [], codes "lv 1\n")
     ∷ []
 
 -- with which no program begins
@@ -483,7 +523,8 @@ refused =
     codes "f(a) 1!2;" ∷ codes "f(a) a[1;" ∷ codes "f(a) a[1" ∷ codes "f(a) a[1 2];" ∷ codes "f(a) a[1,2];" ∷
     codes "f(a) a];" ∷ codes "f(a) a(1;" ∷ codes "f(a) a(1" ∷ codes "f(a) a(1 2);" ∷ codes "f(a) a(,);" ∷
     codes "f(a) a(,1);" ∷ codes "f(a) a(1;);" ∷ codes "f(a) (1;" ∷ codes "f(a) (1" ∷ codes "f(a) 1);" ∷
-    codes "f(a) () ;" ∷ codes "f(a) [1];" ∷ codes "f(a) if;" ∷ codes "f(a) 1|;" ∷ codes "f(a) |1;" ∷ []
+    codes "f(a) () ;" ∷ codes "f(a) [1];" ∷ codes "f(a) if;" ∷ codes "f(a) 1|;" ∷ codes "f(a) |1;" ∷
+    codes "f(a,) ;" ∷ codes "n 1,(;" ∷ codes "f(a) while 1) ;" ∷ codes "f(a) 1?2 3;" ∷ []
 
 -- these sources have no code, and this line
 abbrev pub all_refused : (code : List ℕ) → List (List ℕ) → List Row
