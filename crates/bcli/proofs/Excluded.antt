@@ -33,7 +33,7 @@ fault_is_told : (f : EndFault) → 0 ≡ status_of f → ⊥
 fault_is_told end_fault.Device e = omega (arith, e)
 fault_is_told end_fault.Memory e = omega (arith, e)
 
-fault_is_no_complaint : (f : EndFault) → 135 ≡ status_of f → ⊥
+pub fault_is_no_complaint : (f : EndFault) → 135 ≡ status_of f → ⊥
 fault_is_no_complaint end_fault.Device e = omega (arith, e)
 fault_is_no_complaint end_fault.Memory e = omega (arith, e)
 

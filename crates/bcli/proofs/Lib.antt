@@ -4,3 +4,5 @@ mod Joined
 mod ReadLibs
 mod FaultLies
 mod FaultTold
+mod Processes
+mod Showing

@@ -1,6 +1,7 @@
 -- Promise: what no answer to a command line is, and what each one is.
 use Rattle.std.specs.Prelude.{◌≡◌, ◌⊎◌, ℕ, ◌+◌, ◌<◌, ◌≤◌, List, [], ◌∷◌, ◌++◌, All, length, codes, true}
-use Rattle.std.specs.Prelude.{Option, Some, None}
+use Rattle.std.specs.Prelude.{Bool, IsTrue, false, Option, Some, None}
+use Rattle.std.specs.Io.KnownBytes.{Appends}
 use Rattle.clap.specs.Words.{IsAmong, Text, fault_of, subcommand_of}
 use Rattle.clap.specs.declared.error.kind.ErrorKind.{ErrorKind}
 use Rattle.clap.specs.declared.error.kind.ErrorKind.TheVariants as kind
@@ -25,6 +26,8 @@ use Rattle.bcli.specs.declared.shelf.MemFile.{MemFile}
 use Rattle.bcli.specs.FaultPlaces.{place_beyond, place_line, tells_run}
 use Rattle.bcli.specs.Serves.{Answers, AnswersPlaced, CompilesJoined, Does, HasNoFile, IsHelp, NamesFile, NamesLib, NamesLibOf}
 use Rattle.bcli.specs.Serves.{SaysNothing, Serves, compiling, unread_line}
+use Rattle.bcli.specs.Blocks.{HandsOn, Held, TakesPiece, held}
+use Rattle.bcli.specs.Processes.{KnownStreams, PerformsInOrder, ServesProcess}
 use Rattle.bcli.specs.Shelves.{Holdings, holding}
 
 -- The words have a fault, and don't ask for help.
@@ -176,3 +179,33 @@ pub record FileIsRead (file : MemFile) : Type 0 where
   pub one_go : (input : Unread) (out line : Kept) (status : ℕ) → file.text.now ≡ codes "main(){putchar('a');}"
       → Does (holding file) (go (alone file editions.One) 100) (one_run_ends input out line) status
       → (status ≡ MEMORY) ⊎ ((status ≡ 0) × (out.bytes ≡ codes "a") × (line.bytes ≡ []))
+
+-- a process whose writer of lines held these bytes and was given no more
+abbrev pub silent_lines : (input : Option (List ℕ)) (told : List ℕ) → KnownStreams
+silent_lines input told = record { input = input; line = Some told; line_after = Some told }
+
+-- of the streams of a process
+pub record ProcessExcluded : Type 0 where
+  -- a call for help that is answered as no words or others are
+  pub help_unserved : (words : List Text) (known : KnownStreams) → fault_of command_line words ≡ kind.DisplayHelp ∷ []
+      → ServesProcess (Some words) known WRONG_COMMAND → ⊥
+  -- wrong words, or words that can't be read, after which all went well
+  pub wrong_status : (words : List Text) (known : KnownStreams) → AreWrong words
+      → ServesProcess (Some words) known DONE → ⊥
+  pub unread_status : (known : KnownStreams) → ServesProcess None known DONE → ⊥
+  -- a complaint that doesn't come to the writer of lines
+  pub line_lost : (words : List Text) (input : Option (List ℕ)) (told : List ℕ) → AreWrong words
+      → ServesProcess (Some words) (silent_lines input told) WRONG_COMMAND → ⊥
+  pub unread_line_lost : (input : Option (List ℕ)) (told : List ℕ)
+      → ServesProcess None (silent_lines input told) WRONG_COMMAND → ⊥
+  -- a status that no task of this kind answers, or one that isn't that of a failed write though nothing was shown
+  pub unanswered : (test : RunEnds → ℕ → Bool) (known : KnownStreams) (status : ℕ)
+      → ((ends : RunEnds) → test ends status ≡ false)
+      → PerformsInOrder (λ ends told. IsTrue (test ends told)) (Unit {0}) known status
+      → (status ≡ DEVICE) ⊎ (status ≡ MEMORY)
+  pub unshown : (known : KnownStreams) (status : ℕ) → PerformsInOrder (λ ends told. Unit {0}) ⊥ known status
+      → (status ≡ DEVICE) ⊎ (status ≡ MEMORY)
+  -- a block that loses bytes or has others, when it takes a piece and when it shows what it keeps
+  pub held_grows : (has_room fits : Bool) (old new : Held) (piece : List ℕ) → TakesPiece has_room fits old piece new
+      → Appends (held old) (held new) piece
+  pub held_stays : (old new : Held) → HandsOn old old.kept [] new → Appends (held old) (held new) []

@@ -1,6 +1,8 @@
+pub mod Blocks
 pub mod Excluded
 pub mod FaultPlaces
 pub mod PlaceRows
+pub mod Processes
 pub mod Reading
 pub mod Serves
 pub mod ServeRows

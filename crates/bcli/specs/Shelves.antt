@@ -1,5 +1,5 @@
 -- Promise: what is known of files, by their names.
-use Rattle.std.specs.Prelude.{◌≡◌, ◌≢◌, ℕ, List}
+use Rattle.std.specs.Prelude.{◌≡◌, ◌≢◌, ℕ, List, Option, IfSome}
 use Rattle.clap.specs.Words.{Text}
 use Rattle.bcli.specs.declared.shelf.MemFile.{MemFile}
 
@@ -18,3 +18,7 @@ holding file = record {
   holds = λ name text. (name ≡ file.name.now) × (text ≡ file.text.now);
   lacks = λ name. name ≢ file.name.now;
 }
+
+-- a text is all that some file gives, where the bytes of that are known
+abbrev pub IsWhole : {F : Type 0} → (remaining : F → Option (List ℕ)) → (text : List ℕ) → Type 0
+IsWhole {F} remaining text = (file : F) × IfSome (remaining file) (λ bytes. text ≡ bytes)

@@ -1,17 +1,21 @@
 //! The streams of a process, kept in order: what was written is shown before more input is fetched, and before a line
 //! is written beside it.
-ghost use Rattle.std.specs.Prelude.{◌≤◌, length};
+ghost use Rattle.std.specs.Prelude.{◌≡◌, ℕ, None, OnOk, map as map_each, option_map, string_bytes};
+ghost use Rattle.std.specs.Io.{ReadsAtMost, WritesAtMost};
+ghost use Rattle.std.specs.Io.KnownBytes.{Keeps, ReadConsumes, WriteAppends};
+ghost use Rattle.blang.specs.Reports.{RunEnds, run_ends};
+ghost use Rattle.bcli.specs.Blocks.{WasShown, WasTaken};
+ghost use Rattle.bcli.specs.Excluded.{ProcessExcluded};
+ghost use Rattle.bcli.specs.Processes.{AnswersWords, PerformsInOrder, ServesProcess};
 
+use crate::block::{Block, Buffered};
 use crate::serving::{refuse_words, serve};
 use blang::status::{self, Status};
 use bword::{ByteIn, ByteOut, Reading, Writing};
-use std::alloc::{AllocError, Global};
+use std::alloc::Global;
 use std::cell::RefCell;
 use std::io::{self, BufReader, ErrorKind, Read, Write};
 use std::rt::Files;
-
-// The bytes of output that are written at once.
-const BLOCK_LEN: usize = 8192;
 
 /// What a process reads and writes.
 #[derive(Drop)]
@@ -24,167 +28,207 @@ pub struct Streams<I: Read + Drop, O: Write + Drop, D: Write + Drop> {
     pub at_once: bool,
 }
 
-/// Does what the words of a command line ask for. Without words it refuses the command line. When it returns, all of the
-/// output was shown, or the status is that of a failed write.
+/// The status of a process, and its writer of lines as it was left.
+#[derive(Drop)]
+pub struct Served<D: Write + Drop> {
+    pub status: Status,
+    pub diag: D,
+}
+
+/// Does what the words of a command line ask for. Without words it refuses the command line. When it returns, all of
+/// the output was shown, or the status is that of a failed write.
 pub fn serve_in_order<R, I, O, D>(
     rt: &R,
     words: Option<Vec<String>>,
     streams: Streams<I, O, D>,
-) -> Status
+) -> Served<D>
 where
     R: AllocGlobal + Files,
     I: Read + Drop,
     O: Write + Drop,
     D: Write + Drop,
+    ensures serves { ServesProcess (option_map (λ v. map_each string_bytes v.items) words) (record {
+      input = I.remaining streams.input;
+      line = D.contents streams.diag;
+      line_after = D.contents result.diag;
+    }) result.status }
 {
+    let Streams {
+        input,
+        output,
+        diag,
+        at_once,
+    } = streams;
     let alloc = rt.alloc();
-    let Ok(output) = Output::new(alloc, streams.output, streams.at_once) else {
-        return status::MEMORY;
-    };
-    let asking = Asking {
-        reader: streams.input,
-        output: &output,
-    };
-    let Ok(reader) = BufReader::new(alloc, asking) else {
-        return status::MEMORY;
-    };
-    let beside = Beside {
-        writer: streams.diag,
-        output: &output,
-    };
-    let status = answer(
-        rt,
-        words,
-        &mut Reading::new(reader),
-        &mut Writing::new(&output),
-        &mut Writing::new(beside),
-    );
-    match output.show() {
-        Ok(()) => status,
-        Err(_) => status::DEVICE,
+    match Block::new(alloc, output, at_once) {
+        Ok(block) => {
+            let task = Answering { rt, words };
+            perform_in_order(alloc, task, Output::new(block), input, diag)
+        }
+        Err(_) => Served {
+            status: status::MEMORY,
+            diag,
+        },
     }
 }
 
-fn answer<R: AllocGlobal + Files, I: ByteIn, O: ByteOut, D: ByteOut>(
-    rt: &R,
+// What is done over the ends of a process. As with a buffer, that it was done can only come from a call.
+trait Task {
+    // What it does to the ends, with its status.
+    ghost does: { Self → RunEnds → ℕ → Type 0 };
+
+    fn perform<I: ByteIn, O: ByteOut, D: ByteOut>(
+        self,
+        input: &mut I,
+        out: &mut O,
+        diag: &mut D,
+    ) -> Status
+        ensures does { does self (run_ends
+            (I.incoming input.old) (I.incoming input.new) (O.outgoing out.old) (O.outgoing out.new)
+            (D.outgoing diag.old) (D.outgoing diag.new)) result };
+}
+
+// Answering the words of a process.
+#[derive(Drop)]
+struct Answering<'a, R> {
+    rt: &'a R,
     words: Option<Vec<String>>,
-    input: &mut I,
-    out: &mut O,
-    diag: &mut D,
-) -> Status {
-    match words {
-        Some(words) => serve(rt, words.as_slice(), input, out, diag),
-        None => refuse_words(diag),
+}
+
+impl<R: AllocGlobal + Files> Task for Answering<'_, R> {
+    ghost does = { λ it. AnswersWords (option_map (λ v. map_each string_bytes v.items) it.words) };
+
+    fn perform<I: ByteIn, O: ByteOut, D: ByteOut>(
+        self,
+        input: &mut I,
+        out: &mut O,
+        diag: &mut D,
+    ) -> Status {
+        let Answering { rt, words } = self;
+        match words {
+            Some(words) => serve(rt, words.as_slice(), input, out, diag),
+            None => refuse_words(diag),
+        }
     }
+}
+
+// Performs a task over the streams of a process, and then shows what is held of the output.
+fn perform_in_order<T, B, I, D>(
+    alloc: Global,
+    task: T,
+    output: Output<B>,
+    input: I,
+    diag: D,
+) -> Served<D>
+where
+    T: Task + Drop,
+    B: Buffered + Drop,
+    I: Read + Drop,
+    D: Write + Drop,
+    ensures performs { PerformsInOrder (T.does task) (WasShown B.shows) (record {
+      input = I.remaining input;
+      line = D.contents diag;
+      line_after = D.contents result.diag;
+    }) result.status }
+{
+    let asking = Asking {
+        reader: input,
+        output: &output,
+    };
+    let Ok(reader) = BufReader::new(alloc, asking) else {
+        return Served {
+            status: status::MEMORY,
+            diag,
+        };
+    };
+    let mut lines = Writing::new(Beside {
+        writer: diag,
+        output: &output,
+    });
+    let told = task.perform(
+        &mut Reading::new(reader),
+        &mut Writing::new(&output),
+        &mut lines,
+    );
+    let status = match output.show() {
+        Ok(()) => told,
+        Err(_) => status::DEVICE,
+    };
+    let Beside {
+        writer: diag,
+        output: _,
+    } = lines.into_writer();
+    Served { status, diag }
 }
 
 // Output that streams share.
 #[derive(Drop)]
-struct Output<W: Write + Drop> {
-    block: RefCell<Block<W>>,
+struct Output<B: Buffered + Drop> {
+    buffer: RefCell<B>,
 }
 
-impl<W: Write + Drop> Output<W> {
-    fn new(alloc: Global, writer: W, at_once: bool) -> Result<Self, AllocError> {
-        let len = if at_once { 0 } else { BLOCK_LEN };
-        let block = RefCell::new(Block {
-            writer,
-            bytes: vec![in alloc; 0; len]?,
-            filled: 0,
-        });
-        Ok(Output { block })
+impl<B: Buffered + Drop> Output<B> {
+    fn new(buffer: B) -> Self {
+        Output {
+            buffer: RefCell::new(buffer),
+        }
     }
 
     // Shows what was written, or fails where some of it can't be.
-    fn show(&self) -> io::Result<()> {
-        match self.block.try_borrow_mut() {
-            Ok(mut block) => block.show(),
+    fn show(&self) -> io::Result<()>
+        ensures { OnOk result (WasShown B.shows) }
+    {
+        match self.buffer.try_borrow_mut() {
+            Ok(mut buffer) => buffer.show(),
             Err(_) => Err(io::Error::from(ErrorKind::Other)),
         }
     }
 
     #[inline(always)]
-    fn take(&self, bytes: &[u8]) -> io::Result<()> {
-        match self.block.try_borrow_mut() {
-            Ok(mut block) => {
-                if block.keep(bytes) {
-                    return Ok(());
-                }
-                block.pass_on(bytes)
-            }
+    fn take(&self, bytes: &[u8]) -> io::Result<()>
+        ensures { OnOk result (WasTaken B.takes bytes.now) }
+    {
+        match self.buffer.try_borrow_mut() {
+            Ok(mut buffer) => buffer.take(bytes),
             Err(_) => Err(io::Error::from(ErrorKind::Other)),
         }
     }
 }
 
-// Bytes on their way to a writer. Where there is no room for any, each piece is shown at once.
-#[derive(Drop)]
-struct Block<W: Write + Drop> {
-    writer: W,
-    bytes: Vec<u8>,
-    filled: usize,
-    ghost within: { filled ≤ length bytes.items },
-}
-
-impl<W: Write + Drop> Block<W> {
-    // Keeps a piece, if there is room for it.
+impl<B: Buffered + Drop> Write for &Output<B> {
     #[inline(always)]
-    fn keep(&mut self, piece: &[u8]) -> bool {
-        if piece.len() > self.bytes.len() - self.filled {
-            return false;
-        }
-        let end = self.filled + piece.len();
-        match piece {
-            // The program that runs writes most pieces, of one byte.
-            [byte] => self.bytes[self.filled] = *byte,
-            _ => self.bytes[self.filled..end].copy_from_slice(piece),
-        }
-        self.filled = end;
-        true
-    }
-
-    // Shows what is kept, and then keeps a piece, or shows it if it is longer than a block.
-    #[cold]
-    #[inline(never)]
-    fn pass_on(&mut self, piece: &[u8]) -> io::Result<()> {
-        self.show()?;
-        if self.keep(piece) {
-            return Ok(());
-        }
-        self.writer.write_all(piece)?;
-        self.writer.flush()
-    }
-
-    // Shows what is kept. What can't be shown isn't tried again.
-    fn show(&mut self) -> io::Result<()> {
-        let filled = self.filled;
-        self.filled = 0;
-        self.writer.write_all(&self.bytes[..filled])?;
-        self.writer.flush()
-    }
-}
-
-impl<W: Write + Drop> Write for &Output<W> {
-    #[inline(always)]
-    fn write(&mut self, buf: &[u8]) -> io::Result<usize> {
+    fn write(&mut self, buf: &[u8]) -> io::Result<usize>
+        ensures bound { WritesAtMost result buf.now }
+        ensures bytes { WriteAppends None None result buf.now }
+        ensures takes { OnOk result (WasTaken B.takes buf.now) }
+    {
         self.take(buf)?;
         Ok(buf.len())
     }
 
-    fn flush(&mut self) -> io::Result<()> {
+    fn flush(&mut self) -> io::Result<()>
+        ensures bytes { Keeps None None }
+        ensures shows { OnOk result (WasShown B.shows) }
+    {
         self.show()
     }
 }
 
 // A reader before whose reads the output is shown.
 #[derive(Drop)]
-struct Asking<'a, R: Read + Drop, W: Write + Drop> {
+struct Asking<'a, R: Read + Drop, B: Buffered + Drop> {
     reader: R,
-    output: &'a Output<W>,
+    output: &'a Output<B>,
 }
 
-impl<R: Read + Drop, W: Write + Drop> Read for Asking<'_, R, W> {
-    fn read(&mut self, buf: &mut [u8]) -> io::Result<usize> {
+impl<R: Read + Drop, B: Buffered + Drop> Read for Asking<'_, R, B> {
+    ghost remaining = { λ a. R.remaining a.reader };
+
+    fn read(&mut self, buf: &mut [u8]) -> io::Result<usize>
+        ensures bound { ReadsAtMost result buf.new }
+        ensures bytes { ReadConsumes (R.remaining self.old.reader) (R.remaining self.new.reader) result buf.new }
+        ensures shows { OnOk result (WasShown B.shows) }
+    {
         self.output.show()?;
         self.reader.read(buf)
     }
@@ -192,13 +236,19 @@ impl<R: Read + Drop, W: Write + Drop> Read for Asking<'_, R, W> {
 
 // A writer before whose writes the output is shown.
 #[derive(Drop)]
-struct Beside<'a, D: Write + Drop, W: Write + Drop> {
+struct Beside<'a, D: Write + Drop, B: Buffered + Drop> {
     writer: D,
-    output: &'a Output<W>,
+    output: &'a Output<B>,
 }
 
-impl<D: Write + Drop, W: Write + Drop> Write for Beside<'_, D, W> {
-    fn write(&mut self, buf: &[u8]) -> io::Result<usize> {
+impl<D: Write + Drop, B: Buffered + Drop> Write for Beside<'_, D, B> {
+    ghost contents = { λ b. D.contents b.writer };
+
+    fn write(&mut self, buf: &[u8]) -> io::Result<usize>
+        ensures bound { WritesAtMost result buf.now }
+        ensures bytes { WriteAppends (D.contents self.old.writer) (D.contents self.new.writer) result buf.now }
+        ensures shows { OnOk result (WasShown B.shows) }
+    {
         self.output.show()?;
         self.writer.write(buf)
     }
@@ -207,3 +257,9 @@ impl<D: Write + Drop, W: Write + Drop> Write for Beside<'_, D, W> {
         self.writer.flush()
     }
 }
+
+/// No process gets these answers: that of other words, success for wrong ones, or a complaint whose line is not
+/// written. A block of its output holds what it held, and then the bytes that it takes.
+pub fn wrong_processes_are_excluded()
+    ensures { ProcessExcluded }
+{}

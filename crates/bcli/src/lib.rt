@@ -1,12 +1,13 @@
 //! Serving the command line of the program `b`.
 #![tactic(auto)]
 
+mod block;
 mod fault_place;
 mod in_order;
 mod serving;
 mod shelf;
 mod sources;
 
-pub use in_order::{Streams, serve_in_order};
+pub use in_order::{Served, Streams, serve_in_order, wrong_processes_are_excluded};
 pub use serving::{files_are_read, refuse_words, serve, serve_with, wrong_answers_are_excluded};
 pub use shelf::{FileFault, MemFile, Shelf, SystemFiles};

@@ -1,10 +1,11 @@
 //! Files, by their names.
 ghost use Rattle.std.specs.Prelude.{◌≡◌, IfOk, IfErr};
-ghost use Rattle.bcli.specs.Shelves.{Holdings, anything, holding};
+ghost use Rattle.bcli.specs.Shelves.{Holdings, IsWhole, anything, holding};
 
 use std::alloc::Global;
+use std::fs::File;
+use std::io::{self, ErrorKind, Read};
 use std::rt::Files;
-use std::{fs, io};
 
 /// Why a file was not read.
 #[derive(Clone, Copy)]
@@ -40,13 +41,27 @@ pub struct SystemFiles<'a, R> {
 impl<R: AllocGlobal + Files> Shelf for SystemFiles<'_, R> {
     ghost holdings = { λ _. anything };
 
-    fn read(&self, _alloc: Global, name: &str) -> Result<Vec<u8>, FileFault> {
-        match fs::read(self.rt, name) {
+    /// All bytes of a file that was opened. No contract of the system says that it has this name.
+    fn read(&self, _alloc: Global, name: &str) -> Result<Vec<u8>, FileFault>
+        ensures text { IfOk result (λ text. Holdings.holds anything name.now text.items) }
+        ensures fault { IfErr result (λ fault. fault ≡ FileFault.Device → Holdings.lacks anything name.now) }
+        ensures whole { IfOk result (λ text. IsWhole R.File.remaining text.items) }
+    {
+        match read_file(self.rt, name) {
             Ok(text) => Ok(text),
-            Err(error) if error.kind() == io::ErrorKind::OutOfMemory => Err(FileFault::Memory),
+            Err(error) if error.kind() == ErrorKind::OutOfMemory => Err(FileFault::Memory),
             Err(_) => Err(FileFault::Device),
         }
     }
+}
+
+fn read_file<R: AllocGlobal + Files>(rt: &R, name: &str) -> io::Result<Vec<u8>>
+    ensures { IfOk result (λ text. IsWhole R.File.remaining text.items) }
+{
+    let mut file = File::open(rt, name)?;
+    let mut text = Vec::new(rt.alloc());
+    file.read_to_end(&mut text)?;
+    Ok(text)
 }
 
 /// One file in memory.

@@ -1,0 +1,5 @@
+use Rattle.bcli.proofs.Processes.{process_excluded}
+use Rattle.bcli.proofs.in_order.wrong_processes_are_excluded.Goals as goal
+
+pub returns : goal.returns
+returns c = process_excluded
