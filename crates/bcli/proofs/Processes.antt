@@ -8,7 +8,7 @@ use Rattle.blang.specs.Reports.{Reported, RunEnds}
 use Rattle.bcli.specs.Excluded.{AreWrong, Excluded, ProcessExcluded, silent_lines}
 use Rattle.bcli.specs.Processes.{AnswersWords, KnownStreams, PerformsInOrder}
 use Rattle.bcli.specs.Serves.{RefusesWords, Serves, did, no_memory, refused, unread_line}
-use Rattle.bcli.specs.Shelves.{anything}
+use Rattle.bcli.specs.Shelves.{Holdings}
 use Rattle.bcli.proofs.Excluded.{excluded, fault_is_no_complaint}
 use Rattle.bcli.proofs.Showing.{held_grows, held_stays}
 
@@ -57,28 +57,28 @@ untold told text ends some l a (inl written) =
     some (same_bytes told text ends.line.written ends.line_after.written l a written.0.appended)
 untold told text ends some l a (inr stopped) = fault_is_no_complaint stopped.fault stopped.status
 
-complaint : (words : List Text) (told : List ℕ) (ends : RunEnds) → AreWrong words → ends.line.written ≡ Some told
-    → ends.line_after.written ≡ Some told → Serves anything words ends 135 → ⊥
-complaint words told ends wrong l a (did clean does) = wrong.fault clean
-complaint words told ends wrong l a (refused k among answers) = by_answer answers
+complaint : (files : Holdings) (words : List Text) (told : List ℕ) (ends : RunEnds) → AreWrong words → ends.line.written ≡ Some told
+    → ends.line_after.written ≡ Some told → Serves files words ends 135 → ⊥
+complaint files words told ends wrong l a (did clean does) = wrong.fault clean
+complaint files words told ends wrong l a (refused k among answers) = by_answer answers
   where
     by_answer : RefusesWords k ends 135 → ⊥
     by_answer (inl helps) = wrong.no_help k among helps.help
     by_answer (inr (inl complains)) = untold told complains.text ends complains.some_text l a complains.told
     by_answer (inr (inr silent)) = omega (arith, silent.status_is)
-complaint words told ends wrong l a (no_memory silent) = omega (arith, silent.status_is)
+complaint files words told ends wrong l a (no_memory silent) = omega (arith, silent.status_is)
 
-pub process_excluded : ProcessExcluded
-process_excluded = record {
-  help_unserved = λ words known is. not_performed (AnswersWords (Some words)) known 135 (λ e. omega (arith, e)) (λ e. omega (arith, e))
+pub process_excluded : (files : Holdings) → ProcessExcluded files
+process_excluded files = record {
+  help_unserved = λ words known is. not_performed (AnswersWords files (Some words)) known 135 (λ e. omega (arith, e)) (λ e. omega (arith, e))
       (λ ends l a it. all.help_refused words ends is it);
-  wrong_status = λ words known wrong. not_performed (AnswersWords (Some words)) known 0 (λ e. omega (arith, e)) (λ e. omega (arith, e))
+  wrong_status = λ words known wrong. not_performed (AnswersWords files (Some words)) known 0 (λ e. omega (arith, e)) (λ e. omega (arith, e))
       (λ ends l a it. all.wrong_done words ends wrong it);
-  unread_status = λ known. not_performed (AnswersWords None) known 0 (λ e. omega (arith, e)) (λ e. omega (arith, e))
+  unread_status = λ known. not_performed (AnswersWords files None) known 0 (λ e. omega (arith, e)) (λ e. omega (arith, e))
       (λ ends l a it. all.unread_words_done ends.line ends.line_after it.1);
-  line_lost = λ words input told wrong. not_performed (AnswersWords (Some words)) (silent_lines input told) 135
-      (λ e. omega (arith, e)) (λ e. omega (arith, e)) (λ ends l a it. complaint words told ends wrong l a it);
-  unread_line_lost = λ input told. not_performed (AnswersWords None) (silent_lines input told) 135
+  line_lost = λ words input told wrong. not_performed (AnswersWords files (Some words)) (silent_lines input told) 135
+      (λ e. omega (arith, e)) (λ e. omega (arith, e)) (λ ends l a it. complaint files words told ends wrong l a it);
+  unread_line_lost = λ input told. not_performed (AnswersWords files None) (silent_lines input told) 135
       (λ e. omega (arith, e)) (λ e. omega (arith, e)) (λ ends l a it. untold told unread_line ends (λ e. cc) l a it.1);
   unanswered = unanswered;
   unshown = unshown;
@@ -86,5 +86,5 @@ process_excluded = record {
   held_stays = held_stays;
 }
   where
-    all : Excluded anything
-    all = excluded anything
+    all : Excluded files
+    all = excluded files

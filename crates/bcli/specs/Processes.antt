@@ -5,12 +5,12 @@ use Rattle.bword.specs.ByteEnds.{Incoming, Outgoing, streamed_of}
 use Rattle.blang.specs.Reports.{HasNotRun, Reported, RunEnds}
 use Rattle.blang.specs.declared.status.TheConstants.{DEVICE, MEMORY, WRONG_COMMAND}
 use Rattle.bcli.specs.Serves.{Serves, unread_line}
-use Rattle.bcli.specs.Shelves.{anything}
+use Rattle.bcli.specs.Shelves.{Holdings}
 
--- what is done for the words of a process, which can't be read where one isn't UTF-8
-abbrev pub AnswersWords : Option (List Text) → RunEnds → ℕ → Type 0
-AnswersWords (Some words) ends status = Serves anything words ends status
-AnswersWords None ends status = HasNotRun ends × Reported unread_line WRONG_COMMAND ends.line ends.line_after status
+-- what is done for the words of a process over these files; the words can't be read where one isn't UTF-8
+abbrev pub AnswersWords : Holdings → Option (List Text) → RunEnds → ℕ → Type 0
+AnswersWords files (Some words) ends status = Serves files words ends status
+AnswersWords files None ends status = HasNotRun ends × Reported unread_line WRONG_COMMAND ends.line ends.line_after status
 
 -- What is known of the streams of a process: the bytes of its input, and those that its writer of lines took, before
 -- and after.
@@ -44,6 +44,6 @@ abbrev pub PerformsInOrder : (does : RunEnds → ℕ → Type 0) → (shown : Ty
 PerformsInOrder does shown known status =
     Performed does shown known status ⊎ (known.line_after ≡ known.line) × (status ≡ MEMORY)
 
--- the words of a process were served, or memory for its streams was refused
-abbrev pub ServesProcess : Option (List Text) → KnownStreams → ℕ → Type 0
-ServesProcess words known status = PerformsInOrder (AnswersWords words) (Unit {0}) known status
+-- the words of a process were served over these files, or memory for its streams was refused
+abbrev pub ServesProcess : Holdings → Option (List Text) → KnownStreams → ℕ → Type 0
+ServesProcess files words known status = PerformsInOrder (AnswersWords files words) (Unit {0}) known status

@@ -1,5 +1,5 @@
 //! Bytes of output on their way to a writer.
-ghost use Rattle.std.specs.Prelude.{◌≡◌, ◌++◌, List, ℕ, [], if◌then◌else◌, length, nat_le, IfOk, MatchResult, OnOk};
+ghost use Rattle.std.specs.Prelude.{◌≡◌, ◌++◌, List, ℕ, [], if◌then◌else◌, length, nat_le, IfOk, MatchResult, OnErr, OnOk};
 ghost use Rattle.bcli.specs.Blocks.{HandsOn, HandsSome, PassesOn, TakesPiece, WritesOn, has_room};
 
 use std::alloc::{AllocError, Global};
@@ -127,14 +127,22 @@ impl<W: Write + Drop> Buffered for Block<W> {
     ghost shows = { λ old new. HandsOn old old.kept [] new };
 
     #[inline(always)]
-    fn take(&mut self, bytes: &[u8]) -> io::Result<()> {
+    fn take(&mut self, bytes: &[u8]) -> io::Result<()>
+        ensures takes { OnOk result
+            (TakesPiece (has_room self.old self.old.kept bytes.now) (has_room self.old [] bytes.now)
+            self.old bytes.now self.new) }
+        ensures fails { OnErr result (HandsSome self.old (self.old.kept ++ bytes.now) self.new) }
+    {
         if self.keep(bytes) {
             return Ok(());
         }
         self.pass_on(bytes)
     }
 
-    fn show(&mut self) -> io::Result<()> {
+    fn show(&mut self) -> io::Result<()>
+        ensures shows { OnOk result (HandsOn self.old self.old.kept [] self.new) }
+        ensures fails { OnErr result (HandsSome self.old self.old.kept self.new) }
+    {
         self.show_kept()
     }
 }

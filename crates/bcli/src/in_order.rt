@@ -1,15 +1,17 @@
 //! The streams of a process, kept in order: what was written is shown before more input is fetched, and before a line
 //! is written beside it.
-ghost use Rattle.std.specs.Prelude.{◌≡◌, ℕ, None, OnOk, map as map_each, option_map, string_bytes};
+ghost use Rattle.std.specs.Prelude.{◌≡◌, ℕ, IfOk, None, OnOk, length, map as map_each, option_map, string_bytes};
 ghost use Rattle.std.specs.Io.{ReadsAtMost, WritesAtMost};
 ghost use Rattle.std.specs.Io.KnownBytes.{Keeps, ReadConsumes, WriteAppends};
 ghost use Rattle.blang.specs.Reports.{RunEnds, run_ends};
 ghost use Rattle.bcli.specs.Blocks.{WasShown, WasTaken};
 ghost use Rattle.bcli.specs.Excluded.{ProcessExcluded};
 ghost use Rattle.bcli.specs.Processes.{AnswersWords, PerformsInOrder, ServesProcess};
+ghost use Rattle.bcli.specs.Shelves.{opened};
 
 use crate::block::{Block, Buffered};
 use crate::serving::{refuse_words, serve};
+use crate::shelf::Shelf;
 use blang::status::{self, Status};
 use bword::{ByteIn, ByteOut, Reading, Writing};
 use std::alloc::Global;
@@ -47,7 +49,7 @@ where
     I: Read + Drop,
     O: Write + Drop,
     D: Write + Drop,
-    ensures serves { ServesProcess (option_map (λ v. map_each string_bytes v.items) words) (record {
+    ensures serves { ServesProcess (opened R.File.remaining) (option_map (λ v. map_each string_bytes v.items) words) (record {
       input = I.remaining streams.input;
       line = D.contents streams.diag;
       line_after = D.contents result.diag;
@@ -96,7 +98,7 @@ struct Answering<'a, R> {
 }
 
 impl<R: AllocGlobal + Files> Task for Answering<'_, R> {
-    ghost does = { λ it. AnswersWords (option_map (λ v. map_each string_bytes v.items) it.words) };
+    ghost does = { λ it. AnswersWords (opened R.File.remaining) (option_map (λ v. map_each string_bytes v.items) it.words) };
 
     fn perform<I: ByteIn, O: ByteOut, D: ByteOut>(
         self,
@@ -200,6 +202,7 @@ impl<B: Buffered + Drop> Write for &Output<B> {
     fn write(&mut self, buf: &[u8]) -> io::Result<usize>
         ensures bound { WritesAtMost result buf.now }
         ensures bytes { WriteAppends None None result buf.now }
+        ensures whole { IfOk result (λ count. count ≡ length buf.now) }
         ensures takes { OnOk result (WasTaken B.takes buf.now) }
     {
         self.take(buf)?;
@@ -260,6 +263,6 @@ impl<D: Write + Drop, B: Buffered + Drop> Write for Beside<'_, D, B> {
 
 /// No process gets these answers: that of other words, success for wrong ones, or a complaint whose line is not
 /// written. A block of its output holds what it held, and then the bytes that it takes.
-pub fn wrong_processes_are_excluded()
-    ensures { ProcessExcluded }
+pub fn wrong_processes_are_excluded<S: Shelf>(_shelf: &S)
+    ensures { ProcessExcluded (S.holdings _shelf.now) }
 {}

@@ -9,7 +9,7 @@ ghost use Rattle.bcli.specs.Excluded.{Excluded, FileIsRead};
 ghost use Rattle.bshow.specs.Shows.{asked_of as page_of};
 ghost use Rattle.bsources.specs.Files.{files_shown};
 ghost use Rattle.bcli.specs.Serves.{Answers, AnswersPlaced, CompilesJoined, Does, NamesFile, RefusesWords, SaysNothing, Serves, ShowsRun, form_of, page_rows, style_of, traced_rows, no_file_line, unread_line};
-ghost use Rattle.bcli.specs.Shelves.{anything};
+ghost use Rattle.bcli.specs.Shelves.{opened};
 
 use crate::fault_place::place_text;
 use crate::shelf::{FileFault, MemFile, Shelf, SystemFiles};
@@ -46,7 +46,7 @@ pub fn serve<R: AllocGlobal + Files, I: ByteIn, O: ByteOut, D: ByteOut>(
     out: &mut O,
     diag: &mut D,
 ) -> Status
-    ensures serves { Serves anything (map_each string_bytes words.now) (run_ends
+    ensures serves { Serves (opened R.File.remaining) (map_each string_bytes words.now) (run_ends
         (I.incoming input.old) (I.incoming input.new) (O.outgoing out.old) (O.outgoing out.new)
         (D.outgoing diag.old) (D.outgoing diag.new)) result }
     ensures input_lender { I.lender input.new ≡ I.lender input.old }

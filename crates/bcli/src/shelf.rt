@@ -1,6 +1,6 @@
 //! Files, by their names.
 ghost use Rattle.std.specs.Prelude.{◌≡◌, IfOk, IfErr};
-ghost use Rattle.bcli.specs.Shelves.{Holdings, IsWhole, anything, holding};
+ghost use Rattle.bcli.specs.Shelves.{Holdings, IsWhole, holding, opened};
 
 use std::alloc::Global;
 use std::fs::File;
@@ -32,21 +32,17 @@ pub trait Shelf {
             → Holdings.lacks (holdings self.now) name.now) };
 }
 
-/// The files of the system, of which nothing is known.
+/// The files of the system. No contract says what they hold, or which names they have.
 #[derive(Drop)]
 pub struct SystemFiles<'a, R> {
     pub rt: &'a R,
 }
 
 impl<R: AllocGlobal + Files> Shelf for SystemFiles<'_, R> {
-    ghost holdings = { λ _. anything };
+    ghost holdings = { λ _. opened R.File.remaining };
 
     /// All bytes of a file that was opened. No contract of the system says that it has this name.
-    fn read(&self, _alloc: Global, name: &str) -> Result<Vec<u8>, FileFault>
-        ensures text { IfOk result (λ text. Holdings.holds anything name.now text.items) }
-        ensures fault { IfErr result (λ fault. fault ≡ FileFault.Device → Holdings.lacks anything name.now) }
-        ensures whole { IfOk result (λ text. IsWhole R.File.remaining text.items) }
-    {
+    fn read(&self, _alloc: Global, name: &str) -> Result<Vec<u8>, FileFault> {
         match read_file(self.rt, name) {
             Ok(text) => Ok(text),
             Err(error) if error.kind() == ErrorKind::OutOfMemory => Err(FileFault::Memory),

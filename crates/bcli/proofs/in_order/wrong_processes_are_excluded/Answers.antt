@@ -2,4 +2,4 @@ use Rattle.bcli.proofs.Processes.{process_excluded}
 use Rattle.bcli.proofs.in_order.wrong_processes_are_excluded.Goals as goal
 
 pub returns : goal.returns
-returns c = process_excluded
+returns g c = process_excluded (g.S.Shelf.holdings c.args._shelf.now)
