@@ -3,11 +3,15 @@ use crate::gaps::{Gap, joins};
 use crate::kind::Kind;
 use crate::pieces::Piece;
 use crate::structure::{END, Spot, spots};
+use blang::MAX_NESTING;
 use btools::Text;
 use std::alloc::{AllocError, Global};
 
 /// How many blanks a level has.
 const LEVEL: usize = 4;
+
+/// How many levels are indented at most. A source of deeper levels of nesting doesn't compile.
+const DEEPEST: usize = MAX_NESTING;
 
 /// The pieces in the style of the house.
 pub(crate) fn lay_out(alloc: Global, pieces: &[Piece<'_>]) -> Result<Text, AllocError> {
@@ -162,6 +166,7 @@ impl Layout {
 
     fn end_line(&mut self, level: usize) -> Result<(), AllocError> {
         self.text.push(b"\n")?;
-        self.text.push_blanks(level.saturating_mul(LEVEL))
+        self.text
+            .push_blanks(level.min(DEEPEST).saturating_mul(LEVEL))
     }
 }
