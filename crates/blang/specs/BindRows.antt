@@ -1,6 +1,7 @@
 -- Closed facts: what each construct asks of its parts. The parts are an assignment, a conditional and a bitwise or,
 -- which ask for 9, 8 and 7: so each fact shows how loosely the operators of each part may bind.
 use Rattle.std.specs.Prelude.{◌≡◌, ◌≤◌, ◌++◌, ◌⊎◌, ℕ, List, [], ◌∷◌, map, true, false, Bool, codes, None, Some, refl}
+use Rattle.std.proofs.Common.{inl, inr}
 use Rattle.bword.specs.declared.operators.BinOp.TheVariants as op
 use Rattle.blang.specs.declared.token.Placed.{Placed}
 use Rattle.blang.specs.declared.token.Token.{Token}
@@ -193,6 +194,13 @@ stops_at_a_token : (d : Diagnostic) → StopsAt before (placed token.Comma 2) (S
     ≡ (BeginsProgram before × (BeginsProgram (before ++ token.Comma ∷ []) → ⊥)
     × (d ≡ record { letters = letters.Syntax; about = about.Nothing; line = 2 }))
 stops_at_a_token d = refl
+
+-- the a of `a;` is a part of a definition, and so is nothing
+a_part : IsPart before
+a_part = inr (Simple word [], token.Semicolon, [], tt, refl)
+
+no_part_yet : IsPart []
+no_part_yet = inl refl
 
 faults : map fault_at (placed (token.Bad letters.Constant) 2 ∷ placed token.End 3 ∷ [])
     ≡ record { letters = letters.Constant; about = about.Nothing; line = 2 }

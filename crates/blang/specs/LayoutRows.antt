@@ -170,6 +170,11 @@ order_1 : load_fault (simple (codes "main") (ival.Name (codes "g") ∷ []) [] �
     ≡ Some (fault.Duplicate (codes "main"))
 order_1 = refl
 
+-- v[32766]; v[32766];
+order_of_sizes : load_fault (vector (codes "v") 32767 [] [] ∷ vector (codes "v") 32767 [] [] ∷ main ∷ [])
+    ≡ Some (fault.Duplicate (codes "v"))
+order_of_sizes = refl
+
 -- v[32766] g; w[32766];
 order_2 : load_fault (vector (codes "v") 32767 (ival.Name (codes "g") ∷ []) [] ∷ vector (codes "w") 32767 [] [] ∷ [])
     ≡ Some fault.TooLarge

@@ -174,12 +174,12 @@ char_high : map (λ i. library Char (0 ∷ i ∷ []) (record world { store = 513
     ≡ map (λ c. Gives c (record world { store = 51328 ∷ [] })) (128 ∷ 200 ∷ [])
 char_high = refl
 
--- further arguments count for nothing
 -- around the greatest low byte
 bytes_of_characters : map character_bytes (0 ∷ 255 ∷ 256 ∷ 257 ∷ 511 ∷ 512 ∷ [])
     ≡ (0 ∷ []) ∷ (255 ∷ []) ∷ (1 ∷ 0 ∷ []) ∷ (1 ∷ 1 ∷ []) ∷ (1 ∷ 255 ∷ []) ∷ (2 ∷ 0 ∷ []) ∷ []
 bytes_of_characters = refl
 
+-- further arguments count for nothing
 putchar_extra : library Putchar (120 ∷ 121 ∷ []) world ≡ Gives 120 (record world { output = codes ".x" })
 putchar_extra = refl
 

@@ -12,7 +12,7 @@ use Rattle.blang.specs.Trees.{Stmts, Nothing, More, Definition, Ival_constant}
 use Rattle.blang.specs.declared.run.Trap.TheVariants.{ZeroDivisor, NotAFunction, NotALabel, NoRoom, TooDeep}
 use Rattle.blang.specs.Layout.{Ending, Exited, Trapped}
 use Rattle.blang.specs.Value.{Answer, Gives, Ends, Wants, is_true}
-use Rattle.blang.specs.Meaning.{meant}
+use Rattle.blang.specs.Meaning.{meant, IsBeginningOf}
 
 abbrev word : List ℕ → Identifier
 word x = record { text = x; line = 1 }
@@ -202,6 +202,17 @@ goes_to_each : map (λ x. (does (going_to x) [] 9).1)
     (codes "a" ∷ codes "b" ∷ codes "c" ∷ codes "d" ∷ codes "e" ∷ codes "f" ∷ codes "g" ∷ [])
     ≡ codes "1346" ∷ codes "1346" ∷ codes "246" ∷ codes "346" ∷ codes "46" ∷ codes "56" ∷ codes "6" ∷ []
 goes_to_each = refl
+
+-- main(){goto x; a: {putchar('1'); b: putchar('2'); if(0) c: putchar('3');}}: a label before others, and one in an if
+abbrev going_in : List ℕ → List Definition
+going_in x =
+    main (Goto (name x) ∷ label (codes "a")
+    (block (putchar (number 49) ∷ label (codes "b") (putchar (number 50)) ∷ If (number 0)
+    (label (codes "c") (putchar (number 51))) ∷ [])) ∷ []) ∷ []
+
+goes_in : map (λ x. (does (going_in x) [] 1).1) (codes "a" ∷ codes "b" ∷ codes "c" ∷ [])
+    ≡ codes "12" ∷ codes "2" ∷ codes "3" ∷ []
+goes_in = refl
 
 -- main(){goto 9;}, and f(l){goto l;} main(){f(x); x: ;}
 goes_nowhere : does (main (Goto (number 9) ∷ []) ∷ []) [] 0 ≡ (Some (Trapped NotALabel), [])
@@ -532,3 +543,10 @@ goes_on : map (λ s. does (main (While (number 1) (block (s ∷ putchar (number 
     ∷ Switch (number 1) (More Nothing (Break 1)) ∷ Switch (number 1) (More Nothing (case 1 (Break 1))) ∷ [])
     ≡ replicate 10 (Some (Exited 0), codes "xk")
 goes_on = refl
+
+-- "ab" begins with "a", and "a" doesn't begin with "ab"
+begins : IsBeginningOf (codes "a") (codes "ab")
+begins = (codes "b", refl)
+
+begins_not : IsBeginningOf (codes "ab") (codes "a") → ⊥
+begins_not b = let e : 97 ∷ 98 ∷ b.0 ≡ 97 ∷ [] = b.1 in cc

@@ -132,6 +132,14 @@ in_a_loop : after (record scope { loops = 1 }) (BreakHere 4 ∷ LoopEnds ∷ Loo
     ≡ Ok (record scope { loops = 1 }) ∷ Ok scope ∷ Ok (record scope { loops = 2 }) ∷ []
 in_a_loop = refl
 
+-- the end of one of two
+in_two_loops : after (record scope { loops = 2 }) (LoopEnds ∷ []) ≡ Ok (record scope { loops = 1 }) ∷ []
+in_two_loops = refl
+
+-- what a function begins with
+first_scope : no_scope ≡ record { names = []; frame = 0; labels = 0; switches = []; loops = 0; cases = 0 }
+first_scope = refl
+
 -- what can be stored to, and what can't
 abbrev one : Expr
 one = Literal (Number 1)

@@ -4,7 +4,7 @@ use Rattle.std.specs.Fmt.{digits}
 use Rattle.bword.specs.declared.edition.Edition.TheVariants as editions
 use Rattle.bword.specs.declared.operators.BinOp.TheVariants as op
 use Rattle.blang.specs.declared.code.Instr.{Instr}
-use Rattle.blang.specs.Text.{definition_text, code_lines, joined, instr_line, ival_line, target_line, string_line}
+use Rattle.blang.specs.Text.{definition_text, code_lines, joined, opening, instr_line, ival_line, target_line, string_line}
 use Rattle.blang.specs.declared.code.Definition.TheVariants as definition
 use Rattle.blang.specs.declared.code.Increment.TheVariants as increment
 use Rattle.blang.specs.declared.code.Instr.TheVariants as instr
@@ -73,6 +73,9 @@ empty = refl
 
 empty_in_two : joined (code_lines editions.Two []) ≡ codes "B 2\nE\n"
 empty_in_two = refl
+
+openings : map opening (editions.One ∷ editions.Two ∷ []) ≡ [] ∷ codes "B 2\n" ∷ []
+openings = refl
 
 -- without needless zeros
 numbers : map decimal (0 ∷ 7 ∷ 10 ∷ 100 ∷ 65535 ∷ []) ≡

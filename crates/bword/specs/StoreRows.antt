@@ -21,6 +21,10 @@ low_byte = refl
 high_byte : with_char words 2 1 321 ≡ 7 ∷ 8 ∷ 16737 ∷ 515 ∷ []
 high_byte = refl
 
+-- of a word whose bytes are both the greatest
+greatest_bytes : map (λ i. with_char (65535 ∷ []) 0 i 65) (0 ∷ 1 ∷ []) ≡ (65345 ∷ []) ∷ (16895 ∷ []) ∷ []
+greatest_bytes = refl
+
 after_the_last_word : with_char words 65535 3 321 ≡ 16647 ∷ 8 ∷ 25185 ∷ 515 ∷ []
 after_the_last_word = refl
 
