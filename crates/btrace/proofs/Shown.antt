@@ -271,6 +271,7 @@ module _ (legend : Legend) (which : Which) (first now : Paused) (made : ℕ) (i 
       took = took_before;
       shown = λ more can. are_shown legend first.image.functions which (steps_from first (t.goes.taken ++ more)) (made + 1) (with_row b rows made row) (all_after new b refl a more can);
       ends = ends;
+      left = λ e. absurd (read e);
       asks = λ e. absurd (read e);
     }
 
@@ -314,6 +315,7 @@ module _ (legend : Legend) (which : Which) (first now : Paused) (made : ℕ) (i 
       took = took_so;
       shown = λ more can. are_shown legend first.image.functions which (states_of more) made rows (t.shown more (can_come more can));
       ends = failed_by new b refl a;
+      left = λ e more can. ap (λ s. (state_world s).input) (there legend which first now made i j m rows row b is t more (can_come more can));
       asks = λ e more can. asked more can;
     }
 
@@ -397,6 +399,7 @@ all_show legend which first now made i j rows t heading u v holds text last end 
         refl,
         (record { call = now.call; below = now.below; world = world_with now.store more t.goes.output; state_is = there }, subst (λ (store : List ℕ). TellsPlace legend store (active_of now.call) now.below end.0) (sym (ap (λ s. (state_world s).store) there)) end.1),
       );
+  left = λ e. cc;
   asks = λ e. cc;
 }
 

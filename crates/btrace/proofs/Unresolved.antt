@@ -137,6 +137,7 @@ shows_run legend which ds image p loaded begins n i j r old new s =
       took = s.took;
       shown = λ more can. are_shown legend which (image_of ds) (machine ds (s.taken ++ more)) (steps_from p (s.taken ++ more)) (e (s.taken ++ more)) s.made s.rows (subst (λ (fns : List Loaded). AreShown legend fns which (steps_from p (s.taken ++ more)) s.made s.rows) same (s.shown more can));
       ends = λ more can. ends_same legend which (image_of ds) (machine ds (s.taken ++ more)) (steps_from p (s.taken ++ more)) (e (s.taken ++ more)) s.made n r s.ending (s.ends more can);
+      left = λ failed more can. sym (ap (λ (w : World). w.input) (world_same legend which (image_of ds) (machine ds (s.taken ++ more)) (steps_from p (s.taken ++ more)) (e (s.taken ++ more)) s.made)) ∙ s.left failed more can;
       asks = λ failed more can. asks_same legend which (image_of ds) (machine ds (s.taken ++ more)) (steps_from p (s.taken ++ more)) (e (s.taken ++ more)) s.made (s.asks failed more can);
     }
 

@@ -160,6 +160,8 @@ pub record ShowsRows (legend : Legend) (functions : List Loaded) (which : Which)
   pub took : Took i taken j
   pub shown : (more : List ℕ) → CanFollow j more → AreShown legend functions which (states (taken ++ more)) made rows
   pub ends : (more : List ℕ) → CanFollow j more → EndsAs legend which (states (taken ++ more)) made steps result ending
+  pub left : result ≡ outcome.Device → (more : List ℕ) → CanFollow j more
+      → (state_world (states (taken ++ more) made)).input ≡ more
   pub asks : result ≡ outcome.Device → (more : List ℕ) → CanFollow j more
       → AsksForByte (states (taken ++ more) made)
 
