@@ -3,9 +3,10 @@ use Rattle.std.proofs.Common.{◌≡◌, ℕ, ◌+◌, List, [], ◌∷◌, ◌+
 use Rattle.std.proofs.Math.Seq.{set-append_seam}
 use Rattle.blang.specs.declared.code.Instr.{Instr}
 use Rattle.blang.specs.declared.code.Instr.TheVariants as instr
-use Rattle.blang.specs.Trees.{Stmt, Headed, Compound, If, IfElse, While, Switch, Goto, Break, Return, ReturnValue, Evaluate, Empty, Stmts, Nothing, More}
-use Rattle.blang.specs.Code.{Environment, word_code, heading_code, fragment, body_fragment}
-use Rattle.bgrammar.proofs.CodeLaws.{statement_ends, body_ends}
+use Rattle.blang.specs.Trees.{Stmt, Stmts}
+use Rattle.blang.specs.Code.{Environment, Code, Segment, empty_segment, of_code, ◌▹◌, keeping_arms, heading_code, fragment, body_fragment}
+use Rattle.bgrammar.proofs.RowLaws.{arms_segment, KeptBySegments, by_segments, body_by_segments}
+use Rattle.bgrammar.proofs.CodeLaws.{Ends, Anything, ends, ends_then}
 use Rattle.bemit.specs.Drafts.{led}
 
 -- Where the jumps at these places lead there, the first code, which stands at p, is the second.
@@ -54,47 +55,67 @@ pub fills_whole : {out p : ℕ} {places : List ℕ} {c c2 : List Instr} (before 
 fills_whole {out = out} {places = places} {c = c} {c2 = c2} before f l =
     ap (λ x. led out places (before ++ x)) (sym (append-nil c)) ∙ f.within before [] l ∙ ap (λ x. before ++ x) (append-nil c2)
 
-module _ (names : Environment) where
-  -- the places of the breaks that lead out
-  abbrev mutual
-    pub statement_breaks : Stmt → ℕ → List ℕ
-    statement_breaks (Headed h s) p = statement_breaks s (p + length (heading_code names h))
-    statement_breaks (Compound body) p = body_breaks body p
-    statement_breaks (If e s) p = statement_breaks s (p + length (word_code names e p) + 1)
-    statement_breaks (IfElse e s other) p =
-        let q = p + length (word_code names e p) + 1 in
-        statement_breaks s q ++ statement_breaks other ((fragment names s q).end + 1)
-    statement_breaks (Break line) p = p ∷ []
-    statement_breaks _ p = []
+-- where its open breaks are; filled with out, they lead out
+pub record Closing (f : Segment) : Type 0 where
+  pub known : Ends f
+  pub breaks : ℕ → List ℕ
+  pub fills : (p out : ℕ) → Fills out p (breaks p) ((f p).code 0) ((f p).code out)
 
-    pub body_breaks : Stmts → ℕ → List ℕ
-    body_breaks Nothing p = []
-    body_breaks (More before s) p = body_breaks before p ++ statement_breaks s ((body_fragment names before p).end)
+abbrev unbroken : {c : Code} → Ends (of_code c) → Closing (of_code c)
+unbroken {c = c} h = record { known = h; breaks = λ p. []; fills = λ p out. fills_none out p (c p) }
 
-  -- filled with out, the open breaks of a statement's code lead out
-  mutual
-    pub statement_closes : (s : Stmt) (p out : ℕ) → Fills out p (statement_breaks s p) ((fragment names s p).code 0) ((fragment names s p).code out)
-    statement_closes (Headed h s) p out = fills_after (heading_code names h) refl (statement_closes s (p + length (heading_code names h)) out)
-    statement_closes (Compound body) p out = body_closes body p out
-    statement_closes (If e s) p out =
-        let q = p + length (word_code names e p) + 1 in
-        fills_after (word_code names e p) refl (fills_after (instr.JumpIfZero ((fragment names s q).end) ∷ []) refl (statement_closes s q out))
-    statement_closes (IfElse e s other) p out =
-        let q = p + length (word_code names e p) + 1 in
-        let a = (fragment names s q).end + 1 in
-        let jump = instr.Jump ((fragment names other a).end) ∷ [] in
-        fills_after (word_code names e p) refl
-        (fills_after (instr.JumpIfZero a ∷ []) refl
-        (fills_both (statement_ends names s q out) (statement_closes s q out) (fills_after jump refl (statement_closes other a out))))
-    statement_closes (Break line) p out = fills_one out p
-    statement_closes (While e s) p out = fills_none out p ((fragment names (While e s) p).code 0)
-    statement_closes (Switch e body) p out = fills_none out p ((fragment names (Switch e body) p).code 0)
-    statement_closes (Goto e) p out = fills_none out p ((fragment names (Goto e) p).code 0)
-    statement_closes Return p out = fills_none out p ((fragment names Return p).code 0)
-    statement_closes (ReturnValue e) p out = fills_none out p ((fragment names (ReturnValue e) p).code 0)
-    statement_closes (Evaluate e) p out = fills_none out p ((fragment names (Evaluate e) p).code 0)
-    statement_closes Empty p out = fills_none out p []
+abbrev closing_then : {f g : Segment} → Closing f → Closing g → Closing (f ▹ g)
+closing_then {f = f} x y = record {
+  known = ends_then x.known y.known;
+  breaks = λ p. x.breaks p ++ y.breaks ((f p).end);
+  fills = λ p out. fills_both (x.known.at p out) (x.fills p out) (y.fills ((f p).end) out);
+}
 
-    pub body_closes : (ss : Stmts) (p out : ℕ) → Fills out p (body_breaks ss p) ((body_fragment names ss p).code 0) ((body_fragment names ss p).code out)
-    body_closes Nothing p out = fills_none out p []
-    body_closes (More before s) p out = fills_both (body_ends names before p out) (body_closes before p out) (statement_closes s ((body_fragment names before p).end) out)
+abbrev keeping : {f : Segment} → Closing f → Closing (keeping_arms f)
+keeping x = record { known = record { at = x.known.at }; breaks = x.breaks; fills = x.fills }
+
+-- a segment that is another one at each place
+abbrev everywhere : {f : ℕ → Segment} → ((p : ℕ) → Closing (f p)) → Closing (λ p. f p p)
+everywhere x = record {
+  known = record { at = λ p. (x p).known.at p };
+  breaks = λ p. (x p).breaks p;
+  fills = λ p. (x p).fills p;
+}
+
+abbrev closes : (names : Environment) → KeptBySegments names names Anything Anything (λ w f g. Closing f)
+closes names =
+    let k = ends names in
+    record {
+      known = λ s. tt;
+      none = record { known = k.none; breaks = λ p. []; fills = λ p out. fills_none out p [] };
+      lone = λ i. unbroken (k.lone i);
+      returns = unbroken k.returns;
+      jumps = λ there m. unbroken (k.jumps there m);
+      jumps_if_zero = λ there m. unbroken (k.jumps_if_zero there m);
+      leaves = record { known = k.leaves; breaks = λ p. p ∷ []; fills = λ p out. fills_one out p };
+      value = λ e. unbroken (k.value e);
+      heads = λ h. record { known = k.heads h; breaks = λ p. []; fills = λ p out. fills_none out p (heading_code names h) };
+      quiet = λ q x. x;
+      after = λ q x. x;
+      before = λ q x. x;
+      inside = λ q x. x;
+      then_ = λ x y. closing_then x y;
+      coded = λ x y. closing_then x y;
+      ended = λ x y. let z = closing_then x y in record { known = record { at = z.known.at }; breaks = z.breaks; fills = z.fills };
+      leads = λ {w} {f} there m x. record { known = record { at = λ p out. x.known.at p there }; breaks = λ p. []; fills = λ p out. fills_none out p ((f p).code there) };
+      whole = λ {w} {f} x l same. everywhere (λ p. x p ((f 0 0 p).end) tt tt);
+      halved = λ {w} {u} {f} {f2} {g} x y l n same. everywhere (λ p. let middle = (f 0 0 empty_segment p).end in x middle ((g middle).end) tt tt u g g y);
+      chosen = λ {w} {f} x l same. everywhere (λ p. let a = f 0 0 empty_segment p in keeping (x a.end ((arms_segment a a.end).end) tt tt (arms_segment a) (arms_segment a) (unbroken (record { at = λ q out. refl }))));
+    }
+
+abbrev pub statement_breaks : Environment → Stmt → ℕ → List ℕ
+statement_breaks names s = (by_segments (closes names) s).breaks
+
+abbrev pub body_breaks : Environment → Stmts → ℕ → List ℕ
+body_breaks names ss = (body_by_segments (closes names) ss).breaks
+
+pub statement_closes : (names : Environment) (s : Stmt) (p out : ℕ) → Fills out p (statement_breaks names s p) ((fragment names s p).code 0) ((fragment names s p).code out)
+statement_closes names s = (by_segments (closes names) s).fills
+
+pub body_closes : (names : Environment) (ss : Stmts) (p out : ℕ) → Fills out p (body_breaks names ss p) ((body_fragment names ss p).code 0) ((body_fragment names ss p).code out)
+body_closes names ss = (body_by_segments (closes names) ss).fills

@@ -35,7 +35,7 @@ use Rattle.bcodegen.proofs.StatementMakes.{done_makes}
 use Rattle.bcodegen.proofs.Numbered.{renumbered, names_renumbered, numbered_fragment, fragment_numbered}
 use Rattle.bgrammar.proofs.WalkLaws.{function_events_are}
 
-faulty_is : (r : Draft) (f : Diagnostic) → scope_of r ≡ Err f → r ≡ Faulty f
+pub faulty_is : (r : Draft) (f : Diagnostic) → scope_of r ≡ Err f → r ≡ Faulty f
 faulty_is (Faulty g) f h = let e : g ≡ f = cc in ap (λ x. Faulty x) e
 faulty_is (Going s made) f h = cc
 
@@ -51,13 +51,13 @@ valued_is v v2 s m e =
     (smaller _ _ m (record m { values = m.values ++ v2 ∷ [] }) (le_refl _) (le_refl _) (le_refl _) (omega (arith, length-append m.values (v2 ∷ []))))
     (λ r. ap (λ x. within_room (record m { values = m.values ++ x ∷ [] })) (e r) ∙ sym (kept_within s.frame (record m { values = m.values ++ v2 ∷ [] }) r.frame_fits))
 
-abbrev more : Made → List coded_value.Ival → List ℕ → Made
+abbrev pub more : Made → List coded_value.Ival → List ℕ → Made
 more m values strings = record m { values = m.values ++ values; strings = m.strings ++ strings }
 
 no_strings : (m : Made) (v : coded_value.Ival) → record m { values = m.values ++ v ∷ [] } ≡ more m (v ∷ []) []
 no_strings m v = λ i. record m { values = m.values ++ v ∷ []; strings = sym (append-nil m.strings) i }
 
-ival_is : (x : Ival) (before : List Ival) (s : Scope) (m : Made) → IvalFits before x → length m.strings ≡ values_words before → ival_done (drafted s m) x ≡ drafted s (more m (ival_code x ∷ []) (ival_strings x))
+pub ival_is : (x : Ival) (before : List Ival) (s : Scope) (m : Made) → IvalFits before x → length m.strings ≡ values_words before → ival_done (drafted s m) x ≡ drafted s (more m (ival_code x ∷ []) (ival_strings x))
 ival_is (Ival_constant c) before s m h l = valued_is _ _ s m (λ r. refl) ∙ ap (drafted s) (no_strings m _)
 ival_is (Ival_name w) before s m h l = valued_is _ _ s m (λ r. refl) ∙ ap (drafted s) (no_strings m _)
 ival_is (Ival_text bytes offset) before s m h l =
@@ -66,13 +66,13 @@ ival_is (Ival_text bytes offset) before s m h l =
     ap (valued (ival.Text (offset_of (drafted s m)))) (changed _ s m m1 less (λ r. sym (kept_within s.frame m1 r.frame_fits)))
     ∙ valued_is (ival.Text (offset_of (drafted s m))) (ival.Text offset) s m1 (λ r. ap (λ n. ival.Text n) (offset_is s m (less r) ∙ l ∙ sym h))
 
-ival_length : (x : Ival) → length (ival_strings x) ≡ ival_words x
+pub ival_length : (x : Ival) → length (ival_strings x) ≡ ival_words x
 ival_length x = length-strings (walk_value x)
 
 more_more : (m : Made) (vs us : List coded_value.Ival) (ss ts : List ℕ) → more (more m vs ss) us ts ≡ more m (vs ++ us) (ss ++ ts)
 more_more m vs us ss ts = λ i. record m { values = append_assoc m.values vs us i; strings = append_assoc m.strings ss ts i }
 
-values_are : (values before : List Ival) (s : Scope) (m : Made) → EachAfter IvalFits before values → length m.strings ≡ values_words before → values_done values (drafted s m) ≡ drafted s (more m (map ival_code values) (flat_map ival_strings values))
+pub values_are : (values before : List Ival) (s : Scope) (m : Made) → EachAfter IvalFits before values → length m.strings ≡ values_words before → values_done values (drafted s m) ≡ drafted s (more m (map ival_code values) (flat_map ival_strings values))
 values_are [] before s m h l = ap (drafted s) (λ i. record m { values = sym (append-nil m.values) i; strings = sym (append-nil m.strings) i })
 values_are (x ∷ xs) before s m h l =
     let m1 = more m (ival_code x ∷ []) (ival_strings x) in
@@ -130,10 +130,10 @@ function_fits frame m c l v = go (nat_le (length m.code) 4096) (nat_le (length m
     go false b false p q t = rw (l, v, p, t) refl
 
 -- a function
-abbrev function_parts : Environment → Stmt → Parts
+abbrev pub function_parts : Environment → Stmt → Parts
 function_parts names body = ending (ending (joined no_parts (statement_parts names body)) (λ p. instr.Constant 0)) (λ p. instr.Return)
 
-function_makes : (names : Environment) (w : Identifier) (parameters : List Identifier) (body : Stmt) → Sits body MAX_NESTING 0 → Makes names (definition_done (Function w parameters body)) (function_events parameters body) MAX_NESTING 0 (function_parts names body)
+pub function_makes : (names : Environment) (w : Identifier) (parameters : List Identifier) (body : Stmt) → Sits body MAX_NESTING 0 → Makes names (definition_done (Function w parameters body)) (function_events parameters body) MAX_NESTING 0 (function_parts names body)
 function_makes names w parameters body sits =
     subst (λ es. Makes names (definition_done (Function w parameters body)) es MAX_NESTING 0 (function_parts names body)) (sym (function_events_are parameters body))
     (emits instr.Return (emits (instr.Constant 0) (then_ (parameters_make parameters) (done_makes names body MAX_NESTING 0 sits) refl)))
@@ -250,7 +250,7 @@ comes (Vector w size values) formed =
 comes (Function w parameters body) formed = function_comes w parameters body (formed_in (Function w parameters body) formed)
 
 -- a first fault stays
-stays : (d : Definition) (f : Diagnostic) → IsFormed d → scope_of (definition_done d (Faulty f)) ≡ Err f
+pub stays : (d : Definition) (f : Diagnostic) → IsFormed d → scope_of (definition_done d (Faulty f)) ≡ Err f
 stays (Simple w values) f formed = values_scope values (Faulty f)
 stays (Vector w size values) f formed = worded_scope (vector_words size values) (values_done values (Faulty f)) ∙ values_scope values (Faulty f)
 stays (Function w parameters body) f formed = (function_makes (environment_of []) w parameters body (formed_in (Function w parameters body) formed)).scans (Faulty f) tt ∙ scanned-Err (function_events parameters body) f

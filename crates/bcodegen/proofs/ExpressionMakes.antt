@@ -31,13 +31,13 @@ after_some xs ys h = omega (arith, length-append xs ys, h)
 pub expression_words : (e : Expr) (off : ℕ) → off + words e ≡ off + length (strings e)
 expression_words e off = ap (λ n. off + n) (sym (length-strings (walk e)))
 
-arguments_words : (args : Arguments) (off : ℕ) → off + argument_words args ≡ off + length (argument_strings args)
+pub arguments_words : (args : Arguments) (off : ℕ) → off + argument_words args ≡ off + length (argument_strings args)
 arguments_words args off = ap (λ n. off + n) (sym (length-strings (walk_arguments args)))
 
-called_strings : (e : Expr) (args : Arguments) → strings e ++ argument_strings args ≡ strings (Called e args)
+pub called_strings : (e : Expr) (args : Arguments) → strings e ++ argument_strings args ≡ strings (Called e args)
 called_strings e args = ap (λ l. l ++ argument_strings args) (sym (callee_as strings_in (λ w a b. refl) e)) ∙ ap (λ l. strings_in (callee e (walk e)) ++ l) (sym (append-nil (argument_strings args)))
 
-another_strings : (before : Arguments) (e : Expr) → argument_strings before ++ strings e ≡ argument_strings (Another before e)
+pub another_strings : (before : Arguments) (e : Expr) → argument_strings before ++ strings e ≡ argument_strings (Another before e)
 another_strings before e = ap (λ l. argument_strings before ++ (l ++ strings e)) (sym (plain_strings (comma_before_next before) (comma_plain before)))
 
 module _ (names : Environment) where
@@ -145,7 +145,7 @@ module _ (names : Environment) where
         (rescanned (append_assoc (events e) (LvalueWanted line e ∷ []) (events f) ∙ ap (λ l. events e ++ LvalueWanted line e ∷ l) (ended (events f)))
         (emits (assignment op) (then_ (checked_makes e line (held_makes e false 0 k off room h.1)) (evaluated_by f (held_makes f false rvalue_rank i.0 (off + words e) room i.1)) (expression_words e off))))
 
-    passed_makes : (args : Arguments) (k off room : ℕ) → ArgumentsFit args k off → Makes names (passed args) (argument_events args) room off (only (argument_code names args) (argument_strings args))
+    pub passed_makes : (args : Arguments) (k off room : ℕ) → ArgumentsFit args k off → Makes names (passed args) (argument_events args) room off (only (argument_code names args) (argument_strings args))
     passed_makes No_arguments k off room h = idle
     passed_makes (Another before e) k off room h =
         retold (only (argument_code names (Another before e)) (argument_strings (Another before e))) (λ p. record { code = refl; strings = another_strings before e; targets = refl; arms = refl; breaks = refl })

@@ -1,5 +1,5 @@
 -- One pass over an expression makes its code.
-use Rattle.std.proofs.Common.{◌≡◌, ℕ, ◌+◌, Bool, true, false, List, [], ◌∷◌, ◌++◌, length, Option, Some, Result, Ok, Err, refl, sym, ap, ◌∙◌, subst, arith, le_refl, append_assoc, append-nil, length-append}
+use Rattle.std.proofs.Common.{◌≡◌, ℕ, ◌+◌, Bool, true, false, List, [], ◌∷◌, ◌++◌, length, Option, Some, None, Result, Ok, Err, refl, sym, ap, ◌∙◌, subst, arith, le_refl, append_assoc, append-nil, length-append}
 use Rattle.blang.specs.declared.token.Diagnostic.{Diagnostic}
 use Rattle.bword.specs.declared.operators.BinOp.TheVariants as op
 use Rattle.blang.specs.declared.code.Instr.{Instr}
@@ -53,7 +53,7 @@ held_code names (Indexed e f) p = address_code names (Indexed e f) p
 held_code names (Prefixed Indirection line e) p = word_code names e p
 held_code names e p = word_code names e p
 
-abbrev load_code : Form → List Instr
+abbrev pub load_code : Form → List Instr
 load_code Place = instr.Load ∷ []
 load_code Lone = []
 load_code Joined = []
@@ -69,7 +69,7 @@ name_is_held x Outside = refl
 name_is_held x (At_label k) = refl
 
 -- the word is what is held, loaded
-word_is_held : (names : Environment) (e : Expr) (p : ℕ) → word_code names e p ≡ held_code names e p ++ load_code (form_by names e)
+pub word_is_held : (names : Environment) (e : Expr) (p : ℕ) → word_code names e p ≡ held_code names e p ++ load_code (form_by names e)
 word_is_held names (Named w) p = name_is_held w.text (names w.text)
 word_is_held names (Literal c) p = refl
 word_is_held names (Text bytes offset) p = refl
@@ -86,7 +86,7 @@ grouped_place Place h = refl
 grouped_place Lone h = cc
 grouped_place Joined h = cc
 
-address_is_held : (names : Environment) (e : Expr) (p : ℕ) → form_by names e ≡ Place → address_code names e p ≡ held_code names e p
+pub address_is_held : (names : Environment) (e : Expr) (p : ℕ) → form_by names e ≡ Place → address_code names e p ≡ held_code names e p
 address_is_held names (Named w) p h = refl
 address_is_held names (Grouped e) p h = address_is_held names e p (grouped_place _ h)
 address_is_held names (Indexed e f) p h = refl
@@ -275,6 +275,14 @@ place_form : (f : Form) → is_place_form f ≡ true → f ≡ Place
 place_form Place h = refl
 place_form Lone h = cc
 place_form Joined h = cc
+
+-- what an operator wants is a place
+pub wanted_place : (names : Environment) (e : Expr) (line : ℕ) (s s3 : Scope) → scanned (events_of false e ++ LvalueWanted line e ∷ []) (Ok s) ≡ Ok s3 → Agrees names s3.names → form_by names e ≡ Place
+wanted_place names e line s s3 h agree =
+    let t = scanned_twice (events_of false e) (LvalueWanted line e ∷ []) s s3 h in
+    let c = check_is e line t.0 s3 t.2 in
+    let r = rooted e false s t.0 t.1 in
+    sym (form_is names e t.0 None r (subst (λ (u : Scope). Agrees names u.names) c.same agree)) ∙ place_form _ (lvalue_is e t.0 None r ∙ c.lvalue)
 
 -- an lvalue that an operator wants
 pub checked_makes : {names : Environment} {room off : ℕ} (e : Expr) (line : ℕ) → Makes names (held false e) (events_of false e) room off (only (held_code names e) (strings e))

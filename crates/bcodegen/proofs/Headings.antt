@@ -84,7 +84,7 @@ autos_make {names = names} {off = off} (x ∷ ds) =
     retold (only (λ p. flat_map (λ d. vector_code names (names d.word.text) d.size) (x ∷ ds)) []) (λ p. record { code = refl; strings = refl; targets = refl; arms = refl; breaks = refl })
     (then_ (declared_makes x.word x.size) (autos_make ds) (sym (add-zero off)))
 
-no_vector : (names : Environment) (m : Referent) → vector_code names m None ≡ []
+pub no_vector : (names : Environment) (m : Referent) → vector_code names m None ≡ []
 no_vector names (In_frame k) = refl
 no_vector names Outside = refl
 no_vector names (At_label k) = refl

@@ -20,11 +20,11 @@ use Rattle.bcodegen.proofs.Closing.{closed, break_at}
 use Rattle.bcodegen.proofs.Expressions.{only, stepped_is}
 use Rattle.bcodegen.proofs.Trees.{statement_parts}
 
-abbrev within : Scope → Scope
+abbrev pub within : Scope → Scope
 within s = record s { loops = s.loops + 1 }
 
 -- where there is room for one loop more
-begun_is : (s : Scope) (m : Made) → suc s.loops ≤ most_loops → loop_begun (drafted s m) ≡ drafted (within s) m
+pub begun_is : (s : Scope) (m : Made) → suc s.loops ≤ most_loops → loop_begun (drafted s m) ≡ drafted (within s) m
 begun_is s m le = rw (lt-ltb s.loops most_loops le) refl
 
 begun_scope : (room : ℕ) (d : Draft) → Nested (suc room) (scope_of d) → scope_of (loop_begun d) ≡ scanned (LoopBegins ∷ []) (scope_of d)

@@ -8,9 +8,11 @@ use Rattle.bword.specs.declared.operators.BinOp.{BinOp}
 use Rattle.bword.specs.declared.operators.BinOp.TheVariants as op
 use Rattle.blang.specs.declared.code.Instr.{Instr}
 use Rattle.blang.specs.declared.code.Instr.TheVariants as instr
-use Rattle.blang.specs.Trees.{Expr, Arguments, Negate, Not, Indirection, Address, PreIncrement, PreDecrement, PostIncrement, PostDecrement, Named, Literal, Text, Grouped, Indexed, Called, Postfixed, Prefixed, Binary, Conditional, Assigned, No_arguments, Another, Declared, Heading, Auto, Extrn, Label, Case, Default, Stmt, Headed, Compound, If, IfElse, While, Switch, Goto, Break, Return, ReturnValue, Evaluate, Empty, Stmts, Nothing, More}
+use Rattle.blang.specs.Trees.{Expr, Arguments, Negate, Not, Indirection, Address, PreIncrement, PreDecrement, PostIncrement, PostDecrement, Named, Literal, Text, Grouped, Indexed, Called, Postfixed, Prefixed, Binary, Conditional, Assigned, No_arguments, Another, Declared, Heading, Auto, Extrn, Label, Case, Default, Stmt, Stmts}
 use Rattle.blang.specs.Scan.{Entry, NameKind, Automatic, External, Unlabelled, Labelled, kind_of, undefined, undefined_at}
-use Rattle.blang.specs.Code.{Environment, Referent, In_frame, Outside, At_label, environment_of, referent_of, name_address_code, name_word_code, word_code, address_code, argument_code, argument_count, assignment, vector_code, Arms, default_in, tests_code, default_code, arms_code, heading_code, heading_targets, Fragment, without_targets, in_turn, heading_fragment, word_then, fragment, body_fragment}
+use Rattle.blang.specs.Code.{Environment, Referent, In_frame, Outside, At_label, environment_of, referent_of, name_address_code, name_word_code, word_code, address_code, argument_code, argument_count, assignment, vector_code, Arms, default_in, tests_code, default_code, arms_code, heading_code, heading_targets, no_targets, Code, Fragment, Segment, empty_segment, of_code, put, ◌▹◌, keeping_arms, row, halves, heading_fragment, fragment, body_fragment}
+use Rattle.bgrammar.proofs.RowLaws.{IsLone, Goes, Returns, Drops, arms_segment, KeptBySegments, by_segments, body_by_segments}
+use Rattle.bgrammar.proofs.CodeLaws.{Anything}
 use Rattle.bemit.specs.Drafts.{entry_of, kind_number, label_number, numbered}
 use Rattle.bcodegen.proofs.Jumps.{ways_code}
 use Rattle.bcodegen.proofs.Names.{standing_of, names_by, is, kind_here, kind_there, position_here, position_there}
@@ -85,7 +87,7 @@ module _ (es : List Entry) (names names2 : Environment) (renamed : (x : List ℕ
   word_name x Outside = refl
   word_name x (At_label k) = refl
 
-  vector_name : (m : Referent) (size : Option ℕ) → map (numbered es) (vector_code names m size) ≡ vector_code names2 (renumbered es m) size
+  pub vector_name : (m : Referent) (size : Option ℕ) → map (numbered es) (vector_code names m size) ≡ vector_code names2 (renumbered es m) size
   vector_name (In_frame k) None = refl
   vector_name (In_frame k) (Some c) = refl
   vector_name Outside None = refl
@@ -97,7 +99,7 @@ module _ (es : List Entry) (names names2 : Environment) (renamed : (x : List ℕ
   assignment_same None = refl
   assignment_same (Some op) = refl
 
-  same_length : (c c2 : List Instr) → map (numbered es) c ≡ c2 → length c ≡ length c2
+  pub same_length : (c c2 : List Instr) → map (numbered es) c ≡ c2 → length c ≡ length c2
   same_length c c2 h = sym (length-map c (numbered es)) ∙ ap length h
 
   -- code, and what stands after it
@@ -156,7 +158,7 @@ module _ (es : List Entry) (names names2 : Environment) (renamed : (x : List ℕ
         after_numbered (address_code names e p) (address_code names2 e p) (λ q. word_code names g q ++ (assignment op ∷ [])) (λ q. word_code names2 g q ++ (assignment op ∷ [])) p (address_numbered e p)
         (λ q. tail_numbered _ _ _ (word_numbered g q) ∙ ap (λ i. word_code names2 g q ++ (i ∷ [])) (assignment_same op))
 
-    address_numbered : (e : Expr) (p : ℕ) → map (numbered es) (address_code names e p) ≡ address_code names2 e p
+    pub address_numbered : (e : Expr) (p : ℕ) → map (numbered es) (address_code names e p) ≡ address_code names2 e p
     address_numbered (Named w) p = ap (λ i. i ∷ []) (address_name w.text (names w.text)) ∙ ap (λ m. name_address_code m w.text ∷ []) (renamed w.text)
     address_numbered (Grouped e) p = address_numbered e p
     address_numbered (Prefixed Indirection line e) p = word_numbered e p
@@ -165,7 +167,7 @@ module _ (es : List Entry) (names names2 : Environment) (renamed : (x : List ℕ
         (λ q. tail_numbered _ _ _ (word_numbered g q))
     address_numbered e p = refl
 
-    arguments_numbered : (args : Arguments) (p : ℕ) → map (numbered es) (argument_code names args p) ≡ argument_code names2 args p
+    pub arguments_numbered : (args : Arguments) (p : ℕ) → map (numbered es) (argument_code names args p) ≡ argument_code names2 args p
     arguments_numbered No_arguments p = refl
     arguments_numbered (Another before e) p =
         after_numbered (argument_code names before p) (argument_code names2 before p) (word_code names e) (word_code names2 e) p (arguments_numbered before p) (λ q. word_numbered e q)
@@ -176,101 +178,97 @@ module _ (es : List Entry) (names names2 : Environment) (renamed : (x : List ℕ
       tail_numbered _ _ _ (vector_name (names d.word.text) d.size ∙ ap (λ m. vector_code names2 m d.size) (renamed d.word.text))
       ∙ ap (λ l. vector_code names2 (names2 d.word.text) d.size ++ l) (vectors_numbered ds)
 
-  heading_numbered : (h : Heading) → map (numbered es) (heading_code names h) ≡ heading_code names2 h
+  pub heading_numbered : (h : Heading) → map (numbered es) (heading_code names h) ≡ heading_code names2 h
   heading_numbered (Auto ds) = vectors_numbered ds
   heading_numbered (Extrn ws) = refl
   heading_numbered (Label w) = refl
   heading_numbered (Case line c) = refl
   heading_numbered (Default line) = refl
 
-  heading_length : (h : Heading) → length (heading_code names h) ≡ length (heading_code names2 h)
-  heading_length h = same_length _ _ (heading_numbered h)
-
-  word_length : (e : Expr) (p : ℕ) → length (word_code names e p) ≡ length (word_code names2 e p)
-  word_length e p = same_length _ _ (word_numbered e p)
-
+  -- a fragment, with its labels by their numbers
   abbrev pub numbered_fragment : Fragment → Fragment
   numbered_fragment a = record a { code = λ out. map (numbered es) (a.code out) }
 
-  -- a fragment, and what stands after it
-  followed_numbered : (a a2 : Fragment) (b b2 : ℕ → Fragment) → numbered_fragment a ≡ a2 → ((q : ℕ) → numbered_fragment (b q) ≡ b2 q) → numbered_fragment (in_turn a (b a.end)) ≡ in_turn a2 (b2 a2.end)
-  followed_numbered a a2 b b2 h k =
-      (λ i. record (in_turn a (b a.end)) { code = λ out. map-append (numbered es) (a.code out) ((b a.end).code out) i })
-      ∙ ap (in_turn (numbered_fragment a)) (k a.end)
-      ∙ ap (λ x. in_turn x (b2 x.end)) h
+  -- a segment becomes the other one
+  pub record Becomes (f f2 : Segment) : Type 0 where
+    pub at : (p : ℕ) → numbered_fragment (f p) ≡ f2 p
 
-  -- an expression, and what stands an instruction after it
-  abbrev tested_fragment : List Instr → Fragment → Fragment
-  tested_fragment c a = record a { code = λ out. c ++ a.code out }
+  segment_becomes : {c c2 : Code} → ((p : ℕ) → map (numbered es) (c p) ≡ c2 p) → Becomes (of_code c) (of_code c2)
+  segment_becomes {c = c} {c2 = c2} h = record { at = λ p i. record { code = λ out. h p i; end = p + same_length (c p) (c2 p) (h p) i; targets = no_targets } }
 
-  tested_numbered : (e : Expr) (p : ℕ) (b b2 : ℕ → Fragment) → ((q : ℕ) → numbered_fragment (b q) ≡ b2 q) → numbered_fragment (tested_fragment (word_code names e p) (b (p + length (word_code names e p) + 1))) ≡ tested_fragment (word_code names2 e p) (b2 (p + length (word_code names2 e p) + 1))
-  tested_numbered e p b b2 h =
-      let c = word_code names e p in
-      let q = p + length c + 1 in
-      (λ i. record (b q) { code = λ out. map-append (numbered es) c ((b q).code out) i })
-      ∙ ap (tested_fragment (map (numbered es) c)) (h q)
-      ∙ ap₂ (λ n l. tested_fragment l (b2 (p + n + 1))) (word_length e p) (word_numbered e p)
+  lone_becomes : {i : Instr} → IsLone i → Becomes (of_code (put i)) (of_code (put i))
+  lone_becomes Goes = record { at = λ p. refl }
+  lone_becomes Returns = record { at = λ p. refl }
+  lone_becomes Drops = record { at = λ p. refl }
 
-  word_then_numbered : (e : Expr) (i : Instr) (p : ℕ) → numbered es i ≡ i → numbered_fragment (word_then names e i p) ≡ word_then names2 e i p
-  word_then_numbered e i p h =
-      λ k. without_targets (λ out. (tail_numbered (word_code names e p) (word_code names2 e p) (i ∷ []) (word_numbered e p) ∙ ap (λ j. word_code names2 e p ++ j ∷ []) h) k) (p + word_length e p k + 1)
+  heads_become : (h : Heading) → Becomes (heading_fragment names h) (heading_fragment names2 h)
+  heads_become h = record { at = λ p. ap {A = Fragment} {B = Fragment} (λ a. record a { targets = heading_targets h p }) ((segment_becomes (λ q. heading_numbered h)).at p) }
 
-  abbrev skip_fragment : Fragment → Fragment
-  skip_fragment a = record a { code = λ out. instr.JumpIfZero a.end ∷ a.code out }
+  then_become : {f f2 g g2 : Segment} → Becomes f f2 → Becomes g g2 → Becomes (f ▹ g) (f2 ▹ g2)
+  then_become {f = f} {f2 = f2} {g = g} {g2 = g2} x y = record {
+    at = λ p.
+        let a = f p in
+        let b = g a.end in
+        (λ i. record ((f ▹ g) p) { code = λ out. map-append (numbered es) (a.code out) (b.code out) i })
+        ∙ ap (λ b. ((λ q. numbered_fragment a) ▹ (λ q. b)) p) (y.at a.end)
+        ∙ ap (λ a. ((λ q. a) ▹ g2) p) (x.at p);
+  }
 
-  abbrev ways_fragment : Fragment → Fragment → Fragment
-  ways_fragment a b = record (in_turn a b) { code = λ out. instr.JumpIfZero (a.end + 1) ∷ (a.code out ++ (instr.Jump b.end ∷ b.code out)) }
+  end_same : {f f2 : Segment} → Becomes f f2 → (p : ℕ) → (f p).end ≡ (f2 p).end
+  end_same x p = ap (λ (a : Fragment). a.end) (x.at p)
 
-  both_numbered : (a a2 : Fragment) (b b2 : ℕ → Fragment) → numbered_fragment a ≡ a2 → ((q : ℕ) → numbered_fragment (b q) ≡ b2 q) → numbered_fragment (ways_fragment a (b (a.end + 1))) ≡ ways_fragment a2 (b2 (a2.end + 1))
-  both_numbered a a2 b b2 h k =
-      let after = b (a.end + 1) in
-      (λ i. record (in_turn a after) { code = λ out. instr.JumpIfZero (a.end + 1) ∷ map-append (numbered es) (a.code out) (instr.Jump after.end ∷ after.code out) i })
-      ∙ ap (ways_fragment (numbered_fragment a)) (k (a.end + 1))
-      ∙ ap (λ x. ways_fragment x (b2 (x.end + 1))) h
+  abbrev Halves : Type 0
+  Halves = (middle after : ℕ) → Segment → Segment
 
-  abbrev loop_fragment : ℕ → Fragment → Fragment
-  loop_fragment p a = record a { code = λ out. instr.JumpIfZero (a.end + 1) ∷ (a.code (a.end + 1) ++ (instr.Jump p ∷ [])); end = a.end + 1 }
+  rows_become : {f f2 : ℕ → ℕ → Segment} → ((start after : ℕ) → Becomes (f start after) (f2 start after)) → Becomes (row f) (row f2)
+  rows_become {f = f} {f2 = f2} x = record { at = λ p. (x p ((f 0 0 p).end)).at p ∙ ap (λ n. f2 p n p) (end_same (x 0 0) p) }
 
-  loop_numbered : (p : ℕ) (a a2 : Fragment) → numbered_fragment a ≡ a2 → numbered_fragment (loop_fragment p a) ≡ loop_fragment p a2
-  loop_numbered p a a2 h =
-      (λ i. record a { code = λ out. instr.JumpIfZero (a.end + 1) ∷ map-append (numbered es) (a.code (a.end + 1)) (instr.Jump p ∷ []) i; end = a.end + 1 })
-      ∙ ap (loop_fragment p) h
+  halves_become : {f f2 : Halves} {g g2 : Segment} → ((middle after : ℕ) (h h2 : Segment) → Becomes h h2 → Becomes (f middle after h) (f2 middle after h2)) → Becomes g g2
+      → Becomes (halves f (λ first. g)) (halves f2 (λ first. g2))
+  halves_become {f = f} {f2 = f2} {g = g} {g2 = g2} x y = record {
+    at = λ p.
+        let m = (f 0 0 empty_segment p).end in
+        let e : m ≡ (f2 0 0 empty_segment p).end = end_same (x 0 0 empty_segment empty_segment (record { at = λ q. refl })) p in
+        (x m ((g m).end) g g2 y).at p ∙ ap₂ (λ i j. f2 i j g2 p) e (end_same y m ∙ ap (λ n. (g2 n).end) e);
+  }
 
-  abbrev switch_fragment : Fragment → Fragment
-  switch_fragment a =
-      let tests = arms_code a.targets.arms in
-      let end = a.end + 1 + length tests in
-      record { code = λ out. instr.Jump (a.end + 1) ∷ (a.code end ++ (instr.Jump end ∷ tests)); end = end; targets = record a.targets { arms = [] } }
+  arms_become : {f f2 : Halves} → ((middle after : ℕ) (h h2 : Segment) → Becomes h h2 → Becomes (f middle after h) (f2 middle after h2))
+      → Becomes (keeping_arms (halves f arms_segment)) (keeping_arms (halves f2 arms_segment))
+  arms_become {f = f} {f2 = f2} x = record {
+    at = λ p.
+        let a = f 0 0 empty_segment p in
+        let tests = segment_becomes (λ q. arms_numbered a.targets.arms) in
+        ap {A = Fragment} {B = Fragment} (λ b. record b { targets = record b.targets { arms = [] } })
+        ((x a.end ((arms_segment a a.end).end) (arms_segment a) (arms_segment a) tests).at p
+        ∙ ap (λ b. f2 b.end ((arms_segment b b.end).end) (arms_segment b) p) ((x 0 0 empty_segment empty_segment (record { at = λ q. refl })).at p));
+  }
 
-  choice_numbered : (a a2 : Fragment) → numbered_fragment a ≡ a2 → numbered_fragment (switch_fragment a) ≡ switch_fragment a2
-  choice_numbered a a2 h =
-      let tests = arms_code a.targets.arms in
-      let end = a.end + 1 + length tests in
-      (λ i. record (switch_fragment a) { code = λ out. instr.Jump (a.end + 1) ∷ (map-append (numbered es) (a.code end) (instr.Jump end ∷ tests) ∙ ap (λ l. map (numbered es) (a.code end) ++ (instr.Jump end ∷ l)) (arms_numbered a.targets.arms)) i })
-      ∙ ap switch_fragment h
+  segments_become : KeptBySegments names names2 Anything Anything (λ w f f2. Becomes f f2)
+  segments_become = record {
+    known = λ s. tt;
+    none = record { at = λ p. refl };
+    lone = lone_becomes;
+    returns = record { at = λ p. refl };
+    jumps = λ there m. record { at = λ p. refl };
+    jumps_if_zero = λ there m. record { at = λ p. refl };
+    leaves = record { at = λ p. refl };
+    value = λ e. segment_becomes (word_numbered e);
+    heads = heads_become;
+    quiet = λ q x. x;
+    after = λ q x. x;
+    before = λ q x. x;
+    inside = λ q x. x;
+    then_ = λ x y. then_become x y;
+    coded = λ x y. then_become x y;
+    ended = λ x y. record { at = λ p. ap₂ {A = Fragment} {B = Fragment} {C = Fragment} (λ a b. record a { targets = b.targets }) ((then_become x y).at p) (x.at p) };
+    leads = λ there m x. record { at = λ p. ap {A = Fragment} {B = Fragment} (λ a. record a { code = λ out. a.code there }) (x.at p) };
+    whole = λ x k same. rows_become (λ start after. x start after tt tt);
+    halved = λ {w} {u} x y k l same. halves_become (λ middle after h h2 z. x middle after tt tt u h h2 z) y;
+    chosen = λ x k same. arms_become (λ middle after h h2 z. x middle after tt tt h h2 z);
+  }
 
-  mutual
-    pub fragment_numbered : (s : Stmt) (p : ℕ) → numbered_fragment (fragment names s p) ≡ fragment names2 s p
-    fragment_numbered (Headed h s) p =
-        followed_numbered (heading_fragment names h p) (heading_fragment names2 h p) (fragment names s) (fragment names2 s)
-        (λ i. record { code = λ out. heading_numbered h i; end = p + heading_length h i; targets = heading_targets h p }) (λ q. fragment_numbered s q)
-    fragment_numbered (Compound body) p = body_numbered body p
-    fragment_numbered (If e s) p = tested_numbered e p (λ q. skip_fragment (fragment names s q)) (λ q. skip_fragment (fragment names2 s q)) (λ q. ap skip_fragment (fragment_numbered s q))
-    fragment_numbered (IfElse e s other) p =
-        tested_numbered e p (λ q. ways_fragment (fragment names s q) (fragment names other ((fragment names s q).end + 1))) (λ q. ways_fragment (fragment names2 s q) (fragment names2 other ((fragment names2 s q).end + 1)))
-        (λ q. both_numbered (fragment names s q) (fragment names2 s q) (fragment names other) (fragment names2 other) (fragment_numbered s q) (λ r. fragment_numbered other r))
-    fragment_numbered (While e s) p =
-        tested_numbered e p (λ q. loop_fragment p (fragment names s q)) (λ q. loop_fragment p (fragment names2 s q)) (λ q. loop_numbered p (fragment names s q) (fragment names2 s q) (fragment_numbered s q))
-    fragment_numbered (Switch e body) p =
-        tested_numbered e p (λ q. switch_fragment (body_fragment names body q)) (λ q. switch_fragment (body_fragment names2 body q)) (λ q. choice_numbered (body_fragment names body q) (body_fragment names2 body q) (body_numbered body q))
-    fragment_numbered (Goto e) p = word_then_numbered e instr.Goto p refl
-    fragment_numbered (Break line) p = refl
-    fragment_numbered Return p = refl
-    fragment_numbered (ReturnValue e) p = word_then_numbered e instr.Return p refl
-    fragment_numbered (Evaluate e) p = word_then_numbered e instr.Pop p refl
-    fragment_numbered Empty p = refl
+  pub fragment_numbered : (s : Stmt) (p : ℕ) → numbered_fragment (fragment names s p) ≡ fragment names2 s p
+  fragment_numbered s = (by_segments segments_become s).at
 
-    body_numbered : (ss : Stmts) (p : ℕ) → numbered_fragment (body_fragment names ss p) ≡ body_fragment names2 ss p
-    body_numbered Nothing p = refl
-    body_numbered (More before s) p =
-        followed_numbered (body_fragment names before p) (body_fragment names2 before p) (fragment names s) (fragment names2 s) (body_numbered before p) (λ q. fragment_numbered s q)
+  pub body_numbered : (ss : Stmts) (p : ℕ) → numbered_fragment (body_fragment names ss p) ≡ body_fragment names2 ss p
+  body_numbered ss = (body_by_segments segments_become ss).at

@@ -23,34 +23,34 @@ use Rattle.bcodegen.proofs.ExpressionMakes.{expression_words, evaluated_makes}
 use Rattle.bcodegen.proofs.Headings.{heading_makes, broken_makes}
 
 -- what stands one level deeper
-level : {names : Environment} {f : Draft → Draft} {es : List Event} {off : ℕ} {a : Parts} (P : ℕ → Type 0) → ((k : ℕ) → P k → Makes names f es k off a) → (room : ℕ) → Deeper P room → Makes names f es room off a
+pub level : {names : Environment} {f : Draft → Draft} {es : List Event} {off : ℕ} {a : Parts} (P : ℕ → Type 0) → ((k : ℕ) → P k → Makes names f es k off a) → (room : ℕ) → Deeper P room → Makes names f es room off a
 level P x zero h = elim h [ ]
 level P x (suc k) h = deeper (x k h)
 
-statement_offset : (s : Stmt) (off : ℕ) → off + statement_words s ≡ off + length (statement_strings s)
+pub statement_offset : (s : Stmt) (off : ℕ) → off + statement_words s ≡ off + length (statement_strings s)
 statement_offset s off = ap (λ n. off + n) (sym (length-strings (walk_statement s)))
 
-body_offset : (ss : Stmts) (off : ℕ) → off + body_words ss ≡ off + length (body_strings ss)
+pub body_offset : (ss : Stmts) (off : ℕ) → off + body_words ss ≡ off + length (body_strings ss)
 body_offset ss off = ap (λ n. off + n) (sym (length-strings (walk_body ss)))
 
 -- the events of a statement with a condition, of a loop and of a switch
-tested_events : (es fs : List Event) → es ++ fs ≡ ((es ++ []) ++ fs) ++ []
+pub tested_events : (es fs : List Event) → es ++ fs ≡ ((es ++ []) ++ fs) ++ []
 tested_events es fs = ap (λ l. l ++ fs) (ended es) ∙ ended ((es ++ []) ++ fs)
 
-looped_events : (es fs : List Event) → es ++ (LoopBegins ∷ (fs ++ LoopEnds ∷ [])) ≡ ((es ++ []) ++ (LoopBegins ∷ fs)) ++ LoopEnds ∷ []
+pub looped_events : (es fs : List Event) → es ++ (LoopBegins ∷ (fs ++ LoopEnds ∷ [])) ≡ ((es ++ []) ++ (LoopBegins ∷ fs)) ++ LoopEnds ∷ []
 looped_events es fs = sym (append_assoc es (LoopBegins ∷ fs) (LoopEnds ∷ [])) ∙ ap (λ l. (l ++ LoopBegins ∷ fs) ++ LoopEnds ∷ []) (ended es)
 
-switched_events : (es fs : List Event) → es ++ (SwitchBegins ∷ (fs ++ SwitchEnds ∷ [])) ≡ (es ++ (SwitchBegins ∷ (fs ++ []))) ++ SwitchEnds ∷ []
+pub switched_events : (es fs : List Event) → es ++ (SwitchBegins ∷ (fs ++ SwitchEnds ∷ [])) ≡ (es ++ (SwitchBegins ∷ (fs ++ []))) ++ SwitchEnds ∷ []
 switched_events es fs = sym (append_assoc es (SwitchBegins ∷ fs) (SwitchEnds ∷ [])) ∙ ap (λ l. (es ++ SwitchBegins ∷ l) ++ SwitchEnds ∷ []) (ended fs)
 
 module _ (names : Environment) where
-  if_same : (e : Expr) (s : Stmt) (p : ℕ) → Same p (joined (only (word_code names e) (strings e)) (skipped (statement_parts names s))) (statement_parts names (If e s))
+  pub if_same : (e : Expr) (s : Stmt) (p : ℕ) → Same p (joined (only (word_code names e) (strings e)) (skipped (statement_parts names s))) (statement_parts names (If e s))
   if_same e s p =
       let ce = word_code names e p in
       let q = p + length ce + 1 in
       record { code = ap (λ n. ce ++ (instr.JumpIfZero n ∷ (fragment names s q).code 0)) (statement_ends names s q 0); strings = ap (λ l. l ++ statement_strings s) (sym (append-nil (strings e))); targets = refl; arms = refl; breaks = refl }
 
-  ways_same : (e : Expr) (s other : Stmt) (p : ℕ) → Same p (joined (only (word_code names e) (strings e)) (ways_parts (statement_parts names s) (statement_parts names other))) (statement_parts names (IfElse e s other))
+  pub ways_same : (e : Expr) (s other : Stmt) (p : ℕ) → Same p (joined (only (word_code names e) (strings e)) (ways_parts (statement_parts names s) (statement_parts names other))) (statement_parts names (IfElse e s other))
   ways_same e s other p = record {
     code =
         ap (λ n. ce ++ (instr.JumpIfZero n ∷ (cs ++ (instr.Jump (n + length ((fragment names other n).code 0)) ∷ (fragment names other n).code 0)))) following
@@ -76,13 +76,13 @@ module _ (names : Environment) where
       following : q + length cs + 1 ≡ a
       following = ap (λ n. n + 1) (statement_ends names s q 0)
 
-  abbrev body_code : Stmts → (p out : ℕ) → List Instr
+  abbrev pub body_code : Stmts → (p out : ℕ) → List Instr
   body_code ss p out = (body_fragment names ss p).code out
 
-  closes : (ss : Stmts) → Closes (body_parts names ss) (body_code ss)
+  pub closes : (ss : Stmts) → Closes (body_parts names ss) (body_code ss)
   closes ss = record { fills = λ p out. body_closes names ss p out; same_length = λ p out. omega (arith, body_ends names ss p out, body_ends names ss p 0) }
 
-  switch_same : (e : Expr) (ss : Stmts) (p : ℕ) → Same p (joined (only (word_code names e) (strings e)) (switched_parts (body_parts names ss) (body_code ss))) (statement_parts names (Switch e ss))
+  pub switch_same : (e : Expr) (ss : Stmts) (p : ℕ) → Same p (joined (only (word_code names e) (strings e)) (switched_parts (body_parts names ss) (body_code ss))) (statement_parts names (Switch e ss))
   switch_same e ss p =
       let ce = word_code names e p in
       let q = p + length ce + 1 in
@@ -95,7 +95,7 @@ module _ (names : Environment) where
         breaks = refl;
       }
 
-  more_same : (before : Stmts) (s : Stmt) (p : ℕ) → Same p (joined (body_parts names before) (statement_parts names s)) (body_parts names (More before s))
+  pub more_same : (before : Stmts) (s : Stmt) (p : ℕ) → Same p (joined (body_parts names before) (statement_parts names s)) (body_parts names (More before s))
   more_same before s p =
       let following = body_ends names before p 0 in
       record {
@@ -141,7 +141,7 @@ module _ (names : Environment) where
         (rescanned (ended (events e)) (emits instr.Pop (evaluated_makes names e room off room sits)))
     done_makes Empty room off sits = idle
 
-    all_make : (ss : Stmts) (room off : ℕ) → AllSit ss room off → Makes names (all_done ss) (body_events ss) room off (body_parts names ss)
+    pub all_make : (ss : Stmts) (room off : ℕ) → AllSit ss room off → Makes names (all_done ss) (body_events ss) room off (body_parts names ss)
     all_make Nothing room off sits = idle
     all_make (More before s) room off sits =
         retold (body_parts names (More before s)) (more_same before s)

@@ -33,11 +33,11 @@ pub record Closes (a : Parts) (c : ℕ → ℕ → List Instr) : Type 0 where
   pub fills : (p out : ℕ) → Fills out p (a.breaks p) (a.code p) (c p out)
   pub same_length : (p out : ℕ) → length (c p out) ≡ length (a.code p)
 
-abbrev opened : Scope → Scope
+abbrev pub opened : Scope → Scope
 opened s = record s { switches = empty_switch ∷ s.switches }
 
 -- where there is room for one switch more
-begun_is : (s : Scope) (m : Made) → suc (length s.switches) ≤ most_switches → begun (drafted s m) ≡ drafted (opened s) (record m { arms = drafts.no_arms ∷ m.arms })
+pub begun_is : (s : Scope) (m : Made) → suc (length s.switches) ≤ most_switches → begun (drafted s m) ≡ drafted (opened s) (record m { arms = drafts.no_arms ∷ m.arms })
 begun_is s m le = rw (lt-ltb (length s.switches) most_switches le) (noted _ (opened s) m (record m { arms = drafts.no_arms ∷ m.arms }) (λ r. refl) refl refl refl)
 
 begun_scope : (room : ℕ) (d : Draft) → Nested (suc room) (scope_of d) → scope_of (begun d) ≡ scanned (SwitchBegins ∷ []) (scope_of d)

@@ -2,13 +2,13 @@
 use Rattle.std.proofs.Common.{◌≡◌, ℕ, ◌+◌, List, [], ◌∷◌, ◌++◌, length, length-append, refl, arith}
 use Rattle.std.specs.Prelude.{Result, Ok, Err}
 use Rattle.blang.specs.declared.token.Diagnostic.{Diagnostic}
-use Rattle.blang.specs.declared.code.Instr.TheVariants as instr
-use Rattle.blang.specs.Trees.{Stmt, Headed, Compound, If, IfElse, While, Switch, Goto, Break, Return, ReturnValue, Evaluate, Empty, Stmts, Nothing, More}
+use Rattle.blang.specs.Trees.{Stmt, Stmts}
 use Rattle.blang.specs.Scan.{Scope, scan_event, scanned}
 use Rattle.blang.specs.Walk.{Event, walk_statement}
-use Rattle.blang.specs.Code.{Environment, word_code, heading_code, arms_code, fragment, body_fragment}
+use Rattle.blang.specs.Code.{Environment, Segment, empty_segment, ◌▹◌, fragment, body_fragment}
 use Rattle.bgrammar.specs.CodeRows.{ScansOn, CountsWords}
 use Rattle.bgrammar.proofs.WalkLaws.{length-strings}
+use Rattle.bgrammar.proofs.RowLaws.{arms_segment, KeptBySegments, by_segments, body_by_segments}
 
 pub scanned-append : (es fs : List Event) (r : Result Scope Diagnostic) → scanned (es ++ fs) r ≡ scanned fs (scanned es r)
 scanned-append [] fs r = refl
@@ -22,42 +22,47 @@ scans_on es fs s = scanned-append es fs (Ok s)
 pub counts_words : CountsWords
 counts_words s = length-strings (walk_statement s)
 
--- the code of a statement takes the place up to its end, wherever a break leads
-module _ (names : Environment) where
-  mutual
-    pub statement_ends : (s : Stmt) (p out : ℕ) → p + length ((fragment names s p).code out) ≡ (fragment names s p).end
-    statement_ends (Headed h s) p out =
-        let m = p + length (heading_code names h) in
-        omega (arith, statement_ends s m out, length-append (heading_code names h) ((fragment names s m).code out))
-    statement_ends (Compound body) p out = body_ends body p out
-    statement_ends (If e s) p out =
-        let q = p + length (word_code names e p) + 1 in
-        omega (arith, statement_ends s q out, length-append (word_code names e p) (instr.JumpIfZero ((fragment names s q).end) ∷ (fragment names s q).code out))
-    statement_ends (IfElse e s other) p out =
-        let q = p + length (word_code names e p) + 1 in
-        let a = (fragment names s q).end + 1 in
-        let tail = instr.Jump ((fragment names other a).end) ∷ (fragment names other a).code out in
-        omega (arith, statement_ends s q out, statement_ends other a out, length-append ((fragment names s q).code out) tail, length-append (word_code names e p) (instr.JumpIfZero a ∷ ((fragment names s q).code out ++ tail)))
-    statement_ends (While e s) p out =
-        let q = p + length (word_code names e p) + 1 in
-        let end = (fragment names s q).end + 1 in
-        let tail = instr.Jump p ∷ [] in
-        omega (arith, statement_ends s q end, length-append ((fragment names s q).code end) tail, length-append (word_code names e p) (instr.JumpIfZero end ∷ ((fragment names s q).code end ++ tail)))
-    statement_ends (Switch e body) p out =
-        let q = p + length (word_code names e p) + 1 in
-        let arms = arms_code ((body_fragment names body q).targets.arms) in
-        let d = (body_fragment names body q).end + 1 in
-        let end = d + length arms in
-        let tail = instr.Jump end ∷ arms in
-        omega (arith, body_ends body q end, length-append ((body_fragment names body q).code end) tail, length-append (word_code names e p) (instr.Jump d ∷ ((body_fragment names body q).code end ++ tail)))
-    statement_ends (Goto e) p out = omega (arith, length-append (word_code names e p) (instr.Goto ∷ []))
-    statement_ends (Break line) p out = refl
-    statement_ends Return p out = refl
-    statement_ends (ReturnValue e) p out = omega (arith, length-append (word_code names e p) (instr.Return ∷ []))
-    statement_ends (Evaluate e) p out = omega (arith, length-append (word_code names e p) (instr.Pop ∷ []))
-    statement_ends Empty p out = omega arith
+-- code takes the place up to its end, wherever a break leads
+pub record Ends (f : Segment) : Type 0 where
+  pub at : (p out : ℕ) → p + length ((f p).code out) ≡ (f p).end
 
-    pub body_ends : (body : Stmts) (p out : ℕ) → p + length ((body_fragment names body p).code out) ≡ (body_fragment names body p).end
-    body_ends Nothing p out = omega arith
-    body_ends (More before s) p out =
-        omega (arith, body_ends before p out, statement_ends s ((body_fragment names before p).end) out, length-append ((body_fragment names before p).code out) ((fragment names s ((body_fragment names before p).end)).code out))
+pub ends_then : {f g : Segment} → Ends f → Ends g → Ends (f ▹ g)
+ends_then {f = f} {g = g} x y = record {
+  at = λ p out. let q = (f p).end in omega (arith, length-append ((f p).code out) ((g q).code out), x.at p out, y.at q out);
+}
+
+-- a law that asks for nothing
+abbrev pub Anything : {A : Type 0} → A → Type 0
+Anything x = Unit {0}
+
+pub ends : (names : Environment) → KeptBySegments names names Anything Anything (λ w f g. Ends f)
+ends names = record {
+  known = λ s. tt;
+  none = record { at = λ p out. omega arith };
+  lone = λ i. record { at = λ p out. refl };
+  returns = record { at = λ p out. refl };
+  jumps = λ there m. record { at = λ p out. refl };
+  jumps_if_zero = λ there m. record { at = λ p out. refl };
+  leaves = record { at = λ p out. refl };
+  value = λ e. record { at = λ p out. refl };
+  heads = λ h. record { at = λ p out. refl };
+  quiet = λ q x. x;
+  after = λ q x. x;
+  before = λ q x. x;
+  inside = λ q x. x;
+  then_ = λ x y. ends_then x y;
+  coded = λ x y. ends_then x y;
+  ended = λ x y. record { at = (ends_then x y).at };
+  leads = λ there m x. record { at = λ p out. x.at p there };
+  whole = λ {w} {f} x k same. record { at = λ p. (x p ((f 0 0 p).end) tt tt).at p };
+  halved = λ {w} {u} {f} {f2} {g} x y k l same. record { at = λ p. let middle = (f 0 0 empty_segment p).end in (x middle ((g middle).end) tt tt u g g y).at p };
+  chosen = λ {w} {f} x k same. record {
+    at = λ p. let a = f 0 0 empty_segment p in (x a.end ((arms_segment a a.end).end) tt tt (arms_segment a) (arms_segment a) (record { at = λ q out. refl })).at p;
+  };
+}
+
+pub statement_ends : (names : Environment) (s : Stmt) (p out : ℕ) → p + length ((fragment names s p).code out) ≡ (fragment names s p).end
+statement_ends names s = (by_segments (ends names) s).at
+
+pub body_ends : (names : Environment) (body : Stmts) (p out : ℕ) → p + length ((body_fragment names body p).code out) ≡ (body_fragment names body p).end
+body_ends names body = (body_by_segments (ends names) body).at

@@ -1,17 +1,19 @@
 -- Each break can be a return, and each default a label: with these the other tokens stay, and no level gets deeper.
-use Rattle.std.proofs.Common.{◌≡◌, ◌≤◌, ℕ, zero, suc, ◌+◌, List, [], ◌∷◌, ◌++◌, false, Option, Some, None, refl, sym, ap, ◌∙◌, map, arith}
+use Rattle.std.proofs.Common.{◌≡◌, ◌≤◌, ℕ, zero, suc, ◌+◌, List, [], ◌∷◌, ◌++◌, false, refl, sym, ap, ◌∙◌, map, arith}
 use Rattle.std.proofs.lemmas.List.{map-append}
+use Rattle.blang.specs.declared.token.Keyword.{Keyword}
 use Rattle.blang.specs.declared.token.Keyword.TheVariants as keyword
 use Rattle.blang.specs.declared.token.Token.{Token}
 use Rattle.blang.specs.declared.token.Token.TheVariants as token
 use Rattle.blang.specs.declared.token.Placed.{Placed}
-use Rattle.blang.specs.Trees.{bare, Constant, Number, Character, Expr, Arguments, PrefixOp, Negate, PostfixOp, PostIncrement, PostDecrement, Named, Literal, Text, Grouped, Indexed, Called, Postfixed, Prefixed, Binary, Conditional, Assigned, No_arguments, Another, constant_token, prefix_token, postfix_token, Heading, Auto, Extrn, Label, Case, Default, Stmt, Headed, Compound, If, IfElse, While, Switch, Goto, Break, Return, ReturnValue, Evaluate, Empty, Stmts, Nothing, More, Ival, Ival_constant, Ival_text, Ival_name, Definition, Simple, Vector, Function}
+use Rattle.blang.specs.Trees.{bare, Heading, Auto, Extrn, Label, Case, Default, Stmt, Headed, Compound, If, IfElse, While, Switch, Goto, Break, Return, ReturnValue, Evaluate, Empty, Stmts, Nothing, More, Definition, Simple, Vector, Function}
 use Rattle.bgrammar.specs.Spelling.{spell, list_spelling, spell_heading, spell_condition, spell_statement, spell_body}
-use Rattle.blang.specs.Walk.{spell_definition, spell_all, Walk, Said, Level, ◌▸◌, Event, tokens_in, texts_in, levels_in, callee, walk, walk_arguments, comma_before_next, walk_commas, walk_list, walk_size, walk_declared, walk_import, walk_heading, walk_parenthesized, walk_statement, walk_body, walk_value, walk_values, walk_parameter, walk_definition}
+use Rattle.blang.specs.Walk.{spell_definition, spell_all, Walk, Said, Level, ◌▸◌, Event, tokens_in, texts_in, levels_in, walk_declared, walk_heading, walk_statement, walk_body, walk_parameter, walk_definition}
 use Rattle.blang.specs.WellFormed.{is_open, IsHeading, StatementBinds, BodyBinds, IsFormed, AllFormed, OffsetsFrom}
 use Rattle.blang.specs.declared.limits.TheConstants.{MAX_NESTING}
 use Rattle.bgrammar.specs.Editions.{is_new, AllOld, IsOldHeading, IsOld, IsOldBody, OldTokensOldTree, BeginsOld, PartOfOld}
 use Rattle.bgrammar.specs.Fitting.{words_in, Deeper, FitsIn}
+use Rattle.bgrammar.proofs.WalkForms.{IsSaid, KeptByWalks, constant_kept, expression_kept, list_kept, size_kept, declared_kept, imports_kept, parameters_kept, condition_kept, values_kept}
 use Rattle.bgrammar.proofs.WalkLaws.{fits_in, in_room, in_order, at_offset, IsPlain, plain_words, plain_fits}
 
 -- a word of the first edition in place of a new one
@@ -61,17 +63,12 @@ become_tokens (p ∷ ps) (q ∷ qs) h = ap (λ x. x ∷ map bare qs) h.0 ∙ ap 
 abbrev Same : List Placed → Type 0
 Same ps = Becomes ps ps
 
-constant_same : (c : Constant) → constant_token c ≡ old (constant_token c)
-constant_same (Number n) = refl
-constant_same (Character n) = refl
+abbrev NoWord : Keyword → Type 0
+NoWord k = ⊥
 
-prefix_same : (op : PrefixOp) → prefix_token op ≡ old (prefix_token op)
-prefix_same Negate = refl
-prefix_same _ = refl
-
-postfix_same : (op : PostfixOp) → postfix_token op ≡ old (postfix_token op)
-postfix_same PostIncrement = refl
-postfix_same PostDecrement = refl
+said_same : (t : Token) → IsSaid NoWord t → t ≡ old t
+said_same (token.Keyword k) h = absurd h
+said_same _ h = refl
 
 -- The second walk fits wherever the first one does, with as many string words.
 record Like (v w : Walk) : Type 0 where
@@ -121,47 +118,16 @@ then_ages {v} {v2} {w} {w2} a b = record { like = beside a.like b.like; becomes 
 level_ages : {p : Placed} {w w2 : Walk} {end end2 : List Event} → bare p ≡ old (bare p) → Ages w w2 → Ages (Level p w end) (Level p w2 end2)
 level_ages h a = record { like = opening _ _ _ _ a.like; becomes = (h, a.becomes) }
 
-module _ {A : Type 0} (say : A → Walk) (each : (a : A) → Ages (say a) (say a)) where
-  commas_steady : (xs : List A) → Ages (walk_commas say xs) (walk_commas say xs)
-  commas_steady [] = steady tt
-  commas_steady (x ∷ xs) = then_ages (token_steady refl) (then_ages (each x) (commas_steady xs))
-
-  list_steady : (xs : List A) → Ages (walk_list say xs) (walk_list say xs)
-  list_steady [] = steady tt
-  list_steady (x ∷ xs) = then_ages (each x) (commas_steady xs)
-
-callee_steady : (e : Expr) → Ages (walk e) (walk e) → Ages (callee e (walk e)) (callee e (walk e))
-callee_steady (Named w) a = steady (refl, tt)
-callee_steady _ a = a
-
-comma_steady : (args : Arguments) → Ages (comma_before_next args) (comma_before_next args)
-comma_steady No_arguments = steady tt
-comma_steady (Another before e) = token_steady refl
-
-mutual
-  expression_steady : (e : Expr) → Ages (walk e) (walk e)
-  expression_steady (Named w) = steady (refl, tt)
-  expression_steady (Literal c) = token_steady (constant_same c)
-  expression_steady (Text bytes offset) = steady (refl, tt)
-  expression_steady (Grouped e) = then_ages (level_ages refl (expression_steady e)) (token_steady refl)
-  expression_steady (Indexed e f) = then_ages (expression_steady e) (then_ages (level_ages refl (expression_steady f)) (token_steady refl))
-  expression_steady (Called e args) = then_ages (callee_steady e (expression_steady e)) (then_ages (level_ages refl (arguments_steady args)) (token_steady refl))
-  expression_steady (Postfixed op line e) = then_ages (expression_steady e) (then_ages (steady tt) (token_steady (postfix_same op)))
-  expression_steady (Prefixed op line e) = level_ages (prefix_same op) (expression_steady e)
-  expression_steady (Binary op line e f) = then_ages (expression_steady e) (then_ages (token_steady refl) (expression_steady f))
-  expression_steady (Conditional e f g) = then_ages (expression_steady e) (level_ages refl (then_ages (expression_steady f) (then_ages (token_steady refl) (expression_steady g))))
-  expression_steady (Assigned op line e f) = then_ages (expression_steady e) (then_ages (steady tt) (level_ages refl (expression_steady f)))
-
-  arguments_steady : (args : Arguments) → Ages (walk_arguments args) (walk_arguments args)
-  arguments_steady No_arguments = steady tt
-  arguments_steady (Another before e) = then_ages (arguments_steady before) (then_ages (comma_steady before) (expression_steady e))
-
-size_steady : (size : Option ℕ) → Ages (walk_size size) (walk_size size)
-size_steady None = steady tt
-size_steady (Some n) = token_steady refl
-
-condition_steady : (e : Expr) → Ages (walk_parenthesized e) (walk_parenthesized e)
-condition_steady e = then_ages (token_steady refl) (then_ages (expression_steady e) (token_steady refl))
+-- without keywords nothing changes
+steady_walks : KeptByWalks NoWord (λ w. Ages w w)
+steady_walks = record {
+  none = steady tt;
+  said = λ p h. token_steady (said_same p.token h);
+  text = λ t. steady (refl, tt);
+  noted = λ e h. steady tt;
+  opens = λ p end h q x. level_ages (said_same p.token h) x;
+  joins = then_ages;
+}
 
 abbrev old_heading : Heading → Heading
 old_heading (Default line) = Label (record { text = 97 ∷ []; line = line })
@@ -175,37 +141,33 @@ abbrev mutual
   old_statement (IfElse e s other) = IfElse e (old_statement s) (old_statement other)
   old_statement (While e s) = While e (old_statement s)
   old_statement (Switch e body) = Switch e (old_body body)
-  old_statement (Goto e) = Goto e
   old_statement (Break line) = Return
-  old_statement Return = Return
-  old_statement (ReturnValue e) = ReturnValue e
-  old_statement (Evaluate e) = Evaluate e
-  old_statement Empty = Empty
+  old_statement s = s
 
   old_body : Stmts → Stmts
   old_body Nothing = Nothing
   old_body (More before s) = More (old_body before) (old_statement s)
 
 heading_ages : (h : Heading) → Ages (walk_heading h) (walk_heading (old_heading h))
-heading_ages (Auto declared) = then_ages (token_steady refl) (then_ages (list_steady walk_declared (λ d. then_ages (steady (refl, tt)) (size_steady d.size)) declared) (token_steady refl))
-heading_ages (Extrn names) = then_ages (token_steady refl) (then_ages (list_steady walk_import (λ w. steady (refl, tt)) names) (token_steady refl))
+heading_ages (Auto declared) = then_ages (token_steady refl) (then_ages (list_kept steady_walks walk_declared (declared_kept steady_walks) declared) (token_steady refl))
+heading_ages (Extrn names) = then_ages (token_steady refl) (then_ages (imports_kept steady_walks names) (token_steady refl))
 heading_ages (Label w) = steady (refl, (refl, tt))
-heading_ages (Case line c) = steady (refl, (constant_same c, (refl, tt)))
+heading_ages (Case line c) = then_ages (token_steady refl) (then_ages (constant_kept steady_walks c) (then_ages (steady tt) (token_steady refl)))
 heading_ages (Default line) = record { like = like_plain _ _ (tt, (tt, tt)) ((tt, tt), tt); becomes = (refl, (refl, tt)) }
 
 mutual
   statement_ages : (s : Stmt) → Ages (walk_statement s) (walk_statement (old_statement s))
   statement_ages (Headed h s) = then_ages (heading_ages h) (statement_ages s)
   statement_ages (Compound body) = then_ages (level_ages refl (body_ages body)) (token_steady refl)
-  statement_ages (If e s) = level_ages refl (then_ages (condition_steady e) (statement_ages s))
-  statement_ages (IfElse e s other) = level_ages refl (then_ages (condition_steady e) (then_ages (statement_ages s) (then_ages (token_steady refl) (statement_ages other))))
-  statement_ages (While e s) = level_ages refl (then_ages (condition_steady e) (then_ages (steady tt) (statement_ages s)))
-  statement_ages (Switch e body) = level_ages refl (then_ages (expression_steady e) (then_ages (token_steady refl) (then_ages (steady tt) (then_ages (body_ages body) (token_steady refl)))))
-  statement_ages (Goto e) = then_ages (token_steady refl) (then_ages (expression_steady e) (token_steady refl))
+  statement_ages (If e s) = level_ages refl (then_ages (condition_kept steady_walks e) (statement_ages s))
+  statement_ages (IfElse e s other) = level_ages refl (then_ages (condition_kept steady_walks e) (then_ages (statement_ages s) (then_ages (token_steady refl) (statement_ages other))))
+  statement_ages (While e s) = level_ages refl (then_ages (condition_kept steady_walks e) (then_ages (steady tt) (statement_ages s)))
+  statement_ages (Switch e body) = level_ages refl (then_ages (expression_kept steady_walks e) (then_ages (token_steady refl) (then_ages (steady tt) (then_ages (body_ages body) (token_steady refl)))))
+  statement_ages (Goto e) = then_ages (token_steady refl) (then_ages (expression_kept steady_walks e) (token_steady refl))
   statement_ages (Break line) = record { like = like_plain _ _ (tt, (tt, tt)) (tt, tt); becomes = (refl, (refl, tt)) }
   statement_ages Return = steady (refl, (refl, tt))
-  statement_ages (ReturnValue e) = then_ages (token_steady refl) (then_ages (condition_steady e) (token_steady refl))
-  statement_ages (Evaluate e) = then_ages (expression_steady e) (token_steady refl)
+  statement_ages (ReturnValue e) = then_ages (token_steady refl) (then_ages (condition_kept steady_walks e) (token_steady refl))
+  statement_ages (Evaluate e) = then_ages (expression_kept steady_walks e) (token_steady refl)
   statement_ages Empty = token_steady refl
 
   body_ages : (body : Stmts) → Ages (walk_body body) (walk_body (old_body body))
@@ -241,19 +203,11 @@ abbrev old_definition : Definition → Definition
 old_definition (Function w parameters body) = Function w parameters (old_statement body)
 old_definition d = d
 
-value_steady : (v : Ival) → Ages (walk_value v) (walk_value v)
-value_steady (Ival_constant c) = token_steady (constant_same c)
-value_steady (Ival_text bytes offset) = steady (refl, tt)
-value_steady (Ival_name w) = token_steady refl
-
-values_steady : (values : List Ival) → Ages (walk_values values) (walk_values values)
-values_steady values = then_ages (list_steady walk_value value_steady values) (token_steady refl)
-
 definition_ages : (d : Definition) → Ages (walk_definition d) (walk_definition (old_definition d))
-definition_ages (Simple w values) = then_ages (token_steady refl) (values_steady values)
-definition_ages (Vector w size values) = then_ages (token_steady refl) (then_ages (token_steady refl) (then_ages (size_steady size) (then_ages (token_steady refl) (values_steady values))))
+definition_ages (Simple w values) = then_ages (token_steady refl) (values_kept steady_walks values)
+definition_ages (Vector w size values) = then_ages (token_steady refl) (then_ages (token_steady refl) (then_ages (size_kept steady_walks size) (then_ages (token_steady refl) (values_kept steady_walks values))))
 definition_ages (Function w parameters body) =
-    then_ages (token_steady refl) (then_ages (token_steady refl) (then_ages (list_steady walk_parameter (λ w. steady (refl, tt)) parameters) (then_ages (token_steady refl) (statement_ages body))))
+    then_ages (token_steady refl) (then_ages (token_steady refl) (then_ages (parameters_kept steady_walks parameters) (then_ages (token_steady refl) (statement_ages body))))
 
 definition_formed : (d : Definition) → IsFormed d → IsFormed (old_definition d)
 definition_formed (Function w parameters body) f =

@@ -13,12 +13,12 @@ pub mod DefinitionFine
 pub mod DefinitionAgain
 pub mod KeptLemmas
 pub mod LawProofs
-pub mod CodeLaws
 pub mod WalkLaws
 pub mod Spelling
 pub mod Fitting
 pub mod ScopeLaws
 pub mod ScanSteps
+pub mod WalkForms
 pub mod GoingOn
 pub mod ProgramLaws
 pub mod Parting
@@ -30,6 +30,7 @@ pub mod SourceRows
 pub mod Levels
 pub mod Ending
 pub mod ProgramRules
+pub mod LineRows
 pub mod Lineless
 pub mod StatementLineless
 pub mod EditionLaws
@@ -39,9 +40,11 @@ pub mod Holds
 pub mod Tokens
 pub mod Walks
 pub mod ExpressionCode
-pub mod StatementCode
 pub mod Scopes
 pub mod Scans
+pub mod RowLaws
+pub mod CodeLaws
+pub mod StatementCode
 pub mod Strings
 pub mod Labels
 pub mod Definitions

@@ -16,7 +16,7 @@ use Rattle.blang.specs.Scan.{identifier_of}
 use Rattle.blang.specs.Code.{fault_of}
 use Rattle.blang.specs.WellFormed.{fault_at}
 use Rattle.blang.specs.Compiles.{Defined, Compilation, compiled_text, CompilesTo, code_text, fault_text}
-use Rattle.bgrammar.specs.SourceRows.{ComesIn, Comes, Row, AllCome, externals, functions, faults, places, edges, of_two, names_of_one}
+use Rattle.bgrammar.specs.SourceRows.{ComesIn, Row, AllCome, externals, functions, faults, places, edges, of_two, names_of_one}
 use Rattle.bgrammar.specs.GrammarRows.{definitions, statements, cases, rvalues, assignments, operators, operands, refused, all_refused, statements_of_two, refused_in_two}
 use Rattle.blang.specs.Text.{edition_line}
 use Rattle.bgrammar.proofs.Outcomes.{Ended}

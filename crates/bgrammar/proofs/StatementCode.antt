@@ -1,14 +1,15 @@
 -- The code of a statement whose tokens are sound is within the ranges of its function.
-use Rattle.std.proofs.Common.{ℕ, ◌+◌, ◌<◌, ◌≤◌, List, [], ◌∷◌, length, arith}
+use Rattle.std.proofs.Common.{ℕ, ◌+◌, ◌<◌, ◌≤◌, List, [], ◌∷◌, length, refl, arith}
 use Rattle.std.specs.Prelude.{Option, Some, None}
 use Rattle.std.specs.List.{flat_map}
 use Rattle.blang.specs.CodeParts.{IsInstrWithin, IsWord}
 use Rattle.blang.specs.declared.code.Sizes.{Sizes}
 use Rattle.blang.specs.declared.code.Instr.{Instr}
-use Rattle.blang.specs.Trees.{Expr, Declared, Heading, Auto, Extrn, Label, Case, Default, Stmt, Headed, Compound, If, IfElse, While, Switch, Goto, Break, Return, ReturnValue, Evaluate, Empty, Stmts, Nothing, More}
-use Rattle.blang.specs.Walk.{Walk, walk, walk_commas, walk_list, walk_declared, walk_heading, walk_statement, walk_body}
-use Rattle.blang.specs.Code.{Referent, In_frame, Outside, At_label, Environment, word_code, vector_code, Arms, default_in, heading_code, tests_code, default_code, arms_code, Fragment, without_targets, in_turn, heading_fragment, fragment, body_fragment}
-use Rattle.bgrammar.proofs.CodeLaws.{statement_ends, body_ends}
+use Rattle.blang.specs.Trees.{Declared, Heading, Auto, Extrn, Label, Case, Default, Stmt}
+use Rattle.blang.specs.Walk.{Walk, NothingHere, walk_commas, walk_list, walk_declared, walk_heading, walk_statement}
+use Rattle.blang.specs.Code.{Referent, In_frame, Outside, At_label, Environment, vector_code, Arms, default_in, tests_code, default_code, Code, Fragment, Segment, empty_segment, of_code, ◌▹◌, heading_fragment, fragment}
+use Rattle.bgrammar.proofs.RowLaws.{IsLone, Goes, Returns, Drops, arms_segment, KeptBySegments, by_segments}
+use Rattle.bgrammar.proofs.CodeLaws.{Ends, ends, ends_then, statement_ends}
 use Rattle.bgrammar.proofs.Holds.{Holds, Holds-nil, Holds-cons, Holds-first, Holds-rest, Holds-append}
 use Rattle.bgrammar.proofs.ExpressionCode.{IsMeaningWithin, word-value_of, word_code_within}
 use Rattle.bgrammar.proofs.Walks.{IsVectorWithin, IsWalkWithin}
@@ -25,16 +26,10 @@ abbrev pub IsArmWithin : Sizes → Option ℕ × ℕ → Type 0
 IsArmWithin sizes arm = IsConstant arm.0 × (arm.1 < sizes.code)
 
 -- a fragment with its labels and arms, where its breaks lead into the function
-pub record IsPieceWithin (sizes : Sizes) (a : Fragment) : Type 0 where
+pub record IsFragmentWithin (sizes : Sizes) (a : Fragment) : Type 0 where
   pub code : (out : ℕ) → out < sizes.code → Holds (IsInstrWithin sizes) (a.code out)
   pub labels : Holds (IsPlaceWithin sizes) a.targets.labels
   pub arms : Holds (IsArmWithin sizes) a.targets.arms
-
-plain_within : {sizes : Sizes} {code : ℕ → List Instr} {end : ℕ} → ((out : ℕ) → out < sizes.code → Holds (IsInstrWithin sizes) (code out)) → IsPieceWithin sizes (without_targets code end)
-plain_within h = record { code = h; labels = Holds-nil; arms = Holds-nil }
-
-joined_within : {sizes : Sizes} {a b : Fragment} → IsPieceWithin sizes a → IsPieceWithin sizes b → IsPieceWithin sizes (in_turn a b)
-joined_within x y = record { code = λ out k. Holds-append (x.code out k) (y.code out k); labels = Holds-append x.labels y.labels; arms = Holds-append x.arms y.arms }
 
 module _ (names : Environment) (sizes : Sizes) (meant : (x : List ℕ) → IsMeaningWithin sizes (names x)) (few : sizes.code ≤ 4096) where
   abbrev Within : List Instr → Type 0
@@ -67,76 +62,86 @@ module _ (names : Environment) (sizes : Sizes) (meant : (x : List ℕ) → IsMea
   default_code_within ((None, t) ∷ arms) h = Holds-cons tt (Holds-cons (Holds-first h).1 Holds-nil)
   default_code_within ((Some v, t) ∷ arms) h = default_code_within arms (Holds-rest h)
 
-  rvalue_within : (e : Expr) (p : ℕ) → InWalk (walk e) → p + length (word_code names e p) < sizes.code → Within (word_code names e p)
-  rvalue_within e p = word_code_within names sizes meant few e p
+  heading_within : (h : Heading) (p : ℕ) → InWalk (walk_heading h) → p < sizes.code → IsFragmentWithin sizes (heading_fragment names h p)
+  heading_within (Auto declared) p w l = record { code = λ out k. vectors_code_within declared w.1.0; labels = Holds-nil; arms = Holds-nil }
+  heading_within (Extrn ws) p w l = record { code = λ out k. Holds-nil; labels = Holds-nil; arms = Holds-nil }
+  heading_within (Label v) p w l = record { code = λ out k. Holds-nil; labels = Holds-cons l Holds-nil; arms = Holds-nil }
+  heading_within (Case line c) p w l = record { code = λ out k. Holds-nil; labels = Holds-nil; arms = Holds-cons (word-value_of c w.1.0, l) Holds-nil }
+  heading_within (Default line) p w l = record { code = λ out k. Holds-nil; labels = Holds-nil; arms = Holds-cons (tt, l) Holds-nil }
 
-  from_statement : (s : Stmt) (p : ℕ) → p ≤ (fragment names s p).end
-  from_statement s p = omega (arith, statement_ends names s p 0)
+  -- a segment that is within where it ends in the function
+  record Inside (w : Walk) (f : Segment) : Type 0 where
+    known : Ends f
+    at : InWalk w → (p : ℕ) → (f p).end < sizes.code → IsFragmentWithin sizes (f p)
 
-  from_body : (ss : Stmts) (p : ℕ) → p ≤ (body_fragment names ss p).end
-  from_body ss p = omega (arith, body_ends names ss p 0)
+  code_inside : {w : Walk} {c : Code} → (InWalk w → (p : ℕ) → p + length (c p) < sizes.code → Within (c p)) → Inside w (of_code c)
+  code_inside h = record { known = record { at = λ p out. refl }; at = λ w p l. record { code = λ out k. h w p l; labels = Holds-nil; arms = Holds-nil } }
 
-  heading_fragment_within : (h : Heading) (p : ℕ) → InWalk (walk_heading h) → p < sizes.code → IsPieceWithin sizes (heading_fragment names h p)
-  heading_fragment_within (Auto declared) p w l = record { code = λ out k. vectors_code_within declared w.1.0; labels = Holds-nil; arms = Holds-nil }
-  heading_fragment_within (Extrn ws) p w l = record { code = λ out k. Holds-nil; labels = Holds-nil; arms = Holds-nil }
-  heading_fragment_within (Label v) p w l = record { code = λ out k. Holds-nil; labels = Holds-cons l Holds-nil; arms = Holds-nil }
-  heading_fragment_within (Case line c) p w l = record { code = λ out k. Holds-nil; labels = Holds-nil; arms = Holds-cons (word-value_of c w.1.0, l) Holds-nil }
-  heading_fragment_within (Default line) p w l = record { code = λ out k. Holds-nil; labels = Holds-nil; arms = Holds-cons (tt, l) Holds-nil }
+  lone_within : {i : Instr} → IsLone i → IsInstrWithin sizes i
+  lone_within Goes = tt
+  lone_within Returns = tt
+  lone_within Drops = tt
 
-  mutual
-    pub fragment_within : (s : Stmt) (p : ℕ) → InWalk (walk_statement s) → (fragment names s p).end < sizes.code → IsPieceWithin sizes (fragment names s p)
-    fragment_within (Headed h s) p w l =
-        let q = p + length (heading_code names h) in
-        joined_within (heading_fragment_within h p w.0 (omega (arith, from_statement s q))) (fragment_within s q w.1 l)
-    fragment_within (Compound body) p w l = body_within body p w.0.1 l
-    fragment_within (If e s) p w l =
-        let q = p + length (word_code names e p) + 1 in
-        let x = fragment_within s q w.1.1 l in
-        let test = rvalue_within e p w.1.0.1.0 (omega (arith, from_statement s q)) in
-        record { code = λ out k. Holds-append test (Holds-cons l (x.code out k)); labels = x.labels; arms = x.arms }
-    fragment_within (IfElse e s other) p w l =
-        let q = p + length (word_code names e p) + 1 in
-        let a = (fragment names s q).end + 1 in
-        let within : a < sizes.code = omega (arith, from_statement other a) in
-        let test = rvalue_within e p w.1.0.1.0 (omega (arith, from_statement s q)) in
-        let x = fragment_within s q w.1.1.0 (omega arith) in
-        let y = fragment_within other a w.1.1.1.1 l in
-        record {
-          code = λ out k. Holds-append test (Holds-cons within (Holds-append (x.code out k) (Holds-cons l (y.code out k))));
-          labels = Holds-append x.labels y.labels;
-          arms = Holds-append x.arms y.arms;
-        }
-    fragment_within (While e s) p w l =
-        let q = p + length (word_code names e p) + 1 in
-        let start : p < sizes.code = omega (arith, from_statement s q) in
-        let test = rvalue_within e p w.1.0.1.0 (omega (arith, from_statement s q)) in
-        let x = fragment_within s q w.1.1.1 (omega arith) in
-        record {
-          code = λ out k. Holds-append test (Holds-cons l (Holds-append (x.code ((fragment names s q).end + 1) l) (Holds-cons start Holds-nil)));
-          labels = x.labels;
-          arms = x.arms;
-        }
-    fragment_within (Switch e body) p w l =
-        let q = p + length (word_code names e p) + 1 in
-        let arms = (body_fragment names body q).targets.arms in
-        let start : (body_fragment names body q).end + 1 < sizes.code = omega arith in
-        let value = rvalue_within e p w.1.0 (omega (arith, from_body body q)) in
-        let x = body_within body q w.1.1.1.1.0 (omega arith) in
-        let tests = Holds-append (tests_code_within arms x.arms) (default_code_within arms x.arms) in
-        record {
-          code = λ out k. Holds-append value (Holds-cons start (Holds-append (x.code ((body_fragment names body q).end + 1 + length (arms_code arms)) l) (Holds-cons l tests)));
-          labels = x.labels;
-          arms = Holds-nil;
-        }
-    fragment_within (Goto e) p w l = plain_within (λ out k. Holds-append (rvalue_within e p w.1.0 (omega arith)) (Holds-cons tt Holds-nil))
-    fragment_within (Break line) p w l = plain_within (λ out k. Holds-cons k Holds-nil)
-    fragment_within Return p w l = plain_within (λ out k. Holds-cons (omega arith) (Holds-cons tt Holds-nil))
-    fragment_within (ReturnValue e) p w l = plain_within (λ out k. Holds-append (rvalue_within e p w.1.0.1.0 (omega arith)) (Holds-cons tt Holds-nil))
-    fragment_within (Evaluate e) p w l = plain_within (λ out k. Holds-append (rvalue_within e p w.0 (omega arith)) (Holds-cons tt Holds-nil))
-    fragment_within Empty p w l = plain_within (λ out k. Holds-nil)
+  -- one segment after another
+  both_inside : {f g : Segment} → Ends f → Ends g → ((p : ℕ) → (f p).end < sizes.code → IsFragmentWithin sizes (f p)) → ((p : ℕ) → (g p).end < sizes.code → IsFragmentWithin sizes (g p))
+      → (p : ℕ) → ((f ▹ g) p).end < sizes.code → IsFragmentWithin sizes ((f ▹ g) p)
+  both_inside {f} {g} k n x y p l =
+      let q = (f p).end in
+      let a = x p (omega (arith, n.at q 0)) in
+      let b = y q l in
+      record { code = λ out o. Holds-append (a.code out o) (b.code out o); labels = Holds-append a.labels b.labels; arms = Holds-append a.arms b.arms }
 
-    body_within : (ss : Stmts) (p : ℕ) → InWalk (walk_body ss) → (body_fragment names ss p).end < sizes.code → IsPieceWithin sizes (body_fragment names ss p)
-    body_within Nothing p w l = plain_within (λ out k. Holds-nil)
-    body_within (More before s) p w l =
-        let q = (body_fragment names before p).end in
-        joined_within (body_within before p w.0 (omega (arith, from_statement s q))) (fragment_within s q w.1 l)
+  empty_inside : Inside NothingHere empty_segment
+  empty_inside = record { known = (ends names).none; at = λ w p l. record { code = λ out k. Holds-nil; labels = Holds-nil; arms = Holds-nil } }
+
+  inside_segments : KeptBySegments names names (IsPlaceWithin sizes) Ends (λ w f g. Inside w f)
+  inside_segments = record {
+    known = λ s. record { at = statement_ends names s };
+    none = empty_inside;
+    lone = λ i. code_inside (λ w p l. Holds-cons (lone_within i) Holds-nil);
+    returns = code_inside (λ w p l. Holds-cons (omega arith) (Holds-cons tt Holds-nil));
+    jumps = λ there m. code_inside (λ w p l. Holds-cons m Holds-nil);
+    jumps_if_zero = λ there m. code_inside (λ w p l. Holds-cons m Holds-nil);
+    leaves = record { known = (ends names).leaves; at = λ w p l. record { code = λ out k. Holds-cons k Holds-nil; labels = Holds-nil; arms = Holds-nil } };
+    value = λ e. code_inside (λ w p l. word_code_within names sizes meant few e p w l);
+    heads = λ h. record { known = (ends names).heads h; at = λ w p l. heading_within h p w (omega arith) };
+    quiet = λ q x. record { known = x.known; at = λ w. x.at tt };
+    after = λ q x. record { known = x.known; at = λ w. x.at w.1 };
+    before = λ q x. record { known = x.known; at = λ w. x.at w.0 };
+    inside = λ q x. record { known = x.known; at = λ w. x.at w.1 };
+    then_ = λ {v} {w} {f} {f2} {g} x y. record { known = ends_then x.known y.known; at = λ w. both_inside {f = f} {g = g} x.known y.known (x.at w.0) (y.at w.1) };
+    coded = λ {w} {f} {f2} {g} x y. record { known = ends_then x.known y.known; at = λ w. both_inside {f = f} {g = g} x.known y.known (x.at tt) (y.at w) };
+    ended = λ {w} {f} {f2} {g} x y. record {
+      known = record { at = (ends_then x.known y.known).at };
+      at = λ w p l. let a = both_inside {f = f} {g = g} x.known y.known (x.at w) (y.at tt) p l in let b = x.at w p (omega (arith, y.known.at ((f p).end) 0)) in record { code = a.code; labels = b.labels; arms = b.arms };
+    };
+    leads = λ there m x. record {
+      known = record { at = λ p out. x.known.at p there };
+      at = λ w p l. let a = x.at w p l in record { code = λ out k. a.code there m; labels = a.labels; arms = a.arms };
+    };
+    whole = λ {w} {f} x known same. record {
+      known = known;
+      at = λ w p l. let after = (f 0 0 p).end in (x p after (omega (arith, known.at p 0)) (omega (arith, same p after p))).at w p l;
+    };
+    halved = λ {w} {u} {f} {f2} {g} x y known rest same. record {
+      known = known;
+      at = λ i p l.
+          let middle = (f 0 0 empty_segment p).end in
+          let after = (g middle).end in
+          (x middle after (omega (arith, same middle after p g, rest.at middle 0)) (omega (arith, same middle after p g)) u g g y).at i p l;
+    };
+    chosen = λ {w} {f} x known same. record {
+      known = known;
+      at = λ i p l.
+          let a = f 0 0 empty_segment p in
+          let after = (arms_segment a a.end).end in
+          let m : a.end < sizes.code = omega (arith, same a.end after p (arms_segment a)) in
+          let first = (x 0 0 (omega arith) (omega arith) empty_segment empty_segment empty_inside).at i p m in
+          let tests = code_inside (λ j q n. Holds-append (tests_code_within a.targets.arms first.arms) (default_code_within a.targets.arms first.arms)) in
+          let b = (x a.end after m (omega (arith, same a.end after p (arms_segment a))) (arms_segment a) (arms_segment a) tests).at i p l in
+          record { code = b.code; labels = b.labels; arms = Holds-nil };
+    };
+  }
+
+  pub fragment_within : (s : Stmt) (p : ℕ) → InWalk (walk_statement s) → (fragment names s p).end < sizes.code → IsFragmentWithin sizes (fragment names s p)
+  fragment_within s p w l = (by_segments inside_segments s).at w p l

@@ -17,6 +17,7 @@ pub mod GrammarRows
 pub mod DiagnosticRows
 pub mod Levels
 pub mod LevelRows
+pub mod LineRows
 pub mod ProgramRules
 pub mod Laws
 pub mod Editions

@@ -10,6 +10,7 @@ ghost use Rattle.bgrammar.specs.ProgramRules.{FormedWithin, HasParts, OneProgram
 ghost use Rattle.bgrammar.specs.OutcomeRows.{OutcomeRows};
 ghost use Rattle.bgrammar.specs.GrammarRows.{all_refused, assignments, cases, definitions, operands, operators, refused, refused_in_two, rvalues, statements, statements_of_two};
 ghost use Rattle.bgrammar.specs.SourceRows.{AllCome, edges, externals, faults, functions, names_of_one, of_two, places};
+ghost use Rattle.bgrammar.specs.LineRows.{AllLined, AreLeft, lined, lined_of_two};
 ghost use Rattle.blang.specs.Text.{edition_line};
 ghost use Rattle.bword.specs.declared.edition.Edition.TheVariants as editions;
 ghost use Rattle.std.specs.Prelude.{[]};
@@ -128,6 +129,13 @@ pub fn rows_of_sources()
     ensures edges { AllCome editions.One edges }
     ensures names { AllCome editions.One names_of_one }
     ensures two { AllCome editions.Two of_two }
+{}
+
+/// The line of each instruction and initial value of whole sources, where each token stands on a line of its own.
+pub fn rows_of_lines()
+    ensures lines { AllLined editions.One lined }
+    ensures two { AllLined editions.Two lined_of_two }
+    ensures left { AreLeft }
 {}
 
 /// Each production of the grammar at each place where it may stand, and what is refused beside it.

@@ -104,70 +104,115 @@ default_code (Some t) = instr.Pop ∷ instr.Jump t ∷ []
 abbrev pub arms_code : Arms ℕ → List Instr
 arms_code arms = tests_code arms ++ default_code (default_in arms)
 
--- A fragment of code that begins at a place p. Its instructions are `code out`: a break in it that is in no loop and no
--- switch of its own jumps to `out`. The place after it is p and the number of its instructions. Its targets are the
--- places of its labels, and of its arms of the switch around it.
+-- code by the place where it begins
+abbrev pub Code : Type 0
+Code = (p : ℕ) → List Instr
+
+abbrev pub put : Instr → Code
+put i p = i ∷ []
+
+infixr 60 ◌⨾◌
+-- code after code
+abbrev pub ◌⨾◌ : Code → Code → Code
+◌⨾◌ c d p = c p ++ d (p + length (c p))
+
+-- A fragment of code, its instructions being `code out`: a break in it that is in no loop and no switch of its own
+-- jumps to `out`. The end is the place after it. Its targets are the places of its labels, and of its arms of the
+-- switch around it.
 pub record Fragment : Type 0 where
   pub code : (out : ℕ) → List Instr
   pub end : ℕ
   pub targets : Targets ℕ
 
-abbrev pub without_targets : ((out : ℕ) → List Instr) → (end : ℕ) → Fragment
-without_targets code end = record { code = code; end = end; targets = no_targets }
+-- A segment is a fragment by the place where it begins.
+abbrev pub Segment : Type 0
+Segment = (p : ℕ) → Fragment
 
--- one fragment after another
-abbrev pub in_turn : Fragment → Fragment → Fragment
-in_turn a b =
+abbrev pub empty_segment : Segment
+empty_segment p = record { code = λ out. []; end = p; targets = no_targets }
+
+-- code alone
+abbrev pub of_code : Code → Segment
+of_code c p = record { code = λ out. c p; end = p + length (c p); targets = no_targets }
+
+abbrev pub jump : (there : ℕ) → Segment
+jump there = of_code (put (instr.Jump there))
+
+abbrev pub jump_if_zero : (there : ℕ) → Segment
+jump_if_zero there = of_code (put (instr.JumpIfZero there))
+
+-- a jump to where breaks lead
+abbrev pub leave : Segment
+leave p = record (jump 0 p) { code = λ out. instr.Jump out ∷ [] }
+
+-- its breaks lead there
+abbrev pub leaving : ℕ → Segment → Segment
+leaving there f p = record (f p) { code = λ out. (f p).code there }
+
+infixr 60 ◌▹◌ ◌▷◌
+-- one segment after another
+abbrev pub ◌▹◌ : Segment → Segment → Segment
+◌▹◌ f g p =
+    let a = f p in
+    let b = g a.end in
     record { code = λ out. a.code out ++ b.code out; end = b.end; targets = both_targets a.targets b.targets }
+
+-- a segment, and code without targets after it
+abbrev pub ◌▷◌ : Segment → Segment → Segment
+◌▷◌ f g p = record ((f ▹ g) p) { targets = (f p).targets }
+
+-- a switch keeps its arms to itself
+abbrev pub keeping_arms : Segment → Segment
+keeping_arms f p = record (f p) { targets = record (f p).targets { arms = [] } }
+
+-- A row is made of segments that know where it begins and what is after it. Where code ends doesn't depend on where its
+-- jumps lead, so at first they lead to 0.
+abbrev pub row : ((start after : ℕ) → Segment) → Segment
+row f p = f p (f 0 0 p).end p
+
+-- Two halves: the first one goes on with the second, and knows where that begins and what is after it. The second one
+-- knows the first.
+abbrev pub halves : ((middle after : ℕ) → Segment → Segment) → (Fragment → Segment) → Segment
+halves f g p = let a = f 0 0 empty_segment p in f a.end (g a a.end).end (g a) p
 
 module _ (names : Environment) where
   abbrev mutual
-    -- leaves the word of an expression at p
-    pub word_code : Expr → ℕ → List Instr
-    word_code (Named w) p = name_word_code (names w.text) w.text
-    word_code (Literal c) p = instr.Constant (constant_value c) ∷ []
-    word_code (Text bytes offset) p = instr.Text offset ∷ []
-    word_code (Grouped e) p = word_code e p
-    word_code (Indexed e f) p =
-        let ce = word_code e p in
-        ce ++ (word_code f (p + length ce) ++ (instr.Binary op.Add ∷ instr.Load ∷ []))
-    word_code (Called e args) p =
-        let ce = word_code e p in
-        ce ++ (argument_code args (p + length ce) ++ (instr.Call (argument_count args) ∷ []))
-    word_code (Postfixed PostIncrement line e) p = address_code e p ++ (instr.Increment increment.PostIncrement ∷ [])
-    word_code (Postfixed PostDecrement line e) p = address_code e p ++ (instr.Increment increment.PostDecrement ∷ [])
-    word_code (Prefixed Negate line e) p = word_code e p ++ (instr.Negate ∷ [])
-    word_code (Prefixed Not line e) p = word_code e p ++ (instr.Not ∷ [])
-    word_code (Prefixed Indirection line e) p = word_code e p ++ (instr.Load ∷ [])
-    word_code (Prefixed Address line e) p = address_code e p
-    word_code (Prefixed PreIncrement line e) p = address_code e p ++ (instr.Increment increment.PreIncrement ∷ [])
-    word_code (Prefixed PreDecrement line e) p = address_code e p ++ (instr.Increment increment.PreDecrement ∷ [])
-    word_code (Binary op line e f) p =
-        let ce = word_code e p in
-        ce ++ (word_code f (p + length ce) ++ (instr.Binary op ∷ []))
-    word_code (Conditional e f g) p =
+    -- leaves the word of an expression
+    pub word_code : Expr → Code
+    word_code (Named w) = λ p. name_word_code (names w.text) w.text
+    word_code (Literal c) = put (instr.Constant (constant_value c))
+    word_code (Text bytes offset) = put (instr.Text offset)
+    word_code (Grouped e) = word_code e
+    word_code (Indexed e f) = word_code e ⨾ word_code f ⨾ put (instr.Binary op.Add) ⨾ put instr.Load
+    word_code (Called e args) = word_code e ⨾ argument_code args ⨾ put (instr.Call (argument_count args))
+    word_code (Postfixed PostIncrement line e) = address_code e ⨾ put (instr.Increment increment.PostIncrement)
+    word_code (Postfixed PostDecrement line e) = address_code e ⨾ put (instr.Increment increment.PostDecrement)
+    word_code (Prefixed Negate line e) = word_code e ⨾ put instr.Negate
+    word_code (Prefixed Not line e) = word_code e ⨾ put instr.Not
+    word_code (Prefixed Indirection line e) = word_code e ⨾ put instr.Load
+    word_code (Prefixed Address line e) = address_code e
+    word_code (Prefixed PreIncrement line e) = address_code e ⨾ put (instr.Increment increment.PreIncrement)
+    word_code (Prefixed PreDecrement line e) = address_code e ⨾ put (instr.Increment increment.PreDecrement)
+    word_code (Binary op line e f) = word_code e ⨾ word_code f ⨾ put (instr.Binary op)
+    word_code (Conditional e f g) = λ p.
         let ce = word_code e p in
         let cf = word_code f (p + length ce + 1) in
         let at_g = p + length ce + 1 + length cf + 1 in
         let cg = word_code g at_g in
         ce ++ (instr.JumpIfZero at_g ∷ (cf ++ (instr.Jump (at_g + length cg) ∷ cg)))
-    word_code (Assigned op line e f) p =
-        let ce = address_code e p in
-        ce ++ (word_code f (p + length ce) ++ (assignment op ∷ []))
+    word_code (Assigned op line e f) = address_code e ⨾ word_code f ⨾ put (assignment op)
 
     -- leaves the address of an lvalue; of what a scan refuses, a label's value or 0
-    pub address_code : Expr → ℕ → List Instr
-    address_code (Named w) p = name_address_code (names w.text) w.text ∷ []
-    address_code (Grouped e) p = address_code e p
-    address_code (Prefixed Indirection line e) p = word_code e p
-    address_code (Indexed e f) p =
-        let ce = word_code e p in
-        ce ++ (word_code f (p + length ce) ++ (instr.Binary op.Add ∷ []))
-    address_code _ p = instr.Constant 0 ∷ []
+    pub address_code : Expr → Code
+    address_code (Named w) = put (name_address_code (names w.text) w.text)
+    address_code (Grouped e) = address_code e
+    address_code (Prefixed Indirection line e) = word_code e
+    address_code (Indexed e f) = word_code e ⨾ word_code f ⨾ put (instr.Binary op.Add)
+    address_code _ = put (instr.Constant 0)
 
-    pub argument_code : Arguments → ℕ → List Instr
-    argument_code No_arguments p = []
-    argument_code (Another before e) p = let cb = argument_code before p in cb ++ word_code e (p + length cb)
+    pub argument_code : Arguments → Code
+    argument_code No_arguments = λ p. []
+    argument_code (Another before e) = argument_code before ⨾ word_code e
 
   -- sets the own word of a vector
   abbrev pub vector_code : Referent → Option ℕ → List Instr
@@ -178,58 +223,36 @@ module _ (names : Environment) where
   heading_code (Auto declared) = flat_map (λ d. vector_code (names d.word.text) d.size) declared
   heading_code _ = []
 
-  abbrev pub heading_fragment : Heading → (p : ℕ) → Fragment
-  heading_fragment h p =
-      record { code = λ out. heading_code h; end = p + length (heading_code h); targets = heading_targets h p }
+  abbrev pub heading_fragment : Heading → Segment
+  heading_fragment h p = record (of_code (λ q. heading_code h) p) { targets = heading_targets h p }
 
-  -- an expression and an instruction after it
-  abbrev pub word_then : Expr → Instr → (p : ℕ) → Fragment
-  word_then e i p = without_targets (λ out. word_code e p ++ (i ∷ [])) (p + length (word_code e p) + 1)
+  abbrev pub rvalue : Expr → Segment
+  rvalue e = of_code (word_code e)
 
-  -- The code of a statement at p. `record a { .. }` keeps of a what it doesn't name.
+  -- the code of a statement
   abbrev mutual
-    pub fragment : Stmt → (p : ℕ) → Fragment
-    fragment (Headed h s) p = let a = heading_fragment h p in in_turn a (fragment s a.end)
-    fragment (Compound body) p = body_fragment body p
-    fragment (If e s) p =
-        let test = word_code e p in
-        let a = fragment s (p + length test + 1) in
-        record a { code = λ out. test ++ (instr.JumpIfZero a.end ∷ a.code out) }
-    fragment (IfElse e s other) p =
-        let test = word_code e p in
-        let a = fragment s (p + length test + 1) in
-        let b = fragment other (a.end + 1) in
-        record (in_turn a b) {
-          code = λ out. test
-              ++ (instr.JumpIfZero (a.end + 1) ∷ (a.code out ++ (instr.Jump b.end ∷ b.code out)));
-        }
-    fragment (While e s) p =
-        let test = word_code e p in
-        let a = fragment s (p + length test + 1) in
-        let after = a.end + 1 in
-        record a { code = λ _. test ++ (instr.JumpIfZero after ∷ (a.code after ++ (instr.Jump p ∷ []))); end = after }
-    fragment (Switch e body) p =
-        let value = word_code e p in
-        let a = body_fragment body (p + length value + 1) in
-        let choice = arms_code a.targets.arms in
-        let choice_at = a.end + 1 in
-        let after = choice_at + length choice in
-        record {
-          code = λ _. value ++ (instr.Jump choice_at ∷ (a.code after ++ (instr.Jump after ∷ choice)));
-          end = after;
-          -- a switch keeps its arms to itself
-          targets = record a.targets { arms = [] };
-        }
-    fragment (Goto e) p = word_then e instr.Goto p
-    fragment (Break line) p = without_targets (λ out. instr.Jump out ∷ []) (p + 1)
-    fragment Return p = without_targets (λ out. instr.Constant 0 ∷ instr.Return ∷ []) (p + 2)
-    fragment (ReturnValue e) p = word_then e instr.Return p
-    fragment (Evaluate e) p = word_then e instr.Pop p
-    fragment Empty p = without_targets (λ out. []) p
+    pub fragment : Stmt → Segment
+    fragment (Headed h s) = heading_fragment h ▹ fragment s
+    fragment (Compound body) = body_fragment body
+    fragment (If e s) = row λ start after. rvalue e ▹ jump_if_zero after ▹ fragment s
+    fragment (IfElse e s other) =
+        halves (λ middle after rest. rvalue e ▹ jump_if_zero middle ▹ fragment s ▹ jump after ▹ rest)
+        (λ first. fragment other)
+    fragment (While e s) = row λ start after. rvalue e ▹ jump_if_zero after ▹ leaving after (fragment s) ▷ jump start
+    fragment (Switch e body) =
+        keeping_arms (halves
+        (λ middle after rest. rvalue e ▹ jump middle ▹ leaving after (body_fragment body) ▷ jump after ▹ rest)
+        (λ first. of_code λ p. arms_code first.targets.arms))
+    fragment (Goto e) = rvalue e ▹ of_code (put instr.Goto)
+    fragment (Break line) = leave
+    fragment Return = of_code (put (instr.Constant 0) ⨾ put instr.Return)
+    fragment (ReturnValue e) = rvalue e ▹ of_code (put instr.Return)
+    fragment (Evaluate e) = rvalue e ▹ of_code (put instr.Pop)
+    fragment Empty = empty_segment
 
-    pub body_fragment : Stmts → (p : ℕ) → Fragment
-    body_fragment Nothing p = without_targets (λ out. []) p
-    body_fragment (More before s) p = let a = body_fragment before p in in_turn a (fragment s a.end)
+    pub body_fragment : Stmts → Segment
+    body_fragment Nothing = empty_segment
+    body_fragment (More before s) = body_fragment before ▹ fragment s
 
 -- the words of the strings of a definition, one after another
 abbrev pub string_words_of : Definition → List ℕ

@@ -28,4 +28,5 @@ pub mod LibraryRows
 pub mod MeaningRows
 pub mod OperatorRows
 pub mod LimitRows
+pub mod Lines
 pub mod LetterRows

@@ -49,6 +49,19 @@ run_end p bytes r n e f =
     let same : n ≡ run_len p bytes = f ∙ ap (λ o. unwrap_or o (length bytes)) e ∙ found_or_all (run_len p bytes) (length bytes) h.1 in
     rw same h
 
+twice_not : (b : Bool) → not (not b) ≡ b
+twice_not true = refl
+twice_not false = refl
+
+run_is : (p : ℕ → Bool) (bytes : List ℕ) → run_len p bytes ≡ prefix_len p bytes
+unfolding run_len
+run_is p [] = refl
+run_is p (b ∷ bs) = rw (twice_not (p b), run_is p bs) refl
+
+pub run_place : (p : ℕ → Bool) (bytes : List ℕ) (r : Option ℕ) (n : ℕ) → r ≡ position (λ b. not (p b)) bytes → n ≡ unwrap_or r (length bytes) → n ≡ prefix_len p bytes
+unfolding run_len
+run_place p bytes r n e f = f ∙ ap (λ o. unwrap_or o (length bytes)) e ∙ found_or_all (run_len p bytes) (length bytes) (run_bytes p bytes).1 ∙ run_is p bytes
+
 -- no line ends in bytes of which none is a newline
 run_line : (p : ℕ → Bool) → ((b : ℕ) → p b ≡ true → (b == 10) ≡ false) → (line : ℕ) (bytes : List ℕ) → list_all p bytes ≡ true → line_number_after line bytes ≡ line
 run_line p other line [] e = refl

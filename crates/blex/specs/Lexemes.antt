@@ -34,6 +34,31 @@ token_of_lexeme lexeme.CloseBrace characters = token.CloseBrace
 token_of_lexeme (lexeme.Bad letters) characters = token.Bad letters
 token_of_lexeme lexeme.End characters = token.End
 
+-- the lexeme of a token
+abbrev pub lexeme_of : Token → Lexeme
+lexeme_of (token.Name name) = lexeme.Name name
+lexeme_of (token.Keyword keyword) = lexeme.Keyword keyword
+lexeme_of (token.Number value) = lexeme.Number value
+lexeme_of (token.Character value) = lexeme.Character value
+lexeme_of (token.String characters) = lexeme.String
+lexeme_of (token.Operator op) = lexeme.Operator op
+lexeme_of (token.Assign op) = lexeme.Assign op
+lexeme_of token.Not = lexeme.Not
+lexeme_of token.Increment = lexeme.Increment
+lexeme_of token.Decrement = lexeme.Decrement
+lexeme_of token.Question = lexeme.Question
+lexeme_of token.Colon = lexeme.Colon
+lexeme_of token.Comma = lexeme.Comma
+lexeme_of token.Semicolon = lexeme.Semicolon
+lexeme_of token.OpenParen = lexeme.OpenParen
+lexeme_of token.CloseParen = lexeme.CloseParen
+lexeme_of token.OpenBracket = lexeme.OpenBracket
+lexeme_of token.CloseBracket = lexeme.CloseBracket
+lexeme_of token.OpenBrace = lexeme.OpenBrace
+lexeme_of token.CloseBrace = lexeme.CloseBrace
+lexeme_of (token.Bad letters) = lexeme.Bad letters
+lexeme_of token.End = lexeme.End
+
 -- the token that was seen, and its line
 abbrev pub placed_of : List ℕ → Seen → Placed
 placed_of characters seen = placed (token_of_lexeme seen.lexeme characters) seen.line

@@ -28,7 +28,7 @@ pub keeps_more : {a b c : Compiler} → SameCompiler a b → SameCompiler b c �
 keeps_more h k = record { first = k.first ∙ h.first; lender = k.lender ∙ h.lender; out_lender = k.out_lender ∙ h.out_lender }
 
 -- what a call wrote after the definitions that are known
-pub written_last : {old new : Compiler} (h : CompilerGives old step.Written new) → Wrote h.0.before old new
+pub written_last : {old new : Compiler} (h : CompilerGives old step.Written new) → Wrote h.0.since new
 written_last h = h.1 h.0.before h.0.since
 
 -- what is left after texts

@@ -22,7 +22,10 @@ use Rattle.bgrammar.proofs.Membership.{by_membership}
 use Rattle.bgrammar.proofs.Outcomes.{Ended}
 use Rattle.bgrammar.proofs.GoesLaws.{tokens_from-ended, ended_cons, goes_once, goes_some, goes_end}
 use Rattle.bgrammar.proofs.GoesReads.{goes_after_read, goes_fault_read, goes_stop_read}
-use Rattle.bread.specs.Tokens.{Tokens, tokens_of, tokens_with, is_name, IsLoaded, IsSingle, Looks, LooksAt, Moves, work, TakesAhead, TokensFail}
+use Rattle.bemit.specs.Drafts.{started}
+use Rattle.bemit.specs.Trails.{no_lines, took, trail, trailed_definition, definition_trail}
+use Rattle.bparse.proofs.MadeSteps.{started_fresh}
+use Rattle.bread.specs.Tokens.{Tokens, lines_in, tokens_of, tokens_with, is_name, IsLoaded, IsSingle, Looks, LooksAt, Moves, work, TakesAhead, TokensFail}
 use Rattle.bword.specs.ByteEnds.{CanFollow}
 use Rattle.bread.proofs.TokenSteps.{Reads-append, LooksAt-append, CanFollow-append}
 use Rattle.bread.proofs.Moving.{single_here}
@@ -168,18 +171,24 @@ module _ (old mid : Tokens) (names : Defined) (l : Looks old mid) where
         (some.outcome, goes_once g (comes_first clean more c some.outcome some.goes))
 
     pub wrote : (names' : Defined) (out' : Outgoing) → fault_of names tree ≡ None → AreNames names' (names ++ name ∷ []) → Writes out (compiled_text tree) out' → IsSingle new → work new < work mid
+        → ((ls : List ℕ) → trailed_definition tree (started names (identifier_of tree)) (took (trail (m.passed ls) no_lines)) ≡ trail ls new.noted)
         → Writing (point old names out) (point new names' out')
-    wrote names' out' clean added w single less = record {
+    wrote names' out' clean added w single less notes = record {
       taken = both new m;
       reads = both_read new m;
       looked = both_looked new m;
       failures = failed_none new m;
       tree = tree;
+      clean = clean;
       read = λ more c. ap definition (come new m more c) ∙ m.come more c;
       names = subst (λ n. AreNames names' (names ++ n ∷ [])) name_is added;
       written = w;
       single = single;
       falls = let a = l.moves.falls in omega (arith, a, less);
+      lines = λ more c.
+          let ls = lines_in (tokens_of new more) in
+          ap (λ ts. definition_trail tree (lines_in ts)) (come new m more c) ∙ ap (definition_trail tree) (m.spans more c)
+          ∙ ap (λ d. trailed_definition tree d (took (trail (m.passed ls) no_lines))) (sym (started_fresh names tree clean)) ∙ notes ls;
       comes = λ more c r g. comes_first clean more c r (by_membership names' (names ++ name ∷ []) (tokens_of new more) r added.members g);
     }
 

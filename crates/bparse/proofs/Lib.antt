@@ -10,3 +10,4 @@ pub mod SinceSteps
 pub mod TakenSteps
 pub mod TakenLaws
 pub mod NamesSteps
+mod WatchSteps

@@ -1,18 +1,21 @@
 -- What a pass made of a definition is what its tree has.
-use Rattle.std.proofs.Common.{◌≡◌, [], ◌++◌, true, false, Option, Some, None, refl, sym, ap, ◌∙◌, subst}
+use Rattle.std.proofs.Common.{◌≡◌, Bool, [], ◌++◌, true, false, Option, Some, None, refl, sym, ap, ◌∙◌, subst}
 use Rattle.blang.specs.declared.token.Diagnostic.{Diagnostic}
 use Rattle.blang.specs.declared.token.Token.{Token}
 use Rattle.blang.specs.declared.token.Token.TheVariants as token
 use Rattle.blang.specs.declared.code.Definition as coded
-use Rattle.blang.specs.Code.{code_of, fault_of}
+use Rattle.blang.specs.Code.{code_of, fault_of, or_too_large}
+use Rattle.blang.specs.declared.token.Letters.TheVariants as letters
+use Rattle.std.specs.List.{list_any}
+use Rattle.bword.specs.Words.{same_name}
 use Rattle.blang.specs.Compiles.{Defined}
 use Rattle.blang.specs.Trees.{Definition}
 use Rattle.blang.specs.WellFormed.{IsFormed}
 use Rattle.bgrammar.specs.DefinitionReader.{definition}
 use Rattle.bgrammar.specs.Reading.{Got}
-use Rattle.blang.specs.Scan.{identifier_of}
+use Rattle.blang.specs.Scan.{identifier_of, name_fault, scan}
 use Rattle.bgrammar.proofs.LawProofs.{definition_read}
-use Rattle.bemit.specs.Drafts.{Draft, Going, fault_in, draft_resolved, started}
+use Rattle.bemit.specs.Drafts.{Draft, Going, fault_in, draft_resolved, fresh, started}
 use Rattle.bemit.specs.Effects.{code_with, definition_done}
 use Rattle.bemit.specs.Views.{IfMade}
 use Rattle.bcodegen.proofs.Definitions.{one_pass}
@@ -23,6 +26,18 @@ use Rattle.bparse.specs.Sizes.{IsSmall}
 use Rattle.bread.specs.Tokens.{Tokens, tokens_of, Moves}
 use Rattle.bread.specs.declared.header.DefinitionHead.{DefinitionHead}
 use Rattle.bparse.proofs.CleanLaws.{clean_small}
+
+-- a definition without a fault begins as one after no others
+pub started_fresh : (names : Defined) (d : Definition) → fault_of names d ≡ None → started names (identifier_of d) ≡ fresh
+started_fresh names d h = go (list_any (same_name (identifier_of d).text) names) refl
+  where
+    go : (b : Bool) → list_any (same_name (identifier_of d).text) names ≡ b → started names (identifier_of d) ≡ fresh
+    go false q = rw q refl
+    go true q =
+        let f = name_fault letters.Redeclared (identifier_of d) in
+        let scan_is : scan names d ≡ Some f = rw q refl in
+        let bad : Some f ≡ None = sym (ap (λ o. or_too_large o (identifier_of d).line (code_of d)) scan_is) ∙ h in
+        cc
 
 pub end_of : (t : Token) → is_end t ≡ true → t ≡ token.End
 end_of token.End e = refl

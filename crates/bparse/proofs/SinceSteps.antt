@@ -1,6 +1,7 @@
 -- What a call of the compiler comes to, counted from when the compiler was made.
-use Rattle.std.proofs.Common.{◌≡◌, ℕ, ◌≤◌, Bool, true, false, List, [], ◌∷◌, ◌++◌, length, map, Option, Some, None, Result, Ok, Err, refl, sym, ap, ◌∙◌, subst, append_assoc, append-nil, arith, ◌⊎◌, inl, inr, if◌then◌else◌}
-use Rattle.std.proofs.lemmas.List.{map-append}
+use Rattle.std.proofs.Common.{◌≡◌, ℕ, zero, suc, ◌+◌, length-append, ◌≤◌, Bool, true, false, List, [], ◌∷◌, ◌++◌, length, map, take, drop, get_or, Option, Some, None, Result, Ok, Err, refl, sym, ap, ◌∙◌, subst, append_assoc, append-nil, arith, ◌⊎◌, inl, inr, if◌then◌else◌}
+use Rattle.std.proofs.lemmas.List.{map-append, length-map}
+use Rattle.std.proofs.Math.Seq.{drop-append_seam}
 use Rattle.std.proofs.lemmas.Grind.{flat_map-append}
 use Rattle.bword.specs.ByteEnds.{Incoming, Outgoing, Took, Grew, Writes}
 use Rattle.bword.specs.declared.ends.EndFault.{EndFault}
@@ -25,7 +26,10 @@ use Rattle.bgrammar.proofs.GoesLaws.{goes_once, goes_some}
 use Rattle.bgrammar.proofs.GoesReads.{Taken, got_taken}
 use Rattle.bgrammar.proofs.LawProofs.{definition_read, lines_unread}
 use Rattle.bgrammar.proofs.ProgramLaws.{read_there}
-use Rattle.bread.specs.Tokens.{tokens_of, IsReady, LooksAt, last_ahead}
+use Rattle.bemit.specs.Trails.{definition_trail}
+use Rattle.blang.specs.Lines.{lines_of, program_lines, lines_after}
+use Rattle.bcodegen.proofs.DefinitionNotes.{one_trail}
+use Rattle.bread.specs.Tokens.{lines_in, tokens_of, IsReady, LooksAt, last_ahead}
 use Rattle.bword.specs.ByteEnds.{CanFollow}
 use Rattle.bread.proofs.TokenSteps.{EndsWith-append}
 use Rattle.bparse.specs.Steps.{Point, point, name_of, Writing, Stopping, Breaking, BreakingNear, ReadFails, OutRefuses, NamesRefuse, OpensAndGives, GivesNext, PointGives, refused_step, to_begin}
@@ -106,6 +110,32 @@ after_more ds d rest later r h e = record {
   stop = h.stop ∙ ap (λ x. x.stop) e;
 }
 
+-- the lines after definitions, by the tokens that spell them
+drop_none : (n : ℕ) → drop {A = ℕ} n [] ≡ []
+drop_none zero = refl
+drop_none (suc n) = refl
+
+drop_twice : (m n : ℕ) (ls : List ℕ) → drop n (drop m ls) ≡ drop (m + n) ls
+drop_twice zero n ls = let e : n ≡ 0 + n = omega arith in ap (λ k. drop k ls) e
+drop_twice (suc m) n [] = drop_none n ∙ sym (drop_none (suc m + n))
+drop_twice (suc m) n (l ∷ ls) = let e : suc (m + n) ≡ suc m + n = omega arith in drop_twice m n ls ∙ ap (λ k. drop k (l ∷ ls)) e
+
+lines_after_all : (ds : List Definition) (ls : List ℕ) → lines_after ds ls ≡ drop (length (spell_all ds)) ls
+lines_after_all [] ls = refl
+lines_after_all (d ∷ ds) ls =
+    lines_after_all ds (drop (length (spell_definition d)) ls) ∙ drop_twice (length (spell_definition d)) (length (spell_all ds)) ls
+    ∙ ap (λ n. drop n ls) (sym (length-append (spell_definition d) (spell_all ds)))
+
+after_spelled : (ds : List Definition) (ts others : List Placed) → Spelled ds ts others → lines_after ds (lines_in ts) ≡ lines_in others
+after_spelled ds ts others s =
+    lines_after_all ds (lines_in ts) ∙ ap (drop (length (spell_all ds))) (ap lines_in s.split ∙ map-append (λ p. p.line) s.passed others)
+    ∙ ap (λ n. drop n (lines_in s.passed ++ lines_in others)) (ap length (sym s.spelled) ∙ length-map s.passed kept ∙ sym (length-map s.passed (λ p. p.line)))
+    ∙ drop-append_seam (lines_in s.passed) (lines_in others)
+
+take_front : (xs ys : List ℕ) → take (length xs) (xs ++ ys) ≡ xs
+take_front [] ys = refl
+take_front (x ∷ xs) ys = ap (λ l. x ∷ l) (take_front xs ys)
+
 -- a call of a compiler with this output, which writes what the text begins with, and is then at a point
 module _ (first : CompilerStart) (a b : Point) (lender lender' : List ℕ) (out : Outgoing) (begun : Bool) (before : List Definition)
     (since : HasWrittenSince (compiler_of first a.tokens a.names out lender begun false) before) (opens : OpeningWritten (compiler_of first a.tokens a.names out lender begun false) a.out) where
@@ -157,6 +187,43 @@ module _ (first : CompilerStart) (a b : Point) (lender lender' : List ℕ) (out 
         let some = goes_some b.names (tokens_of b.tokens more) (tokens_of-ended b.tokens more) in
         (some.outcome, some.goes, after_more before w.tree q.0 some.outcome r q.2 (goes_once q.1 (w.comes more f some.outcome some.goes)))
 
+    -- the tokens of the definition, and their lines
+    module _ (more : List ℕ) (f : CanFollow b.tokens.source.end more) where
+      abbrev u : List Placed
+      u = tokens_of a.tokens (w.taken ++ more)
+
+      abbrev others : List ℕ
+      others = lines_in (tokens_of b.tokens more)
+
+      abbrev here : Taken u (tokens_of b.tokens more)
+      here = got_taken u (tokens_of b.tokens more) w.tree (w.read more f)
+
+      abbrev own : List ℕ
+      own = lines_in here.tokens
+
+      own_length : length own ≡ length (spell_definition w.tree)
+      own_length = length-map here.tokens (λ p. p.line) ∙ sym (length-map here.tokens kept) ∙ ap length (tree_spelled u (tokens_of b.tokens more) w.tree here (w.read more f))
+
+      lines_split : lines_in u ≡ own ++ others
+      lines_split = ap lines_in here.split ∙ map-append (λ p. p.line) here.tokens (tokens_of b.tokens more)
+
+      lines_here : lines_after before (lines_in (tokens_from first.edition 1 ((since.taken ++ w.taken) ++ more))) ≡ own ++ others
+      lines_here =
+          ap (λ bs. lines_after before (lines_in (tokens_from first.edition 1 bs))) (append_assoc since.taken w.taken more)
+          ∙ after_spelled before _ u (since.spelled (w.taken ++ more) (follow w.reads.took more f)) ∙ lines_split
+
+      taken_own : take (length (spell_definition w.tree)) (own ++ others) ≡ own
+      taken_own = ap (λ n. take n (own ++ others)) (sym own_length) ∙ take_front own others
+
+      lines_now : b.tokens.noted.lines ≡ program_lines (w.tree ∷ []) (lines_after before (lines_in (tokens_from first.edition 1 ((since.taken ++ w.taken) ++ more))))
+      lines_now =
+          let formed = (definition_read (tokens_of a.tokens (w.taken ++ [])) (tokens_of b.tokens []) w.tree (w.read [] (λ over. refl))).1 in
+          ap (λ t. t.noted.lines) (sym (w.lines more f)) ∙ ap (λ l. (definition_trail w.tree l).noted.lines) lines_split
+          ∙ (one_trail a.names w.tree formed w.clean own others own_length).lines
+          ∙ ap (λ l. lines_of (λ k. get_or l k 0) w.tree) (sym taken_own)
+          ∙ sym (append-nil (lines_of (λ k. get_or (take (length (spell_definition w.tree)) (own ++ others)) k 0) w.tree))
+          ∙ ap (program_lines (w.tree ∷ [])) (sym lines_here)
+
     since_now : HasWrittenSince (compiler_at first b lender' true false) (before ++ w.tree ∷ [])
     since_now = record {
       taken = since.taken ++ w.taken;
@@ -174,8 +241,9 @@ module _ (first : CompilerStart) (a b : Point) (lender lender' : List ℕ) (out 
       is_open = refl;
     }
 
-    pub wrote_more : Wrote before old (compiler_at first b lender' true false)
-    wrote_more = record { definition = w.tree; now = since_now; held = w.single; falls = w.falls }
+    pub wrote_more : Wrote since (compiler_at first b lender' true false)
+    unfolding since_now
+    wrote_more = record { definition = w.tree; now = since_now; taken = w.taken; took = w.reads.took; all_taken = refl; held = w.single; falls = w.falls; lines = lines_now }
 
     pub is_open_more : IsReady b.tokens → MoreCanBeWritten (compiler_at first b lender' true false)
     is_open_more ready = record { before = before ++ w.tree ∷ []; since = since_now; ready = ready }

@@ -2,7 +2,8 @@
 use Rattle.std.specs.Prelude.{◌≡◌, ◌≢◌, ℕ, ◌≤◌, ◌<◌, Bool, true, false, List, [], ◌∷◌, ◌++◌, length, map, Option, Some}
 use Rattle.std.specs.Prelude.{None, ◌⊎◌, if◌then◌else◌}
 use Rattle.bgrammar.specs.Compiled.{AreNames}
-use Rattle.bread.specs.Tokens.{Tokens, all_tokens, tokens_of, IsReady, IsSingle, last_ahead, work}
+use Rattle.blang.specs.Lines.{program_lines, lines_after}
+use Rattle.bread.specs.Tokens.{Tokens, lines_in, all_tokens, tokens_of, IsReady, IsSingle, last_ahead, work}
 use Rattle.bparse.specs.Steps.{name_of, HasCode, to_begin, StandsAt}
 use Rattle.bparse.specs.declared.step.Step.{Step}
 use Rattle.bparse.specs.declared.step.Step.TheVariants as step
@@ -115,12 +116,20 @@ pub record MoreCanBeWritten (c : Compiler) : Type 0 where
   pub since : HasWrittenSince c before
   pub ready : IsReady c.tokens
 
--- A definition more was written, and one token is held, the one after it.
-pub record Wrote (before : List Definition) (old new : Compiler) : Type 0 where
+-- A definition more was written, and one token is held, the one after it. The lines of its code are noted, by those of
+-- all tokens of the source.
+pub record Wrote {old : Compiler} {before : List Definition} (since : HasWrittenSince old before) (new : Compiler)
+    : Type 0 where
   pub definition : Definition
   pub now : HasWrittenSince new (before ++ definition ∷ [])
+  pub taken : List ℕ
+  pub took : Took old.tokens.source.end taken new.tokens.source.end
+  pub all_taken : now.taken ≡ since.taken ++ taken
   pub held : IsSingle new.tokens
   pub falls : work new.tokens < work old.tokens
+  pub lines : (more : List ℕ) → CanFollow new.tokens.source.end more
+      → new.tokens.noted.lines
+      ≡ program_lines (definition ∷ []) (lines_after before (lines_in (tokens_from new.first.edition 1 (now.taken ++ more))))
 
 -- A call took these bytes. Of all taken so far all but two at most end with the last token held, and reading stands so.
 pub record ReadNoFurther {old : Compiler} {before : List Definition} (since : HasWrittenSince old before)
@@ -186,7 +195,7 @@ GrowthRefused {old = old} since new =
 -- what a call does after these definitions
 abbrev pub GivesAfter : {old : Compiler} {before : List Definition} → HasWrittenSince old before → Step → Compiler
     → Type 0
-GivesAfter {old} {before} since step.Written new = Wrote before old new
+GivesAfter since step.Written new = Wrote since new
 GivesAfter {old} {before} since step.Finished new = StoppedAfter since None new
 GivesAfter {old} {before} since (step.Fault fault) new = StoppedAfter since (Some fault) new
 GivesAfter {old} {before} since step.Device new =

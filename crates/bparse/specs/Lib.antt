@@ -3,3 +3,4 @@ pub mod Compiles
 pub mod Excluded
 pub mod Sizes
 pub mod Steps
+pub mod Watches

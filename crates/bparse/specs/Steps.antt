@@ -5,7 +5,8 @@ use Rattle.bgrammar.specs.Compiled.{AreNames}
 use Rattle.bgrammar.specs.DefinitionReader.{definition}
 use Rattle.bgrammar.specs.Reading.{Got, Stop, first}
 use Rattle.blang.specs.declared.token.Placed.{Placed}
-use Rattle.bread.specs.Tokens.{Tokens, tokens_of, IsSingle, TakesAhead, LooksAt, work}
+use Rattle.bemit.specs.Trails.{trail, definition_trail}
+use Rattle.bread.specs.Tokens.{Tokens, lines_in, tokens_of, IsSingle, TakesAhead, LooksAt, work}
 use Rattle.bparse.specs.declared.step.Step.{Step}
 use Rattle.bparse.specs.declared.step.Step.TheVariants as step
 use Rattle.bword.specs.declared.edition.Edition.{Edition}
@@ -18,6 +19,7 @@ use Rattle.blang.specs.declared.token.Token.{Token}
 use Rattle.blang.specs.Compiles.{Defined, Compilation, CompilesTo, ending, next_text, compiled_text}
 use Rattle.blang.specs.Trees.{Definition}
 use Rattle.blang.specs.Scan.{identifier_of}
+use Rattle.blang.specs.Code.{fault_of}
 use Rattle.blang.specs.declared.token.Token.TheVariants as token
 
 -- the tokens to come, the names defined so far and the output
@@ -45,19 +47,23 @@ EachComing old taken new P =
 abbrev pub HasCode : Compilation → Type 0
 HasCode r = r.code ≡ [] → r.stop ≡ None
 
--- A definition was read, which these tokens spell, and written.
+-- A definition was read, which these tokens spell, and written; the lines of its code are noted.
 pub record Writing (old new : Point) : Type 0 where
   pub taken : List ℕ
   pub reads : TakesAhead old.tokens.source taken new.tokens.source
   pub looked : LooksAt old.tokens taken new.tokens
   pub failures : new.tokens.source.end.failures ≡ old.tokens.source.end.failures
   pub tree : Definition
+  pub clean : fault_of old.names tree ≡ None
   pub read : (more : List ℕ) → CanFollow new.tokens.source.end more
       → definition (tokens_of old.tokens (taken ++ more)) ≡ Got tree (tokens_of new.tokens more)
   pub names : AreNames new.names (old.names ++ name_of tree ∷ [])
   pub written : Writes old.out (compiled_text tree) new.out
   pub single : IsSingle new.tokens
   pub falls : work new.tokens < work old.tokens
+  pub lines : (more : List ℕ) → CanFollow new.tokens.source.end more
+      → definition_trail tree (lines_in (tokens_of old.tokens (taken ++ more)))
+      ≡ trail (lines_in (tokens_of new.tokens more)) new.tokens.noted
   pub comes : (more : List ℕ) → CanFollow new.tokens.source.end more → (r : Compilation)
       → CompilesTo new.names (tokens_of new.tokens more) r
       → SourceComesTo old taken more (record { code = compiled_text tree ∷ r.code; stop = r.stop })

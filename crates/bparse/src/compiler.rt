@@ -3,7 +3,7 @@ ghost use Rattle.std.specs.Prelude.{◌≡◌, ◌≤◌, length, OnOk};
 ghost use Rattle.std.specs.Map.{keys_of};
 ghost use Rattle.bword.specs.declared.edition.Edition.TheVariants as editions;
 ghost use Rattle.bgrammar.specs.Reading.{first};
-ghost use Rattle.blang.specs.declared.limits.TheConstants.{MAX_INSTRUCTIONS, MAX_NAMES, MAX_VALUES, MAX_WORDS};
+ghost use Rattle.blang.specs.declared.limits.TheConstants.{MAX_INSTRUCTIONS, MAX_NAMES, MAX_WORDS};
 ghost use Rattle.bread.specs.Tokens.{IsReady, IsLoaded};
 ghost use Rattle.bparse.specs.Compilers.{SameCompiler, CompilerGives, compiler_start};
 ghost use Rattle.bparse.specs.Compilers as compilers;
@@ -107,21 +107,20 @@ impl<I: ByteIn, O: ByteOut> Compiler<I, O> {
         }
     }
 
-    /// The source line of each instruction of the definition that was written last. A function alone has some.
+    /// The source line of each instruction of the definition that was written last, or of each of its initial values.
     ///
     /// An instruction is of the line of the token that it was made from or after which it was made, the jump back of a
     /// loop and the tests of a switch are of the line of their keyword.
     pub fn lines(&self) -> &[u64]
-        ensures { length result.now ≤ MAX_INSTRUCTIONS }
+        ensures lines { result.now ≡ self.now.tokens.noted.lines }
+        ensures few { length result.now ≤ MAX_INSTRUCTIONS }
     {
-        self.parser.draft.lines()
+        self.parser.tokens.lines()
     }
 
-    /// The source line of each initial value of the definition that was written last.
-    pub fn value_lines(&self) -> &[u64]
-        ensures { length result.now ≤ MAX_VALUES }
-    {
-        self.parser.draft.value_lines()
+    /// Whether the definition that was written last is a function.
+    pub fn is_function(&self) -> bool {
+        !self.parser.draft.code().is_empty()
     }
 
     /// The names of the function that was written last, in the order in which they were first seen; of an external none.

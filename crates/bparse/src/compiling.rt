@@ -1,8 +1,11 @@
 //! Compiling a whole source.
-ghost use Rattle.std.specs.Prelude.{◌≡◌, false};
+ghost use Rattle.std.specs.Prelude.{◌≡◌};
 ghost use Rattle.bword.specs.declared.edition.Edition.TheVariants as editions;
 ghost use Rattle.blang.specs.Compiles.{CompileHeadline, Compiles};
+ghost use Rattle.bparse.specs.Compilers as compilers;
 ghost use Rattle.bparse.specs.Compiles.{CodeGives, LastGives, run_of};
+ghost use Rattle.bparse.specs.Watches.{KeptAll, Watched};
+ghost use Rattle.blang.specs.declared.status.TheConstants.{DONE};
 ghost use Rattle.bparse.specs.Excluded.{Excluded};
 
 use crate::compiler::Compiler;
@@ -71,6 +74,8 @@ pub fn compile_watched<I: ByteIn, O: ByteOut, D: ByteOut, W: Watcher>(
     ensures source_lender { I.lender source.new ≡ I.lender source.old }
     ensures code_lender { O.lender code.new ≡ O.lender code.old }
     ensures diag_lender { D.lender diag.new ≡ D.lender diag.old }
+    ensures watched { result ≡ DONE → KeptAll edition (I.incoming source.old) (I.incoming source.new)
+        (W.lines watcher.old) (W.lines watcher.new) }
 {
     match compile_code(alloc, source, code, watcher, edition) {
         Step::Finished => status::DONE,
@@ -84,10 +89,11 @@ pub fn compile_watched<I: ByteIn, O: ByteOut, D: ByteOut, W: Watcher>(
     }
 }
 
-// Compiles all definitions from one end to the other, and gives the last answer. The compiler is large, and a caller
-// that had it inlined would keep its room in each frame.
+/// Compiles all definitions from one end to the other, and gives the last answer. The watcher looks at the compiler
+/// after each one.
+// The compiler is large, and a caller that had it inlined would keep its room in each frame.
 #[inline(never)]
-fn compile_code<I: ByteIn, O: ByteOut, W: Watcher>(
+pub fn compile_code<I: ByteIn, O: ByteOut, W: Watcher>(
     alloc: Global,
     source: &mut I,
     code: &mut O,
@@ -96,6 +102,7 @@ fn compile_code<I: ByteIn, O: ByteOut, W: Watcher>(
 ) -> Step
     ensures gives { CodeGives edition (I.incoming source.old) (O.outgoing code.old) result
         (I.incoming source.new) (O.outgoing code.new) }
+    ensures watched { Watched edition (I.incoming source.old) (W.lines watcher.old) result (I.incoming source.new) (W.lines watcher.new) }
     ensures source_lender { I.lender source.new ≡ I.lender source.old }
     ensures code_lender { O.lender code.new ≡ O.lender code.old }
 {
@@ -112,8 +119,10 @@ fn compile_all<I: ByteIn, O: ByteOut, W: Watcher>(
     compiler: &mut Compiler<I, O>,
     watcher: &mut W,
 ) -> Step
-    requires { compiler.old.is_closed ≡ false }
-    ensures { LastGives compiler.old result compiler.new }
+    requires { compiler.old ≡ compilers.new compiler.old.first }
+    ensures gives { LastGives compiler.old result compiler.new }
+    ensures watched { Watched compiler.old.first.edition compiler.old.first.source (W.lines watcher.old) result
+        compiler.new.tokens.source.end (W.lines watcher.new) }
 {
     'definitions: loop {
         let step = compiler.next_definition();

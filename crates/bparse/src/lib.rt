@@ -11,7 +11,9 @@ mod watcher;
 pub use bemit::{EntryKind, NameEntry};
 pub use blang::status::{self, Status};
 pub use compiler::Compiler;
-pub use compiling::{compile, compile_edition, compile_watched, wrong_compilings_are_excluded};
+pub use compiling::{
+    compile, compile_code, compile_edition, compile_watched, wrong_compilings_are_excluded,
+};
 pub use diagnostic::write_diagnostic;
 pub use step::Step;
 pub use watcher::{Unwatched, Watcher};

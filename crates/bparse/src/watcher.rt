@@ -1,12 +1,19 @@
 //! Looking on while a whole source is compiled.
+ghost use Rattle.std.specs.Prelude.{ℕ, List, Option, None};
+ghost use Rattle.bparse.specs.Watches.{WatchGives};
+
 use crate::compiler::Compiler;
 use crate::step::Step;
 use bword::{ByteIn, ByteOut};
 
 /// What looks on while a whole source is compiled, and can't change what comes of it.
 pub trait Watcher {
+    // The lines that it has kept of the definitions that were written; none where it keeps no lines.
+    ghost lines: { Self → Option (List ℕ) };
+
     /// Looks at the compiler after a call that gave this answer; the last one too.
-    fn watch<I: ByteIn, O: ByteOut>(&mut self, compiler: &Compiler<I, O>, step: &Step);
+    fn watch<I: ByteIn, O: ByteOut>(&mut self, compiler: &Compiler<I, O>, step: &Step)
+        ensures { WatchGives (lines self.old) step.now compiler.now.tokens.noted.lines (lines self.new) };
 }
 
 /// A watcher that looks at nothing.
@@ -14,6 +21,8 @@ pub trait Watcher {
 pub struct Unwatched;
 
 impl Watcher for Unwatched {
+    ghost lines = { λ w. None };
+
     #[inline]
     fn watch<I: ByteIn, O: ByteOut>(&mut self, _compiler: &Compiler<I, O>, _step: &Step) {}
 }

@@ -14,12 +14,16 @@ use Rattle.bgrammar.specs.StatementReader.{is_semicolon, name, size, constant, d
 use Rattle.bemit.specs.Drafts.{Draft, selected, defaulted, imported, labelled}
 use Rattle.bemit.specs.Drafts as drafts
 use Rattle.bemit.specs.Effects.{headed}
+use Rattle.bemit.specs.Drafts.{place_of}
+use Rattle.bemit.specs.Trails.{trail, took, noted, trailed_declared, trailed_name, trailed_heading}
 use Rattle.bread.specs.Tokens.{Tokens, IsLoaded, work, Moves, Runs, TokensFail, Advances, LooksOn, Same, AreAfter, KeepsAhead, tokens_with}
-use Rattle.bread.specs.Parsers.{Halts}
+use Rattle.bread.specs.Parsers.{Leads, Halts, Expected}
+use Rattle.bread.specs.declared.take.Word as take
 use Rattle.bread.specs.declared.halt.Halt.{Halt}
 use Rattle.bread.specs.declared.halt.Halt.TheVariants as halt
 use Rattle.bread.specs.Headings.{auto, extrn, case, default, IsHeadedBy, IsUnheaded, StopsHeading}
-use Rattle.bread.specs.Compiling.{PartTaken, TookConstant, TookHeading, FindsHeading}
+use Rattle.bread.specs.Compiling.{untold, PartTaken, CompilesPart, TookName, TookSize, TookConstant, NoHeading, TookHeading, FindsHeading}
+use Rattle.bread.proofs.Moving.{past, past_expected, one_past, noted_past}
 use Rattle.bread.proofs.TokenSteps.{Moves-append, Moves-breaks}
 use Rattle.bread.proofs.Steps.{began, went, halts_first, halts_then, run_seen}
 use Rattle.bread.proofs.HeadingLemmas.{heading_read, heading_stops, label_read, no_label}
@@ -31,8 +35,21 @@ automatic_first old new why h = halts_first old new name (λ w r. size r >>= λ 
 pub automatic_then : (old mid new : Tokens) (w : Identifier) (why : Halt) → Runs old mid name (λ v. Got w v) → Halts size mid why new → Halts declared old why new
 automatic_then old mid new w why r h = halts_then old mid new declared size (λ n. Got (record { word = w; size = n })) why (began (λ w r. size r >>= λ n. Got (record { word = w; size = n })) r) h
 
-pub automatic_took : {old mid new : Tokens} {start draft : Draft} (w : Identifier) (n : Option ℕ) → Runs old mid name (λ v. Got w v) → Runs mid new size (λ v. Got n v) → draft ≡ drafts.declared w n start → PartTaken declared (λ d b. drafts.declared d.word d.size b) start old new draft
-automatic_took w n r s e = record { tree = record { word = w; size = n }; runs = went (λ n. Got (record { word = w; size = n })) (began (λ w r. size r >>= λ n. Got (record { word = w; size = n })) r) s; made = e }
+-- the trail past a name
+pub past_name : {old mid : Tokens} {w : take.Word} {place : ℕ} (start : Draft) → place ≡ place_of start → (r : TookName place old w mid) → Leads (λ t. t) (λ t. took (noted start t)) old r.runs.passed mid
+past_name {old} {mid} {place = place} start at r u ls q = ap (λ v. took (noted start v)) q ∙ noted_past old mid place start at r.one r.noted_is ls
+
+pub automatic_took : {old mid new : Tokens} {start draft : Draft} {place : ℕ} (w : take.Word) (n : Option ℕ) → place ≡ place_of start → TookName place old w mid → TookSize mid n new → draft ≡ drafts.declared (record { text = w.name; line = w.line }) n start → PartTaken declared (λ d b. drafts.declared d.word d.size b) trailed_declared start old new draft
+automatic_took {start = start} w n at r s e = record {
+  tree = record { word = record { text = w.name; line = w.line }; size = n };
+  runs = went (λ n. Got (record { word = record { text = w.name; line = w.line }; size = n })) (began (λ w r. size r >>= λ n. Got (record { word = w; size = n })) r.runs) s.runs;
+  made = e;
+  leads = λ u ls q. s.leads (took (noted start u)) ls (past_name start at r u (s.runs.passed ls) q);
+}
+
+-- a name alone
+pub named_took : {old new : Tokens} {start draft : Draft} {place : ℕ} (effect : Identifier → Draft → Draft) (w : take.Word) → place ≡ place_of start → TookName place old w new → draft ≡ effect (record { text = w.name; line = w.line }) start → CompilesPart (untold name) effect trailed_name old start (Ok tt) new draft
+named_took {start = start} effect w at r e = ((λ o. record { tree = record { text = w.name; line = w.line }; runs = r.runs; made = e; leads = past_name start at r }), r.single, r.falls)
 
 -- a case
 pub case_first : (line : ℕ) (old new : Tokens) (why : Halt) → Halts constant old why new → Halts (case line) old why new
@@ -41,15 +58,15 @@ case_first line old new why h = halts_first old new constant (λ c r. expect is_
 pub case_then : (line n : ℕ) (old mid new : Tokens) (why : Halt) → TookConstant n old mid → Halts (expect is_colon) mid why new → Halts (case line) old why new
 case_then line n old mid new why t h = halts_then old mid new (case line) (expect is_colon) (λ o. Got (Case line t.tree)) why (began (λ c r. expect is_colon r >>= λ o. Got (Case line c)) t.runs) h
 
-pub case_took : {old mid new : Tokens} {start draft : Draft} (line n : ℕ) → TookConstant n old mid → Runs mid new (expect is_colon) (λ v. Got tt v) → draft ≡ selected line n start → PartTaken (case line) headed start old new draft
-case_took {start = start} line n t r e = record { tree = Case line t.tree; runs = went (λ o. Got (Case line t.tree)) (began (λ c r. expect is_colon r >>= λ o. Got (Case line c)) t.runs) r; made = e ∙ ap (λ n. selected line n start) (sym t.value) }
+pub case_took : {old mid new : Tokens} {start draft : Draft} (line n : ℕ) → TookConstant n old mid → Expected is_colon mid new → draft ≡ selected line n start → PartTaken (case line) headed trailed_heading start old new draft
+case_took {old} {start = start} line n t r e = record { tree = Case line t.tree; runs = went (λ o. Got (Case line t.tree)) (began (λ c r. expect is_colon r >>= λ o. Got (Case line c)) t.runs) r.runs; made = e ∙ ap (λ n. selected line n start) (sym t.value); leads = λ u ls q. ap took (ap took q ∙ one_past old old.noted t.one (r.runs.passed ls) ∙ ap (trail (r.runs.passed ls)) (sym t.noted_is)) ∙ past_expected r ls }
 
 -- a default
 pub default_halts : (line : ℕ) (old new : Tokens) (why : Halt) → Halts (expect is_colon) old why new → Halts (default line) old why new
 default_halts line old new why h = halts_first old new (expect is_colon) (λ o. Got (Default line)) why h
 
-pub default_took : {old new : Tokens} {start draft : Draft} (line : ℕ) → Runs old new (expect is_colon) (λ v. Got tt v) → draft ≡ defaulted line start → PartTaken (default line) headed start old new draft
-default_took line r e = record { tree = Default line; runs = began (λ o. Got (Default line)) r; made = e }
+pub default_took : {old new : Tokens} {start draft : Draft} (line : ℕ) → Expected is_colon old new → draft ≡ defaulted line start → PartTaken (default line) headed trailed_heading start old new draft
+default_took line r e = record { tree = Default line; runs = began (λ o. Got (Default line)) r.runs; made = e; leads = λ u ls q. ap took q ∙ past_expected r ls }
 
 -- a heading after its keyword
 turned : {A : Type 0} (is : Token → Bool) (made : A → Heading) (x : Read A) → (x >>= λ a r. expect is r >>= λ o. Got (with_heading no_lead (made a))) ≡ ((x >>= λ a r. expect is r >>= λ o. Got (made a)) >>= λ h. Got (with_heading no_lead h))
@@ -85,13 +102,14 @@ pub default_turns_on : {old : Tokens} (line : ℕ) → line ≡ line_ahead old.a
 default_turns_on {old} line e h = subst (λ l. Turns old (default l)) (sym e) (default_turns h)
 
 module _ {old mid : Tokens} {p : Reader Heading} (t : Turns old p) (a : Advances old mid) where
-  pub heading_took : {start draft : Draft} {new : Tokens} → PartTaken p headed start mid new draft → IsLoaded new → work new < work mid → TookHeading start old new draft
+  pub heading_took : {start draft : Draft} {new : Tokens} → PartTaken p headed trailed_heading start mid new draft → IsLoaded new → work new < work mid → TookHeading start old new draft
   heading_took {start} {draft} {new} k l f = record {
     heading = k.tree;
     moves = Moves-append (IsHeadedBy k.tree) (λ u v w b r. heading_read t.step k.tree u w (ap (step_at None) b.token ∙ t.comes) (t.turn u b.line ∙ ap (λ v. p v >>= λ h. Got (with_heading no_lead h)) (sym b.rest) ∙ ap (λ x. x >>= λ h. Got (with_heading no_lead h)) r)) a.moves k.runs;
     made = k.made;
     loaded = l;
     falls = let x = a.falls in omega (arith, f);
+    leads = λ u ls q. k.leads (took u) ls (ap took q ∙ past a (k.runs.passed ls));
   }
 
   pub heading_halts : (start draft : Draft) (new : Tokens) (why : Halt) → Halts p mid why new → FindsHeading old start (Err why) new draft
@@ -119,9 +137,14 @@ module _ {old mid : Tokens} (x : List ℕ) (name_is : first old.ahead ≡ token.
   name_there : first mid.ahead ≡ token.Name x
   name_there = h.first_is ∙ name_is
 
-  pub label_absent : is_colon (first (after mid.ahead)) ≡ false → Moves old mid IsUnheaded
-  label_absent k = Moves-append {P = Same} {Q = IsUnheaded} IsUnheaded (λ u v w e n. subst (λ t. IsUnheaded t w) (sym e) n) h.moves
-      (run_seen h.loaded (λ u more e f m. no_label x u (f ∙ name_there) (ap is_colon (ap (λ t. first (after t)) e ∙ second_of mid.ahead mid.source.edition mid.source.line (mid.source.ahead ++ more) h.loaded.current h.second h.loaded.following x h.loaded.ahead h.second_is name_there) ∙ k)))
+  pub label_absent : is_colon (first (after mid.ahead)) ≡ false → NoHeading old mid
+  label_absent k = record {
+    loaded = h.loaded;
+    none = h.none;
+    noted = h.noted;
+    moves = Moves-append {P = Same} {Q = IsUnheaded} IsUnheaded (λ u v w e n. subst (λ t. IsUnheaded t w) (sym e) n) h.moves
+        (run_seen h.loaded (λ u more e f m. no_label x u (f ∙ name_there) (ap is_colon (ap (λ t. first (after t)) e ∙ second_of mid.ahead mid.source.edition mid.source.line (mid.source.ahead ++ more) h.loaded.current h.second h.loaded.following x h.loaded.ahead h.second_is name_there) ∙ k)));
+  }
 
   module _ (k : is_colon (first (after mid.ahead)) ≡ true) {next new : Tokens} (a : Advances mid next) (b : Advances next new) where
     colon_there : first next.ahead ≡ token.Colon
@@ -134,6 +157,7 @@ module _ {old mid : Tokens} (x : List ℕ) (name_is : first old.ahead ≡ token.
       made = e;
       loaded = b.single.0;
       falls = let p = a.falls in let q = b.falls in let r = h.moves.falls in omega arith;
+      leads = λ u ls q. ap took (ap took (q ∙ ap (λ k. trail k old.noted) (h.none (a.moves.passed (b.moves.passed ls))) ∙ ap (trail (a.moves.passed (b.moves.passed ls))) (sym h.noted)) ∙ past a (b.moves.passed ls)) ∙ past b ls;
     }
       where
         headed_there : (u v t : List Placed) → AreAfter mid.ahead u v → AreAfter next.ahead v t → IsHeadedBy (Label (record { text = x; line = line_ahead old.ahead })) u t

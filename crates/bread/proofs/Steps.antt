@@ -1,29 +1,30 @@
 -- How readings go on from call to call.
-use Rattle.std.proofs.Common.{◌≡◌, ℕ, List, ◌∷◌, ◌++◌, Result, Ok, Err, IsErrAnd, refl, sym, subst}
+use Rattle.std.proofs.Common.{◌≡◌, ℕ, ◌<◌, List, ◌∷◌, ◌++◌, Result, Ok, Err, IsErrAnd, refl, sym, subst}
 use Rattle.bword.specs.declared.edition.Edition.{Edition}
 use Rattle.blang.specs.declared.token.Placed.{Placed}
 use Rattle.bgrammar.specs.Reading.{Reader, Got, ◌>>=◌, first, line_ahead}
 use Rattle.bemit.specs.Drafts.{Draft}
-use Rattle.bread.specs.Tokens.{Tokens, tokens_of, tokens_with, IsLoaded, Moves, Runs, TokensFail}
+use Rattle.bread.specs.Tokens.{Tokens, with_noted, tokens_of, tokens_with, IsLoaded, IsSingle, Moves, Runs, TokensFail, work}
 use Rattle.bread.specs.declared.halt.Halt.{Halt}
 use Rattle.bread.specs.declared.halt.Halt.TheVariants as halt
 use Rattle.bread.specs.Parsers.{Halts}
-use Rattle.bread.specs.Compiling.{CompilesPart}
-use Rattle.bread.proofs.TokenSteps.{Moves-breaks, stays_same}
+use Rattle.bemit.specs.Trails.{Trail, Lines}
+use Rattle.bread.specs.Compiling.{PartTaken, CompilesPart, CompilesAfter}
+use Rattle.bread.proofs.TokenSteps.{Moves-breaks, stays_same, noted_loaded}
 use Rattle.bread.proofs.Moving.{run_then, run_bind}
 
-first_with : (ahead : List Placed) (edition : Edition) (line : ℕ) (bytes : List ℕ) (p : Placed) (ps : List Placed) → ahead ≡ p ∷ ps → first (tokens_with ahead edition line bytes) ≡ first ahead
+pub first_with : (ahead : List Placed) (edition : Edition) (line : ℕ) (bytes : List ℕ) (p : Placed) (ps : List Placed) → ahead ≡ p ∷ ps → first (tokens_with ahead edition line bytes) ≡ first ahead
 first_with ahead edition line bytes p ps e = rw e refl
 
-line_with : (ahead : List Placed) (edition : Edition) (line : ℕ) (bytes : List ℕ) (p : Placed) (ps : List Placed) → ahead ≡ p ∷ ps → line_ahead (tokens_with ahead edition line bytes) ≡ line_ahead ahead
+pub line_with : (ahead : List Placed) (edition : Edition) (line : ℕ) (bytes : List ℕ) (p : Placed) (ps : List Placed) → ahead ≡ p ∷ ps → line_ahead (tokens_with ahead edition line bytes) ≡ line_ahead ahead
 line_with ahead edition line bytes p ps e = rw e refl
 
 module _ {A B : Type 0} where
   -- reading goes on after what was read
-  pub began : {a b : Tokens} {p : Reader B} {x : B} (f : B → Reader A) → Runs a b p (λ v. Got x v) → Runs a b (λ u. p u >>= f) (f x)
+  abbrev pub began : {a b : Tokens} {p : Reader B} {x : B} (f : B → Reader A) → Runs a b p (λ v. Got x v) → Runs a b (λ u. p u >>= f) (f x)
   began f h = run_bind f h
 
-  pub went : {a b c : Tokens} {whole : Reader A} {p : Reader B} {x : B} (f : B → Reader A) → Runs a b whole (λ v. p v >>= f) → Runs b c p (λ v. Got x v) → Runs a c whole (f x)
+  abbrev pub went : {a b c : Tokens} {whole : Reader A} {p : Reader B} {x : B} (f : B → Reader A) → Runs a b whole (λ v. p v >>= f) → Runs b c p (λ v. Got x v) → Runs a c whole (f x)
   went f h k = run_then h (run_bind f k)
 
   -- reading halts after what was read
@@ -45,7 +46,7 @@ module _ {A : Type 0} where
   device a b whole why e h = subst (λ w. Halts whole a w b) (sym e) h
 
 -- nothing was taken
-pub run_seen : {t : Tokens} {P : List Placed → List Placed → Type 0} → IsLoaded t → ((u : List Placed) (more : List ℕ) → u ≡ tokens_of t more → first u ≡ first t.ahead → line_ahead u ≡ line_ahead t.ahead → P u u) → Moves t t P
+abbrev pub run_seen : {t : Tokens} {P : List Placed → List Placed → Type 0} → IsLoaded t → ((u : List Placed) (more : List ℕ) → u ≡ tokens_of t more → first u ≡ first t.ahead → line_ahead u ≡ line_ahead t.ahead → P u u) → Moves t t P
 run_seen {t} {P} l f =
     let s = stays_same t l.near in
     record {
@@ -55,9 +56,15 @@ run_seen {t} {P} l f =
       failures = s.failures;
       falls = s.falls;
       come = λ more c. subst (λ u. P u (tokens_of t more)) (sym (s.come more c)) (f (tokens_of t more) more refl (first_with t.ahead t.source.edition t.source.line (t.source.ahead ++ more) l.current l.following l.ahead) (line_with t.ahead t.source.edition t.source.line (t.source.ahead ++ more) l.current l.following l.ahead));
+      passed = s.passed;
+      spans = s.spans;
     }
 
 -- the exits of a `?`
-pub compiles_err : {I A : Type 0} (reader : I → Reader A) (effect : A → Draft → Draft) (old : Tokens) (start : Draft) (r : Result (Unit {0}) Halt) (new : Tokens) (draft : Draft) (why : Halt) → IsErrAnd r (λ y. y ≡ why) → ((i : I) → Halts (reader i) old why new) → CompilesPart reader effect old start r new draft
-compiles_err reader effect old start (Ok u) new draft why e h = absurd e
-compiles_err reader effect old start (Err s) new draft why e h = λ i. subst (λ x. Halts (reader i) old x new) (sym e) (h i)
+pub compiles_err : {I A : Type 0} (lead : Draft → Trail → Trail) (reader : I → Reader A) (effect : A → Draft → Draft) (step : A → Draft → Trail → Trail) (old : Tokens) (start : Draft) (r : Result (Unit {0}) Halt) (new : Tokens) (draft : Draft) (why : Halt) → IsErrAnd r (λ y. y ≡ why) → ((i : I) → Halts (reader i) old why new) → CompilesAfter lead reader effect step old start r new draft
+compiles_err lead reader effect step old start (Ok u) new draft why e h = absurd e
+compiles_err lead reader effect step old start (Err s) new draft why e h = λ i. subst (λ x. Halts (reader i) old x new) (sym e) (h i)
+
+-- a part after which a line is noted
+pub noted_part : {I A : Type 0} {reader : I → Reader A} {effect : A → Draft → Draft} {step : A → Draft → Trail → Trail} {old new : Tokens} {start draft : Draft} (noted : Lines) (m : Tokens) → m ≡ with_noted noted new → ((i : I) → PartTaken (reader i) effect step start old (with_noted noted new) draft) → IsSingle new → work new < work old → CompilesPart reader effect step old start (Ok tt) m draft
+noted_part {I} {A} {reader} {effect} {step} {old} {new} {start} {draft} noted m e t l f = subst (λ x. CompilesPart reader effect step old start (Ok tt) x draft) (sym e) (t, (noted_loaded noted l.0, l.1), f)

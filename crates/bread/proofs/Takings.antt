@@ -1,5 +1,5 @@
 -- What taking one token reads.
-use Rattle.std.proofs.Common.{◌≡◌, ℕ, ◌<◌, ◌≤◌, List, None, Ok, refl, ap, ◌∙◌, ◌⊎◌, inl, inr, arith}
+use Rattle.std.proofs.Common.{◌≡◌, ℕ, ◌<◌, ◌≤◌, Bool, true, if◌then◌else◌, List, Some, None, Ok, refl, sym, ap, ◌∙◌, ◌⊎◌, inl, inr, arith}
 use Rattle.blex.specs.declared.lexeme.Lexeme.{Lexeme}
 use Rattle.blex.specs.declared.lexeme.Lexeme.TheVariants as lexeme
 use Rattle.blang.specs.declared.token.Token.{Token}
@@ -10,21 +10,23 @@ use Rattle.blang.specs.declared.token.Placed.{Placed}
 use Rattle.blex.specs.Lexemes.{token_of_lexeme}
 use Rattle.blex.proofs.LexemeSteps.{token_here}
 use Rattle.blang.specs.Trees.{Number, Character}
-use Rattle.bgrammar.specs.Reading.{Got, Stop, first}
+use Rattle.bgrammar.specs.Reading.{Got, Stop, first, line_ahead, after}
 use Rattle.bgrammar.specs.StatementReader.{constant_at, name_at, size_at, step_at}
 use Rattle.bgrammar.specs.DefinitionReader.{ival_at}
-use Rattle.bread.specs.Tokens.{Tokens, work, Advances}
-use Rattle.bread.specs.Compiling.{FindsConstant}
-use Rattle.bread.proofs.Moving.{run_past}
+use Rattle.bemit.specs.Trails.{Lines, took, noted_at}
+use Rattle.bread.specs.Tokens.{Tokens, work, Advances, AdvancesTo}
+use Rattle.bread.specs.Parsers.{ExpectedTo}
+use Rattle.bread.specs.Compiling.{FindsConstant, TookSize, TookName}
+use Rattle.bread.proofs.Moving.{run_past, past}
 
-pub less : {a b : Tokens} → Advances a b → work b < work a
+pub less : {n : Lines} {a b : Tokens} → AdvancesTo n a b → work b < work a
 less h = let k = h.falls in omega (arith, k)
 
 number_found : {a b : Tokens} (n : ℕ) → Advances a b → first a.ahead ≡ token.Number n → FindsConstant a (Ok n) b
-number_found {a} {b} n h k = (record { tree = Number n; runs = run_past {g = λ v. Got (Number n) v} h (λ u e l. ap (λ t. constant_at t u) (e ∙ k)); value = refl }, h.single, less h)
+number_found {a} {b} n h k = record { tree = Number n; runs = run_past {g = λ v. Got (Number n) v} h (λ u e l. ap (λ t. constant_at t u) (e ∙ k)); value = refl; single = h.single; falls = less h; one = h.one; noted_is = h.noted_is }
 
 character_found : {a b : Tokens} (n : ℕ) → Advances a b → first a.ahead ≡ token.Character n → FindsConstant a (Ok n) b
-character_found {a} {b} n h k = (record { tree = Character n; runs = run_past {g = λ v. Got (Character n) v} h (λ u e l. ap (λ t. constant_at t u) (e ∙ k)); value = refl }, h.single, less h)
+character_found {a} {b} n h k = record { tree = Character n; runs = run_past {g = λ v. Got (Character n) v} h (λ u e l. ap (λ t. constant_at t u) (e ∙ k)); value = refl; single = h.single; falls = less h; one = h.one; noted_is = h.noted_is }
 
 -- a number or a character
 pub constant_here : {l : Lexeme} {t : Token} {n : ℕ} (text : List ℕ) → token_of_lexeme l text ≡ t → (l ≡ lexeme.Number n) ⊎ (l ≡ lexeme.Character n) → (t ≡ token.Number n) ⊎ (t ≡ token.Character n)
@@ -82,3 +84,27 @@ keyword_none keyword.Extrn a b c d = absurd (b refl)
 keyword_none keyword.Case a b c d = absurd (c refl)
 keyword_none keyword.Default a b c d = absurd (d refl)
 keyword_none _ a b c d = refl
+
+-- the constant of a vector
+pub size_found : {a b : Tokens} (n : ℕ) → Advances a b → first a.ahead ≡ token.Number n → TookSize a (Some n) b
+size_found n h k = record { runs = run_past {g = λ v. Got (Some n) v} h (λ u e l. ap (λ t. size_at t u) (e ∙ k)); single = h.single; leads = λ u ls q. ap took q ∙ past h ls }
+
+-- a name
+pub name_found : {a b : Tokens} (x : List ℕ) (line place at : ℕ) → AdvancesTo (noted_at at (line_ahead a.ahead) a.noted) a b → at ≡ place → first a.ahead ≡ token.Name x → line ≡ line_ahead a.ahead → TookName place a (record { name = x; line = line }) b
+name_found {a} x line place at h same k n = record {
+  runs = run_past {g = λ v. Got (record { text = x; line = line }) v} h (λ u e l. ap (λ t. name_at t u) (e ∙ k) ∙ ap (λ m. Got (record { text = x; line = m }) (after u)) (l ∙ sym n));
+  single = h.single;
+  falls = less h;
+  one = h.one;
+  noted_is = h.noted_is ∙ ap (λ p. noted_at p (line_ahead a.ahead) a.noted) same;
+}
+
+-- a token that must come
+pub token_took : {n : Lines} {a b : Tokens} (is : Token → Bool) → AdvancesTo n a b → is (first a.ahead) ≡ true → ExpectedTo n is a b
+token_took is h k = record {
+  runs = run_past {g = λ v. Got tt v} h (λ u e l. ap (λ b. if b then Got tt (after u) else Stop u) (ap is e ∙ k));
+  single = h.single;
+  falls = less h;
+  one = h.one;
+  noted_is = h.noted_is;
+}

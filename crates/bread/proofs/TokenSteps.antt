@@ -23,7 +23,8 @@ use Rattle.blang.specs.declared.token.Token.TheVariants as token
 use Rattle.blang.specs.declared.token.Placed.{Placed}
 use Rattle.blex.proofs.Passing.{Took-none, Took-append, Grew-after}
 use Rattle.bgrammar.specs.Reading.{first, after}
-use Rattle.bread.specs.Tokens.{Tokens, both, is_string, is_name, is_name_seen, token_seen, tokens_of, tokens_with, IsReady, IsReadyWith, IsLoaded, weight, work, TakesAhead, last_ahead, LooksAt, Moves, TokensFail, Same, KeepsAhead, Looks, AreAfter, Advances, LooksOn}
+use Rattle.bemit.specs.Trails.{Lines}
+use Rattle.bread.specs.Tokens.{Tokens, with_noted, lines_in, both, is_string, is_name, is_name_seen, token_seen, tokens_of, tokens_with, IsReady, IsReadyWith, IsLoaded, weight, work, TakesAhead, last_ahead, LooksAt, Moves, TokensFail, Same, KeepsAhead, Looks, AreAfter, Advances, AdvancesTo, LooksOn}
 use Rattle.bword.specs.declared.edition.Edition.{Edition}
 use Rattle.bword.specs.ByteEnds.{CanFollow}
 
@@ -43,7 +44,7 @@ Reads-append h k = record { took = Took-append h.took k.took; lender = k.lender 
 pub EndsWith-append : {edition : Edition} {t : Token} (xs : List ℕ) {ys : List ℕ} → EndsWith edition t ys → EndsWith edition t (xs ++ ys)
 EndsWith-append xs e = record { before = xs ++ e.before; text = e.text; split = ap (λ l. xs ++ l) e.split ∙ sym (append_assoc xs e.before e.text); is = e.is }
 
-LooksAt-none : (t : Tokens) → LooksAt t [] t
+pub LooksAt-none : (t : Tokens) → LooksAt t [] t
 LooksAt-none t = record { edition = refl; bytes = []; split = append-nil t.source.ahead; ends = λ p e. inr (refl, e) }
 
 pub LooksAt-append : {a b c : Tokens} {xs ys : List ℕ} → LooksAt a xs b → LooksAt b ys c → LooksAt a (xs ++ ys) c
@@ -65,7 +66,7 @@ LooksAt-append {a} {b} {c} {xs} {ys} h k = record {
     both_ends p (inr e) = first_ends p e.0 (h.ends p e.1)
 
 -- one move after another
-pub Moves-append : {a b c : Tokens} {P Q : List Placed → List Placed → Type 0} (R : List Placed → List Placed → Type 0) → ((u v w : List Placed) → P u v → Q v w → R u w) → Moves a b P → Moves b c Q → Moves a c R
+abbrev pub Moves-append : {a b c : Tokens} {P Q : List Placed → List Placed → Type 0} (R : List Placed → List Placed → Type 0) → ((u v w : List Placed) → P u v → Q v w → R u w) → Moves a b P → Moves b c Q → Moves a c R
 Moves-append {a} {b} {c} {P} {Q} R both_are h k = record {
   taken = h.taken ++ k.taken;
   reads = Reads-append h.reads k.reads;
@@ -75,11 +76,15 @@ Moves-append {a} {b} {c} {P} {Q} R both_are h k = record {
   come = λ more f.
       subst (λ xs. R (tokens_of a xs) (tokens_of c more)) (sym (append_assoc h.taken k.taken more))
       (both_are _ _ _ (h.come (k.taken ++ more) (CanFollow-append h.reads k.reads more f)) (k.come more f));
+  passed = λ ls. h.passed (k.passed ls);
+  spans = λ more f.
+      ap (λ xs. lines_in (tokens_of a xs)) (append_assoc h.taken k.taken more)
+      ∙ h.spans (k.taken ++ more) (CanFollow-append h.reads k.reads more f) ∙ ap h.passed (k.spans more f);
 }
 
 -- the same move, as something else that holds of it
-pub Moves-as : {a b : Tokens} {P : List Placed → List Placed → Type 0} (R : List Placed → List Placed → Type 0) → ((u v : List Placed) → P u v → R u v) → Moves a b P → Moves a b R
-Moves-as R f h = record { taken = h.taken; reads = h.reads; looked = h.looked; failures = h.failures; falls = h.falls; come = λ more c. f _ _ (h.come more c) }
+abbrev pub Moves-as : {a b : Tokens} {P : List Placed → List Placed → Type 0} (R : List Placed → List Placed → Type 0) → ((u v : List Placed) → P u v → R u v) → Moves a b P → Moves a b R
+Moves-as R f h = record { taken = h.taken; reads = h.reads; looked = h.looked; failures = h.failures; falls = h.falls; come = λ more c. f _ _ (h.come more c); passed = h.passed; spans = h.spans }
 
 pub Moves-breaks : {a b c : Tokens} {P : List Placed → List Placed → Type 0} → Moves a b P → TokensFail b c → TokensFail a c
 Moves-breaks h k = record { taken = h.taken ++ k.taken; reads = Reads-append h.reads k.reads; counted = Grew-after _ _ _ h.failures k.counted }
@@ -104,12 +109,12 @@ name_plain (token.Name text) h = refl
 name_plain _ h = cc
 
 -- tokens as a lexer and what is ahead
-abbrev pub tokens_at : Lexer → List Placed → Tokens
-tokens_at lexer ahead = record { source = lexer.source; progress = lexer.progress; text = lexer.characters; ahead = ahead }
+abbrev pub tokens_at : Lines → Lexer → List Placed → Tokens
+tokens_at noted lexer ahead = record { source = lexer.source; progress = lexer.progress; text = lexer.characters; ahead = ahead; noted = noted }
 
 -- what is ahead stays
-pub stays_same : (t : Tokens) → length t.source.ahead ≤ 2 → Moves t t Same
-stays_same t near = record { taken = []; reads = Reads-none t.source near; looked = LooksAt-none t; failures = refl; falls = omega arith; come = λ more f. refl }
+abbrev pub stays_same : (t : Tokens) → length t.source.ahead ≤ 2 → Moves t t Same
+stays_same t near = record { taken = []; reads = Reads-none t.source near; looked = LooksAt-none t; failures = refl; falls = omega arith; come = λ more f. refl; passed = λ ls. ls; spans = λ more f. refl }
 
 weight_of : (t : Token) (b : Bool) → is_last t ≡ b → (l m : ℕ) → (b ≡ false → l < m) → l ≤ m → l + (if b then 0 else 1) ≤ m
 weight_of t true e l m h k = omega (arith, k)
@@ -145,8 +150,8 @@ module _ (old new : Lexer) (at : Placed) (gives : LexGives old (Ok at) new) (nea
       let same : at ≡ p = cc in
       subst (λ q. EndsWith old.source.edition q.token passes.bytes) same (record { before = passes.space; text = passes.text; split = passes.split; is = passes.is })
 
-  looks_next : Looks (tokens_at old []) (tokens_at new (at ∷ []))
-  looks_next = record {
+  looks_next : (noted : Lines) → Looks (tokens_at noted old []) (tokens_at noted new (at ∷ []))
+  looks_next noted = record {
     moves = record {
       taken = passes.passes.taken;
       reads = reads;
@@ -154,14 +159,18 @@ module _ (old new : Lexer) (at : Placed) (gives : LexGives old (Ok at) new) (nea
       failures = passes.passes.failures;
       falls = let l = lighter in omega arith;
       come = comes;
+      passed = λ ls. ls;
+      spans = λ more f. ap lines_in (comes more f);
     };
     loaded = record { current = at; following = []; ahead = refl; alone = λ e. refl; ready = ready; near = near };
     alone = refl;
     keeps = tt;
+    none = λ ls. refl;
+    noted = refl;
   }
 
-  looks_on : (p : Placed) → is_name p.token ≡ true → LooksOn (tokens_at old (p ∷ [])) (tokens_at new (p ∷ at ∷ []))
-  looks_on p named = record {
+  looks_on : (noted : Lines) (p : Placed) → is_name p.token ≡ true → LooksOn (tokens_at noted old (p ∷ [])) (tokens_at noted new (p ∷ at ∷ []))
+  looks_on noted p named = record {
     moves = record {
       taken = passes.passes.taken;
       reads = reads;
@@ -169,20 +178,24 @@ module _ (old new : Lexer) (at : Placed) (gives : LexGives old (Ok at) new) (nea
       failures = passes.passes.failures;
       falls = let l = lighter in omega arith;
       come = λ more f. ap (token_first p.token p.line) (comes more f);
+      passed = λ ls. ls;
+      spans = λ more f. ap (λ ts. lines_in (token_first p.token p.line ts)) (comes more f);
     };
     loaded = record { current = p; following = at ∷ []; ahead = refl; alone = λ e. absurd (true_or_false (is_name p.token) named e); ready = λ e. ready; near = near };
     first_is = refl;
     line_is = refl;
     second = at;
     second_is = refl;
+    none = λ ls. refl;
+    noted = refl;
   }
 
 broken_at : (s : LexStop) (old new : Lexer) → OpenGives old.source (Err s) new.source new.progress → S.SourceFails old.source new.source
 broken_at stop.Device old new h = h.0
 broken_at stop.Closed old new h = absurd h
 
-pub lex_breaks : (s : LexStop) (old new : Lexer) (ps qs : List Placed) → LexGives old (Err s) new → old.progress ≡ progress.Open → length new.source.ahead ≤ 2 → TokensFail (tokens_at old ps) (tokens_at new qs)
-lex_breaks s old new ps qs gives opened near =
+pub lex_breaks : {noted : Lines} (s : LexStop) (old new : Lexer) (ps qs : List Placed) → LexGives old (Err s) new → old.progress ≡ progress.Open → length new.source.ahead ≤ 2 → TokensFail (tokens_at noted old ps) (tokens_at noted new qs)
+lex_breaks {noted = noted} s old new ps qs gives opened near =
     let broken = broken_at s old new (subst (λ p. GivesAt p old (Err s) new) opened gives) in
     record { taken = broken.taken; reads = record { took = broken.took; lender = broken.lender; near = near }; counted = broken.counted }
 
@@ -228,41 +241,43 @@ ahead_none : (current following : Option Placed) → current ≡ None → both c
 ahead_none current following e = ap (λ o. both o following) e
 
 -- where the view of a lexer and what is ahead is these tokens
-module _ (old : Tokens) (lexer : Lexer) (current following : Option Placed) (view : tokens_at lexer (both current following) ≡ old) (near : length lexer.source.ahead ≤ 2) where
-  pub look_breaks : IsReady old → (s : LexStop) (new : Lexer) (ps : List Placed) → LexGives lexer (Err s) new → length new.source.ahead ≤ 2 → is_some current ≡ false → TokensFail old (tokens_at new ps)
+module _ {noted : Lines} (old : Tokens) (lexer : Lexer) (current following : Option Placed) (view : tokens_at noted lexer (both current following) ≡ old) (near : length lexer.source.ahead ≤ 2) where
+  pub look_breaks : IsReady old → (s : LexStop) (new : Lexer) (ps : List Placed) → LexGives lexer (Err s) new → length new.source.ahead ≤ 2 → is_some current ≡ false → TokensFail old (tokens_at noted new ps)
   look_breaks ready s new ps gives near2 none =
-      subst (λ o. TokensFail o (tokens_at new ps)) view
-      (lex_breaks s lexer new (both current following) ps gives (subst (λ o. IsReadyWith (both o following) lexer.progress) (none_is current none) (subst IsReady (sym view) ready)) near2)
+      subst (λ o. TokensFail o (tokens_at noted new ps)) view
+      (lex_breaks {noted = noted} s lexer new (both current following) ps gives (subst (λ o. IsReadyWith (both o following) lexer.progress) (none_is current none) (subst IsReady (sym view) ready)) near2)
 
-  pub looked : IsReady old → (new : Lexer) (at : Placed) → LexGives lexer (Ok at) new → length new.source.ahead ≤ 2 → (is_last at.token ≡ false → room new.source < room lexer.source) → is_some current ≡ false → (next : Option Placed) → next ≡ None → Looks old (tokens_at new (both (Some at) next))
+  pub looked : IsReady old → (new : Lexer) (at : Placed) → LexGives lexer (Ok at) new → length new.source.ahead ≤ 2 → (is_last at.token ≡ false → room new.source < room lexer.source) → is_some current ≡ false → (next : Option Placed) → next ≡ None → Looks old (tokens_at noted new (both (Some at) next))
   looked ready new at gives near2 less none next no_after =
-      subst (λ o. Looks o (tokens_at new (both (Some at) next))) (ap (λ o. tokens_at lexer (both o following)) (sym (none_is current none)) ∙ view)
-      (subst (λ b. Looks (tokens_at lexer []) (tokens_at new (both (Some at) b))) (sym no_after)
-      (looks_next lexer new at gives near2 less (subst (λ o. IsReadyWith (both o following) lexer.progress) (none_is current none) (subst IsReady (sym view) ready))))
+      subst (λ o. Looks o (tokens_at noted new (both (Some at) next))) (ap (λ o. tokens_at noted lexer (both o following)) (sym (none_is current none)) ∙ view)
+      (subst (λ b. Looks (tokens_at noted lexer []) (tokens_at noted new (both (Some at) b))) (sym no_after)
+      (looks_next lexer new at gives near2 less (subst (λ o. IsReadyWith (both o following) lexer.progress) (none_is current none) (subst IsReady (sym view) ready)) noted))
 
   keeps_all : (ps : List Placed) → KeepsAhead ps ps
   keeps_all [] = tt
   keeps_all (p ∷ ps) = (refl, refl)
 
-  loaded_at : (o b : Option Placed) → is_some o ≡ true → IsReadyWith (both o b) lexer.progress → (is_name (first (both o b)) ≡ false → b ≡ None) → IsLoaded (tokens_at lexer (both o b))
+  loaded_at : (o b : Option Placed) → is_some o ≡ true → IsReadyWith (both o b) lexer.progress → (is_name (first (both o b)) ≡ false → b ≡ None) → IsLoaded (tokens_at noted lexer (both o b))
   loaded_at None b e r a = cc
   loaded_at (Some p) None e r a = record { current = p; following = []; ahead = refl; alone = λ n. refl; ready = r; near = near }
   loaded_at (Some p) (Some q) e r a = record { current = p; following = q ∷ []; ahead = refl; alone = λ n. let bad : Some q ≡ None = a n in cc; ready = r; near = near }
 
   pub looked_already : IsReady old → is_some current ≡ true → (is_name (first (both current following)) ≡ false → following ≡ None) → Looks old old
   looked_already ready some single = subst (λ o. Looks o o) view (record {
-    moves = stays_same (tokens_at lexer (both current following)) near;
+    moves = stays_same (tokens_at noted lexer (both current following)) near;
     loaded = loaded_at current following some (subst IsReady (sym view) ready) single;
     alone = refl;
     keeps = keeps_all (both current following);
+    none = λ ls. refl;
+    noted = refl;
   })
 
-  at_front : (o b : Option Placed) → IsLoaded (tokens_at lexer (both o b)) → is_last (first (both o b)) ≡ false → b ≡ None → (p : Placed) × (o ≡ Some p) × (lexer.progress ≡ progress.Open)
+  at_front : (o b : Option Placed) → IsLoaded (tokens_at noted lexer (both o b)) → is_last (first (both o b)) ≡ false → b ≡ None → (p : Placed) × (o ≡ Some p) × (lexer.progress ≡ progress.Open)
   at_front None b l h e = let n : [] ≡ l.current ∷ l.following = l.ahead in cc
   at_front (Some p) None l h e = (p, refl, l.ready h)
   at_front (Some p) (Some q) l h e = cc
 
-  here : IsLoaded old → IsLoaded (tokens_at lexer (both current following))
+  here : IsLoaded old → IsLoaded (tokens_at noted lexer (both current following))
   here l = subst IsLoaded (sym view) l
 
   goes : is_last (first old.ahead) ≡ false → is_last (first (both current following)) ≡ false
@@ -271,31 +286,31 @@ module _ (old : Tokens) (lexer : Lexer) (current following : Option Placed) (vie
   pub stays_named : is_name (first old.ahead) ≡ true → is_name (first (both current following)) ≡ true
   stays_named h = ap (λ t. is_name (first t.ahead)) view ∙ h
 
-  pub look_on_breaks : IsLoaded old → is_name (first old.ahead) ≡ true → (s : LexStop) (new : Lexer) (ps : List Placed) → LexGives lexer (Err s) new → length new.source.ahead ≤ 2 → is_some following ≡ false → TokensFail old (tokens_at new ps)
+  pub look_on_breaks : IsLoaded old → is_name (first old.ahead) ≡ true → (s : LexStop) (new : Lexer) (ps : List Placed) → LexGives lexer (Err s) new → length new.source.ahead ≤ 2 → is_some following ≡ false → TokensFail old (tokens_at noted new ps)
   look_on_breaks l h s new ps gives near2 none =
       let f = at_front current following (here l) (goes (name_goes_on (first old.ahead) h)) (none_is following none) in
-      subst (λ o. TokensFail o (tokens_at new ps)) view (lex_breaks s lexer new (both current following) ps gives f.2 near2)
+      subst (λ o. TokensFail o (tokens_at noted new ps)) view (lex_breaks {noted = noted} s lexer new (both current following) ps gives f.2 near2)
 
-  on_from : (new : Lexer) (at : Placed) → LexGives lexer (Ok at) new → length new.source.ahead ≤ 2 → (is_last at.token ≡ false → room new.source < room lexer.source) → (p : Placed) → is_name p.token ≡ true → lexer.progress ≡ progress.Open → (o b : Option Placed) → o ≡ Some p → b ≡ None → LooksOn (tokens_at lexer (both o b)) (tokens_at new (both o (Some at)))
-  on_from new at gives near2 less p named opened o b e k = rw (e, k) (looks_on lexer new at gives near2 less opened p named)
+  on_from : (new : Lexer) (at : Placed) → LexGives lexer (Ok at) new → length new.source.ahead ≤ 2 → (is_last at.token ≡ false → room new.source < room lexer.source) → (p : Placed) → is_name p.token ≡ true → lexer.progress ≡ progress.Open → (o b : Option Placed) → o ≡ Some p → b ≡ None → LooksOn (tokens_at noted lexer (both o b)) (tokens_at noted new (both o (Some at)))
+  on_from new at gives near2 less p named opened o b e k = rw (e, k) (looks_on lexer new at gives near2 less opened noted p named)
 
-  pub looked_on : IsLoaded old → is_name (first old.ahead) ≡ true → (new : Lexer) (at : Placed) → LexGives lexer (Ok at) new → length new.source.ahead ≤ 2 → (is_last at.token ≡ false → room new.source < room lexer.source) → is_some following ≡ false → (now : Option Placed) → now ≡ current → LooksOn old (tokens_at new (both now (Some at)))
+  pub looked_on : IsLoaded old → is_name (first old.ahead) ≡ true → (new : Lexer) (at : Placed) → LexGives lexer (Ok at) new → length new.source.ahead ≤ 2 → (is_last at.token ≡ false → room new.source < room lexer.source) → is_some following ≡ false → (now : Option Placed) → now ≡ current → LooksOn old (tokens_at noted new (both now (Some at)))
   looked_on l h new at gives near2 less none now same =
       let f = at_front current following (here l) (goes (name_goes_on (first old.ahead) h)) (none_is following none) in
       let named : is_name f.0.token ≡ true = ap is_name (sym (first_both f.0 following)) ∙ ap (λ o. is_name (first (both o following))) (sym f.1) ∙ stays_named h in
-      subst (λ o. LooksOn o (tokens_at new (both now (Some at)))) view
-      (subst (λ o. LooksOn (tokens_at lexer (both current following)) (tokens_at new (both o (Some at)))) (sym same)
+      subst (λ o. LooksOn o (tokens_at noted new (both now (Some at)))) view
+      (subst (λ o. LooksOn (tokens_at noted lexer (both current following)) (tokens_at noted new (both o (Some at)))) (sym same)
       (on_from new at gives near2 less f.0 named f.2 current following f.1 (none_is following none)))
 
-  on_at : (o b : Option Placed) → is_some b ≡ true → IsLoaded (tokens_at lexer (both o b)) → LooksOn (tokens_at lexer (both o b)) (tokens_at lexer (both o b))
+  on_at : (o b : Option Placed) → is_some b ≡ true → IsLoaded (tokens_at noted lexer (both o b)) → LooksOn (tokens_at noted lexer (both o b)) (tokens_at noted lexer (both o b))
   on_at None b e l = let n : [] ≡ l.current ∷ l.following = l.ahead in cc
   on_at (Some p) None e l = cc
-  on_at (Some p) (Some q) e l = record { moves = stays_same (tokens_at lexer (p ∷ q ∷ [])) near; loaded = l; first_is = refl; line_is = refl; second = q; second_is = refl }
+  on_at (Some p) (Some q) e l = record { moves = stays_same (tokens_at noted lexer (p ∷ q ∷ [])) near; loaded = l; first_is = refl; line_is = refl; second = q; second_is = refl; none = λ ls. refl; noted = refl }
 
   pub looked_on_already : IsLoaded old → is_some following ≡ true → LooksOn old old
   looked_on_already l some = subst (λ o. LooksOn o o) view (on_at current following some (here l))
 
-  ready_after : (o b : Option Placed) → IsLoaded (tokens_at lexer (both o b)) → is_last (first (both o b)) ≡ false → IsReadyWith (both b None) lexer.progress
+  ready_after : (o b : Option Placed) → IsLoaded (tokens_at noted lexer (both o b)) → is_last (first (both o b)) ≡ false → IsReadyWith (both b None) lexer.progress
   ready_after None b l h = let n : [] ≡ l.current ∷ l.following = l.ahead in cc
   ready_after (Some p) None l h = l.ready h
   ready_after (Some p) (Some q) l h = l.ready h
@@ -307,7 +322,7 @@ module _ (old : Tokens) (lexer : Lexer) (current following : Option Placed) (vie
   last_stays p q [] e = cc
   last_stays p q (r ∷ rs) e = e
 
-  stepped : (p : Placed) (ps : List Placed) → is_last p.token ≡ false → Moves (tokens_at lexer (p ∷ ps)) (tokens_at lexer ps) (AreAfter (p ∷ ps))
+  abbrev stepped : (p : Placed) (ps : List Placed) → is_last p.token ≡ false → Moves (tokens_at noted lexer (p ∷ ps)) (tokens_at noted lexer ps) (AreAfter (p ∷ ps))
   stepped p ps h = record {
     taken = [];
     reads = Reads-none lexer.source near;
@@ -315,38 +330,55 @@ module _ (old : Tokens) (lexer : Lexer) (current following : Option Placed) (vie
     failures = refl;
     falls = omega arith;
     come = λ more f. record { rest = sym (ap (λ b. if b then [] else tokens_with ps lexer.source.edition lexer.source.line (lexer.source.ahead ++ more)) h); token = refl; line = refl };
+    passed = λ ls. p.line ∷ ls;
+    spans = λ more f. ap (λ b. p.line ∷ lines_in (if b then [] else tokens_with ps lexer.source.edition lexer.source.line (lexer.source.ahead ++ more))) h;
   }
 
-  lighter_by : (p : Placed) (ps : List Placed) → is_last p.token ≡ false → work (tokens_at lexer ps) + 1 ≤ work (tokens_at lexer (p ∷ ps))
+  lighter_by : (p : Placed) (ps : List Placed) → is_last p.token ≡ false → work (tokens_at noted lexer ps) + 1 ≤ work (tokens_at noted lexer (p ∷ ps))
   lighter_by p ps h = let w : weight p.token ≡ 1 = ap (λ b. if b then 0 else 1) h in omega (arith, w)
 
   after_same : (ps u v w : List Placed) → AreAfter ps u v → v ≡ w → AreAfter ps u w
   after_same ps u v w h e = record { rest = sym e ∙ h.rest; token = h.token; line = h.line }
 
-  advanced_at : (p : Placed) (ps : List Placed) (new : Tokens) → is_last p.token ≡ false → after ps ≡ [] → Looks (tokens_at lexer ps) new → Advances (tokens_at lexer (p ∷ ps)) new
+  advanced_at : (p : Placed) (ps : List Placed) (new : Tokens) → is_last p.token ≡ false → after ps ≡ [] → Looks (tokens_at noted lexer ps) new → Advances (tokens_at noted lexer (p ∷ ps)) new
   advanced_at p ps new h alone l = record {
     moves = Moves-append (AreAfter (p ∷ ps)) (after_same (p ∷ ps)) (stepped p ps h) l.moves;
     single = (l.loaded, l.alone ∙ alone);
     keeps = l.keeps;
     falls = let a = lighter_by p ps h in let b = l.moves.falls in omega arith;
+    one = λ ls. ap (λ k. p.line ∷ k) (l.none ls);
+    noted_is = l.noted;
   }
 
-  advanced_from : (o b : Option Placed) (new : Tokens) → IsLoaded (tokens_at lexer (both o b)) → is_last (first (both o b)) ≡ false → Looks (tokens_at lexer (both b None)) new → Advances (tokens_at lexer (both o b)) new
+  advanced_from : (o b : Option Placed) (new : Tokens) → IsLoaded (tokens_at noted lexer (both o b)) → is_last (first (both o b)) ≡ false → Looks (tokens_at noted lexer (both b None)) new → Advances (tokens_at noted lexer (both o b)) new
   advanced_from None b new l h k = let n : [] ≡ l.current ∷ l.following = l.ahead in cc
   advanced_from (Some p) None new l h k = advanced_at p [] new h refl k
   advanced_from (Some p) (Some q) new l h k = advanced_at p (q ∷ []) new h refl k
 
-  pub advanced : IsLoaded old → is_last (first old.ahead) ≡ false → (o b : Option Placed) (new : Tokens) → o ≡ following → b ≡ None → Looks (tokens_at lexer (both o b)) new → Advances old new
+  pub advanced : IsLoaded old → is_last (first old.ahead) ≡ false → (o b : Option Placed) (new : Tokens) → o ≡ following → b ≡ None → Looks (tokens_at noted lexer (both o b)) new → Advances old new
   advanced l h o b new e k looks =
-      subst (λ t. Advances t new) view (advanced_from current following new (here l) (goes h) (subst (λ x. Looks (tokens_at lexer (both x None)) new) e (subst (λ x. Looks (tokens_at lexer (both o x)) new) k looks)))
+      subst (λ t. Advances t new) view (advanced_from current following new (here l) (goes h) (subst (λ x. Looks (tokens_at noted lexer (both x None)) new) e (subst (λ x. Looks (tokens_at noted lexer (both o x)) new) k looks)))
 
-  breaks_from : (o b : Option Placed) (new : Tokens) → IsLoaded (tokens_at lexer (both o b)) → is_last (first (both o b)) ≡ false → TokensFail (tokens_at lexer (both b None)) new → TokensFail (tokens_at lexer (both o b)) new
+  breaks_from : (o b : Option Placed) (new : Tokens) → IsLoaded (tokens_at noted lexer (both o b)) → is_last (first (both o b)) ≡ false → TokensFail (tokens_at noted lexer (both b None)) new → TokensFail (tokens_at noted lexer (both o b)) new
   breaks_from o b new l h k = record { taken = k.taken; reads = k.reads; counted = k.counted }
 
-  pub advance_breaks : IsLoaded old → is_last (first old.ahead) ≡ false → (o b : Option Placed) (new : Tokens) → o ≡ following → b ≡ None → TokensFail (tokens_at lexer (both o b)) new → TokensFail old new
+  pub advance_breaks : IsLoaded old → is_last (first old.ahead) ≡ false → (o b : Option Placed) (new : Tokens) → o ≡ following → b ≡ None → TokensFail (tokens_at noted lexer (both o b)) new → TokensFail old new
   advance_breaks l h o b new e k breaks =
-      subst (λ t. TokensFail t new) view (breaks_from current following new (here l) (goes h) (subst (λ x. TokensFail (tokens_at lexer (both x None)) new) e (subst (λ x. TokensFail (tokens_at lexer (both o x)) new) k breaks)))
+      subst (λ t. TokensFail t new) view (breaks_from current following new (here l) (goes h) (subst (λ x. TokensFail (tokens_at noted lexer (both x None)) new) e (subst (λ x. TokensFail (tokens_at noted lexer (both o x)) new) k breaks)))
 
-  pub advanced_ok : {T E : Type 0} → IsLoaded old → is_last (first old.ahead) ≡ false → (o b : Option Placed) (new : Tokens) → o ≡ following → b ≡ None → (r : Result T E) → OnOk r (Looks (tokens_at lexer (both o b)) new) → OnOk r (Advances old new)
+  pub advanced_ok : {T E : Type 0} → IsLoaded old → is_last (first old.ahead) ≡ false → (o b : Option Placed) (new : Tokens) → o ≡ following → b ≡ None → (r : Result T E) → OnOk r (Looks (tokens_at noted lexer (both o b)) new) → OnOk r (Advances old new)
   advanced_ok l h o b new e k (Ok x) looks = advanced l h o b new e k looks
   advanced_ok l h o b new e k (Err x) looks = looks
+
+-- what is noted changes nothing else
+pub noted_loaded : {t : Tokens} (noted : Lines) → IsLoaded t → IsLoaded (with_noted noted t)
+noted_loaded noted l = record { current = l.current; following = l.following; ahead = l.ahead; alone = l.alone; ready = l.ready; near = l.near }
+
+pub noted_looked : {a b : Tokens} {taken : List ℕ} (noted : Lines) → LooksAt a taken b → LooksAt a taken (with_noted noted b)
+noted_looked noted l = record { edition = l.edition; bytes = l.bytes; split = l.split; ends = l.ends }
+
+abbrev pub noted_moves : {a b : Tokens} {P : List Placed → List Placed → Type 0} (noted : Lines) → Moves a b P → Moves a (with_noted noted b) P
+noted_moves noted m = record { taken = m.taken; reads = m.reads; looked = noted_looked noted m.looked; failures = m.failures; falls = m.falls; come = m.come; passed = m.passed; spans = m.spans }
+
+pub advanced_noting : {a b : Tokens} (noted : Lines) → Advances a b → AdvancesTo noted a (with_noted noted b)
+advanced_noting noted h = record { moves = noted_moves noted h.moves; single = (noted_loaded noted h.single.0, h.single.1); keeps = h.keeps; falls = h.falls; one = h.one; noted_is = refl }

@@ -2,7 +2,7 @@
 use Rattle.std.specs.Prelude.{◌≡◌, ℕ, ◌<◌, min, Bool, List, [], length, Result, Ok, Err, if◌then◌else◌}
 use Rattle.blang.specs.declared.code.Ival.{Ival}
 use Rattle.blang.specs.Trees.{Identifier, Definition}
-use Rattle.bgrammar.specs.Reading.{Reader, Got, ◌>>=◌, first, after, expect}
+use Rattle.bgrammar.specs.Reading.{Reader, Got, ◌>>=◌, first, line_ahead, after, expect}
 use Rattle.bgrammar.specs.ExpressionReader.{is_close_paren}
 use Rattle.bgrammar.specs.Commas.{list_reader}
 use Rattle.bgrammar.specs.StatementReader.{is_semicolon, name}
@@ -12,18 +12,20 @@ use Rattle.blang.specs.declared.token.Letters.TheVariants as letters
 use Rattle.blang.specs.Scan.{name_fault, identifier_of}
 use Rattle.bemit.specs.Drafts.{Draft, Faulty, fresh, valued, started}
 use Rattle.bemit.specs.Effects.{definition_done}
-use Rattle.bread.specs.Tokens.{Tokens, IsLoaded, IsSingle, Runs, TokensFail, Advances, work}
+use Rattle.bemit.specs.Trails.{Trail, trail, took, no_lines, noted_at, trailed_definition}
+use Rattle.bread.specs.Tokens.{Tokens, IsLoaded, IsSingle, Runs, TokensFail, AdvancesTo, work}
 use Rattle.bread.specs.declared.halt.Halt.{Halt}
 use Rattle.bread.specs.declared.halt.Halt.TheVariants as halt
-use Rattle.bread.specs.Parsers.{Halts}
+use Rattle.bread.specs.Parsers.{Halts, Leads}
 use Rattle.bread.specs.declared.header.DefinitionHead.{DefinitionHead}
 use Rattle.bread.specs.declared.header.HeadKind.{HeadKind}
 use Rattle.bread.specs.Headers.{IsKind, Heads}
 
--- the current token was taken, and a value added
-abbrev pub TakesValue : Ival → Tokens → Draft → Result (Unit {0}) Halt → Tokens → Draft → Type 0
-TakesValue v old start (Ok u) new draft = Advances old new × (draft ≡ valued v start)
-TakesValue v old start (Err why) new draft = (why ≡ halt.Device) × TokensFail old new
+-- the current token was taken, of whose line is the value of this number, and a value added
+abbrev pub TakesValue : Ival → ℕ → Tokens → Draft → Result (Unit {0}) Halt → Tokens → Draft → Type 0
+TakesValue v place old start (Ok u) new draft =
+    AdvancesTo (noted_at place (line_ahead old.ahead) old.noted) old new × (draft ≡ valued v start)
+TakesValue v place old start (Err why) new draft = (why ≡ halt.Device) × TokensFail old new
 
 -- a definition of this name begins, which may be defined already
 abbrev pub definition_begun : Identifier → Bool → Draft
@@ -42,33 +44,38 @@ parameters ts =
     ts >>= (λ ws r. expect is_close_paren r >>= λ o. Got ws)
 
 -- A list was read, compiled and counted.
-pub record TookList {A : Type 0} (reader : Reader (List A)) (effect : List A → Draft → Draft) (most : ℕ) (start : Draft)
-    (old new : Tokens) (draft : Draft) (count : ℕ) : Type 0 where
+pub record TookList {A : Type 0} (reader : Reader (List A)) (effect : List A → Draft → Draft)
+    (step : List A → Draft → Trail → Trail) (most : ℕ) (start : Draft) (old new : Tokens) (draft : Draft) (count : ℕ)
+    : Type 0 where
   pub items : List A
   pub runs : Runs old new reader (λ v. Got items v)
   pub made : draft ≡ effect items start
   pub count_is : count ≡ min (length items) most
   pub single : IsSingle new
+  pub leads : Leads (λ t. t) (step items start) old runs.passed new
 
-abbrev pub FindsList : {A : Type 0} → Reader (List A) → (List A → Draft → Draft) → ℕ → Tokens → Draft → Result ℕ Halt
-    → Tokens → Draft → Type 0
-FindsList reader effect most old start (Ok count) new draft = TookList reader effect most start old new draft count
-FindsList reader effect most old start (Err why) new draft = Halts reader old why new
+abbrev pub FindsList : {A : Type 0} → Reader (List A) → (List A → Draft → Draft) → (List A → Draft → Trail → Trail) → ℕ
+    → Tokens → Draft → Result ℕ Halt → Tokens → Draft → Type 0
+FindsList reader effect step most old start (Ok count) new draft =
+    TookList reader effect step most start old new draft count
+FindsList reader effect step most old start (Err why) new draft = Halts reader old why new
 
--- What stands after the name of a definition was read and compiled.
-pub record TookKind (reader : Reader Definition) (w : Identifier) (start : Draft) (old new : Tokens) (draft : Draft)
+-- What stands after the name of a definition, or after a token more, was read and compiled.
+pub record TookKind (lead : Trail → Trail) (reader : Reader Definition) (w : Identifier) (start : Draft) (old new : Tokens) (draft : Draft)
     (kind : HeadKind) : Type 0 where
   pub tree : Definition
   pub runs : Runs old new reader (λ v. Got tree v)
   pub made : draft ≡ definition_done tree start
   pub named : identifier_of tree ≡ w
   pub kind_is : IsKind kind tree
+  pub leads : Leads lead (trailed_definition tree start) old runs.passed new
 
 -- whatever the name is
-abbrev pub FindsKind : (Identifier → Reader Definition) → Tokens → Draft → Result HeadKind Halt → Tokens → Draft → Type 0
-FindsKind reader old start (Ok kind) new draft = ((w : Identifier) → TookKind (reader w) w start old new draft kind)
-    × IsSingle new
-FindsKind reader old start (Err why) new draft = (w : Identifier) → Halts (reader w) old why new
+abbrev pub FindsKind : (Trail → Trail) → (Identifier → Reader Definition) → Tokens → Draft → Result HeadKind Halt
+    → Tokens → Draft → Type 0
+FindsKind lead reader old start (Ok kind) new draft =
+    ((w : Identifier) → TookKind lead (reader w) w start old new draft kind) × IsSingle new
+FindsKind lead reader old start (Err why) new draft = (w : Identifier) → Halts (reader w) old why new
 
 -- A definition was read and compiled, after definitions of these names.
 pub record TookDefinition (names : List (List ℕ)) (old : Tokens) (header : DefinitionHead) (new : Tokens) (draft : Draft) : Type
@@ -80,6 +87,9 @@ pub record TookDefinition (names : List (List ℕ)) (old : Tokens) (header : Def
   pub falls : work new < work old
   pub loaded : IsLoaded new
   pub single : IsSingle new
+  pub notes : (ls : List ℕ)
+      → trailed_definition tree (started names (identifier_of tree)) (took (trail (moves.passed ls) no_lines))
+      ≡ trail ls new.noted
 
 abbrev pub FindsDefinition : List (List ℕ) → Tokens → Result DefinitionHead Halt → Tokens → Draft → Type 0
 FindsDefinition names old (Ok header) new draft = TookDefinition names old header new draft

@@ -1,12 +1,12 @@
 -- Inner words: what the calls of the parser do with the tokens and with the draft.
-use Rattle.std.specs.Prelude.{◌≡◌, ℕ, ◌+◌, ◌<◌, nat_le, if◌then◌else◌, min, Bool, Option, Some, None, Result, Ok, Err}
+use Rattle.std.specs.Prelude.{◌≡◌, ℕ, List, ◌+◌, ◌<◌, nat_le, if◌then◌else◌, min, Bool, Option, Some, None, Result, Ok, Err}
 use Rattle.bword.specs.declared.operators.BinOp.{BinOp}
 use Rattle.blang.specs.declared.token.Token.{Token}
 use Rattle.blang.specs.declared.token.Token.TheVariants as token
 use Rattle.blang.specs.Trees as tree
 use Rattle.blang.specs.WellFormed as tree_wellformed
 use Rattle.blang.specs.Trees.{Expr, Arguments, Called}
-use Rattle.bgrammar.specs.Reading.{Reader, Got, Stop, first, expect}
+use Rattle.bgrammar.specs.Reading.{Reader, Got, Stop, first, line_ahead, expect}
 use Rattle.bgrammar.specs.ExpressionReader as reader
 use Rattle.bgrammar.specs.ExpressionReader.{inner}
 use Rattle.bgrammar.specs.StatementReader.{is_open_paren}
@@ -15,7 +15,8 @@ use Rattle.bemit.specs.Drafts.{Draft}
 use Rattle.bemit.specs.Effects.{form, held, passed, evaluated, most_arguments}
 use Rattle.bemit.specs.declared.form.Form.{Form}
 use Rattle.bemit.specs.declared.form.Form.TheVariants.{Place, Lone, Joined}
-use Rattle.bread.specs.Tokens.{Tokens, IsSingle, Runs, TokensFail, Advances, work}
+use Rattle.bemit.specs.Trails.{Lines, Trail, trail, took, noted_at, trailed, trailed_arguments}
+use Rattle.bread.specs.Tokens.{Tokens, IsSingle, Runs, TokensFail, Advances, AdvancesTo, PassesOne, work}
 use Rattle.bread.specs.declared.halt.Halt.{Halt}
 use Rattle.bread.specs.declared.halt.Halt.TheVariants as halt
 use Rattle.bread.specs.declared.operators.Prefix.{Prefix}
@@ -32,13 +33,24 @@ Halts reader old halt.Device new = TokensFail old new
 abbrev pub called_at : Tokens → Bool
 called_at t = is_open_paren (first t.ahead)
 
--- An expression was read, and compiled onto a draft.
-pub record ExpressionTaken (reader : Reader Expr) (start : Draft) (called : Bool) (old new : Tokens)
-    (draft : Draft) (found : Form) : Type 0 where
+-- Where a trail led up to these tokens, this one leads over those that were passed.
+abbrev pub Leads : (lead step : Trail → Trail) (old : Tokens) (passed : List ℕ → List ℕ) (new : Tokens) → Type 0
+Leads lead step old passed new =
+    (t : Trail) (ls : List ℕ) → lead t ≡ trail (passed ls) old.noted → step t ≡ trail ls new.noted
+
+-- An expression was read, whose trail led up to here, and compiled onto a draft.
+pub record ExpressionAfter (lead : Trail → Trail) (reader : Reader Expr) (start : Draft) (called : Bool)
+    (old new : Tokens) (draft : Draft) (found : Form) : Type 0 where
   pub tree : Expr
   pub runs : Runs old new reader (λ v. Got tree v)
   pub made : draft ≡ held called tree start
   pub form_is : found ≡ form tree draft
+  pub leads : Leads lead (trailed tree start) old runs.passed new
+
+-- the same, where the expression begins here
+abbrev pub ExpressionTaken : Reader Expr → Draft → Bool → Tokens → Tokens → Draft → Form → Type 0
+ExpressionTaken reader start called old new draft found =
+    ExpressionAfter (λ t. t) reader start called old new draft found
 
 -- what reads an expression does so, whatever the offset of its strings is
 abbrev pub Follows : (ℕ → Reader Expr) → Bool → Tokens → Draft → Result Form Halt → Tokens → Draft → Type 0
@@ -51,7 +63,7 @@ abbrev pub Continues : (ℕ → Expr → Reader Expr) → Bool → Form → Bool
     → Result Form Halt → Tokens → Draft → Type 0
 Continues reader was given called old before (Ok found) new draft =
     ((offset : ℕ) (e : Expr) (start : Draft) → before ≡ held was e start → given ≡ form e before
-    → ExpressionTaken (reader offset e) start called old new draft found) × IsSingle new
+    → ExpressionAfter (trailed e start) (reader offset e) start called old new draft found) × IsSingle new
 Continues reader was given called old before (Err halt) new draft =
     (offset : ℕ) (e : Expr) → Halts (reader offset e) old halt new
 
@@ -60,6 +72,7 @@ pub record TookWord (reader : Reader Expr) (start : Draft) (old new : Tokens) (d
   pub tree : Expr
   pub runs : Runs old new reader (λ v. Got tree v)
   pub made : draft ≡ evaluated tree start
+  pub leads : Leads (λ t. t) (trailed tree start) old runs.passed new
 
 abbrev pub Evaluates : (ℕ → Reader Expr) → Tokens → Draft → Result (Unit {0}) Halt → Tokens → Draft → Type 0
 Evaluates reader old before (Ok u) new draft =
@@ -73,6 +86,7 @@ pub record TookArguments (reader : Reader Expr) (callee : Expr) (start : Draft) 
   pub runs : Runs old new reader (λ v. Got (Called callee arguments) v)
   pub made : draft ≡ passed arguments start
   pub count_is : count ≡ min (argument_count arguments) most_arguments
+  pub leads : Leads (λ t. t) (λ t. took (trailed_arguments arguments start t)) old runs.passed new
 
 -- whatever is called
 abbrev pub Passes : (ℕ → Expr → Reader Expr) → Tokens → Draft → Result ℕ Halt → Tokens → Draft → Type 0
@@ -80,20 +94,35 @@ Passes reader old before (Ok count) new draft =
     ((offset : ℕ) (e : Expr) → TookArguments (reader offset e) e before old new draft count) × IsSingle new
 Passes reader old before (Err halt) new draft = (offset : ℕ) (e : Expr) → Halts (reader offset e) old halt new
 
--- a token that must come was taken
+-- A token that must come was taken. These lines are noted.
+pub record ExpectedTo (noted : Lines) (is : Token → Bool) (old new : Tokens) : Type 0 where
+  pub runs : Runs old new (expect is) (λ v. Got tt v)
+  pub single : IsSingle new
+  pub falls : work new < work old
+  pub one : PassesOne old runs.passed
+  pub noted_is : new.noted ≡ noted
+
+abbrev pub ExpectsTo : Lines → (Token → Bool) → Tokens → Result (Unit {0}) Halt → Tokens → Type 0
+ExpectsTo noted is old (Ok u) new = ExpectedTo noted is old new
+ExpectsTo noted is old (Err halt) new = Halts (expect is) old halt new
+
+-- the same, and nothing was noted
+abbrev pub Expected : (Token → Bool) → Tokens → Tokens → Type 0
+Expected is old new = ExpectedTo old.noted is old new
+
 abbrev pub Expects : (Token → Bool) → Tokens → Result (Unit {0}) Halt → Tokens → Type 0
-Expects is old (Ok u) new = Runs old new (expect is) (λ v. Got tt v) × IsSingle new × (work new < work old)
-Expects is old (Err halt) new = Halts (expect is) old halt new
+Expects is old r new = ExpectsTo old.noted is old r new
 
 -- the token that opens a level was taken, if there is room for one
 abbrev pub Enters : ℕ → Tokens → Result ℕ Halt → Tokens → Type 0
 Enters room old (Ok left) new = (room ≡ left + 1) × Advances old new
 Enters room old (Err halt) new = Halts (inner room).enter old halt new
 
--- the current token was taken, and this answered
-abbrev pub TakesCurrent : Tokens → Form → Result Form Halt → Tokens → Type 0
-TakesCurrent old given (Ok found) new = Advances old new × (found ≡ given)
-TakesCurrent old given (Err why) new = (why ≡ halt.Device) × TokensFail old new
+-- the current token was taken, of whose line is what was made from this place on, and this answered
+abbrev pub TakesCurrent : ℕ → Tokens → Form → Result Form Halt → Tokens → Type 0
+TakesCurrent place old given (Ok found) new =
+    AdvancesTo (noted_at place (line_ahead old.ahead) old.noted) old new × (found ≡ given)
+TakesCurrent place old given (Err why) new = (why ≡ halt.Device) × TokensFail old new
 
 abbrev pub prefix_meant : Prefix → tree.PrefixOp
 prefix_meant prefixes.Negate = tree.Negate

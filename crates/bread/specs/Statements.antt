@@ -10,10 +10,11 @@ use Rattle.blang.specs.declared.code.Instr.TheVariants as instr
 use Rattle.bemit.specs.Drafts as drafts
 use Rattle.bemit.specs.Drafts.{Draft, emitted, filled, place_of, breaks_filled, arms_size}
 use Rattle.bemit.specs.Effects.{evaluated, done}
+use Rattle.bemit.specs.Trails.{Trail, took, noted, trailed_condition, trailed_statement}
 use Rattle.bread.specs.Tokens.{Tokens, IsSingle, work}
 use Rattle.bread.specs.declared.halt.Halt.{Halt}
 use Rattle.bread.specs.Parsers.{Halts}
-use Rattle.bread.specs.Compiling.{PartTaken}
+use Rattle.bread.specs.Compiling.{PartAfter}
 
 -- after the current token
 abbrev pub after_current : {I A : Type 0} → (I → Reader A) → I → Reader A
@@ -30,6 +31,19 @@ evaluated_to last e d = emitted last (evaluated e d)
 -- what stands after a break on this line
 abbrev pub break_after : ℕ → Reader Stmt
 break_after line ts = expect is_semicolon ts >>= λ o. Got (Break line)
+
+-- the trail of a return or a break up to what stands after its keyword
+abbrev pub after_keyword : Draft → Trail → Trail
+after_keyword d t = took (noted d t)
+
+-- and of a return up to what stands after its parenthesis
+abbrev pub after_parenthesis : Draft → Trail → Trail
+after_parenthesis d t = took (after_keyword d t)
+
+-- and of an if up to what stands after its first statement
+abbrev pub after_first : Expr → Stmt → Draft → Trail → Trail
+after_first e s d t =
+    trailed_statement s (emitted (instr.JumpIfZero 0) (evaluated e d)) (trailed_condition e d (took t))
 
 -- the value of a return, after the parenthesis that opens it
 abbrev pub return_value : ℕ → ℕ → Reader Stmt
@@ -60,7 +74,7 @@ abbrev pub Chooses : ℕ → ℕ → Tokens → Draft → Result (Unit {0}) Halt
 Chooses room test old start (Ok u) new draft =
     ((off : ℕ) (e : Expr) (s : Stmt) (d : Draft) → test ≡ place_of (evaluated e d) → start
     ≡ done s (emitted (instr.JumpIfZero 0) (evaluated e d))
-    → PartTaken (else_part (level (suc room)) off e s) done d old new draft) × IsSingle new × (work new ≤ work old)
+    → PartAfter (after_first e s) (else_part (level (suc room)) off e s) done trailed_statement d old new draft) × IsSingle new × (work new ≤ work old)
 Chooses room test old start (Err halt) new draft = (off : ℕ) (e : Expr) (s : Stmt)
     → Halts (else_part (level (suc room)) off e s) old halt new
 

@@ -1,5 +1,5 @@
 -- Inner words: the tokens of a source, of which some are ahead, and what taking them does.
-use Rattle.std.specs.Prelude.{◌≡◌, ℕ, ◌+◌, ◌≤◌, ◌⊎◌, Bool, true, false, List, [], ◌∷◌, ◌++◌, length, Option, Some, None}
+use Rattle.std.specs.Prelude.{◌≡◌, ℕ, ◌+◌, ◌≤◌, ◌⊎◌, Bool, true, false, List, [], ◌∷◌, ◌++◌, length, map, Option, Some, None}
 use Rattle.std.specs.Prelude.{if◌then◌else◌}
 use Rattle.bword.specs.ByteEnds.{Incoming, Grew}
 pub use Rattle.bword.specs.ByteEnds.{CanFollow}
@@ -16,14 +16,20 @@ use Rattle.blex.specs.declared.lexeme.Seen.{Seen}
 use Rattle.blang.specs.declared.token.Token.{Token}
 use Rattle.blang.specs.declared.token.Token.TheVariants as token
 use Rattle.blang.specs.declared.token.Placed.{Placed}
+use Rattle.bemit.specs.Trails.{Lines, no_lines}
 use Rattle.bgrammar.specs.Reading.{Reader, first, line_ahead, after}
 
--- the source after the tokens that are ahead, what its lexer has come to, and the text of its last string
+-- the source after the tokens that are ahead, what its lexer has come to, the text of its last string, and the lines
+-- of what was made of the tokens before
 pub record Tokens : Type 0 where
   pub source : Source
   pub progress : Progress
   pub text : List ℕ
   pub ahead : List Placed
+  pub noted : Lines
+
+abbrev pub with_noted : Lines → Tokens → Tokens
+with_noted noted t = record t { noted = noted }
 
 abbrev pub is_string : Token → Bool
 is_string (token.String characters) = true
@@ -60,6 +66,7 @@ all_tokens edition end lender = record {
   progress = progress.Open;
   text = [];
   ahead = [];
+  noted = no_lines;
 }
 
 abbrev pub tokens_with : List Placed → Edition → ℕ → List ℕ → List Placed
@@ -122,8 +129,12 @@ pub record LooksAt (old : Tokens) (taken : List ℕ) (new : Tokens) : Type 0 whe
   pub ends : (p : Placed) → last_ahead new.ahead ≡ Some p
       → EndsWith old.source.edition p.token bytes ⊎ ((bytes ≡ []) × (last_ahead old.ahead ≡ Some p))
 
+-- the lines of tokens
+abbrev pub lines_in : List Placed → List ℕ
+lines_in ts = map (λ p. p.line) ts
+
 -- Bytes were taken, and this holds of the tokens that came before and of those that come now, whatever the end
--- still gives.
+-- still gives. The lines that came before are what was passed and those that come now.
 pub record Moves (old new : Tokens) (P : List Placed → List Placed → Type 0) : Type 0 where
   pub taken : List ℕ
   pub reads : TakesAhead old.source taken new.source
@@ -131,6 +142,17 @@ pub record Moves (old new : Tokens) (P : List Placed → List Placed → Type 0)
   pub failures : new.source.end.failures ≡ old.source.end.failures
   pub falls : work new ≤ work old
   pub come : (more : List ℕ) → CanFollow new.source.end more → P (tokens_of old (taken ++ more)) (tokens_of new more)
+  pub passed : List ℕ → List ℕ
+  pub spans : (more : List ℕ) → CanFollow new.source.end more
+      → lines_in (tokens_of old (taken ++ more)) ≡ passed (lines_in (tokens_of new more))
+
+-- No token was passed.
+abbrev pub PassesNone : (List ℕ → List ℕ) → Type 0
+PassesNone passed = (ls : List ℕ) → passed ls ≡ ls
+
+-- One token was passed, which is the current one.
+abbrev pub PassesOne : Tokens → (List ℕ → List ℕ) → Type 0
+PassesOne old passed = (ls : List ℕ) → passed ls ≡ line_ahead old.ahead ∷ ls
 
 -- Reading goes on with the second reader where it began with the first.
 abbrev pub Runs : {A : Type 0} → Tokens → Tokens → Reader A → Reader A → Type 0
@@ -157,6 +179,8 @@ pub record Looks (old new : Tokens) : Type 0 where
   pub loaded : IsLoaded new
   pub alone : after new.ahead ≡ after old.ahead
   pub keeps : KeepsAhead old.ahead new.ahead
+  pub none : PassesNone moves.passed
+  pub noted : new.noted ≡ old.noted
 
 -- These tokens are those after the current one.
 pub record AreAfter (ahead u v : List Placed) : Type 0 where
@@ -164,12 +188,18 @@ pub record AreAfter (ahead u v : List Placed) : Type 0 where
   pub token : first u ≡ first ahead
   pub line : line_ahead u ≡ line_ahead ahead
 
--- The current token was taken, and the next one is ahead.
-pub record Advances (old new : Tokens) : Type 0 where
+-- The current token was taken, and the next one is ahead. These lines are noted.
+pub record AdvancesTo (noted : Lines) (old new : Tokens) : Type 0 where
   pub moves : Moves old new (AreAfter old.ahead)
   pub single : IsSingle new
   pub keeps : KeepsAhead (after old.ahead) new.ahead
   pub falls : work new + 1 ≤ work old
+  pub one : PassesOne old moves.passed
+  pub noted_is : new.noted ≡ noted
+
+-- The same, and nothing was noted.
+abbrev pub Advances : Tokens → Tokens → Type 0
+Advances old new = AdvancesTo old.noted old new
 
 -- The tokens are as they were, and the one after the current one is ahead.
 pub record LooksOn (old new : Tokens) : Type 0 where
@@ -179,3 +209,5 @@ pub record LooksOn (old new : Tokens) : Type 0 where
   pub line_is : line_ahead new.ahead ≡ line_ahead old.ahead
   pub second : Placed
   pub second_is : after new.ahead ≡ second ∷ []
+  pub none : PassesNone moves.passed
+  pub noted : new.noted ≡ old.noted

@@ -1,5 +1,6 @@
 //! Reading a definition and compiling it at once.
-ghost use Rattle.std.specs.Prelude.{◌≡◌, ◌+◌, false, None};
+ghost use Rattle.std.specs.Prelude.{◌≡◌, ◌+◌, ◌≤◌, false, None};
+ghost use Rattle.blang.specs.declared.limits.TheConstants.{MAX_INSTRUCTIONS};
 ghost use Rattle.std.specs.Map.{keys_of};
 ghost use Rattle.blang.specs.Cut.{is_last};
 ghost use Rattle.bgrammar.specs.Reading.{first};
@@ -8,6 +9,7 @@ ghost use Rattle.bgrammar.specs.DefinitionReader.{ival, after_name, vector, func
 ghost use Rattle.bgrammar.specs.StatementReader.{name};
 ghost use Rattle.bemit.specs.Drafts as drafts;
 ghost use Rattle.bemit.specs.Effects.{ival_done, values_done, parameters_done};
+ghost use Rattle.bemit.specs.Trails.{took, trailed_name, trailed_value, trailed_values, trailed_parameters};
 ghost use Rattle.bread.specs.Tokens.{IsLoaded, IsSingle};
 ghost use Rattle.bread.specs.Compiling.{untold, CompilesPart};
 ghost use Rattle.bread.specs.Definitions.{TakesValue, initial_value_list, parameters, FindsList, FindsKind, FindsDefinition, definition_begun};
@@ -36,6 +38,7 @@ pub fn definition<I: ByteIn>(
     let word = name(parser)?;
     let is_defined = names.find(&word.name, &mut Probes::new()).is_some();
     begin(&mut parser.draft, word, is_defined);
+    parser.tokens.clear_lines();
     let kind = after_name(parser)?;
     Ok(DefinitionHead {
         name: word.name,
@@ -61,7 +64,7 @@ fn begin(draft: &mut Draft, word: Word, is_defined: bool)
 // What stands after the name.
 fn after_name<I: ByteIn>(parser: &mut Parser<I>) -> Result<HeadKind, Halt>
     requires { IsLoaded parser.old.tokens }
-    ensures { FindsKind after_name parser.old.tokens parser.old.draft result parser.new.tokens parser.new.draft }
+    ensures { FindsKind (λ t. t) after_name parser.old.tokens parser.old.draft result parser.new.tokens parser.new.draft }
 {
     match parser.tokens.lexeme() {
         Lexeme::OpenBracket => {
@@ -74,6 +77,7 @@ fn after_name<I: ByteIn>(parser: &mut Parser<I>) -> Result<HeadKind, Halt>
         }
         _ => {
             values(parser)?;
+            parser.tokens.fill_lines(parser.draft.value_place());
             Ok(HeadKind::Simple)
         }
     }
@@ -82,11 +86,12 @@ fn after_name<I: ByteIn>(parser: &mut Parser<I>) -> Result<HeadKind, Halt>
 // What stands after an opening bracket.
 fn vector<I: ByteIn>(parser: &mut Parser<I>) -> Result<HeadKind, Halt>
     requires { IsSingle parser.old.tokens }
-    ensures { FindsKind vector parser.old.tokens parser.old.draft result parser.new.tokens parser.new.draft }
+    ensures { FindsKind took vector parser.old.tokens parser.old.draft result parser.new.tokens parser.new.draft }
 {
     let size = size(parser)?;
     parser.expect(Mark::CloseBracket)?;
     let count = values(parser)?;
+    parser.tokens.fill_lines(parser.draft.value_place());
     let words = count.max(constant_of(size) + 1);
     parser.draft.limit_words(words);
     Ok(HeadKind::Vector {
@@ -106,19 +111,20 @@ fn constant_of(size: Option<u16>) -> u32
 // What stands after the parenthesis that opens the parameters.
 fn function<I: ByteIn>(parser: &mut Parser<I>) -> Result<HeadKind, Halt>
     requires { IsLoaded parser.old.tokens }
-    ensures { FindsKind function parser.old.tokens parser.old.draft result parser.new.tokens parser.new.draft }
+    ensures { FindsKind took function parser.old.tokens parser.old.draft result parser.new.tokens parser.new.draft }
 {
     let parameters = parameters(parser)?;
     statement(parser, NESTING)?;
     parser.draft.emit(Instr::Constant(0));
     parser.draft.emit(Instr::Return);
+    parser.tokens.fill_lines(parser.draft.place());
     Ok(HeadKind::Function { parameters })
 }
 
 // A parameter.
 fn parameter<I: ByteIn>(parser: &mut Parser<I>) -> Result<(), Halt>
     requires { IsLoaded parser.old.tokens }
-    ensures { CompilesPart (untold name) (λ w d. drafts.declared w None d) parser.old.tokens parser.old.draft result parser.new.tokens parser.new.draft }
+    ensures { CompilesPart (untold name) (λ w d. drafts.declared w None d) trailed_name parser.old.tokens parser.old.draft result parser.new.tokens parser.new.draft }
 {
     let word = name(parser)?;
     parser.draft.declare(word.name, word.line, None);
@@ -128,7 +134,7 @@ fn parameter<I: ByteIn>(parser: &mut Parser<I>) -> Result<(), Halt>
 // The names of the parameters, if any, and the parenthesis after them.
 fn parameters<I: ByteIn>(parser: &mut Parser<I>) -> Result<u16, Halt>
     requires { IsLoaded parser.old.tokens }
-    ensures { FindsList parameters parameters_done MOST_COUNTED parser.old.tokens parser.old.draft result parser.new.tokens parser.new.draft }
+    ensures { FindsList parameters parameters_done trailed_parameters MOST_COUNTED parser.old.tokens parser.old.draft result parser.new.tokens parser.new.draft }
 {
     if parser.tokens.is_at(Mark::CloseParen) {
         parser.tokens.advance()?;
@@ -145,13 +151,14 @@ fn parameters<I: ByteIn>(parser: &mut Parser<I>) -> Result<u16, Halt>
     Ok(count)
 }
 
-// Adds an initial value, and takes its token.
-fn valued<I: ByteIn>(parser: &mut Parser<I>, value: Ival) -> Result<(), Halt>
+// Adds the initial value of this number, and takes its token.
+fn valued<I: ByteIn>(parser: &mut Parser<I>, place: u16, value: Ival) -> Result<(), Halt>
     requires loaded { IsLoaded parser.old.tokens }
     requires goes_on { is_last (first parser.old.tokens.ahead) ≡ false }
-    ensures { TakesValue value parser.old.tokens parser.old.draft result parser.new.tokens parser.new.draft }
+    requires place { place ≤ MAX_INSTRUCTIONS }
+    ensures { TakesValue value place parser.old.tokens parser.old.draft result parser.new.tokens parser.new.draft }
 {
-    parser.tokens.advance()?;
+    parser.tokens.take(place)?;
     parser.draft.value(value);
     Ok(())
 }
@@ -159,15 +166,16 @@ fn valued<I: ByteIn>(parser: &mut Parser<I>, value: Ival) -> Result<(), Halt>
 // An initial value.
 fn value<I: ByteIn>(parser: &mut Parser<I>) -> Result<(), Halt>
     requires { IsLoaded parser.old.tokens }
-    ensures { CompilesPart ival (λ v d. ival_done d v) parser.old.tokens parser.old.draft result parser.new.tokens parser.new.draft }
+    ensures { CompilesPart ival (λ v d. ival_done d v) trailed_value parser.old.tokens parser.old.draft result parser.new.tokens parser.new.draft }
 {
-    parser.note();
+    parser.see();
+    let place = parser.draft.value_place();
     match parser.tokens.lexeme() {
-        Lexeme::Number(word) | Lexeme::Character(word) => valued(parser, Ival::Number(word)),
-        Lexeme::Name(name) => valued(parser, Ival::Name(name)),
+        Lexeme::Number(word) | Lexeme::Character(word) => valued(parser, place, Ival::Number(word)),
+        Lexeme::Name(name) => valued(parser, place, Ival::Name(name)),
         Lexeme::String => {
             let offset = parser.draft.string(parser.tokens.string());
-            valued(parser, Ival::Text(offset))
+            valued(parser, place, Ival::Text(offset))
         }
         _ => Err(Halt::Fault),
     }
@@ -176,7 +184,7 @@ fn value<I: ByteIn>(parser: &mut Parser<I>) -> Result<(), Halt>
 // The initial values, if any, and a semicolon.
 fn values<I: ByteIn>(parser: &mut Parser<I>) -> Result<u32, Halt>
     requires { IsLoaded parser.old.tokens }
-    ensures { FindsList initial_value_list values_done 4294967295 parser.old.tokens parser.old.draft result parser.new.tokens parser.new.draft }
+    ensures { FindsList initial_value_list values_done trailed_values 4294967295 parser.old.tokens parser.old.draft result parser.new.tokens parser.new.draft }
 {
     if parser.tokens.is_at(Mark::Semicolon) {
         parser.tokens.advance()?;

@@ -6,6 +6,7 @@ ghost use Rattle.bgrammar.specs.StatementReader.{name, declared};
 ghost use Rattle.bemit.specs.Drafts as drafts;
 ghost use Rattle.bemit.specs.Drafts.{imported};
 ghost use Rattle.bemit.specs.Effects.{headed};
+ghost use Rattle.bemit.specs.Trails.{trailed_declared, trailed_name, trailed_heading};
 ghost use Rattle.bread.specs.Tokens.{IsLoaded, IsSingle};
 ghost use Rattle.bread.specs.Headings.{auto, extrn, case, default};
 ghost use Rattle.bread.specs.Compiling.{untold, CompilesPart, FindsHeading};
@@ -19,7 +20,7 @@ use bword::{ByteIn, Name};
 // A name of `auto`.
 fn automatic<I: ByteIn>(parser: &mut Parser<I>) -> Result<(), Halt>
     requires { IsLoaded parser.old.tokens }
-    ensures { CompilesPart (untold declared) (λ d. drafts.declared d.word d.size) parser.old.tokens parser.old.draft result parser.new.tokens parser.new.draft }
+    ensures { CompilesPart (untold declared) (λ d. drafts.declared d.word d.size) trailed_declared parser.old.tokens parser.old.draft result parser.new.tokens parser.new.draft }
 {
     let word = name(parser)?;
     let size = size(parser)?;
@@ -30,7 +31,7 @@ fn automatic<I: ByteIn>(parser: &mut Parser<I>) -> Result<(), Halt>
 // A name of `extrn`.
 fn external<I: ByteIn>(parser: &mut Parser<I>) -> Result<(), Halt>
     requires { IsLoaded parser.old.tokens }
-    ensures { CompilesPart (untold name) imported parser.old.tokens parser.old.draft result parser.new.tokens parser.new.draft }
+    ensures { CompilesPart (untold name) imported trailed_name parser.old.tokens parser.old.draft result parser.new.tokens parser.new.draft }
 {
     let word = name(parser)?;
     parser.draft.import(word.name, word.line);
@@ -40,7 +41,7 @@ fn external<I: ByteIn>(parser: &mut Parser<I>) -> Result<(), Halt>
 // The names after `auto`.
 fn auto<I: ByteIn>(parser: &mut Parser<I>) -> Result<(), Halt>
     requires { IsLoaded parser.old.tokens }
-    ensures { CompilesPart (untold auto) headed parser.old.tokens parser.old.draft result parser.new.tokens parser.new.draft }
+    ensures { CompilesPart (untold auto) headed trailed_heading parser.old.tokens parser.old.draft result parser.new.tokens parser.new.draft }
 {
     automatic(parser)?;
     'names: while parser.tokens.is_at(Mark::Comma) {
@@ -53,7 +54,7 @@ fn auto<I: ByteIn>(parser: &mut Parser<I>) -> Result<(), Halt>
 // The names after `extrn`.
 fn extrn<I: ByteIn>(parser: &mut Parser<I>) -> Result<(), Halt>
     requires { IsLoaded parser.old.tokens }
-    ensures { CompilesPart (untold extrn) headed parser.old.tokens parser.old.draft result parser.new.tokens parser.new.draft }
+    ensures { CompilesPart (untold extrn) headed trailed_heading parser.old.tokens parser.old.draft result parser.new.tokens parser.new.draft }
 {
     external(parser)?;
     'names: while parser.tokens.is_at(Mark::Comma) {
@@ -66,7 +67,7 @@ fn extrn<I: ByteIn>(parser: &mut Parser<I>) -> Result<(), Halt>
 // The constant after a `case` on this line.
 fn case<I: ByteIn>(parser: &mut Parser<I>, line: u64) -> Result<(), Halt>
     requires { IsSingle parser.old.tokens }
-    ensures { CompilesPart (untold (case line)) headed parser.old.tokens parser.old.draft result parser.new.tokens parser.new.draft }
+    ensures { CompilesPart (untold (case line)) headed trailed_heading parser.old.tokens parser.old.draft result parser.new.tokens parser.new.draft }
 {
     let value = constant(parser)?;
     parser.expect(Mark::Colon)?;
@@ -77,7 +78,7 @@ fn case<I: ByteIn>(parser: &mut Parser<I>, line: u64) -> Result<(), Halt>
 // What stands after a `default` on this line.
 fn default<I: ByteIn>(parser: &mut Parser<I>, line: u64) -> Result<(), Halt>
     requires { IsSingle parser.old.tokens }
-    ensures { CompilesPart (untold (default line)) headed parser.old.tokens parser.old.draft result parser.new.tokens parser.new.draft }
+    ensures { CompilesPart (untold (default line)) headed trailed_heading parser.old.tokens parser.old.draft result parser.new.tokens parser.new.draft }
 {
     parser.expect(Mark::Colon)?;
     parser.draft.default(line);
@@ -138,7 +139,7 @@ pub fn heading<I: ByteIn>(parser: &mut Parser<I>) -> Result<bool, Halt>
     requires { IsLoaded parser.old.tokens }
     ensures { FindsHeading parser.old.tokens parser.old.draft result parser.new.tokens parser.new.draft }
 {
-    parser.note();
+    parser.see();
     match parser.tokens.lexeme() {
         Lexeme::Keyword(keyword) => headed(parser, keyword),
         Lexeme::Name(name) => label(parser, name),

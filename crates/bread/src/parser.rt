@@ -8,13 +8,15 @@ ghost use Rattle.bgrammar.specs.ExpressionReader.{Rvalue, inner, primary, postfi
 ghost use Rattle.bgrammar.specs.StatementReader.{is_open_paren};
 ghost use Rattle.blang.specs.Code.{assignment};
 ghost use Rattle.blang.specs.declared.code.Instr.TheVariants as instr;
-ghost use Rattle.bemit.specs.Drafts.{fresh, emitted, checked};
+ghost use Rattle.blang.specs.declared.limits.TheConstants.{MAX_INSTRUCTIONS};
+ghost use Rattle.bemit.specs.Drafts.{fresh, place_of, emitted, checked};
+ghost use Rattle.bemit.specs.Trails.{noted_at};
 ghost use Rattle.bemit.specs.Effects.{loads, prefixed};
 ghost use Rattle.bread.specs.Marks.{is_mark};
 ghost use Rattle.bread.specs.Tokens.{all_tokens, is_name, IsLoaded, IsSingle, work};
 ghost use Rattle.bemit.specs.declared.form.Form.TheVariants.{Lone};
 ghost use Rattle.blang.specs.declared.token.Token.TheVariants as token;
-ghost use Rattle.bread.specs.Parsers.{called_at, prefix_meant, prefix_form, suffix_meant, assigned_at, Follows, Continues, Evaluates, Passes, Expects, Enters, TakesCurrent};
+ghost use Rattle.bread.specs.Parsers.{called_at, prefix_meant, prefix_form, suffix_meant, assigned_at, Follows, Continues, Evaluates, Passes, Expects, ExpectsTo, Enters, TakesCurrent};
 
 use crate::halt::Halt;
 use crate::mark::Mark;
@@ -117,9 +119,9 @@ impl<I: ByteIn> Parser<I> {
         tokens.into_input()
     }
 
-    /// What comes is made from the current token.
-    pub fn note(&self) {
-        self.draft.at(self.tokens.origin());
+    /// A fault that is seen now is at the current token. No contract speaks of it.
+    pub fn see(&self) {
+        self.draft.at(self.tokens.taken());
     }
 
     /// Takes a token that must come.
@@ -132,6 +134,20 @@ impl<I: ByteIn> Parser<I> {
             return Err(Halt::Fault);
         }
         self.tokens.advance()?;
+        Ok(())
+    }
+
+    /// Takes a token that must come. What was made from this place on is of its line.
+    pub fn expect_at(&mut self, place: u16, mark: Mark) -> Result<(), Halt>
+        requires single { IsSingle self.old.tokens }
+        requires place { place ≤ MAX_INSTRUCTIONS }
+        ensures tokens { ExpectsTo (noted_at place (line_ahead self.old.tokens.ahead) self.old.tokens.noted) (is_mark mark) self.old.tokens result self.new.tokens }
+        ensures draft { self.new.draft ≡ self.old.draft }
+    {
+        if !self.tokens.is_at(mark) {
+            return Err(Halt::Fault);
+        }
+        self.tokens.take(place)?;
         Ok(())
     }
 
@@ -150,14 +166,15 @@ impl<I: ByteIn> Parser<I> {
         Ok(room - 1)
     }
 
-    // Takes the current token, after which this stands.
-    fn take(&mut self, form: Form) -> Result<Form, Halt>
+    // Takes the current token, after which this stands. What was made from this place on is of its line.
+    fn take(&mut self, place: u16, form: Form) -> Result<Form, Halt>
         requires loaded { IsLoaded self.old.tokens }
         requires goes_on { is_last (first self.old.tokens.ahead) ≡ false }
-        ensures tokens { TakesCurrent self.old.tokens form result self.new.tokens }
+        requires place { place ≤ MAX_INSTRUCTIONS }
+        ensures tokens { TakesCurrent place self.old.tokens form result self.new.tokens }
         ensures draft { self.new.draft ≡ self.old.draft }
     {
-        self.tokens.advance()?;
+        self.tokens.take(place)?;
         Ok(form)
     }
 
@@ -168,7 +185,7 @@ impl<I: ByteIn> Parser<I> {
         ensures { (room : ℕ) → Follows (primary (inner room)) (called_at self.new.tokens) self.old.tokens self.old.draft result self.new.tokens self.new.draft }
     {
         let line = self.tokens.line();
-        self.tokens.advance()?;
+        self.tokens.take(self.draft.place())?;
         let called = self.tokens.is_at(Mark::OpenParen);
         Ok(self.draft.name(name, called, line))
     }
@@ -179,21 +196,22 @@ impl<I: ByteIn> Parser<I> {
         requires no_group { is_open_paren (first self.old.tokens.ahead) ≡ false }
         ensures { (room : ℕ) → Follows (primary (inner room)) (called_at self.new.tokens) self.old.tokens self.old.draft result self.new.tokens self.new.draft }
     {
-        self.note();
+        self.see();
+        let place = self.draft.place();
         match self.tokens.lexeme() {
             Lexeme::Name(name) => self.mention(name),
             Lexeme::Number(word) => {
                 self.draft.emit(Instr::Constant(word));
-                self.take(Form::Lone)
+                self.take(place, Form::Lone)
             }
             Lexeme::Character(word) => {
                 self.draft.emit(Instr::Constant(word));
-                self.take(Form::Lone)
+                self.take(place, Form::Lone)
             }
             Lexeme::String => {
                 let offset = self.draft.string(self.tokens.string());
                 self.draft.emit(Instr::Text(offset));
-                self.take(Form::Lone)
+                self.take(place, Form::Lone)
             }
             _ => Err(Halt::Fault),
         }
@@ -203,13 +221,14 @@ impl<I: ByteIn> Parser<I> {
     fn step(&mut self, increment: Increment, form: Form) -> Result<Form, Halt>
         requires loaded { IsLoaded self.old.tokens }
         requires goes_on { is_last (first self.old.tokens.ahead) ≡ false }
-        ensures tokens { TakesCurrent self.old.tokens Lone result self.new.tokens }
+        ensures tokens { TakesCurrent (place_of self.old.draft) self.old.tokens Lone result self.new.tokens }
         ensures draft { self.new.draft ≡ emitted (instr.Increment increment) (checked form (line_ahead self.old.tokens.ahead) self.old.draft) }
     {
-        self.note();
+        self.see();
+        let place = self.draft.place();
         self.draft.want_lvalue(form, self.tokens.line());
         self.draft.emit(Instr::Increment(increment));
-        self.take(Form::Lone)
+        self.take(place, Form::Lone)
     }
 
     // An atom, or an expression in parentheses.
@@ -296,14 +315,15 @@ impl<I: ByteIn> Parser<I> {
         requires { IsLoaded self.old.tokens }
         ensures { Follows (operand (inner room)) false self.old.tokens self.old.draft result self.new.tokens self.new.draft }
     {
-        let origin = self.tokens.origin();
+        let token = self.tokens.taken();
         let line = self.tokens.line();
         let Some(op) = prefix_of(self.tokens.lexeme()) else {
             return self.postfix(room);
         };
         let room = self.enter(room)?;
         let form = self.operand(room)?;
-        self.draft.at(origin);
+        self.draft.at(token);
+        self.tokens.note(self.draft.place(), line);
         Ok(prefix(&mut self.draft, op, line, form))
     }
 
@@ -364,7 +384,7 @@ impl<I: ByteIn> Parser<I> {
         let Some(op) = assigned_at(form, self.tokens.lexeme()) else {
             return self.conditional(room, form);
         };
-        self.note();
+        self.see();
         self.draft.want_lvalue(form, line);
         let room = self.enter(room)?;
         self.evaluate(room)?;

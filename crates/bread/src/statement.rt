@@ -12,10 +12,11 @@ ghost use Rattle.blang.specs.declared.code.Instr.TheVariants as instr;
 ghost use Rattle.bemit.specs.Drafts.{place_of, filled, breaks_filled};
 ghost use Rattle.blang.specs.declared.limits.TheConstants.{MAX_INSTRUCTIONS};
 ghost use Rattle.bemit.specs.Effects.{evaluated, done, all_done};
+ghost use Rattle.bemit.specs.Trails.{trailed_ended, trailed_condition, trailed_statement, trailed_through};
 ghost use Rattle.bread.specs.Tokens.{is_name, IsLoaded, IsSingle};
 ghost use Rattle.bread.specs.Headings.{unheaded};
-ghost use Rattle.bread.specs.Compiling.{untold, CompilesPart};
-ghost use Rattle.bread.specs.Statements.{after_current, rvalue_ended, evaluated_to, break_after, return_value, condition, conditional_after, repeated, statements, closed_loop, closed_switch, Chooses};
+ghost use Rattle.bread.specs.Compiling.{untold, CompilesPart, CompilesAfter};
+ghost use Rattle.bread.specs.Statements.{after_current, rvalue_ended, evaluated_to, break_after, return_value, condition, conditional_after, repeated, statements, closed_loop, closed_switch, after_keyword, after_parenthesis, Chooses};
 
 use crate::heading::heading;
 use crate::{Halt, Mark, Parser};
@@ -27,7 +28,7 @@ use bword::ByteIn;
 // A rvalue and a semicolon, and then an instruction.
 fn ended<I: ByteIn>(parser: &mut Parser<I>, room: u8, last: Instr) -> Result<(), Halt>
     requires { IsLoaded parser.old.tokens }
-    ensures { CompilesPart (rvalue_ended room) (evaluated_to last) parser.old.tokens parser.old.draft result parser.new.tokens parser.new.draft }
+    ensures { CompilesPart (rvalue_ended room) (evaluated_to last) trailed_ended parser.old.tokens parser.old.draft result parser.new.tokens parser.new.draft }
 {
     parser.evaluate(room)?;
     parser.expect(Mark::Semicolon)?;
@@ -38,7 +39,7 @@ fn ended<I: ByteIn>(parser: &mut Parser<I>, room: u8, last: Instr) -> Result<(),
 fn goto<I: ByteIn>(parser: &mut Parser<I>, room: u8) -> Result<(), Halt>
     requires loaded { IsLoaded parser.old.tokens }
     requires goes_on { is_last (first parser.old.tokens.ahead) ≡ false }
-    ensures { CompilesPart (after_current (λ off. reader.ended room off Goto)) done parser.old.tokens parser.old.draft result parser.new.tokens parser.new.draft }
+    ensures { CompilesPart (after_current (λ off. reader.ended room off Goto)) done trailed_statement parser.old.tokens parser.old.draft result parser.new.tokens parser.new.draft }
 {
     parser.tokens.advance()?;
     ended(parser, room, Instr::Goto)
@@ -47,7 +48,7 @@ fn goto<I: ByteIn>(parser: &mut Parser<I>, room: u8) -> Result<(), Halt>
 // What stands after a `break` on this line.
 fn broken<I: ByteIn>(parser: &mut Parser<I>, line: u64) -> Result<(), Halt>
     requires { IsSingle parser.old.tokens }
-    ensures { CompilesPart (untold (break_after line)) done parser.old.tokens parser.old.draft result parser.new.tokens parser.new.draft }
+    ensures { CompilesAfter after_keyword (untold (break_after line)) done trailed_statement parser.old.tokens parser.old.draft result parser.new.tokens parser.new.draft }
 {
     parser.expect(Mark::Semicolon)?;
     parser.draft.add_break(line);
@@ -57,7 +58,7 @@ fn broken<I: ByteIn>(parser: &mut Parser<I>, line: u64) -> Result<(), Halt>
 // The value of a `return`, after the parenthesis that opens it.
 fn return_value<I: ByteIn>(parser: &mut Parser<I>, room: u8) -> Result<(), Halt>
     requires { IsLoaded parser.old.tokens }
-    ensures { CompilesPart (return_value room) done parser.old.tokens parser.old.draft result parser.new.tokens parser.new.draft }
+    ensures { CompilesAfter after_parenthesis (return_value room) done trailed_statement parser.old.tokens parser.old.draft result parser.new.tokens parser.new.draft }
 {
     parser.evaluate(room)?;
     parser.expect(Mark::CloseParen)?;
@@ -69,7 +70,7 @@ fn return_value<I: ByteIn>(parser: &mut Parser<I>, room: u8) -> Result<(), Halt>
 // What stands after `return`.
 fn returned<I: ByteIn>(parser: &mut Parser<I>, room: u8) -> Result<(), Halt>
     requires { IsSingle parser.old.tokens }
-    ensures { CompilesPart (returned room) done parser.old.tokens parser.old.draft result parser.new.tokens parser.new.draft }
+    ensures { CompilesAfter after_keyword (returned room) done trailed_statement parser.old.tokens parser.old.draft result parser.new.tokens parser.new.draft }
 {
     if parser.tokens.is_at(Mark::OpenParen) {
         parser.tokens.advance()?;
@@ -84,7 +85,7 @@ fn returned<I: ByteIn>(parser: &mut Parser<I>, room: u8) -> Result<(), Halt>
 // A condition in its parentheses.
 fn condition<I: ByteIn>(parser: &mut Parser<I>, room: u8) -> Result<(), Halt>
     requires { IsSingle parser.old.tokens }
-    ensures { CompilesPart (condition room) evaluated parser.old.tokens parser.old.draft result parser.new.tokens parser.new.draft }
+    ensures { CompilesPart (condition room) evaluated trailed_condition parser.old.tokens parser.old.draft result parser.new.tokens parser.new.draft }
 {
     parser.expect(Mark::OpenParen)?;
     parser.evaluate(room)?;
@@ -152,7 +153,7 @@ fn goes_on(lexeme: Lexeme) -> bool
 #[cycle(statements)]
 pub fn statement<I: ByteIn>(parser: &mut Parser<I>, room: u8) -> Result<(), Halt>
     requires { IsLoaded parser.old.tokens }
-    ensures { CompilesPart (statement room) done parser.old.tokens parser.old.draft result parser.new.tokens parser.new.draft }
+    ensures { CompilesPart (statement room) done trailed_statement parser.old.tokens parser.old.draft result parser.new.tokens parser.new.draft }
 {
     'headings: while heading(parser)? {}
     unheaded(parser, room)
@@ -162,11 +163,14 @@ pub fn statement<I: ByteIn>(parser: &mut Parser<I>, room: u8) -> Result<(), Halt
 #[cycle(statements)]
 fn unheaded<I: ByteIn>(parser: &mut Parser<I>, room: u8) -> Result<(), Halt>
     requires { IsLoaded parser.old.tokens }
-    ensures { CompilesPart (unheaded room) done parser.old.tokens parser.old.draft result parser.new.tokens parser.new.draft }
+    ensures { CompilesPart (unheaded room) done trailed_statement parser.old.tokens parser.old.draft result parser.new.tokens parser.new.draft }
 {
     match parser.tokens.lexeme() {
         Lexeme::OpenBrace => compound(parser, room),
-        Lexeme::Semicolon => parser.expect(Mark::Semicolon),
+        Lexeme::Semicolon => {
+            let place = parser.draft.place();
+            parser.expect_at(place, Mark::Semicolon)
+        }
         Lexeme::Keyword(keyword) => keyed(parser, room, keyword),
         _ => ended(parser, room, Instr::Pop),
     }
@@ -177,7 +181,7 @@ fn unheaded<I: ByteIn>(parser: &mut Parser<I>, room: u8) -> Result<(), Halt>
 fn keyed<I: ByteIn>(parser: &mut Parser<I>, room: u8, keyword: Keyword) -> Result<(), Halt>
     requires loaded { IsLoaded parser.old.tokens }
     requires keyword { first parser.old.tokens.ahead ≡ token.Keyword keyword }
-    ensures { CompilesPart (unheaded room) done parser.old.tokens parser.old.draft result parser.new.tokens parser.new.draft }
+    ensures { CompilesPart (unheaded room) done trailed_statement parser.old.tokens parser.old.draft result parser.new.tokens parser.new.draft }
 {
     let line = parser.tokens.line();
     match keyword {
@@ -186,11 +190,11 @@ fn keyed<I: ByteIn>(parser: &mut Parser<I>, room: u8, keyword: Keyword) -> Resul
         Keyword::Switch => switched(parser, room),
         Keyword::Goto => goto(parser, room),
         Keyword::Break => {
-            parser.tokens.advance()?;
+            parser.tokens.take(parser.draft.place())?;
             broken(parser, line)
         }
         Keyword::Return => {
-            parser.tokens.advance()?;
+            parser.tokens.take(parser.draft.place())?;
             returned(parser, room)
         }
         _ => ended(parser, room, Instr::Pop),
@@ -203,7 +207,7 @@ fn compound<I: ByteIn>(parser: &mut Parser<I>, room: u8) -> Result<(), Halt>
     requires loaded { IsLoaded parser.old.tokens }
     requires no_name { is_name (first parser.old.tokens.ahead) ≡ false }
     requires goes_on { is_last (first parser.old.tokens.ahead) ≡ false }
-    ensures { CompilesPart (compound (level room)) done parser.old.tokens parser.old.draft result parser.new.tokens parser.new.draft }
+    ensures { CompilesPart (compound (level room)) done trailed_statement parser.old.tokens parser.old.draft result parser.new.tokens parser.new.draft }
 {
     let room = parser.enter(room)?;
     body(parser, room)
@@ -213,13 +217,14 @@ fn compound<I: ByteIn>(parser: &mut Parser<I>, room: u8) -> Result<(), Halt>
 #[cycle(statements)]
 fn body<I: ByteIn>(parser: &mut Parser<I>, room: u8) -> Result<(), Halt>
     requires { IsSingle parser.old.tokens }
-    ensures { CompilesPart (statements room) all_done parser.old.tokens parser.old.draft result parser.new.tokens parser.new.draft }
+    ensures { CompilesPart (statements room) all_done trailed_through parser.old.tokens parser.old.draft result parser.new.tokens parser.new.draft }
 {
     'statements: while goes_on(parser.tokens.lexeme()) {
         statement(parser, room)?;
     }
-    parser.note();
-    parser.expect(Mark::CloseBrace)
+    parser.see();
+    let place = parser.draft.place();
+    parser.expect_at(place, Mark::CloseBrace)
 }
 
 #[cycle(statements)]
@@ -227,7 +232,7 @@ fn conditional<I: ByteIn>(parser: &mut Parser<I>, room: u8) -> Result<(), Halt>
     requires loaded { IsLoaded parser.old.tokens }
     requires no_name { is_name (first parser.old.tokens.ahead) ≡ false }
     requires goes_on { is_last (first parser.old.tokens.ahead) ≡ false }
-    ensures { CompilesPart (conditional_after room) done parser.old.tokens parser.old.draft result parser.new.tokens parser.new.draft }
+    ensures { CompilesPart (conditional_after room) done trailed_statement parser.old.tokens parser.old.draft result parser.new.tokens parser.new.draft }
 {
     let room = parser.enter(room)?;
     condition(parser, room)?;
@@ -262,9 +267,10 @@ fn repeated<I: ByteIn>(parser: &mut Parser<I>, room: u8) -> Result<(), Halt>
     requires loaded { IsLoaded parser.old.tokens }
     requires no_name { is_name (first parser.old.tokens.ahead) ≡ false }
     requires goes_on { is_last (first parser.old.tokens.ahead) ≡ false }
-    ensures { CompilesPart (repeated room) done parser.old.tokens parser.old.draft result parser.new.tokens parser.new.draft }
+    ensures { CompilesPart (repeated room) done trailed_statement parser.old.tokens parser.old.draft result parser.new.tokens parser.new.draft }
 {
-    let origin = parser.tokens.origin();
+    let token = parser.tokens.taken();
+    let line = parser.tokens.line();
     let top = parser.draft.place();
     let room = parser.enter(room)?;
     condition(parser, room)?;
@@ -273,7 +279,8 @@ fn repeated<I: ByteIn>(parser: &mut Parser<I>, room: u8) -> Result<(), Halt>
     let mark = parser.draft.mark();
     parser.draft.begin_loop();
     statement(parser, room)?;
-    parser.draft.at(origin);
+    parser.draft.at(token);
+    parser.tokens.note(parser.draft.place(), line);
     close_loop(&mut parser.draft, top, mark);
     skip_to_here(&mut parser.draft, test);
     Ok(())
@@ -284,9 +291,10 @@ fn switched<I: ByteIn>(parser: &mut Parser<I>, room: u8) -> Result<(), Halt>
     requires loaded { IsLoaded parser.old.tokens }
     requires no_name { is_name (first parser.old.tokens.ahead) ≡ false }
     requires goes_on { is_last (first parser.old.tokens.ahead) ≡ false }
-    ensures { CompilesPart (switched (level room)) done parser.old.tokens parser.old.draft result parser.new.tokens parser.new.draft }
+    ensures { CompilesPart (switched (level room)) done trailed_statement parser.old.tokens parser.old.draft result parser.new.tokens parser.new.draft }
 {
-    let origin = parser.tokens.origin();
+    let token = parser.tokens.taken();
+    let line = parser.tokens.line();
     let room = parser.enter(room)?;
     parser.evaluate(room)?;
     parser.expect(Mark::OpenBrace)?;
@@ -295,7 +303,8 @@ fn switched<I: ByteIn>(parser: &mut Parser<I>, room: u8) -> Result<(), Halt>
     parser.draft.emit(Instr::Jump(0));
     parser.draft.begin_switch();
     body(parser, room)?;
-    parser.draft.at(origin);
+    parser.draft.at(token);
+    parser.tokens.note(parser.draft.place(), line);
     close_switch(&mut parser.draft, jump, mark);
     Ok(())
 }

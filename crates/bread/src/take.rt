@@ -1,5 +1,6 @@
 //! Taking one token.
 ghost use Rattle.std.specs.Prelude.{◌≡◌};
+ghost use Rattle.bemit.specs.Drafts.{place_of};
 ghost use Rattle.bread.specs.Tokens.{IsLoaded, IsSingle};
 ghost use Rattle.bread.specs.Compiling.{FindsName, FindsSize, FindsConstant};
 
@@ -14,19 +15,19 @@ pub struct Word {
     pub line: u64,
 }
 
-/// Takes a name.
+/// Takes a name, of whose line is what is made next.
 pub fn name<I: ByteIn>(parser: &mut Parser<I>) -> Result<Word, Halt>
     requires { IsLoaded parser.old.tokens }
-    ensures tokens { FindsName parser.old.tokens result parser.new.tokens }
+    ensures tokens { FindsName (place_of parser.old.draft) parser.old.tokens result parser.new.tokens }
     ensures draft { parser.new.draft ≡ parser.old.draft }
 {
-    parser.note();
+    parser.see();
     let line = parser.tokens.line();
     let name = match parser.tokens.lexeme() {
         Lexeme::Name(name) => name,
         _ => return Err(Halt::Fault),
     };
-    parser.tokens.advance()?;
+    parser.tokens.take(parser.draft.place())?;
     Ok(Word { name, line })
 }
 

@@ -1,26 +1,29 @@
 //! The tokens of a source, two of which may be ahead.
-ghost use Rattle.std.specs.Prelude.{◌≡◌, true, false, OnOk, OnErr};
+ghost use Rattle.std.specs.Prelude.{◌≡◌, ◌≤◌, length, true, false, OnOk, OnErr};
+ghost use Rattle.blang.specs.declared.limits.TheConstants.{MAX_INSTRUCTIONS};
+ghost use Rattle.bemit.specs.Trails.{no_lines, filled_to, noted_at};
 ghost use Rattle.blex.specs.Lexemes.{token_of_lexeme};
 ghost use Rattle.blang.specs.Cut.{is_last, placed};
 ghost use Rattle.blang.specs.WellFormed.{fault_at};
 ghost use Rattle.bgrammar.specs.Reading.{first, line_ahead, after};
-ghost use Rattle.bread.specs.Tokens.{all_tokens, is_name, IsReady, IsLoaded, Looks, LooksOn, Advances, TokensFail};
+ghost use Rattle.bread.specs.Tokens.{all_tokens, is_name, with_noted, IsReady, IsLoaded, Looks, LooksOn, Advances, AdvancesTo, TokensFail};
 ghost use Rattle.bread.specs.Marks.{is_mark};
 
 use crate::mark::Mark;
-use bemit::TokenOrigin;
+use bemit::LineTable;
 use blang::{About, Diagnostic, Letters};
 use blex::{Lexeme, Lexer, Seen};
 use bword::{ByteIn, Device, Edition};
 use std::cell::Cell;
 use std::marker::Model;
 
-/// The tokens to come.
+/// The tokens to come, and the lines of what was made of those before.
 #[derive(Drop)]
 pub struct Tokens<I: ByteIn> {
     lexer: Lexer<I>,
     current: Option<Seen>,
     following: Option<Seen>,
+    lines: LineTable,
     // How many tokens were taken. No contract speaks of it.
     taken: Cell<u64>,
 }
@@ -35,6 +38,7 @@ impl<I: ByteIn> Model for Tokens<I> {
       progress = t.lexer.progress;
       text = t.lexer.characters;
       ahead = both (token_seen t.lexer.characters t.current) (token_seen t.lexer.characters t.following);
+      noted = t.lines;
     } };
 
     ghost invariant = { λ t. InOrder t.lexer.source.ahead t.current t.following };
@@ -49,6 +53,7 @@ impl<I: ByteIn> Tokens<I> {
             lexer: Lexer::with_edition(input, edition),
             current: None,
             following: None,
+            lines: LineTable::new(),
             taken: Cell::new(0),
         }
     }
@@ -62,6 +67,7 @@ impl<I: ByteIn> Tokens<I> {
             lexer,
             current: _,
             following: _,
+            lines: _,
             taken: _,
         } = self;
         lexer.into_input()
@@ -101,15 +107,6 @@ impl<I: ByteIn> Tokens<I> {
     #[inline(always)]
     pub fn taken(&self) -> u64 {
         self.taken.get()
-    }
-
-    /// Where the current token is.
-    #[inline(always)]
-    pub fn origin(&self) -> TokenOrigin {
-        TokenOrigin {
-            line: self.line(),
-            token: self.taken(),
-        }
     }
 
     /// What is wrong where no program goes on with the current token.
@@ -197,5 +194,51 @@ impl<I: ByteIn> Tokens<I> {
         }
         self.current = None;
         self.look()
+    }
+
+    /// Takes the current token, of whose line is what was made from this place on.
+    #[inline(always)]
+    pub fn take(&mut self, place: u16) -> Result<(), Device>
+        requires loaded { IsLoaded self.old }
+        requires goes_on { is_last (first self.old.ahead) ≡ false }
+        requires place { place ≤ MAX_INSTRUCTIONS }
+        ensures ok { OnOk result (AdvancesTo (noted_at place (line_ahead self.old.ahead) self.old.noted) self.old self.new) }
+        ensures err { OnErr result (TokensFail self.old self.new) }
+    {
+        let line = self.line();
+        self.advance()?;
+        self.note(place, line);
+        Ok(())
+    }
+
+    /// What is made from this place on is of this line.
+    pub fn note(&mut self, place: u16, line: u64)
+        requires { place ≤ MAX_INSTRUCTIONS }
+        ensures { self.new ≡ with_noted (noted_at place line self.old.noted) self.old }
+    {
+        self.lines.note(place, line);
+    }
+
+    /// What was made up to this place, since the last note, is of the line of that.
+    pub fn fill_lines(&mut self, place: u16)
+        requires { place ≤ MAX_INSTRUCTIONS }
+        ensures { self.new ≡ with_noted (filled_to place self.old.noted) self.old }
+    {
+        self.lines.fill(place);
+    }
+
+    /// Forgets all lines, for the next definition.
+    pub fn clear_lines(&mut self)
+        ensures { self.new ≡ with_noted no_lines self.old }
+    {
+        self.lines.clear();
+    }
+
+    /// The lines of what was made, up to the place that was noted or filled to last.
+    pub fn lines(&self) -> &[u64]
+        ensures lines { result.now ≡ self.now.noted.lines }
+        ensures few { length result.now ≤ MAX_INSTRUCTIONS }
+    {
+        self.lines.lines()
     }
 }

@@ -1,6 +1,9 @@
 //! The files of a source, and their lines.
 ghost use Rattle.std.specs.Prelude.{◌≡◌, option_map};
 ghost use Rattle.bsources.specs.Files.{beyond_first, file_of, file_shown, files_shown, line_shown, own_line};
+ghost use Rattle.bsources.specs.OwnLines.{LinesLieInTheirFiles};
+
+use crate::Following;
 
 /// A file of a source: its name, and how many lines it has.
 #[derive(Clone, Copy)]
@@ -21,7 +24,7 @@ pub struct FileLine<'a> {
 #[derive(Clone, Copy)]
 pub struct SourceFiles<'a> {
     pub first: SourceFile<'a>,
-    pub rest: &'a [SourceFile<'a>],
+    pub rest: &'a Following<'a>,
 }
 
 impl<'a> SourceFile<'a> {
@@ -42,18 +45,12 @@ impl<'a> SourceFiles<'a> {
     pub fn own_line(&self, line: u64) -> FileLine<'a>
         ensures { line_shown result ≡ own_line (files_shown self.now) line }
     {
-        let mut file = self.first;
-        let mut line = line;
-        for next in self.rest {
-            if line <= file.lines {
-                break;
-            }
-            line -= file.lines;
-            file = *next;
-        }
-        FileLine {
-            file: file.name,
-            line,
+        match self.beyond_first(line) {
+            Some(at) => at,
+            None => FileLine {
+                file: self.first.name,
+                line,
+            },
         }
     }
 
@@ -61,14 +58,14 @@ impl<'a> SourceFiles<'a> {
     pub fn beyond_first(&self, line: u64) -> Option<FileLine<'a>>
         ensures { option_map line_shown result ≡ beyond_first (files_shown self.now) line }
     {
-        let (first, rest) = self.rest.split_first()?;
         if line <= self.first.lines {
             return None;
         }
-        let after = SourceFiles {
-            first: *first,
-            rest,
-        };
-        Some(after.own_line(line - self.first.lines))
+        self.rest.own_line(line - self.first.lines)
     }
 }
+
+/// The line of each place of a source is told as the file in whose text the place is, and the line there.
+pub fn lines_lie_in_their_files()
+    ensures { LinesLieInTheirFiles }
+{}

@@ -5,6 +5,6 @@ mod files;
 mod following;
 mod joined_in;
 
-pub use files::{FileLine, SourceFile, SourceFiles};
-pub use following::Following;
+pub use files::{FileLine, SourceFile, SourceFiles, lines_lie_in_their_files};
+pub use following::{Following, LaterFile};
 pub use joined_in::JoinedIn;

@@ -68,4 +68,4 @@ returns-clause-gives g c =
     let same = viewed (keys_of c.args.names.now) t.tree c.in-Ok.header c.definition.new.parser.draft d _ c.resolve.new.self clean c.resolve.ensures c.view.ensures in
     wrote c.args.parser.now.tokens c.look.new.self (keys_of c.args.names.now) c.in_ok-look.ensures.ok c.definition.new.parser.tokens _ t.tree c.in-Ok.header.name t.heads.name t.moves (keys_of c.insert.new.self) _ clean
     (added c.args.names.now c.insert.new.self t.tree c.in-Ok.header.name 0 _ t.heads.name clean c.in_ok-insert.ensures.there c.in_ok-insert.ensures.known c.in_ok-insert.ensures.len)
-    (subst (λ x. Writes (g.O.ByteOut.outgoing c.args.out.now) (definition_text x) (g.O.ByteOut.outgoing c.write_definition.new.out)) same c.in_ok-write_definition.ensures.gives) t.single t.falls
+    (subst (λ x. Writes (g.O.ByteOut.outgoing c.args.out.now) (definition_text x) (g.O.ByteOut.outgoing c.write_definition.new.out)) same c.in_ok-write_definition.ensures.gives) t.single t.falls t.notes

@@ -11,13 +11,13 @@ use Rattle.bread.proofs.Takings.{constant_here, ival_none}
 use Rattle.bread.proofs.definitions.value.Goals as goal
 
 pub returns-in-Number : goal.returns-in-Number
-returns-in-Number g c = number_ends c.in-Number.word _ _ c.valued-in-Number.result _ _ (constant_here c.args.parser.now.tokens.text c.lexeme.ensures c.in-Number.is) c.valued-in-Number.ensures
+returns-in-Number g c = number_ends c.in-Number.word _ _ c.valued-in-Number.result _ _ (constant_here c.args.parser.now.tokens.text c.lexeme.ensures c.in-Number.is) c.value_place-place.result c.value_place-place.ensures.place c.valued-in-Number.ensures
 
 pub returns-in-Name : goal.returns-in-Name
-returns-in-Name g c = name_ends c.in-Name.name _ _ c.valued.result _ _ (token_here c.args.parser.now.tokens.text c.lexeme.ensures c.in-Name.is) c.valued.ensures
+returns-in-Name g c = name_ends c.in-Name.name _ _ c.valued.result _ _ (token_here c.args.parser.now.tokens.text c.lexeme.ensures c.in-Name.is) c.value_place-place.result c.value_place-place.ensures.place c.valued.ensures
 
 pub returns-in-String : goal.returns-in-String
-returns-in-String g c = let d = c.args.parser.now.draft in let text = c.args.parser.now.tokens.text in value_ends (λ before. Ival_text text (values_words before)) (ival.Text c.string-offset.result) c.args.parser.now.tokens d c.string-offset.new.self c.valued-in-String.result _ _ (λ before u f l. ap (λ t. ival_at (values_words before) t u) (f ∙ token_here text c.lexeme.ensures c.in-String.is)) (λ before. sym (ap (λ o. valued (ival.Text o) c.string-offset.new.self) c.string-offset.ensures.offset ∙ ap (valued (ival.Text (offset_of d))) (c.string-offset.ensures.draft ∙ ap (λ b. stringed b d) c.string.ensures))) c.valued-in-String.ensures
+returns-in-String g c = let d = c.args.parser.now.draft in let text = c.args.parser.now.tokens.text in value_ends (λ before. Ival_text text (values_words before)) (ival.Text c.string-offset.result) c.args.parser.now.tokens d c.string-offset.new.self c.valued-in-String.result _ _ (λ before u f l. ap (λ t. ival_at (values_words before) t u) (f ∙ token_here text c.lexeme.ensures c.in-String.is)) (λ before. sym (ap (λ o. valued (ival.Text o) c.string-offset.new.self) c.string-offset.ensures.offset ∙ ap (valued (ival.Text (offset_of d))) (c.string-offset.ensures.draft ∙ ap (λ b. stringed b d) c.string.ensures))) c.value_place-place.result c.value_place-place.ensures.place c.valued-in-String.ensures
 
 pub returns-in_default : goal.returns-in_default
 returns-in_default g c = λ before.

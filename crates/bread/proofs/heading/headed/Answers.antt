@@ -34,8 +34,12 @@ returns-in_ok-default-in-Default g c = let k = c.requires.keyword ∙ ap (λ w. 
 
 pub returns-in_default : goal.returns-in_default
 returns-in_default g c = (
-  run_seen {P = IsUnheaded} c.requires.loaded
-      (λ u more s f l. no_heading u (ap (step_at None) (f ∙ c.requires.keyword) ∙ keyword_none c.args.keyword c.in_default.not-Auto c.in_default.not-Extrn c.in_default.not-Case c.in_default.not-Default)),
-  c.requires.loaded,
+  record {
+    moves = run_seen {P = IsUnheaded} c.requires.loaded
+        (λ u more s f l. no_heading u (ap (step_at None) (f ∙ c.requires.keyword) ∙ keyword_none c.args.keyword c.in_default.not-Auto c.in_default.not-Extrn c.in_default.not-Case c.in_default.not-Default));
+    loaded = c.requires.loaded;
+    none = λ ls. refl;
+    noted = refl;
+  },
   refl,
 )

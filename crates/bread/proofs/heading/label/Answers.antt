@@ -6,7 +6,7 @@ use Rattle.bread.proofs.HeadingSteps.{label_absent, label_took, heading_err}
 use Rattle.bread.proofs.heading.label.Goals as goal
 
 pub returns-then-not-is_after : goal.returns-then-not-is_after
-returns-then-not-is_after g c = let h = c.in_ok-look_on.ensures.ok in (label_absent c.args.name c.requires.name h (sym c.is_after.ensures ∙ c.if-not-is_after.true), h.loaded, refl)
+returns-then-not-is_after g c = let h = c.in_ok-look_on.ensures.ok in (label_absent c.args.name c.requires.name h (sym c.is_after.ensures ∙ c.if-not-is_after.true), refl)
 
 pub returns-in_err-advance : goal.returns-in_err-advance
 returns-in_err-advance g c = heading_err _ _ c.from_residual-in_err-advance.result _ _ halt.Device c.from_residual-in_err-advance.ensures.1 (Moves-breaks c.in_ok-look_on.ensures.ok.moves c.in_err-advance.ensures.err)

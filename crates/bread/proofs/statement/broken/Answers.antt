@@ -5,7 +5,7 @@ use Rattle.bread.proofs.StatementSteps.{broken_halts, broken_took}
 use Rattle.bread.proofs.statement.broken.Goals as goal
 
 pub returns-in_err-expect : goal.returns-in_err-expect
-returns-in_err-expect g c = compiles_err _ _ _ _ c.from_residual.result _ _ c.in_err-expect.field-0.0 c.from_residual.ensures.1 (λ i. broken_halts c.args.line _ _ c.in_err-expect.field-0.0 c.in_err-expect.ensures.tokens)
+returns-in_err-expect g c = compiles_err _ _ _ _ _ _ c.from_residual.result _ _ c.in_err-expect.field-0.0 c.from_residual.ensures.1 (λ i. broken_halts c.args.line _ _ c.in_err-expect.field-0.0 c.in_err-expect.ensures.tokens)
 
 pub returns : goal.returns
-returns g c = (λ i. broken_took c.args.line c.in_ok-expect.ensures.tokens.0 (c.add_break.ensures ∙ ap (drafts.break_drafted c.args.line) c.in_ok-expect.ensures.draft), c.in_ok-expect.ensures.tokens.1, c.in_ok-expect.ensures.tokens.2)
+returns g c = (λ i. broken_took c.args.line c.in_ok-expect.ensures.tokens (c.add_break.ensures ∙ ap (drafts.break_drafted c.args.line) c.in_ok-expect.ensures.draft), c.in_ok-expect.ensures.tokens.single, c.in_ok-expect.ensures.tokens.falls)

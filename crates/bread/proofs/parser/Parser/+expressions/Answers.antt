@@ -75,13 +75,13 @@ pub conditional-returns-in_err-expect : goal.conditional-returns-in_err-expect
 conditional-returns-in_err-expect g t c = continues_err (conditional (inner c.args.room)) false false c.args.form c.args.self.now.tokens c.expect.new.self.tokens c.args.self.now.draft c.expect.new.self.draft c.from_residual-in_err-expect.result c.in_err-expect.field-0.0 c.from_residual-in_err-expect.ensures.1 (colon_stops c.args.room c.in_ok-room.room c.args.self.now.tokens c.enter.new.self.tokens c.in_ok-room.ensures.tokens (sym c.if-not-is_at.ensures) c.evaluate.new.self.tokens c.emit.new.self c.evaluate.new.self.draft c.in_ok-evaluate.ensures.0 c.expect.new.self.tokens c.in_err-expect.field-0.0 c.in_err-expect.ensures.tokens)
 
 pub conditional-returns-in_err-form : goal.conditional-returns-in_err-form
-conditional-returns-in_err-form g t c = continues_err (conditional (inner c.args.room)) false false c.args.form c.args.self.now.tokens c.chain.new.self.tokens c.args.self.now.draft c.chain.new.self.draft c.from_residual-in_err-form.result c.in_err-form.field-0.0 c.from_residual-in_err-form.ensures.1 (chain_stops c.args.room c.in_ok-room.room c.args.self.now.tokens c.enter.new.self.tokens c.in_ok-room.ensures.tokens (sym c.if-not-is_at.ensures) c.evaluate.new.self.tokens c.emit.new.self c.evaluate.new.self.draft c.in_ok-evaluate.ensures.0 c.expect.new.self.tokens c.in_ok-expect.ensures.tokens.0 c.chain.new.self.tokens c.in_err-form.field-0.0 c.in_err-form.ensures)
+conditional-returns-in_err-form g t c = continues_err (conditional (inner c.args.room)) false false c.args.form c.args.self.now.tokens c.chain.new.self.tokens c.args.self.now.draft c.chain.new.self.draft c.from_residual-in_err-form.result c.in_err-form.field-0.0 c.from_residual-in_err-form.ensures.1 (chain_stops c.args.room c.in_ok-room.room c.args.self.now.tokens c.enter.new.self.tokens c.in_ok-room.ensures.tokens (sym c.if-not-is_at.ensures) c.evaluate.new.self.tokens c.emit.new.self c.evaluate.new.self.draft c.in_ok-evaluate.ensures.0 c.expect.new.self.tokens c.in_ok-expect.ensures.tokens c.chain.new.self.tokens c.in_err-form.field-0.0 c.in_err-form.ensures)
 
 pub conditional-returns-in_err-form-2 : goal.conditional-returns-in_err-form-2
-conditional-returns-in_err-form-2 g t c = continues_err (conditional (inner c.args.room)) false false c.args.form c.args.self.now.tokens c.conditional.new.self.tokens c.args.self.now.draft c.conditional.new.self.draft c.from_residual-in_err-form-2.result c.in_err-form-2.field-0.0 c.from_residual-in_err-form-2.ensures.1 (rest_stops c.args.room c.in_ok-room.room c.args.self.now.tokens c.enter.new.self.tokens c.in_ok-room.ensures.tokens (sym c.if-not-is_at.ensures) c.evaluate.new.self.tokens c.emit.new.self c.evaluate.new.self.draft c.in_ok-evaluate.ensures.0 c.expect.new.self.tokens c.in_ok-expect.ensures.tokens.0 c.chain.new.self.tokens c.fill.new.self c.chain.new.self.draft c.in_ok-form.form c.in_ok-form.ensures.0 c.conditional.new.self.tokens c.in_err-form-2.field-0.0 c.in_err-form-2.ensures)
+conditional-returns-in_err-form-2 g t c = continues_err (conditional (inner c.args.room)) false false c.args.form c.args.self.now.tokens c.conditional.new.self.tokens c.args.self.now.draft c.conditional.new.self.draft c.from_residual-in_err-form-2.result c.in_err-form-2.field-0.0 c.from_residual-in_err-form-2.ensures.1 (rest_stops c.args.room c.in_ok-room.room c.args.self.now.tokens c.enter.new.self.tokens c.in_ok-room.ensures.tokens (sym c.if-not-is_at.ensures) c.evaluate.new.self.tokens c.emit.new.self c.evaluate.new.self.draft c.in_ok-evaluate.ensures.0 c.expect.new.self.tokens c.in_ok-expect.ensures.tokens c.chain.new.self.tokens c.fill.new.self c.chain.new.self.draft c.in_ok-form.form c.in_ok-form.ensures.0 c.conditional.new.self.tokens c.in_err-form-2.field-0.0 c.in_err-form-2.ensures)
 
 pub conditional-returns : goal.conditional-returns
-conditional-returns g t c = conditional_took c.args.room c.in_ok-room.room c.args.self.now.tokens c.enter.new.self.tokens c.in_ok-room.ensures.tokens (sym c.if-not-is_at.ensures) c.evaluate.new.self.tokens c.emit.new.self c.evaluate.new.self.draft c.in_ok-evaluate.ensures.0 c.expect.new.self.tokens c.in_ok-expect.ensures.tokens.0 c.chain.new.self.tokens c.fill.new.self c.chain.new.self.draft c.in_ok-form.form c.in_ok-form.ensures.0 c.conditional.new.self.tokens c.args.self.now.draft c.load.new.draft c.enter.new.self.draft c.expect.new.self.draft c.emit-2.new.self c.conditional.new.self.draft c.load-2.new.draft c.fill-2.new.self c.args.form c.in_ok-form-2.form c.place-test.result c.place-end.result c.place-second.result c.place-following.result c.in_ok-form-2.ensures c.load.ensures c.in_ok-room.ensures.draft c.place-test.ensures c.emit.ensures c.in_ok-expect.ensures.draft c.place-end.ensures c.emit-2.ensures c.place-second.ensures c.fill.ensures c.load-2.ensures c.place-following.ensures c.fill-2.ensures
+conditional-returns g t c = conditional_took c.args.room c.in_ok-room.room c.args.self.now.tokens c.enter.new.self.tokens c.in_ok-room.ensures.tokens (sym c.if-not-is_at.ensures) c.evaluate.new.self.tokens c.emit.new.self c.evaluate.new.self.draft c.in_ok-evaluate.ensures.0 c.expect.new.self.tokens c.in_ok-expect.ensures.tokens c.chain.new.self.tokens c.fill.new.self c.chain.new.self.draft c.in_ok-form.form c.in_ok-form.ensures.0 c.conditional.new.self.tokens c.args.self.now.draft c.load.new.draft c.enter.new.self.draft c.expect.new.self.draft c.emit-2.new.self c.conditional.new.self.draft c.load-2.new.draft c.fill-2.new.self c.args.form c.in_ok-form-2.form c.place-test.result c.place-end.result c.place-second.result c.place-following.result c.in_ok-form-2.ensures c.load.ensures c.in_ok-room.ensures.draft c.place-test.ensures.place c.emit.ensures c.in_ok-expect.ensures.draft c.place-end.ensures.place c.emit-2.ensures c.place-second.ensures.place c.fill.ensures c.load-2.ensures c.place-following.ensures.place c.fill-2.ensures
 
 pub evaluate-returns : goal.evaluate-returns
 evaluate-returns g t c = evaluate_took c.args.room c.args.self.now.tokens c.rvalue.new.self.tokens c.args.self.now.draft c.rvalue.new.self.draft c.load.new.draft c.in_ok-form.form c.in_ok-form.ensures c.load.ensures
@@ -93,7 +93,7 @@ pub operand-returns-in_err-form : goal.operand-returns-in_err-form
 operand-returns-in_err-form g t c = follows_err (operand (inner c.args.room)) false c.args.self.now.tokens c.operand.new.self.tokens c.args.self.now.draft c.operand.new.self.draft c.from_residual-in_err-form.result c.in_err-form.field-0.0 c.from_residual-in_err-form.ensures.1 (prefix_stops c.args.room c.in_ok-room.room (prefix_meant c.in-Some.op) c.args.self.now.tokens c.enter.new.self.tokens c.in_ok-room.ensures.tokens (sym (c.in-Some.ensures c.args.self.now.tokens.text ∙ ap prefix_op c.lexeme.ensures)) c.operand.new.self.tokens c.in_err-form.field-0.0 c.in_err-form.ensures)
 
 pub operand-returns : goal.operand-returns
-operand-returns g t c = prefix_took c.args.room c.in_ok-room.room (prefix_meant c.in-Some.op) c.args.self.now.tokens c.enter.new.self.tokens c.in_ok-room.ensures.tokens (sym (c.in-Some.ensures c.args.self.now.tokens.text ∙ ap prefix_op c.lexeme.ensures)) c.operand.new.self.tokens c.args.self.now.draft c.enter.new.self.draft c.operand.new.self.draft c.prefix.new.draft c.in_ok-form.form c.prefix.result c.line-line.result c.in_ok-room.ensures.draft c.in_ok-form.ensures c.line-line.ensures c.prefix.ensures.draft (prefix_leaves c.in-Some.op c.prefix.result c.prefix.ensures.form)
+operand-returns g t c = prefix_took c.args.room c.in_ok-room.room (prefix_meant c.in-Some.op) c.args.self.now.tokens c.enter.new.self.tokens c.in_ok-room.ensures.tokens (sym (c.in-Some.ensures c.args.self.now.tokens.text ∙ ap prefix_op c.lexeme.ensures)) c.operand.new.self.tokens c.note.new.self c.args.self.now.draft c.enter.new.self.draft c.operand.new.self.draft c.prefix.new.draft c.in_ok-form.form c.prefix.result c.line-line.result c.place.result c.note.ensures c.in_ok-room.ensures.draft c.in_ok-form.ensures c.line-line.ensures c.prefix.ensures.draft (prefix_leaves c.in-Some.op c.prefix.result c.prefix.ensures.form) c.place.ensures.place
 
 pub postfix-returns-in_err-form : goal.postfix-returns-in_err-form
 postfix-returns-in_err-form g t c = follows_err (postfix (inner c.args.room)) false c.args.self.now.tokens c.primary.new.self.tokens c.args.self.now.draft c.primary.new.self.draft c.from_residual.result c.in_err-form.field-0.0 c.from_residual.ensures.1 (λ off. halt_bind c.args.self.now.tokens (primary (inner c.args.room) off) (suffixes c.args.room off) c.in_err-form.field-0.0 c.primary.new.self.tokens (c.in_err-form.ensures off))
@@ -135,7 +135,7 @@ pub suffixed-returns-in_ok-expect-in-Index-clause-tree : goal.suffixed-returns-i
 suffixed-returns-in_ok-expect-in-Index-clause-tree g t c = as_suffix c.args.room (suffix_meant c.args.next) Index c.args.form c.args.self.now.tokens c.expect.new.self.tokens c.args.self.now.draft c.emit.new.self (Ok Place) (ap suffix_meant c.in-Index.is) (index_took c.args.room c.in_ok-room-in-Index.room c.args.self.now.tokens c.enter.new.self.tokens c.in_ok-room-in-Index.ensures.tokens c.evaluate.new.self.tokens c.enter.new.self.draft c.evaluate.new.self.draft c.in_ok-evaluate-in-Index.ensures.0 c.expect.new.self.tokens c.args.self.now.draft c.load.new.draft c.expect.new.self.draft c.emit.new.self c.args.form (index_called (first c.args.self.now.tokens.ahead) (c.requires.here ∙ ap (λ s. Some (suffix_meant s)) c.in-Index.is)) c.load.ensures c.in_ok-room-in-Index.ensures.draft c.in_ok-expect-in-Index.ensures.tokens c.in_ok-expect-in-Index.ensures.draft c.emit.ensures)
 
 pub suffixed-returns-in_ok-expect-in-Index-clause-falls : goal.suffixed-returns-in_ok-expect-in-Index-clause-falls
-suffixed-returns-in_ok-expect-in-Index-clause-falls g t c = omega (arith, c.in_ok-room-in-Index.ensures.tokens.1.falls, (c.in_ok-evaluate-in-Index.ensures.0 0).runs.falls, c.in_ok-expect-in-Index.ensures.tokens.0.falls)
+suffixed-returns-in_ok-expect-in-Index-clause-falls g t c = omega (arith, c.in_ok-room-in-Index.ensures.tokens.1.falls, (c.in_ok-evaluate-in-Index.ensures.0 0).runs.falls, c.in_ok-expect-in-Index.ensures.tokens.falls)
 
 pub suffixed-returns-in_err-count-in-Call-clause-tree : goal.suffixed-returns-in_err-count-in-Call-clause-tree
 suffixed-returns-in_err-count-in-Call-clause-tree g t c = as_suffix c.args.room (suffix_meant c.args.next) Call c.args.form c.args.self.now.tokens c.arguments.new.self.tokens c.args.self.now.draft c.arguments.new.self.draft c.from_residual-in_err-count-in-Call.result (ap suffix_meant c.in-Call.is) (continues_err (λ off e. postfix_with (inner c.args.room) off Call e) (called_at c.args.self.now.tokens) (called_at c.arguments.new.self.tokens) c.args.form c.args.self.now.tokens c.arguments.new.self.tokens c.args.self.now.draft c.arguments.new.self.draft c.from_residual-in_err-count-in-Call.result c.in_err-count-in-Call.field-0.0 c.from_residual-in_err-count-in-Call.ensures.1 (call_stops c.args.room c.in_ok-room-in-Call.room c.args.self.now.tokens c.enter-in-Call.new.self.tokens c.in_ok-room-in-Call.ensures.tokens c.arguments.new.self.tokens c.in_err-count-in-Call.field-0.0 c.in_err-count-in-Call.ensures))

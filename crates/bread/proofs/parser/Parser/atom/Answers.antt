@@ -7,13 +7,13 @@ use Rattle.bread.proofs.ExpressionSteps.{primary_none, number_took, character_to
 use Rattle.bread.proofs.parser.Parser.atom.Goals as goal
 
 pub returns-in-Number : goal.returns-in-Number
-returns-in-Number g c = number_took c.args.self.now.tokens c.take.new.self.tokens c.args.self.now.draft c.emit.new.self c.take.new.self.draft c.take.result c.in-Number.word c.take.ensures.tokens c.take.ensures.draft (token_here c.args.self.now.tokens.text c.lexeme.ensures c.in-Number.is) c.emit.ensures
+returns-in-Number g c = number_took c.args.self.now.tokens c.take.new.self.tokens c.args.self.now.draft c.emit.new.self c.take.new.self.draft c.take.result c.in-Number.word c.place-place.result c.place-place.ensures.place c.take.ensures.tokens c.take.ensures.draft (token_here c.args.self.now.tokens.text c.lexeme.ensures c.in-Number.is) c.emit.ensures
 
 pub returns-in-Character : goal.returns-in-Character
-returns-in-Character g c = character_took c.args.self.now.tokens c.take-in-Character.new.self.tokens c.args.self.now.draft c.emit-in-Character.new.self c.take-in-Character.new.self.draft c.take-in-Character.result c.in-Character.word c.take-in-Character.ensures.tokens c.take-in-Character.ensures.draft (token_here c.args.self.now.tokens.text c.lexeme.ensures c.in-Character.is) c.emit-in-Character.ensures
+returns-in-Character g c = character_took c.args.self.now.tokens c.take-in-Character.new.self.tokens c.args.self.now.draft c.emit-in-Character.new.self c.take-in-Character.new.self.draft c.take-in-Character.result c.in-Character.word c.place-place.result c.place-place.ensures.place c.take-in-Character.ensures.tokens c.take-in-Character.ensures.draft (token_here c.args.self.now.tokens.text c.lexeme.ensures c.in-Character.is) c.emit-in-Character.ensures
 
 pub returns-in-String : goal.returns-in-String
-returns-in-String g c = text_took c.args.self.now.tokens c.take-in-String.new.self.tokens c.args.self.now.draft c.string-offset.new.self c.emit-in-String.new.self c.take-in-String.new.self.draft c.take-in-String.result c.args.self.now.tokens.text c.string.result.now c.string-offset.result c.take-in-String.ensures.tokens c.take-in-String.ensures.draft (token_here c.args.self.now.tokens.text c.lexeme.ensures c.in-String.is) c.string.ensures c.string-offset.ensures.draft c.string-offset.ensures.offset c.emit-in-String.ensures
+returns-in-String g c = text_took c.args.self.now.tokens c.take-in-String.new.self.tokens c.args.self.now.draft c.string-offset.new.self c.emit-in-String.new.self c.take-in-String.new.self.draft c.take-in-String.result c.args.self.now.tokens.text c.string.result.now c.string-offset.result c.place-place.result c.place-place.ensures.place c.take-in-String.ensures.tokens c.take-in-String.ensures.draft (token_here c.args.self.now.tokens.text c.lexeme.ensures c.in-String.is) c.string.ensures c.string-offset.ensures.draft c.string-offset.ensures.offset c.emit-in-String.ensures
 
 pub returns-in_default : goal.returns-in_default
 returns-in_default g c = λ room offset.

@@ -1,0 +1,100 @@
+-- What a watcher has kept, from call to call.
+use Rattle.std.proofs.Common.{◌≡◌, ◌⊎◌, inl, inr, ℕ, List, [], ◌∷◌, ◌++◌, Option, Some, None, refl, sym, ap, ◌∙◌, subst, append_assoc, append-nil, length, take, drop, get_or}
+use Rattle.bword.specs.declared.edition.Edition.{Edition}
+use Rattle.bword.specs.ByteEnds.{CanFollow, Incoming}
+use Rattle.blang.specs.Cut.{tokens_from}
+use Rattle.blang.specs.Trees.{Definition}
+use Rattle.blex.proofs.Passing.{Took-append}
+use Rattle.blang.specs.Lines.{lines_of, program_lines, lines_after}
+use Rattle.blang.specs.Walk.{spell_definition}
+use Rattle.bread.specs.Tokens.{lines_in, tokens_of}
+use Rattle.bparse.specs.Compilers.{Compiler, SameCompiler, HasWrittenSince, CompilerGives, Wrote, StoppedAfter, Spelled, new}
+use Rattle.bparse.specs.Watches.{KeepsMore, WatchGives, KeptSince, KeptAll, Watched}
+use Rattle.bparse.specs.declared.step.Step.{Step}
+use Rattle.bparse.specs.declared.step.Step.TheVariants as step
+use Rattle.bparse.proofs.SinceSteps.{since_new, follow}
+
+-- the lines of one definition more
+program_lines-append : (ds : List Definition) (d : Definition) (ls : List ℕ) → program_lines (ds ++ d ∷ []) ls ≡ program_lines ds ls ++ program_lines (d ∷ []) (lines_after ds ls)
+program_lines-append [] d ls = refl
+program_lines-append (x ∷ xs) d ls =
+    let n = length (spell_definition x) in
+    let own = lines_of (λ k. get_or (take n ls) k 0) x in
+    ap (λ l. own ++ l) (program_lines-append xs d (drop n ls)) ∙ sym (append_assoc own (program_lines xs (drop n ls)) (program_lines (d ∷ []) (lines_after xs (drop n ls))))
+
+keeps_twice : (kept : Option (List ℕ)) (xs ys : List ℕ) (mid now : Option (List ℕ)) → KeepsMore kept xs mid → KeepsMore mid ys now → KeepsMore kept (xs ++ ys) now
+keeps_twice None xs ys mid now h k = go mid h k
+  where
+    go : (m : Option (List ℕ)) → m ≡ None → KeepsMore m ys now → now ≡ None
+    go None e k = k
+    go (Some l) e k = cc
+keeps_twice (Some kept) xs ys mid now h k = go mid h k
+  where
+    go : (m : Option (List ℕ)) → (m ≡ None) ⊎ (m ≡ Some (kept ++ xs)) → KeepsMore m ys now → (now ≡ None) ⊎ (now ≡ Some (kept ++ (xs ++ ys)))
+    go None e k = inl k
+    go (Some l) (inl e) k = cc
+    go (Some l) (inr e) (inl k) = inl k
+    go (Some l) (inr e) (inr k) = let same : l ≡ kept ++ xs = cc in inr (k ∙ ap (λ x. Some (x ++ ys)) same ∙ ap (λ x. Some x) (append_assoc kept xs ys))
+
+keeps_none : (kept : Option (List ℕ)) → KeepsMore kept [] kept
+keeps_none None = refl
+keeps_none (Some kept) = inr (ap (λ l. Some l) (sym (append-nil kept)))
+
+-- before the first call
+pub kept_new : (kept : Option (List ℕ)) (c : Compiler) → c ≡ new c.first → KeptSince kept c kept
+kept_new kept c e = subst (λ x. KeptSince kept x kept) (sym e) (record { definitions = []; since = since_new c.first; lines = λ more f. keeps_none kept })
+
+-- after a call that wrote a definition
+pub kept_more : (kept mid now : Option (List ℕ)) (old next : Compiler) → KeptSince kept old mid → CompilerGives old step.Written next → WatchGives mid step.Written next.tokens.noted.lines now → SameCompiler old next → KeptSince kept next now
+kept_more kept mid now old next k gives w same = record { definitions = ds ++ d ∷ []; since = wrote.now; lines = lines }
+  where
+    ds : List Definition
+    ds = k.definitions
+
+    wrote : Wrote k.since next
+    wrote = gives.1 ds k.since
+
+    d : Definition
+    d = wrote.definition
+
+    lines : (more : List ℕ) → CanFollow next.tokens.source.end more → KeepsMore kept (program_lines (ds ++ d ∷ []) (lines_in (tokens_from next.first.edition 1 (wrote.now.taken ++ more)))) now
+    lines more f =
+        let before = lines_in (tokens_from old.first.edition 1 (k.since.taken ++ (wrote.taken ++ more))) in
+        let all = lines_in (tokens_from next.first.edition 1 (wrote.now.taken ++ more)) in
+        let all_is : before ≡ all =
+        ap (λ bs. lines_in (tokens_from old.first.edition 1 bs)) (sym (append_assoc k.since.taken wrote.taken more) ∙ ap (λ l. l ++ more) (sym wrote.all_taken))
+        ∙ ap (λ x. lines_in (tokens_from x.edition 1 (wrote.now.taken ++ more))) (sym same.first) in
+        let sum : program_lines ds before ++ next.tokens.noted.lines ≡ program_lines (ds ++ d ∷ []) all =
+        ap (λ l. program_lines ds l ++ next.tokens.noted.lines) all_is ∙ ap (λ l. program_lines ds all ++ l) (wrote.lines more f) ∙ sym (program_lines-append ds d all) in
+        subst (λ l. KeepsMore kept l now) sum
+        (keeps_twice kept (program_lines ds before) next.tokens.noted.lines mid now (k.lines (wrote.taken ++ more) (follow wrote.took more f)) w)
+
+-- after the last call
+kept_all : (kept mid now : Option (List ℕ)) (old last : Compiler) (lines : List ℕ) → KeptSince kept old mid → CompilerGives old step.Finished last → WatchGives mid step.Finished lines now → KeptAll old.first.edition old.first.source last.tokens.source.end kept now
+kept_all kept mid now old last lines k gives w =
+    let s = gives.1 k.definitions k.since in
+    record {
+      definitions = k.definitions;
+      taken = k.since.taken ++ s.taken;
+      took = Took-append k.since.took s.took;
+      formed = k.since.formed;
+      spelled = λ more f. (tokens_of old.tokens (s.taken ++ more), subst (λ bs. Spelled k.definitions (tokens_from old.first.edition 1 bs) (tokens_of old.tokens (s.taken ++ more))) (sym (append_assoc k.since.taken s.taken more)) (k.since.spelled (s.taken ++ more) (follow s.took more f)));
+      comes = s.comes;
+      lines = λ more f.
+          let all = lines_in (tokens_from old.first.edition 1 (k.since.taken ++ (s.taken ++ more))) in
+          subst (λ l. KeepsMore kept l now)
+          (append-nil (program_lines k.definitions all) ∙ ap (λ bs. program_lines k.definitions (lines_in (tokens_from old.first.edition 1 bs))) (sym (append_assoc k.since.taken s.taken more)))
+          (keeps_twice kept (program_lines k.definitions all) [] mid now (k.lines (s.taken ++ more) (follow s.took more f)) w);
+    }
+
+pub watched : (kept mid now : Option (List ℕ)) (first old last : Compiler) (answer : Step) → SameCompiler first old → KeptSince kept old mid → CompilerGives old answer last → WatchGives mid answer last.tokens.noted.lines now → Watched first.first.edition first.first.source kept answer last.tokens.source.end now
+watched kept mid now first old last step.Finished same k gives w = subst (λ x. KeptAll x.edition x.source last.tokens.source.end kept now) same.first (kept_all kept mid now old last last.tokens.noted.lines k gives w)
+watched kept mid now first old last step.Written same k gives w = tt
+watched kept mid now first old last (step.Fault d) same k gives w = tt
+watched kept mid now first old last step.Device same k gives w = tt
+watched kept mid now first old last step.Memory same k gives w = tt
+watched kept mid now first old last step.Closed same k gives w = tt
+
+-- the same between other names of the ends
+pub watched_as : (kept now : Option (List ℕ)) (answer : Step) {edition edition2 : Edition} {i i2 j j2 : Incoming} → edition ≡ edition2 → i ≡ i2 → j ≡ j2 → Watched edition i kept answer j now → Watched edition2 i2 kept answer j2 now
+watched_as kept now answer {edition} {edition2} {i} {i2} {j} {j2} e k l w = subst (λ x. Watched edition2 i2 kept answer x now) l (subst (λ x. Watched edition2 x kept answer j now) k (subst (λ x. Watched x i kept answer j now) e w))
