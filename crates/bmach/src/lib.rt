@@ -10,6 +10,7 @@ mod exchange;
 mod fuse;
 mod fused;
 mod image;
+mod joined;
 mod loader;
 mod machine;
 mod number;

@@ -63,6 +63,16 @@ pub enum Pace {
     Ends(Outcome),
 }
 
+/// How the steps of an operation were made.
+#[derive(Clone, Copy)]
+pub enum Made {
+    Not,
+    /// So many, as many places further.
+    On(u64),
+    /// So many, the last of which jumped; the place after it if it hadn't.
+    Jumped(u64, usize),
+}
+
 /// Where the steps of a call have come.
 #[derive(Drop)]
 pub struct Pause<'a> {

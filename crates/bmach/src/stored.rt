@@ -39,8 +39,12 @@ fn stored_by<'a>(
 {
     let operands = calls.top.operands.own();
     match operation {
-        Operation::Store | Operation::StorePop | Operation::Modify(_) | Operation::ModifyPop(_) =>
-            operand(operands, 1),
+        Operation::Store
+        | Operation::StorePop
+        | Operation::StorePopJump(_)
+        | Operation::StoreBranch(..)
+        | Operation::Modify(_)
+        | Operation::ModifyPop(_) => operand(operands, 1),
         Operation::Increment(_) => operand(operands, 0),
         Operation::Call(count) => stored_by_call(calls, functions, count),
         _ => 0..0,
