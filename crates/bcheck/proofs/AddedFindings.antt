@@ -1,6 +1,7 @@
 -- Findings one after another, and what stands in each.
 use Rattle.std.proofs.Common.{◌≡◌, ◌≢◌, ◌∙◌, ◌+◌, ◌<◌, List, [], ℕ, ◌∷◌, ◌++◌, IsTrue, OnOk, Result, Ok, Err, ap, arith, append-nil, append_assoc, codes, decimal, get_or, length, map, None, Option, replicate, Some, refl, subst, sym, take}
-use Rattle.std.specs.Prelude.{nat_lt}
+use Rattle.std.specs.Prelude.{min, nat_lt}
+use Rattle.bword.specs.ByteEnds.{most}
 use Rattle.std.proofs.lemmas.Bool.Decides.{nat_tests}
 use Rattle.std.specs.List.{All, flat_map, list_all}
 use Rattle.std.proofs.lemmas.List.{get_or_default, length_push, take-append-drop}
@@ -15,7 +16,7 @@ use Rattle.blang.specs.Cut.{line_number_after, tokens_from}
 use Rattle.bsources.specs.Files.{Files, Line, line_shown, own_line}
 use Rattle.bsources.specs.declared.files.FileLine.{FileLine}
 use Rattle.blang.specs.Layout.{load_fault}
-use Rattle.bcheck.specs.Checks.{AreFindings, EachOutcome, FindingParts, IsReason, Reason, Second, column_after, finding_at, finding_column, finding_line, finding_text, findings_text, is_on_line, outcome_of, second_text, severity_of, severity_word, shown_text, is_of_several, spot_words}
+use Rattle.bcheck.specs.Checks.{AreFindings, EachOutcome, FindingParts, IsReason, Reason, Second, column_after, finding_at, finding_column, finding_end, finding_line, finding_text, findings_text, is_on_line, outcome_of, second_text, severity_of, severity_word, shown_text, is_of_several, spot_words}
 use Rattle.btools.specs.Quoting.{file_text, json_text}
 use Rattle.bcheck.specs.Findings.{AddsFinding, IsExcerpt, IsSecond, ReasonAt}
 use Rattle.bcheck.specs.Pieces.{piece_text, spot_text}
@@ -40,9 +41,9 @@ people_pieces : (f a l b c d w e s x p r y m n z k q : List ℕ)
     → f ++ (a ++ (l ++ (b ++ (c ++ (d ++ (w ++ (e ++ (s ++ (x ++ (p ++ (r ++ (y ++ (m ++ (n ++ (z ++ (k ++ q)))))))))))))))) ≡ f ++ a ++ l ++ b ++ c ++ d ++ w ++ e ++ (s ++ x ++ (p ++ r) ++ y ++ (m ++ n) ++ z ++ k) ++ q
 people_pieces f a l b c d w e s x p r y m n z k q = simp append_assoc refl
 
-editor_pieces : (o a f b l c d e w g k h s i m n q : List ℕ)
-    → ((o ++ (a ++ (f ++ (b ++ (l ++ (c ++ (d ++ (e ++ (w ++ (g ++ (k ++ (h ++ (s ++ (i ++ m)))))))))))))) ++ n) ++ q ≡ o ++ (a ++ f ++ b ++ l ++ c ++ d ++ e ++ w ++ g ++ (k ++ h ++ s ++ i ++ (m ++ n)) ++ q)
-editor_pieces o a f b l c d e w g k h s i m n q = simp append_assoc refl
+editor_pieces : (o a f b l c d e w g k h s i m u v n q : List ℕ)
+    → ((o ++ (a ++ (f ++ (b ++ (l ++ (c ++ (d ++ (e ++ (w ++ (g ++ (k ++ (h ++ (s ++ (i ++ (m ++ (u ++ v)))))))))))))))) ++ n) ++ q ≡ o ++ (a ++ f ++ b ++ l ++ c ++ d ++ e ++ w ++ g ++ (k ++ h ++ s ++ i ++ (m ++ ((u ++ v) ++ n))) ++ q)
+editor_pieces o a f b l c d e w g k h s i m u v n q = simp append_assoc refl
 
 pub three_more : (o a m r : List ℕ) → ((o ++ a) ++ m) ++ r ≡ o ++ (a ++ (m ++ r))
 three_more o a m r = simp append_assoc refl
@@ -64,14 +65,14 @@ text_finding : {source : List ℕ} (p : FindingParts source) (s : Severity) (fil
 text_finding p s files f w t m old new line column blanks ef ew et em el ec eb e =
     (rw (ef, ew, et, em, el, ec, eb) at e) ∙ ap (λ x. old ++ x) (people_pieces (file_text (finding_at files p).file) (codes ":") (decimal (finding_at files p).line) (codes ":") (decimal (finding_column p)) (codes ": ") (severity_word s) (codes ": ") p.sentence (codes "\n    ") (flat_map shown_text p.left) (flat_map shown_text p.right) (codes "\n    ") (replicate (length p.left) 32) (replicate p.marks 94) (codes "\n  fix: ") p.fix (codes "\n"))
 
-json_finding : {source : List ℕ} (p : FindingParts source) (s : Severity) (files : Files) (f w k t m n old first both new : List ℕ) (line column : ℕ) → f ≡ (finding_at files p).file → w ≡ severity_word s → k ≡ p.code → t ≡ p.sentence → m ≡ p.fix → n ≡ second_text files p.second → line ≡ (finding_at files p).line → column ≡ finding_column p
-    → first ≡ old ++ (codes "{\"file\":" ++ (json_text f ++ (codes ",\"line\":" ++ (decimal line ++ (codes ",\"column\":" ++ (decimal column ++ (codes ",\"severity\":\"" ++ (w ++ (codes "\",\"code\":" ++ (json_text k ++ (codes ",\"message\":" ++ (json_text t ++ (codes ",\"fix\":" ++ (json_text m ++ []))))))))))))))
+json_finding : {source : List ℕ} (p : FindingParts source) (s : Severity) (files : Files) (f w k t m n old first both new : List ℕ) (line column stop : ℕ) → f ≡ (finding_at files p).file → w ≡ severity_word s → k ≡ p.code → t ≡ p.sentence → m ≡ p.fix → n ≡ second_text files p.second → line ≡ (finding_at files p).line → column ≡ finding_column p → stop ≡ finding_end p
+    → first ≡ old ++ (codes "{\"file\":" ++ (json_text f ++ (codes ",\"line\":" ++ (decimal line ++ (codes ",\"column\":" ++ (decimal column ++ (codes ",\"severity\":\"" ++ (w ++ (codes "\",\"code\":" ++ (json_text k ++ (codes ",\"message\":" ++ (json_text t ++ (codes ",\"fix\":" ++ (json_text m ++ (codes ",\"end\":" ++ (decimal stop ++ []))))))))))))))))
     → both ≡ first ++ n → new ≡ both ++ codes "}\n"
     → new ≡ old ++ finding_text form.Json s files p
-json_finding p s files f w k t m n old first both new line column ef ew ek et em en el ec e0 e1 e2 =
-    let none = append-nil (json_text p.fix) in
-    let e = (rw (ef, ew, ek, et, em, el, ec, none) at e0) in
-    e2 ∙ ap (λ x. x ++ codes "}\n") (e1 ∙ ap (λ x. first ++ x) en ∙ ap (λ x. x ++ second_text files p.second) e) ∙ editor_pieces old (codes "{\"file\":") (json_text (finding_at files p).file) (codes ",\"line\":") (decimal (finding_at files p).line) (codes ",\"column\":") (decimal (finding_column p)) (codes ",\"severity\":\"") (severity_word s) (codes "\",\"code\":") (json_text p.code) (codes ",\"message\":") (json_text p.sentence) (codes ",\"fix\":") (json_text p.fix) (second_text files p.second) (codes "}\n")
+json_finding p s files f w k t m n old first both new line column stop ef ew ek et em en el ec es e0 e1 e2 =
+    let none = append-nil (decimal (finding_end p)) in
+    let e = (rw (ef, ew, ek, et, em, el, ec, es, none) at e0) in
+    e2 ∙ ap (λ x. x ++ codes "}\n") (e1 ∙ ap (λ x. first ++ x) en ∙ ap (λ x. x ++ second_text files p.second) e) ∙ editor_pieces old (codes "{\"file\":") (json_text (finding_at files p).file) (codes ",\"line\":") (decimal (finding_at files p).line) (codes ",\"column\":") (decimal (finding_column p)) (codes ",\"severity\":\"") (severity_word s) (codes "\",\"code\":") (json_text p.code) (codes ",\"message\":") (json_text p.sentence) (codes ",\"fix\":") (json_text p.fix) (codes ",\"end\":") (decimal (finding_end p)) (second_text files p.second) (codes "}\n")
 
 less : (a b : ℕ) → a < b → IsTrue (nat_lt a b)
 less a b h = grind (arith, nat_tests)
@@ -102,6 +103,9 @@ module _ (source : List ℕ) (start : ℕ) (e : Excerpt) (x : IsExcerpt source s
   at_its_column : e.column ≡ finding_column this_finding
   at_its_column = x.column ∙ ap (column_after 1) (sym x.first)
 
+  at_its_end : (stop : ℕ) → stop ≡ min (e.column + e.marks) most → stop ≡ finding_end this_finding
+  at_its_end stop is = is ∙ ap (λ c. min (c + e.marks) most) at_its_column
+
   in_its_file : (files : Files) (at : Line) → at ≡ own_line files e.line → at ≡ own_line files (finding_line this_finding)
   in_its_file files at is = is ∙ ap (own_line files) on_its_line
 
@@ -112,13 +116,13 @@ module _ (source : List ℕ) (start : ℕ) (e : Excerpt) (x : IsExcerpt source s
       let here = in_its_file files (line_shown at) is in
       (this_finding, refl, x.first, x.rest, text_finding this_finding s files f w t m old new at.line e.column blanks (ef ∙ ap (λ (l : Line). l.file) here) ew et em (ap (λ (l : Line). l.line) here) at_its_column eb e1)
 
-  pub adds_json : (s : Severity) (files : Files) (at : FileLine) (f w k t m n old first both new : List ℕ) → line_shown at ≡ own_line files e.line → f ≡ at.file.now → w ≡ severity_word s → k ≡ code → t ≡ sentence → m ≡ fix → n ≡ second_text files second
-      → first ≡ old ++ (codes "{\"file\":" ++ (json_text f ++ (codes ",\"line\":" ++ (decimal at.line ++ (codes ",\"column\":" ++ (decimal e.column ++ (codes ",\"severity\":\"" ++ (w ++ (codes "\",\"code\":" ++ (json_text k ++ (codes ",\"message\":" ++ (json_text t ++ (codes ",\"fix\":" ++ (json_text m ++ []))))))))))))))
+  pub adds_json : (s : Severity) (files : Files) (at : FileLine) (f w k t m n old first both new : List ℕ) (stop : ℕ) → stop ≡ min (e.column + e.marks) most → line_shown at ≡ own_line files e.line → f ≡ at.file.now → w ≡ severity_word s → k ≡ code → t ≡ sentence → m ≡ fix → n ≡ second_text files second
+      → first ≡ old ++ (codes "{\"file\":" ++ (json_text f ++ (codes ",\"line\":" ++ (decimal at.line ++ (codes ",\"column\":" ++ (decimal e.column ++ (codes ",\"severity\":\"" ++ (w ++ (codes "\",\"code\":" ++ (json_text k ++ (codes ",\"message\":" ++ (json_text t ++ (codes ",\"fix\":" ++ (json_text m ++ (codes ",\"end\":" ++ (decimal stop ++ []))))))))))))))))
       → both ≡ first ++ n → new ≡ both ++ codes "}\n"
       → AddsFinding form.Json s files source start code old new
-  adds_json s files at f w k t m n old first both new is ef ew ek et em en e0 e1 e2 =
+  adds_json s files at f w k t m n old first both new stop ends is ef ew ek et em en e0 e1 e2 =
       let here = in_its_file files (line_shown at) is in
-      (this_finding, refl, x.first, x.rest, json_finding this_finding s files f w k t m n old first both new at.line e.column (ef ∙ ap (λ (l : Line). l.file) here) ew ek et em en (ap (λ (l : Line). l.line) here) at_its_column e0 e1 e2)
+      (this_finding, refl, x.first, x.rest, json_finding this_finding s files f w k t m n old first both new at.line e.column stop (ef ∙ ap (λ (l : Line). l.file) here) ew ek et em en (ap (λ (l : Line). l.line) here) at_its_column (at_its_end stop ends) e0 e1 e2)
 
 -- the finding is one of whatever the source comes to
 abbrev pub Reasoned : Edition → (source : List ℕ) → FindingParts source → Type 0

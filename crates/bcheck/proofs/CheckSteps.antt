@@ -1,98 +1,29 @@
 -- What the compiler and the loader answer over memory is what a source comes to.
-use Rattle.std.proofs.Common.{◌≡◌, ◌≢◌, ◌<◌, ℕ, List, [], ◌++◌, map, refl, sym, ap, ◌∙◌, subst, arith, ◌⊎◌, inl, inr}
-use Rattle.std.specs.Prelude.{false, Some, None}
+use Rattle.std.proofs.Common.{◌≡◌, ◌≢◌, ◌<◌, ℕ, List, [], ◌++◌, map, refl, sym, ap, ◌∙◌, subst}
+use Rattle.std.specs.Prelude.{None}
 use Rattle.bword.specs.declared.edition.Edition.{Edition}
-use Rattle.bword.specs.ByteEnds.{Outgoing, Kept, Unread, incoming_of, outgoing_of}
-use Rattle.blang.specs.Text.{IsCodeText}
+use Rattle.bword.specs.ByteEnds.{Outgoing, Kept}
 use Rattle.blang.specs.declared.code.Definition.{Definition}
 use Rattle.blang.specs.Code.{code_of}
 use Rattle.blang.specs.Compiles.{line_of}
-use Rattle.bcode.specs.declared.fault.CodeFault.TheVariants as code_fault
-use Rattle.bcode.proofs.FaultLaws.{unique_code}
 use Rattle.bgrammar.proofs.GoesLaws.{each_source_comes}
 use Rattle.blang.specs.Layout.{load_fault}
 use Rattle.blang.specs.declared.status.TheConstants.{FAULT}
 use Rattle.blang.specs.declared.token.Diagnostic.{Diagnostic}
-use Rattle.bparse.specs.declared.step.Step.{Step}
-use Rattle.bparse.specs.declared.step.Step.TheVariants as step
-use Rattle.bparse.specs.Compiles.{CodeGives}
-use Rattle.bparse.proofs.CompileSteps.{answers, compiles_between, device, done, last_not_closed, last_not_written}
 use Rattle.bsources.specs.Files.{Files}
-use Rattle.bcheck.specs.Findings.{IsCodeOf, IsStopOf}
-use Rattle.bcheck.specs.SourceFaults.{IsSourceFault}
+use Rattle.btools.specs.Programs.{HasFault, IsCodeOf}
+use Rattle.bcheck.specs.Findings.{IsStopOf}
 use Rattle.bcheck.specs.Checks.{AreFindings, Judged, EachOutcome, Outcome, outcome_of, TellsFirst, told, shown_in_form, verdict_line, status_told, told_first}
-use Rattle.btools.specs.Excluded.{code_in}
-use Rattle.btools.specs.Programs.{WasCompiled, faulty}
-use Rattle.btools.proofs.Excluded.{clean, excluded, not_grown}
 use Rattle.bcheck.proofs.FaultLines.{on_a_line}
-use Rattle.bcheck.proofs.PlaceSteps.{stop_is}
 use Rattle.blang.specs.Reports.{Reported}
 use Rattle.bcheck.specs.declared.form.FindingForm.{FindingForm}
 use Rattle.bcheck.specs.declared.verdict.Verdict.{Verdict}
 use Rattle.bcheck.specs.declared.verdict.Verdict.TheVariants as verdict
 
-abbrev nothing_kept : Kept
-nothing_kept = record { bytes = []; refusals = 0 }
-
-abbrev all_unread : List ℕ → Unread
-all_unread source = record { left = source; is_over = false }
-
 -- a text that is told is one that begins with the first
 pub tells_both : (form : FindingForm) (o : Outcome) (files : Files) (first more text : List ℕ) (status : ℕ) (old new : Outgoing) (result : ℕ) → text ≡ first ++ more
     → Reported text status old new result → AreFindings form o status files more → TellsFirst form o files first status old new result
 tells_both form o files first more text status old new result is t are = told more are (subst (λ x. Reported x status old new result) is t)
-
--- a wrong line is no want of memory
-pub no_line : (n : ℕ) → code_fault.Line n ≡ code_fault.Memory → ⊥
-no_line n e = cc
-
--- what compiling a source over memory answers
-module _ (edition : Edition) (source : List ℕ) (following : Unread) (code : Kept) where
-  abbrev Answers : Step → Type 0
-  Answers answer = CodeGives edition (incoming_of (all_unread source)) (outgoing_of nothing_kept) answer (incoming_of following) (outgoing_of code)
-
-  abbrev Was : ℕ → Type 0
-  Was status = WasCompiled edition source (outgoing_of nothing_kept) (outgoing_of nothing_kept) code.bytes status
-
-  whole : Answers step.Finished → Was 0
-  whole h = record {
-    following = following;
-    kept = code;
-    code_is = refl;
-    compiles = compiles_between (outgoing_of nothing_kept) (outgoing_of nothing_kept) h (λ first last l. done first last _ _ l refl);
-  }
-
-  -- the code is that of the definitions of the source
-  pub some_text : Answers step.Finished → (ds : List Definition) × IsCodeText code.bytes ds
-  some_text h =
-      let some = each_source_comes [] edition 1 source in
-      (code_in edition source some.0 some.1, (clean edition source some.0 some.1 (outgoing_of nothing_kept) (outgoing_of nothing_kept) code.bytes (whole h)).text)
-
-  pub code_whole : (ds : List Definition) → Answers step.Finished → IsCodeText code.bytes ds → IsCodeOf edition source ds
-  code_whole ds h is r g =
-      let c = clean edition source r g (outgoing_of nothing_kept) (outgoing_of nothing_kept) code.bytes (whole h) in
-      (c.clean, unique_code code.bytes (code_in edition source r g) ds c.text is)
-
-  -- no device fails over memory
-  pub no_device : Answers step.Device → ⊥
-  no_device h =
-      let some = each_source_comes [] edition 1 source in
-      let failed : Was 133 = record {
-        following = following;
-        kept = code;
-        code_is = refl;
-        compiles = compiles_between (outgoing_of nothing_kept) (outgoing_of nothing_kept) h (λ first last l. device first last _ _ l refl);
-      } in
-      not_grown 0 0 refl refl ((excluded edition source some.0 some.1 (outgoing_of nothing_kept) (outgoing_of nothing_kept)).device (faulty code.bytes failed (λ e. omega (arith, e))))
-
-  -- what comes last is nothing else than the end, a fault or refused memory
-  pub never_so : (last : Step) → Answers last → (last ≡ step.Written) ⊎ ((last ≡ step.Device) ⊎ (last ≡ step.Closed)) → ⊥
-  never_so last h (inl written) = last_not_written (answers written h).gives
-  never_so last h (inr (inl device)) = no_device (answers device h)
-  never_so last h (inr (inr closed)) = last_not_closed (answers closed h).gives
-
-  pub fault_whole : (d : Diagnostic) → Answers (step.Fault d) → IsSourceFault edition source (Some d)
-  fault_whole d h = stop_is edition source _ _ _ d h
 
 -- what is told of the code of a source is told of the source
 pub clean_judged : (edition : Edition) (source : List ℕ) (ds : List Definition) (v : Verdict) → IsCodeOf edition source ds → (verdict_line v, status_told v) ≡ told_first None (load_fault ds) → Judged edition source v
@@ -101,7 +32,7 @@ clean_judged edition source ds v is told_of =
     told_of ∙ ap (λ x. told_first None (load_fault x)) (sym c.1) ∙ ap (λ s. told_first s (load_fault (map code_of g.definitions))) (sym c.0)
 
 -- and so is the line of its fault
-pub faulty_judged : (edition : Edition) (source : List ℕ) (line : Kept) (d : Diagnostic) → IsSourceFault edition source (Some d) → line.bytes ≡ line_of d → Judged edition source (verdict.Faulty line d)
+pub faulty_judged : (edition : Edition) (source : List ℕ) (line : Kept) (d : Diagnostic) → HasFault edition source d → line.bytes ≡ line_of d → Judged edition source (verdict.Faulty line d)
 faulty_judged edition source line d is line_is =
     λ r g. ap (λ text. (text, FAULT)) line_is ∙ ap (λ s. told_first s (load_fault (map code_of g.definitions))) (sym (is r g))
 

@@ -1,10 +1,11 @@
 -- What the contract of a check excludes.
-use Rattle.std.proofs.Common.{◌≡◌, ◌≢◌, ◌∙◌, ◌<◌, ◌≤◌, ◌+◌, ◌*◌, ℕ, suc, List, [], ◌∷◌, ◌++◌, false, IsTrue, Option, Some, None, ap, append_assoc, arith, codes, decimal, drop, length, map, refl, subst, sym, take, inl, inr, ⊎_elim}
+use Rattle.std.proofs.Common.{◌≡◌, ◌≢◌, ◌∙◌, ◌<◌, ◌≤◌, ◌+◌, ◌*◌, ℕ, suc, List, [], ◌∷◌, ◌++◌, false, IsTrue, Option, Some, None, ap, append_assoc, arith, codes, decimal, drop, length, map, refl, subst, sym, take, inl, inr, ⊎_elim, true}
 use Rattle.std.specs.Io.{StartsWith}
 use Rattle.std.specs.Io.KnownBytes.{Appends}
 use Rattle.std.specs.List.{All, flat_map}
 use Rattle.std.proofs.Math.Nat.{one-mul, zero-add}
 use Rattle.std.proofs.Math.Seq.{take-append_seam}
+use Rattle.std.proofs.lemmas.Bool.{both_ways}
 use Rattle.std.proofs.lemmas.List.{append_cancel_left}
 use Rattle.bword.specs.ByteEnds.{Grew, Outgoing, Refuses}
 use Rattle.bword.specs.declared.edition.Edition.{Edition}
@@ -12,7 +13,7 @@ use Rattle.bword.specs.declared.edition.Edition.TheVariants as editions
 use Rattle.bword.specs.declared.ends.EndFault.{EndFault}
 use Rattle.bword.specs.declared.ends.EndFault.TheVariants as end_fault
 use Rattle.blang.specs.Code.{code_of}
-use Rattle.blang.specs.Compiles.{Compilation, CompilesTo, fault_text, letters_text, line_of, status_of}
+use Rattle.blang.specs.Compiles.{CompilesTo, fault_text, letters_text, line_of, status_of}
 use Rattle.blang.specs.Cut.{line_number_after, tokens_from}
 use Rattle.blang.specs.declared.token.Letters.{Letters}
 use Rattle.blang.specs.declared.token.Letters.TheVariants as letters
@@ -22,15 +23,14 @@ use Rattle.blang.specs.Layout.{load_fault}
 use Rattle.blang.specs.declared.status.TheConstants.{DEVICE, DONE, FAULT}
 use Rattle.blang.specs.declared.token.Diagnostic.{Diagnostic}
 use Rattle.bgrammar.specs.SourceRows.{ComesIn}
-use Rattle.bgrammar.proofs.GoesLaws.{each_source_comes, outcomes_are_equal}
 use Rattle.bgrammar.proofs.SourceRows.{a_break_of_one, a_break_outside}
 use Rattle.bcheck.specs.Checks as checks
 use Rattle.bsources.specs.Files.{File, Files, Line, own_line, own_line_among}
-use Rattle.bcheck.specs.Checks.{IsOver, Reason, StandsOn, code_keyword, column_after, diagnostic_code, finding_at}
+use Rattle.bcheck.specs.Checks.{IsAtToken, IsOver, Reason, StandsOn, code_keyword, column_after, diagnostic_code, finding_at}
 use Rattle.btools.specs.Quoting.{file_text, json_text}
-use Rattle.bcheck.specs.Checks.{AreFindings, Check, Checks, FindingParts, Outcome, TellsFirst, finding_column, fix_and_second, finding_head, finding_line, finding_start, finding_text, outcome_of, findings_text, severity_of, shown_in_form, told_first}
+use Rattle.bcheck.specs.Checks.{AreFindings, Check, Checks, FindingParts, Outcome, TellsFirst, finding_column, fix_and_places, finding_head, finding_line, finding_start, finding_text, outcome_of, findings_text, severity_of, shown_in_form, told_first}
 use Rattle.bcheck.specs.Excluded.{BeginsWith, ComesTo, Excluded, IsTold, Never, NeverOf, file_at, file_of, finding_lines, has_no_colon, is_printed, newlines}
-use Rattle.bcheck.specs.SourceFaults.{IsSourceFault}
+use Rattle.bcheck.specs.Tokens.{has_token_on, is_in_token}
 use Rattle.bcheck.specs.declared.finding.Severity.{Severity}
 use Rattle.bcheck.specs.declared.finding.Severity.TheVariants as severity
 use Rattle.bcheck.specs.declared.form.FindingForm.{FindingForm}
@@ -164,6 +164,7 @@ record Begun (c : Check) (d : Diagnostic) (s : Severity) (file : List ℕ) (row 
       ≡ finding_head c.form severity.Error (finding_at c.files parts).file (finding_at c.files parts).line (finding_column parts) ++ ((text_placed c.form severity.Error c.files parts).0 ++ after)
   code : parts.code ≡ diagnostic_code d
   stands : StandsOn c.edition d.line (parts.before ++ parts.left) (parts.right ++ parts.after)
+  token : IsAtToken c.edition d.line (parts.before ++ parts.left) (parts.right ++ parts.after)
 
 begun_in : (c : Check) (o : Outcome) (s : Severity) (d : Diagnostic) (file : List ℕ) (row column : ℕ) (rest more : List ℕ) (ps : List (FindingParts c.source)) → o ≡ outcome_of c.edition c.source (Some d) o.fault → (ps ≡ [] → ⊥)
     → All (λ p. Reason o.edition o.stop o.fault p.code (p.before ++ p.left) (p.right ++ p.after)) ps → more ≡ flat_map (finding_text c.form severity.Error c.files) ps → more ≡ finding_head c.form s file row column ++ rest → Begun c d s file row column rest
@@ -180,6 +181,7 @@ begun_in c o s d file row column rest more (p ∷ ps) is some all e f =
       same = sym f ∙ e ∙ ap (λ x. x ++ later) text.1 ∙ append_assoc (finding_head c.form severity.Error at.file at.line (finding_column p)) text.0 later;
       code = reason.0;
       stands = reason.1;
+      token = reason.2;
     }
 
 -- the same of a source of one file, with the numbers of the finding
@@ -191,6 +193,7 @@ record First (c : Check) (d : Diagnostic) (row column : ℕ) (rest : List ℕ) :
   rest_is : rest ≡ (text_placed c.form severity.Error c.files parts).0 ++ after
   code : parts.code ≡ diagnostic_code d
   stands : StandsOn c.edition d.line (parts.before ++ parts.left) (parts.right ++ parts.after)
+  token : IsAtToken c.edition d.line (parts.before ++ parts.left) (parts.right ++ parts.after)
 
 first_in : (c : Check) (d : Diagnostic) (s : Severity) (row column : ℕ) (rest : List ℕ) → c.files.rest ≡ [] → Begun c d s (file_of c) row column rest → First c d row column rest
 first_in c d s row column rest one b =
@@ -200,7 +203,7 @@ first_in c d s row column rest one b =
     b.same ∙ ap (λ (l : Line). finding_head c.form severity.Error l.file l.line (finding_column b.parts) ++ following) (alone c.files one line) in
     let places = same_places c.form s severity.Error row column line (finding_column b.parts) rest following
     (append_cancel_left (finding_start c.form (file_of c)) _ _ (sym (head_placed c.form s (file_of c) row column rest) ∙ same ∙ head_placed c.form severity.Error (file_of c) line (finding_column b.parts) following)) in
-    record { parts = b.parts; after = b.after; row_is = places.0; column_is = places.1; rest_is = places.2; code = b.code; stands = b.stands }
+    record { parts = b.parts; after = b.after; row_is = places.0; column_is = places.1; rest_is = places.2; code = b.code; stands = b.stands; token = b.token }
 
 status_one : (stop : Option Diagnostic) (f : Option LoadFault) (d : Diagnostic) (line : List ℕ) (status : ℕ) → stop ≡ Some d → told_first stop f ≡ (line, status) → 1 ≡ status
 status_one (Some x) f d line status e told = ap (λ (p : List ℕ × ℕ). p.1) told
@@ -252,6 +255,15 @@ no_place c line status text to d stop t one row column rest b wrong h =
     let f = first_told c line status text to d stop t one row column rest b h in
     wrong (f.parts.before ++ f.parts.left) (f.parts.right ++ f.parts.after) f.parts.split f.row_is f.column_is
 
+other_token : NeverOf (λ c d row column rest. (has_token_on c.edition d.line c.source ≡ true)
+    × ((before after : List ℕ) → c.source ≡ before ++ after → decimal row ≡ decimal (line_number_after 1 before) → decimal column ≡ decimal (column_after 1 before)
+    → (is_in_token c.edition d.line before after ≡ false) × (IsOver c.edition after → ⊥)))
+other_token c line status text to d stop t one row column rest b wrong h =
+    let f = first_told c line status text to d stop t one row column rest b h in
+    let no = wrong.1 (f.parts.before ++ f.parts.left) (f.parts.right ++ f.parts.after) f.parts.split f.row_is f.column_is in
+    ⊎_elim (λ inside. both_ways _ no.0 inside)
+    (λ other. ⊎_elim (λ none. both_ways _ none (ap (has_token_on c.edition d.line) (sym f.parts.split) ∙ wrong.0)) no.1 other) f.token
+
 -- the letters of a code in JSON
 letters_in : (l : Letters) (keyword after : List ℕ) (a b : ℕ) (more : List ℕ) → 34 ∷ a ∷ b ∷ more ≡ json_text (letters_text l ++ keyword) ++ after → a ∷ b ∷ [] ≡ letters_text l
 letters_in letters.OpenComment keyword after a b more e = ap (λ t. take 2 (drop 1 t)) e
@@ -271,7 +283,7 @@ words_after k h s i m q a = simp append_assoc refl
 
 json_words : {source : List ℕ} (p : FindingParts source) (files : Files) (after : List ℕ) → (more : List ℕ) × ((text_placed form.Json severity.Error files p).0 ++ after ≡ json_text p.code ++ more)
 unfolding text_placed
-json_words p files after = (_, words_after (json_text p.code) (codes ",\"message\":") (json_text p.sentence) (codes ",\"fix\":") (fix_and_second files p) (codes "}\n") after)
+json_words p files after = (_, words_after (json_text p.code) (codes ",\"message\":") (json_text p.sentence) (codes ",\"fix\":") (fix_and_places files p) (codes "}\n") after)
 
 other_letters : NeverOf (λ c d row column rest. (c.form ≡ form.Json) × (first : ℕ) × (second : ℕ) × (more : List ℕ)
     × (rest ≡ 34 ∷ first ∷ second ∷ more) × (first ∷ second ∷ [] ≢ letters_text d.letters))
@@ -372,15 +384,6 @@ known_line c edition source code line text wrong a b e s f comes t start h = at_
         let other : take (suc (length wrong)) (a ∷ (line ++ w.more)) ≡ b ∷ wrong = subst (λ x. StartsWith x (b ∷ wrong)) begun start in
         ap first_byte other
 
-one_fault : (edition : Edition) (source : List ℕ) → (fault : Option Diagnostic) × IsSourceFault edition source fault
-    × ((other : Option Diagnostic) → IsSourceFault edition source other → other ≡ fault)
-one_fault edition source =
-    let some = each_source_comes [] edition 1 source in (
-      some.0.stop,
-      λ r g. ap (λ (x : Compilation). x.stop) (outcomes_are_equal [] (tokens_from edition 1 source) r some.0 g some.1),
-      λ other is. sym (is some.0 some.1),
-    )
-
 pub excluded : Excluded
 excluded = record {
   other_status = other_status;
@@ -391,6 +394,7 @@ excluded = record {
   other_file = other_file;
   other_line = other_line;
   later_line = later_line;
+  other_token = other_token;
   no_place = no_place;
   other_letters = other_letters;
   other_lines = other_lines;
@@ -401,5 +405,4 @@ excluded = record {
   no_such_status = λ c line status to is h. above c.form (comes_to c line status to) c.files (shown_in_form c.form line) status c.status c.out c.out_after (comes_small c line status to) is (tells c line status to h);
   first_edition = λ c text s e f t start h. let no = known_line c editions.Two _ _ _ text _ 115 117 e s f a_break_outside t start h in absurd (omega (arith, no));
   second_edition = λ c text s e f t start h. let no = known_line c editions.One _ _ _ text _ 117 115 e s f a_break_of_one t start h in absurd (omega (arith, no));
-  one_fault = one_fault;
 }

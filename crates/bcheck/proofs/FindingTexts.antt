@@ -11,7 +11,7 @@ use Rattle.std.proofs.lemmas.List.Folds.{list_all-append}
 use Rattle.std.proofs.lemmas.List.Sums.{sum_by-append}
 use Rattle.blang.specs.Cut.{line_number_after}
 use Rattle.bsources.specs.Files.{Files, Line, own_line}
-use Rattle.bcheck.specs.Checks.{FindingParts, Second, column_after, fix_and_second, second_text, file_member, finding_at, finding_column, is_of_several, spot_words, finding_head, finding_line, finding_mark, finding_shown, finding_start, finding_text, finding_words, is_on_line, shown_text, severity_word}
+use Rattle.bcheck.specs.Checks.{FindingParts, Second, column_after, fix_and_places, second_text, file_member, finding_at, finding_column, finding_end, end_words, is_of_several, spot_words, finding_head, finding_line, finding_mark, finding_shown, finding_start, finding_text, finding_words, is_on_line, shown_text, severity_word}
 use Rattle.btools.specs.Quoting.{file_byte, file_text, json_byte, json_text}
 use Rattle.bcheck.specs.Excluded.{finding_lines, has_no_colon, is_printed, newlines}
 use Rattle.bcheck.proofs.OnLine.{both_on_line, of_three, replicate_on_line, shown_on_line}
@@ -251,7 +251,7 @@ fix_line p = codes "  fix: " ++ p.fix
 
 abbrev object_line : {source : List ℕ} → Severity → Files → FindingParts source → List ℕ
 object_line s files p =
-    codes "{\"file\":" ++ (json_text (finding_at files p).file ++ (codes ",\"line\":" ++ (decimal (finding_at files p).line ++ (codes ",\"column\":" ++ (decimal (finding_column p) ++ (codes ",\"severity\":\"" ++ (severity_word s ++ (codes "\",\"code\":" ++ (json_text p.code ++ (codes ",\"message\":" ++ (json_text p.sentence ++ (codes ",\"fix\":" ++ (fix_and_second files p ++ codes "}")))))))))))))
+    codes "{\"file\":" ++ (json_text (finding_at files p).file ++ (codes ",\"line\":" ++ (decimal (finding_at files p).line ++ (codes ",\"column\":" ++ (decimal (finding_column p) ++ (codes ",\"severity\":\"" ++ (severity_word s ++ (codes "\",\"code\":" ++ (json_text p.code ++ (codes ",\"message\":" ++ (json_text p.sentence ++ (codes ",\"fix\":" ++ (fix_and_places files p ++ codes "}")))))))))))))
 
 sentence_one : {source : List ℕ} → (s : Severity) (files : Files) (p : FindingParts source) → IsTrue (is_one_line (sentence_line s files p))
 sentence_one s files p =
@@ -284,8 +284,11 @@ second_one : {source : List ℕ} → (files : Files) (s : Option (Second source)
 second_one files None = refl
 second_one files (Some s) = spot_one (is_of_several files) (own_line files (line_number_after 1 s.before)) (column_after 1 s.before)
 
-fix_json_one : {source : List ℕ} → (files : Files) (p : FindingParts source) → IsTrue (is_one_line (fix_and_second files p))
-fix_json_one files p = all_more (nat_le 32) (json_text p.fix) (second_text files p.second) (json_one p.fix) (second_one files p.second)
+end_one : (column : ℕ) → IsTrue (is_one_line (end_words column))
+end_one column = (more (codes ",\"end\":") _ refl (last_line (decimal column) (digits_line column))).line
+
+fix_json_one : {source : List ℕ} → (files : Files) (p : FindingParts source) → IsTrue (is_one_line (fix_and_places files p))
+fix_json_one files p = (more (json_text p.fix) _ (json_one p.fix) (more (end_words (finding_end p)) _ (end_one (finding_end p)) (last_line (second_text files p.second) (second_one files p.second)))).line
 
 object_one : {source : List ℕ} → (s : Severity) (files : Files) (p : FindingParts source) → IsTrue (is_one_line (object_line s files p))
 object_one s files p =
@@ -293,7 +296,7 @@ object_one s files p =
     (more (codes "{\"file\":") _ refl (more (json_text at.file) _ (json_one at.file) (more (codes ",\"line\":") _ refl (more (decimal at.line) _ (digits_line at.line)
     (more (codes ",\"column\":") _ refl (more (decimal (finding_column p)) _ (digits_line (finding_column p)) (more (codes ",\"severity\":\"") _ refl (more (severity_word s) _ (word_line s)
     (more (codes "\",\"code\":") _ refl (more (json_text p.code) _ (json_one p.code) (more (codes ",\"message\":") _ refl (more (json_text p.sentence) _ (json_one p.sentence)
-    (more (codes ",\"fix\":") _ refl (more (fix_and_second files p) _ (fix_json_one files p) (last_line (codes "}") refl))))))))))))))).line
+    (more (codes ",\"fix\":") _ refl (more (fix_and_places files p) _ (fix_json_one files p) (last_line (codes "}") refl))))))))))))))).line
 
 in_object : (a f b l c d e w g k h s i m q r x : List ℕ)
     → a ++ f ++ b ++ l ++ c ++ d ++ e ++ w ++ g ++ (k ++ h ++ s ++ i ++ m) ++ (q ++ r) ++ x ≡ a ++ (f ++ (b ++ (l ++ (c ++ (d ++ (e ++ (w ++ (g ++ (k ++ (h ++ (s ++ (i ++ (m ++ q))))))))))))) ++ (r ++ x)
@@ -310,7 +313,7 @@ people_is s files p rest = simp append_assoc refl
 object_is : {source : List ℕ} → (s : Severity) (files : Files) (p : FindingParts source) (rest : List ℕ) → finding_text form.Json s files p ++ rest ≡ object_line s files p ++ 10 ∷ rest
 object_is s files p rest =
     let at = finding_at files p in
-    in_object (codes "{\"file\":") (json_text at.file) (codes ",\"line\":") (decimal at.line) (codes ",\"column\":") (decimal (finding_column p)) (codes ",\"severity\":\"") (severity_word s) (codes "\",\"code\":") (json_text p.code) (codes ",\"message\":") (json_text p.sentence) (codes ",\"fix\":") (fix_and_second files p) (codes "}") (codes "\n") rest
+    in_object (codes "{\"file\":") (json_text at.file) (codes ",\"line\":") (decimal at.line) (codes ",\"column\":") (decimal (finding_column p)) (codes ",\"severity\":\"") (severity_word s) (codes "\",\"code\":") (json_text p.code) (codes ",\"message\":") (json_text p.sentence) (codes ",\"fix\":") (fix_and_places files p) (codes "}") (codes "\n") rest
 
 tails : (xs ys : List ℕ) → 10 ∷ xs ≡ 10 ∷ ys → xs ≡ ys
 tails xs ys e = cc
@@ -446,8 +449,10 @@ module _ (files : Files) where
   second_printed None h = refl
   second_printed (Some s) h = spot_printed (is_of_several files) (own_line files (line_number_after 1 s.before)) (column_after 1 s.before) (h (line_number_after 1 s.before))
 
-  fix_json_printed : {source : List ℕ} → (p : FindingParts source) → IsTrue (is_on_line p.fix) → InJson → IsTrue (is_printed (fix_and_second files p))
-  fix_json_printed p h named = both_printed (json_text p.fix) (second_text files p.second) (json_printed p.fix h) (second_printed p.second named)
+  fix_json_printed : {source : List ℕ} → (p : FindingParts source) → IsTrue (is_on_line p.fix) → InJson → IsTrue (is_printed (fix_and_places files p))
+  fix_json_printed p h named =
+      both_printed (json_text p.fix) (end_words (finding_end p) ++ second_text files p.second) (json_printed p.fix h)
+      (both_printed (end_words (finding_end p)) (second_text files p.second) (both_printed (codes ",\"end\":") (decimal (finding_end p)) refl (digits_printed (finding_end p))) (second_printed p.second named))
 
   text_printed : {source : List ℕ} → (form : FindingForm) (s : Severity) (p : FindingParts source) → ((n : ℕ) → IsTrue (is_printed (finding_start form (own_line files n).file))) → IsTrue (is_printed (finding_text form s files p))
   text_printed form.Text s p h =
@@ -462,11 +467,11 @@ module _ (files : Files) where
       let parts = parts_of p in
       let at = finding_at files p in
       let named : InJson = λ n. middle (codes "{\"file\":") (json_text (own_line files n).file) (codes ",\"line\":") (h n) in
-      let text = after_start (finding_start form.Json at.file) (decimal at.line) (codes ",\"column\":") (decimal (finding_column p)) (codes ",\"severity\":\"") (severity_word s) (codes "\",\"code\":") (json_text p.code) (codes ",\"message\":") (json_text p.sentence) (codes ",\"fix\":") (fix_and_second files p) (codes "}\n") in
+      let text = after_start (finding_start form.Json at.file) (decimal at.line) (codes ",\"column\":") (decimal (finding_column p)) (codes ",\"severity\":\"") (severity_word s) (codes "\",\"code\":") (json_text p.code) (codes ",\"message\":") (json_text p.sentence) (codes ",\"fix\":") (fix_and_places files p) (codes "}\n") in
       subst (λ t. IsTrue (is_printed t)) (sym text)
       (add (finding_start form.Json at.file) _ (h (finding_line p)) (add (decimal at.line) _ (digits_printed at.line) (add (codes ",\"column\":") _ refl (add (decimal (finding_column p)) _ (digits_printed (finding_column p)) (add (codes ",\"severity\":\"") _ refl
       (add (severity_word s) _ (word_printed s) (add (codes "\",\"code\":") _ refl (add (json_text p.code) _ (json_printed p.code parts.0) (add (codes ",\"message\":") _ refl
-      (add (json_text p.sentence) _ (json_printed p.sentence parts.1) (add (codes ",\"fix\":") _ refl (add (fix_and_second files p) _ (fix_json_printed p parts.4 named) (last_words (codes "}\n") refl))))))))))))).printed
+      (add (json_text p.sentence) _ (json_printed p.sentence parts.1) (add (codes ",\"fix\":") _ refl (add (fix_and_places files p) _ (fix_json_printed p parts.4 named) (last_words (codes "}\n") refl))))))))))))).printed
 
   pub findings_printed : {source : List ℕ} → (form : FindingForm) (s : Severity) → ((n : ℕ) → IsTrue (is_printed (finding_start form (own_line files n).file))) → (ps : List (FindingParts source)) → IsTrue (is_printed (flat_map (finding_text form s files) ps))
   findings_printed form s h [] = refl

@@ -1,9 +1,9 @@
 pub mod AddedFindings
 pub mod CheckSteps
 pub mod Excluded
-pub mod FaultSteps
 pub mod FindingTexts
 pub mod OnLine
+pub mod TokenPlaces
 pub mod PlaceSteps
 pub mod FaultLines
 pub mod Reasons

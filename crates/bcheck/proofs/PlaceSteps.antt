@@ -3,16 +3,11 @@ use Rattle.std.proofs.Common.{◌≡◌, ◌∙◌, ◌+◌, ◌<◌, ◌⊎◌,
 use Rattle.std.proofs.lemmas.List.{drop_all, take_all}
 use Rattle.std.proofs.Math.Nat.{min-le_right}
 use Rattle.std.specs.Prelude.{nat_lt, not, ◌==◌, ◌≤◌, map, min}
-use Rattle.bsources.specs.Files.{file_shown}
-use Rattle.bsources.specs.declared.files.SourceFile.{SourceFile}
+use Rattle.bsources.specs.Files.{File}
 use Rattle.std.proofs.lemmas.Bool.Decides.{nat_tests}
 use Rattle.bword.specs.declared.edition.Edition.{Edition}
-use Rattle.bword.specs.ByteEnds.{Incoming, Outgoing, incoming_of, most}
-use Rattle.bword.proofs.Remaining.{rest_after}
-use Rattle.bword.proofs.Taking.{Took-append}
-use Rattle.blang.specs.Compiles.{Compilation, CompilesTo}
+use Rattle.bword.specs.ByteEnds.{Incoming, most}
 use Rattle.blang.specs.Cut.{cut, line_number_after, next_line, placed, tokens_from}
-use Rattle.blang.specs.declared.token.Diagnostic.{Diagnostic}
 use Rattle.blang.specs.declared.token.Placed.{Placed}
 use Rattle.blex.specs.Calls.{first_tokens}
 use Rattle.blex.specs.Lexemes.{placed_of, token_of_lexeme}
@@ -21,9 +16,6 @@ use Rattle.blex.specs.Lexers as lexers
 use Rattle.blex.specs.declared.lexeme.Lexeme.TheVariants as lexeme
 use Rattle.blex.specs.declared.lexeme.Seen.{Seen}
 use Rattle.blex.proofs.CallLaws.{calls_give_first}
-use Rattle.bparse.specs.Compiles.{CodeGives}
-use Rattle.bparse.specs.Compilers.{Compiler, CompilerGives}
-use Rattle.bparse.specs.declared.step.Step.TheVariants as step
 use Rattle.bcheck.specs.Checks.{IsOver, StandsOn, column_after, next_column}
 use Rattle.bcheck.specs.Findings.{IsMilestone}
 use Rattle.bcheck.specs.declared.places.Milestone.{Milestone}
@@ -67,33 +59,6 @@ over_here edition end lender old new seen characters rest e left live gives is =
     let one = first_of p (tokens_from edition 1 rest) (all.told rest left live) in
     (seen.line, one.0, one.1 ∙ ap (λ l. placed (token_of_lexeme l characters) seen.line ∷ one.0) is)
 
--- a compiler of this source that has read it from its beginning
-abbrev Reads : Edition → List ℕ → Compiler → Type 0
-Reads edition source c =
-    (c.first.edition ≡ edition) × (c.first.source ≡ incoming_of (record { left = source; is_over = false }))
-
--- the diagnostic with which a compiler of a source stops is the one that the source comes to
-stopped : (edition : Edition) (source : List ℕ) (old new : Compiler) (fault : Diagnostic) → Reads edition source old → CompilerGives old (step.Fault fault) new
-    → (r : Compilation) → CompilesTo [] (tokens_from edition 1 source) r → r.stop ≡ Some fault
-stopped edition source old new fault reads gives r g =
-    let since = gives.0.since in
-    let s = gives.1 gives.0.before since in
-    let rest = rest_after old.first.source new.tokens.source.end (since.taken ++ s.taken) source (Took-append since.took s.took) (ap (λ i. i.left) reads.1)
-    (λ over. absurd (never old.first.source.is_over over (ap (λ i. i.is_over) reads.1))) in
-    let goes : CompilesTo [] (tokens_from old.first.edition 1 ((since.taken ++ s.taken) ++ rest.more)) r =
-    subst (λ e. CompilesTo [] (tokens_from e 1 ((since.taken ++ s.taken) ++ rest.more)) r) (sym reads.0) (subst (λ t. CompilesTo [] (tokens_from edition 1 t) r) (sym rest.whole) g) in
-    (s.comes rest.more rest.follows r goes).1
-  where
-    never : (b : Bool) → b ≡ true → b ≡ false → ⊥
-    never b p q = cc
-
--- the same of all calls of a compiler
-pub stop_is : (edition : Edition) (source : List ℕ) (o p : Outgoing) (j : Incoming) (fault : Diagnostic) → CodeGives edition (incoming_of (record { left = source; is_over = false })) o (step.Fault fault) j p
-    → (r : Compilation) → CompilesTo [] (tokens_from edition 1 source) r → r.stop ≡ Some fault
-stop_is edition source o p j fault h =
-    let l = h.gives in
-    stopped edition source l.old h.last fault (ap (λ x. x.edition) l.keeps_old.first ∙ h.edition_is, ap (λ x. x.source) l.keeps_old.first ∙ h.source) l.gives
-
 -- nothing is left where a source ends
 over_at_end : (edition : Edition) → IsOver edition []
 unfolding tokens_from cut
@@ -126,9 +91,9 @@ positive : (m n : ℕ) → not (suc m == 0) ≡ nat_lt 0 (suc n)
 positive m n = grind (arith, nat_tests)
 
 -- whether there are several files, by their list
-pub several_is : (rest : List SourceFile) (empty : Bool) → empty ≡ (length rest == 0) → not empty ≡ nat_lt 0 (length (map file_shown rest))
+pub several_is : (rest : List File) (empty : Bool) → empty ≡ (length rest == 0) → not empty ≡ nat_lt 0 (length rest)
 several_is [] empty e = ap not e
-several_is (x ∷ xs) empty e = ap not e ∙ positive (length xs) (length (map file_shown xs))
+several_is (x ∷ xs) empty e = ap not e ∙ positive (length xs) (length xs)
 
 pub below_min : (i n a b : ℕ) → i < n → n ≡ min a b → i < b
 below_min i n a b h e = let less : n ≤ b = subst (λ m. m ≤ b) (sym e) (min-le_right a b) in omega (arith, h, less)

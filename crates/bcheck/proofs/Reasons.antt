@@ -19,10 +19,6 @@ use Rattle.bcheck.specs.declared.finding.Finding.{Finding}
 use Rattle.bcheck.specs.declared.verdict.Verdict.{Verdict}
 use Rattle.bcheck.specs.declared.verdict.Verdict.TheVariants as verdict
 
-pub if_ok : {X E : Type 0} (r : Result X E) (P Q : X → Type 0) → ((x : X) → P x → Q x) → IfOk r P → IfOk r Q
-if_ok (Ok x) P Q f h = f x h
-if_ok (Err e) P Q f h = h
-
 status_in : {line other : List ℕ} {a b : ℕ} → ◌≡◌ {A = List ℕ × ℕ} (line, a) (other, b) → a ≡ b
 status_in e = ap (λ (p : List ℕ × ℕ). p.1) e
 

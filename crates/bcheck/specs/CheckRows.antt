@@ -13,7 +13,9 @@ use Rattle.bcheck.specs.Checks.{column_after, diagnostic_code, next_column, seve
 use Rattle.bcheck.specs.Checks.{shown_in_form, told_first}
 use Rattle.bcheck.specs.Excluded.{has_no_colon, is_printed, newlines}
 use Rattle.bcheck.specs.Findings.{warning_code}
-use Rattle.blang.specs.Cut.{line_number_after}
+use Rattle.bcheck.specs.Tokens.{has_token_on, is_in_token, pieces_from}
+use Rattle.blang.specs.Cut.{fixed_of, greatest, keyword_of, line_number_after, longest, number_in, operator_of}
+use Rattle.blang.specs.Cut.{escape_of, other_of, whole, with_quoted_byte, word_token}
 use Rattle.bsources.specs.Files.{Files}
 use Rattle.bcheck.specs.declared.finding.Severity.TheVariants as severity
 use Rattle.bcheck.specs.declared.form.FindingForm.TheVariants as form
@@ -167,13 +169,13 @@ in_next_file = refl
 
 warning_for_editors : finding_text form.Json severity.Warning (alone (codes "a\"b")) undefined
     ≡ codes "{\"file\":\"a\\\"b\",\"line\":3,\"column\":6,\"severity\":\"warning\","
-    ++ codes "\"code\":\"un\",\"message\":\"no n\",\"fix\":\"auto n;\"}\n"
+    ++ codes "\"code\":\"un\",\"message\":\"no n\",\"fix\":\"auto n;\",\"end\":7}\n"
 unfolding digits
 warning_for_editors = refl
 
 in_next_file_for_editors : finding_text form.Json severity.Warning (followed 2) undefined
     ≡ codes "{\"file\":\"l\\u000a.b\",\"line\":1,\"column\":6,\"severity\":\"warning\","
-    ++ codes "\"code\":\"un\",\"message\":\"no n\",\"fix\":\"auto n;\"}\n"
+    ++ codes "\"code\":\"un\",\"message\":\"no n\",\"fix\":\"auto n;\",\"end\":7}\n"
 unfolding digits
 in_next_file_for_editors = refl
 
@@ -219,7 +221,7 @@ warning_for_people = refl
 
 error_for_editors : finding_text form.Json severity.Error (alone (codes "x.b")) again
     ≡ codes "{\"file\":\"x.b\",\"line\":2,\"column\":9,\"severity\":\"error\",\"code\":\"r\\\"d\","
-    ++ codes "\"message\":\"\\\"size\\\" \\\\ again\",\"fix\":\"a \\\"b\\\"\","
+    ++ codes "\"message\":\"\\\"size\\\" \\\\ again\",\"fix\":\"a \\\"b\\\"\",\"end\":13,"
     ++ codes "\"related\":{\"line\":2,\"column\":1}}\n"
 unfolding digits
 error_for_editors = refl
@@ -237,3 +239,34 @@ colons = refl
 
 no_findings : findings_text {source = []} form.Text 0 (alone (codes "x.b")) [] ≡ []
 no_findings = refl
+
+-- tokens on the lines of a source, which no blank, comment or end is
+tokens_on_lines : map (λ line. has_token_on editions.One line (codes "a b\n/*c*/\n\n;\n")) (1 ∷ 2 ∷ 3 ∷ 4 ∷ 5 ∷ [])
+    ≡ true ∷ false ∷ false ∷ true ∷ false ∷ []
+unfolding pieces_from longest greatest whole word_token keyword_of number_in operator_of other_of fixed_of
+tokens_on_lines = refl
+
+-- places in a token of the line, right after it, in a comment, and in a token of another line
+in_tokens : map (λ before. is_in_token editions.One 1 before (codes "b1/**/\n;"))
+    ([] ∷ codes " " ∷ codes "a" ∷ codes "/*" ∷ codes "\n" ∷ []) ≡ true ∷ true ∷ true ∷ false ∷ false ∷ []
+unfolding pieces_from longest greatest whole word_token keyword_of number_in operator_of other_of fixed_of
+in_tokens = refl
+
+after_token : is_in_token editions.One 1 (codes "ab") (codes " ;") ≡ false
+unfolding pieces_from longest greatest whole word_token keyword_of number_in operator_of other_of fixed_of
+after_token = refl
+
+-- a wrong token is one, and none comes after it
+wrong_token_on_line : map (λ line. has_token_on editions.One line (codes "a\n@\nb")) (1 ∷ 2 ∷ 3 ∷ [])
+    ≡ true ∷ true ∷ false ∷ []
+unfolding pieces_from longest greatest whole word_token keyword_of number_in operator_of other_of fixed_of
+wrong_token_on_line = refl
+
+-- the last byte of a wrong constant, and the one after it
+in_wrong_token : is_in_token editions.One 1 (codes "'ab") (codes "c'") ≡ true
+unfolding pieces_from longest greatest whole word_token keyword_of number_in operator_of other_of fixed_of escape_of with_quoted_byte
+in_wrong_token = refl
+
+after_wrong_token : is_in_token editions.One 1 (codes "'abc") (codes "'") ≡ false
+unfolding pieces_from longest greatest whole word_token keyword_of number_in operator_of other_of fixed_of escape_of with_quoted_byte
+after_wrong_token = refl

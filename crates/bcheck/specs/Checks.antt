@@ -1,5 +1,5 @@
 -- Promise: what is written of a source that is checked.
-use Rattle.std.specs.Prelude.{◌≡◌, ◌≢◌, ℕ, ◌+◌, ◌<◌, ◌==◌, nat_lt, not, Bool, IsTrue, if◌then◌else◌}
+use Rattle.std.specs.Prelude.{◌≡◌, ◌≢◌, ℕ, ◌+◌, ◌<◌, ◌==◌, nat_lt, not, Bool, true, false, IsTrue, if◌then◌else◌}
 use Rattle.std.specs.Prelude.{List, [], ◌∷◌, ◌++◌, ◌⊎◌, codes, decimal, length, map, min, replicate, Option, Some, None}
 use Rattle.std.specs.Prelude.{unwrap_or}
 use Rattle.std.specs.Int.{is_in_range}
@@ -24,6 +24,7 @@ use Rattle.btools.specs.Programs.{load_line}
 use Rattle.btools.specs.Quoting.{file_text, json_text}
 use Rattle.blang.specs.Reports.{Reported}
 use Rattle.bsources.specs.Files.{Files, Line, own_line}
+use Rattle.bcheck.specs.Tokens.{has_token_on, is_in_token}
 use Rattle.bcheck.specs.declared.finding.Severity.{Severity}
 use Rattle.bcheck.specs.declared.finding.Severity.TheVariants as severity
 use Rattle.bcheck.specs.declared.form.FindingForm.{FindingForm}
@@ -164,15 +165,22 @@ second_text files None = []
 second_text files (Some s) =
     spot_words (is_of_several files) (own_line files (line_number_after 1 s.before)) (column_after 1 s.before)
 
--- the fix, and the second place, if there is one
-abbrev pub fix_and_second : {source : List ℕ} → Files → FindingParts source → List ℕ
-fix_and_second files p = json_text p.fix ++ second_text files p.second
+-- the column after the marks, on the line of its place
+abbrev pub finding_end : {source : List ℕ} → FindingParts source → ℕ
+finding_end p = min (finding_column p + p.marks) most
+
+abbrev pub end_words : (column : ℕ) → List ℕ
+end_words column = codes ",\"end\":" ++ decimal column
+
+-- the fix, where the marks end, and the second place, if there is one
+abbrev pub fix_and_places : {source : List ℕ} → Files → FindingParts source → List ℕ
+fix_and_places files p = json_text p.fix ++ (end_words (finding_end p) ++ second_text files p.second)
 
 abbrev pub finding_words : {source : List ℕ} → FindingForm → Files → FindingParts source → List ℕ
 finding_words form.Text files p =
     p.sentence ++ codes "\n    " ++ finding_shown p ++ codes "\n    " ++ finding_mark p ++ codes "\n  fix: " ++ p.fix
 finding_words form.Json files p =
-    json_text p.code ++ codes ",\"message\":" ++ json_text p.sentence ++ codes ",\"fix\":" ++ fix_and_second files p
+    json_text p.code ++ codes ",\"message\":" ++ json_text p.sentence ++ codes ",\"fix\":" ++ fix_and_places files p
 
 -- A finding begins with the name of its file: for people on one line, for editors as the first member of an object.
 abbrev pub finding_start : FindingForm → (file : List ℕ) → List ℕ
@@ -223,9 +231,17 @@ abbrev pub StandsOn : Edition → (line : ℕ) → (before rest : List ℕ) → 
 StandsOn edition line before rest =
     (line_number_after 1 before ≡ line) ⊎ ((line_number_after 1 before < line) × IsOver edition rest)
 
--- An error has the code of the diagnostic and stands on its line, or it has the code of the fault of loading.
+-- a place between these bytes is in a token of the line, unless no token stands there, or none comes any more
+abbrev pub IsAtToken : Edition → (line : ℕ) → (before rest : List ℕ) → Type 0
+IsAtToken edition line before rest =
+    (is_in_token edition line before rest ≡ true) ⊎ (has_token_on edition line (before ++ rest) ≡ false)
+    ⊎ IsOver edition rest
+
+-- An error has the code of the diagnostic and stands on its line, in one of the tokens there, or it has the code of the
+-- fault of loading.
 abbrev pub Reason : Edition → Option Diagnostic → Option LoadFault → (code before rest : List ℕ) → Type 0
-Reason edition (Some d) f code before rest = (code ≡ diagnostic_code d) × StandsOn edition d.line before rest
+Reason edition (Some d) f code before rest =
+    (code ≡ diagnostic_code d) × StandsOn edition d.line before rest × IsAtToken edition d.line before rest
 Reason edition None (Some fault.TooLarge) code before rest = code ≡ codes "load 2"
 Reason edition None (Some (fault.Undefined name)) code before rest = code ≡ codes "load 3"
 Reason edition None f code before rest = Unit {0}

@@ -1,5 +1,5 @@
 -- Promise: what the contract of a check excludes, whatever its source, its file and its output are.
-use Rattle.std.specs.Prelude.{◌≡◌, ◌≢◌, ℕ, ◌+◌, ◌*◌, ◌<◌, ◌≤◌, ◌==◌, Bool, ◌||◌, false, not, IsTrue}
+use Rattle.std.specs.Prelude.{◌≡◌, ◌≢◌, ℕ, ◌+◌, ◌*◌, ◌<◌, ◌≤◌, ◌==◌, Bool, ◌||◌, false, true, not, IsTrue}
 use Rattle.std.specs.Prelude.{List, [], ◌∷◌, ◌++◌, Some, codes, decimal, map, Option}
 use Rattle.std.specs.Int.{is_in_range}
 use Rattle.std.specs.Io.{StartsWith}
@@ -15,11 +15,11 @@ use Rattle.blang.specs.Layout.{load_fault}
 use Rattle.blang.specs.declared.status.TheConstants.{DONE, DEVICE, MEMORY}
 use Rattle.bsources.specs.Files.{own_line}
 use Rattle.bcheck.specs.Checks.{Check, Checks, FindingParts, IsOver, column_after, finding_head}
+use Rattle.bcheck.specs.Tokens.{has_token_on, is_in_token}
 use Rattle.btools.specs.Quoting.{file_text}
 use Rattle.bcheck.specs.Checks.{finding_start}
 use Rattle.bcheck.specs.Checks.{findings_text}
 use Rattle.bcheck.specs.Checks.{severity_of, shown_in_form, told_first}
-use Rattle.bcheck.specs.SourceFaults.{IsSourceFault}
 use Rattle.bcheck.specs.declared.finding.Severity.{Severity}
 use Rattle.bcheck.specs.declared.form.FindingForm.{FindingForm}
 use Rattle.bcheck.specs.declared.form.FindingForm.TheVariants as form
@@ -108,6 +108,11 @@ pub record Excluded : Type 0 where
       × ((before after : List ℕ) → c.source ≡ before ++ after → line_number_after 1 before < d.line
       → IsOver c.edition after → ⊥))
   pub later_line : NeverOf (λ c d row column rest. (n : ℕ) → n ≤ d.line → decimal row ≢ decimal n)
+  -- of a fault a line and a column in no token of its line, where there is one, and a token comes after them
+  pub other_token : NeverOf (λ c d row column rest. (has_token_on c.edition d.line c.source ≡ true)
+      × ((before after : List ℕ) → c.source ≡ before ++ after → decimal row ≡ decimal (line_number_after 1 before)
+      → decimal column ≡ decimal (column_after 1 before)
+      → (is_in_token c.edition d.line before after ≡ false) × (IsOver c.edition after → ⊥)))
   -- of a fault a line and a column at which the source has no place
   pub no_place : NeverOf (λ c d row column rest. (before after : List ℕ) → c.source ≡ before ++ after
       → decimal row ≡ decimal (line_number_after 1 before) → decimal column ≢ decimal (column_after 1 before))
@@ -136,6 +141,3 @@ pub record Excluded : Type 0 where
       → c.form ≡ form.Text → IsTold c text → StartsWith text (codes "un break 1\n") → Checks c → ⊥
   pub second_edition : (c : Check) (text : List ℕ) → c.source ≡ codes "f() break;" → c.edition ≡ editions.One
       → c.form ≡ form.Text → IsTold c text → StartsWith text (codes "sx break 1\n") → Checks c → ⊥
-  -- of a source another fault than its own, or one where it has none, or none where it has one
-  pub one_fault : (edition : Edition) (source : List ℕ) → (fault : Option Diagnostic) × IsSourceFault edition source fault
-      × ((other : Option Diagnostic) → IsSourceFault edition source other → other ≡ fault)

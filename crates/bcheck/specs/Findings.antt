@@ -1,23 +1,20 @@
 -- Promise: what is known of a finding before it is told.
-use Rattle.std.specs.Prelude.{◌≡◌, ℕ, ◌<◌, IsTrue, false, List, [], ◌++◌, codes, drop, length, take}
+use Rattle.std.specs.Prelude.{◌≡◌, ℕ, ◌<◌, ◌⊎◌, Bool, IsTrue, true, false, List, [], ◌++◌, codes, drop, length, take}
 use Rattle.std.specs.Prelude.{Option, Some, None, IfSome, MatchResult, ◌≤◌, map}
 use Rattle.bword.specs.declared.edition.Edition.{Edition}
-use Rattle.bword.specs.ByteEnds.{Unread, incoming_of, outgoing_of}
-use Rattle.blang.specs.declared.code.Definition.{Definition}
-use Rattle.blang.specs.Code.{code_of}
-use Rattle.blang.specs.Compiles.{Compilation, CompilesTo}
-use Rattle.blang.specs.Cut.{line_number_after, tokens_from}
+use Rattle.blang.specs.Cut.{line_number_after}
 use Rattle.blang.specs.declared.token.Diagnostic.{Diagnostic}
 use Rattle.bsources.specs.Files.{Files, line_shown, own_line}
-use Rattle.bcheck.specs.Checks.{EachOutcome, FindingParts, Outcome, Reason, StandsOn, column_after, diagnostic_code}
+use Rattle.bcheck.specs.Checks.{EachOutcome, FindingParts, IsAtToken, Outcome, Reason, StandsOn, column_after, diagnostic_code}
 use Rattle.bcheck.specs.Checks.{finding_text, is_in_line, is_of_several}
+use Rattle.std.specs.List.{list_any}
+use Rattle.blex.specs.declared.scanner.PlacedPiece.{PlacedPiece}
+use Rattle.bcheck.specs.Tokens.{has_token_on, is_on, pieces_of}
 use Rattle.bcheck.specs.declared.advice.Matter.{Matter}
 use Rattle.bcheck.specs.declared.advice.Matter.TheVariants as matter
 use Rattle.bcheck.specs.declared.warnings.Warning.{Warning}
 use Rattle.bcheck.specs.declared.warnings.Warning.TheVariants as warning
-use Rattle.bparse.specs.Compiles.{CodeGives}
-use Rattle.bcheck.specs.SourceFaults.{IsSourceFault}
-use Rattle.bcheck.specs.declared.compiled.Answered.{Answered}
+use Rattle.btools.specs.Programs.{HasFault, IsCodeOf}
 use Rattle.bcheck.specs.declared.compiled.Compiled.{Compiled}
 use Rattle.bcheck.specs.declared.excerpt.Excerpt.{Excerpt}
 use Rattle.bcheck.specs.declared.finding.Finding.{Finding}
@@ -83,26 +80,14 @@ matter_code matter.DataTooLarge = codes "load 2"
 matter_code (matter.NotDefined undefined) = codes "load 3"
 matter_code (matter.Warning warning) = warning_code warning
 
--- the source has no fault, and this is the code of its definitions
-abbrev pub IsCodeOf : Edition → List ℕ → List Definition → Type 0
-IsCodeOf edition source ds =
-    (r : Compilation) (g : CompilesTo [] (tokens_from edition 1 source) r)
-    → (r.stop ≡ None) × (map code_of g.definitions ≡ ds)
-
 -- what was compiled is this source: the code of its definitions, or its fault
 abbrev pub IsCompiled : Edition → List ℕ → Compiled → Type 0
 IsCompiled edition source c =
-    MatchResult c.code (λ v. IsCodeOf edition source v.items) (λ d. IsSourceFault edition source (Some d))
-
--- the compiler was given this source, over memory
-abbrev pub WasAnswered : Edition → List ℕ → Answered → Type 0
-WasAnswered edition source a =
-    (following : Unread) × CodeGives edition (incoming_of (record { left = source; is_over = false }))
-    (outgoing_of (record { bytes = []; refusals = 0 })) a.last (incoming_of following) (outgoing_of a.code)
+    MatchResult c.code (λ v. IsCodeOf edition source v.items) (HasFault edition source)
 
 -- the diagnostic of a verdict is the one that the source comes to
 abbrev pub IsStopOf : Edition → List ℕ → Verdict → Type 0
-IsStopOf edition source (verdict.Faulty line d) = IsSourceFault edition source (Some d)
+IsStopOf edition source (verdict.Faulty line d) = HasFault edition source d
 IsStopOf edition source v = Unit {0}
 
 -- the matter is that of the diagnostic, and the place is one for it
@@ -110,6 +95,7 @@ abbrev pub TellsFault : Edition → List ℕ → Diagnostic → Finding → Type
 TellsFault edition source d f =
     (matter_code f.matter ≡ diagnostic_code d)
     × StandsOn edition d.line (take f.place.start source) (drop f.place.start source)
+    × IsAtToken edition d.line (take f.place.start source) (drop f.place.start source)
 
 -- an error of this code at this place is one of what the source comes to
 abbrev pub ReasonAt : (code : List ℕ) → (start : ℕ) → Outcome → Type 0
@@ -117,6 +103,18 @@ ReasonAt code start o = Reason o.edition o.stop o.fault code (take start o.sourc
 
 abbrev pub IsReasoned : Edition → List ℕ → Finding → Type 0
 IsReasoned edition source f = EachOutcome edition source (ReasonAt (matter_code f.matter) f.place.start)
+
+-- A token of the line was found, where the source has one there.
+abbrev pub FindsOn : Edition → (line : ℕ) → List ℕ → Option PlacedPiece → Type 0
+FindsOn edition line source None = has_token_on edition line source ≡ false
+FindsOn edition line source (Some p) =
+    (is_on line p ≡ true) × (line_number_after 1 (take p.first source) ≡ line) × (p.first < p.end)
+    × (p.end ≤ length source)
+    × ((test : PlacedPiece → Bool) → test p ≡ true → list_any test (pieces_of edition source) ≡ true)
+
+-- one was found before, or is the piece that comes, if it is a token of the line
+abbrev pub Chooses : (line : ℕ) → PlacedPiece → Option PlacedPiece → Option PlacedPiece → Type 0
+Chooses line p old new = ((new ≡ Some p) × (is_on line p ≡ true)) ⊎ ((new ≡ old) × (old ≡ None → is_on line p ≡ false))
 
 -- the line and the column of a milestone are those of its place in the source
 pub record IsMilestone (source : List ℕ) (m : Milestone) : Type 0 where

@@ -1,6 +1,7 @@
 //! Comments that begin in one file of a source and end in another one.
 use crate::finding::Place;
-use crate::spans::{Scanner, Source, after_blanks, comment_end, is_last};
+use crate::spans::{Source, is_last};
+use blex::{PlacedPiece, Scanner};
 use bsources::SourceFiles;
 use std::alloc::{AllocError, Global};
 
@@ -14,57 +15,35 @@ pub(crate) fn comments_across(
     if files.rest.is_empty() {
         return Ok(found);
     }
-    let mut scanner = Scanner::new(source);
-    let mut last = Place {
-        line: 1,
-        start: 0,
-        len: 0,
-    };
+    let mut scanner = Scanner::new(source.text, source.edition);
     for _ in 0..=source.text.len() {
-        let Some(span) = scanner.next() else {
-            break;
-        };
-        if !is_in_one(files, last.line, span.place.line) {
-            add_comments(source.text, files, &last, &mut found)?;
+        let piece = scanner.next();
+        match piece.lexeme {
+            None => add_comment(source.text, files, &piece, &mut found)?,
+            Some(lexeme) if is_last(&lexeme) => break,
+            Some(_) => {}
         }
-        if is_last(&span.lexeme) {
-            break;
-        }
-        last = span.place;
     }
     Ok(found)
 }
 
-// Adds the comments after a token that begin in one file and end in another one.
-fn add_comments(
+// Adds a comment that begins in one file and ends in another one.
+fn add_comment(
     text: &[u8],
     files: &SourceFiles<'_>,
-    last: &Place,
+    comment: &PlacedPiece,
     found: &mut Vec<Place>,
 ) -> Result<(), AllocError> {
-    let (mut at, mut line) = (last.start.saturating_add(last.len), last.line);
-    for _ in at..text.len() {
-        let start = after_blanks(text, at);
-        let Some(end) = comment_end(text, start) else {
-            break;
-        };
-        let first_line = line.saturating_add(newlines(text, at, start));
-        line = first_line.saturating_add(newlines(text, start, end));
-        if !is_in_one(files, first_line, line) {
-            found.push(Place {
-                line: first_line,
-                start,
-                len: 2,
-            })?;
-        }
-        at = end;
+    let line = comment.line;
+    let last = line.saturating_add(newlines(text, comment.first, comment.end));
+    if last > line && files.own_line(line).file != files.own_line(last).file {
+        found.push(Place {
+            line,
+            start: comment.first,
+            len: 2,
+        })?;
     }
     Ok(())
-}
-
-// Whether two lines of a source are in one file.
-fn is_in_one(files: &SourceFiles<'_>, line: u64, other: u64) -> bool {
-    files.own_line(line).file == files.own_line(other).file
 }
 
 // How many newlines are between two places.

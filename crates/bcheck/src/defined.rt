@@ -3,7 +3,7 @@ use crate::brackets::Brackets;
 use crate::compiled::Extent;
 use crate::finding::Place;
 use crate::kinds::is_ended;
-use crate::spans::{Scanner, Source, Spans, lexeme_at, name_at, place_of};
+use crate::spans::{Source, SpanReader, Spans, lexeme_at, name_at, place_of};
 use blang::Keyword;
 use blex::Lexeme;
 use bnames::{NameTable, Probes};
@@ -124,12 +124,12 @@ impl Defined {
             all: Vec::new(alloc),
             names: NameTable::new(alloc),
         };
-        let mut scanner = Scanner::new(source);
+        let mut reader = SpanReader::new(source);
         let mut spans = Spans::new(alloc);
         let mut first = 0;
         for end in ends {
             let extent = Extent { first, end: *end };
-            spans.refill(&mut scanner, extent)?;
+            spans.refill(&mut reader, extent)?;
             let brackets = Brackets::new(alloc, &spans)?;
             defined.push(&spans, extent, &brackets)?;
             first = *end;

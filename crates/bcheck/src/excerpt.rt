@@ -1,6 +1,7 @@
 //! The piece of the source that is shown of a place.
 ghost use Rattle.std.specs.List.{All};
-ghost use Rattle.std.specs.Prelude.{◌<◌, ◌≤◌, IsTrue, length, take};
+ghost use Rattle.std.specs.Prelude.{◌≡◌, ◌+◌, ◌<◌, ◌≤◌, IsTrue, length, min, take};
+ghost use Rattle.bword.specs.ByteEnds.{most};
 ghost use Rattle.bcheck.specs.Checks.{is_in_line};
 ghost use Rattle.bcheck.specs.Findings.{IsExcerpt, IsMilestone};
 
@@ -21,6 +22,15 @@ pub(crate) struct Excerpt<'a> {
     pub left: &'a [u8],
     pub right: &'a [u8],
     pub marks: usize,
+}
+
+impl Excerpt<'_> {
+    /// The column after the marks.
+    pub(crate) fn mark_end(&self) -> u64
+        ensures { result ≡ min (self.now.column + self.now.marks) most }
+    {
+        (self.column as u64).saturating_add(self.marks as u64)
+    }
 }
 
 /// What is shown of a place of the source.

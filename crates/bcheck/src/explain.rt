@@ -17,7 +17,7 @@ use crate::finding::{Finding, Told};
 use crate::form::{FindingForm, Request};
 use crate::patterns::{Tokens, add_comments, find};
 use crate::places::{milestones, place_on, spot_of};
-use crate::spans::{Scanner, Source, Spans, place_of};
+use crate::spans::{Source, SpanReader, Spans, place_of};
 use crate::unknown::undefined_name;
 use crate::verdict::{Judgement, Verdict};
 use crate::words::Words;
@@ -169,7 +169,7 @@ fn warnings(
     let defined = Defined::read(alloc, source, ends)?;
     let comments = comments_across(alloc, source, files)?;
     let mut findings = Vec::new(alloc);
-    let mut scanner = Scanner::new(source);
+    let mut reader = SpanReader::new(source);
     let mut spans = Spans::new(alloc);
     let (mut first, mut last) = (0, 0);
     for index in 0..ends.len() {
@@ -178,9 +178,9 @@ fn warnings(
             end: ends[index],
         };
         first = extent.end;
-        spans.refill(&mut scanner, extent)?;
-        add_comments(comments.as_slice(), last, scanner.end, &mut findings)?;
-        last = scanner.end;
+        spans.refill(&mut reader, extent)?;
+        add_comments(comments.as_slice(), last, reader.end, &mut findings)?;
+        last = reader.end;
         let brackets = Brackets::new(alloc, &spans)?;
         let tokens = Tokens {
             source: source.text,

@@ -9,7 +9,7 @@ use crate::bytes::{Constant, byte_of, constant_at};
 use crate::compiled::{Compiled, Extent};
 use crate::finding::{Finding, Place};
 use crate::limits::limit_of;
-use crate::spans::{Scanner, Source, Spans, is_next_line, lexeme_at, place_of};
+use crate::spans::{Source, SpanReader, Spans, is_next_line, lexeme_at, place_of};
 use crate::syntax::{self, Mark, Syntax};
 use crate::unknown::{Lvalue, Unknown, unknown_name, without_address};
 use bcode::read_code;
@@ -123,14 +123,14 @@ fn again(
 
 // Where one of the definitions that were written begins with this name.
 fn definition_of(source: Source<'_>, compiled: &Compiled, name: Name) -> Option<Place> {
-    let mut scanner = Scanner::new(source);
+    let mut reader = SpanReader::new(source);
     let mut token = 0;
     for end in compiled.ends.as_slice() {
-        let span = scanner.next()?;
+        let span = reader.next();
         if span.lexeme == Lexeme::Name(name) {
             return Some(span.place);
         }
-        scanner.pass(end.saturating_sub(token).saturating_sub(1));
+        reader.pass(end.saturating_sub(token).saturating_sub(1));
         token = *end;
     }
     None

@@ -38,6 +38,8 @@ pub(crate) fn write(text: &mut Text, told: &Told<'_>) -> Result<(), AllocError>
             Piece::Quoted(told.words.sentence.as_slice()),
             Piece::Words(b",\"fix\":"),
             Piece::Quoted(told.words.fix.as_slice()),
+            Piece::Words(b",\"end\":"),
+            Piece::Number(excerpt.mark_end()),
         ],
     )?;
     push_second(text, told.second)?;

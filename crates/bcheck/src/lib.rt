@@ -13,7 +13,6 @@ mod defined;
 mod effects;
 mod excerpt;
 mod explain;
-mod fault;
 mod faults;
 mod finding;
 mod flow;
@@ -37,5 +36,4 @@ mod warnings;
 mod words;
 
 pub use checking::{check, wrong_checks_are_excluded};
-pub use fault::fault_of;
 pub use form::{FindingForm, Request};

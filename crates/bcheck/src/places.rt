@@ -2,12 +2,13 @@
 ghost use Rattle.std.specs.List.{All};
 ghost use Rattle.std.specs.Prelude.{ℕ, List, OnOk, ◌≡◌, ◌<◌, ◌≤◌, ◌⊎◌, IfOk, IsTrue, drop, length, take, vec_items};
 ghost use Rattle.blang.specs.Cut.{line_number_after, next_line};
-ghost use Rattle.bcheck.specs.Checks.{IsOver, StandsOn, column_after, next_column};
-ghost use Rattle.bcheck.specs.Findings.{IsMilestone, IsSecond};
+ghost use Rattle.bcheck.specs.Checks.{IsAtToken, IsOver, StandsOn, column_after, next_column};
+ghost use Rattle.bcheck.specs.Findings.{Chooses, FindsOn, IsMilestone, IsSecond};
+ghost use Rattle.bcheck.specs.Tokens.{ends, is_on, is_token};
 ghost use Rattle.bsources.specs.Files.{files_shown};
 
 use crate::finding::{Place, Spot};
-use blex::{Lexeme, Lexer};
+use blex::{Lexeme, Lexer, PlacedPiece, Scanner};
 use bsources::SourceFiles;
 use bword::{Edition, MemIn};
 use std::alloc::{AllocError, Global};
@@ -145,27 +146,89 @@ fn next_column(column: usize, byte: u8) -> usize
     }
 }
 
-/// The place, where it stands on this line, or before it and no token comes any more; else the beginning of the line, or
-/// the end of a source that has fewer lines.
+/// The place, where it stands on this line and in a token of it, or on the line or before it and no token comes any
+/// more; else the first token of the line, the beginning of a line without one, or the end of a source that has fewer
+/// lines.
 pub(crate) fn place_on(source: &[u8], edition: Edition, place: &Place, line: u64) -> Place
     requires { 0 < line }
-    ensures { StandsOn edition line (take result.start source.now) (drop result.start source.now) }
+    ensures stands { StandsOn edition line (take result.start source.now) (drop result.start source.now) }
+    ensures token { IsAtToken edition line (take result.start source.now) (drop result.start source.now) }
 {
     let (before, rest) = parts(source, place.start);
     let here = line_after(before);
-    if here == line {
-        return *place;
-    }
-    if here < line {
+    if here <= line {
         if is_over(rest, edition) {
             return *place;
         }
     }
+    let Some(token) = token_on(source, edition, line, place.start) else {
+        return Place {
+            line,
+            start: line_start(source, line),
+            len: 1,
+        };
+    };
+    if here == line && token.first <= place.start && place.start < token.end {
+        return *place;
+    }
     Place {
         line,
-        start: line_start(source, line),
+        start: token.first,
         len: 1,
     }
+}
+
+// The last token of a line that begins at a place or before it, or else the first token of the line.
+fn token_on(source: &[u8], edition: Edition, line: u64, place: usize) -> Option<PlacedPiece>
+    ensures { FindsOn edition line source.now result }
+{
+    let mut scanner = Scanner::new(source, edition);
+    let mut found = None;
+    loop {
+        let piece = scanner.next();
+        let is_last = ends(piece.lexeme);
+        found = choose(found, piece, line, place);
+        if is_last {
+            return found;
+        }
+    }
+}
+
+// The one that was found, or the one that comes after it.
+fn choose(
+    found: Option<PlacedPiece>,
+    piece: PlacedPiece,
+    line: u64,
+    place: usize,
+) -> Option<PlacedPiece>
+    ensures { Chooses line piece found result }
+{
+    if !is_on(&piece, line) {
+        return found;
+    }
+    match found {
+        Some(_) if piece.first > place => found,
+        _ => Some(piece),
+    }
+}
+
+fn is_on(piece: &PlacedPiece, line: u64) -> bool
+    ensures { result ≡ is_on line piece.now }
+{
+    is_token(piece.lexeme) && piece.line == line
+}
+
+fn is_token(lexeme: Option<Lexeme>) -> bool
+    ensures { result ≡ is_token lexeme }
+{
+    !matches!(lexeme, None | Some(Lexeme::End))
+}
+
+// Whether no token comes after this one.
+fn ends(lexeme: Option<Lexeme>) -> bool
+    ensures { result ≡ ends lexeme }
+{
+    matches!(lexeme, Some(Lexeme::Bad(_) | Lexeme::End))
 }
 
 // The number of the line after a text.

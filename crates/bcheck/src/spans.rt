@@ -1,9 +1,10 @@
 //! The tokens of a source, and where each stands.
 use crate::compiled::Extent;
 use crate::finding::Place;
-use blang::{Keyword, Letters};
-use blex::{Lexeme, Lexer};
-use bword::{BinOp, Edition, MemIn, Name, is_name_byte};
+use crate::places::parts;
+use blang::Letters;
+use blex::{Lexeme, Scanner};
+use bword::{Edition, Name};
 use std::alloc::{AllocError, Global};
 
 /// A token and where it stands.
@@ -14,6 +15,19 @@ pub(crate) struct Span {
 }
 
 impl Span {
+    fn new(text: &[u8], lexeme: Lexeme, line: u64, first: usize, end: usize) -> Self {
+        let (_, rest) = parts(text, first);
+        let len = marked(&lexeme, rest, end.saturating_sub(first));
+        Span {
+            lexeme,
+            place: Place {
+                line,
+                start: first,
+                len,
+            },
+        }
+    }
+
     /// The place of the first byte after it.
     pub(crate) fn end(&self) -> usize {
         self.place.start.saturating_add(self.place.len)
@@ -27,41 +41,49 @@ pub(crate) struct Source<'a> {
     pub edition: Edition,
 }
 
-/// The tokens of a source in turn, with their places.
+/// The tokens of a source in turn.
 #[derive(Drop)]
-pub(crate) struct Scanner<'a> {
+pub(crate) struct SpanReader<'a> {
     text: &'a [u8],
-    lexer: Lexer<MemIn<'a>>,
-    /// The place after the last token.
+    scanner: Scanner<'a>,
+    /// The place after the token that was given last.
     pub end: usize,
+    last: Option<Span>,
 }
 
-impl<'a> Scanner<'a> {
+impl<'a> SpanReader<'a> {
     pub(crate) fn new(source: Source<'a>) -> Self {
-        Scanner {
+        SpanReader {
             text: source.text,
-            lexer: Lexer::with_edition(MemIn::new(source.text), source.edition),
+            scanner: Scanner::new(source.text, source.edition),
             end: 0,
+            last: None,
         }
     }
 
-    /// The next token, up to the last one, which has no bytes if it is the end of the source.
-    pub(crate) fn next(&mut self) -> Option<Span> {
-        let Ok(seen) = self.lexer.next_lexeme() else {
-            return None;
-        };
-        let start = next_start(self.text, self.end);
-        let place = Place {
-            line: seen.line,
-            start,
-            len: length(seen.lexeme, self.text.get(start..).unwrap_or(&[])),
-        };
-        let span = Span {
-            lexeme: seen.lexeme,
-            place,
-        };
+    /// The next token. After the last one it comes again.
+    pub(crate) fn next(&mut self) -> Span {
+        if let Some(last) = self.last {
+            return last;
+        }
+        let span = self.next_span();
         self.end = span.end();
-        Some(span)
+        if is_last(&span.lexeme) {
+            self.last = Some(span);
+        }
+        span
+    }
+
+    fn next_span(&mut self) -> Span {
+        for _ in 0..self.text.len() {
+            let piece = self.scanner.next();
+            let (line, first, end) = (piece.line, piece.first, piece.end);
+            if let Some(lexeme) = piece.lexeme {
+                return Span::new(self.text, lexeme, line, first, end);
+            }
+        }
+        let end = self.text.len();
+        Span::new(self.text, Lexeme::End, self.scanner.next().line, end, end)
     }
 
     /// Passes so many tokens.
@@ -95,25 +117,23 @@ impl Spans {
         source: Source<'_>,
         extent: Extent,
     ) -> Result<Self, AllocError> {
-        let mut scanner = Scanner::new(source);
-        scanner.pass(extent.first);
+        let mut reader = SpanReader::new(source);
+        reader.pass(extent.first);
         let mut spans = Spans::new(alloc);
-        spans.refill(&mut scanner, extent)?;
+        spans.refill(&mut reader, extent)?;
         Ok(spans)
     }
 
     /// Takes the next tokens in the place of those that were there.
     pub(crate) fn refill(
         &mut self,
-        scanner: &mut Scanner<'_>,
+        reader: &mut SpanReader<'_>,
         extent: Extent,
     ) -> Result<(), AllocError> {
         self.first = extent.first;
         self.all.clear();
         for _ in extent.first..extent.end {
-            let Some(span) = scanner.next() else {
-                break;
-            };
+            let span = reader.next();
             self.all.push(span)?;
             if is_last(&span.lexeme) {
                 break;
@@ -186,86 +206,16 @@ pub(crate) fn place_of(spans: &Spans, token: usize) -> Place {
     }
 }
 
-// Where the next token begins, after blanks and comments; a comment without an end is one.
-fn next_start(text: &[u8], from: usize) -> usize {
-    let mut start = after_blanks(text, from);
-    for _ in from..text.len() {
-        let Some(end) = comment_end(text, start) else {
-            break;
-        };
-        start = after_blanks(text, end);
-    }
-    start
-}
-
-/// The place after the blanks at this place.
-pub(crate) fn after_blanks(text: &[u8], from: usize) -> usize {
-    for index in from..text.len() {
-        if !matches!(text[index], b' ' | b'\t' | b'\n') {
-            return index;
-        }
-    }
-    text.len()
-}
-
-/// The place after the comment that begins at this place, if one begins there and ends.
-pub(crate) fn comment_end(text: &[u8], start: usize) -> Option<usize> {
-    if pair_at(text, start) != Some((b'/', b'*')) {
-        return None;
-    }
-    for index in start.saturating_add(2)..text.len() {
-        if text[index] == b'*' && pair_at(text, index) == Some((b'*', b'/')) {
-            return Some(index.saturating_add(2));
-        }
-    }
-    None
-}
-
-fn pair_at(text: &[u8], index: usize) -> Option<(u8, u8)> {
-    Some((*text.get(index)?, *text.get(index.checked_add(1)?)?))
-}
-
-// How many bytes a token has that stands at the beginning of a text.
-fn length(lexeme: Lexeme, text: &[u8]) -> usize {
-    match lexeme {
-        Lexeme::Name(_) => name_length(text),
-        Lexeme::Keyword(keyword) => keyword_length(keyword),
-        Lexeme::Number(_) => number_length(text),
-        Lexeme::Character(_) | Lexeme::String => quoted(text),
-        Lexeme::Operator(op) => operator_length(op),
-        Lexeme::Assign(None) => 1,
-        Lexeme::Assign(Some(op)) => operator_length(op).saturating_add(1),
-        Lexeme::Increment | Lexeme::Decrement => 2,
-        Lexeme::Bad(letters) => bad_length(letters, text),
-        Lexeme::End => 0,
-        _ => 1,
-    }
-}
-
-fn keyword_length(keyword: Keyword) -> usize {
-    match keyword {
-        Keyword::If => 2,
-        Keyword::Auto | Keyword::Case | Keyword::Else | Keyword::Goto => 4,
-        Keyword::Extrn | Keyword::While | Keyword::Break => 5,
-        Keyword::Switch | Keyword::Return => 6,
-        Keyword::Default => 7,
-    }
-}
-
-fn operator_length(op: BinOp) -> usize {
-    match op {
-        BinOp::Eq | BinOp::Ne | BinOp::Le | BinOp::Ge | BinOp::Shl | BinOp::Shr => 2,
-        _ => 1,
-    }
-}
-
-fn bad_length(letters: Letters, text: &[u8]) -> usize {
-    match (letters, text.first()) {
+// How many bytes of a token are marked that has so many. Of a wrong one it may be a part.
+fn marked(lexeme: &Lexeme, text: &[u8], len: usize) -> usize {
+    let Lexeme::Bad(letters) = lexeme else {
+        return len;
+    };
+    match (*letters, text.first()) {
         (Letters::OpenComment, _) => 2,
-        (Letters::LongName, _) => name_length(text),
-        (Letters::Constant, Some(byte)) if byte.is_ascii_digit() => number_length(text),
+        (Letters::Constant, Some(b'\'' | b'"')) => 1,
         (Letters::Character, Some(0x80..)) => letter_length(text),
-        _ => 1,
+        _ => len,
     }
 }
 
@@ -277,31 +227,4 @@ pub(crate) fn letter_length(text: &[u8]) -> usize {
         }
     }
     text.len().min(4).max(1)
-}
-
-fn number_length(text: &[u8]) -> usize {
-    let other = text.iter().position(|byte| !byte.is_ascii_digit());
-    other.unwrap_or(text.len())
-}
-
-fn name_length(text: &[u8]) -> usize {
-    let other = text.iter().position(|byte| !is_name_byte(*byte));
-    other.unwrap_or(text.len())
-}
-
-// The bytes of a text in quotes, with both quotes.
-fn quoted(text: &[u8]) -> usize {
-    let quote = text.first().copied().unwrap_or(b'"');
-    let mut is_escaped = false;
-    for index in 1..text.len() {
-        let byte = text[index];
-        if is_escaped {
-            is_escaped = false;
-        } else if byte == quote {
-            return index + 1;
-        } else {
-            is_escaped = byte == b'*';
-        }
-    }
-    text.len()
 }

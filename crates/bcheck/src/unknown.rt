@@ -56,7 +56,8 @@ impl Unknown {
     }
 }
 
-/// A name that nothing defines. Of one that a file of the folder `lib` defines it is which file.
+/// A name that nothing defines. Of one that a file of the folder `lib` defines, in these letters or under another name
+/// than C's, it is which file.
 #[derive(Clone, Copy)]
 pub(crate) enum Undefined {
     Near,
@@ -65,38 +66,84 @@ pub(crate) enum Undefined {
     InNumbers,
     InPrint,
     InStrings,
+    InTest,
     InVectors,
+    LikeInput,
+    LikeNumbers,
+    LikePrint,
+    LikeStrings,
+    LikeVectors,
     Other,
 }
 
 /// What the files of the folder `lib` define.
-const IN_LIBRARY: [(&str, Undefined); 26] = [
+const IN_LIBRARY: [(&str, Undefined); 47] = [
     ("abs", Undefined::InNumbers),
     ("assert", Undefined::InPrint),
     ("compare", Undefined::InStrings),
     ("concat", Undefined::InStrings),
     ("copy", Undefined::InStrings),
+    ("dump", Undefined::InPrint),
+    ("fill", Undefined::InVectors),
     ("flush", Undefined::InPrint),
     ("getline", Undefined::InInput),
+    ("getnum", Undefined::InInput),
     ("getstr", Undefined::InInput),
     ("getvec", Undefined::InVectors),
     ("givevec", Undefined::InVectors),
     ("index", Undefined::InStrings),
+    ("isalpha", Undefined::InStrings),
+    ("isdigit", Undefined::InStrings),
     ("length", Undefined::InStrings),
+    ("lower", Undefined::InStrings),
     ("max", Undefined::InNumbers),
     ("min", Undefined::InNumbers),
     ("number", Undefined::InNumbers),
     ("printf", Undefined::InPrint),
+    ("prsize", Undefined::InPrint),
+    ("prvalue", Undefined::InPrint),
     ("putnumb", Undefined::InPrint),
     ("putoct", Undefined::InPrint),
     ("putstr", Undefined::InPrint),
+    ("putuns", Undefined::InPrint),
     ("rand", Undefined::InNumbers),
+    ("random", Undefined::InNumbers),
     ("randseed", Undefined::InNumbers),
     ("rlsevec", Undefined::InVectors),
     ("sort", Undefined::InVectors),
     ("sortby", Undefined::InVectors),
+    ("test", Undefined::InTest),
+    ("testbad", Undefined::InTest),
+    ("testnums", Undefined::InTest),
+    ("testok", Undefined::InTest),
+    ("testput", Undefined::InTest),
+    ("testquot", Undefined::InTest),
+    ("tests", Undefined::InTest),
+    ("testsay", Undefined::InTest),
+    ("teststr", Undefined::InTest),
+    ("testvec", Undefined::InTest),
+    ("upper", Undefined::InStrings),
     ("vecleft", Undefined::InVectors),
     ("vecnext", Undefined::InVectors),
+];
+
+/// What C names otherwise than the files of the folder `lib`.
+const IN_C: [(&str, &str, Undefined); 15] = [
+    ("atoi", "number", Undefined::LikeNumbers),
+    ("fgets", "getline", Undefined::LikeInput),
+    ("gets", "getstr", Undefined::LikeInput),
+    ("malloc", "getvec", Undefined::LikeVectors),
+    ("memset", "fill", Undefined::LikeVectors),
+    ("puts", "putstr", Undefined::LikePrint),
+    ("qsort", "sortby", Undefined::LikeVectors),
+    ("scanf", "getnum", Undefined::LikeInput),
+    ("strcat", "concat", Undefined::LikeStrings),
+    ("strcmp", "compare", Undefined::LikeStrings),
+    ("strcpy", "copy", Undefined::LikeStrings),
+    ("strlen", "length", Undefined::LikeStrings),
+    ("strstr", "index", Undefined::LikeStrings),
+    ("tolower", "lower", Undefined::LikeStrings),
+    ("toupper", "upper", Undefined::LikeStrings),
 ];
 
 impl Undefined {
@@ -108,11 +155,17 @@ impl Undefined {
         match self {
             Undefined::Near => ("nothing defines @: did you mean #?", "write #, or define @"),
             Undefined::Type => ("there are no types: the name before @ is defined", "@; defines @"),
-            Undefined::InInput => ("nothing defines @", "lib/input.b has it: b go FILE --with lib/input.b"),
-            Undefined::InNumbers => ("nothing defines @", "lib/numbers.b has it: b go FILE --with lib/numbers.b"),
-            Undefined::InPrint => ("nothing defines @", "lib/print.b has it: b go FILE --with lib/print.b"),
-            Undefined::InStrings => ("nothing defines @", "lib/strings.b has it: b go FILE --with lib/strings.b"),
-            Undefined::InVectors => ("nothing defines @", "lib/vectors.b has it: b go FILE --with lib/vectors.b"),
+            Undefined::InInput => ("nothing defines @", "lib/input.b has it: b go FILE --with input"),
+            Undefined::InNumbers => ("nothing defines @", "lib/numbers.b has it: b go FILE --with numbers"),
+            Undefined::InPrint => ("nothing defines @", "lib/print.b has it: b go FILE --with print"),
+            Undefined::InStrings => ("nothing defines @", "lib/strings.b has it: b go FILE --with strings"),
+            Undefined::InTest => ("nothing defines @", "lib/test.b has it: b go FILE --with test"),
+            Undefined::InVectors => ("nothing defines @", "lib/vectors.b has it: b go FILE --with vectors"),
+            Undefined::LikeInput => ("nothing defines @: here it is #", "lib/input.b has #: b go FILE --with input"),
+            Undefined::LikeNumbers => ("nothing defines @: here it is #", "lib/numbers.b has #: b go FILE --with numbers"),
+            Undefined::LikePrint => ("nothing defines @: here it is #", "lib/print.b has #: b go FILE --with print"),
+            Undefined::LikeStrings => ("nothing defines @: here it is #", "lib/strings.b has #: b go FILE --with strings"),
+            Undefined::LikeVectors => ("nothing defines @: here it is #", "lib/vectors.b has #: b go FILE --with vectors"),
             Undefined::Other => ("nothing defines @", "define it, or take one of the six library calls"),
         }
     }
@@ -210,13 +263,13 @@ fn undefined_at(
     ensures { matter_code result.matter ≡ codes "load 3" }
 {
     let defined = find_definitions(source, &name);
-    let other = like(spans, Extent { first: 0, end: 0 }, &name, &defined);
+    let alike = like(spans, Extent { first: 0, end: 0 }, &name, &defined);
     let is_typed = Kind::Type.fits(&lexeme_at(spans, extent.first));
-    let what = match in_library(&name) {
-        _ if is_typed && !is_function(spans, extent) => Undefined::Type,
-        Some(file) => file,
-        None if other.is_some() => Undefined::Near,
-        None => Undefined::Other,
+    let (what, other) = match in_library(&name) {
+        _ if is_typed && !is_function(spans, extent) => (Undefined::Type, None),
+        Some(found) => found,
+        None if alike.is_some() => (Undefined::Near, alike),
+        None => (Undefined::Other, None),
     };
     Finding {
         matter: Matter::NotDefined(what),
@@ -227,11 +280,20 @@ fn undefined_at(
     }
 }
 
-// Of a name that a file of the folder `lib` defines, which file.
-fn in_library(name: &Name) -> Option<Undefined> {
+// Of a name that a file of the folder `lib` defines, which file; of one that C has, the name that it has there, too.
+fn in_library(name: &Name) -> Option<(Undefined, Option<Name>)> {
     for (word, file) in &IN_LIBRARY {
         if name.as_str() == *word {
-            return Some(*file);
+            return Some((*file, None));
+        }
+    }
+    in_c(name)
+}
+
+fn in_c(name: &Name) -> Option<(Undefined, Option<Name>)> {
+    for (word, here, file) in &IN_C {
+        if name.as_str() == *word {
+            return Some((*file, Name::new(here)));
         }
     }
     None

@@ -1,6 +1,5 @@
 //! What the compiler and the loader say of a source.
 ghost use Rattle.std.specs.Prelude.{◌≡◌, ◌≢◌, IfOk, List, None, ℕ};
-ghost use Rattle.blang.specs.Compiles.{line_of};
 ghost use Rattle.blang.specs.Layout.{load_fault};
 ghost use Rattle.blang.specs.declared.status.TheConstants.{FAULT};
 ghost use Rattle.bword.specs.declared.edition.Edition.{Edition};
@@ -13,9 +12,8 @@ use crate::spans::Source;
 use blang::status::{self, Status};
 use blang::{Definition, Diagnostic, LoadFault};
 use bmach::load_slice;
-use bparse::write_diagnostic;
-use btools::load_line;
-use bword::{EndFault, MemOut};
+use btools::{diagnostic_line, load_line};
+use bword::MemOut;
 use std::alloc::{AllocError, Global};
 
 /// What is said of a source.
@@ -89,19 +87,7 @@ fn verdict_of(alloc: Global, compiled: &Compiled) -> Result<Verdict, AllocError>
 {
     match &compiled.code {
         Ok(definitions) => judge_code(alloc, definitions),
-        Err(fault) => Ok(Verdict::Faulty(line_of(alloc, fault)?, *fault)),
-    }
-}
-
-// The line of the compiler of a fault.
-fn line_of(alloc: Global, fault: &Diagnostic) -> Result<MemOut, AllocError>
-    ensures { IfOk result (λ line. line.bytes ≡ line_of fault.now) }
-{
-    let mut line = MemOut::new(alloc);
-    match write_diagnostic(fault, &mut line) {
-        Ok(()) => Ok(line),
-        Err(EndFault::Memory) => Err(AllocError),
-        Err(EndFault::Device) => unreachable!(),
+        Err(fault) => Ok(Verdict::Faulty(diagnostic_line(alloc, fault)?, *fault)),
     }
 }
 

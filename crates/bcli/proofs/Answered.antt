@@ -9,7 +9,6 @@ use Rattle.blang.specs.Reports.{HasNotRun, RunEnds}
 use Rattle.bword.specs.declared.edition.Edition.{Edition}
 use Rattle.brun.specs.OneRun.{unread}
 use Rattle.std.specs.Borrow.{Bor}
-use Rattle.std.specs.Prelude.{Bool, MatchBool}
 use Rattle.blang.specs.Compiles.{CompileHeadline, Compiles}
 use Rattle.bcommand.specs.CommandLine.{Question, Source, ask, compile, asked_of, go, question_of}
 use Rattle.bcommand.specs.declared.job.Job.{Job}
@@ -24,7 +23,7 @@ use Rattle.bshow.specs.Shows.{Shows}
 use Rattle.bshow.specs.Shows.{Asked as PageAsked}
 use Rattle.bshow.specs.declared.showing.PageRows.{PageRows as Paged}
 use Rattle.std.specs.Prelude.{◌==◌, None, Option, Some, option_map}
-use Rattle.bcli.specs.Serves.{ShowsRun, CompilesJoined, NamesLib, NamesLibOf, compiling, files_read, whole, Answers, AnswersPlaced, Does, HasNoFile, IsHelp, NamesFile, SaysNothing, RefusesWords}
+use Rattle.bcli.specs.Serves.{ShowsRun, CompilesJoined, NamesLib, NamesLibOf, compiling, files_read, whole, Answers, Does, HasNoFile, IsHelp, NamesFile, SaysNothing, RefusesWords}
 use Rattle.bcli.specs.declared.shelf.FileFault.{FileFault}
 use Rattle.bcli.specs.declared.shelf.FileFault.TheVariants as file_fault
 use Rattle.bcli.specs.Shelves.{Holdings}
@@ -74,14 +73,13 @@ gone shelf source steps it given first following ends status h same is goes head
 -- an answer of a source that was read
 pub asked_of_source : (shelf : Holdings) (source : Source) (it : Whole) (files : Files) (given : List ℕ) (question : Question) (ends : RunEnds) (status : ℕ)
     → HasReadSource shelf source it → given ≡ it.text.items → files.first ≡ file_shown it.first → files.rest ≡ it.libs.files
-    → AnswersPlaced source.edition files given question ends status ⊎ SaysNothing ends status MEMORY → Does shelf (ask source question) ends status
-asked_of_source shelf source it files given question ends status h same first rest (inr nothing) = inl (inr nothing)
-asked_of_source shelf source it files given question ends status h same first rest (inl answers) =
+    → Answers source.edition files given question ends status → Does shelf (ask source question) ends status
+asked_of_source shelf source it files given question ends status h same first rest answers =
     let files_are : files ≡ files_read h.reads = cong₂ (first ∙ h.first) (rest ∙ ap (λ (f : Followed). f.files) h.libs) in
     inr (inr (
       h.reads,
-      subst (λ (t : List ℕ). AnswersPlaced source.edition (files_read h.reads) t question ends status) (same ∙ h.text)
-          (subst (λ (f : Files). AnswersPlaced source.edition f given question ends status) files_are answers),
+      subst (λ (t : List ℕ). Answers source.edition (files_read h.reads) t question ends status) (same ∙ h.text)
+          (subst (λ (f : Files). Answers source.edition f given question ends status) files_are answers),
     ))
   where
     cong₂ : {f g : Files} → f.first ≡ g.first → f.rest ≡ g.rest → f ≡ g
@@ -127,13 +125,6 @@ not_compiled shelf edition (lib ∷ libs) ends status some told = inl told
 pub shown_some : (libs : List (Bor Text)) → (length libs == 0) ≡ false → map (λ lib. lib.now) libs ≡ [] → ⊥
 shown_some [] some e = cc
 shown_some (lib ∷ libs) some e = cc
-
--- a choice by a test whose answer is known
-pub chosen : (P Q : Type 0) (test known : Bool) → known ≡ test → known ≡ true → P → MatchBool test P Q
-chosen P Q test known same is p = let e : test ≡ true = sym same ∙ is in rw e p
-
-pub not_chosen : (P Q : Type 0) (test known : Bool) → known ≡ test → known ≡ false → Q → MatchBool test P Q
-not_chosen P Q test known same is q = let e : test ≡ false = sym same ∙ is in rw e q
 
 -- what is asked of a page
 abbrev page_asked : ℕ → Paged → Files → List ℕ → PageAsked

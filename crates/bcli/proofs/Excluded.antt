@@ -23,10 +23,9 @@ use Rattle.std.proofs.lemmas.List.Elements.{All-cons, All-head, All-nil, All-tai
 use Rattle.blang.specs.Compiles.{CompileAnswers, Compilation, CompilesTo, HasOutcome, Tells}
 use Rattle.blang.specs.Cut.{tokens_from}
 use Rattle.bsources.specs.Files.{Files, NamedText, file_in, file_of, following}
-use Rattle.bcli.proofs.FaultTold.{answered_alone}
-use Rattle.bcli.proofs.FaultLies.{no_place, place_located, place_told}
+use Rattle.bcli.proofs.FaultLies.{fault_told}
 use Rattle.bcli.proofs.Joined.{failed_joined, joined_answers}
-use Rattle.bcli.specs.Serves.{CompilesJoined, NamesLib, Reads, ReadsLibs, compiling, files_read, whole, Answers, AnswersPlaced, Does, HasNoFile, IsHelp, NamesFile, RefusesWords, SaysNothing, Serves, did, refused, no_memory}
+use Rattle.bcli.specs.Serves.{CompilesJoined, NamesLib, Reads, ReadsLibs, compiling, files_read, whole, Answers, Does, HasNoFile, IsHelp, NamesFile, RefusesWords, SaysNothing, Serves, did, refused, no_memory}
 use Rattle.bcli.specs.Excluded.{AreWrong, Excluded, FileIsRead, HoldsOne, NothingFails, alone, files_alone, with_lib}
 
 fault_is_told : (f : EndFault) → 0 ≡ status_of f → ⊥
@@ -242,13 +241,13 @@ module _ (shelf : Holdings) where
 
   asked_joined : (file lib a b : List ℕ) (edition : Edition) (question : Question) (ends : RunEnds) (status : ℕ) → HoldsOne shelf file a → HoldsOne shelf lib b
       → Does shelf (ask (with_lib file lib edition) question) ends status
-      → AnswersPlaced edition (record { first = file_of file a; rest = file_of lib b ∷ [] }) (a ++ 10 ∷ b) question ends status ⊎ SaysNothing ends status 134
+      → Answers edition (record { first = file_of file a; rest = file_of lib b ∷ [] }) (a ++ 10 ∷ b) question ends status ⊎ SaysNothing ends status 134
   asked_joined file lib a b edition question ends status first second (inl (inl told)) = absurd (first.there told.0)
   asked_joined file lib a b edition question ends status first second (inl (inr memory)) = inr memory
   asked_joined file lib a b edition question ends status first second (inr (inl told)) = inr (lib_silent (lib ∷ []) ends status (only_there lib second.there) told.2)
   asked_joined file lib a b edition question ends status first second (inr (inr answers)) =
-      inl (subst (λ (f : Files). AnswersPlaced edition f (a ++ 10 ∷ b) question ends status) (files_of_two file lib a b edition first second answers.0)
-      (subst (λ t. AnswersPlaced edition (files_read answers.0) t question ends status) (two_are file lib a b edition first second answers.0) answers.1))
+      inl (subst (λ (f : Files). Answers edition f (a ++ 10 ∷ b) question ends status) (files_of_two file lib a b edition first second answers.0)
+      (subst (λ t. Answers edition (files_read answers.0) t question ends status) (two_are file lib a b edition first second answers.0) answers.1))
 
   compiled_joined : (lib b input : List ℕ) (edition : Edition) (ends : RunEnds) (status : ℕ) → HoldsOne shelf lib b → Tells ends.input input → NothingFails edition (10 ∷ b) ends status
       → Does shelf (compile edition (lib ∷ [])) ends status
@@ -280,9 +279,7 @@ module _ (shelf : Holdings) where
     file_later = λ source ends status none told. none told.0 told.1;
     joined_alone = joined_alone;
     asked_joined = asked_joined;
-    place_told = place_told;
-    place_located = place_located;
-    no_place = no_place;
+    fault_told = fault_told;
     compiled_joined = compiled_joined;
     failed_joined = λ edition rest ends it counted none. failed_joined edition rest ends 133 it counted none refl;
     both_done = λ clash ends does. not_done _ 135 ends.line ends.line_after (λ e. omega (arith, e)) does.1;
@@ -337,10 +334,8 @@ module _ (file : MemFile) where
   ask_alone edition question ends status (inl told) = inr (named ends status told)
   ask_alone edition question ends status (inr (inl told)) = absurd (no_lib [] ends status refl told.2)
   ask_alone edition question ends status (inr (inr answers)) =
-      let it : AnswersPlaced edition (files_alone file) file.text.now question ends status =
-      subst (λ (f : Files). AnswersPlaced edition f file.text.now question ends status) (files_of_alone edition answers.0)
-      (subst (λ t. AnswersPlaced edition (files_read answers.0) t question ends status) (whole_alone edition answers.0) answers.1) in
-      inl (answered_alone edition (files_alone file) file.text.now question ends status it it.place_is)
+      inl (subst (λ (f : Files). Answers edition f file.text.now question ends status) (files_of_alone edition answers.0)
+      (subst (λ t. Answers edition (files_read answers.0) t question ends status) (whole_alone edition answers.0) answers.1))
 
   one_go : (input : Unread) (out line : Kept) (status : ℕ) → file.text.now ≡ codes "main(){putchar('a');}" → Does (holding file) (go (alone file editions.One) 100) (one_run_ends input out line) status → (status ≡ 134) ⊎ ((status ≡ 0) × (out.bytes ≡ codes "a") × (line.bytes ≡ []))
   one_go input out line status one (inl none) = inl (no_file _ status none).status_is

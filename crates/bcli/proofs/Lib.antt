@@ -3,6 +3,5 @@ mod Excluded
 mod Joined
 mod ReadLibs
 mod FaultLies
-mod FaultTold
 mod Processes
 mod Showing

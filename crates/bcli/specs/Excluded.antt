@@ -10,21 +10,22 @@ use Rattle.bword.specs.declared.edition.Edition.{Edition}
 use Rattle.bword.specs.declared.edition.Edition.TheVariants as editions
 use Rattle.bword.specs.declared.ends.EndFault.TheVariants as end_fault
 use Rattle.blang.specs.Compiles.{CompileAnswers, CompilesTo, Compilation, EndRefused, HasOutcome, IsUndisturbed, Tells}
-use Rattle.blang.specs.Compiles.{fault_text}
 use Rattle.blang.specs.Cut.{tokens_from}
+use Rattle.blang.specs.declared.token.Diagnostic.{Diagnostic}
 use Rattle.blang.specs.declared.status.TheConstants.{DONE, DEVICE, FAULT, MEMORY, WRONG_COMMAND}
 use Rattle.blang.specs.Headline.{GoesOff}
 use Rattle.blang.specs.Reports.{HasNotRun, Reported, RunEnds}
 use Rattle.brun.specs.OneRun.{nothing_written, one_run_ends, unread}
 use Rattle.brun.specs.Runs.{RunsText}
 use Rattle.bcommand.specs.CommandLine.{Question, Source, ask, asked, command_line, compile, contradiction, go, run}
-use Rattle.bcommand.specs.CommandLine.{locate}
-use Rattle.bsources.specs.Files.{Files, Line, file_of}
+use Rattle.bcommand.specs.CommandLine.{count, locate, show, trace}
+use Rattle.bsources.specs.Files.{Files, file_of}
 use Rattle.bsources.specs.JoinedEnds.{joined_in}
+use Rattle.btools.specs.FaultPlaces.{fault_lines}
+use Rattle.btools.specs.Programs.{HasFault}
 use Rattle.bcommand.specs.declared.job.Clash.{Clash}
 use Rattle.bcli.specs.declared.shelf.MemFile.{MemFile}
-use Rattle.bcli.specs.FaultPlaces.{place_beyond, place_line, tells_run}
-use Rattle.bcli.specs.Serves.{Answers, AnswersPlaced, CompilesJoined, Does, HasNoFile, IsHelp, NamesFile, NamesLib, NamesLibOf}
+use Rattle.bcli.specs.Serves.{Answers, CompilesJoined, Does, HasNoFile, IsHelp, NamesFile, NamesLib, NamesLibOf}
 use Rattle.bcli.specs.Serves.{SaysNothing, Serves, compiling, unread_line}
 use Rattle.bcli.specs.Blocks.{HandsOn, Held, TakesPiece, held}
 use Rattle.bcli.specs.Processes.{KnownStreams, PerformsInOrder, ServesProcess}
@@ -54,18 +55,13 @@ pub record NothingFails (edition : Edition) (rest : List ℕ) (ends : RunEnds) (
   pub counted : AreCounted rest ends
   pub undisturbed : IsUndisturbed (compiling edition ends.input ends.input_after ends status)
 
--- The source comes to a fault or to none, and its place is this one, where it isn't in the first file.
-pub record FaultLiesAt (edition : Edition) (files : Files) (text : List ℕ) (place : Option Line) : Type 0 where
-  pub outcome : Compilation
-  pub goes : CompilesTo [] (tokens_from edition 1 text) outcome
-  pub place_is : place_beyond files outcome.stop ≡ place
-
--- What is asked of a source was answered with the status of a fault, and this line was written after it.
-pub record Answered (edition : Edition) (files : Files) (text : List ℕ) (question : Question) (ends : RunEnds)
-    (line : List ℕ) : Type 0 where
-  pub mid : Outgoing
-  pub answers : Answers edition files text question (record ends { line_after = mid }) FAULT
-  pub more : Writes mid line ends.line_after
+-- the questions that tell of a run, but for a picture
+abbrev pub tells_run : Question → Bool
+tells_run (trace steps shown function) = true
+tells_run (locate steps) = true
+tells_run (count steps for_editor) = true
+tells_run (show steps shown input) = true
+tells_run question = false
 
 -- of the files on a shelf
 pub record Excluded (shelf : Holdings) : Type 0 where
@@ -114,21 +110,13 @@ pub record Excluded (shelf : Holdings) : Type 0 where
   pub asked_joined : (file lib a b : List ℕ) (edition : Edition) (question : Question) (ends : RunEnds) (status : ℕ)
       → HoldsOne shelf file a → HoldsOne shelf lib b
       → Does shelf (ask (with_lib file lib edition) question) ends status
-      → AnswersPlaced edition (record { first = file_of file a; rest = file_of lib b ∷ [] }) (a ++ 10 ∷ b) question ends
+      → Answers edition (record { first = file_of file a; rest = file_of lib b ∷ [] }) (a ++ 10 ∷ b) question ends
       status ⊎ SaysNothing ends status MEMORY
-  -- a fault in a file after the first one, of whose place a command that tells of a run writes no line, or another one
-  pub place_told : (edition : Edition) (files : Files) (text : List ℕ) (question : Question) (ends : RunEnds) (at : Line)
-      → FaultLiesAt edition files text (Some at) → tells_run question ≡ true
-      → AnswersPlaced edition files text question ends FAULT
-      → Answered edition files text question ends (place_line at)
-  -- other lines than those two by `go --where`
-  pub place_located : (edition : Edition) (files : Files) (text : List ℕ) (steps : ℕ) (ends : RunEnds) (at : Line)
-      → (it : FaultLiesAt edition files text (Some at)) → AnswersPlaced edition files text (locate steps) ends FAULT
-      → Writes ends.line (fault_text it.outcome.stop ++ place_line at) ends.line_after
-  -- a place that is told of a source without a fault, or with one in its first file
-  pub no_place : (edition : Edition) (files : Files) (text : List ℕ) (question : Question) (ends : RunEnds) (status : ℕ)
-      → FaultLiesAt edition files text None → AnswersPlaced edition files text question ends status
-      → Answers edition files text question ends status
+  -- by a command that tells of a run other lines of a fault than its own and, if it lies in a file after the first one,
+  -- that of its place
+  pub fault_told : (edition : Edition) (files : Files) (text : List ℕ) (question : Question) (ends : RunEnds)
+      (d : Diagnostic) → HasFault edition text d → tells_run question ≡ true → Answers edition files text question ends FAULT
+      → Writes ends.line (fault_lines files d) ends.line_after
   -- the input and a file that are compiled as other bytes, or that get 133 or 134 where nothing failed
   pub compiled_joined : (lib b input : List ℕ) (edition : Edition) (ends : RunEnds) (status : ℕ) → HoldsOne shelf lib b
       → Tells ends.input input → NothingFails edition (10 ∷ b) ends status

@@ -1,7 +1,5 @@
 pub mod Blocks
 pub mod Excluded
-pub mod FaultPlaces
-pub mod PlaceRows
 pub mod Processes
 pub mod Reading
 pub mod Serves

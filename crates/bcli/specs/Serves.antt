@@ -38,7 +38,6 @@ use Rattle.bcommand.specs.CommandLine.{compile, run, go, migrate, ask, contradic
 use Rattle.bcommand.specs.CommandLine.{list, map, draw, check, trace, locate, count, show, format}
 use Rattle.bcommand.specs.declared.job.Rows.{Rows}
 use Rattle.bcommand.specs.declared.job.Rows.TheVariants as which
-use Rattle.bcli.specs.FaultPlaces.{IsPlaceText, TellsMore, if_fault}
 use Rattle.bcli.specs.Shelves.{Holdings}
 
 -- the message for words that aren't UTF-8
@@ -200,16 +199,6 @@ Answers edition files text (format is_check) ends status = (ends.input_after ≡
   status = status;
 })
 
--- What is asked of a source is answered with the status `told`, and then the file of its fault is told, where it is.
-pub record AnswersPlaced (edition : Edition) (files : Files) (text : List ℕ) (question : Question) (ends : RunEnds)
-    (status : ℕ) : Type 0 where
-  pub mid : Outgoing
-  pub told : ℕ
-  pub place : Option (List ℕ)
-  pub place_is : IsPlaceText edition files text question place
-  pub answers : Answers edition files text question (record ends { line_after = mid }) told
-  pub tells : TellsMore (if_fault place told) told mid ends.line_after status
-
 -- what was asked for is done, for texts that the shelf holds under the names of the files
 abbrev pub Does : Holdings → Asked → RunEnds → ℕ → Type 0
 Does shelf (compile edition libs) ends status = CompilesInput shelf edition libs ends status
@@ -224,7 +213,7 @@ Does shelf migrate ends status =
     Migrates (rewriting ends.input ends.input_after ends.out ends.out_after) ends.line ends.line_after status
 Does shelf (ask source question) ends status = NamesFile (shelf.lacks source.file) source.file ends status
     ⊎ NamesLibOf shelf source ends status
-    ⊎ ((r : Reads shelf source) × AnswersPlaced source.edition (files_read r) (whole r) question ends status)
+    ⊎ ((r : Reads shelf source) × Answers source.edition (files_read r) (whole r) question ends status)
 Does shelf (contradiction clash) ends status =
     HasNotRun ends × Reported (clash_line clash) WRONG_COMMAND ends.line ends.line_after status
 

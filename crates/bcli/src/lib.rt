@@ -2,7 +2,6 @@
 #![tactic(auto)]
 
 mod block;
-mod fault_place;
 mod in_order;
 mod serving;
 mod shelf;

@@ -7,13 +7,12 @@ ghost use Rattle.blang.specs.Reports.{Reported, run_ends};
 ghost use Rattle.bcommand.specs.CommandLine.{ask, asked, asked_of, compile, go, question_of, run, source_shown};
 ghost use Rattle.bcli.specs.Excluded.{Excluded, FileIsRead};
 ghost use Rattle.bshow.specs.Shows.{asked_of as page_of};
-ghost use Rattle.bsources.specs.Files.{files_shown};
-ghost use Rattle.bcli.specs.Serves.{Answers, AnswersPlaced, CompilesJoined, Does, NamesFile, RefusesWords, SaysNothing, Serves, ShowsRun, form_of, page_rows, style_of, traced_rows, no_file_line, unread_line};
+ghost use Rattle.bsources.specs.Files.{file_shown, files_shown};
+ghost use Rattle.bcli.specs.Serves.{Answers, CompilesJoined, Does, NamesFile, RefusesWords, SaysNothing, Serves, ShowsRun, form_of, page_rows, style_of, traced_rows, no_file_line, unread_line};
 ghost use Rattle.bcli.specs.Shelves.{opened};
 
-use crate::fault_place::place_text;
 use crate::shelf::{FileFault, MemFile, Shelf, SystemFiles};
-use crate::sources::{Unread, read_libs, read_source};
+use crate::sources::{Unread, Whole, read_libs, read_source};
 use bcheck::{FindingForm, Request, check};
 use bcommand::{Display, Job, Question, Rows, Source, UNREAD, clash_text, job_of, parse};
 use bcount::{Counting, Style, count};
@@ -24,7 +23,7 @@ use blist::{list, map};
 use bparse::compile_edition;
 use brun::{go_edition, migrate, run_text};
 use bshow::show;
-use bsources::{JoinedIn, SourceFiles};
+use bsources::{Following, JoinedIn, SourceFile, SourceFiles};
 use btools::tell;
 use btrace::{TraceRequest, locate, trace};
 use bword::{ByteIn, ByteOut, Edition, MemIn};
@@ -249,59 +248,43 @@ fn ask_file<S: Shelf, I: ByteIn, O: ByteOut, D: ByteOut>(
     ensures diag_lender { D.lender diag.new ≡ D.lender diag.old }
 {
     match read_source(alloc, shelf, source) {
-        Ok(whole) => {
-            let files = SourceFiles {
-                first: whole.first,
-                rest: whole.libs.files(),
-            };
-            answer_placed(
-                alloc,
-                source.edition,
-                files,
-                whole.text.as_slice(),
-                question,
-                input,
-                out,
-                diag,
-            )
-        }
+        Ok(Whole { text, first, libs }) => ask_read(
+            alloc,
+            source.edition,
+            first,
+            &libs,
+            text.as_slice(),
+            question,
+            input,
+            out,
+            diag,
+        ),
         Err(Unread::File(fault)) => name_file(alloc, source.file, fault, diag),
         Err(Unread::Lib(lib)) => name_file(alloc, lib.name, lib.fault, diag),
     }
 }
 
-// Answers what is asked of a source of these files and of this text, and then tells the file of its fault. Memory for
-// that is taken before anything is done.
-fn answer_placed<I: ByteIn, O: ByteOut, D: ByteOut>(
+// Answers what is asked of a source that was read.
+fn ask_read<I: ByteIn, O: ByteOut, D: ByteOut>(
     alloc: Global,
     edition: Edition,
-    files: SourceFiles<'_>,
+    first: SourceFile<'_>,
+    libs: &Following<'_>,
     text: &[u8],
     question: Question<'_>,
     input: &mut I,
     out: &mut O,
     diag: &mut D,
 ) -> Status
-    ensures answers { AnswersPlaced edition (files_shown files.entry) text.now (question_of question.entry) (run_ends
+    ensures answers { Answers edition (record { first = file_shown first.entry; rest = libs.now.files }) text.now (question_of question.entry) (run_ends
         (I.incoming input.old) (I.incoming input.new) (O.outgoing out.old) (O.outgoing out.new)
-        (D.outgoing diag.old) (D.outgoing diag.new)) result ⊎ SaysNothing (run_ends
-        (I.incoming input.old) (I.incoming input.new) (O.outgoing out.old) (O.outgoing out.new)
-        (D.outgoing diag.old) (D.outgoing diag.new)) result MEMORY }
+        (D.outgoing diag.old) (D.outgoing diag.new)) result }
     ensures input_lender { I.lender input.new ≡ I.lender input.old }
     ensures out_lender { O.lender out.new ≡ O.lender out.old }
     ensures diag_lender { D.lender diag.new ≡ D.lender diag.old }
 {
-    let Ok(place) = place_text(alloc, edition, files, text, question) else {
-        return status::MEMORY;
-    };
-    let told = answer(alloc, edition, files, text, question, input, out, diag);
-    if told != status::FAULT {
-        return told;
-    }
-    match place {
-        Some(line) => tell(line.as_slice(), status::FAULT, diag),
-        None => told,
-    }
+    let files = SourceFiles { first, rest: libs };
+    answer(alloc, edition, files, text, question, input, out, diag)
 }
 
 // Answers what is asked of a source of these files and of this text.

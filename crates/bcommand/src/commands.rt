@@ -139,7 +139,13 @@ const WITH: ArgumentRow = ArgumentRow {
 const FILE: ArgumentRow = ArgumentRow {
     id: "FILE",
     kind: Kind::Positional(true),
-    help: "The file",
+    help: "The file; /dev/stdin is standard input",
+};
+
+const FILE_OR_INPUT: ArgumentRow = ArgumentRow {
+    id: "FILE",
+    kind: Kind::Positional(true),
+    help: "The file; - is standard input",
 };
 
 const NAME: ArgumentRow = ArgumentRow {
@@ -182,21 +188,21 @@ const COMMANDS: [CommandRow; 11] = [
         about: "Lists the code of the source in FILE, with the lines it comes from",
         usage: None,
         help: LIST_HELP,
-        arguments: &[EDITION, FILE, WITH, NAME],
+        arguments: &[EDITION, FILE_OR_INPUT, WITH, NAME],
     },
     CommandRow {
         name: "map",
         about: "Shows where each name of the source in FILE lies in memory",
         usage: None,
         help: MAP_HELP,
-        arguments: &[EDITION, FILE, WITH, SVG, MOMENT],
+        arguments: &[EDITION, FILE_OR_INPUT, WITH, SVG, MOMENT],
     },
     CommandRow {
         name: "check",
         about: "Tells what is wrong in the source in FILE, where, and how to fix it",
         usage: None,
         help: CHECK_HELP,
-        arguments: &[EDITION, FILE, WITH, JSON],
+        arguments: &[EDITION, FILE_OR_INPUT, WITH, JSON],
     },
     CommandRow {
         name: "trace",
@@ -224,7 +230,7 @@ const COMMANDS: [CommandRow; 11] = [
         about: "Lays out the source in FILE in one style",
         usage: None,
         help: FORMAT_HELP,
-        arguments: &[EDITION, FILE, CHECK],
+        arguments: &[EDITION, FILE_OR_INPUT, CHECK],
     },
 ];
 

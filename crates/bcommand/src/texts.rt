@@ -5,8 +5,8 @@ ghost use Rattle.bcommand.specs.CommandLine.{clash_line};
 
 use crate::job::Clash;
 
-/// The version of this program, and the line of the kit that it is proved with.
-pub(crate) const VERSION: &str = "1.0.0, proved with rattle-kit-13f logic dac8208d650f15bf";
+/// The version of this program, and the logic of the kits that prove it.
+pub(crate) const VERSION: &str = "1.0.0, proved with the Rattle logic dac8208d650f15bf";
 
 /// The message for a command line with a word that isn't UTF-8.
 pub const UNREAD: &str = "\
@@ -45,7 +45,7 @@ Examples:
   b go hello.b                        compiles a source and runs it
   b go --edition 2 menu.b             the same with a source of edition 2
   b go --where hello.b                tells where a trap came
-  b go --with lib/print.b sum.b       puts a second source after the first one
+  b go --with print sum.b             puts a second source after the first one
   b compile < hello.b > hello.code    writes its code text into a file
   b run hello.code                    runs the code text
   b migrate < hello.code > new.code   writes it as a code text of edition 2
@@ -67,9 +67,11 @@ and 2 for new ones. b run and b migrate have no --edition: a code text begins
 with the line B 2 if it is of edition 2.
 
 --with LIB puts the source in LIB after FILE, as often as wanted, and a newline
-before each. The source is then all of these bytes, and its lines are counted
-from the first one of FILE on. check, trace, count, show and go --where tell a
-line of LIB by its own number and the name of LIB.
+before each. LIB is input, numbers, print, strings, test or vectors, which the
+library has; or it is a path, with a slash or a point in it. The source is then
+all of these bytes, and its lines are counted from the first one of FILE on.
+check, trace, count, show and go --where tell a line of LIB by its own number
+and the name of its file.
 
 The status is 0 if a source compiles. After a run it is the exit status of the
 program. These are the other statuses, with their line on standard error:
@@ -117,7 +119,7 @@ on standard input; all LIBs are read first.
 Examples:
   b compile < hello.b > hello.code
   b compile --edition 2 < menu.b > menu.code
-  b compile --with lib/print.b < sum.b > sum.code
+  b compile --with print < sum.b > sum.code
 
 Statuses: 0 compiled, 1 a fault of the source, 133 a failed read or write,
 134 out of memory, 135 a wrong command line. b --help explains the letters.";
@@ -144,7 +146,7 @@ from the first one of FILE on.
 Examples:
   b list hello.b
   b list --edition 2 menu.b main
-  b list --with lib/print.b sum.b printf
+  b list --with print sum.b printf
 
 Statuses: 0 listed, 1 a fault of the source, 132 code that doesn't load,
 133 a failed read or write, 134 out of memory, 135 a wrong command line, or no
@@ -162,7 +164,7 @@ Examples:
   b map hello.b
   b map --svg --edition 2 menu.b > menu.svg
   b map --svg --steps 40 hello.b > hello.svg
-  b map --with lib/print.b sum.b
+  b map --with print sum.b
 
 Statuses: 0 shown, 1 a fault of the source, 132 code that doesn't load,
 133 a failed read or write, 134 out of memory, 135 a wrong command line.
@@ -187,7 +189,7 @@ Examples:
   b trace --edition 2 menu.b
   b trace --from 100 --steps 200 --function main hello.b
   b trace --last 20 hello.b
-  b trace --with lib/print.b sum.b
+  b trace --with print sum.b
 
 Statuses: 0 to 127 the program's own, 1 also a fault of the source, 130 a trap,
 131 the limit of steps, 132 code that doesn't load, 133 a failed read or write,
@@ -206,7 +208,7 @@ first line has the line in the whole, as b go has it.
 Examples:
   b check hello.b
   b check --json --edition 2 menu.b
-  b check --with lib/print.b sum.b
+  b check --with print sum.b
 
 Statuses: 0 no fault, 1 a fault of the source, 132 code that doesn't load,
 133 a failed read or write, 134 out of memory, 135 a wrong command line.
@@ -238,7 +240,7 @@ Examples:
   b go --steps 1000 hello.b
   b go --edition 2 menu.b
   b go --where hello.b
-  b go --with lib/print.b --with lib/input.b sum.b
+  b go --with print --with input sum.b
 
 Statuses: 0 to 127 the program's own, 1 also a fault of the source, 130 a trap,
 131 the limit of steps, 132 code that doesn't load, 133 a failed read or write,
@@ -256,7 +258,7 @@ the limit of steps the counts are those of the steps before it.
 Examples:
   b count hello.b
   b count --no-limit --edition 2 menu.b < numbers
-  b count --json --with lib/print.b sum.b
+  b count --json --with print sum.b
 
 Statuses: 0 to 127 the program's own, 1 also a fault of the source, 130 a trap,
 131 the limit of steps, 132 code that doesn't load, 133 a failed read or write,

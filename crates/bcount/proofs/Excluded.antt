@@ -4,21 +4,23 @@ use Rattle.std.specs.Fmt.{digits}
 use Rattle.std.specs.List.{All}
 use Rattle.std.proofs.lemmas.List.Elements.{All-head, All-tail}
 use Rattle.bsources.specs.Files.{Files}
-use Rattle.bword.specs.ByteEnds.{Incoming, Outgoing, outgoing_of}
+use Rattle.bword.specs.ByteEnds.{Incoming, outgoing_of}
 use Rattle.blang.specs.declared.code.Definition.{Definition}
 use Rattle.blang.specs.declared.run.Outcome.{Outcome}
 use Rattle.blang.specs.declared.run.Outcome.TheVariants as outcome
 use Rattle.blang.specs.declared.status.TheConstants.{DEVICE}
 use Rattle.blang.specs.Compiles.{Compilation, CompilesTo}
 use Rattle.blang.specs.Cut.{tokens_from}
-use Rattle.blang.specs.Reports.{RunEnds, RunGives}
-use Rattle.blang.specs.Machine.{machine}
+use Rattle.blang.specs.Reports.{RunEnds}
+use Rattle.blang.specs.Machine.{image_of, machine}
 use Rattle.bmach.specs.Readings.{LeftBySteps}
 use Rattle.bmach.proofs.Readings.{left_by, run_left}
 use Rattle.btools.specs.Functions.{Placed, functions_of}
 use Rattle.btools.specs.Excluded.{code_in}
 use Rattle.btools.specs.Programs.{nothing_written}
 use Rattle.btools.proofs.Unasked.{program_left, untaken}
+use Rattle.bwatch.specs.Sights.{Sights, sights_of}
+use Rattle.bwatch.specs.Watches.{Watches}
 use Rattle.bcount.specs.Counts as count
 use Rattle.bcount.specs.Counts.{AreCounts, Asked, Counts, IsOnLines, line_counts}
 use Rattle.bcount.specs.Excluded.{CountsExcluded, CountsOnly, ShowsBoth, nothing}
@@ -30,14 +32,18 @@ use Rattle.bcount.specs.declared.table.Style.TheVariants as styles
 use Rattle.bcount.specs.declared.table.TheConstants.{HEADING}
 use Rattle.bcount.specs.Tallies.{counts_of}
 
-at_limit : (steps : ℕ) (tallies : List (List ℕ)) → ((input : List ℕ) → map (counts_of (machine nothing input) steps) (functions_of nothing) ≡ tallies) → CountsOnly steps outcome.Limit tallies
-at_limit steps tallies is i j made other h =
-    h.counts [] (λ e. refl) ∙ ap (λ n. map (counts_of (machine nothing (h.taken ++ [])) n) (functions_of nothing)) (h.ends [] (λ e. refl)).0 ∙ is (h.taken ++ [])
+-- the sights of its run
+abbrev seen : (input : List ℕ) → Sights
+seen input = sights_of (image_of nothing).functions (machine nothing) input
 
-at_end : (made : ℕ) (i j : Incoming) (other : List (List ℕ)) → AreCounts (functions_of nothing) (machine nothing) 2 i j (outcome.Exit 0) made other → other ≡ (1 ∷ 1 ∷ []) ∷ []
+at_limit : (steps : ℕ) (tallies : List (List ℕ)) → ((input : List ℕ) → map (counts_of (seen input) steps) (functions_of nothing) ≡ tallies) → CountsOnly steps outcome.Limit tallies
+at_limit steps tallies is i j made other h =
+    h.told [] (λ e. refl) ∙ ap (λ n. map (counts_of (seen (h.taken ++ [])) n) (functions_of nothing)) (h.ends [] (λ e. refl)).0 ∙ is (h.taken ++ [])
+
+at_end : (made : ℕ) (i j : Incoming) (other : List (List ℕ)) → Watches (image_of nothing).functions (machine nothing) 2 i j (outcome.Exit 0) made (AreCounts (functions_of nothing) other) → other ≡ (1 ∷ 1 ∷ []) ∷ []
 at_end zero i j other h = let e = (h.ends [] (λ e. refl)).1 in absurd (omega (arith, e))
 at_end (suc zero) i j other h = let e = (h.ends [] (λ e. refl)).3 in cc
-at_end (suc (suc zero)) i j other h = h.counts [] (λ e. refl)
+at_end (suc (suc zero)) i j other h = h.told [] (λ e. refl)
 at_end (suc (suc (suc made))) i j other h = let le = h.within in absurd (omega (arith, le))
 
 -- the two instructions, where they are on these lines
@@ -107,35 +113,34 @@ of_two_lines text h =
     ap newlines_in (h.text_is ∙ ap (λ cs. table_text styles.Table alone (codes "main()\n{}\n") (line_counts cs 2) 2) on.is) ∙ four_rows on.one on.two on.one_on on.two_on
 
 -- a run that has counts read without a failure
-reads_whole : (fs : List Placed) (ds : List Definition) (n : ℕ) (i j : Incoming) (o p : Outgoing) (made : ℕ) (tallies : List (List ℕ)) → (j.failures ≡ i.failures → ⊥) → (result : Outcome) → RunGives (machine ds) n i j o p result
-    → AreCounts fs (machine ds) n i j result made tallies → ⊥
-reads_whole fs ds n i j o p made tallies failed (outcome.Exit status) h a = failed h.no_failure
-reads_whole fs ds n i j o p made tallies failed (outcome.Trap kind) h a = failed h.no_failure
-reads_whole fs ds n i j o p made tallies failed outcome.Limit h a = failed h.no_failure
-reads_whole fs ds n i j o p made tallies failed outcome.Device h a = a.ends [] (λ e. refl)
-reads_whole fs ds n i j o p made tallies failed outcome.Memory h a = a.ends [] (λ e. refl)
+reads_whole : (fs : List Placed) (ds : List Definition) (n : ℕ) (i j : Incoming) (made : ℕ) (tallies : List (List ℕ)) → (j.failures ≡ i.failures → ⊥) → (result : Outcome) → Watches (image_of ds).functions (machine ds) n i j result made (AreCounts fs tallies) → ⊥
+reads_whole fs ds n i j made tallies failed (outcome.Exit status) h = failed h.gives.no_failure
+reads_whole fs ds n i j made tallies failed (outcome.Trap kind) h = failed h.gives.no_failure
+reads_whole fs ds n i j made tallies failed outcome.Limit h = failed h.gives.no_failure
+reads_whole fs ds n i j made tallies failed outcome.Device h = h.told [] (λ e. refl)
+reads_whole fs ds n i j made tallies failed outcome.Memory h = h.ends [] (λ e. refl)
 
 read_lost : (asked : Asked) (source : List ℕ) (ends : RunEnds) (status : ℕ) → (ends.input_after.failures ≡ ends.input.failures → ⊥) → Counts asked source ends status → (status ≡ DEVICE) × (ends.out_after ≡ ends.out)
-read_lost asked source ends status failed (count.counted mid ds image result output made tallies text told program gives counts table reported tells) =
-    absurd (reads_whole (functions_of ds) ds asked.steps ends.input ends.input_after nothing_written (outgoing_of output) made tallies failed result gives counts)
-read_lost asked source ends status failed (count.unread ds image output program gives same answer) = (answer, same)
-read_lost asked source ends status failed (count.not_begun mid ds image result program never told quiet) = absurd (failed (ap (λ (i : Incoming). i.failures) quiet.unread))
+read_lost asked source ends status failed (count.counted ds image result made tallies text told program counts table reported tells) =
+    absurd (reads_whole (functions_of ds) ds asked.steps ends.input ends.input_after made tallies failed result counts)
+read_lost asked source ends status failed (count.unread ds image output program still gives same answer) = (answer, same)
+read_lost asked source ends status failed (count.not_begun ds image result program never told quiet) = absurd (failed (ap (λ (i : Incoming). i.failures) quiet.unread))
 read_lost asked source ends status failed (count.stopped none quiet) = absurd (failed (ap (λ (i : Incoming). i.failures) quiet.unread))
-read_lost asked source ends status failed (count.no_memory ds image program same read answer) = absurd (failed read.no_failure)
+read_lost asked source ends status failed (count.no_memory ds image program still same read answer) = absurd (failed read.no_failure)
 
 module _ (asked : Asked) (source : List ℕ) (r : Compilation) (g : CompilesTo [] (tokens_from asked.edition 1 source) r) (ends : RunEnds) (status : ℕ) where
   -- what was read of the input was asked for
   was_asked : Counts asked source ends status → LeftBySteps (machine (code_in asked.edition source r g)) asked.steps ends.input ends.input_after
-  was_asked (count.counted mid ds image result output made tallies text told has gives counts table reported tells) =
-      program_left asked.edition source r g asked.steps ends.input ends.input_after ends.line mid ds image has
-      (run_left (machine ds) asked.steps ends.input ends.input_after nothing_written (outgoing_of output) result gives)
-  was_asked (count.unread ds image output has gives same answer) =
-      program_left asked.edition source r g asked.steps ends.input ends.input_after ends.line ends.line_after ds image has
+  was_asked (count.counted ds image result made tallies text told has counts table reported tells) =
+      program_left asked.edition source r g asked.steps ends.input ends.input_after ds image has
+      (run_left (machine ds) asked.steps ends.input ends.input_after nothing_written (outgoing_of counts.output) result counts.gives)
+  was_asked (count.unread ds image output has still gives same answer) =
+      program_left asked.edition source r g asked.steps ends.input ends.input_after ds image has
       (run_left (machine ds) asked.steps ends.input ends.input_after nothing_written (outgoing_of output) outcome.Device gives)
-  was_asked (count.not_begun mid ds image result has never told quiet) = untaken asked.edition source r g asked.steps ends.input ends.input_after quiet.unread
+  was_asked (count.not_begun ds image result has never told quiet) = untaken asked.edition source r g asked.steps ends.input ends.input_after quiet.unread
   was_asked (count.stopped none quiet) = untaken asked.edition source r g asked.steps ends.input ends.input_after quiet.unread
-  was_asked (count.no_memory ds image has same read answer) =
-      program_left asked.edition source r g asked.steps ends.input ends.input_after ends.line ends.line_after ds image has
+  was_asked (count.no_memory ds image has still same read answer) =
+      program_left asked.edition source r g asked.steps ends.input ends.input_after ds image has
       (left_by (machine ds) asked.steps ends.input ends.input_after read)
 
 pub excluded : CountsExcluded

@@ -1,10 +1,9 @@
 mod Noting
-mod Made
+mod Counted
 mod LineSums
 mod Rows
 mod Costs
 mod Splits
-mod Whole
 mod Excluded
 mod OwnCalls
 mod Addresses

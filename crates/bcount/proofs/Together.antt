@@ -3,25 +3,24 @@ use Rattle.std.proofs.Common.{◌≡◌, ◌≢◌, ◌∙◌, ⊎_elim, ℕ, �
 use Rattle.std.specs.List.{flat_map, sum_by}
 use Rattle.std.proofs.lemmas.Option.{slice_get_cases}
 use Rattle.bword.specs.declared.edition.Edition.{Edition}
-use Rattle.bword.specs.ByteEnds.{Outgoing}
 use Rattle.blang.specs.Code.{code_of}
 use Rattle.blang.specs.Layout.{Ending, Exited, Trapped, World, first_world, load_fault}
-use Rattle.blang.specs.Machine.{Call, Halted, Image, Running, State, Stuck, act_if, image_of, machine, machine_started}
+use Rattle.blang.specs.Machine.{Call, Halted, Image, Loaded, Running, State, Stuck, act_if, image_of, machine, machine_started}
 use Rattle.blang.specs.Reports.{state_outcome}
-use Rattle.blang.specs.Text.{IsCodeText}
 use Rattle.blang.specs.Trees as trees
 use Rattle.blang.specs.declared.code.Definition.{Definition}
 use Rattle.blang.specs.declared.run.Outcome.{Outcome}
 use Rattle.blang.specs.declared.run.Outcome.TheVariants as outcome
-use Rattle.bcode.proofs.FaultLaws.{unique_code}
 use Rattle.bgrammar.proofs.GoesLaws.{each_source_comes}
-use Rattle.bgrammar.proofs.ReadingBack.{reads_back}
 use Rattle.bmach.proofs.Running.{one_more}
 use Rattle.bmean.proofs.LawProofs.{code_agrees}
 use Rattle.brun.proofs.MeantSteps.{halted_later}
 use Rattle.btools.specs.Functions.{functions_of}
 use Rattle.btools.specs.Programs.{HasProgram}
-use Rattle.bcount.specs.Counts.{EndsAfter}
+use Rattle.bmach.specs.Stops.{active_of}
+use Rattle.bwatch.specs.Sights.{Sights, sight_of, sights_of}
+use Rattle.bwatch.specs.Watches.{EndsAfter}
+use Rattle.bcount.proofs.Counted.{counts_are, not_unread}
 use Rattle.bcount.specs.SourceLines.{last_line}
 use Rattle.bcount.specs.Tallies.{counts_of}
 use Rattle.bcount.specs.Together.{StepsAddUp}
@@ -36,7 +35,7 @@ not_at_limit (Exited status) w e = cc
 not_at_limit (Trapped kind) w e = cc
 
 -- The machine of a source that has a program is never stuck.
-module _ (edition : Edition) (source : List ℕ) (line line_after : Outgoing) (ds : List Definition) (image : Image) (is : HasProgram edition source line line_after ds image) where
+module _ (edition : Edition) (source : List ℕ) (ds : List Definition) (image : Image) (is : HasProgram edition source ds image) where
   -- its code is that of definitions of the language
   record HasTrees : Type 0 where
     definitions : List trees.Definition
@@ -44,12 +43,8 @@ module _ (edition : Edition) (source : List ℕ) (line line_after : Outgoing) (d
 
   compiled : HasTrees
   compiled =
-      let h = is.compiled.compiles in
-      let some = each_source_comes [] edition 1 (h.taken ++ []) in
-      let c = h.compiled refl [] (λ e. refl) some.0 some.1 in
-      let text = sym c.code.appended ∙ is.compiled.code_is in
-      let back = subst (λ t. IsCodeText t (map code_of some.1.definitions)) text (edition, reads_back edition 1 (h.taken ++ []) some.0 some.1 c.clean) in
-      record { definitions = some.1.definitions; code_is = unique_code is.code (map code_of some.1.definitions) ds back is.is_text }
+      let some = each_source_comes [] edition 1 source in
+      record { definitions = some.1.definitions; code_is = (is.code some.0 some.1).1 }
 
   pub never_stuck : (input : List ℕ) (n : ℕ) (w : World) → machine ds input n ≢ Stuck w
   never_stuck input n w e =
@@ -60,6 +55,12 @@ module _ (edition : Edition) (source : List ℕ) (line line_after : Outgoing) (d
 module _ (ds : List Definition) (input : List ℕ) (unstuck : (n : ℕ) (w : World) → machine ds input n ≢ Stuck w) where
   abbrev states : ℕ → State
   states n = machine ds input n
+
+  abbrev fns : List Loaded
+  fns = (image_of ds).functions
+
+  abbrev sights : Sights
+  sights = sights_of fns (machine ds) input
 
   runs_before : (m n : ℕ) → n ≤ m → state_outcome (states m) ≡ outcome.Limit → state_outcome (states n) ≡ outcome.Limit
   runs_before m n le limit = by (states n) refl
@@ -75,37 +76,38 @@ module _ (ds : List Definition) (input : List ℕ) (unstuck : (n : ℕ) (w : Wor
       let next = one_more image n (machine_started image image.main (first_world image input)) (Running call below w) e in
       ⊎_elim (λ some. some.1) (λ past. absurd (unstuck (n + 1) w (next ∙ ap (act_if image call below w) past.1))) (slice_get_cases call.function.code call.place).1
 
-  one_place : (n : ℕ) → state_outcome (states n) ≡ outcome.Limit → all_hits (states n) (functions_of ds) ≡ 1
+  one_place : (n : ℕ) → state_outcome (states n) ≡ outcome.Limit → all_hits (sights n).call (functions_of ds) ≡ 1
   one_place n limit = by (states n) refl
     where
-      by : (s : State) → states n ≡ s → all_hits s (functions_of ds) ≡ 1
+      by : (s : State) → states n ≡ s → all_hits (sight_of fns (states n)).call (functions_of ds) ≡ 1
       by (Running call below w) e =
           let ours = subst (AreOurs (image_of ds).functions) e (ours_at ds input n) in
           let placed = is_placed ds call.function ours.0 in
           let within = within_code n call below w e in
-          one_hit call below w (functions_of ds) (ascend ds) placed.0 placed.1 (λ d. ((placed.2 d).0, subst (λ code. call.place < length code) (sym (placed.2 d).1) within))
+          ap (λ s. all_hits (sight_of fns s).call (functions_of ds)) e
+          ∙ one_hit (active_of call) (functions_of ds) (ascend ds) placed.0 placed.1 (λ d. ((placed.2 d).0, subst (λ code. call.place < length code) (sym (placed.2 d).1) within))
       by (Halted ending w) e = absurd (not_at_limit ending w (sym (ap state_outcome e) ∙ limit))
       by (Stuck w) e = absurd (unstuck n w e)
 
-  runs_until : (made steps : ℕ) (result : Outcome) → EndsAfter states made steps result → (n : ℕ) → n < made → state_outcome (states n) ≡ outcome.Limit
-  runs_until made steps (outcome.Exit status) h n lt = let last = h.1 in runs_before h.0 n (omega (arith, last, lt)) h.2
-  runs_until made steps (outcome.Trap kind) h n lt = let last = h.1 in runs_before h.0 n (omega (arith, last, lt)) h.2
-  runs_until made steps outcome.Limit h n lt = runs_before made n (omega (arith, lt)) h.1
-  runs_until made steps outcome.Device h n lt = absurd h
-  runs_until made steps outcome.Memory h n lt = absurd h
+  runs_until : (made steps : ℕ) (result : Outcome) (left : List ℕ) → EndsAfter states made steps result left → (result ≡ outcome.Device → ⊥) → (n : ℕ) → n < made → state_outcome (states n) ≡ outcome.Limit
+  runs_until made steps (outcome.Exit status) left h read n lt = let last = h.1 in runs_before h.0 n (omega (arith, last, lt)) h.2
+  runs_until made steps (outcome.Trap kind) left h read n lt = let last = h.1 in runs_before h.0 n (omega (arith, last, lt)) h.2
+  runs_until made steps outcome.Limit left h read n lt = runs_before made n (omega (arith, lt)) h.1
+  runs_until made steps outcome.Device left h read n lt = absurd (read refl)
+  runs_until made steps outcome.Memory left h read n lt = absurd h
 
-  pub all_counted : (made steps : ℕ) (result : Outcome) → EndsAfter states made steps result → sum_by (λ x. x) (flat_map (λ xs. xs) (map (counts_of states made) (functions_of ds))) ≡ made
-  all_counted made steps result h =
-      counts_together states (functions_of ds) made ∙ totals states (functions_of ds) made (λ n lt. one_place n (runs_until made steps result h n lt))
+  pub all_counted : (made steps : ℕ) (result : Outcome) (left : List ℕ) → EndsAfter states made steps result left → (result ≡ outcome.Device → ⊥) → sum_by (λ x. x) (flat_map (λ xs. xs) (map (counts_of sights made) (functions_of ds))) ≡ made
+  all_counted made steps result left h read =
+      counts_together sights (functions_of ds) made ∙ totals sights (functions_of ds) made (λ n lt. one_place n (runs_until made steps result left h read n lt))
 
 pub steps_add_up : StepsAddUp
 steps_add_up asked source made text h =
     let input = h.counts.taken ++ [] in
-    let unstuck = never_stuck asked.edition source h.line h.line_after h.ds h.image h.program in
+    let unstuck = never_stuck asked.edition source h.ds h.image h.program in
     let counted = h.table.counted in
     let within = h.counts.within in
     let fits = h.fits in
     let sum = sym (sum_of_map (λ x. x) (λ (c : Counted). c.count) counted)
-    ∙ ap (sum_by (λ x. x)) (h.table.counts_are ∙ ap (flat_map (λ xs. xs)) (h.counts.counts [] (λ e. refl)))
-    ∙ all_counted h.ds input (unstuck input) made asked.steps h.result (h.counts.ends [] (λ e. refl)) in
+    ∙ ap (sum_by (λ x. x)) (h.table.counts_are ∙ ap (flat_map (λ xs. xs)) (counts_are (functions_of h.ds) h.tallies (sights_of (image_of h.ds).functions (machine h.ds) input) made h.result (h.counts.told [] (λ e. refl))))
+    ∙ all_counted h.ds input (unstuck input) made asked.steps h.result [] (h.counts.ends [] (λ e. refl)) (not_unread (functions_of h.ds) h.tallies (sights_of (image_of h.ds).functions (machine h.ds) input) made h.result (h.counts.told [] (λ e. refl))) in
     lines_together (last_line source) made counted h.table.on_lines sum (omega (arith, within, fits))

@@ -1,13 +1,13 @@
 -- The counts of all instructions, together.
-use Rattle.std.proofs.Common.{◌≡◌, ◌∙◌, ⊎_elim, ℕ, zero, suc, ◌+◌, ◌<◌, ◌≤◌, Bool, true, false, cond, List, [], ◌∷◌, ap, arith, get_or, length, map, refl, sym}
+use Rattle.std.proofs.Common.{◌≡◌, ◌∙◌, ⊎_elim, ℕ, zero, suc, ◌+◌, ◌<◌, ◌≤◌, Bool, true, false, cond, List, [], ◌∷◌, Option, Some, ap, arith, get_or, length, map, refl, sym}
 use Rattle.std.specs.Prelude.{◌==◌, ◌&&◌}
 use Rattle.std.specs.List.{All, AllPairs, flat_map, range_with_len, sum_by}
 use Rattle.std.proofs.lemmas.Bool.{cases_eq}
 use Rattle.std.proofs.lemmas.List.Sums.{sum_by-append, sum_by-cons}
-use Rattle.blang.specs.Machine.{Call, Running, State}
-use Rattle.blang.specs.Layout.{World}
+use Rattle.bmach.specs.declared.machine.Active.{Active}
 use Rattle.btools.specs.Functions.{Placed}
 use Rattle.btools.proofs.Finding.{other_number, same_number}
+use Rattle.bwatch.specs.Sights.{Sights}
 use Rattle.bcount.specs.Tallies.{counts_of, is_at, times}
 use Rattle.bcount.proofs.Noting.{times_more}
 
@@ -64,29 +64,29 @@ abbrev one_if : Bool → ℕ
 one_if b = cond b 1 0
 
 -- how many places of the functions a machine is at
-abbrev hits : State → Placed → ℕ
+abbrev hits : Option Active → Placed → ℕ
 hits s f = sum_by (λ k. one_if (is_at f.strings k s)) (range_with_len 0 (length f.function.code))
 
-abbrev pub all_hits : State → List Placed → ℕ
+abbrev pub all_hits : Option Active → List Placed → ℕ
 all_hits s fs = sum_by (hits s) fs
 
-module _ (states : ℕ → State) where
+module _ (sights : Sights) where
   abbrev total : (made : ℕ) → Placed → ℕ
-  total made f = sum_by (times states made f.strings) (range_with_len 0 (length f.function.code))
+  total made f = sum_by (times sights made f.strings) (range_with_len 0 (length f.function.code))
 
-  total_more : (made : ℕ) (f : Placed) → total (made + 1) f ≡ total made f + hits (states made) f
+  total_more : (made : ℕ) (f : Placed) → total (made + 1) f ≡ total made f + hits (sights made).call f
   total_more made f =
-      (λ i. sum_by (λ k. times_more states made f.strings k i) (range_with_len 0 (length f.function.code)))
-      ∙ sum_both (times states made f.strings) (λ k. one_if (is_at f.strings k (states made))) (range_with_len 0 (length f.function.code))
+      (λ i. sum_by (λ k. times_more sights made f.strings k i) (range_with_len 0 (length f.function.code)))
+      ∙ sum_both (times sights made f.strings) (λ k. one_if (is_at f.strings k (sights made).call)) (range_with_len 0 (length f.function.code))
 
-  totals_more : (made : ℕ) (fs : List Placed) → sum_by (total (made + 1)) fs ≡ sum_by (total made) fs + all_hits (states made) fs
-  totals_more made fs = (λ i. sum_by (λ f. total_more made f i) fs) ∙ sum_both (total made) (hits (states made)) fs
+  totals_more : (made : ℕ) (fs : List Placed) → sum_by (total (made + 1)) fs ≡ sum_by (total made) fs + all_hits (sights made).call fs
+  totals_more made fs = (λ i. sum_by (λ f. total_more made f i) fs) ∙ sum_both (total made) (hits (sights made).call) fs
 
   totals_none : (fs : List Placed) → sum_by (total 0) fs ≡ 0
   totals_none fs = (λ i. sum_by (λ (f : Placed). sum_zeros (range_with_len 0 (length f.function.code)) i) fs) ∙ sum_zeros fs
 
   -- as many as steps, where each is at one place
-  pub totals : (fs : List Placed) (made : ℕ) → ((n : ℕ) → n < made → all_hits (states n) fs ≡ 1) → sum_by (total made) fs ≡ made
+  pub totals : (fs : List Placed) (made : ℕ) → ((n : ℕ) → n < made → all_hits (sights n).call fs ≡ 1) → sum_by (total made) fs ≡ made
   totals fs zero one = totals_none fs
   totals fs (suc made) one =
       let next : suc made ≡ made + 1 = omega arith in
@@ -96,35 +96,35 @@ module _ (states : ℕ → State) where
       ap (λ n. sum_by (total n) fs) next ∙ omega (arith, here, before, more)
 
   -- the same of the lists of counts
-  pub counts_together : (fs : List Placed) (made : ℕ) → sum_by (λ x. x) (flat_map (λ xs. xs) (map (counts_of states made) fs)) ≡ sum_by (total made) fs
+  pub counts_together : (fs : List Placed) (made : ℕ) → sum_by (λ x. x) (flat_map (λ xs. xs) (map (counts_of sights made) fs)) ≡ sum_by (total made) fs
   counts_together fs made =
-      sum_of_lists (map (counts_of states made) fs)
-      ∙ sum_of_map (λ xs. sum_by (λ x. x) xs) (counts_of states made) fs
-      ∙ (λ i. sum_by (λ (f : Placed). sum_of_map (λ x. x) (times states made f.strings) (range_with_len 0 (length f.function.code)) i) fs)
+      sum_of_lists (map (counts_of sights made) fs)
+      ∙ sum_of_map (λ xs. sum_by (λ x. x) xs) (counts_of sights made) fs
+      ∙ (λ i. sum_by (λ (f : Placed). sum_of_map (λ x. x) (times sights made f.strings) (range_with_len 0 (length f.function.code)) i) fs)
 
 -- A call is at one place of one function.
-module _ (call : Call) (below : List Call) (w : World) where
-  abbrev now : State
-  now = Running call below w
+module _ (call : Active) where
+  abbrev now : Option Active
+  now = Some call
 
   other_place : (f : Placed) (k : ℕ) → (k ≡ call.place → ⊥) → one_if (is_at f.strings k now) ≡ 0
-  other_place f k other = ap (λ b. one_if ((f.strings == call.function.strings) && b)) (other_number k call.place other) ∙ not_both (f.strings == call.function.strings)
+  other_place f k other = ap (λ b. one_if ((f.strings == call.strings) && b)) (other_number k call.place other) ∙ not_both (f.strings == call.strings)
     where
       not_both : (b : Bool) → one_if (b && false) ≡ 0
       not_both true = refl
       not_both false = refl
 
-  other_function : (f : Placed) → (f.strings ≡ call.function.strings → ⊥) → hits now f ≡ 0
+  other_function : (f : Placed) → (f.strings ≡ call.strings → ⊥) → hits now f ≡ 0
   other_function f other =
-      (λ i. sum_by (λ k. one_if (other_number f.strings call.function.strings other i && (k == call.place))) (range_with_len 0 (length f.function.code)))
+      (λ i. sum_by (λ k. one_if (other_number f.strings call.strings other i && (k == call.place))) (range_with_len 0 (length f.function.code)))
       ∙ sum_zeros (range_with_len 0 (length f.function.code))
 
-  this_function : (f : Placed) → f.strings ≡ call.function.strings → call.place < length f.function.code → hits now f ≡ 1
+  this_function : (f : Placed) → f.strings ≡ call.strings → call.place < length f.function.code → hits now f ≡ 1
   this_function f same within =
       one_part (λ k. one_if (is_at f.strings k now)) call.place (other_place f) 0 (length f.function.code) (omega arith) (omega (arith, within))
-      ∙ (λ i. one_if (same_number f.strings call.function.strings same i && same_number call.place call.place refl i))
+      ∙ (λ i. one_if (same_number f.strings call.strings same i && same_number call.place call.place refl i))
 
-  no_function : (fs : List Placed) → All (λ f. call.function.strings < f.strings) fs → all_hits now fs ≡ 0
+  no_function : (fs : List Placed) → All (λ f. call.strings < f.strings) fs → all_hits now fs ≡ 0
   no_function [] above = refl
   no_function (f ∷ fs) above =
       let lt = above 0 f (omega arith) in
@@ -133,7 +133,7 @@ module _ (call : Call) (below : List Call) (w : World) where
       let e = sum_by-cons (hits now) f fs in
       omega (arith, here, rest, e)
 
-  pub one_hit : (fs : List Placed) → AllPairs (λ f g. f.strings < g.strings) fs → (k : ℕ) → k < length fs → ((d : Placed) → ((get_or fs k d).strings ≡ call.function.strings) × (call.place < length (get_or fs k d).function.code)) → all_hits now fs ≡ 1
+  pub one_hit : (fs : List Placed) → AllPairs (λ f g. f.strings < g.strings) fs → (k : ℕ) → k < length fs → ((d : Placed) → ((get_or fs k d).strings ≡ call.strings) × (call.place < length (get_or fs k d).function.code)) → all_hits now fs ≡ 1
   one_hit [] ascend k lt is = absurd (omega (arith, lt))
   one_hit (f ∷ fs) ascend zero lt is =
       let here = this_function f (is f).0 (is f).1 in

@@ -1,20 +1,23 @@
 -- Promise: what comes of a source whose steps are counted.
-use Rattle.std.specs.Prelude.{◌≡◌, ℕ, ◌+◌, ◌≤◌, ◌<◌, ◌==◌, List, ◌++◌, Option, Some, find, map, min, option_map}
+use Rattle.std.specs.Prelude.{◌≡◌, ℕ, ◌+◌, ◌≤◌, ◌<◌, ◌==◌, List, Option, Some, find, map, min, option_map}
 use Rattle.std.specs.Prelude.{unwrap_or, if◌then◌else◌}
 use Rattle.std.specs.List.{All, flat_map, range_with_len, sum_by}
 use Rattle.bsources.specs.Files.{Files, files_shown}
 use Rattle.bword.specs.declared.edition.Edition.{Edition}
-use Rattle.bword.specs.ByteEnds.{CanFollow, Incoming, Kept, Outgoing, Took, most, outgoing_of}
+use Rattle.bword.specs.ByteEnds.{Kept, most, outgoing_of}
 use Rattle.blang.specs.declared.code.Definition.{Definition}
 use Rattle.blang.specs.declared.run.Outcome.{Outcome}
 use Rattle.blang.specs.declared.run.Outcome.TheVariants as outcome
 use Rattle.blang.specs.declared.status.TheConstants.{DEVICE, DONE, MEMORY}
-use Rattle.blang.specs.Machine.{Image, State, States, machine}
-use Rattle.blang.specs.Reports.{Finishes, HasNotRun, Reported, RunEnds, RunGives, state_outcome}
+use Rattle.blang.specs.Machine.{Image, image_of, machine}
+use Rattle.blang.specs.Reports.{Finishes, HasNotRun, Reported, RunEnds, RunGives}
 use Rattle.bmach.specs.Readings.{ReadBySteps}
 use Rattle.bmach.specs.Stepping.{BeginsNot}
 use Rattle.btools.specs.Functions.{Placed, functions_of}
+use Rattle.btools.specs.FaultPlaces.{fault_lines}
 use Rattle.btools.specs.Programs.{HasProgram, NoProgram, TellsEnd, nothing_written}
+use Rattle.bwatch.specs.Sights.{Sights}
+use Rattle.bwatch.specs.Watches.{Watches}
 use Rattle.bcount.specs.SourceLines.{last_line}
 use Rattle.bcount.specs.Tables.{table_text}
 use Rattle.bcount.specs.Tallies.{counts_of}
@@ -65,50 +68,31 @@ pub record IsTableOf (asked : Asked) (source : List ℕ) (tallies : List (List �
     pub on_lines : All (IsOnLines (last_line source)) counted
     pub text_is : text ≡ table_text asked.style asked.files source (line_counts counted (last_line source)) made
 
--- With the last of these steps the run had this outcome, and before it went on.
-abbrev pub IsLast : (ℕ → State) → (made : ℕ) → Outcome → Type 0
-IsLast states made result =
-    (last : ℕ) × (last + 1 ≡ made) × (state_outcome (states last) ≡ outcome.Limit)
-    × (state_outcome (states made) ≡ result)
-
--- After so many steps the run was over, or all were made.
-abbrev pub EndsAfter : (ℕ → State) → (made steps : ℕ) → Outcome → Type 0
-EndsAfter states made steps (outcome.Exit status) = IsLast states made (outcome.Exit status)
-EndsAfter states made steps (outcome.Trap kind) = IsLast states made (outcome.Trap kind)
-EndsAfter states made steps outcome.Limit = (made ≡ steps) × (state_outcome (states made) ≡ outcome.Limit)
-EndsAfter states made steps outcome.Device = ⊥
-EndsAfter states made steps outcome.Memory = ⊥
-
--- Each count is the number of states, among those before the steps that were made, in which the machine is about to make
--- this instruction. Its input is what was taken and what may follow.
-pub record AreCounts (functions : List Placed) (states : States) (steps : ℕ) (i j : Incoming) (result : Outcome) (made : ℕ)
-    (tallies : List (List ℕ)) : Type 0 where
-  pub within : made ≤ steps
-  pub taken : List ℕ
-  pub took : Took i taken j
-  pub counts : (more : List ℕ) → CanFollow j more → tallies ≡ map (counts_of (states (taken ++ more)) made) functions
-  pub ends : (more : List ℕ) → CanFollow j more → EndsAfter (states (taken ++ more)) made steps result
+-- Each count is how often this instruction was made in so many steps. There are none where a read failed.
+abbrev pub AreCounts : List Placed → (tallies : List (List ℕ)) → Sights → (made : ℕ) → Outcome → Type 0
+AreCounts functions tallies sights made outcome.Device = ⊥
+AreCounts functions tallies sights made result = tallies ≡ map (counts_of sights made) functions
 
 -- The program of the source was run for so many steps at most, as the machine runs it, and its counts written; or a read
 -- of it failed, and nothing was written; or it did not begin, or there is none, and why was told; or memory was refused,
 -- and nothing was written, or read but by some of its steps.
 pub data Counts (asked : Asked) (source : List ℕ) (ends : RunEnds) (status : ℕ) : Type 0 where
-  counted : (mid : Outgoing) (ds : List Definition) (image : Image) (result : Outcome) (output : Kept) (made : ℕ)
-      (tallies : List (List ℕ)) (text : List ℕ) (told : ℕ) → HasProgram asked.edition source ends.line mid ds image
-      → RunGives (machine ds) asked.steps ends.input ends.input_after nothing_written (outgoing_of output) result
-      → AreCounts (functions_of ds) (machine ds) asked.steps ends.input ends.input_after result made tallies
+  counted : (ds : List Definition) (image : Image) (result : Outcome) (made : ℕ) (tallies : List (List ℕ))
+      (text : List ℕ) (told : ℕ) → HasProgram asked.edition source ds image
+      → Watches (image_of ds).functions (machine ds) asked.steps ends.input ends.input_after result made
+      (AreCounts (functions_of ds) tallies)
       → IsTableOf asked source tallies made text → Reported text DONE ends.out ends.out_after told
-      → TellsEnd told result mid ends.line_after status → Counts asked source ends status
+      → TellsEnd told result ends.line ends.line_after status → Counts asked source ends status
   unread : (ds : List Definition) (image : Image) (output : Kept)
-      → HasProgram asked.edition source ends.line ends.line_after ds image
+      → HasProgram asked.edition source ds image → ends.line_after ≡ ends.line
       → RunGives (machine ds) asked.steps ends.input ends.input_after nothing_written (outgoing_of output) outcome.Device
       → ends.out_after ≡ ends.out → status ≡ DEVICE → Counts asked source ends status
-  not_begun : (mid : Outgoing) (ds : List Definition) (image : Image) (result : Outcome)
-      → HasProgram asked.edition source ends.line mid ds image → BeginsNot image result
-      → Finishes result mid ends.line_after status → HasNotRun ends → Counts asked source ends status
-  stopped : NoProgram asked.edition source ends.line ends.line_after status → HasNotRun ends
+  not_begun : (ds : List Definition) (image : Image) (result : Outcome)
+      → HasProgram asked.edition source ds image → BeginsNot image result
+      → Finishes result ends.line ends.line_after status → HasNotRun ends → Counts asked source ends status
+  stopped : NoProgram asked.edition source (fault_lines asked.files) ends.line ends.line_after status → HasNotRun ends
       → Counts asked source ends status
   no_memory : (ds : List Definition) (image : Image)
-      → HasProgram asked.edition source ends.line ends.line_after ds image → ends.out_after ≡ ends.out
+      → HasProgram asked.edition source ds image → ends.line_after ≡ ends.line → ends.out_after ≡ ends.out
       → ReadBySteps (machine ds) asked.steps ends.input ends.input_after → status ≡ MEMORY
       → Counts asked source ends status

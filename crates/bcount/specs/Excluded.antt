@@ -10,11 +10,12 @@ use Rattle.blang.specs.declared.run.Outcome.TheVariants as outcome
 use Rattle.blang.specs.declared.status.TheConstants.{DEVICE}
 use Rattle.blang.specs.Compiles.{Compilation, CompilesTo}
 use Rattle.blang.specs.Cut.{tokens_from}
-use Rattle.blang.specs.Machine.{machine}
+use Rattle.blang.specs.Machine.{image_of, machine}
 use Rattle.blang.specs.Reports.{RunEnds}
 use Rattle.bmach.specs.Readings.{LeftBySteps}
 use Rattle.btools.specs.Excluded.{code_in}
 use Rattle.btools.specs.Functions.{functions_of}
+use Rattle.bwatch.specs.Watches.{Watches}
 use Rattle.bcount.specs.Counts.{AreCounts, Asked, Counts, IsTableOf}
 use Rattle.bcount.specs.SourceLines.{newlines_in}
 use Rattle.bcount.specs.declared.table.Style.{Style}
@@ -36,7 +37,8 @@ nothing = definition.Function (record {
 abbrev pub CountsOnly : (steps : ℕ) → Outcome → List (List ℕ) → Type 0
 CountsOnly steps result tallies =
     (i j : Incoming) (made : ℕ) (other : List (List ℕ))
-    → AreCounts (functions_of nothing) (machine nothing) steps i j result made other → other ≡ tallies
+    → Watches (image_of nothing).functions (machine nothing) steps i j result made (AreCounts (functions_of nothing) other)
+    → other ≡ tallies
 
 -- A text that shows that each of the two instructions of this source was made once.
 abbrev pub ShowsBoth : Style → (source text : List ℕ) → Type 0

@@ -3,7 +3,6 @@ pub mod Marks
 pub mod SourceLines
 pub mod Tables
 pub mod Counts
-pub mod Steps
 pub mod Excluded
 pub mod Together
 pub mod CountRows

@@ -1,11 +1,12 @@
 -- Inner words: the counts of the instructions of a program.
-use Rattle.std.specs.Prelude.{ℕ, ◌+◌, ◌==◌, ◌&&◌, Bool, false, List, [], ◌∷◌, get_or, length, map, min, replicate}
-use Rattle.std.specs.Prelude.{set, if◌then◌else◌}
+use Rattle.std.specs.Prelude.{◌≡◌, ℕ, ◌+◌, ◌==◌, ◌&&◌, Bool, false, List, [], ◌∷◌, Option, None, Some, get_or, length}
+use Rattle.std.specs.Prelude.{map, min, replicate, set, if◌then◌else◌}
 use Rattle.std.specs.List.{count_by, range_with_len}
 use Rattle.bword.specs.ByteEnds.{most}
-use Rattle.blang.specs.Machine.{State, Running, Halted, Stuck}
+use Rattle.bmach.specs.declared.machine.Active.{Active}
 use Rattle.btools.specs.Functions.{Placed, placed_entry}
 use Rattle.btools.specs.declared.tables.Entry.{Entry}
+use Rattle.bwatch.specs.Sights.{Sights}
 use Rattle.bcount.specs.declared.tallies.Tallies.{Tallies}
 
 -- the counts of each function
@@ -27,16 +28,21 @@ noted strings place (e ∷ es) [] = []
 noted strings place (e ∷ es) (c ∷ cs) =
     (if e.strings == strings then bumped place c else c) ∷ noted strings place es cs
 
--- whether a machine is about to make the step at a place of this function
-abbrev pub is_at : (strings place : ℕ) → State → Bool
-is_at strings place (Running call below w) = (strings == call.function.strings) && (place == call.place)
-is_at strings place (Halted e w) = false
-is_at strings place (Stuck w) = false
+-- whether the running call is about to make the step at a place of this function
+abbrev pub is_at : (strings place : ℕ) → Option Active → Bool
+is_at strings place (Some call) = (strings == call.strings) && (place == call.place)
+is_at strings place None = false
 
 -- how many of the first steps were made there
-abbrev pub times : (ℕ → State) → (made strings place : ℕ) → ℕ
-times states made strings place = count_by (λ n. is_at strings place (states n)) (range_with_len 0 made)
+abbrev pub times : Sights → (made strings place : ℕ) → ℕ
+times sights made strings place = count_by (λ n. is_at strings place (sights n).call) (range_with_len 0 made)
 
 -- the same of each place of a function
-abbrev pub counts_of : (ℕ → State) → (made : ℕ) → Placed → List ℕ
-counts_of states made f = map (times states made f.strings) (range_with_len 0 (length f.function.code))
+abbrev pub counts_of : Sights → (made : ℕ) → Placed → List ℕ
+counts_of sights made f = map (times sights made f.strings) (range_with_len 0 (length f.function.code))
+
+-- so many steps were noted, of the same functions
+abbrev pub HasCounted : (first now : Tallies) → Sights → (made : ℕ) → Type 0
+HasCounted first now sights made =
+    (now.tables ≡ first.tables)
+    × (tallies_of now ≡ map (λ e. counts_of sights made (placed_entry e)) first.tables.now.entries.items)

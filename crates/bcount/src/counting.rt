@@ -1,10 +1,9 @@
 //! Counting the steps of a program.
-ghost use Rattle.std.specs.Prelude.{◌≡◌, IfOk, map};
+ghost use Rattle.std.specs.Prelude.{◌≡◌, IfOk};
 ghost use Rattle.blang.specs.Reports.{run_ends};
 ghost use Rattle.bcount.specs.Counts.{Counts, IsTableOf, asked_of};
 ghost use Rattle.bcount.specs.Excluded.{CountsExcluded};
-ghost use Rattle.bcount.specs.Steps.{CountsSteps};
-ghost use Rattle.bcount.specs.Tallies.{blank, tallies_of};
+ghost use Rattle.bcount.specs.Tallies.{tallies_of};
 ghost use Rattle.bcount.specs.Together.{StepsAddUp};
 
 use crate::lines::{counted_of, lines_of};
@@ -13,12 +12,11 @@ use crate::table::{Style, Table, table_text};
 use crate::tallies::Tallies;
 use blang::Outcome;
 use blang::status::{self, Status};
-use bmach::Stepper;
-use bpages::PagedStore;
 use brun::finish;
 use bsources::SourceFiles;
-use btools::{Sink, Tables, Text, read_program, tell};
-use bword::{ByteIn, ByteOut, Edition, Store};
+use btools::{Tables, Text, read_program, tell, tell_placed};
+use bwatch::{Watched, watch};
+use bword::{ByteIn, ByteOut, Edition};
 use std::alloc::{AllocError, Global};
 
 /// What is counted of a source, and how it is written.
@@ -30,13 +28,6 @@ pub struct Counting<'a> {
     /// The files of the source.
     pub files: SourceFiles<'a>,
     pub style: Style,
-}
-
-/// Where a run was over, and how many steps were made.
-#[derive(Clone, Copy)]
-struct End {
-    outcome: Outcome,
-    made: u64,
 }
 
 /// Compiles a source, runs its program for at most so many steps, and writes how often each line was made.
@@ -58,75 +49,33 @@ pub fn count<I: ByteIn, O: ByteOut, D: ByteOut>(
     ensures out_lender { O.lender out.new ≡ O.lender out.old }
     ensures diag_lender { D.lender diag.new ≡ D.lender diag.old }
 {
-    let program = match read_program(alloc, source, counting.edition, diag) {
+    let program = match read_program(alloc, source, counting.edition) {
         Ok(program) => program,
-        Err(status) => return status,
+        Err(fault) => return tell_placed(alloc, &fault, counting.files, diag),
     };
     let Ok(tables) = Tables::new(alloc, &program) else {
         return status::MEMORY;
     };
-    let Ok(store) = PagedStore::new(alloc) else {
-        return status::MEMORY;
-    };
-    let stepper = match Stepper::begin(alloc, &program.image, store) {
-        Ok(stepper) => stepper,
-        Err(outcome) => return finish(outcome, diag),
-    };
     let Ok(mut tallies) = Tallies::new(alloc, &tables) else {
         return status::MEMORY;
     };
-    let end = count_steps(stepper, &tables, &mut tallies, counting.steps, input);
-    match end.outcome {
+    let stop = match watch(alloc, &program, counting.steps, input, &mut tallies) {
+        Ok(Watched::Ended(stop)) => stop,
+        Ok(Watched::Unbegun(trap)) => return finish(Outcome::Trap(trap), diag),
+        Err(_) => return status::MEMORY,
+    };
+    match stop.outcome {
         Outcome::Device => return status::DEVICE,
-        Outcome::Memory => return status::MEMORY,
         _ => {}
     }
-    let Ok(text) = text_of(alloc, source, counting, &tables, &tallies, end.made) else {
+    let Ok(text) = text_of(alloc, source, counting, &tables, &tallies, stop.steps) else {
         return status::MEMORY;
     };
     let told = tell(text.as_slice(), status::DONE, out);
     if told != status::DONE {
         return told;
     }
-    finish(end.outcome, diag)
-}
-
-// Makes so many steps, or fewer where the run is over before, and notes each.
-fn count_steps<S: Store + Drop, I: ByteIn>(
-    mut stepper: Stepper<'_, S>,
-    tables: &Tables<'_>,
-    tallies: &mut Tallies,
-    steps: u64,
-    input: &mut I,
-) -> End
-    requires { tallies_of tallies.old ≡ map blank tables.now.entries.items }
-    ensures counts { CountsSteps tables.now.entries.items stepper.entry steps (I.incoming input.old) (I.incoming input.new)
-        result.outcome result.made (tallies_of tallies.new) }
-    ensures same { I.lender input.new ≡ I.lender input.old }
-{
-    for made in 0..steps {
-        let call = stepper.top();
-        match stepper.step(input, &mut Sink) {
-            Ok(()) => tallies.note(tables, call),
-            Err(Outcome::Device) => {
-                return End {
-                    outcome: Outcome::Device,
-                    made,
-                };
-            }
-            Err(outcome) => {
-                tallies.note(tables, call);
-                return End {
-                    outcome,
-                    made: made + 1,
-                };
-            }
-        }
-    }
-    End {
-        outcome: Outcome::Limit,
-        made: steps,
-    }
+    finish(stop.outcome, diag)
 }
 
 // The text of the counts.
@@ -135,7 +84,7 @@ fn text_of(
     source: &[u8],
     counting: Counting<'_>,
     tables: &Tables<'_>,
-    tallies: &Tallies,
+    tallies: &Tallies<'_, '_>,
     made: u64,
 ) -> Result<Text, AllocError>
     ensures { IfOk result (λ text. IsTableOf (asked_of counting.entry) source.now (tallies_of tallies.now) made text) }

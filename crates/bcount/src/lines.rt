@@ -29,7 +29,7 @@ pub struct LineCount {
 pub fn counted_of(
     alloc: Global,
     tables: &Tables<'_>,
-    tallies: &Tallies,
+    tallies: &Tallies<'_, '_>,
     last: u64,
 ) -> Result<Vec<Counted>, AllocError>
     requires { 0 < last }

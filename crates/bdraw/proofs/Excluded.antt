@@ -185,11 +185,11 @@ module _ (edition : Edition) (source : List ℕ) (r : Compilation) (g : Compiles
   abbrev code : List Definition
   code = code_in edition source r g
 
-  told : Excluded edition source r g ends.line ends.line_after
-  told = excluded edition source r g ends.line ends.line_after
+  told : Excluded edition source r g line_of ends.line ends.line_after
+  told = excluded edition source r g line_of ends.line ends.line_after
 
   done : (steps : Option ℕ) → Draws edition source steps ends 0 → (r.stop ≡ None) × (load_fault code ≡ None)
-  done steps (draws.drew ds image p h) = let is = told.program ds image p in (is.0, is.2)
+  done steps (draws.drew ds image p silent h) = let is = told.program ds image p in (is.0, is.2)
   done steps (draws.stopped why quiet unread) = absurd (no_done 0 refl (told.status 0 why))
 
   -- a picture of the program of the source
@@ -199,7 +199,7 @@ module _ (edition : Edition) (source : List ℕ) (r : Compilation) (g : Compiles
       (s.0, subst (λ (x : List Definition). IsPicture x image words s.0) same s.1, s.2)
 
   before : Draws edition source None ends 0 → (image : Image) × IsLoadedFrom code image × Shows edition source r g ends image image.words × (ends.input_after ≡ ends.input)
-  before (draws.drew ds image p h) =
+  before (draws.drew ds image p silent h) =
       let same = (told.program ds image p).1 in
       (image, subst (λ (x : List Definition). IsLoadedFrom x image) same p.loaded, shows_code ds image image.words same h.0, h.1)
   before (draws.stopped why quiet unread) = absurd (no_done 0 refl (told.status 0 why))
@@ -214,7 +214,7 @@ module _ (edition : Edition) (source : List ℕ) (r : Compilation) (g : Compiles
     after_run ds image same (draws.no_memory read quiet is) = absurd (omega (arith, is))
 
     after : Draws edition source (Some n) ends 0 → (image : Image) × (words : List ℕ) × IsLoadedFrom code image × Shows edition source r g ends image words × IsOfStep edition source r g ends image n bytes words
-    after (draws.drew ds image p h) =
+    after (draws.drew ds image p silent h) =
         let same = (told.program ds image p).1 in
         let a = after_run ds image same h in
         (image, a.0, subst (λ (x : List Definition). IsLoadedFrom x image) same p.loaded, a.1, a.2)
@@ -228,27 +228,27 @@ module _ (edition : Edition) (source : List ℕ) (r : Compilation) (g : Compiles
       (a.0, a.1, a.2, a.4, subst (λ t. HasFills code a.0 a.1 t) (sym is) (fills code a.0 a.1 a.3.0 a.3.1))
 
   unread : (steps : Option ℕ) (status : ℕ) → Draws edition source steps ends status → (ends.input_after.failures ≡ ends.input.failures → ⊥) → (status ≡ 133) × (ends.out_after ≡ ends.out)
-  unread steps status (draws.drew ds image p h) failed = unread_in ds image ends.input ends.input_after ends.out ends.out_after steps status h failed
+  unread steps status (draws.drew ds image p silent h) failed = unread_in ds image ends.input ends.input_after ends.out ends.out_after steps status h failed
   unread steps status (draws.stopped why quiet same) failed = absurd (failed (ap (λ (x : Incoming). x.failures) same))
 
   device : (steps : Option ℕ) → Draws edition source steps ends 133 → Grew ends.input.failures ends.input_after.failures ⊎ Grew ends.out.failures ends.out_after.failures ⊎ Grew ends.line.failures ends.line_after.failures
-  device steps (draws.drew ds image p h) =
+  device steps (draws.drew ds image p silent h) =
       elim (device_in ds image ends.input ends.input_after ends.out ends.out_after steps h) [ inl read ↦ inl read | inr written ↦ inr (inl written) ]
   device steps (draws.stopped why quiet same) = inr (inr (told.device why))
 
   fault : (steps : Option ℕ) → Draws edition source steps ends 1
       → ((d : Diagnostic) × (r.stop ≡ Some d) × Writes ends.line (line_of d) ends.line_after) × (ends.out_after ≡ ends.out) × (ends.input_after ≡ ends.input)
-  fault steps (draws.drew ds image p h) = absurd (no_fault ds image ends.input ends.input_after ends.out ends.out_after steps h)
+  fault steps (draws.drew ds image p silent h) = absurd (no_fault ds image ends.input ends.input_after ends.out ends.out_after steps h)
   fault steps (draws.stopped why quiet same) = (told.fault why, quiet, same)
 
   unloaded : (steps : Option ℕ) → Draws edition source steps ends 132
       → ((f : LoadFault) × (text : List ℕ) × (load_fault code ≡ Some f) × (load_line f ≡ Some text) × Writes ends.line text ends.line_after) × (ends.out_after ≡ ends.out) × (ends.input_after ≡ ends.input)
-  unloaded steps (draws.drew ds image p h) = absurd (no_refusal ds image ends.input ends.input_after ends.out ends.out_after steps h)
+  unloaded steps (draws.drew ds image p silent h) = absurd (no_refusal ds image ends.input ends.input_after ends.out ends.out_after steps h)
   unloaded steps (draws.stopped why quiet same) = (told.unloaded why, quiet, same)
 
   unasked : (n status : ℕ) → Draws edition source (Some n) ends status
       → ((image : Image) × IsLoadedFrom code image × LeftBySteps (run image) n ends.input ends.input_after) ⊎ (ends.input_after ≡ ends.input)
-  unasked n status (draws.drew ds image p h) =
+  unasked n status (draws.drew ds image p silent h) =
       inl (image, subst (λ (x : List Definition). IsLoadedFrom x image) (told.program ds image p).1 p.loaded, asked_run ds image ends.input ends.input_after ends.out ends.out_after n status h)
   unasked n status (draws.stopped why quiet same) = inr same
 

@@ -8,6 +8,7 @@ use Rattle.blang.specs.declared.code.Definition.{Definition}
 use Rattle.blang.specs.declared.run.Outcome.{Outcome}
 use Rattle.blang.specs.declared.run.Outcome.TheVariants as outcome
 use Rattle.blang.specs.declared.status.TheConstants.{DEVICE, DONE, MEMORY}
+use Rattle.blang.specs.Compiles.{line_of}
 use Rattle.blang.specs.Layout.{Shape as Named, World, shape_of, size_of}
 use Rattle.blang.specs.Machine.{Call, Image, Running, State, run, state_world, steps}
 use Rattle.blang.specs.Reports.{RunGives, RunEnds, Reported}
@@ -146,10 +147,10 @@ DrawsProgram ds image (Some n) i j old new status = DrawsRun ds image n i j old 
 
 -- The memory of the program of the source was drawn; or there is none, and nothing but why was written.
 pub data Draws (edition : Edition) (source : List ℕ) (steps : Option ℕ) (ends : RunEnds) (status : ℕ) : Type 0 where
-  drew : (ds : List Definition) (image : Image) → HasProgram edition source ends.line ends.line_after ds image
+  drew : (ds : List Definition) (image : Image) → HasProgram edition source ds image → ends.line_after ≡ ends.line
       → DrawsProgram ds image steps ends.input ends.input_after ends.out ends.out_after status
       → Draws edition source steps ends status
-  stopped : NoProgram edition source ends.line ends.line_after status → ends.out_after ≡ ends.out
+  stopped : NoProgram edition source line_of ends.line ends.line_after status → ends.out_after ≡ ends.out
       → ends.input_after ≡ ends.input → Draws edition source steps ends status
 
 -- so many steps were made

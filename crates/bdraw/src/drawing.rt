@@ -13,7 +13,7 @@ use blang::Outcome;
 use blang::status::{self, Status};
 use bmach::Stepper;
 use bpages::PagedStore;
-use btools::{Program, Sink, Text, read_program, tell};
+use btools::{Program, Sink, Text, read_program, tell, tell_fault};
 use bword::{ByteIn, ByteOut, Edition, Store};
 use std::alloc::{AllocError, Global};
 
@@ -37,9 +37,9 @@ pub fn draw<I: ByteIn, O: ByteOut, D: ByteOut>(
     ensures out_lender { O.lender out.new ≡ O.lender out.old }
     ensures diag_lender { D.lender diag.new ≡ D.lender diag.old }
 {
-    let program = match read_program(alloc, source, edition, diag) {
+    let program = match read_program(alloc, source, edition) {
         Ok(program) => program,
-        Err(status) => return status,
+        Err(fault) => return tell_fault(&fault, diag),
     };
     match steps {
         None => show_before(alloc, &program, Moment::Before, out),

@@ -9,6 +9,7 @@ use Rattle.blang.specs.Compiles.{Compilation, CompilesTo, line_of, status_of}
 use Rattle.blang.specs.Cut.{tokens_from}
 use Rattle.blang.specs.Reports.{Reported}
 use Rattle.btools.specs.Programs as programs
+use Rattle.btools.proofs.Compiled as compiling
 use Rattle.btools.proofs.Excluded as told
 use Rattle.bformat.specs.Excluded.{TellsNothing, WrongLayouts}
 use Rattle.bformat.specs.Formats.{Format, Formats, IsLayout, Shows, faulty, has_wrong_token, laid_out, no_memory}
@@ -73,7 +74,7 @@ module _ (f : Format) (r : Compilation) (g : CompilesTo [] (tokens_from f.editio
 
   compiled_well : (code : List ℕ) → Compiled code f.status → f.status ≡ 0 → has_wrong_token f.edition f.source ≡ false
   compiled_well code compiled is =
-      compiled_is_fine f.edition f.source r g (told.clean f.edition f.source r g f.line f.line_after code (subst (Compiled code) is compiled)).clean
+      compiled_is_fine f.edition f.source r g (compiling.clean f.edition f.source r g f.line f.line_after code (subst (Compiled code) is compiled)).clean
 
   done : Formats f → f.status ≡ 0 → has_wrong_token f.edition f.source ≡ false
   done (laid_out text right layout shows line) is = right
@@ -99,7 +100,7 @@ module _ (f : Format) (r : Compilation) (g : CompilesTo [] (tokens_from f.editio
   fault (laid_out text right layout shows line) is = absurd (not_one f.status is (shown text f.source f.out f.out_after f.status f.is_check shows))
   fault (faulty code wrong compiled out) is = (
     wrong,
-    (told.excluded f.edition f.source r g f.line f.line_after).fault (programs.faulty code (subst (Compiled code) is compiled) (λ e. omega (arith, e))),
+    compiling.faulty f.edition f.source r g f.line f.line_after code (subst (Compiled code) is compiled),
     out,
   )
   fault (no_memory out line status) is = absurd (omega (arith, is, status))
@@ -107,7 +108,7 @@ module _ (f : Format) (r : Compilation) (g : CompilesTo [] (tokens_from f.editio
   device : Formats f → f.status ≡ 133 → Grew f.out.failures f.out_after.failures ⊎ Grew f.line.failures f.line_after.failures
   device (laid_out text right layout shows line) is = inl (failed text f.source f.out f.out_after f.status f.is_check shows is)
   device (faulty code wrong compiled out) is =
-      inr ((told.excluded f.edition f.source r g f.line f.line_after).device (programs.faulty code (subst (Compiled code) is compiled) (λ e. omega (arith, e))))
+      inr (compiling.device f.edition f.source r g f.line f.line_after code (subst (Compiled code) is compiled))
   device (no_memory out line status) is = absurd (omega (arith, is, status))
 
 pub wrong_layouts : WrongLayouts

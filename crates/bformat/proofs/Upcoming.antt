@@ -1,164 +1,217 @@
--- The tokens that a lexer of a source has still to give.
-use Rattle.std.proofs.Common.{◌≡◌, ◌∙◌, ℕ, List, [], ◌∷◌, ◌++◌, Bool, true, false, Some, Ok, ap, append_assoc, refl, subst, sym}
-use Rattle.std.specs.Prelude.{map, ◌||◌}
+-- The pieces and tokens of a source that are still to come.
+use Rattle.std.proofs.Common.{◌≡◌, ◌≢◌, ◌∙◌, ℕ, zero, suc, ◌+◌, ◌<◌, ◌≤◌, Bool, true, false, List, [], ◌∷◌, ◌++◌, Option, Some, None, ap, append_assoc, append-nil, arith, drop, length, map, refl, subst, sym}
+use Rattle.std.proofs.lemmas.List.{drop_all}
+use Rattle.std.specs.Prelude.{if◌then◌else◌, is_some, not, slice_range}
 use Rattle.std.specs.List.{list_any}
 use Rattle.bword.specs.declared.edition.Edition.{Edition}
-use Rattle.bword.specs.ByteEnds.{Incoming, CanFollow}
-use Rattle.bword.proofs.Remaining.{rest_after}
-use Rattle.blang.specs.Cut.{is_last, token_first, tokens_from}
+use Rattle.blang.specs.Cut.{Piece, Space, Word, is_last, piece_first, tokens_from, whole}
 use Rattle.blang.specs.declared.token.Placed.{Placed}
 use Rattle.blang.specs.declared.token.Token.{Token}
 use Rattle.blang.specs.declared.token.Token.TheVariants as token
-use Rattle.blex.specs.Lasts.{last_of}
-use Rattle.blex.specs.Lexers.{GivesAt, Lexer, LexGives, OpenGives, progress_after}
-use Rattle.blex.specs.Lexers as lexers
-use Rattle.blex.specs.Lexing.{PassesToken}
-use Rattle.blex.specs.Sources.{CanCome, Source}
-use Rattle.blex.specs.declared.lexer.Progress.TheVariants as progress
+use Rattle.blang.specs.declared.token.Letters.TheVariants as letters
+use Rattle.blex.specs.declared.lexeme.Lexeme.{Lexeme}
+use Rattle.blex.specs.declared.lexeme.Lexeme.TheVariants as lexeme
+use Rattle.blex.specs.Places.{Finds, Scanner, after_blanks, line_at, next_piece, piece_end, piece_from, piece_lexeme}
+use Rattle.blex.specs.declared.scanner.PlacedPiece.{PlacedPiece}
+use Rattle.blex.proofs.Cutting.{tokens_from-nil}
+use Rattle.blex.proofs.PlaceSteps.{end_piece, piece_grows, places_of_tokens, some_piece_from}
 use Rattle.bformat.specs.Formats.{has_wrong_token, is_wrong, tokens_of}
+use Rattle.bformat.specs.Pieces.{is_end, pieces_from, pieces_of}
+use Rattle.bformat.specs.Readings.{is_bad}
 
-abbrev pub without_lines : List Placed → List Token
-without_lines ts = map (λ p. p.token) ts
-
--- A lexer that can give more tokens, of a stream that tells what it has left.
-pub record Reads (edition : Edition) (l : Lexer) : Type 0 where
-  pub live : l.progress ≡ progress.Open
-  pub edition_is : l.source.edition ≡ edition
-  pub rest : List ℕ
-  pub left : l.source.end.left ≡ Some rest
-  pub follows : CanFollow l.source.end rest
-
-abbrev pub upcoming : (edition : Edition) (l : Lexer) → Reads edition l → List Token
-upcoming edition l r = without_lines (tokens_from edition l.source.line (l.source.ahead ++ r.rest))
-
--- these are the tokens that it has still to give
-abbrev pub Gives : Edition → Lexer → List Token → Type 0
-Gives edition l ts = (r : Reads edition l) × (upcoming edition l r ≡ ts)
-
-no_end : (b : Bool) → b ≡ false → b ≡ true → (bytes : List ℕ) → bytes ≡ []
-no_end b e f bytes = cc
-
--- a new lexer
-pub gives_all : (edition : Edition) (end : Incoming) (lender source : List ℕ) (l : Lexer) → l ≡ lexers.new edition end lender → end.left ≡ Some source → end.is_over ≡ false
-    → Gives edition l (tokens_of edition source)
-gives_all edition end lender source l e left live =
-    subst (λ x. Gives edition x (tokens_of edition source)) (sym e)
-    (record { live = refl; edition_is = refl; rest = source; left = left; follows = λ over. no_end end.is_over live over source }, refl)
-
--- What a source has after a token, where its stream had this rest.
-record Passed (old new : Source) (p : Placed) (rest : List ℕ) : Type 0 where
-  more : List ℕ
-  left : new.end.left ≡ Some more
-  follows : CanFollow new.end more
-  edition : new.edition ≡ old.edition
-  cut : tokens_from old.edition old.line (old.ahead ++ rest) ≡ token_first p.token p.line (tokens_from old.edition new.line (new.ahead ++ more))
-
-passed : (old new : Source) (p : Placed) (rest : List ℕ) → old.end.left ≡ Some rest → CanFollow old.end rest → PassesToken old p new → Passed old new p rest
-passed old new p rest left follow t =
-    let r = rest_after old.end new.end t.passes.taken rest t.passes.took left follow in
-    let coming = new.ahead ++ r.more in
-    let whole : t.bytes ++ coming ≡ old.ahead ++ rest =
-    sym (append_assoc t.bytes new.ahead r.more) ∙ ap (λ x. x ++ r.more) (sym t.passes.split) ∙ append_assoc old.ahead t.passes.taken r.more ∙ ap (λ x. old.ahead ++ x) r.whole in
-    let can : CanCome new coming = record { more = r.more; split = refl; over = r.follows } in
-    record {
-      more = r.more;
-      left = r.left;
-      follows = r.follows;
-      edition = t.passes.edition;
-      cut = subst (λ bytes. tokens_from old.edition old.line bytes ≡ token_first p.token p.line (tokens_from old.edition new.line coming)) whole (t.cut coming can);
-    }
-
--- what is kept of a token that is no last one
-open_after : (t : Token) (line : ℕ) → is_last t ≡ false → progress_after (last_of t) line ≡ progress.Open
-open_after (token.Bad letters) line e = cc
-open_after token.End line e = cc
-open_after _ line e = refl
-
-opened : (old new : Lexer) (p : Placed) → old.progress ≡ progress.Open → LexGives old (Ok p) new → OpenGives old.source (Ok p) new.source new.progress
-opened old new p live g = subst (λ q. GivesAt q old (Ok p) new) live g
-
-module _ (edition : Edition) (old new : Lexer) (p : Placed) (r : Reads edition old) (gives : LexGives old (Ok p) new) where
-  abbrev given : OpenGives old.source (Ok p) new.source new.progress
-  given = opened old new p r.live gives
-
-  abbrev step : Passed old.source new.source p r.rest
-  step = passed old.source new.source p r.rest r.left r.follows given.0
-
-  cut_here : upcoming edition old r ≡ without_lines (token_first p.token p.line (tokens_from edition new.source.line (new.source.ahead ++ step.more)))
-  cut_here =
-      subst (λ e. without_lines (tokens_from e old.source.line (old.source.ahead ++ r.rest)) ≡ without_lines (token_first p.token p.line (tokens_from e new.source.line (new.source.ahead ++ step.more))))
-      r.edition_is (ap without_lines step.cut)
-
-  first_last : (t : Token) (line : ℕ) (ts : List Placed) → is_last t ≡ true → without_lines (token_first t line ts) ≡ t ∷ []
-  first_last t line ts e = rw e refl
-
-  first_more : (t : Token) (line : ℕ) (ts : List Placed) → is_last t ≡ false → without_lines (token_first t line ts) ≡ t ∷ without_lines ts
-  first_more t line ts e = rw e refl
-
-  -- the last token
-  pub gives_last : is_last p.token ≡ true → upcoming edition old r ≡ p.token ∷ []
-  gives_last e = cut_here ∙ first_last p.token p.line _ e
-
-  -- another one
-  pub gives_more : is_last p.token ≡ false → (s : Reads edition new) × (upcoming edition old r ≡ p.token ∷ upcoming edition new s)
-  gives_more e = (
-    record {
-      live = given.1 ∙ open_after p.token p.line e;
-      edition_is = step.edition ∙ r.edition_is;
-      rest = step.more;
-      left = step.left;
-      follows = step.follows;
-    },
-    cut_here ∙ first_more p.token p.line _ e,
-  )
+pub not_false : (b : Bool) → not b ≡ false → b ≡ true
+not_false true e = refl
+not_false false e = cc
 
 pub fine_before : (t : Token) (ts : List Token) → is_last t ≡ false → list_any is_wrong (t ∷ ts) ≡ list_any is_wrong ts
 fine_before (token.Bad letters) ts e = cc
 fine_before token.End ts e = cc
 fine_before _ ts e = refl
 
-or_false : (b : Bool) → (b || false) ≡ b
-or_false true = refl
-or_false false = refl
+abbrev without_lines : List Placed → List Token
+without_lines ps = map (λ (p : Placed). p.token) ps
 
--- Whether a token of the source is wrong is open as long as none that was given is.
-pub record SeeksWrong (edition : Edition) (source : List ℕ) (l : Lexer) : Type 0 where
-  pub reads : Reads edition l
-  pub same : list_any is_wrong (upcoming edition l reads) ≡ has_wrong_token edition source
+module _ (edition : Edition) (source : List ℕ) where
+  -- the tokens from a place on
+  abbrev pub upcoming : ℕ → List Token
+  upcoming at = without_lines (tokens_from edition (line_at source at) (drop at source))
 
-pub seeks_from : (edition : Edition) (source : List ℕ) (l : Lexer) → Gives edition l (tokens_of edition source) → SeeksWrong edition source l
-seeks_from edition source l h = record { reads = h.0; same = ap (list_any is_wrong) h.1 }
+  -- what the next piece after a place is, and its place
+  abbrev pub first_at : ℕ → ℕ
+  first_at at = after_blanks source at
 
-pub seeks_on : (edition : Edition) (source : List ℕ) (old new : Lexer) (p : Placed) → SeeksWrong edition source old → LexGives old (Ok p) new → is_last p.token ≡ false
-    → SeeksWrong edition source new
-seeks_on edition source old new p h gives e =
-    let more = gives_more edition old new p h.reads gives e in
-    record { reads = more.0; same = sym (ap (list_any is_wrong) more.1 ∙ fine_before p.token (upcoming edition new more.0) e) ∙ h.same }
+  abbrev pub end_at : ℕ → ℕ
+  end_at at = piece_end edition source (first_at at)
 
-pub found_wrong : (edition : Edition) (source : List ℕ) (old new : Lexer) (p : Placed) → SeeksWrong edition source old → LexGives old (Ok p) new → is_last p.token ≡ true
-    → is_wrong p.token ≡ has_wrong_token edition source
-found_wrong edition source old new p h gives e =
-    sym (ap (list_any is_wrong) (gives_last edition old new p h.reads gives e) ∙ or_false (is_wrong p.token)) ∙ h.same
+  abbrev piece_at : ℕ → Option Piece
+  piece_at at = piece_from edition source (first_at at)
 
--- Two sources have the same tokens if those are the same that come.
-pub record Compares (edition : Edition) (source text : List ℕ) (left right : Lexer) : Type 0 where
-  pub one : Reads edition left
-  pub other : Reads edition right
-  pub same : upcoming edition right other ≡ upcoming edition left one → tokens_of edition text ≡ tokens_of edition source
+  abbrev pub text_at : ℕ → List ℕ
+  text_at at = slice_range source (first_at at) (end_at at)
 
-pub compares_from : (edition : Edition) (source text : List ℕ) (left right : Lexer) → Gives edition left (tokens_of edition source) → Gives edition right (tokens_of edition text)
-    → Compares edition source text left right
-compares_from edition source text left right h k = record { one = h.0; other = k.0; same = λ e. sym k.1 ∙ e ∙ h.1 }
+  other_than_end : (l : Option Lexeme) → is_end l ≡ false → l ≢ Some lexeme.End
+  other_than_end l e same = let f : true ≡ false = ap is_end (sym same) ∙ e in cc
 
-module _ (edition : Edition) (source text : List ℕ) (left right left_after right_after : Lexer) (p q : Placed) (h : Compares edition source text left right)
-    (one : LexGives left (Ok p) left_after) (other : LexGives right (Ok q) right_after) (same : p.token ≡ q.token) where
-  pub compares_on : is_last p.token ≡ false → Compares edition source text left_after right_after
-  compares_on e =
-      let this = gives_more edition left left_after p h.one one e in
-      let that = gives_more edition right right_after q h.other other (ap is_last (sym same) ∙ e) in
-      record { one = this.0; other = that.0; same = λ k. h.same (that.1 ∙ ap (λ t. t ∷ upcoming edition right_after that.0) (sym same) ∙ ap (λ ts. p.token ∷ ts) k ∙ sym this.1) }
+  grows : (at : ℕ) → is_end (piece_lexeme (piece_at at)) ≡ false → at < end_at at
+  grows at e = omega (arith, piece_grows edition source (first_at at) (other_than_end (piece_lexeme (piece_at at)) e))
 
-  pub compares_last : is_last p.token ≡ true → tokens_of edition text ≡ tokens_of edition source
-  compares_last e =
-      h.same
-      (gives_last edition right right_after q h.other other (ap is_last (sym same) ∙ e) ∙ ap (λ t. t ∷ []) (sym same) ∙ sym (gives_last edition left left_after p h.one one e))
+  -- one step of the pieces
+  step_end : (fuel at : ℕ) → is_end (piece_lexeme (piece_at at)) ≡ true → pieces_from edition (suc fuel) source at ≡ []
+  unfolding pieces_from
+  step_end fuel at e = rw e refl
+
+  step_more : (fuel at : ℕ) → is_end (piece_lexeme (piece_at at)) ≡ false → pieces_from edition (suc fuel) source at ≡ text_at at ∷ pieces_from edition fuel source (end_at at)
+  unfolding pieces_from
+  step_more fuel at e = rw e refl
+
+  none_left : (fuel at : ℕ) → length source ≤ at → pieces_from edition fuel source at ≡ []
+  unfolding pieces_from
+  none_left zero at h = refl
+  none_left (suc fuel) at h = rw (end_piece edition source at h) refl
+
+  -- enough fuel is enough
+  pieces_fuel : (m n at : ℕ) → length source ≤ at + m → length source ≤ at + n → pieces_from edition m source at ≡ pieces_from edition n source at
+  pieces_fuel zero n at h k = none_left zero at (omega arith) ∙ sym (none_left n at (omega arith))
+  pieces_fuel (suc m) zero at h k = none_left (suc m) at (omega arith) ∙ sym (none_left zero at (omega arith))
+  pieces_fuel (suc m) (suc n) at h k = by (is_end (piece_lexeme (piece_at at))) refl (λ g. pieces_fuel m n (end_at at) (omega (arith, g)) (omega (arith, g)))
+    where
+      by : (b : Bool) → is_end (piece_lexeme (piece_at at)) ≡ b → (at < end_at at → pieces_from edition m source (end_at at) ≡ pieces_from edition n source (end_at at))
+          → pieces_from edition (suc m) source at ≡ pieces_from edition (suc n) source at
+      by true e again = step_end m at e ∙ sym (step_end n at e)
+      by false e again = step_more m at e ∙ ap (λ ps. text_at at ∷ ps) (again (grows at e)) ∙ sym (step_more n at e)
+
+  -- the pieces from a place on
+  abbrev pub coming : ℕ → List (List ℕ)
+  coming at = pieces_from edition (length source) source at
+
+  pub coming_end : (at : ℕ) → is_end (piece_lexeme (piece_at at)) ≡ true → coming at ≡ []
+  coming_end at e = pieces_fuel (length source) (suc (length source)) at (omega arith) (omega arith) ∙ step_end (length source) at e
+
+  pub coming_more : (at : ℕ) → is_end (piece_lexeme (piece_at at)) ≡ false → coming at ≡ text_at at ∷ coming (end_at at)
+  coming_more at e = pieces_fuel (length source) (suc (length source)) at (omega arith) (omega arith) ∙ step_more (length source) at e
+
+  -- the tokens from a place on are those of the next piece and those from its end on
+  upcoming_step : (at : ℕ) → upcoming at ≡ without_lines (piece_first (piece_at at) (line_at source (first_at at)) (tokens_from edition (line_at source (end_at at)) (drop (end_at at) source)))
+  upcoming_step at = ap without_lines (places_of_tokens edition source at)
+
+  fine_first : (o : Option Piece) (line : ℕ) (rest : List Placed) → is_some o ≡ true → is_end (piece_lexeme o) ≡ false → is_bad (piece_lexeme o) ≡ false
+      → list_any is_wrong (without_lines (piece_first o line rest)) ≡ list_any is_wrong (without_lines rest)
+  fine_first None line rest s e b = cc
+  fine_first (Some Space) line rest s e b = refl
+  fine_first (Some (Word (token.Bad letters))) line rest s e b = cc
+  fine_first (Some (Word token.End)) line rest s e b = cc
+  fine_first (Some (Word _)) line rest s e b = refl
+
+  fine_end : (o : Option Piece) (line : ℕ) (rest : List Placed) → is_end (piece_lexeme o) ≡ true → list_any is_wrong (without_lines (piece_first o line rest)) ≡ false
+  fine_end (Some (Word token.End)) line rest e = refl
+  fine_end None line rest e = cc
+  fine_end (Some Space) line rest e = cc
+  fine_end (Some (Word _)) line rest e = cc
+
+  wrong_first : (o : Option Piece) (line : ℕ) (rest : List Placed) → is_bad (piece_lexeme o) ≡ true → list_any is_wrong (without_lines (piece_first o line rest)) ≡ true
+  wrong_first (Some (Word (token.Bad letters))) line rest e = refl
+  wrong_first None line rest e = cc
+  wrong_first (Some Space) line rest e = cc
+  wrong_first (Some (Word _)) line rest e = cc
+
+  -- a source is read up to a place: its pieces before, and whether one of its tokens is wrong is open
+  pub record Reads (texts : List (List ℕ)) (at : ℕ) : Type 0 where
+    pub all : texts ++ coming at ≡ pieces_of edition source
+    pub undecided : list_any is_wrong (upcoming at) ≡ has_wrong_token edition source
+
+  pub reads_from : Reads [] 0
+  reads_from = record { all = refl; undecided = refl }
+
+  module _ (texts : List (List ℕ)) (at : ℕ) (found : PlacedPiece) (is : found ≡ next_piece edition source at) (h : Reads texts at) where
+    lexeme_is : found.lexeme ≡ piece_lexeme (piece_at at)
+    lexeme_is = ap (λ (p : PlacedPiece). p.lexeme) is
+
+    pub reads_end : is_end found.lexeme ≡ true → (texts ≡ pieces_of edition source) × (has_wrong_token edition source ≡ false)
+    reads_end e =
+        let end : is_end (piece_lexeme (piece_at at)) ≡ true = ap is_end (sym lexeme_is) ∙ e in (
+          sym (append-nil texts) ∙ ap (λ ps. texts ++ ps) (sym (coming_end at end)) ∙ h.all,
+          sym h.undecided ∙ ap (list_any is_wrong) (upcoming_step at) ∙ fine_end (piece_at at) _ _ end,
+        )
+
+    pub reads_wrong : is_bad found.lexeme ≡ true → has_wrong_token edition source ≡ true
+    reads_wrong e =
+        sym h.undecided ∙ ap (list_any is_wrong) (upcoming_step at) ∙ wrong_first (piece_at at) _ _ (ap is_bad (sym lexeme_is) ∙ e)
+
+    pub reads_more : is_end found.lexeme ≡ false → is_bad found.lexeme ≡ false → Reads (texts ++ slice_range source found.first found.end ∷ []) found.end
+    reads_more e b =
+        let other : is_end (piece_lexeme (piece_at at)) ≡ false = ap is_end (sym lexeme_is) ∙ e in
+        let fine : is_bad (piece_lexeme (piece_at at)) ≡ false = ap is_bad (sym lexeme_is) ∙ b in
+        subst (λ (p : PlacedPiece). Reads (texts ++ slice_range source p.first p.end ∷ []) p.end) (sym is)
+        (record {
+          all = append_assoc texts (text_at at ∷ []) (coming (end_at at)) ∙ ap (λ ps. texts ++ ps) (sym (coming_more at other)) ∙ h.all;
+          undecided = sym (ap (list_any is_wrong) (upcoming_step at) ∙ fine_first (piece_at at) _ _ (some_piece_from edition source (first_at at)) other fine) ∙ h.undecided;
+        })
+
+  -- the token of a piece, and those after it
+  abbrev word_first : Option Piece → List Token → List Token
+  word_first None rest = token.Bad letters.Character ∷ []
+  word_first (Some Space) rest = rest
+  word_first (Some (Word t)) rest = t ∷ (if is_last t then [] else rest)
+
+  abbrev pub words : List (List ℕ) → List Token
+  words [] = token.End ∷ []
+  words (t ∷ ts) = word_first (whole edition t) (words ts)
+
+  tokens_end : (o : Option Piece) (line : ℕ) (rest : List Placed) → is_end (piece_lexeme o) ≡ true → without_lines (piece_first o line rest) ≡ token.End ∷ []
+  tokens_end (Some (Word token.End)) line rest e = refl
+  tokens_end None line rest e = cc
+  tokens_end (Some Space) line rest e = cc
+  tokens_end (Some (Word _)) line rest e = cc
+
+  if_without : (b : Bool) (rest : List Placed) → without_lines (if b then [] else rest) ≡ (if b then [] else without_lines rest)
+  if_without true rest = refl
+  if_without false rest = refl
+
+  tokens_first : (o : Option Piece) (line : ℕ) (rest : List Placed) → without_lines (piece_first o line rest) ≡ word_first o (without_lines rest)
+  tokens_first None line rest = refl
+  tokens_first (Some Space) line rest = refl
+  tokens_first (Some (Word t)) line rest = ap (λ ts. t ∷ ts) (if_without (is_last t) rest)
+
+  none_to_come : (at : ℕ) → length source ≤ at → upcoming at ≡ token.End ∷ []
+  none_to_come at h = let none : drop at source ≡ [] = drop_all at source h in rw (none, tokens_from-nil edition (line_at source at)) refl
+
+  token_words : (fuel at : ℕ) → length source ≤ at + fuel → upcoming at ≡ words (pieces_from edition fuel source at)
+  unfolding pieces_from
+  token_words zero at h = none_to_come at (omega arith)
+  token_words (suc fuel) at h = by (is_end (piece_lexeme (piece_at at))) refl (λ g. token_words fuel (end_at at) (omega (arith, g)))
+    where
+      by : (b : Bool) → is_end (piece_lexeme (piece_at at)) ≡ b → (at < end_at at → upcoming (end_at at) ≡ words (pieces_from edition fuel source (end_at at)))
+          → upcoming at ≡ words (pieces_from edition (suc fuel) source at)
+      by true e again = upcoming_step at ∙ tokens_end (piece_at at) _ _ e ∙ ap words (sym (step_end fuel at e))
+      by false e again =
+          upcoming_step at ∙ tokens_first (piece_at at) _ _ ∙ ap (word_first (piece_at at)) (again (grows at e)) ∙ ap words (sym (step_more fuel at e))
+
+  pub words_of_pieces : tokens_of edition source ≡ words (pieces_of edition source)
+  words_of_pieces = token_words (length source) 0 (omega arith)
+
+-- the same pieces are the same tokens
+pub same_tokens : (edition : Edition) (source text : List ℕ) → pieces_of edition text ≡ pieces_of edition source → tokens_of edition text ≡ tokens_of edition source
+same_tokens edition source text e = words_of_pieces edition text ∙ ap (words edition text) e ∙ sym (words_of_pieces edition source)
+
+-- So many pieces of a text were compared with others.
+pub record Compares (edition : Edition) (text : List ℕ) (texts : List (List ℕ)) (at : ℕ) : Type 0 where
+  pub all : texts ++ coming edition text at ≡ pieces_of edition text
+
+pub compares_more : (edition : Edition) (text : List ℕ) (texts : List (List ℕ)) (at : ℕ) (found : PlacedPiece) → found ≡ next_piece edition text at → Compares edition text texts at
+    → is_end found.lexeme ≡ false → Compares edition text (texts ++ slice_range text found.first found.end ∷ []) found.end
+compares_more edition text texts at found is h e =
+    subst (λ (p : PlacedPiece). Compares edition text (texts ++ slice_range text p.first p.end ∷ []) p.end) (sym is)
+    (record {
+      all = append_assoc texts (text_at edition text at ∷ []) (coming edition text (end_at edition text at))
+          ∙ ap (λ ps. texts ++ ps) (sym (coming_more edition text at (ap (λ (p : PlacedPiece). is_end p.lexeme) (sym is) ∙ e))) ∙ h.all;
+    })
+
+pub compares_end : (edition : Edition) (text : List ℕ) (texts : List (List ℕ)) (at : ℕ) (found : PlacedPiece) → found ≡ next_piece edition text at → Compares edition text texts at
+    → is_end found.lexeme ≡ true → pieces_of edition text ≡ texts
+compares_end edition text texts at found is h e =
+    sym h.all ∙ ap (λ ps. texts ++ ps) (coming_end edition text at (ap (λ (p : PlacedPiece). is_end p.lexeme) (sym is) ∙ e)) ∙ append-nil texts
+
+-- what a scanner found
+pub found_in : (old new : Scanner) (found : PlacedPiece) (edition : Edition) (source : List ℕ) → Finds old found new → old.edition ≡ edition → old.source ≡ source
+    → found ≡ next_piece edition source old.at
+found_in old new found edition source h e f = h.found_is ∙ ap (λ x. next_piece x old.source old.at) e ∙ ap (λ s. next_piece edition s old.at) f

@@ -10,7 +10,7 @@ use Rattle.blang.specs.declared.token.Token.{Token}
 use Rattle.blang.specs.declared.token.Token.TheVariants as token
 use Rattle.btools.specs.Programs.{WasCompiled}
 use Rattle.bformat.specs.declared.formatting.TheConstants.{CHANGES}
-use Rattle.bformat.specs.Squeezed.{squeezed}
+use Rattle.bformat.specs.Pieces.{pieces_of}
 
 -- the tokens of a source, without their lines
 abbrev pub tokens_of : Edition → List ℕ → List Token
@@ -24,11 +24,11 @@ is_wrong _ = false
 abbrev pub has_wrong_token : Edition → List ℕ → Bool
 has_wrong_token edition source = list_any is_wrong (tokens_of edition source)
 
--- The text has the tokens of the source, in order; outside of quotes and comments it differs only in blanks, so that
--- each comment and each constant stands in its place, to the byte.
+-- The text has the comments and tokens of the source, in order and each to the byte. Only what is blank between them
+-- differs.
 pub record IsLayout (edition : Edition) (source text : List ℕ) : Type 0 where
+  pub pieces : pieces_of edition text ≡ pieces_of edition source
   pub tokens : tokens_of edition text ≡ tokens_of edition source
-  pub rest : squeezed text ≡ squeezed source
 
 -- a source in an edition, whether it is only looked at, the two streams, before and after, and the status
 pub record Format : Type 0 where

@@ -1,5 +1,6 @@
-pub mod Squeezed
+pub mod Pieces
+pub mod Readings
 pub mod Formats
-pub mod SqueezedRows
+pub mod PieceRows
 pub mod FormatRows
 pub mod Excluded

@@ -1,13 +1,12 @@
 //! Laying a source out.
-ghost use Rattle.std.specs.Prelude.{ℕ, List, ◌≡◌, IfOk, IsTrue};
+ghost use Rattle.std.specs.Prelude.{ℕ, List, ◌≡◌, IfOk};
 ghost use Rattle.bformat.specs.Excluded.{WrongLayouts};
 ghost use Rattle.bformat.specs.Formats.{Formats, IsLayout, Shows};
+ghost use Rattle.bformat.specs.Readings.{AreRead};
 ghost use Rattle.btools.specs.Programs.{WasCompiled};
 
 use crate::layout::lay_out;
-use crate::pieces::pieces;
-use crate::place::squeezed;
-use crate::reading::{has_same_tokens, has_wrong_token};
+use crate::reading::{Piece, has_pieces, read};
 use blang::status::{self, Status};
 use bparse::compile_edition;
 use btools::{Text, tell};
@@ -43,10 +42,13 @@ pub fn format<O: ByteOut, D: ByteOut>(
     ensures out_lender { O.lender out.new ≡ O.lender out.old }
     ensures diag_lender { D.lender diag.new ≡ D.lender diag.old }
 {
-    if has_wrong_token(source, edition) {
+    let Ok(read) = read(alloc, source, edition) else {
+        return status::MEMORY;
+    };
+    let Some(pieces) = read else {
         return tell_fault(alloc, source, edition, diag);
-    }
-    match layout(alloc, source, edition) {
+    };
+    match layout(alloc, source, edition, &pieces) {
         Ok(text) => show(text.as_slice(), source, is_check, out),
         Err(_) => status::MEMORY,
     }
@@ -62,33 +64,22 @@ fn tell_fault<D: ByteOut>(alloc: Global, source: &[u8], edition: Edition, diag: 
 }
 
 // What was made of the source if it is a layout of it, and else the source as it is.
-fn layout(alloc: Global, source: &[u8], edition: Edition) -> Result<Text, AllocError>
+fn layout(
+    alloc: Global,
+    source: &[u8],
+    edition: Edition,
+    pieces: &[Piece<'_>],
+) -> Result<Text, AllocError>
+    requires { AreRead edition source.now pieces.now }
     ensures { IfOk result (IsLayout edition source.now) }
 {
-    let pieces = pieces(alloc, source, edition)?;
-    let text = lay_out(alloc, &pieces)?;
-    if is_layout(alloc, source, text.as_slice(), edition)? {
+    let text = lay_out(alloc, pieces)?;
+    if has_pieces(text.as_slice(), edition, pieces) {
         return Ok(text);
     }
     let mut unchanged = Text::new(alloc);
     unchanged.push(source)?;
     Ok(unchanged)
-}
-
-fn is_layout(
-    alloc: Global,
-    source: &[u8],
-    text: &[u8],
-    edition: Edition,
-) -> Result<bool, AllocError>
-    ensures { IfOk result (λ b. IsTrue b → IsLayout edition source.now text.now) }
-{
-    if !has_same_tokens(source, text, edition) {
-        return Ok(false);
-    }
-    let old = squeezed(alloc, source)?;
-    let new = squeezed(alloc, text)?;
-    Ok(old.as_slice() == new.as_slice())
 }
 
 // Writes the text, or says whether it differs from the source.

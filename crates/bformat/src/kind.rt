@@ -1,5 +1,7 @@
 //! What a piece of a source is for its layout.
-use bword::{Edition, is_name_byte};
+use blang::Keyword;
+use blex::Lexeme;
+use bword::BinOp;
 
 /// A comment or a token, as far as the layout tells them apart.
 #[derive(Clone, Copy, PartialEq, Eq)]
@@ -36,45 +38,46 @@ pub(crate) enum Kind {
 }
 
 impl Kind {
-    /// What the text of a piece is.
-    pub(crate) fn of(text: &[u8], edition: Edition) -> Self {
-        match text {
-            [b'/', b'*', ..] => Kind::Comment,
-            [b'"' | b'\'', ..] => Kind::Word,
-            [first, ..] if is_name_byte(*first) => Kind::of_word(text, edition),
-            _ => Kind::of_sign(text),
+    /// What a token is, or what is none.
+    pub(crate) fn of(lexeme: Option<Lexeme>) -> Self {
+        match lexeme {
+            None => Kind::Comment,
+            Some(Lexeme::Keyword(keyword)) => Kind::of_keyword(keyword),
+            Some(Lexeme::Operator(BinOp::Sub | BinOp::Mul | BinOp::And)) => Kind::Sign,
+            Some(Lexeme::Operator(_) | Lexeme::Assign(_)) => Kind::Operator,
+            Some(Lexeme::Increment | Lexeme::Decrement) => Kind::Step,
+            Some(lexeme) => Kind::of_mark(lexeme),
         }
     }
 
-    fn of_word(text: &[u8], edition: Edition) -> Self {
-        match text {
-            b"if" => Kind::If,
-            b"while" => Kind::While,
-            b"else" => Kind::Else,
-            b"switch" => Kind::Switch,
-            b"case" => Kind::Case,
-            b"auto" | b"extrn" | b"goto" | b"return" => Kind::Keyword,
-            b"default" if edition == Edition::Two => Kind::Default,
+    fn of_keyword(keyword: Keyword) -> Self {
+        match keyword {
+            Keyword::If => Kind::If,
+            Keyword::While => Kind::While,
+            Keyword::Else => Kind::Else,
+            Keyword::Switch => Kind::Switch,
+            Keyword::Case => Kind::Case,
+            Keyword::Default => Kind::Default,
+            // It stands alone, as a name does.
+            Keyword::Break => Kind::Word,
+            _ => Kind::Keyword,
+        }
+    }
+
+    fn of_mark(lexeme: Lexeme) -> Self {
+        match lexeme {
+            Lexeme::Not => Kind::Not,
+            Lexeme::Question => Kind::Question,
+            Lexeme::Colon => Kind::Colon,
+            Lexeme::Comma => Kind::Comma,
+            Lexeme::Semicolon => Kind::Semicolon,
+            Lexeme::OpenParen => Kind::OpenParen,
+            Lexeme::CloseParen => Kind::CloseParen,
+            Lexeme::OpenBracket => Kind::OpenBracket,
+            Lexeme::CloseBracket => Kind::CloseBracket,
+            Lexeme::OpenBrace => Kind::OpenBrace,
+            Lexeme::CloseBrace => Kind::CloseBrace,
             _ => Kind::Word,
-        }
-    }
-
-    fn of_sign(text: &[u8]) -> Self {
-        match text {
-            b"-" | b"*" | b"&" => Kind::Sign,
-            b"!" => Kind::Not,
-            b"++" | b"--" => Kind::Step,
-            b"?" => Kind::Question,
-            b":" => Kind::Colon,
-            b"," => Kind::Comma,
-            b";" => Kind::Semicolon,
-            b"(" => Kind::OpenParen,
-            b")" => Kind::CloseParen,
-            b"[" => Kind::OpenBracket,
-            b"]" => Kind::CloseBracket,
-            b"{" => Kind::OpenBrace,
-            b"}" => Kind::CloseBrace,
-            _ => Kind::Operator,
         }
     }
 }

@@ -1,7 +1,7 @@
 //! The text of a source that is laid out.
 use crate::gaps::{Gap, joins};
 use crate::kind::Kind;
-use crate::pieces::Piece;
+use crate::reading::Piece;
 use crate::structure::{END, Spot, spots};
 use blang::MAX_NESTING;
 use btools::Text;

@@ -6,8 +6,6 @@ mod gaps;
 mod kind;
 mod layout;
 mod levels;
-mod pieces;
-mod place;
 mod reading;
 mod structure;
 

@@ -1,58 +1,98 @@
-//! The tokens of a source, and those of its layout.
-ghost use Rattle.std.specs.Prelude.{◌≡◌, IsTrue};
-ghost use Rattle.bformat.specs.Formats.{has_wrong_token, is_wrong, tokens_of};
-ghost use Rattle.blang.specs.Cut.{is_last};
+//! The comments and tokens of a source, and what stands between them.
+ghost use Rattle.std.specs.Prelude.{◌≡◌, ◌≤◌, true, IfOk, IsTrue, MatchOption, length, slice_range};
+ghost use Rattle.bformat.specs.Formats.{has_wrong_token};
+ghost use Rattle.bformat.specs.Pieces.{is_end, pieces_of};
+ghost use Rattle.bformat.specs.Readings.{AreRead, is_bad, texts};
 
-use blang::Token;
-use blex::Lexer;
-use bword::{Edition, MemIn};
+use crate::kind::Kind;
+use blex::{Lexeme, PlacedPiece, Scanner};
+use bword::Edition;
+use std::alloc::{AllocError, Global};
 
-/// Whether a token of the source is wrong.
-pub(crate) fn has_wrong_token(source: &[u8], edition: Edition) -> bool
-    ensures { result ≡ has_wrong_token edition source.now }
+/// A comment or a token.
+#[derive(Clone, Copy)]
+pub(crate) struct Piece<'a> {
+    pub text: &'a [u8],
+    pub kind: Kind,
+    /// How many lines end between the piece before and this one.
+    pub breaks: usize,
+    /// How many blanks and tabs stand before it on its line.
+    pub blanks: usize,
+}
+
+/// The pieces of a source, unless a token of it is wrong.
+pub(crate) fn read(
+    alloc: Global,
+    source: &[u8],
+    edition: Edition,
+) -> Result<Option<Vec<Piece<'_>>>, AllocError>
+    ensures { IfOk result (λ found. MatchOption found (has_wrong_token edition source.now ≡ true)
+        (λ pieces. AreRead edition source.now pieces.items)) }
 {
-    let mut lexer = Lexer::with_edition(MemIn::new(source), edition);
+    let mut pieces = Vec::new(alloc);
+    let mut scanner = Scanner::new(source, edition);
+    let mut at = 0;
     loop {
-        let Ok(placed) = lexer.next() else {
-            // Its stream is memory, of which no read fails.
-            let _memory = lexer.into_input();
-            unreachable!()
-        };
-        if is_last(&placed.token) {
-            return is_wrong(&placed.token);
+        let found = scanner.next();
+        if is_end(found.lexeme) {
+            return Ok(Some(pieces));
         }
+        if is_bad(found.lexeme) {
+            return Ok(None);
+        }
+        pieces.push(piece_after(source, at, &found))?;
+        at = found.end;
     }
 }
 
-/// Whether the tokens of a text are those of the source.
-pub(crate) fn has_same_tokens(source: &[u8], text: &[u8], edition: Edition) -> bool
-    ensures { IsTrue result → tokens_of edition text.now ≡ tokens_of edition source.now }
+// A piece, where the one before it ended at a place.
+fn piece_after<'a>(source: &'a [u8], at: usize, found: &PlacedPiece) -> Piece<'a>
+    requires order { (at ≤ found.now.first) × (found.now.first ≤ found.now.end) }
+    requires within { found.now.end ≤ length source.now }
+    ensures { result.text.now ≡ slice_range source.now found.now.first found.now.end }
 {
-    let mut left = Lexer::with_edition(MemIn::new(source), edition);
-    let mut right = Lexer::with_edition(MemIn::new(text), edition);
-    // A token has a byte at least, but the last one.
-    for _ in 0..=source.len() {
-        let (Ok(one), Ok(other)) = (left.next(), right.next()) else {
+    let gap = &source[at..found.first];
+    Piece {
+        text: &source[found.first..found.end],
+        kind: Kind::of(found.lexeme),
+        breaks: breaks(gap),
+        blanks: blanks(gap),
+    }
+}
+
+fn is_end(lexeme: Option<Lexeme>) -> bool
+    ensures { result ≡ is_end lexeme }
+{
+    matches!(lexeme, Some(Lexeme::End))
+}
+
+fn is_bad(lexeme: Option<Lexeme>) -> bool
+    ensures { result ≡ is_bad lexeme }
+{
+    matches!(lexeme, Some(Lexeme::Bad(_)))
+}
+
+/// Whether these are the pieces of a text.
+pub(crate) fn has_pieces(text: &[u8], edition: Edition, pieces: &[Piece<'_>]) -> bool
+    ensures { IsTrue result → pieces_of edition text.now ≡ texts pieces.now }
+{
+    let mut scanner = Scanner::new(text, edition);
+    for piece in pieces {
+        let found = scanner.next();
+        if is_end(found.lexeme) || &text[found.first..found.end] != piece.text {
             return false;
-        };
-        if one.token != other.token {
-            return false;
-        }
-        if is_last(&one.token) {
-            return true;
         }
     }
-    false
+    is_end(scanner.next().lexeme)
 }
 
-fn is_last(token: &Token) -> bool
-    ensures { result ≡ is_last token.now }
-{
-    matches!(token, Token::Bad(_) | Token::End)
+// How many lines end in a gap between pieces.
+fn breaks(gap: &[u8]) -> usize {
+    gap.iter().filter(|byte| **byte == b'\n').count()
 }
 
-fn is_wrong(token: &Token) -> bool
-    ensures { result ≡ is_wrong token.now }
-{
-    matches!(token, Token::Bad(_))
+// How many bytes stand after the last newline.
+fn blanks(gap: &[u8]) -> usize {
+    let after = gap.iter().rev().position(|byte| *byte == b'\n');
+    after.unwrap_or(gap.len())
 }

@@ -3,7 +3,7 @@ use Rattle.std.proofs.Common.{◌≡◌, ◌∙◌, ◌+◌, ◌%◌, ℕ, zero,
 use Rattle.std.specs.Prelude.{codes, decimal, min, slice_index, unwrap_or}
 use Rattle.std.specs.List.{flat_map}
 use Rattle.bword.specs.declared.edition.Edition.{Edition}
-use Rattle.bword.specs.ByteEnds.{Grew, Outgoing, Writes}
+use Rattle.bword.specs.ByteEnds.{Grew, Writes}
 use Rattle.bmach.specs.Resolved.{IsLoadedFrom}
 use Rattle.blang.specs.declared.code.Definition.{Definition}
 use Rattle.blang.specs.Compiles.{Compilation, CompilesTo, line_of}
@@ -16,7 +16,7 @@ use Rattle.blang.specs.Text.{lines_of}
 use Rattle.btools.specs.Columns.{left, right}
 use Rattle.btools.specs.Excluded.{Excluded, code_in}
 use Rattle.btools.specs.Programs.{ToldEnds, image_address, load_line}
-use Rattle.btools.proofs.Excluded.{clean, device_grew, excluded, no_done, other_answer, was_told}
+use Rattle.btools.proofs.Excluded.{device_grew, excluded, no_done, other_answer, was_told}
 use Rattle.blist.specs.Excluded.{IsListing, NoListings, NoMaps, WrongStatuses}
 use Rattle.blist.specs.declared.rows.CodeSpot.{CodeSpot}
 use Rattle.blist.specs.declared.layout.TheConstants as layout_texts
@@ -67,15 +67,15 @@ module _ (edition : Edition) (source : List ℕ) (r : Compilation) (g : Compiles
   abbrev code : List Definition
   code = code_in edition source r g
 
-  told : Excluded edition source r g ends.line ends.line_after
-  told = excluded edition source r g ends.line ends.line_after
+  told : Excluded edition source r g line_of ends.line ends.line_after
+  told = excluded edition source r g line_of ends.line ends.line_after
 
   module _ (name : Option (List ℕ)) where
     abbrev Gives : ℕ → Type 0
     Gives status = Lists edition source name ends status
 
     list_done : Gives 0 → (r.stop ≡ None) × (load_fault code ≡ None) × (wanted name code ≡ [] → ⊥) × ((text : List ℕ) × IsListing name code text × Writes ends.out (HEADING.now ++ text) ends.out_after)
-    list_done (listing.listed ds image text p some rows report) =
+    list_done (listing.listed ds image text p silent some rows report) =
         let is = told.program ds image p in (
           is.0,
           is.2,
@@ -87,53 +87,46 @@ module _ (edition : Edition) (source : List ℕ) (r : Compilation) (g : Compiles
             was_told (HEADING.now ++ text) 0 ends.out ends.out_after (λ e. omega (arith, e)) (λ e. omega (arith, e)) report,
           ),
         )
-    list_done (listing.unnamed mid ds image p none report same) =
-        absurd (other_answer UNDEFINED.now 135 mid ends.line_after 0 (λ e. omega (arith, e)) (λ e. omega (arith, e)) (λ e. omega (arith, e)) report)
+    list_done (listing.unnamed ds image p none report same) =
+        absurd (other_answer UNDEFINED.now 135 ends.line ends.line_after 0 (λ e. omega (arith, e)) (λ e. omega (arith, e)) (λ e. omega (arith, e)) report)
     list_done (listing.stopped why same) = absurd (no_done 0 refl (told.status 0 why))
-    list_done (listing.no_memory ds image p same is) = absurd (omega (arith, is))
 
     list_unknown : Gives 135 → (wanted name code ≡ []) × Writes ends.line UNDEFINED.now ends.line_after × (ends.out_after ≡ ends.out)
-    list_unknown (listing.listed ds image text p some rows report) =
+    list_unknown (listing.listed ds image text p silent some rows report) =
         absurd (other_answer (HEADING.now ++ text) 0 ends.out ends.out_after 135 (λ e. omega (arith, e)) (λ e. omega (arith, e)) (λ e. omega (arith, e)) report)
-    list_unknown (listing.unnamed mid ds image p none report same) =
-        let is = (excluded edition source r g ends.line mid).program ds image p in
-        let silent = (clean edition source r g ends.line mid p.code p.compiled).silent in (
+    list_unknown (listing.unnamed ds image p none report same) =
+        let is = told.program ds image p in (
           subst (λ (x : List Definition). wanted name x ≡ []) is.1 none,
-          subst (λ (l : Outgoing). Writes l UNDEFINED.now ends.line_after) silent (was_told UNDEFINED.now 135 mid ends.line_after (λ e. omega (arith, e)) (λ e. omega (arith, e)) report),
+          was_told UNDEFINED.now 135 ends.line ends.line_after (λ e. omega (arith, e)) (λ e. omega (arith, e)) report,
           same,
         )
     list_unknown (listing.stopped why same) = absurd (no_unknown 135 refl (told.status 135 why))
-    list_unknown (listing.no_memory ds image p same is) = absurd (omega (arith, is))
 
     list_statuses : WrongStatuses edition source r g ends Gives
     list_statuses = record { fault = fault; unloaded = unloaded; device = device }
       where
         fault : Gives 1 → ((d : Diagnostic) × (r.stop ≡ Some d) × Writes ends.line (line_of d) ends.line_after) × (ends.out_after ≡ ends.out)
-        fault (listing.listed ds image text p some rows report) =
+        fault (listing.listed ds image text p silent some rows report) =
             absurd (other_answer (HEADING.now ++ text) 0 ends.out ends.out_after 1 (λ e. omega (arith, e)) (λ e. omega (arith, e)) (λ e. omega (arith, e)) report)
-        fault (listing.unnamed mid ds image p none report same) =
-            absurd (other_answer UNDEFINED.now 135 mid ends.line_after 1 (λ e. omega (arith, e)) (λ e. omega (arith, e)) (λ e. omega (arith, e)) report)
+        fault (listing.unnamed ds image p none report same) =
+            absurd (other_answer UNDEFINED.now 135 ends.line ends.line_after 1 (λ e. omega (arith, e)) (λ e. omega (arith, e)) (λ e. omega (arith, e)) report)
         fault (listing.stopped why same) = (told.fault why, same)
-        fault (listing.no_memory ds image p same is) = absurd (omega (arith, is))
 
         unloaded : Gives 132 → ((f : LoadFault) × (text : List ℕ) × (load_fault code ≡ Some f) × (load_line f ≡ Some text) × Writes ends.line text ends.line_after) × (ends.out_after ≡ ends.out)
-        unloaded (listing.listed ds image text p some rows report) =
+        unloaded (listing.listed ds image text p silent some rows report) =
             absurd (other_answer (HEADING.now ++ text) 0 ends.out ends.out_after 132 (λ e. omega (arith, e)) (λ e. omega (arith, e)) (λ e. omega (arith, e)) report)
-        unloaded (listing.unnamed mid ds image p none report same) =
-            absurd (other_answer UNDEFINED.now 135 mid ends.line_after 132 (λ e. omega (arith, e)) (λ e. omega (arith, e)) (λ e. omega (arith, e)) report)
+        unloaded (listing.unnamed ds image p none report same) =
+            absurd (other_answer UNDEFINED.now 135 ends.line ends.line_after 132 (λ e. omega (arith, e)) (λ e. omega (arith, e)) (λ e. omega (arith, e)) report)
         unloaded (listing.stopped why same) = (told.unloaded why, same)
-        unloaded (listing.no_memory ds image p same is) = absurd (omega (arith, is))
 
         device : Gives 133 → Grew ends.out.failures ends.out_after.failures ⊎ Grew ends.line.failures ends.line_after.failures
-        device (listing.listed ds image text p some rows report) = inl (device_grew (HEADING.now ++ text) 0 ends.out ends.out_after (λ e. omega (arith, e)) report)
-        device (listing.unnamed mid ds image p none report same) =
-            inr (subst (λ (l : Outgoing). Grew l.failures ends.line_after.failures) (clean edition source r g ends.line mid p.code p.compiled).silent
-            (device_grew UNDEFINED.now 135 mid ends.line_after (λ e. omega (arith, e)) report))
+        device (listing.listed ds image text p silent some rows report) = inl (device_grew (HEADING.now ++ text) 0 ends.out ends.out_after (λ e. omega (arith, e)) report)
+        device (listing.unnamed ds image p none report same) =
+            inr (device_grew UNDEFINED.now 135 ends.line ends.line_after (λ e. omega (arith, e)) report)
         device (listing.stopped why same) = inr (told.device why)
-        device (listing.no_memory ds image p same is) = absurd (omega (arith, is))
 
   map_done : Maps edition source ends 0 → (r.stop ≡ None) × (load_fault code ≡ None) × Writes ends.out (map_text (image_of code) code) ends.out_after
-  map_done (layout.mapped ds image p report) =
+  map_done (layout.mapped ds image p silent report) =
       let is = told.program ds image p in (
         is.0,
         is.2,
@@ -141,33 +134,28 @@ module _ (edition : Edition) (source : List ℕ) (r : Compilation) (g : Compiles
             (was_told (map_text image ds) 0 ends.out ends.out_after (λ e. omega (arith, e)) (λ e. omega (arith, e)) report),
       )
   map_done (layout.stopped why same) = absurd (no_done 0 refl (told.status 0 why))
-  map_done (layout.no_memory ds image p same is) = absurd (omega (arith, is))
 
   map_unknown : Maps edition source ends 135 → ⊥
-  map_unknown (layout.mapped ds image p report) =
+  map_unknown (layout.mapped ds image p silent report) =
       other_answer (map_text image ds) 0 ends.out ends.out_after 135 (λ e. omega (arith, e)) (λ e. omega (arith, e)) (λ e. omega (arith, e)) report
   map_unknown (layout.stopped why same) = no_unknown 135 refl (told.status 135 why)
-  map_unknown (layout.no_memory ds image p same is) = omega (arith, is)
 
   map_statuses : WrongStatuses edition source r g ends (Maps edition source ends)
   map_statuses = record { fault = fault; unloaded = unloaded; device = device }
     where
       fault : Maps edition source ends 1 → ((d : Diagnostic) × (r.stop ≡ Some d) × Writes ends.line (line_of d) ends.line_after) × (ends.out_after ≡ ends.out)
-      fault (layout.mapped ds image p report) =
+      fault (layout.mapped ds image p silent report) =
           absurd (other_answer (map_text image ds) 0 ends.out ends.out_after 1 (λ e. omega (arith, e)) (λ e. omega (arith, e)) (λ e. omega (arith, e)) report)
       fault (layout.stopped why same) = (told.fault why, same)
-      fault (layout.no_memory ds image p same is) = absurd (omega (arith, is))
 
       unloaded : Maps edition source ends 132 → ((f : LoadFault) × (text : List ℕ) × (load_fault code ≡ Some f) × (load_line f ≡ Some text) × Writes ends.line text ends.line_after) × (ends.out_after ≡ ends.out)
-      unloaded (layout.mapped ds image p report) =
+      unloaded (layout.mapped ds image p silent report) =
           absurd (other_answer (map_text image ds) 0 ends.out ends.out_after 132 (λ e. omega (arith, e)) (λ e. omega (arith, e)) (λ e. omega (arith, e)) report)
       unloaded (layout.stopped why same) = (told.unloaded why, same)
-      unloaded (layout.no_memory ds image p same is) = absurd (omega (arith, is))
 
       device : Maps edition source ends 133 → Grew ends.out.failures ends.out_after.failures ⊎ Grew ends.line.failures ends.line_after.failures
-      device (layout.mapped ds image p report) = inl (device_grew (map_text image ds) 0 ends.out ends.out_after (λ e. omega (arith, e)) report)
+      device (layout.mapped ds image p silent report) = inl (device_grew (map_text image ds) 0 ends.out ends.out_after (λ e. omega (arith, e)) report)
       device (layout.stopped why same) = inr (told.device why)
-      device (layout.no_memory ds image p same is) = absurd (omega (arith, is))
 
 pub no_listings : NoListings
 no_listings edition source r g ends name = record {

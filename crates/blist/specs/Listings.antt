@@ -4,11 +4,11 @@ use Rattle.std.specs.Prelude.{replicate, max, decimal, refl, Option, Some, None,
 use Rattle.std.specs.List.{flat_map, range_with_len}
 use Rattle.std.specs.Str.{bytes_eq}
 use Rattle.bword.specs.declared.edition.Edition.{Edition}
-use Rattle.bword.specs.ByteEnds.{Outgoing}
+use Rattle.blang.specs.Compiles.{line_of}
 use Rattle.blang.specs.Text.{lines_of}
 use Rattle.blang.specs.declared.code.Definition.{Definition}
 use Rattle.blang.specs.declared.code.Definition.TheVariants as definition
-use Rattle.blang.specs.declared.status.TheConstants.{DONE, MEMORY, WRONG_COMMAND}
+use Rattle.blang.specs.declared.status.TheConstants.{DONE, WRONG_COMMAND}
 use Rattle.blang.specs.Layout.{Shape, shape_of, words_before_strings}
 use Rattle.blang.specs.Machine.{Image}
 use Rattle.blang.specs.Reports.{Reported}
@@ -125,18 +125,15 @@ abbrev pub wanted : Option (List ℕ) → List Definition → List Definition
 wanted name ds = filter (is_wanted name) ds
 
 -- What is written for a source: the lines of the code of what is wanted, each in its row, which shows where it lies; or
--- nothing but why there are none.
+-- nothing but why there are none, or that none has the name.
 pub data Lists (edition : Edition) (source : List ℕ) (name : Option (List ℕ)) (ends : ToldEnds) (status : ℕ) : Type 0
   where
     listed : (ds : List Definition) (image : Image) (text : List ℕ)
-        → HasProgram edition source ends.line ends.line_after ds image → (wanted name ds ≡ [] → ⊥)
+        → HasProgram edition source ds image → ends.line_after ≡ ends.line → (wanted name ds ≡ [] → ⊥)
         → AreRows (flat_map (spots_in image) (wanted name ds)) (flat_map lines_of (wanted name ds)) text
         → Reported (HEADING.now ++ text) DONE ends.out ends.out_after status → Lists edition source name ends status
-    unnamed : (mid : Outgoing) (ds : List Definition) (image : Image)
-        → HasProgram edition source ends.line mid ds image → wanted name ds ≡ []
-        → Reported UNDEFINED.now WRONG_COMMAND mid ends.line_after status → ends.out_after ≡ ends.out
+    unnamed : (ds : List Definition) (image : Image) → HasProgram edition source ds image → wanted name ds ≡ []
+        → Reported UNDEFINED.now WRONG_COMMAND ends.line ends.line_after status → ends.out_after ≡ ends.out
         → Lists edition source name ends status
-    stopped : NoProgram edition source ends.line ends.line_after status → ends.out_after ≡ ends.out
+    stopped : NoProgram edition source line_of ends.line ends.line_after status → ends.out_after ≡ ends.out
         → Lists edition source name ends status
-    no_memory : (ds : List Definition) (image : Image) → HasProgram edition source ends.line ends.line_after ds image
-        → ends.out_after ≡ ends.out → status ≡ MEMORY → Lists edition source name ends status

@@ -4,7 +4,8 @@ use Rattle.std.specs.Prelude.{slice_index, refl, if◌then◌else◌}
 use Rattle.std.specs.List.{flat_map}
 use Rattle.bword.specs.declared.edition.Edition.{Edition}
 use Rattle.blang.specs.declared.code.Definition.{Definition}
-use Rattle.blang.specs.declared.status.TheConstants.{DONE, MEMORY}
+use Rattle.blang.specs.declared.status.TheConstants.{DONE}
+use Rattle.blang.specs.Compiles.{line_of}
 use Rattle.blang.specs.Layout.{Function, DefinitionKind, Shape, Simple, Vector, shape_of, size_of}
 use Rattle.blang.specs.Machine.{Image}
 use Rattle.blang.specs.Reports.{Reported}
@@ -58,9 +59,7 @@ map_text image ds =
 
 -- What is written for a source: its layout; or nothing but why there is none.
 pub data Maps (edition : Edition) (source : List ℕ) (ends : ToldEnds) (status : ℕ) : Type 0 where
-  mapped : (ds : List Definition) (image : Image) → HasProgram edition source ends.line ends.line_after ds image
+  mapped : (ds : List Definition) (image : Image) → HasProgram edition source ds image → ends.line_after ≡ ends.line
       → Reported (map_text image ds) DONE ends.out ends.out_after status → Maps edition source ends status
-  stopped : NoProgram edition source ends.line ends.line_after status → ends.out_after ≡ ends.out
+  stopped : NoProgram edition source line_of ends.line ends.line_after status → ends.out_after ≡ ends.out
       → Maps edition source ends status
-  no_memory : (ds : List Definition) (image : Image) → HasProgram edition source ends.line ends.line_after ds image
-      → ends.out_after ≡ ends.out → status ≡ MEMORY → Maps edition source ends status

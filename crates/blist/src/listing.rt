@@ -26,7 +26,7 @@ use bcode::{Page, push_header_line, push_instr_line, push_ival_line, push_number
 use blang::status::{self, Status};
 use blang::{Definition, FunctionParts, Instr, Ival, SimpleParts, VectorParts};
 use bmach::name_of;
-use btools::{Frame, Program, Text, lines_in, read_program, tell};
+use btools::{Frame, Program, Text, lines_in, read_program, tell, tell_fault};
 use bword::{ByteOut, Edition};
 use std::alloc::{AllocError, Global};
 
@@ -55,9 +55,9 @@ pub fn list<O: ByteOut, D: ByteOut>(
     ensures out_lender { O.lender out.new ≡ O.lender out.old }
     ensures diag_lender { D.lender diag.new ≡ D.lender diag.old }
 {
-    let program = match read_program(alloc, source, edition, diag) {
+    let program = match read_program(alloc, source, edition) {
         Ok(program) => program,
-        Err(status) => return status,
+        Err(fault) => return tell_fault(&fault, diag),
     };
     if is_none_wanted(&program.definitions, name) {
         return tell(UNDEFINED, status::WRONG_COMMAND, diag);

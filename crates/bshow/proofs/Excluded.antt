@@ -10,7 +10,7 @@ use Rattle.blang.specs.declared.run.LoadFault.{LoadFault}
 use Rattle.blang.specs.declared.run.Outcome.{Outcome}
 use Rattle.blang.specs.declared.run.Outcome.TheVariants as outcome
 use Rattle.blang.specs.declared.token.Diagnostic.{Diagnostic}
-use Rattle.blang.specs.Compiles.{Compilation, CompilesTo, line_of}
+use Rattle.blang.specs.Compiles.{Compilation, CompilesTo}
 use Rattle.blang.specs.Cut.{tokens_from}
 use Rattle.blang.specs.Layout.{load_fault}
 use Rattle.blang.specs.Machine.{Call, Halted, Image, Loaded, Running, State, States, Stuck, image_of, machine, state_world, steps}
@@ -21,6 +21,7 @@ use Rattle.bmach.proofs.Running.{device_failed}
 use Rattle.btools.specs.Excluded.{Excluded, code_in}
 use Rattle.btools.specs.Functions.{Placed, functions_of}
 use Rattle.btools.specs.Programs.{load_line, nothing_written}
+use Rattle.btools.specs.FaultPlaces.{fault_lines}
 use Rattle.btools.proofs.Excluded.{device_grew, excluded, no_done, not_grown, other_answer, was_told}
 use Rattle.btools.proofs.Unasked.{program_left, untaken}
 use Rattle.btrace.specs.Excluded.{calling, nothing, passing, reading, storing, trapping, writing}
@@ -243,67 +244,67 @@ module _ (edition : Edition) (source : List ℕ) (r : Compilation) (g : Compiles
   abbrev code : List Definition
   code = code_in edition source r g
 
-  told : Excluded edition source r g ends.line ends.line_after
-  told = excluded edition source r g ends.line ends.line_after
+  told : Excluded edition source r g (fault_lines asked.files) ends.line ends.line_after
+  told = excluded edition source r g (fault_lines asked.files) ends.line ends.line_after
 
   abbrev wrote : (page : List ℕ) → pages.IsWritten page ends 0 → Writes ends.out page ends.out_after
   wrote page w = was_told page 0 ends.out ends.out_after (λ e. omega (arith, e)) (λ e. omega (arith, e)) w
 
   done : Shows edition source asked ends 0
       → (r.stop ≡ None) × (load_fault code ≡ None) × ((rows sentence facts : List ℕ) × Writes ends.out (page_text rows sentence facts) ends.out_after)
-  done (pages.shown ds image frames result page output is gives p w) =
+  done (pages.shown ds image frames result page output is still gives p w) =
       let t = told.program ds image is in
       (t.0, t.2, (_, _, _, subst (λ (x : List ℕ). Writes ends.out x ends.out_after) p.page_is (wrote page w)))
-  done (pages.not_begun ds image frames kind is never w same) =
+  done (pages.not_begun ds image frames kind is still never w same) =
       let t = told.program ds image is in
       (t.0, t.2, (_, _, _, wrote _ w))
-  done (pages.unread ds image output is gives silent status) = absurd (omega (arith, status))
+  done (pages.unread ds image output is still gives silent status) = absurd (omega (arith, status))
   done (pages.stopped why quiet) = absurd (no_done 0 refl (told.status 0 why))
-  done (pages.no_memory ds image is silent same status) = absurd (omega (arith, status))
+  done (pages.no_memory ds image is still silent same status) = absurd (omega (arith, status))
 
   unread : (status : ℕ) → Shows edition source asked ends status → (ends.input_after.failures ≡ ends.input.failures → ⊥) → (status ≡ 133) × (ends.out_after ≡ ends.out)
-  unread status (pages.shown ds image frames result page output is gives p w) failed =
+  unread status (pages.shown ds image frames result page output is still gives p w) failed =
       absurd (failed (page_unfailed _ (machine ds) asked.steps p.made ends.input ends.input_after nothing_written (outgoing_of output) (p.taken ++ []) p.next result gives (p.ends [] (λ e. refl))))
-  unread status (pages.not_begun ds image frames kind is never w same) failed = absurd (failed (ap (λ (x : Incoming). x.failures) same))
-  unread status (pages.unread ds image output is gives silent at) failed = (at, silent)
+  unread status (pages.not_begun ds image frames kind is still never w same) failed = absurd (failed (ap (λ (x : Incoming). x.failures) same))
+  unread status (pages.unread ds image output is still gives silent at) failed = (at, silent)
   unread status (pages.stopped why quiet) failed = absurd (failed (ap (λ (x : Incoming). x.failures) quiet.unread))
-  unread status (pages.no_memory ds image is silent read at) failed = absurd (failed read.no_failure)
+  unread status (pages.no_memory ds image is still silent read at) failed = absurd (failed read.no_failure)
 
   device : Shows edition source asked ends 133 → Grew ends.input.failures ends.input_after.failures ⊎ Grew ends.out.failures ends.out_after.failures ⊎ Grew ends.line.failures ends.line_after.failures
-  device (pages.shown ds image frames result page output is gives p w) = inr (inl (device_grew page 0 ends.out ends.out_after (λ e. omega (arith, e)) w))
-  device (pages.not_begun ds image frames kind is never w same) = inr (inl (device_grew _ 0 ends.out ends.out_after (λ e. omega (arith, e)) w))
-  device (pages.unread ds image output is gives silent at) =
+  device (pages.shown ds image frames result page output is still gives p w) = inr (inl (device_grew page 0 ends.out ends.out_after (λ e. omega (arith, e)) w))
+  device (pages.not_begun ds image frames kind is still never w same) = inr (inl (device_grew _ 0 ends.out ends.out_after (λ e. omega (arith, e)) w))
+  device (pages.unread ds image output is still gives silent at) =
       elim (device_failed (machine ds) asked.steps ends.input ends.input_after nothing_written (outgoing_of output) gives) [ inl read ↦ inl read | inr written ↦ absurd (not_grown 0 0 refl refl written) ]
   device (pages.stopped why quiet) = inr (inr (told.device why))
-  device (pages.no_memory ds image is silent same at) = absurd (omega (arith, at))
+  device (pages.no_memory ds image is still silent same at) = absurd (omega (arith, at))
 
   fault : Shows edition source asked ends 1
-      → ((d : Diagnostic) × (r.stop ≡ Some d) × Writes ends.line (line_of d) ends.line_after) × (ends.out_after ≡ ends.out) × (ends.input_after ≡ ends.input)
-  fault (pages.shown ds image frames result page output is gives p w) = absurd (other_answer page 0 ends.out ends.out_after 1 (λ e. omega (arith, e)) (λ e. omega (arith, e)) (λ e. omega (arith, e)) w)
-  fault (pages.not_begun ds image frames kind is never w same) = absurd (other_answer _ 0 ends.out ends.out_after 1 (λ e. omega (arith, e)) (λ e. omega (arith, e)) (λ e. omega (arith, e)) w)
-  fault (pages.unread ds image output is gives silent at) = absurd (omega (arith, at))
+      → ((d : Diagnostic) × (r.stop ≡ Some d) × Writes ends.line (fault_lines asked.files d) ends.line_after) × (ends.out_after ≡ ends.out) × (ends.input_after ≡ ends.input)
+  fault (pages.shown ds image frames result page output is still gives p w) = absurd (other_answer page 0 ends.out ends.out_after 1 (λ e. omega (arith, e)) (λ e. omega (arith, e)) (λ e. omega (arith, e)) w)
+  fault (pages.not_begun ds image frames kind is still never w same) = absurd (other_answer _ 0 ends.out ends.out_after 1 (λ e. omega (arith, e)) (λ e. omega (arith, e)) (λ e. omega (arith, e)) w)
+  fault (pages.unread ds image output is still gives silent at) = absurd (omega (arith, at))
   fault (pages.stopped why quiet) = (told.fault why, quiet.silent, quiet.unread)
-  fault (pages.no_memory ds image is silent same at) = absurd (omega (arith, at))
+  fault (pages.no_memory ds image is still silent same at) = absurd (omega (arith, at))
 
   unloaded : Shows edition source asked ends 132
       → ((f : LoadFault) × (text : List ℕ) × (load_fault code ≡ Some f) × (load_line f ≡ Some text) × Writes ends.line text ends.line_after) × (ends.out_after ≡ ends.out) × (ends.input_after ≡ ends.input)
-  unloaded (pages.shown ds image frames result page output is gives p w) = absurd (other_answer page 0 ends.out ends.out_after 132 (λ e. omega (arith, e)) (λ e. omega (arith, e)) (λ e. omega (arith, e)) w)
-  unloaded (pages.not_begun ds image frames kind is never w same) = absurd (other_answer _ 0 ends.out ends.out_after 132 (λ e. omega (arith, e)) (λ e. omega (arith, e)) (λ e. omega (arith, e)) w)
-  unloaded (pages.unread ds image output is gives silent at) = absurd (omega (arith, at))
+  unloaded (pages.shown ds image frames result page output is still gives p w) = absurd (other_answer page 0 ends.out ends.out_after 132 (λ e. omega (arith, e)) (λ e. omega (arith, e)) (λ e. omega (arith, e)) w)
+  unloaded (pages.not_begun ds image frames kind is still never w same) = absurd (other_answer _ 0 ends.out ends.out_after 132 (λ e. omega (arith, e)) (λ e. omega (arith, e)) (λ e. omega (arith, e)) w)
+  unloaded (pages.unread ds image output is still gives silent at) = absurd (omega (arith, at))
   unloaded (pages.stopped why quiet) = (told.unloaded why, quiet.silent, quiet.unread)
-  unloaded (pages.no_memory ds image is silent same at) = absurd (omega (arith, at))
+  unloaded (pages.no_memory ds image is still silent same at) = absurd (omega (arith, at))
 
   unasked : (status : ℕ) → Shows edition source asked ends status → LeftBySteps (machine code) asked.steps ends.input ends.input_after
-  unasked status (pages.shown ds image frames result page output is gives p w) =
-      program_left edition source r g asked.steps ends.input ends.input_after ends.line ends.line_after ds image is
+  unasked status (pages.shown ds image frames result page output is still gives p w) =
+      program_left edition source r g asked.steps ends.input ends.input_after ds image is
       (run_left (machine ds) asked.steps ends.input ends.input_after nothing_written (outgoing_of output) result gives)
-  unasked status (pages.not_begun ds image frames kind is never w same) = untaken edition source r g asked.steps ends.input ends.input_after same
-  unasked status (pages.unread ds image output is gives silent at) =
-      program_left edition source r g asked.steps ends.input ends.input_after ends.line ends.line_after ds image is
+  unasked status (pages.not_begun ds image frames kind is still never w same) = untaken edition source r g asked.steps ends.input ends.input_after same
+  unasked status (pages.unread ds image output is still gives silent at) =
+      program_left edition source r g asked.steps ends.input ends.input_after ds image is
       (run_left (machine ds) asked.steps ends.input ends.input_after nothing_written (outgoing_of output) outcome.Device gives)
   unasked status (pages.stopped why quiet) = untaken edition source r g asked.steps ends.input ends.input_after quiet.unread
-  unasked status (pages.no_memory ds image is silent read at) =
-      program_left edition source r g asked.steps ends.input ends.input_after ends.line ends.line_after ds image is
+  unasked status (pages.no_memory ds image is still silent read at) =
+      program_left edition source r g asked.steps ends.input ends.input_after ds image is
       (left_by (machine ds) asked.steps ends.input ends.input_after read)
 
 pub no_pages : NoPages

@@ -156,17 +156,17 @@ module _ (fs : List Placed) (which : PageRows) (I : Image) (f g : ℕ → State)
 
 -- the page of a program that was run
 pub shown_whole : (edition : Edition) (source : List ℕ) (asked : Asked) (ends : RunEnds) (status : ℕ) (ds : List Definition) (image : Image) (frames : List Frame) (fs : List Placed) (first last : Paused) (r : Record) (e : Ended) (page : List ℕ) (output : Kept)
-    → HasProgram edition source ends.line ends.line_after ds image → fs ≡ functions_of ds → IsUnstarted image first
+    → HasProgram edition source ds image → ends.line_after ≡ ends.line → fs ≡ functions_of ds → IsUnstarted image first
     → StepsGive first asked.steps ends.input ends.input_after nothing_written (outgoing_of output) e.outcome
     → TellsRun fs asked.which first last asked.steps ends.input ends.input_after r e → IsPage asked source ds frames fs r last e page → IsWritten page ends status → Shows edition source asked ends status
-shown_whole edition source asked ends status ds image frames fs first last r e page output is functions begins gives tells p written =
+shown_whole edition source asked ends status ds image frames fs first last r e page output is quiet functions begins gives tells p written =
     let run_gives = same_run (run image) (steps_from first) asked.steps ends.input ends.input_after nothing_written (outgoing_of output) e.outcome (run_from image first begins) gives in
     let ds_gives = run_of_loaded ds image is.loaded asked.steps ends.input ends.input_after nothing_written (outgoing_of output) e.outcome run_gives in
     let I = image_of ds in
     let same_state : (input : List ℕ) (k : ℕ) → steps_from first input k ≡ state_resolved I (machine ds input k) =
     λ input k. sym (run_from image first begins input k) ∙ run_loaded ds image is.loaded input k ∙ run-resolved I input k in
     let same : first.image.functions ≡ (resolved I).functions = ap (λ (x : Image). x.functions) begins.image_is ∙ is.loaded.functions in
-    shown ds image frames e.outcome page output is ds_gives
+    shown ds image frames e.outcome page output is quiet ds_gives
     (subst (λ (x : List Placed). IsPageOf x I.functions asked.which (machine ds) asked.steps ends.input ends.input_after e.outcome (program_text asked.files source asked.given ds frames) page) functions
     (record {
       made = e.made;
@@ -197,37 +197,37 @@ whole_read first n i j o p r h g =
     run_read (steps_from first) n i j o p r (λ e. let none : broken_status outcome.Device ≡ None = subst (λ x. broken_status x ≡ None) e h in cc) g
 
 broken_whole : (edition : Edition) (source : List ℕ) (asked : Asked) (ends : RunEnds) (status : ℕ) (ds : List Definition) (image : Image) (first : Paused) (output : Kept) (r : Outcome)
-    → HasProgram edition source ends.line ends.line_after ds image → IsUnstarted image first → StepsGive first asked.steps ends.input ends.input_after nothing_written (outgoing_of output) r
+    → HasProgram edition source ds image → ends.line_after ≡ ends.line → IsUnstarted image first → StepsGive first asked.steps ends.input ends.input_after nothing_written (outgoing_of output) r
     → broken_status r ≡ Some status → ends.out_after ≡ ends.out → Shows edition source asked ends status
-broken_whole edition source asked ends status ds image first output (outcome.Exit n) is begins gives h silent = cc
-broken_whole edition source asked ends status ds image first output (outcome.Trap kind) is begins gives h silent = cc
-broken_whole edition source asked ends status ds image first output outcome.Limit is begins gives h silent = cc
-broken_whole edition source asked ends status ds image first output outcome.Device is begins gives h silent =
+broken_whole edition source asked ends status ds image first output (outcome.Exit n) is quiet begins gives h silent = cc
+broken_whole edition source asked ends status ds image first output (outcome.Trap kind) is quiet begins gives h silent = cc
+broken_whole edition source asked ends status ds image first output outcome.Limit is quiet begins gives h silent = cc
+broken_whole edition source asked ends status ds image first output outcome.Device is quiet begins gives h silent =
     let run_gives = same_run (run image) (steps_from first) asked.steps ends.input ends.input_after nothing_written (outgoing_of output) outcome.Device (run_from image first begins) gives in
     let told : status ≡ DEVICE = cc in
-    unread ds image output is (run_of_loaded ds image is.loaded asked.steps ends.input ends.input_after nothing_written (outgoing_of output) outcome.Device run_gives) silent told
-broken_whole edition source asked ends status ds image first output outcome.Memory is begins gives h silent =
+    unread ds image output is quiet (run_of_loaded ds image is.loaded asked.steps ends.input ends.input_after nothing_written (outgoing_of output) outcome.Device run_gives) silent told
+broken_whole edition source asked ends status ds image first output outcome.Memory is quiet begins gives h silent =
     let told : status ≡ MEMORY = cc in
     let read = run_read (steps_from first) asked.steps ends.input ends.input_after nothing_written (outgoing_of output) outcome.Memory (λ e. cc) gives in
-    no_memory ds image is silent (read_of_loaded ds image first is.loaded begins asked.steps ends.input ends.input_after read) told
+    no_memory ds image is quiet silent (read_of_loaded ds image first is.loaded begins asked.steps ends.input ends.input_after read) told
 
 -- what comes of a run that has begun, and of one that has not
 pub run_whole : (edition : Edition) (source : List ℕ) (asked : Asked) (ends : RunEnds) (status : ℕ) (ds : List Definition) (image : Image) (frames : List Frame) (fs : List Placed) (first : Paused)
-    → HasProgram edition source ends.line ends.line_after ds image → fs ≡ functions_of ds → IsUnstarted image first
+    → HasProgram edition source ds image → ends.line_after ≡ ends.line → fs ≡ functions_of ds → IsUnstarted image first
     → ShowsRun asked source ds frames fs first ends.input ends.input_after ends.out ends.out_after status → Shows edition source asked ends status
-run_whole edition source asked ends status ds image frames fs first is functions begins (told last r e page output gives tells p written) =
-    shown_whole edition source asked ends status ds image frames fs first last r e page output is functions begins gives tells p written
-run_whole edition source asked ends status ds image frames fs first is functions begins (broken r output gives h silent) =
-    broken_whole edition source asked ends status ds image first output r is begins gives h silent
-run_whole edition source asked ends status ds image frames fs first is functions begins (refused memory read silent) =
-    no_memory ds image is silent (read_of_loaded ds image first is.loaded begins asked.steps ends.input ends.input_after read) memory
+run_whole edition source asked ends status ds image frames fs first is quiet functions begins (told last r e page output gives tells p written) =
+    shown_whole edition source asked ends status ds image frames fs first last r e page output is quiet functions begins gives tells p written
+run_whole edition source asked ends status ds image frames fs first is quiet functions begins (broken r output gives h silent) =
+    broken_whole edition source asked ends status ds image first output r is quiet begins gives h silent
+run_whole edition source asked ends status ds image frames fs first is quiet functions begins (refused memory read silent) =
+    no_memory ds image is quiet silent (read_of_loaded ds image first is.loaded begins asked.steps ends.input ends.input_after read) memory
 
 pub unbegun_whole : (edition : Edition) (source : List ℕ) (asked : Asked) (ends : RunEnds) (status : ℕ) (ds : List Definition) (image : Image) (frames : List Frame) (r : Outcome)
-    → HasProgram edition source ends.line ends.line_after ds image → BeginsNot image r → ends.input_after ≡ ends.input
+    → HasProgram edition source ds image → ends.line_after ≡ ends.line → BeginsNot image r → ends.input_after ≡ ends.input
     → ShowsUnbegun asked source ds frames r ends.out ends.out_after status → Shows edition source asked ends status
-unbegun_whole edition source asked ends status ds image frames (outcome.Trap kind) is begins still h =
-    ⊎_elim (λ page. not_begun ds image frames kind is begins page still) (λ m. no_memory ds image is m.1 (none_at_first (image_of ds) asked.steps ends.input ends.input_after still) m.0) h
-unbegun_whole edition source asked ends status ds image frames outcome.Memory is begins still h = no_memory ds image is h.1 (none_at_first (image_of ds) asked.steps ends.input ends.input_after still) h.0
-unbegun_whole edition source asked ends status ds image frames (outcome.Exit n) is begins still h = absurd h
-unbegun_whole edition source asked ends status ds image frames outcome.Limit is begins still h = absurd h
-unbegun_whole edition source asked ends status ds image frames outcome.Device is begins still h = absurd h
+unbegun_whole edition source asked ends status ds image frames (outcome.Trap kind) is quiet begins still h =
+    ⊎_elim (λ page. not_begun ds image frames kind is quiet begins page still) (λ m. no_memory ds image is quiet m.1 (none_at_first (image_of ds) asked.steps ends.input ends.input_after still) m.0) h
+unbegun_whole edition source asked ends status ds image frames outcome.Memory is quiet begins still h = no_memory ds image is quiet h.1 (none_at_first (image_of ds) asked.steps ends.input ends.input_after still) h.0
+unbegun_whole edition source asked ends status ds image frames (outcome.Exit n) is quiet begins still h = absurd h
+unbegun_whole edition source asked ends status ds image frames outcome.Limit is quiet begins still h = absurd h
+unbegun_whole edition source asked ends status ds image frames outcome.Device is quiet begins still h = absurd h

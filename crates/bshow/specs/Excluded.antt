@@ -8,7 +8,7 @@ use Rattle.blang.specs.declared.run.Outcome.TheVariants as outcome
 use Rattle.blang.specs.declared.run.Trap.{Trap}
 use Rattle.blang.specs.declared.status.TheConstants.{DEVICE, DONE, FAULT, REFUSED}
 use Rattle.blang.specs.declared.token.Diagnostic.{Diagnostic}
-use Rattle.blang.specs.Compiles.{Compilation, CompilesTo, line_of}
+use Rattle.blang.specs.Compiles.{Compilation, CompilesTo}
 use Rattle.blang.specs.Cut.{tokens_from}
 use Rattle.blang.specs.Layout.{load_fault}
 use Rattle.blang.specs.Machine.{image_of, machine}
@@ -16,6 +16,7 @@ use Rattle.blang.specs.Reports.{RunEnds}
 use Rattle.bmach.specs.Readings.{LeftBySteps}
 use Rattle.btools.specs.Excluded.{code_in}
 use Rattle.btools.specs.Functions.{functions_of}
+use Rattle.btools.specs.FaultPlaces.{fault_lines}
 use Rattle.btools.specs.Programs.{load_line}
 use Rattle.btrace.specs.Excluded.{calling, nothing, passing, reading, storing, trapping, writing}
 use Rattle.bshow.specs.Shows.{AreShown, Asked, EndsAs, Shows, TellsCalls, page_text}
@@ -130,9 +131,9 @@ module _ (edition : Edition) (source : List ℕ) (r : Compilation) (g : Compiles
     pub device : Shows edition source asked ends DEVICE
         → Grew ends.input.failures ends.input_after.failures ⊎ Grew ends.out.failures ends.out_after.failures
         ⊎ Grew ends.line.failures ends.line_after.failures
-    -- 1 for a source without a fault, or with another line, or with anything else written or read
+    -- 1 for a source without a fault, or with another line or place, or with anything else written or read
     pub fault : Shows edition source asked ends FAULT
-        → ((d : Diagnostic) × (r.stop ≡ Some d) × Writes ends.line (line_of d) ends.line_after)
+        → ((d : Diagnostic) × (r.stop ≡ Some d) × Writes ends.line (fault_lines asked.files d) ends.line_after)
         × (ends.out_after ≡ ends.out) × (ends.input_after ≡ ends.input)
     -- 132 for definitions that load, or with another line, or with anything else written or read
     pub unloaded : Shows edition source asked ends REFUSED

@@ -17,6 +17,7 @@ use Rattle.bmach.specs.Stepping.{BeginsNot, Paused, machine_at}
 use Rattle.bmach.specs.Stored.{stored}
 use Rattle.bsources.specs.Files.{Files, files_shown}
 use Rattle.btools.specs.declared.names.Frame.{Frame}
+use Rattle.btools.specs.FaultPlaces.{fault_lines}
 use Rattle.btools.specs.Programs.{HasProgram, NoProgram, nothing_written}
 use Rattle.btools.specs.Functions.{Placed, functions_of}
 use Rattle.btrace.specs.Traces.{Tries, store_after, stored_after}
@@ -160,24 +161,24 @@ IsWritten page ends status = Reported page DONE ends.out ends.out_after status
 -- was refused, and nothing was written, or read but by some of its steps.
 pub data Shows (edition : Edition) (source : List ℕ) (asked : Asked) (ends : RunEnds) (status : ℕ) : Type 0 where
   shown : (ds : List Definition) (image : Image) (frames : List Frame) (result : Outcome) (page : List ℕ)
-      (output : Kept) → HasProgram edition source ends.line ends.line_after ds image
+      (output : Kept) → HasProgram edition source ds image → ends.line_after ≡ ends.line
       → RunGives (machine ds) asked.steps ends.input ends.input_after nothing_written (outgoing_of output) result
       → IsPageOf (functions_of ds) (image_of ds).functions asked.which (machine ds) asked.steps ends.input
       ends.input_after result (program_text asked.files source asked.given ds frames) page
       → IsWritten page ends status → Shows edition source asked ends status
   not_begun : (ds : List Definition) (image : Image) (frames : List Frame) (kind : Trap)
-      → HasProgram edition source ends.line ends.line_after ds image → BeginsNot image (outcome.Trap kind)
+      → HasProgram edition source ds image → ends.line_after ≡ ends.line → BeginsNot image (outcome.Trap kind)
       → IsWritten (page_text [] (unbegun_sentence kind)
       (program_text asked.files source asked.given ds frames ++ no_run_text)) ends status
       → ends.input_after ≡ ends.input → Shows edition source asked ends status
   unread : (ds : List Definition) (image : Image) (output : Kept)
-      → HasProgram edition source ends.line ends.line_after ds image
+      → HasProgram edition source ds image → ends.line_after ≡ ends.line
       → RunGives (machine ds) asked.steps ends.input ends.input_after nothing_written (outgoing_of output)
       outcome.Device → ends.out_after ≡ ends.out → status ≡ DEVICE → Shows edition source asked ends status
-  stopped : NoProgram edition source ends.line ends.line_after status → HasNotRun ends
+  stopped : NoProgram edition source (fault_lines asked.files) ends.line ends.line_after status → HasNotRun ends
       → Shows edition source asked ends status
-  no_memory : (ds : List Definition) (image : Image) → HasProgram edition source ends.line ends.line_after ds image
-      → ends.out_after ≡ ends.out → ReadBySteps (machine ds) asked.steps ends.input ends.input_after → status ≡ MEMORY
+  no_memory : (ds : List Definition) (image : Image) → HasProgram edition source ds image
+      → ends.line_after ≡ ends.line → ends.out_after ≡ ends.out → ReadBySteps (machine ds) asked.steps ends.input ends.input_after → status ≡ MEMORY
       → Shows edition source asked ends status
 
 -- what is asked for, by the type of the code

@@ -47,8 +47,8 @@ fn push_files(text: &mut Text, files: SourceFiles<'_>) -> Result<(), AllocError>
 {
     text.push(b"[")?;
     push_file(text, &files.first)?;
-    for file in files.rest {
-        push_file(text, file)?;
+    for later in files.rest.files() {
+        push_file(text, &later.file)?;
     }
     text.push(b"0]")
 }

@@ -24,7 +24,7 @@ use blang::{Outcome, Trap};
 use bmach::Stepper;
 use bpages::PagedStore;
 use bsources::SourceFiles;
-use btools::{Program, Tables, Text, read_program, tell};
+use btools::{Program, Tables, Text, read_program, tell, tell_placed};
 use bword::{ByteIn, ByteOut, Edition, MemOut, Store};
 use std::alloc::{AllocError, Global};
 use std::collections::VecDeque;
@@ -124,9 +124,9 @@ pub fn show<I: ByteIn, O: ByteOut, D: ByteOut>(
     ensures out_lender { O.lender out.new ≡ O.lender out.old }
     ensures diag_lender { D.lender diag.new ≡ D.lender diag.old }
 {
-    let program = match read_program(alloc, source, edition, diag) {
+    let program = match read_program(alloc, source, edition) {
         Ok(program) => program,
-        Err(status) => return status,
+        Err(fault) => return tell_placed(alloc, &fault, wanted.files, diag),
     };
     let Ok(tables) = Tables::new(alloc, &program) else {
         return status::MEMORY;

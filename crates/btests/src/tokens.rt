@@ -1,6 +1,6 @@
 use blang::{Keyword, Letters, Token};
-use blex::Lexer;
-use bword::{BinOp, MemIn};
+use blex::{Lexeme, Lexer, Scanner};
+use bword::{BinOp, Edition, MemIn};
 use std::alloc::{AllocError, Global};
 use std::process::Abort;
 use std::test::Fail;
@@ -118,6 +118,28 @@ return abcdefghi~return bad:nm bad:nm
     for row in rows.split("\n@\n") {
         let (source, tokens) = row.split_once('~').unwrap_or((row, ""));
         gives(&rt, source.as_bytes(), tokens)?;
+    }
+    Ok(())
+}
+
+// Comments and tokens with their lines, first bytes and ends; the end comes again.
+#[test]
+fn places_of_pieces(rt: HostRuntime) -> Result<(), Fail> {
+    let mut scanner = Scanner::new(b"a /**/\n=- ", Edition::One);
+    let rows = [
+        (Some(Lexeme::Assign(Some(BinOp::Sub))), 2, 7, 9),
+        (Some(Lexeme::End), 2, 10, 10),
+        (Some(Lexeme::End), 2, 10, 10),
+    ];
+    let name = scanner.next();
+    assert_eq!(rt; (name.line, name.first, name.end), (1, 0, 1));
+    let comment = scanner.next();
+    assert!(rt; comment.lexeme == None);
+    assert_eq!(rt; (comment.line, comment.first, comment.end), (1, 2, 6));
+    for (lexeme, line, first, end) in rows {
+        let piece = scanner.next();
+        assert!(rt; piece.lexeme == lexeme);
+        assert_eq!(rt; (piece.line, piece.first, piece.end), (line, first, end));
     }
     Ok(())
 }

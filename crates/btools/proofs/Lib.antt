@@ -1,7 +1,9 @@
 pub mod AddedTexts
 pub mod Excluded
 pub mod Unasked
-pub mod Loading
+pub mod Compiled
+pub mod Reading
+pub mod Refused
 pub mod Finding
 pub mod Functions
 pub mod Searching

@@ -1,7 +1,7 @@
 -- What the program of a source has left of the input.
-use Rattle.std.proofs.Common.{◌≡◌, List, [], subst, ℕ}
+use Rattle.std.proofs.Common.{◌≡◌, List, [], subst, sym, ℕ}
 use Rattle.bword.specs.declared.edition.Edition.{Edition}
-use Rattle.bword.specs.ByteEnds.{Incoming, Outgoing}
+use Rattle.bword.specs.ByteEnds.{Incoming}
 use Rattle.blang.specs.declared.code.Definition.{Definition}
 use Rattle.blang.specs.Compiles.{Compilation, CompilesTo}
 use Rattle.blang.specs.Cut.{tokens_from}
@@ -10,7 +10,6 @@ use Rattle.bmach.specs.Readings.{LeftBySteps}
 use Rattle.bmach.proofs.Readings.{left_by, none_at_first}
 use Rattle.btools.specs.Excluded.{code_in}
 use Rattle.btools.specs.Programs.{HasProgram}
-use Rattle.btools.proofs.Excluded.{excluded}
 
 module _ (edition : Edition) (source : List ℕ) (r : Compilation) (g : CompilesTo [] (tokens_from edition 1 source) r) (n : ℕ) (i j : Incoming) where
   -- nothing was taken
@@ -20,6 +19,6 @@ module _ (edition : Edition) (source : List ℕ) (r : Compilation) (g : Compiles
       left_by (machine ds) n i j (none_at_first (image_of ds) n i j still)
 
   -- what the program has left the source's has
-  pub program_left : (line line_after : Outgoing) (ds : List Definition) (image : Image) → HasProgram edition source line line_after ds image → LeftBySteps (machine ds) n i j → LeftBySteps (machine (code_in edition source r g)) n i j
-  program_left line line_after ds image has =
-      subst (λ (x : List Definition). LeftBySteps (machine x) n i j) ((excluded edition source r g line line_after).program ds image has).1
+  pub program_left : (ds : List Definition) (image : Image) → HasProgram edition source ds image → LeftBySteps (machine ds) n i j → LeftBySteps (machine (code_in edition source r g)) n i j
+  program_left ds image has =
+      subst (λ (x : List Definition). LeftBySteps (machine x) n i j) (sym (has.code r g).1)

@@ -5,4 +5,7 @@ pub mod Quoting
 pub mod QuotingRows
 pub mod Functions
 pub mod Excluded
+pub mod FaultPlaces
+pub mod PlaceRows
 pub mod TextRows
+pub mod KeptLines

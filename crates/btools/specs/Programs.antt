@@ -1,17 +1,15 @@
 -- Promise: a source that is compiled and loaded, or why it can't be.
-use Rattle.std.specs.Prelude.{◌≡◌, ℕ, List, [], codes, false, Option, Some, None, MatchOption, Result, Ok, Err, ◌⊎◌}
+use Rattle.std.specs.Prelude.{◌≡◌, ℕ, List, [], codes, false, map, Option, Some, None, MatchOption, Result, Ok, Err, ◌⊎◌}
 use Rattle.std.specs.Prelude.{unwrap_or}
 use Rattle.bword.specs.declared.edition.Edition.{Edition}
 use Rattle.bword.specs.ByteEnds.{Unread, Outgoing, Kept, incoming_of, outgoing_of}
-use Rattle.bcode.specs.Faults.{IsFaultLine}
-use Rattle.blang.specs.Text.{IsCodeText}
 use Rattle.blang.specs.declared.code.Definition.{Definition}
-use Rattle.bcode.specs.declared.fault.CodeFault.{CodeFault}
-use Rattle.bcode.specs.declared.fault.CodeFault.TheVariants as code_fault
-use Rattle.blang.specs.Compiles.{Compiles}
-use Rattle.blang.specs.declared.status.TheConstants.{DONE, MEMORY, REFUSED}
+use Rattle.blang.specs.declared.token.Diagnostic.{Diagnostic}
+use Rattle.blang.specs.Code.{code_of}
+use Rattle.blang.specs.Compiles.{Compilation, Compiles, CompilesTo}
+use Rattle.blang.specs.Cut.{tokens_from}
+use Rattle.blang.specs.declared.status.TheConstants.{DONE, FAULT, MEMORY, REFUSED}
 use Rattle.blang.specs.Layout.{address_in, load_fault}
-use Rattle.bmach.specs.Loading.{IsFault}
 use Rattle.blang.specs.Machine.{Image, States}
 use Rattle.blang.specs.Machine as runs
 use Rattle.blang.specs.Reports.{Finishes, Reported}
@@ -20,7 +18,11 @@ use Rattle.bmach.specs.Stepping.{Paused, machine_at}
 use Rattle.blang.specs.declared.run.LoadFault.{LoadFault}
 use Rattle.blang.specs.declared.run.Outcome.{Outcome}
 use Rattle.blang.specs.declared.run.LoadFault.TheVariants as fault
+use Rattle.bparse.specs.Compiles.{CodeGives}
+use Rattle.bparse.specs.declared.step.Step.{Step}
 use Rattle.btools.specs.declared.program.Program.{Program}
+use Rattle.btools.specs.declared.program.ProgramFault.{ProgramFault}
+use Rattle.btools.specs.declared.program.ProgramFault.TheVariants as why
 
 -- what is written is kept from the start
 abbrev pub nothing_written : Outgoing
@@ -59,22 +61,36 @@ pub record WasCompiled (edition : Edition) (source : List ℕ) (line line_after 
     status = status;
   })
 
--- The source was compiled to the code text of these definitions, which load.
-pub record HasProgram (edition : Edition) (source : List ℕ) (line line_after : Outgoing) (ds : List Definition)
-    (image : Image) : Type 0 where
-  pub code : List ℕ
-  pub compiled : WasCompiled edition source line line_after code 0
-  pub is_text : IsCodeText code ds
+-- the source has no fault, and this is the code of its definitions
+abbrev pub IsCodeOf : Edition → List ℕ → List Definition → Type 0
+IsCodeOf edition source ds =
+    (r : Compilation) (g : CompilesTo [] (tokens_from edition 1 source) r)
+    → (r.stop ≡ None) × (map code_of g.definitions ≡ ds)
+
+-- the source has this fault
+abbrev pub HasFault : Edition → List ℕ → Diagnostic → Type 0
+HasFault edition source d =
+    (r : Compilation) → CompilesTo [] (tokens_from edition 1 source) r → r.stop ≡ Some d
+
+-- The source comes to the code of these definitions, which load to this image.
+pub record HasProgram (edition : Edition) (source : List ℕ) (ds : List Definition) (image : Image) : Type 0 where
+  pub code : IsCodeOf edition source ds
   pub loads : load_fault ds ≡ None
   pub loaded : IsLoadedFrom ds image
 
-abbrev pub IsThisProgram : (edition : Edition) (source : List ℕ) (line line_after : Outgoing) → Program → Type 0
-IsThisProgram edition source line line_after p =
-    HasProgram edition source line line_after p.definitions.items p.image
+abbrev pub IsThisProgram : Edition → (source : List ℕ) → Program → Type 0
+IsThisProgram edition source p = HasProgram edition source p.definitions.items p.image
 
 -- where a name lies
 abbrev pub image_address : Image → List ℕ → ℕ
 image_address image name = unwrap_or (address_in image.addresses name) 0
+
+-- why a source has no program: its fault, or why its code doesn't load, or that memory was refused
+abbrev pub HasNoProgram : Edition → (source : List ℕ) → ProgramFault → Type 0
+HasNoProgram edition source (why.Faulty d) = HasFault edition source d
+HasNoProgram edition source (why.Unloaded f) =
+    (ds : List Definition) × IsCodeOf edition source ds × (load_fault ds ≡ Some f)
+HasNoProgram edition source why.Memory = Unit {0}
 
 -- the line of a reason why definitions don't load
 abbrev pub load_line : LoadFault → Option (List ℕ)
@@ -84,50 +100,31 @@ load_line (fault.Undefined name) = Some (codes "load 3\n")
 load_line fault.NoMain = Some (codes "load 4\n")
 load_line fault.Memory = None
 
--- what is told of a reason, or nothing where memory was refused
-abbrev pub TellsFault : LoadFault → Outgoing → Outgoing → ℕ → Type 0
-TellsFault f line line_after status =
+-- This is told of it, and `lines` of a fault of the source; or nothing where memory was refused.
+abbrev pub TellsFault : (lines : Diagnostic → List ℕ) → ProgramFault → Outgoing → Outgoing → (status : ℕ) → Type 0
+TellsFault lines (why.Faulty d) line line_after status = Reported (lines d) FAULT line line_after status
+TellsFault lines (why.Unloaded f) line line_after status =
     MatchOption (load_line f) ((line_after ≡ line) × (status ≡ MEMORY))
     (λ text. Reported text REFUSED line line_after status)
+TellsFault lines why.Memory line line_after status = (line_after ≡ line) × (status ≡ MEMORY)
 
--- Why there is no program: the source is faulty or was not compiled, and the line and the status are those of the
--- compiler; its code is no code text, which never comes; it doesn't load, and that is told; or memory was refused.
-pub data NoProgram (edition : Edition) (source : List ℕ) (line line_after : Outgoing) (status : ℕ) : Type 0 where
-  faulty : (code : List ℕ) → WasCompiled edition source line line_after code status → (status ≡ 0 → ⊥)
-      → NoProgram edition source line line_after status
-  unread : (code : List ℕ) (n : ℕ) → WasCompiled edition source line line_after code 0 → IsFaultLine code n
-      → ((ds : List Definition) → IsCodeText code ds → ⊥) → status ≡ REFUSED
-      → NoProgram edition source line line_after status
-  refused : (mid : Outgoing) (code : List ℕ) (ds : List Definition) (f : LoadFault) (text : List ℕ)
-      → WasCompiled edition source line mid code 0 → IsCodeText code ds → load_fault ds ≡ Some f
-      → load_line f ≡ Some text → Reported text REFUSED mid line_after status
-      → NoProgram edition source line line_after status
-  no_memory : (code : List ℕ) → WasCompiled edition source line line_after code 0 → status ≡ MEMORY
-      → NoProgram edition source line line_after status
+-- there is no program, and why was told
+abbrev pub NoProgram : Edition → (source : List ℕ) → (lines : Diagnostic → List ℕ) → Outgoing → Outgoing → ℕ → Type 0
+NoProgram edition source lines line line_after status =
+    (fault : ProgramFault) × HasNoProgram edition source fault × TellsFault lines fault line line_after status
 
--- the status of a text that was not read
-abbrev pub unread_status : CodeFault → ℕ
-unread_status (code_fault.Line n) = REFUSED
-unread_status code_fault.Memory = MEMORY
+-- what the compiler answers last of a source that it has in memory, and the code text that it has written
+abbrev pub WasAnswered : Edition → (source : List ℕ) → Step → Kept → Type 0
+WasAnswered edition source answer code =
+    (following : Unread) × CodeGives edition (incoming_of (record { left = source; is_over = false }))
+    nothing_written answer (incoming_of following) (outgoing_of code)
 
--- a code text was not read, since memory was refused, or since it is none
-abbrev pub IsUnread : List ℕ → ℕ → Type 0
-IsUnread code status = (status ≡ MEMORY)
-    ⊎ ((n : ℕ) × IsFaultLine code n × ((ds : List Definition) → IsCodeText code ds → ⊥) × (status ≡ REFUSED))
-
--- Why a code text is no program.
-pub data IsNotLoaded (code : List ℕ) (line line_after : Outgoing) (status : ℕ) : Type 0 where
-  not_read : IsUnread code status → line_after ≡ line → IsNotLoaded code line line_after status
-  not_loaded : (ds : List Definition) (f : LoadFault) → IsCodeText code ds → IsFault f (load_fault ds)
-      → TellsFault f line line_after status → IsNotLoaded code line line_after status
-
--- what comes of a code text that is loaded
-abbrev pub LoadGives : List ℕ → Outgoing → Result Program ℕ → Outgoing → Type 0
-LoadGives code line (Ok p) line_after =
-    IsCodeText code p.definitions.items × (load_fault p.definitions.items ≡ None)
-    × IsLoadedFrom p.definitions.items p.image
-    × (line_after ≡ line)
-LoadGives code line (Err status) line_after = IsNotLoaded code line line_after status
+-- what comes of definitions that are loaded
+abbrev pub LoadGives : List Definition → Result Program ProgramFault → Type 0
+LoadGives ds (Ok p) = (p.definitions.items ≡ ds) × (load_fault ds ≡ None) × IsLoadedFrom ds p.image
+LoadGives ds (Err (why.Faulty d)) = ⊥
+LoadGives ds (Err (why.Unloaded f)) = load_fault ds ≡ Some f
+LoadGives ds (Err why.Memory) = Unit {0}
 
 -- What is told of a run was written, and then the run has its line and status; or it was cut off.
 abbrev pub TellsEnd : (told : ℕ) → Outcome → Outgoing → Outgoing → ℕ → Type 0

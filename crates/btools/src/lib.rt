@@ -5,6 +5,7 @@ mod characters;
 mod names;
 mod program;
 mod quoting;
+mod refusal;
 mod sink;
 mod tables;
 mod telling;
@@ -12,8 +13,11 @@ mod text;
 
 pub use characters::{hexadecimal_digit, push_byte, push_characters};
 pub use names::{Frame, FrameWord, Names};
-pub use program::{Program, lines_in, load_line, read_program, wrong_programs_are_excluded};
+pub use program::{Program, ProgramFault, compile_source, lines_in, read_program};
 pub use quoting::{push_file, push_quoted};
+pub use refusal::{
+    diagnostic_line, load_line, tell_fault, tell_placed, wrong_programs_are_excluded,
+};
 pub use sink::Sink;
 pub use tables::{Entry, Tables};
 pub use telling::tell;

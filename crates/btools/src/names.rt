@@ -1,4 +1,7 @@
 //! The names and lines beside the code of a program, as the compiler tells them.
+ghost use Rattle.std.specs.Prelude.{◌≡◌, ◌++◌, [], OnOk, IfSome, IfNone, Some, None};
+ghost use Rattle.btools.specs.KeptLines.{lines_kept};
+
 use bparse::{Compiler, EntryKind, NameEntry, Step, Watcher};
 use bword::{ByteIn, ByteOut, Name};
 use std::alloc::{AllocError, Global};
@@ -52,11 +55,11 @@ impl Names {
         &mut self,
         alloc: Global,
         compiler: &Compiler<I, O>,
-    ) -> Result<(), AllocError> {
+    ) -> Result<(), AllocError>
+        ensures { OnOk result (self.new.lines.items ≡ self.old.lines.items ++ compiler.now.tokens.noted.lines) }
+    {
         self.lines.extend_from_slice(compiler.lines())?;
-        self.lines.extend_from_slice(compiler.value_lines())?;
-        // A function alone has instructions.
-        if compiler.lines().is_empty() {
+        if !compiler.is_function() {
             return Ok(());
         }
         let names = compiler.local_names();
@@ -77,7 +80,9 @@ pub(crate) struct NameKeeper {
 }
 
 impl NameKeeper {
-    pub(crate) fn new(alloc: Global) -> Self {
+    pub(crate) fn new(alloc: Global) -> Self
+        ensures { lines_kept result ≡ Some [] }
+    {
         NameKeeper {
             alloc,
             names: Names {
@@ -89,7 +94,10 @@ impl NameKeeper {
     }
 
     /// What was kept, unless memory ran out.
-    pub(crate) fn into_names(self) -> Option<Names> {
+    pub(crate) fn into_names(self) -> Option<Names>
+        ensures some { IfSome result (λ names. lines_kept self ≡ Some names.lines.items) }
+        ensures none { IfNone result (lines_kept self ≡ None) }
+    {
         if self.is_refused {
             None
         } else {
@@ -99,6 +107,8 @@ impl NameKeeper {
 }
 
 impl Watcher for NameKeeper {
+    ghost lines = { λ k. lines_kept k };
+
     fn watch<I: ByteIn, O: ByteOut>(&mut self, compiler: &Compiler<I, O>, step: &Step) {
         if let Step::Written = step {
             self.is_refused = self.is_refused || self.names.add(self.alloc, compiler).is_err();

@@ -1,18 +1,17 @@
-//! A source that is compiled and loaded, with what is told of it.
-ghost use Rattle.std.specs.Prelude.{◌≡◌, ℕ, List, MatchResult, option_map};
+//! A source that is compiled and loaded.
+ghost use Rattle.std.specs.Prelude.{IfOk, List, MatchResult, ℕ};
+ghost use Rattle.bword.specs.declared.edition.Edition.{Edition};
 ghost use Rattle.blang.specs.Text.{IsCodeText};
-ghost use Rattle.btools.specs.Programs.{IsThisProgram, IsUnread, LoadGives, NoProgram, TellsFault, load_line, unread_status};
-ghost use Rattle.btools.specs.Excluded.{WrongPrograms};
+ghost use Rattle.bparse.specs.declared.step.Step.{Step};
+ghost use Rattle.btools.specs.Programs.{HasFault, HasNoProgram, IsCodeOf, IsThisProgram, LoadGives, WasAnswered};
 
 use crate::names::{NameKeeper, Names};
-use crate::telling::tell;
 use bcode::{CodeFault, read_code};
-use blang::status::{self, Status};
-use blang::{Definition, LoadFault};
+use blang::{Definition, Diagnostic, LoadFault};
 use bmach::{Image, load_slice};
-use bparse::compile_watched;
-use bword::{ByteOut, Edition, MemIn, MemOut};
-use std::alloc::Global;
+use bparse::{Step, Watcher, compile_code};
+use bword::{Edition, MemIn, MemOut};
+use std::alloc::{AllocError, Global};
 
 /// A program, as it was compiled and as it was loaded.
 #[derive(Drop)]
@@ -20,6 +19,17 @@ pub struct Program {
     pub definitions: Vec<Definition>,
     pub image: Image,
     pub names: Names,
+}
+
+/// Why a source has no program.
+#[derive(Drop)]
+pub enum ProgramFault {
+    /// It doesn't compile.
+    Faulty(Diagnostic),
+    /// Its code doesn't load.
+    Unloaded(LoadFault),
+    /// Memory ran out.
+    Memory,
 }
 
 /// How many of the lines of a program's names are those of a definition: one for each instruction or initial value.
@@ -31,112 +41,82 @@ pub fn lines_in(definition: &Definition) -> usize {
     }
 }
 
-/// Compiles and loads a source, or tells why that can't be done, with the status of `go`.
-pub fn read_program<D: ByteOut>(
-    alloc: Global,
-    source: &[u8],
-    edition: Edition,
-    diag: &mut D,
-) -> Result<Program, Status>
-    ensures gives { MatchResult result
-        (IsThisProgram edition source.now (D.outgoing diag.old) (D.outgoing diag.new))
-        (NoProgram edition source.now (D.outgoing diag.old) (D.outgoing diag.new)) }
-    ensures same { D.lender diag.new ≡ D.lender diag.old }
+/// Compiles and loads a source.
+pub fn read_program(alloc: Global, source: &[u8], edition: Edition) -> Result<Program, ProgramFault>
+    ensures { MatchResult result (IsThisProgram edition source.now) (HasNoProgram edition source.now) }
 {
-    let mut code = MemOut::new(alloc);
     let mut keeper = NameKeeper::new(alloc);
-    let mut input = MemIn::new(source);
-    let status = compile_watched(alloc, &mut input, &mut code, diag, &mut keeper, edition);
-    if status != status::DONE {
-        return Err(status);
-    }
-    load_program(alloc, code, keeper, diag)
-}
-
-// Loads the program of a code text, with the names that were kept.
-fn load_program<D: ByteOut>(
-    alloc: Global,
-    code: MemOut,
-    keeper: NameKeeper,
-    diag: &mut D,
-) -> Result<Program, Status>
-    ensures gives { LoadGives code.bytes (D.outgoing diag.old) result (D.outgoing diag.new) }
-    ensures same { D.lender diag.new ≡ D.lender diag.old }
-{
-    match read(alloc, code) {
-        Ok(definitions) => load_definitions(alloc, definitions, keeper, diag),
-        Err(status) => Err(status),
-    }
-}
-
-// The definitions of a code text, which goes as they are read.
-fn read(alloc: Global, code: MemOut) -> Result<Vec<Definition>, Status>
-    ensures { MatchResult result (λ v. IsCodeText code.bytes v.items) (IsUnread code.bytes) }
-{
-    match read_code(alloc, code.bytes()) {
-        Ok(definitions) => Ok(definitions),
-        Err(fault) => Err(unread(fault)),
-    }
-}
-
-fn unread(fault: CodeFault) -> Status
-    ensures { result ≡ unread_status fault }
-{
-    match fault {
-        CodeFault::Line(_) => status::REFUSED,
-        CodeFault::Memory => status::MEMORY,
+    match compile_source(alloc, source, edition, &mut keeper) {
+        Ok(Ok(definitions)) => load(alloc, definitions, keeper),
+        Ok(Err(fault)) => Err(ProgramFault::Faulty(fault)),
+        Err(_) => Err(ProgramFault::Memory),
     }
 }
 
 // Loads definitions, with the names that were kept of their source.
-fn load_definitions<D: ByteOut>(
+fn load(
     alloc: Global,
     definitions: Vec<Definition>,
     keeper: NameKeeper,
-    diag: &mut D,
-) -> Result<Program, Status>
-    ensures gives { (code : List ℕ) → IsCodeText code definitions.items
-        → LoadGives code (D.outgoing diag.old) result (D.outgoing diag.new) }
-    ensures same { D.lender diag.new ≡ D.lender diag.old }
+) -> Result<Program, ProgramFault>
+    ensures { LoadGives definitions.items result }
 {
-    match load_slice(alloc, &definitions) {
-        Ok(image) => match keeper.into_names() {
-            Some(names) => Ok(Program {
-                definitions,
-                image,
-                names,
-            }),
-            None => Err(status::MEMORY),
-        },
-        Err(fault) => Err(refuse(&fault, diag)),
+    let image = match load_slice(alloc, &definitions) {
+        Ok(image) => image,
+        Err(LoadFault::Memory) => return Err(ProgramFault::Memory),
+        Err(fault) => return Err(ProgramFault::Unloaded(fault)),
+    };
+    match keeper.into_names() {
+        Some(names) => Ok(Program {
+            definitions,
+            image,
+            names,
+        }),
+        None => Err(ProgramFault::Memory),
     }
 }
 
-// Tells why a program doesn't load.
-fn refuse<D: ByteOut>(fault: &LoadFault, diag: &mut D) -> Status
-    ensures tells { TellsFault fault.now (D.outgoing diag.old) (D.outgoing diag.new) result }
-    ensures same { D.lender diag.new ≡ D.lender diag.old }
+/// Compiles a source to the definitions of its code, or to its fault. The watcher looks at the compiler after each one.
+pub fn compile_source<W: Watcher>(
+    alloc: Global,
+    source: &[u8],
+    edition: Edition,
+    watcher: &mut W,
+) -> Result<Result<Vec<Definition>, Diagnostic>, AllocError>
+    ensures { IfOk result (λ code. MatchResult code (λ v. IsCodeOf edition source.now v.items) (HasFault edition source.now)) }
 {
-    match load_line(fault) {
-        Some(line) => tell(line, status::REFUSED, diag),
-        None => status::MEMORY,
+    let mut input = MemIn::new(source);
+    let mut code = MemOut::new(alloc);
+    let last = compile_code(alloc, &mut input, &mut code, watcher, edition);
+    code_of(alloc, last, &code)
+}
+
+// The definitions of a source, or its fault, by what the compiler answered last and wrote.
+fn code_of(
+    alloc: Global,
+    last: Step,
+    code: &MemOut,
+) -> Result<Result<Vec<Definition>, Diagnostic>, AllocError>
+    requires { (edition : Edition) × (source : List ℕ) × WasAnswered edition source last code.now }
+    ensures { IfOk result (λ r. (edition : Edition) (source : List ℕ) → WasAnswered edition source last code.now
+        → MatchResult r (λ v. IsCodeOf edition source v.items) (HasFault edition source)) }
+{
+    match last {
+        Step::Finished => Ok(Ok(definitions_of(alloc, code.bytes())?)),
+        Step::Fault(fault) => Ok(Err(fault)),
+        Step::Memory => Err(AllocError),
+        Step::Written | Step::Device | Step::Closed => unreachable!(),
     }
 }
 
-/// The line of a reason why a program doesn't load; none if memory ran out.
-pub fn load_line(fault: &LoadFault) -> Option<&'static [u8]>
-    ensures { option_map (λ l. l.now) result ≡ load_line fault.now }
+// The definitions of a code text.
+fn definitions_of(alloc: Global, code: &[u8]) -> Result<Vec<Definition>, AllocError>
+    requires { (ds : List Definition) × IsCodeText code.now ds }
+    ensures { IfOk result (λ v. IsCodeText code.now v.items) }
 {
-    match fault {
-        LoadFault::Duplicate(_) => Some(b"load 1\n"),
-        LoadFault::TooLarge => Some(b"load 2\n"),
-        LoadFault::Undefined(_) => Some(b"load 3\n"),
-        LoadFault::NoMain => Some(b"load 4\n"),
-        LoadFault::Memory => None,
+    match read_code(alloc, code) {
+        Ok(definitions) => Ok(definitions),
+        Err(CodeFault::Memory) => Err(AllocError),
+        Err(CodeFault::Line(_)) => unreachable!(),
     }
 }
-
-/// No source gives another program than that of its definitions, or another status or line if it has none.
-pub fn wrong_programs_are_excluded()
-    ensures { WrongPrograms }
-{}

@@ -9,7 +9,7 @@ use Rattle.std.proofs.lemmas.List.Elements.{All-head, All-tail}
 use Rattle.bword.specs.declared.edition.Edition.{Edition}
 use Rattle.bword.specs.declared.ends.EndFault.{EndFault}
 use Rattle.bword.specs.declared.ends.EndFault.TheVariants as end_fault
-use Rattle.bword.specs.ByteEnds.{Kept, outgoing_of, Grew, Incoming, Outgoing, Refuses, Took, Unread, Writes, incoming_of}
+use Rattle.bword.specs.ByteEnds.{Kept, outgoing_of, Grew, Incoming, Outgoing, Refuses, Writes}
 use Rattle.bword.proofs.Putting.{Writes-append}
 use Rattle.blang.specs.declared.code.Definition.{Definition}
 use Rattle.blang.specs.declared.code.Instr.{Instr}
@@ -21,8 +21,8 @@ use Rattle.blang.specs.declared.run.Trap.{Trap}
 use Rattle.blang.specs.declared.run.Trap.TheVariants as trap
 use Rattle.blang.specs.declared.status.TheConstants.{DONE, LIMIT, MEMORY, TRAP, WRONG_COMMAND}
 use Rattle.blang.specs.Compiles as compiled
-use Rattle.blang.specs.Compiles.{CompilesTo, Tells, code_text}
-use Rattle.blang.specs.Cut.{tokens_from}
+use Rattle.blang.specs.Compiles.{Tells, code_text}
+use Rattle.blang.specs.declared.token.Diagnostic.{Diagnostic}
 use Rattle.blang.specs.Machine.{Call, Halted, Image, Loaded, Running, State, Stuck, image_of, machine, run, state_world}
 use Rattle.blang.specs.Reports.{AsksForByte, Finishes, Reported, RunEnds, RunGives, report_text, state_outcome}
 use Rattle.blang.specs.Text.{IsCodeText}
@@ -33,12 +33,12 @@ use Rattle.bmach.specs.Stops.{EndsAt, RunsCall, active_of}
 use Rattle.bmach.specs.declared.machine.Active.{Active}
 use Rattle.bmach.proofs.Resolving.{run-resolved}
 use Rattle.bmach.proofs.Running.{device_failed, memory_unfailed}
-use Rattle.bword.proofs.Remaining.{Rest, rest_after}
 use Rattle.brun.proofs.RunSteps.{outcome-resolved, run_loaded}
 use Rattle.btools.specs.Columns.{left, right}
-use Rattle.btools.specs.Programs as programs
-use Rattle.btools.specs.Programs.{HasProgram, NoProgram, WasCompiled, nothing_written}
+use Rattle.btools.specs.Programs.{HasProgram, NoProgram, nothing_written}
+use Rattle.btools.proofs.Compiled.{text_in}
 use Rattle.btools.proofs.Excluded.{not_grown}
+use Rattle.btools.proofs.Excluded as programs
 use Rattle.btrace.specs.Excluded.{ComesAlways, IsSourceOf, LocatesExcluded, TracesExcluded, calling, calling_f, closing, nothing, passing, reading, status_of, storing, trapping, writing}
 use Rattle.btrace.specs.Locates as locates
 use Rattle.btrace.specs.Locates.{Locates, TellsSite, located_status, site_line}
@@ -88,43 +88,19 @@ module _ (file : File) where
 
   -- Programs of a source.
   module _ (edition : Edition) (source : List ℕ) (ds : List Definition) (is : IsSourceOf edition source ds) where
-    abbrev first : Unread
-    first = record { left = source; is_over = false }
-
-    rest : (following : Unread) (taken : List ℕ) → Took (incoming_of first) taken (incoming_of following) → Rest (incoming_of following) taken source
-    rest following taken t = rest_after (incoming_of first) (incoming_of following) taken source t refl (λ e. cc)
-
-    goes : (j : Incoming) (taken : List ℕ) (r : Rest j taken source) → CompilesTo [] (tokens_from edition 1 (taken ++ r.more)) is.compilation
-    goes j taken r = subst (λ t. CompilesTo [] (tokens_from edition 1 t) is.compilation) (sym r.whole) is.goes
-
-    compiles : (line line_after : Outgoing) (code : List ℕ) → WasCompiled edition source line line_after code 0 → (code ≡ code_text edition is.compilation) × (line_after ≡ line)
-    compiles line line_after code w =
-        let r = rest w.following w.compiles.taken w.compiles.took in
-        let c = w.compiles.compiled refl r.more r.follows is.compilation (goes _ w.compiles.taken r) in
-        (sym w.code_is ∙ c.code.appended, c.silent)
-
-    not_faulty : (line line_after : Outgoing) (code : List ℕ) (status : ℕ) → WasCompiled edition source line line_after code status → status ≡ 1 → ⊥
-    not_faulty line line_after code status w one =
-        let r = rest w.following w.compiles.taken w.compiles.took in
-        let c = w.compiles.faulty one r.more r.follows is.compilation (goes _ w.compiles.taken r) in
-        let none : Some c.fault ≡ None = sym c.stop ∙ is.clean in
-        cc
-
-    only : (line mid : Outgoing) (other : List Definition) (image : Image) → HasProgram edition source line mid other image → other ≡ ds
-    only line mid other image p =
-        unique_code p.code other ds p.is_text (subst (λ t. IsCodeText t ds) (sym (compiles line mid p.code p.compiled).0) is.text)
-
-    silent : (line mid : Outgoing) (other : List Definition) (image : Image) → HasProgram edition source line mid other image → mid ≡ line
-    silent line mid other image p = (compiles line mid p.code p.compiled).1
+    only : (other : List Definition) (image : Image) → HasProgram edition source other image → other ≡ ds
+    only other image p =
+        unique_code (code_text edition is.compilation) other ds
+        (subst (IsCodeText (code_text edition is.compilation)) (p.code is.compilation is.goes).1 (text_in edition source is.compilation is.goes is.clean)) is.text
 
     -- a status of a run is not told where there is no program
-    has_program : (line line_after : Outgoing) (status : ℕ) → status < 132 → NoProgram edition source line line_after status → ⊥
-    has_program line line_after status less (programs.faulty code w some) =
-        elim w.compiles.no_other [ inl h ↦ some h | inr (inl h) ↦ not_faulty line line_after code status w h | inr (inr (inl h)) ↦ omega arith | inr (inr (inr h)) ↦ omega arith ]
-    has_program line line_after status less (programs.unread code n w f none e) = let bad : status ≡ 132 = e in omega arith
-    has_program line line_after status less (programs.refused mid code ds' f text w t l m r) =
-        let bad : status ≡ 132 = (told text 132 mid line_after status (omega arith) r).1 in omega arith
-    has_program line line_after status less (programs.no_memory code w e) = let bad : status ≡ 134 = e in omega arith
+    has_program : (lines : Diagnostic → List ℕ) (line line_after : Outgoing) (status : ℕ) → status < 132 → NoProgram edition source lines line line_after status → ⊥
+    has_program lines line line_after status less none =
+        let e = programs.excluded edition source is.compilation is.goes lines line line_after in
+        elim (e.status status none) [ inl one ↦ faulty (e.fault (subst (NoProgram edition source lines line line_after) one none)) | inr (inl h) ↦ omega arith | inr (inr (inl h)) ↦ omega arith | inr (inr (inr h)) ↦ omega arith ]
+      where
+        faulty : (d : Diagnostic) × (is.compilation.stop ≡ Some d) × Writes line (lines d) line_after → ⊥
+        faulty f = let no : None ≡ Some f.0 = sym is.clean ∙ f.1 in cc
 
   -- what was loaded has the outcomes of its definitions
   outcome_loaded : (ds : List Definition) (image : Image) → IsLoadedFrom ds image → (input : List ℕ) (n : ℕ) → state_outcome (run image input n) ≡ state_outcome (machine ds input n)
@@ -168,47 +144,47 @@ module _ (file : File) where
 
   module _ (edition : Edition) (source : List ℕ) (ds : List Definition) (is : IsSourceOf edition source ds) (steps : ℕ) (from : TraceRows) (name : Option (List ℕ)) (ends : RunEnds) (status : ℕ) (less : status < 132) where
     -- a text was written, and it is the trace of a run
-    traced_so : (mid : Outgoing) (other : List Definition) (image : Image) (which : Which) (result : Outcome) (text : List ℕ) (o p : Outgoing) (answer : ℕ) → HasProgram edition source ends.line mid other image
+    traced_so : (other : List Definition) (image : Image) (which : Which) (result : Outcome) (text : List ℕ) (o p : Outgoing) (answer : ℕ) → HasProgram edition source other image
         → which_of (functions_of other) from name ≡ Some which → RunGives (machine other) steps ends.input ends.input_after o p result
-        → ShowsRows (leg (functions_of other)) (machine_functions other) which (machine other) steps ends.input ends.input_after result HEADING.now text → Reported text DONE ends.out ends.out_after answer → TellsEnd answer result mid ends.line_after status
+        → ShowsRows (leg (functions_of other)) (machine_functions other) which (machine other) steps ends.input ends.input_after result HEADING.now text → Reported text DONE ends.out ends.out_after answer → TellsEnd answer result ends.line ends.line_after status
         → Writes ends.out text ends.out_after × Told ds steps from name ends.input ends.input_after text status
-    traced_so mid other image which result text o p answer program named gives shows reported (inl t) =
+    traced_so other image which result text o p answer program named gives shows reported (inl t) =
         let zero : answer ≡ 0 = t.0 in
-        let c = came other steps ends.input ends.input_after o p mid ends.line_after status less result gives t.1 in
+        let c = came other steps ends.input ends.input_after o p ends.line ends.line_after status less result gives t.1 in
         let here : Told other steps from name ends.input ends.input_after text status = record { which = which; named = named; result = result; answer = c.0; input = c.1.0; comes = c.1.1; shows = shows } in (
           (told text DONE ends.out ends.out_after answer (omega arith) reported).0,
-          subst (λ x. Told x steps from name ends.input ends.input_after text status) (only edition source ds is ends.line mid other image program) here,
+          subst (λ x. Told x steps from name ends.input ends.input_after text status) (only edition source ds is other image program) here,
         )
-    traced_so mid other image which result text o p answer program named gives shows reported (inr t) =
+    traced_so other image which result text o p answer program named gives shows reported (inr t) =
         let same : status ≡ answer = t.2 in
         absurd (t.0 ((told text DONE ends.out ends.out_after answer (omega arith) reported).1))
 
     -- where something was written it is the trace
     told_so : (text : List ℕ) → ends.out.written ≡ Some [] → ends.out_after.written ≡ Some text → (text ≡ [] → ⊥) → Traces edition source steps from one_file name ends status
         → Told ds steps from name ends.input ends.input_after text status
-    told_so text before following some (traces.traced mid other image which result t output answer program named gives shows reported tells) =
-        let h = traced_so mid other image which result t _ _ answer program named gives shows reported tells in
+    told_so text before following some (traces.traced other image which result t output answer program named gives shows reported tells) =
+        let h = traced_so other image which result t _ _ answer program named gives shows reported tells in
         subst (λ x. Told ds steps from name ends.input ends.input_after x status) (sym (wrote ends.out ends.out_after [] t text before following h.0)) h.1
-    told_so text before following some (traces.not_begun mid other image which result program named never f quiet) =
+    told_so text before following some (traces.not_begun other image which result program named never f quiet) =
         absurd (no_nothing ends.out_after.written text (ap (λ (o : Outgoing). o.written) quiet.silent ∙ before) following some)
-    told_so text before following some (traces.unnamed mid other image program unknown r quiet) =
+    told_so text before following some (traces.unnamed other image program unknown r quiet) =
         absurd (no_nothing ends.out_after.written text (ap (λ (o : Outgoing). o.written) quiet.silent ∙ before) following some)
     told_so text before following some (traces.stopped none quiet) =
         absurd (no_nothing ends.out_after.written text (ap (λ (o : Outgoing). o.written) quiet.silent ∙ before) following some)
-    told_so text before following some (traces.no_memory other image program same read e) =
+    told_so text before following some (traces.no_memory other image program still same read e) =
         absurd (no_nothing ends.out_after.written text (ap (λ (o : Outgoing). o.written) same ∙ before) following some)
 
     -- a run that begins has its trace written
     written_so : ComesAlways ds 0 outcome.Limit → Traces edition source steps from one_file name ends status → (text : List ℕ) × (Writes ends.out text ends.out_after × Told ds steps from name ends.input ends.input_after text status)
-    written_so starts (traces.traced mid other image which result t output answer program named gives shows reported tells) =
-        (t, traced_so mid other image which result t _ _ answer program named gives shows reported tells)
-    written_so starts (traces.not_begun mid other image which result program named never f quiet) =
-        let loaded = subst (λ x. IsLoadedFrom x image) (only edition source ds is ends.line mid other image program) program.loaded in
-        absurd (begins ds image result mid ends.line_after status less starts loaded never f)
-    written_so starts (traces.unnamed mid other image program unknown r quiet) =
-        let bad : status ≡ 135 = (told _ WRONG_COMMAND mid ends.line_after status (omega arith) r).1 in absurd (omega arith)
-    written_so starts (traces.stopped none quiet) = absurd (has_program edition source ds is ends.line ends.line_after status less none)
-    written_so starts (traces.no_memory other image program same read e) = let bad : status ≡ 134 = e in absurd (omega arith)
+    written_so starts (traces.traced other image which result t output answer program named gives shows reported tells) =
+        (t, traced_so other image which result t _ _ answer program named gives shows reported tells)
+    written_so starts (traces.not_begun other image which result program named never f quiet) =
+        let loaded = subst (λ x. IsLoadedFrom x image) (only edition source ds is other image program) program.loaded in
+        absurd (begins ds image result ends.line ends.line_after status less starts loaded never f)
+    written_so starts (traces.unnamed other image program unknown r quiet) =
+        let bad : status ≡ 135 = (told _ WRONG_COMMAND ends.line ends.line_after status (omega arith) r).1 in absurd (omega arith)
+    written_so starts (traces.stopped none quiet) = absurd (has_program edition source ds is _ ends.line ends.line_after status less none)
+    written_so starts (traces.no_memory other image program still same read e) = let bad : status ≡ 134 = e in absurd (omega arith)
 
   -- what stands under the heading of a trace at the limit: rows, and where the run was over
   record AtLimit (ds : List Definition) (steps : ℕ) (which : Which) (text : List ℕ) : Type 0 where
@@ -265,20 +241,20 @@ module _ (file : File) where
     silent_out same = no_nothing ends.out_after.written (HEADING.now ++ text) (ap (λ (o : Outgoing). o.written) same ∙ before) following (λ e. cc)
 
     begins_so : Traces edition source steps from one_file None ends status → (more : List ℕ) × AtLimit ds steps which (text ++ more)
-    begins_so (traces.traced mid other image w result t output answer program chosen gives shows reported tells) =
+    begins_so (traces.traced other image w result t output answer program chosen gives shows reported tells) =
         let b = begun_text t DONE ends.out ends.out_after answer (HEADING.now ++ text) before following reported in
         let c = came_unfailed other steps ends.input ends.input_after output (functions_of other) w HEADING.now t unread result gives shows in
         let here : Told other steps from None ends.input ends.input_after t (status_of result) = record { which = w; named = chosen; result = result; answer = refl; input = c.0; comes = c.1; shows = shows } in
         let whole : t ≡ HEADING.now ++ (text ++ b.0) = b.1 ∙ append_assoc HEADING.now text b.0 in
-        let mine = subst (λ x. Told x steps from None ends.input ends.input_after t (status_of result)) (only edition source ds is ends.line mid other image program) here in (
+        let mine = subst (λ x. Told x steps from None ends.input ends.input_after t (status_of result)) (only edition source ds is other image program) here in (
           b.0,
           at_limit ds steps from None which ends.input ends.input_after (text ++ b.0) (status_of result) named comes
               (subst (λ x. Told ds steps from None ends.input ends.input_after x (status_of result)) whole mine),
         )
-    begins_so (traces.not_begun mid other image w result program chosen never f quiet) = absurd (silent_out quiet.silent)
-    begins_so (traces.unnamed mid other image program unknown r quiet) = absurd (silent_out quiet.silent)
+    begins_so (traces.not_begun other image w result program chosen never f quiet) = absurd (silent_out quiet.silent)
+    begins_so (traces.unnamed other image program unknown r quiet) = absurd (silent_out quiet.silent)
     begins_so (traces.stopped none quiet) = absurd (silent_out quiet.silent)
-    begins_so (traces.no_memory other image program same read e) = absurd (silent_out same)
+    begins_so (traces.no_memory other image program still same read e) = absurd (silent_out same)
 
   -- the call that a machine runs, and those below it
   abbrev call_of : State → Option Call
@@ -790,8 +766,8 @@ module _ (file : File) where
         }
 
     at_read : Traces edition source steps from one_file None ends status → AtRead ds steps which text
-    at_read (traces.traced mid other image w result t output answer program chosen gives shows reported tells) =
-        let same = only edition source ds is ends.line mid other image program in
+    at_read (traces.traced other image w result t output answer program chosen gives shows reported tells) =
+        let same = only edition source ds is other image program in
         let written = wrote ends.out ends.out_after [] t (HEADING.now ++ text) before following (told_whole t DONE ends.out ends.out_after answer whole room reported) in
         let device = read_result other steps ends.input ends.input_after nothing_written (outgoing_of output) (functions_of other) w HEADING.now t result failed gives shows in
         let mine = subst (λ x. ShowsRows (leg (functions_of x)) (machine_functions x) w (machine x) steps ends.input ends.input_after result HEADING.now t) same shows in
@@ -799,10 +775,10 @@ module _ (file : File) where
         read_shows result device
         (subst (λ x. ShowsRows (leg (functions_of ds)) (machine_functions ds) x (machine ds) steps ends.input ends.input_after result HEADING.now (HEADING.now ++ text)) wanted
         (subst (λ x. ShowsRows (leg (functions_of ds)) (machine_functions ds) w (machine ds) steps ends.input ends.input_after result HEADING.now x) (sym written) mine))
-    at_read (traces.not_begun mid other image w result program chosen never f quiet) = absurd (failed (ap (λ (i : Incoming). i.failures) quiet.unread))
-    at_read (traces.unnamed mid other image program unknown r quiet) = absurd (failed (ap (λ (i : Incoming). i.failures) quiet.unread))
+    at_read (traces.not_begun other image w result program chosen never f quiet) = absurd (failed (ap (λ (i : Incoming). i.failures) quiet.unread))
+    at_read (traces.unnamed other image program unknown r quiet) = absurd (failed (ap (λ (i : Incoming). i.failures) quiet.unread))
     at_read (traces.stopped none quiet) = absurd (failed (ap (λ (i : Incoming). i.failures) quiet.unread))
-    at_read (traces.no_memory other image program same read e) = absurd (failed read.no_failure)
+    at_read (traces.no_memory other image program still same read e) = absurd (failed read.no_failure)
 
   abbrev reading_code : List Instr
   reading_code = instr.External (codes "getchar") ∷ instr.Load ∷ instr.Call 0 ∷ instr.Pop ∷ closing
@@ -918,15 +894,15 @@ module _ (file : File) where
       by_kind end_fault.Memory h e = refused h.counted.0
 
   read_told : (edition : Edition) (source : List ℕ) (steps : ℕ) (from : TraceRows) (name : Option (List ℕ)) (ends : RunEnds) → (ends.input_after.failures ≡ ends.input.failures → ⊥) → (Grew ends.out.refusals ends.out_after.refusals → ⊥) → Traces edition source steps from one_file name ends MEMORY → ⊥
-  read_told edition source steps from name ends failed refused (traces.traced mid ds image which result t output answer program named gives shows reported tells) =
+  read_told edition source steps from name ends failed refused (traces.traced ds image which result t output answer program named gives shows reported tells) =
       elim tells [
-        | inl d ↦ read_whole ds steps ends.input ends.input_after _ _ mid ends.line_after result failed gives d.1
+        | inl d ↦ read_whole ds steps ends.input ends.input_after _ _ ends.line ends.line_after result failed gives d.1
         | inr d ↦ cut_off t ends.out ends.out_after refused (subst (λ n. Reported t DONE ends.out ends.out_after n) (sym d.2) reported)
       ]
-  read_told edition source steps from name ends failed refused (traces.not_begun mid ds image which result program named never f quiet) = failed (ap (λ (i : Incoming). i.failures) quiet.unread)
-  read_told edition source steps from name ends failed refused (traces.unnamed mid ds image program unknown r quiet) = failed (ap (λ (i : Incoming). i.failures) quiet.unread)
+  read_told edition source steps from name ends failed refused (traces.not_begun ds image which result program named never f quiet) = failed (ap (λ (i : Incoming). i.failures) quiet.unread)
+  read_told edition source steps from name ends failed refused (traces.unnamed ds image program unknown r quiet) = failed (ap (λ (i : Incoming). i.failures) quiet.unread)
   read_told edition source steps from name ends failed refused (traces.stopped none quiet) = failed (ap (λ (i : Incoming). i.failures) quiet.unread)
-  read_told edition source steps from name ends failed refused (traces.no_memory ds image program same read e) = failed read.no_failure
+  read_told edition source steps from name ends failed refused (traces.no_memory ds image program still same read e) = failed read.no_failure
 
   -- after the first line of the place of `f`
   caller_parts : (a b c d e : List ℕ) → a ++ (b ++ (c ++ (d ++ (codes "\n" ++ e)))) ≡ (a ++ (b ++ (c ++ d))) ++ 10 ∷ e
@@ -1130,17 +1106,16 @@ module _ (file : File) where
   not_alone outcome.Memory mid following status text less f unplaced e g some = let bad : status ≡ 134 = f.1 in omega arith
 
   module _ (edition : Edition) (source : List ℕ) (ds : List Definition) (is : IsSourceOf edition source ds) (steps : ℕ) (ends : RunEnds) (status : ℕ) (less : status < 132) (starts : ComesAlways ds 0 outcome.Limit) where
-    never_begun : (mid : Outgoing) (other : List Definition) (image : Image) (result : Outcome) → HasProgram edition source ends.line mid other image → BeginsNot image result → Finishes result mid ends.line_after status → ⊥
-    never_begun mid other image result program never f =
-        begins ds image result mid ends.line_after status less starts (subst (λ x. IsLoadedFrom x image) (only edition source ds is ends.line mid other image program) program.loaded) never f
+    never_begun : (other : List Definition) (image : Image) (result : Outcome) → HasProgram edition source other image → BeginsNot image result → Finishes result ends.line ends.line_after status → ⊥
+    never_begun other image result program never f =
+        begins ds image result ends.line ends.line_after status less starts (subst (λ x. IsLoadedFrom x image) (only edition source ds is other image program) program.loaded) never f
 
     -- the place is told
     stops_so : (text : List ℕ) → ends.line.written ≡ Some [] → ends.line_after.written ≡ Some text → (text ≡ [] → ⊥) → Locates edition source one_file steps ends status → Stops ds steps text status
-    stops_so text before following some (locates.located mid out other image result answer active made program gives f located stops tells) =
-        let same = only edition source ds is ends.line mid other image program in
-        let quiet = silent edition source ds is ends.line mid other image program in
+    stops_so text before following some (locates.located out other image result answer active made program gives f located stops tells) =
+        let same = only edition source ds is other image program in
         let site = site_told (functions_of other) active.strings active.place made answer out ends.line_after status less tells in
-        let whole = Writes-append (line_told result answer mid out located f) site.1 in
+        let whole = Writes-append (line_told result answer ends.line out located f) site.1 in
         let here : Stops other steps text status = record {
           result = result;
           located = located ∙ ap Some (sym site.2);
@@ -1149,32 +1124,29 @@ module _ (file : File) where
           made = made;
           stops = stops.ends [] (λ e. refl);
           line = site.0;
-          text_is = wrote mid ends.line_after [] _ text (ap (λ (o : Outgoing). o.written) quiet ∙ before) following whole;
+          text_is = wrote ends.line ends.line_after [] _ text before following whole;
         } in
         subst (λ x. Stops x steps text status) same here
-    stops_so text before following some (locates.unlocated mid other image result program gives f unplaced) =
-        let quiet = silent edition source ds is ends.line mid other image program in
-        absurd (not_alone result mid ends.line_after status text less f unplaced (ap (λ (o : Outgoing). o.written) quiet ∙ before) following some)
-    stops_so text before following some (locates.not_begun mid other image result program never f quiet) = absurd (never_begun mid other image result program never f)
-    stops_so text before following some (locates.stopped none quiet) = absurd (has_program edition source ds is ends.line ends.line_after status less none)
-    stops_so text before following some (locates.no_memory other image program quiet e) = let bad : status ≡ 134 = e in absurd (omega arith)
+    stops_so text before following some (locates.unlocated other image result program gives f unplaced) =
+        absurd (not_alone result ends.line ends.line_after status text less f unplaced before following some)
+    stops_so text before following some (locates.not_begun other image result program never f quiet) = absurd (never_begun other image result program never f)
+    stops_so text before following some (locates.stopped none quiet) = absurd (has_program edition source ds is _ ends.line ends.line_after status less none)
 
     -- the status is that of the machine's outcome
     came_to : (result : Outcome) → ComesAlways ds steps result → Locates edition source one_file steps ends status → status ≡ status_of result
-    came_to result comes (locates.located mid out other image r answer active made program gives f located stops tells) =
-        let same = only edition source ds is ends.line mid other image program in
+    came_to result comes (locates.located out other image r answer active made program gives f located stops tells) =
+        let same = only edition source ds is other image program in
         let site = site_told (functions_of other) active.strings active.place made answer out ends.line_after status less tells in
-        let c = came other steps ends.input ends.input_after ends.out ends.out_after mid out answer (omega (arith, site.2)) r gives f in
+        let c = came other steps ends.input ends.input_after ends.out ends.out_after ends.line out answer (omega (arith, site.2)) r gives f in
         let at_end = subst (λ x. state_outcome (machine x c.1.0 steps) ≡ r) same c.1.1 in
         site.2 ∙ c.0 ∙ ap status_of (sym at_end ∙ comes c.1.0)
-    came_to result comes (locates.unlocated mid other image r program gives f unplaced) =
-        let same = only edition source ds is ends.line mid other image program in
-        let c = came other steps ends.input ends.input_after ends.out ends.out_after mid ends.line_after status less r gives f in
+    came_to result comes (locates.unlocated other image r program gives f unplaced) =
+        let same = only edition source ds is other image program in
+        let c = came other steps ends.input ends.input_after ends.out ends.out_after ends.line ends.line_after status less r gives f in
         let at_end = subst (λ x. state_outcome (machine x c.1.0 steps) ≡ r) same c.1.1 in
         c.0 ∙ ap status_of (sym at_end ∙ comes c.1.0)
-    came_to result comes (locates.not_begun mid other image r program never f quiet) = absurd (never_begun mid other image r program never f)
-    came_to result comes (locates.stopped none quiet) = absurd (has_program edition source ds is ends.line ends.line_after status less none)
-    came_to result comes (locates.no_memory other image program quiet e) = let bad : status ≡ 134 = e in absurd (omega arith)
+    came_to result comes (locates.not_begun other image r program never f quiet) = absurd (never_begun other image r program never f)
+    came_to result comes (locates.stopped none quiet) = absurd (has_program edition source ds is _ ends.line ends.line_after status less none)
 
   limit_is : (result : Outcome) → located_status result ≡ Some 131 → result ≡ outcome.Limit
   limit_is (outcome.Exit n) e = cc
@@ -1239,13 +1211,12 @@ module _ (file : File) where
   located_read ds steps i j o p outcome.Memory answer e h = cc
 
   place_read : (edition : Edition) (source : List ℕ) (steps : ℕ) (ends : RunEnds) → (ends.input_after.failures ≡ ends.input.failures → ⊥) → Locates edition source one_file steps ends MEMORY → ⊥
-  place_read edition source steps ends failed (locates.located mid out ds image result answer active made program gives f located stops tells) =
+  place_read edition source steps ends failed (locates.located out ds image result answer active made program gives f located stops tells) =
       failed (located_read ds steps ends.input ends.input_after ends.out ends.out_after result answer located gives)
-  place_read edition source steps ends failed (locates.unlocated mid ds image result program gives f unplaced) =
-      read_whole ds steps ends.input ends.input_after ends.out ends.out_after mid ends.line_after result failed gives f
-  place_read edition source steps ends failed (locates.not_begun mid ds image result program never f quiet) = failed (ap (λ (i : Incoming). i.failures) quiet.unread)
+  place_read edition source steps ends failed (locates.unlocated ds image result program gives f unplaced) =
+      read_whole ds steps ends.input ends.input_after ends.out ends.out_after ends.line ends.line_after result failed gives f
+  place_read edition source steps ends failed (locates.not_begun ds image result program never f quiet) = failed (ap (λ (i : Incoming). i.failures) quiet.unread)
   place_read edition source steps ends failed (locates.stopped none quiet) = failed (ap (λ (i : Incoming). i.failures) quiet.unread)
-  place_read edition source steps ends failed (locates.no_memory ds image program quiet e) = failed (ap (λ (i : Incoming). i.failures) quiet.unread)
 
   nothing_stops : (edition : Edition) (source : List ℕ) (ends : RunEnds) (text : List ℕ) → IsSourceOf edition source nothing → ends.line.written ≡ Some [] → ends.line_after.written ≡ Some text → (text ≡ [] → ⊥)
       → Locates edition source one_file 1 ends LIMIT → at 34 text ≡ 49

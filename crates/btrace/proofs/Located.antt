@@ -65,23 +65,23 @@ stops_run ds image p loaded begins n i j r active made s =
       ends = λ more can. ends_at_same (image_of ds) (machine ds (s.taken ++ more)) (steps_from p (s.taken ++ more)) (e (s.taken ++ more)) active made n r (s.ends more can);
     }
 
-module _ (edition : Edition) (source : List ℕ) (files : Files) (n : ℕ) (ends : RunEnds) (status : ℕ) (mid : Outgoing) (ds : List Definition) (image : Image) (p : Paused) (result : Outcome) where
-  runs_whole : HasProgram edition source ends.line mid ds image → IsUnstarted image p → RunGives (steps_from p) n ends.input ends.input_after ends.out ends.out_after result
+module _ (edition : Edition) (source : List ℕ) (files : Files) (n : ℕ) (ends : RunEnds) (status : ℕ) (ds : List Definition) (image : Image) (p : Paused) (result : Outcome) where
+  runs_whole : HasProgram edition source ds image → IsUnstarted image p → RunGives (steps_from p) n ends.input ends.input_after ends.out ends.out_after result
       → RunGives (machine ds) n ends.input ends.input_after ends.out ends.out_after result
   runs_whole is begins gives =
       run_of_loaded ds image is.loaded n ends.input ends.input_after ends.out ends.out_after result
       (same_run (run image) (steps_from p) n ends.input ends.input_after ends.out ends.out_after result (run_from image p begins) gives)
 
   -- a run whose place was told
-  pub located_whole : (told : Outgoing) (legend : Legend) (answer : ℕ) (active : Active) (made : ℕ) → HasProgram edition source ends.line mid ds image → legend ≡ legend_in ds files → IsUnstarted image p
-      → RunGives (steps_from p) n ends.input ends.input_after ends.out ends.out_after result → Finishes result mid told answer → located_status result ≡ Some answer
+  pub located_whole : (told : Outgoing) (legend : Legend) (answer : ℕ) (active : Active) (made : ℕ) → HasProgram edition source ds image → legend ≡ legend_in ds files → IsUnstarted image p
+      → RunGives (steps_from p) n ends.input ends.input_after ends.out ends.out_after result → Finishes result ends.line told answer → located_status result ≡ Some answer
       → IsOverAt (steps_from p) n ends.input ends.input_after result active made → TellsSite legend active.strings active.place made answer told ends.line_after status → Locates edition source files n ends status
   located_whole told legend answer active made is functions begins gives finishes at stops tells =
-      located mid told ds image result answer active made is (runs_whole is begins gives) finishes at
+      located told ds image result answer active made is (runs_whole is begins gives) finishes at
       (stops_run ds image p is.loaded begins n ends.input ends.input_after result active made stops)
       (subst (λ (x : Legend). TellsSite x active.strings active.place made answer told ends.line_after status) functions tells)
 
   -- a run that has no place
-  pub unlocated_whole : HasProgram edition source ends.line mid ds image → IsUnstarted image p → RunGives (steps_from p) n ends.input ends.input_after ends.out ends.out_after result
-      → Finishes result mid ends.line_after status → (located_status result ≡ Some status → ⊥) → Locates edition source files n ends status
-  unlocated_whole is begins gives finishes unplaced = unlocated mid ds image result is (runs_whole is begins gives) finishes unplaced
+  pub unlocated_whole : HasProgram edition source ds image → IsUnstarted image p → RunGives (steps_from p) n ends.input ends.input_after ends.out ends.out_after result
+      → Finishes result ends.line ends.line_after status → (located_status result ≡ Some status → ⊥) → Locates edition source files n ends status
+  unlocated_whole is begins gives finishes unplaced = unlocated ds image result is (runs_whole is begins gives) finishes unplaced

@@ -142,15 +142,15 @@ shows_run legend which ds image p loaded begins n i j r old new s =
     }
 
 -- the trace of a program that has begun
-pub traced_whole : (edition : Edition) (source : List ℕ) (n : ℕ) (shown : TraceRows) (files : Files) (name : Option (List ℕ)) (ends : RunEnds) (status : ℕ) (mid : Outgoing) (ds : List Definition) (image : Image) (legend : Legend) (which : Which) (p : Paused) (result : Outcome) (heading text : List ℕ) (told : ℕ)
-    → HasProgram edition source ends.line mid ds image → legend ≡ legend_in ds files → which_of legend.functions shown name ≡ Some which → IsUnstarted image p → (output : Kept) × StepsGive p n ends.input ends.input_after nothing_written (outgoing_of output) result
+pub traced_whole : (edition : Edition) (source : List ℕ) (n : ℕ) (shown : TraceRows) (files : Files) (name : Option (List ℕ)) (ends : RunEnds) (status : ℕ) (ds : List Definition) (image : Image) (legend : Legend) (which : Which) (p : Paused) (result : Outcome) (heading text : List ℕ) (told : ℕ)
+    → HasProgram edition source ds image → legend ≡ legend_in ds files → which_of legend.functions shown name ≡ Some which → IsUnstarted image p → (output : Kept) × StepsGive p n ends.input ends.input_after nothing_written (outgoing_of output) result
     → heading ≡ HEADING.now → ShowsRows legend p.image.functions which (steps_from p) n ends.input ends.input_after result heading text → Reported text DONE ends.out ends.out_after told
-    → TellsEnd told result mid ends.line_after status → Traces edition source n shown files name ends status
-traced_whole edition source n shown files name ends status mid ds image legend which p result heading text told is functions named begins gives begun shows tells end =
+    → TellsEnd told result ends.line ends.line_after status → Traces edition source n shown files name ends status
+traced_whole edition source n shown files name ends status ds image legend which p result heading text told is functions named begins gives begun shows tells end =
     let run_gives = same_run (run image) (steps_from p) n ends.input ends.input_after nothing_written (outgoing_of gives.0) result (run_from image p begins) gives.1 in
     let ds_gives = run_of_loaded ds image is.loaded n ends.input ends.input_after nothing_written (outgoing_of gives.0) result run_gives in
     let ds_shows = shows_run legend which ds image p is.loaded begins n ends.input ends.input_after result heading text shows in
-    traced mid ds image which result text gives.0 told is
+    traced ds image which result text gives.0 told is
     (subst (λ (x : Legend). which_of x.functions shown name ≡ Some which) functions named)
     ds_gives
     (subst (λ (x : Legend). ShowsRows x (image_of ds).functions which (machine ds) n ends.input ends.input_after result HEADING.now text) functions

@@ -11,6 +11,7 @@ use Rattle.blang.specs.Reports.{Finishes, HasNotRun, RunEnds, RunGives, Reported
 use Rattle.bmach.specs.Stepping.{BeginsNot}
 use Rattle.bmach.specs.Stops.{IsOverAt}
 use Rattle.bmach.specs.declared.machine.Active.{Active}
+use Rattle.btools.specs.FaultPlaces.{fault_lines}
 use Rattle.btools.specs.Programs.{HasProgram, NoProgram}
 use Rattle.bsources.specs.Files.{Files}
 use Rattle.btrace.specs.RowTexts.{Legend, legend_in, site_text}
@@ -37,23 +38,21 @@ TellsSite legend strings place number answer old new status =
 -- program did not begin, or there is none, and why was told; or memory was refused.
 pub data Locates (edition : Edition) (source : List ℕ) (files : Files) (steps : ℕ) (ends : RunEnds) (status : ℕ)
     : Type 0 where
-  located : (mid told : Outgoing) (ds : List Definition) (image : Image) (result : Outcome) (answer : ℕ)
+  located : (told : Outgoing) (ds : List Definition) (image : Image) (result : Outcome) (answer : ℕ)
       (active : Active) (made : ℕ)
-      → HasProgram edition source ends.line mid ds image
+      → HasProgram edition source ds image
       → RunGives (machine ds) steps ends.input ends.input_after ends.out ends.out_after result
-      → Finishes result mid told answer → located_status result ≡ Some answer
+      → Finishes result ends.line told answer → located_status result ≡ Some answer
       → IsOverAt (machine ds) steps ends.input ends.input_after result active made
       → TellsSite (legend_in ds files) active.strings active.place made answer told ends.line_after status
       → Locates edition source files steps ends status
-  unlocated : (mid : Outgoing) (ds : List Definition) (image : Image) (result : Outcome)
-      → HasProgram edition source ends.line mid ds image
+  unlocated : (ds : List Definition) (image : Image) (result : Outcome)
+      → HasProgram edition source ds image
       → RunGives (machine ds) steps ends.input ends.input_after ends.out ends.out_after result
-      → Finishes result mid ends.line_after status → (located_status result ≡ Some status → ⊥)
+      → Finishes result ends.line ends.line_after status → (located_status result ≡ Some status → ⊥)
       → Locates edition source files steps ends status
-  not_begun : (mid : Outgoing) (ds : List Definition) (image : Image) (result : Outcome)
-      → HasProgram edition source ends.line mid ds image → BeginsNot image result
-      → Finishes result mid ends.line_after status → HasNotRun ends → Locates edition source files steps ends status
-  stopped : NoProgram edition source ends.line ends.line_after status → HasNotRun ends
+  not_begun : (ds : List Definition) (image : Image) (result : Outcome)
+      → HasProgram edition source ds image → BeginsNot image result
+      → Finishes result ends.line ends.line_after status → HasNotRun ends → Locates edition source files steps ends status
+  stopped : NoProgram edition source (fault_lines files) ends.line ends.line_after status → HasNotRun ends
       → Locates edition source files steps ends status
-  no_memory : (ds : List Definition) (image : Image) → HasProgram edition source ends.line ends.line_after ds image
-      → HasNotRun ends → status ≡ MEMORY → Locates edition source files steps ends status

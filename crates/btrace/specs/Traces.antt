@@ -22,6 +22,7 @@ use Rattle.bmach.specs.declared.machine.Active.{Active}
 use Rattle.blang.specs.declared.run.Outcome.{Outcome}
 use Rattle.blang.specs.declared.run.Outcome.TheVariants as outcome
 use Rattle.blang.specs.Layout.{World}
+use Rattle.btools.specs.FaultPlaces.{fault_lines}
 use Rattle.btools.specs.Programs.{HasProgram, NoProgram, TellsEnd, nothing_written, steps_from}
 use Rattle.btools.specs.Functions.{Placed, function_named, functions_of}
 use Rattle.bsources.specs.Files.{Files}
@@ -208,25 +209,25 @@ StepsGive first n i j o p result = RunGives (steps_from first) n i j o p result
 -- was refused, and nothing was written, or read but by some of its steps.
 pub data Traces (edition : Edition) (source : List ℕ) (steps : ℕ) (shown : TraceRows) (files : Files)
     (name : Option (List ℕ)) (ends : RunEnds) (status : ℕ) : Type 0 where
-  traced : (mid : Outgoing) (ds : List Definition) (image : Image) (which : Which) (result : Outcome) (text : List ℕ)
-      (output : Kept) (told : ℕ) → HasProgram edition source ends.line mid ds image
+  traced : (ds : List Definition) (image : Image) (which : Which) (result : Outcome) (text : List ℕ)
+      (output : Kept) (told : ℕ) → HasProgram edition source ds image
       → which_of (functions_of ds) shown name ≡ Some which
       → RunGives (machine ds) steps ends.input ends.input_after nothing_written (outgoing_of output) result
       → ShowsRows (legend_in ds files) (image_of ds).functions which (machine ds) steps ends.input ends.input_after
       result HEADING.now text
-      → Reported text DONE ends.out ends.out_after told → TellsEnd told result mid ends.line_after status
+      → Reported text DONE ends.out ends.out_after told → TellsEnd told result ends.line ends.line_after status
       → Traces edition source steps shown files name ends status
-  not_begun : (mid : Outgoing) (ds : List Definition) (image : Image) (which : Which) (result : Outcome)
-      → HasProgram edition source ends.line mid ds image
+  not_begun : (ds : List Definition) (image : Image) (which : Which) (result : Outcome)
+      → HasProgram edition source ds image
       → which_of (functions_of ds) shown name ≡ Some which → BeginsNot image result
-      → Finishes result mid ends.line_after status → HasNotRun ends
+      → Finishes result ends.line ends.line_after status → HasNotRun ends
       → Traces edition source steps shown files name ends status
-  unnamed : (mid : Outgoing) (ds : List Definition) (image : Image) → HasProgram edition source ends.line mid ds image
+  unnamed : (ds : List Definition) (image : Image) → HasProgram edition source ds image
       → which_of (functions_of ds) shown name ≡ None
-      → Reported UNNAMED.now WRONG_COMMAND mid ends.line_after status → HasNotRun ends
+      → Reported UNNAMED.now WRONG_COMMAND ends.line ends.line_after status → HasNotRun ends
       → Traces edition source steps shown files name ends status
-  stopped : NoProgram edition source ends.line ends.line_after status → HasNotRun ends
+  stopped : NoProgram edition source (fault_lines files) ends.line ends.line_after status → HasNotRun ends
       → Traces edition source steps shown files name ends status
-  no_memory : (ds : List Definition) (image : Image) → HasProgram edition source ends.line ends.line_after ds image
-      → ends.out_after ≡ ends.out → ReadBySteps (machine ds) steps ends.input ends.input_after → status ≡ MEMORY
+  no_memory : (ds : List Definition) (image : Image) → HasProgram edition source ds image
+      → ends.line_after ≡ ends.line → ends.out_after ≡ ends.out → ReadBySteps (machine ds) steps ends.input ends.input_after → status ≡ MEMORY
       → Traces edition source steps shown files name ends status

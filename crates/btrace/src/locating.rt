@@ -14,7 +14,7 @@ use bmach::{Stepper, Stop};
 use bpages::PagedStore;
 use brun::finish;
 use bsources::SourceFiles;
-use btools::{Tables, Text, read_program, tell};
+use btools::{Tables, Text, read_program, tell, tell_placed};
 use bword::{ByteIn, ByteOut, Edition};
 use std::alloc::{AllocError, Global};
 
@@ -40,9 +40,9 @@ pub fn locate<I: ByteIn, O: ByteOut, D: ByteOut>(
     ensures out_lender { O.lender out.new ≡ O.lender out.old }
     ensures diag_lender { D.lender diag.new ≡ D.lender diag.old }
 {
-    let program = match read_program(alloc, source, edition, diag) {
+    let program = match read_program(alloc, source, edition) {
         Ok(program) => program,
-        Err(status) => return status,
+        Err(fault) => return tell_placed(alloc, &fault, files, diag),
     };
     let image = &program.image;
     let Ok(tables) = Tables::new(alloc, &program) else {

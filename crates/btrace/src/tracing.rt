@@ -25,7 +25,7 @@ use bmach::{Active, Stepper};
 use bpages::PagedStore;
 use brun::finish;
 use bsources::SourceFiles;
-use btools::{Tables, Text, read_program, tell};
+use btools::{Tables, Text, read_program, tell, tell_placed};
 use bword::{ByteIn, ByteOut, Edition, MemOut, Store};
 use std::alloc::{AllocError, Global};
 
@@ -90,9 +90,9 @@ pub fn trace<I: ByteIn, O: ByteOut, D: ByteOut>(
     ensures out_lender { O.lender out.new ≡ O.lender out.old }
     ensures diag_lender { D.lender diag.new ≡ D.lender diag.old }
 {
-    let program = match read_program(alloc, source, edition, diag) {
+    let program = match read_program(alloc, source, edition) {
         Ok(program) => program,
-        Err(status) => return status,
+        Err(fault) => return tell_placed(alloc, &fault, wanted.files, diag),
     };
     let image = &program.image;
     let Ok(tables) = Tables::new(alloc, &program) else {

@@ -1,7 +1,8 @@
 use Rattle.std.proofs.Common.{subst, sym}
 use Rattle.bcheck.specs.Checks.{EachOutcome}
 use Rattle.bcheck.specs.Findings.{ReasonAt, matter_code}
-use Rattle.bcheck.proofs.Reasons.{if_ok, other_reason, undefined_reason}
+use Rattle.btools.proofs.Reading.{if_ok}
+use Rattle.bcheck.proofs.Reasons.{other_reason, undefined_reason}
 use Rattle.bcheck.proofs.explain.unloaded.Goals as goal
 
 pub returns-in-Undefined : goal.returns-in-Undefined

@@ -12,6 +12,6 @@ returns c =
       drop start source,
       sym (take-append-drop start source),
       c.own_line.ensures ∙ ap (own_line (files_shown c.args.files.now)) c.position-line.ensures.line,
-      several_is c.args.files.now.rest.now c.is_empty.result c.is_empty.ensures,
+      several_is c.args.files.now.rest.now.files c.is_empty.result c.is_empty.ensures,
       c.position-line.ensures.column,
     )

@@ -5,7 +5,7 @@ use Rattle.bcli.proofs.serving.ask_file.Goals as goal
 
 pub returns-in-Ok-clause-does : goal.returns-in-Ok-clause-does
 returns-in-Ok-clause-does g c =
-    asked_of_source (g.S.Shelf.holdings c.args.shelf.now) (source_shown c.args.source) c.in-Ok.whole _ _ _ _ _ c.in-Ok.ensures.ok c.as_slice.ensures.value refl c.files.ensures c.answer_placed.ensures.answers
+    asked_of_source (g.S.Shelf.holdings c.args.shelf.now) (source_shown c.args.source) _ _ _ _ _ _ c.in-Ok.ensures.ok c.as_slice.ensures.value refl refl c.ask_read.ensures.answers
 
 pub returns-in-Err-File-clause-does : goal.returns-in-Err-File-clause-does
 returns-in-Err-File-clause-does g c =

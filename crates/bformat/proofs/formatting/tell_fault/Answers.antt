@@ -1,4 +1,4 @@
-use Rattle.btools.proofs.Loading.{compiled}
+use Rattle.btools.proofs.Compiled.{compiled}
 use Rattle.bformat.proofs.formatting.tell_fault.Goals as goal
 
 pub returns-clause-compiled : goal.returns-clause-compiled

@@ -3,16 +3,17 @@ use Rattle.std.proofs.lemmas.Bool.{both_ways}
 use Rattle.std.specs.Borrow.{Bor}
 use Rattle.std.specs.Prelude.{Option, option_map}
 use Rattle.blang.specs.declared.code.Definition.{Definition}
-use Rattle.blist.specs.Listings.{listed, no_memory, stopped, unnamed, wanted}
+use Rattle.blist.specs.Listings.{listed, stopped, unnamed, wanted}
 use Rattle.blang.specs.Reports.{Reported}
+use Rattle.btools.specs.declared.program.ProgramFault.TheVariants.{Memory}
 use Rattle.blist.proofs.listing.list.Goals as goal
 
 pub returns-in-Err-clause-lists : goal.returns-in-Err-clause-lists
-returns-in-Err-clause-lists g c = stopped c.in-Err.ensures.gives refl
+returns-in-Err-clause-lists g c = stopped (c.in-Err.fault, c.in-Err.ensures, c.tell_fault.ensures.tells) refl
 
 pub returns-then-is_none_wanted-clause-lists : goal.returns-then-is_none_wanted-clause-lists
 returns-then-is_none_wanted-clause-lists g c =
-    unnamed (g.D.ByteOut.outgoing c.read_program.new.diag) c.in-Ok.program.definitions.items c.in-Ok.program.image c.in-Ok.ensures.gives
+    unnamed c.in-Ok.program.definitions.items c.in-Ok.program.image c.in-Ok.ensures
     (subst (λ (ds : List Definition). wanted (option_map (λ n. n.now) c.args.name) ds ≡ []) c.deref.ensures.value (c.is_none_wanted.ensures.0 c.if-is_none_wanted.true))
     c.tell.ensures.told refl
 
@@ -22,9 +23,9 @@ returns-in-Ok-listing-clause-lists g c =
     let name : Option (List ℕ) = option_map (λ (n : Bor (List ℕ)). n.now) c.args.name in
     let some : wanted name c.in-Ok.program.definitions.items ≡ [] → ⊥ = λ none.
     both_ways c.is_none_wanted.result c.if-is_none_wanted.false (c.is_none_wanted.ensures.1 (ap (wanted name) c.deref.ensures.value ∙ none)) in
-    listed c.in-Ok.program.definitions.items c.in-Ok.program.image rows.0 c.in-Ok.ensures.gives some rows.1
+    listed c.in-Ok.program.definitions.items c.in-Ok.program.image rows.0 c.in-Ok.ensures refl some rows.1
     (subst (λ (t : List ℕ). Reported t 0 (g.O.ByteOut.outgoing c.args.out.now) (g.O.ByteOut.outgoing c.tell-in-Ok-listing.new.out) c.tell-in-Ok-listing.result)
     (c.as_slice.ensures ∙ rows.2) c.tell-in-Ok-listing.ensures.told)
 
 pub returns-clause-lists : goal.returns-clause-lists
-returns-clause-lists g c = no_memory c.in-Ok.program.definitions.items c.in-Ok.program.image c.in-Ok.ensures.gives refl refl
+returns-clause-lists g c = stopped (Memory, tt, (refl, refl)) refl

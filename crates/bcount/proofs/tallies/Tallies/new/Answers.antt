@@ -12,6 +12,6 @@ loop-entry-preserved c =
     (c.in_ok-zeros.ensures ∙ ap (λ (n : ℕ). replicate n 0) (c.len.ensures ∙ e.parts.now.code.ok.0))
     (ap (map items) c.in_ok-push.ensures.items ∙ map-append items c.loop-entry.counts.items (c.in_ok-zeros.field-0 ∷ []))
 
-pub returns : goal.returns
-returns c =
+pub returns-clause-counts : goal.returns-clause-counts
+returns-clause-counts c =
     c.loop-entry.invariant ∙ ap (map blank) (take_all c.loop-entry.entry-index c.entries-entry-items.result.now c.loop-entry-test.false ∙ c.entries-entry-items.ensures)

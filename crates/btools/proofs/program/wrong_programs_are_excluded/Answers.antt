@@ -1,5 +1,0 @@
-use Rattle.btools.proofs.Excluded.{excluded}
-use Rattle.btools.proofs.program.wrong_programs_are_excluded.Goals as goal
-
-pub returns : goal.returns
-returns c = excluded

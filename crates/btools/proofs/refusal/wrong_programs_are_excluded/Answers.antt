@@ -1,0 +1,5 @@
+use Rattle.btools.proofs.Excluded.{excluded}
+use Rattle.btools.proofs.refusal.wrong_programs_are_excluded.Goals as goal
+
+pub returns : goal.returns
+returns c = excluded

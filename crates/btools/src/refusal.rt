@@ -1,0 +1,114 @@
+//! Why a source has no program, as it is told.
+ghost use Rattle.std.specs.Prelude.{◌≡◌, ◌++◌, IfOk, List, option_map, ℕ};
+ghost use Rattle.bword.specs.declared.edition.Edition.{Edition};
+ghost use Rattle.blang.specs.Compiles.{line_of};
+ghost use Rattle.bsources.specs.Files.{files_shown, line_shown};
+ghost use Rattle.btools.specs.Excluded.{WrongPrograms};
+ghost use Rattle.btools.specs.FaultPlaces.{fault_lines, place_line};
+ghost use Rattle.btools.specs.Programs.{HasNoProgram, NoProgram, TellsFault, load_line};
+
+use crate::program::ProgramFault;
+use crate::quoting::push_file;
+use crate::telling::tell;
+use crate::text::Text;
+use blang::status::{self, Status};
+use blang::{Diagnostic, LoadFault};
+use bparse::write_diagnostic;
+use bsources::{FileLine, SourceFiles};
+use bword::{ByteOut, EndFault, MemOut};
+use std::alloc::{AllocError, Global};
+
+/// Tells why a source has no program, and gives the status of `go`.
+pub fn tell_fault<D: ByteOut>(fault: &ProgramFault, diag: &mut D) -> Status
+    ensures tells { TellsFault line_of fault.now (D.outgoing diag.old) (D.outgoing diag.new) result }
+    ensures same { D.lender diag.new ≡ D.lender diag.old }
+{
+    match fault {
+        ProgramFault::Faulty(fault) => match write_diagnostic(fault, diag) {
+            Ok(()) => status::FAULT,
+            Err(fault) => status::of_fault(fault),
+        },
+        ProgramFault::Unloaded(fault) => match load_line(fault) {
+            Some(line) => tell(line, status::REFUSED, diag),
+            None => status::MEMORY,
+        },
+        ProgramFault::Memory => status::MEMORY,
+    }
+}
+
+/// The same, and then in which file a fault of the source lies, if that isn't the first one.
+pub fn tell_placed<D: ByteOut>(
+    alloc: Global,
+    fault: &ProgramFault,
+    files: SourceFiles<'_>,
+    diag: &mut D,
+) -> Status
+    ensures tells { (edition : Edition) (source : List ℕ) → HasNoProgram edition source fault.now
+        → NoProgram edition source (fault_lines (files_shown files.entry)) (D.outgoing diag.old) (D.outgoing diag.new) result }
+    ensures same { D.lender diag.new ≡ D.lender diag.old }
+{
+    let ProgramFault::Faulty(diagnostic) = fault else {
+        return tell_fault(fault, diag);
+    };
+    let Some(at) = files.beyond_first(diagnostic.line) else {
+        return tell_fault(fault, diag);
+    };
+    match both_lines(alloc, diagnostic, at) {
+        Ok(lines) => tell(lines.as_slice(), status::FAULT, diag),
+        Err(_) => status::MEMORY,
+    }
+}
+
+// The line of a diagnostic, and that of its place.
+fn both_lines(alloc: Global, diagnostic: &Diagnostic, at: FileLine<'_>) -> Result<Text, AllocError>
+    ensures { IfOk result (λ text. text ≡ line_of diagnostic.now ++ place_line (line_shown at.entry)) }
+{
+    let line = diagnostic_line(alloc, diagnostic)?;
+    let place = place_line(alloc, at)?;
+    let mut text = Text::new(alloc);
+    text.push(line.bytes())?;
+    text.push(place.as_slice())?;
+    Ok(text)
+}
+
+fn place_line(alloc: Global, at: FileLine<'_>) -> Result<Text, AllocError>
+    ensures { IfOk result (λ text. text ≡ place_line (line_shown at.entry)) }
+{
+    let mut text = Text::new(alloc);
+    text.push(b"at     line ")?;
+    text.push_number(at.line)?;
+    text.push(b" of ")?;
+    push_file(&mut text, at.file.as_bytes())?;
+    text.push(b"\n")?;
+    Ok(text)
+}
+
+/// The line of a diagnostic.
+pub fn diagnostic_line(alloc: Global, fault: &Diagnostic) -> Result<MemOut, AllocError>
+    ensures { IfOk result (λ line. line.bytes ≡ line_of fault.now) }
+{
+    let mut line = MemOut::new(alloc);
+    match write_diagnostic(fault, &mut line) {
+        Ok(()) => Ok(line),
+        Err(EndFault::Memory) => Err(AllocError),
+        Err(EndFault::Device) => unreachable!(),
+    }
+}
+
+/// The line of a reason why a program doesn't load; none if memory ran out.
+pub fn load_line(fault: &LoadFault) -> Option<&'static [u8]>
+    ensures { option_map (λ l. l.now) result ≡ load_line fault.now }
+{
+    match fault {
+        LoadFault::Duplicate(_) => Some(b"load 1\n"),
+        LoadFault::TooLarge => Some(b"load 2\n"),
+        LoadFault::Undefined(_) => Some(b"load 3\n"),
+        LoadFault::NoMain => Some(b"load 4\n"),
+        LoadFault::Memory => None,
+    }
+}
+
+/// No source gives another program than that of its definitions, or another status or line if it has none.
+pub fn wrong_programs_are_excluded()
+    ensures { WrongPrograms }
+{}
