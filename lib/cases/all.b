@@ -1,5 +1,5 @@
-/* print.b, input.b, strings.b, numbers.b, vectors.b: all of them in one program: the lines of the input as numbers, the
-   smallest first. */
+/* print.b, input.b, strings.b, numbers.b, vectors.b, test.b: all of them in one program: the lines of the input as
+   numbers, the smallest first. */
 words[20];
 
 main() {

@@ -66,7 +66,7 @@ formats() {
     printf("%c%c%c*n", 'a', 'bc', '%');
     printf("<%s> <%s> <%s>*n", "", "x", "%d");
     printf("%%d %%%d%%*n", 5);
-    printf("%x %5d %D %d*n", 7);
+    printf("%y %5y %D %d*n", 7);
     printf("<%d%s%c>*n", 1, "2", '3', '4');
     printf("<%d%s%d>*n", 1);
     printf("%d%d%d%d%d%d%d%d%d%d*n", 1, 2, 3, 4, 5, 6, 7, 8, 9, 1);

@@ -1,5 +1,5 @@
-/* print.b, input.b, strings.b, numbers.b, vectors.b: all of them in one program: the lines of the input as numbers, the
-   smallest first. */
+/* print.b, input.b, strings.b, numbers.b, vectors.b, test.b: all of them in one program: the lines of the input as
+   numbers, the smallest first. */
 words[20];
 
 main() {
@@ -36,50 +36,130 @@ putstr(s) {
 putnumb(n)
     printn(n, 10);
 
-/* putoct(n) writes the 16 bits of the word n to the base 8, without a sign: -1 is 177777. Gives 0.
+/* putuns(n, base) writes the 16 bits of the word n as a number without a sign, to an even base from 2 to 16. The digits
+   after 9 are a to f. Gives 0.
    Known from: this project. */
-putoct(n) {
-    auto bit;
+putuns(n, base) {
+    auto rest;
 
-    bit = 15;
-    while(bit > 0 & n >> bit == 0)
-        bit =- 3;
-    while(bit >= 0) {
-        putchar('0' + (n >> bit & 7));
-        bit =- 3;
-    }
+    rest = (n >> 1) / (base / 2);
+    if(rest)
+        putuns(rest, base);
+    putchar(char("0123456789abcdef", n - rest * base));
 }
 
-/* printf(form, a, b, ..) writes the string form. In place of %d, %o, %c and %s it writes the next value: as putnumb,
-   putoct, putchar and putstr do. %% is a %. A % before anything else is written as it is, and takes no value. There
-   are nine values at most; one that is missing is 0. Gives 0.
-   Known from: the manual of 1972. */
+/* putoct(n) writes the 16 bits of the word n to the base 8, without a sign: -1 is 177777. Gives 0.
+   Known from: this project. */
+putoct(n)
+    putuns(n, 8);
+
+/* printf(form, a, b, ..) writes the string form, and in place of each of its items the next value: of %d as putnumb
+   does, of %c as putchar, of %s as putstr, and of %u, %o and %x the 16 bits without a sign, to the base 10, 8 and 16.
+   A number before the letter is the width, which is at most 32767: blanks come before what is shorter. A - before the
+   width puts them after it. A 0 before the width makes 0s of them, which come after the - of a number. %% is a %. A %
+   before anything else is written as it is, and takes no value. There are nine values at most; one that is missing is 0.
+   Gives 0.
+   Known from: the manual of 1972; the widths, %u and %x from C. */
 printf(form, a, b, c, d, e, f, g, h, i) {
-    auto at, taken, kind, x;
+    auto at, from, taken, kind, flag, width;
 
     at = taken = 0;
     while((kind = char(form, at++)) != '*e')
         if(kind != '%')
             putchar(kind);
         else {
+            from = at;
+            flag = width = 0;
             kind = char(form, at++);
-            x = taken < 9 ? (&a)[taken] : 0;
-            taken++;
-            if(kind == 'd')
-                putnumb(x);
-            else if(kind == 'o')
-                putoct(x);
-            else if(kind == 'c')
-                putchar(x);
-            else if(kind == 's')
-                putstr(x);
+            if(kind == '-' | kind == '0') {
+                flag = kind;
+                kind = char(form, at++);
+            }
+            while(kind >= '0' & kind <= '9') {
+                width = width * 10 + kind - '0';
+                kind = char(form, at++);
+            }
+            if(prvalue(kind, taken < 9 ? (&a)[taken] : 0, width, flag))
+                taken++;
             else {
                 putchar('%');
-                taken--;
-                if(kind != '%')
-                    at--;
+                if(kind != '%' | at != from + 1)
+                    at = from;
             }
         }
+}
+
+/* Writes a value for printf, and gives 1; or gives 0 for a kind that printf doesn't have. */
+prvalue(kind, x, width, flag) {
+    auto base, size;
+
+    base = kind == 'o' ? 8 : kind == 'x' ? 16 : 10;
+    if((size = prsize(kind, x, base)) < 0)
+        return(0);
+    if(kind == 'd' & x < 0 & flag == '0') {
+        putchar('-');
+        x = -x;
+        kind = 'u';
+    }
+    while(flag != '-' & width > size) {
+        putchar(flag ? '0' : ' ');
+        width--;
+    }
+    if(kind == 'd')
+        putnumb(x);
+    else if(kind == 'c')
+        putchar(x);
+    else if(kind == 's')
+        putstr(x);
+    else
+        putuns(x, base);
+    while(width-- > size)
+        putchar(' ');
+    return(1);
+}
+
+/* How many characters printf writes of a value; -1 for a kind that it doesn't have. */
+prsize(kind, x, base) {
+    auto n;
+
+    n = 0;
+    switch kind {
+        case 'c':
+            return(x >> 8 ? 2 : 1);
+        case 's':
+            while(x ? char(x, n) != '*e' : 0)
+                n++;
+            return(n);
+        case 'd':
+            if(x < 0) {
+                n = 1;
+                x = -x;
+            }
+        case 'u': case 'o': case 'x':
+            n++;
+            while(x = (x >> 1) / (base / 2))
+                n++;
+            return(n);
+    }
+    return(-1);
+}
+
+/* dump(from, n) writes the n words from the address from on, each on a line: its address, the word with its sign, its
+   bits to the base 16, and its two characters, with a . for each that has no shape. Gives 0.
+   Known from: this project. */
+dump(from, n) {
+    auto i, c;
+
+    while(n-- > 0) {
+        printf("%5u %6d %04x ", from, *from, *from);
+        i = 0;
+        while(i < 2) {
+            c = char(from, i++);
+            putchar(c >= ' ' & c <= '~' ? c : '.');
+        }
+        putchar('*n');
+        from++;
+    }
 }
 
 /* flush() does nothing: the output is shown before the program waits for input. Gives 0.
@@ -117,8 +197,30 @@ getline(s, most) {
    Known from: Kernighan's tutorial. */
 getstr(s)
     return(getline(s, 32767));
-/* strings.b: strings, which end in *e. It needs no other file. A string of n characters takes n / 2 + 1 words: those
-   of auto v 10 hold up to 21 characters. */
+
+/* getnum(p) reads a number to the base 10 into the word at the address p, and gives 1. What comes before the number is
+   skipped, and the character after it is taken, too. A - directly before its first digit makes it negative. At the end
+   of the input it gives 0, and the word stays. A number that no word holds wraps around, as all arithmetic does.
+   Known from: this project. */
+getnum(p) {
+    auto c, before, n;
+
+    before = 0;
+    while((c = getchar()) < '0' | c > '9') {
+        if(c == '*e')
+            return(0);
+        before = c;
+    }
+    n = 0;
+    while(c >= '0' & c <= '9') {
+        n = n * 10 + c - '0';
+        c = getchar();
+    }
+    *p = before == '-' ? -n : n;
+    return(1);
+}
+/* strings.b: strings, which end in *e, and their characters. It needs no other file. A string of n characters takes
+   n / 2 + 1 words: those of auto v 10 hold up to 21 characters. */
 
 /* length(s) gives the number of characters of s, without its end.
    Known from: later compilers. */
@@ -189,6 +291,26 @@ index(s, t) {
             return(-1);
     }
 }
+
+/* upper(c) gives the capital of a letter from a to z, and any other word as it is.
+   Known from: C, as toupper. */
+upper(c)
+    return(c >= 'a' & c <= 'z' ? c - 'a' + 'A' : c);
+
+/* lower(c) gives the small letter of a capital from A to Z, and any other word as it is.
+   Known from: C, as tolower. */
+lower(c)
+    return(c >= 'A' & c <= 'Z' ? c - 'A' + 'a' : c);
+
+/* isdigit(c) gives 1 for the characters 0 to 9, and 0 for any other word.
+   Known from: C. */
+isdigit(c)
+    return(c >= '0' & c <= '9');
+
+/* isalpha(c) gives 1 for the letters A to Z and a to z, and 0 for any other word.
+   Known from: C. */
+isalpha(c)
+    return(upper(c) >= 'A' & upper(c) <= 'Z');
 /* numbers.b: numbers. It needs no other file. */
 
 /* number(s) gives the number that the string s begins with: blanks or tabs, a - or a +, and digits to the base 10. It
@@ -241,6 +363,11 @@ rand() {
     return(randseed & 077777);
 }
 
+/* random(n) gives a number from 0 to n - 1, made by rand; 0 where n is 0 or negative.
+   Known from: later languages. */
+random(n)
+    return(n > 0 ? rand() % n : 0);
+
 randseed;
 /* vectors.b: vectors. It needs no other file. */
 
@@ -270,6 +397,14 @@ sortby(v, n, order) {
         }
         gap =/ 2;
     }
+    return(v);
+}
+
+/* fill(v, n, x) stores x in the n words v[0] to v[n - 1], and gives v. Where n is 0 or negative it stores none.
+   Known from: C, as memset. */
+fill(v, n, x) {
+    while(n > 0)
+        v[--n] = x;
     return(v);
 }
 
@@ -310,3 +445,115 @@ rlsevec(v, n) {
 
 vecnext;
 vecleft;
+/* test.b: tests of functions, for exercises. It needs no other file. A program calls test, teststr and testvec, and tests
+   at its end. */
+
+/* test(name, got, wanted) counts a test, which is right where the two words are equal. Else it writes a line with both,
+   after the string name. Gives 1 where it is right, else 0.
+   Known from: this project. */
+test(name, got, wanted) {
+    if(got == wanted)
+        return(testput(1, name));
+    testput(0, name);
+    testnums(got, wanted);
+}
+
+/* teststr(name, got, wanted) does the same with two strings. Of each it writes at most 40 characters. 0 is no string.
+   Known from: this project. */
+teststr(name, got, wanted) {
+    auto i;
+
+    i = 0;
+    while(got != 0 & char(got, i) == char(wanted, i))
+        if(char(got, i++) == '*e')
+            return(testput(1, name));
+    testput(0, name);
+    testsay(" is ");
+    testquot(got);
+    testsay(" and not ");
+    testquot(wanted);
+    putchar('*n');
+}
+
+/* testvec(name, got, n, a, b, ..) does the same with the n words got[0] to got[n - 1], which should be a, b and so on, at
+   most eight. It writes the first index at which they differ, and the two words.
+   Known from: this project. */
+testvec(name, got, n, a, b, c, d, e, f, g, h) {
+    auto i;
+
+    i = 0;
+    while(i < n ? got[i] == (&a)[i] : 0)
+        i++;
+    if(i >= n)
+        return(testput(1, name));
+    testput(0, name);
+    putchar('[');
+    printn(i, 10);
+    putchar(']');
+    testnums(got[i], (&a)[i]);
+}
+
+/* tests() writes how many tests were right and how many wrong, and ends the run, with the status 0 where none was wrong
+   and else 1.
+   Known from: this project. */
+tests() {
+    extrn testok, testbad;
+
+    printn(testok, 10);
+    testsay(" right, ");
+    printn(testbad, 10);
+    testsay(" wrong*n");
+    exit(testbad != 0);
+}
+
+/* Counts a test, and gives whether it is right. Of a wrong one it writes how its line begins. */
+testput(ok, name) {
+    extrn testok, testbad;
+
+    if(ok)
+        testok++;
+    else {
+        testbad++;
+        testsay("wrong: ");
+        testsay(name);
+    }
+    return(ok);
+}
+
+/* Writes the two words of a wrong test, and ends its line. */
+testnums(got, wanted) {
+    testsay(" is ");
+    printn(got, 10);
+    testsay(" and not ");
+    printn(wanted, 10);
+    putchar('*n');
+}
+
+/* Writes a string. */
+testsay(s) {
+    auto i, c;
+
+    i = 0;
+    while((c = char(s, i++)) != '*e')
+        putchar(c);
+}
+
+/* Writes a string in quotes, or its first 40 characters and two dots. */
+testquot(s) {
+    auto i, c;
+
+    if(s == 0) {
+        testsay("no string");
+        return;
+    }
+    putchar('"');
+    i = 0;
+    while((c = char(s, i)) != '*e' & i < 40) {
+        putchar(c);
+        i++;
+    }
+    testsay(c == '*e' ? "*"" : "*"..");
+}
+
+testok;
+testbad;

@@ -38,3 +38,25 @@ getline(s, most) {
    Known from: Kernighan's tutorial. */
 getstr(s)
     return(getline(s, 32767));
+
+/* getnum(p) reads a number to the base 10 into the word at the address p, and gives 1. What comes before the number is
+   skipped, and the character after it is taken, too. A - directly before its first digit makes it negative. At the end
+   of the input it gives 0, and the word stays. A number that no word holds wraps around, as all arithmetic does.
+   Known from: this project. */
+getnum(p) {
+    auto c, before, n;
+
+    before = 0;
+    while((c = getchar()) < '0' | c > '9') {
+        if(c == '*e')
+            return(0);
+        before = c;
+    }
+    n = 0;
+    while(c >= '0' & c <= '9') {
+        n = n * 10 + c - '0';
+        c = getchar();
+    }
+    *p = before == '-' ? -n : n;
+    return(1);
+}

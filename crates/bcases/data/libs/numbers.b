@@ -50,4 +50,9 @@ rand() {
     return(randseed & 077777);
 }
 
+/* random(n) gives a number from 0 to n - 1, made by rand; 0 where n is 0 or negative.
+   Known from: later languages. */
+random(n)
+    return(n > 0 ? rand() % n : 0);
+
 randseed;

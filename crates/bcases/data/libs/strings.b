@@ -1,5 +1,5 @@
-/* strings.b: strings, which end in *e. It needs no other file. A string of n characters takes n / 2 + 1 words: those
-   of auto v 10 hold up to 21 characters. */
+/* strings.b: strings, which end in *e, and their characters. It needs no other file. A string of n characters takes
+   n / 2 + 1 words: those of auto v 10 hold up to 21 characters. */
 
 /* length(s) gives the number of characters of s, without its end.
    Known from: later compilers. */
@@ -70,3 +70,23 @@ index(s, t) {
             return(-1);
     }
 }
+
+/* upper(c) gives the capital of a letter from a to z, and any other word as it is.
+   Known from: C, as toupper. */
+upper(c)
+    return(c >= 'a' & c <= 'z' ? c - 'a' + 'A' : c);
+
+/* lower(c) gives the small letter of a capital from A to Z, and any other word as it is.
+   Known from: C, as tolower. */
+lower(c)
+    return(c >= 'A' & c <= 'Z' ? c - 'A' + 'a' : c);
+
+/* isdigit(c) gives 1 for the characters 0 to 9, and 0 for any other word.
+   Known from: C. */
+isdigit(c)
+    return(c >= '0' & c <= '9');
+
+/* isalpha(c) gives 1 for the letters A to Z and a to z, and 0 for any other word.
+   Known from: C. */
+isalpha(c)
+    return(upper(c) >= 'A' & upper(c) <= 'Z');

@@ -29,6 +29,14 @@ sortby(v, n, order) {
     return(v);
 }
 
+/* fill(v, n, x) stores x in the n words v[0] to v[n - 1], and gives v. Where n is 0 or negative it stores none.
+   Known from: C, as memset. */
+fill(v, n, x) {
+    while(n > 0)
+        v[--n] = x;
+    return(v);
+}
+
 /* givevec(v, n) gives the words v[0] to v[n], which are the program's own, to getvec. What it gave before is forgotten.
    Gives 0.
    Known from: this project. */

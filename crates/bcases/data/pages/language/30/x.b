@@ -1,9 +1,15 @@
 main() {
-    auto s;
-    s = "ab";
-    printn(s[0], 10); putchar(' ');
-    printn(s[1], 10); putchar(' ');
-    lchar(s, 0, 'A');
-    putchar(char(s, 0));
-    putchar(char(s, 1));
+    auto x, y;
+    x = 1;
+    y = 2;
+    swap(&x, &y);
+    printn(x, 10);
+    printn(y, 10);
+}
+
+swap(p, q) {
+    auto old;
+    old = *p;
+    *p = *q;
+    *q = old;
 }

@@ -1,2 +1,9 @@
-fact(n) return(n ? n * fact(n - 1) : 1);
-main() printn(fact(7), 10);
+main() {
+    auto s;
+    s = "ab";
+    printn(s[0], 10); putchar(' ');
+    printn(s[1], 10); putchar(' ');
+    lchar(s, 0, 'A');
+    putchar(char(s, 0));
+    putchar(char(s, 1));
+}

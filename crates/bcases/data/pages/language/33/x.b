@@ -1,3 +1,2 @@
-twice(f, x) return(f(f(x)));
-add3(x) return(x + 3);
-main() { extrn add3; printn(twice(add3, 1), 10); }
+f(a, b) return(b);
+main() { printn(f(1), 10); printn(f(1, 2, 3), 10); }

@@ -1,1 +1,11 @@
-n 0; main() { extrn n; n(); }
+main() {
+    auto c;
+    while((c = getchar()) != '*e')
+        putchar(c);
+    putchar('!*n');
+    printn(-5, 10); putchar(' ');
+    printn(5, 2); putchar(' ');
+    printn(64, 8);
+    exit(200);
+    putchar('x');
+}

@@ -1,1 +1,1 @@
-main() goto 9;
+main() printn(1 / 0, 10);

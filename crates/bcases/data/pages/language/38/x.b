@@ -1,1 +1,1 @@
-main() { auto v 32000; main(); }
+n 0; main() { extrn n; n(); }

@@ -1,1 +1,1 @@
-main() main();
+main() goto 9;

@@ -1,1 +1,1 @@
-main() printn(5, 11);
+main() { auto v 32000; main(); }

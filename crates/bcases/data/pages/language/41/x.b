@@ -1,1 +1,1 @@
-main() while(1) ;
+main() main();

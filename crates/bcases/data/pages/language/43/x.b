@@ -1,1 +1,1 @@
-main() g();
+main() while(1) ;

@@ -1,4 +1,1 @@
-main() {
-    auto i;
-    i = n;
-}
+main() g();

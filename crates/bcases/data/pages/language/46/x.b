@@ -1,3 +1,1 @@
-main() {
-    pritn(42, 10);
-}
+main;

@@ -1,4 +1,4 @@
-f(x) {
-    if(x=1)
-        x=-1;
+main() {
+    auto i;
+    i = n;
 }

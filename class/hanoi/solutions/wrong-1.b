@@ -1,0 +1,12 @@
+/* Wrong: nothing ends the calls. */
+main()
+    move(getchar() - '0', 1, 3);
+
+move(n, a, b) {
+    move(n - 1, a, 6 - a - b);
+    printn(a, 10);
+    putchar(' ');
+    printn(b, 10);
+    putchar('*n');
+    move(n - 1, 6 - a - b, b);
+}

@@ -1,0 +1,9 @@
+/* Wrong: x takes the place of a word, which is lost. */
+insert(v, n, x) {
+    auto p;
+
+    p = v;
+    while(p == v + n ? 0 : *p < x)
+        p++;
+    *p = x;
+}

@@ -1,0 +1,20 @@
+/* Wrong: capitals are no letters here. */
+main() {
+    auto c;
+
+    c = getchar();
+    if(c >= 'a' & c <= 'z') {
+        putchar('le');
+        putchar('tt');
+        putchar('er');
+    } else if(c >= '0' & c <= '9') {
+        putchar('di');
+        putchar('gi');
+        putchar('t');
+    } else {
+        putchar('ot');
+        putchar('he');
+        putchar('r');
+    }
+    putchar('*n');
+}

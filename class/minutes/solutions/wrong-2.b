@@ -1,0 +1,9 @@
+/* Wrong: there is no ; after the second printn. */
+main() {
+    printn(7 * 24 * 60, 10);
+    putchar('*n');
+    printn(60 * 60, 10)
+    putchar('*n');
+    printn(1000 / 7, 10);
+    putchar('*n');
+}

@@ -1,0 +1,11 @@
+/* Gives b multiplied by itself, n times. */
+power(b, n) {
+    auto product;
+
+    product = 1;
+    while(n > 0) {
+        product = product * b;
+        n--;
+    }
+    return(product);
+}

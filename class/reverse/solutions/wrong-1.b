@@ -1,0 +1,12 @@
+/* Wrong: it goes through the whole vector, and so turns it round twice. */
+reverse(v, n) {
+    auto i, old;
+
+    i = 0;
+    while(i < n) {
+        old = v[i];
+        v[i] = v[n - 1 - i];
+        v[n - 1 - i] = old;
+        i++;
+    }
+}

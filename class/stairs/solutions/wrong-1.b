@@ -1,0 +1,15 @@
+/* Wrong: nothing is added to row, so the loop doesn't end. */
+main() {
+    auto steps, row, i;
+
+    steps = getchar() - '0';
+    row = 1;
+    while(row <= steps) {
+        i = 0;
+        while(i < steps) {
+            putchar(i < steps - row ? ' ' : '**');
+            i++;
+        }
+        putchar('*n');
+    }
+}

@@ -1,0 +1,16 @@
+/* Wrong: the stair begins at the left. */
+main() {
+    auto steps, row, i;
+
+    steps = getchar() - '0';
+    row = 1;
+    while(row <= steps) {
+        i = 0;
+        while(i < row) {
+            putchar('**');
+            i++;
+        }
+        putchar('*n');
+        row++;
+    }
+}

@@ -1,0 +1,16 @@
+/* How many numbers the input has, their sum and their mean. */
+main() {
+    auto n, count, sum;
+
+    count = sum = 0;
+    while(getnum(&n)) {
+        count++;
+        sum =+ n;
+    }
+    printn(count, 10);
+    putchar(' ');
+    printn(sum, 10);
+    putchar(' ');
+    printn(count ? sum / count : 0, 10);
+    putchar('*n');
+}

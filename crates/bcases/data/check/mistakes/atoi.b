@@ -1,0 +1,2 @@
+main()
+    printn(atoi("12") + 1, 10);

@@ -1,0 +1,5 @@
+main() {
+    auto n;
+    scanf("%d", &n);
+    printn(n, 10);
+}

@@ -1,0 +1,2 @@
+main()
+    if(strcmp("ab", "ac") == 0) putchar('y');

@@ -1,0 +1,5 @@
+main() {
+    auto s;
+    s = "abc";
+    printn(strlen(s), 10);
+}

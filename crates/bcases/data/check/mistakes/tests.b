@@ -1,0 +1,6 @@
+square(n)
+    return(n * n);
+main() {
+    test("square", square(3), 9);
+    tests();
+}

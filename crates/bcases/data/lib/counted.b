@@ -1,0 +1,57 @@
+/* input.b: a number, and then as many lines: getnum takes the newline after the number. */
+main() {
+    auto line 10, n, i, c;
+
+    getnum(&n);
+    while(n-- > 0) {
+        getline(line, 20);
+        putchar('<');
+        i = 0;
+        while((c = char(line, i++)) != '*e')
+            putchar(c);
+        putchar('>');
+    }
+}
+/* input.b: what reads. It needs no other file. */
+
+/* getline(s, most) reads a line into the string s, without its newline, and gives s. At the end of the input it gives
+   0, and s is empty. The last line needs no newline. Of a line with more than most characters, the first most are kept;
+   most is 1 at least. They take the words s[0] to s[most / 2].
+   Known from: C. */
+getline(s, most) {
+    auto i, c;
+
+    i = 0;
+    while((c = getchar()) != '*n' & c != '*e')
+        if(i < most)
+            lchar(s, i++, c);
+    lchar(s, i, '*e');
+    return(c == '*e' & i == 0 ? 0 : s);
+}
+
+/* getstr(s) does the same, and keeps 32767 characters. s has to have room for each line that comes.
+   Known from: Kernighan's tutorial. */
+getstr(s)
+    return(getline(s, 32767));
+
+/* getnum(p) reads a number to the base 10 into the word at the address p, and gives 1. What comes before the number is
+   skipped, and the character after it is taken, too. A - directly before its first digit makes it negative. At the end
+   of the input it gives 0, and the word stays. A number that no word holds wraps around, as all arithmetic does.
+   Known from: this project. */
+getnum(p) {
+    auto c, before, n;
+
+    before = 0;
+    while((c = getchar()) < '0' | c > '9') {
+        if(c == '*e')
+            return(0);
+        before = c;
+    }
+    n = 0;
+    while(c >= '0' & c <= '9') {
+        n = n * 10 + c - '0';
+        c = getchar();
+    }
+    *p = before == '-' ? -n : n;
+    return(1);
+}

@@ -1,0 +1,2 @@
+cube(n)
+    return(n * n + n);

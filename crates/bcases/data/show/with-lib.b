@@ -1,0 +1,5 @@
+/* in a LIB */
+twice(c) {
+    putchar(c);
+    putchar(c);
+}
