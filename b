@@ -67,6 +67,10 @@ if is_stale; then
     start "$@"
 fi
 [ -z "$prove_first" ] || [ $# -gt 0 ] || exit 0
+# shellcheck disable=SC2034
+library=$top/lib
+# shellcheck source=share/pack/words.sh
+. "$top/share/pack/words.sh"
 shopt -s execfail
 # shellcheck disable=SC2093
 exec "$program" "$@"

@@ -10,10 +10,10 @@ PROMISES = ("ByteEnds", "Endings", "Compiles", "Reports", "Headline")
 # The files of the code that have types or limits.
 SOURCES = {"bword": "edition ends name operators store", "blang": "code limits run status token"}
 # The kit's words that are exchanged for one another.
-EXCHANGED = """nat_lt nat_le; int_lt int_le; && ||; + -; * /; % /; take drop; true false; max min; ≤ <; × ⊎; ++ +++;
+EXCHANGED = """nat_lt nat_le; int_lt int_le; && ||; + -; * /; % /; take drop; true false; max min; ≤ <; × ⊎; ++ +++; ▹ ▷;
 bit_and bit_or; int_div int_rem; is_some is_none; list_any list_all; pos neg_ℤ"""
 DROPPED = {"not", "reverse", "suc"}
-ASYMMETRIC = {"-", "/", "%", "^", "++", "▸", "-ℤ"}
+ASYMMETRIC = {"-", "/", "%", "^", "++", "▸", "▹", "▷", "⨾", "-ℤ"}
 OPERATORS = ASYMMETRIC | {*"+ * ∷ && || == ≡ ≢ ≤ < × ⊎ → >>= , ; = : . | if then else in let λ ← do ⊥".split(), "\n"}
 # The constructors that are spelled as a variable is.
 SPELLED_AS_VARIABLES = ("true", "false", "zero", "suc", "pos", "negsuc", "record")
@@ -430,9 +430,9 @@ def of_operands(text, clause, names, variables):
             if node.word in ASYMMETRIC or (node.word == "∷" and not is_last):
                 if text[slice(*first)] != text[slice(*second)]:
                     yield swapped
-            if node.word in ("∷", "▸", "++", "×"):
+            if node.word in ("∷", "▸", "▹", "▷", "⨾", "++", "×"):
                 yield [(first[0], second[0], "")]
-                if node.word in ("++", "▸", "×") and is_last:
+                if node.word in ("++", "▸", "▹", "▷", "⨾", "×") and is_last:
                     yield [(first[1], second[1], "")]
         for run in runs:
             yield from of_arguments(text, run, names)

@@ -3,15 +3,24 @@ _b() {
     local words=''
     COMPREPLY=()
     if [ "$COMP_CWORD" -eq 1 ]; then
-        words='compile run go migrate list map check trace count show format --help --version'
+        words='compile run go migrate list map check trace count show format help --help --version'
         mapfile -t COMPREPLY < <(compgen -W "$words" -- "${COMP_WORDS[COMP_CWORD]}")
+        return
+    fi
+    if [ "${COMP_WORDS[1]}" = help ]; then
+        words='compile run go migrate list map check trace count show format'
+        [ "$COMP_CWORD" -gt 2 ] || mapfile -t COMPREPLY < <(compgen -W "$words" -- "${COMP_WORDS[COMP_CWORD]}")
         return
     fi
     case ${COMP_WORDS[COMP_CWORD - 1]} in
     --edition) words='1 2' ;;
     --steps | --from | --last | --function | --input) return ;;
+
     --with)
-        mapfile -t COMPREPLY < <(compgen -f -- "${COMP_WORDS[COMP_CWORD]}")
+        mapfile -t COMPREPLY < <(
+            compgen -W 'input numbers print strings test vectors' -- "${COMP_WORDS[COMP_CWORD]}"
+            compgen -f -- "${COMP_WORDS[COMP_CWORD]}"
+        )
         return
         ;;
     esac

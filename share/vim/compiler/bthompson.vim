@@ -1,4 +1,4 @@
 " :make shows what b check finds. Written by tools/editors.
 let current_compiler = "bthompson"
-CompilerSet makeprg=b\ check\ %:S
+execute 'CompilerSet makeprg=' . escape(bthompson#check(), ' \|"')
 CompilerSet errorformat=%f:%l:%c:\ %trror:\ %m,%f:%l:%c:\ %tarning:\ %m,%-G%.%#

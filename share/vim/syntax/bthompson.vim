@@ -1,12 +1,12 @@
 " The language B of 1972. Written by tools/editors.
-" let g:b_edition = 2 makes keywords of the two words that edition 2 adds.
+" In edition 2 there are two keywords more.
 if exists("b:current_syntax")
   finish
 endif
 syntax case match
 syntax match bOperator #=!=\|=<<\|=<=\|===\|=>=\|=>>\|!=\|++\|--\|<<\|<=\|=%\|=&\|=\*\|=+\|=-\|=\/\|=<\|==\|=>\|=|\|>=\|>>\|!\|%\|&\|\*\|+\|-\|\/\|:\|<\|=\|>\|?\||#
 syntax keyword bKeyword auto extrn case if else while switch goto return
-if get(g:, "b_edition", 1) == 2
+if bthompson#edition() == 2
   syntax keyword bKeyword break default
 endif
 syntax keyword bLibrary char lchar getchar putchar printn exit
