@@ -37,7 +37,7 @@ valued_start made = record { with_ = mark token.Semicolon ∷ []; value = made [
 valued_fine_at : (made : List Ival → Definition) (ts : List Placed) (b : Bool) → is_semicolon (first ts) ≡ b → Fine Closer (valued made) ts
 valued_fine_at made [] true h = cc
 valued_fine_at made (t ∷ ts) true h = shift closing (valued made) (λ x. Got (made []) x) t (λ x. rw h refl) ts (got_fine closing (made []) ts)
-valued_fine_at made ts false h = same closing (valued made) (λ x. list_reader ival x >>= λ values r. expect is_semicolon r >>= λ o. Got (made values)) ts near (valued_start made) (closed_fine closing E.Closer (list_reader ival) is_semicolon token.Semicolon refl refl refl safer made ts (list_fine ival ival_fine ts))
+valued_fine_at made ts false h = same closing (valued made) (λ x. list_reader ival x >>= λ values r. expect is_semicolon r >>= λ o. Got (made values)) ts near (valued_start made) (closed_fine closing E.Closer (list_reader ival) is_semicolon token.Semicolon refl refl refl made ts (list_fine ival ival_fine ts))
   where
     near : (new : List Placed) → Near Closer ts new → valued made new ≡ (list_reader ival new >>= λ values r. expect is_semicolon r >>= λ o. Got (made values))
     near new (inl n) = rw (ap is_semicolon n ∙ h) refl

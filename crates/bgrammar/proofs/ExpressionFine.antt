@@ -71,7 +71,7 @@ entered inner (some eq good) f fine t = enters f (λ ts. ap (λ x. x >>= λ o. f
 
 module _ (inner : Inner) (room : Room inner) where
   closes_paren : {A B : Type 0} (f : A → B) (p : Reader A) (ts : List Placed) → Fine Closer p ts → Fine Closer (λ x. p x >>= λ e r. expect is_close_paren r >>= λ o. Got (f e)) ts
-  closes_paren f p ts fine = closed_fine closing Closer p is_close_paren token.CloseParen refl refl refl (λ t h. h) f ts fine
+  closes_paren f p ts fine = closed_fine closing Closer p is_close_paren token.CloseParen refl refl refl f ts fine
 
   primary_start : (off : ℕ) → Start closing Any (primary inner off)
   primary_start off = record { with_ = one ∷ []; value = one_tree; done = λ k h. refl; front = λ k h. tt }
@@ -111,7 +111,7 @@ module _ (inner : Inner) (room : Room inner) where
   call_fine_at good off e ts false h = same_eats closing (call inner off e) (filled off e) ts (λ new n. rw (ap is_close_paren n ∙ h) refl) (call_start off e) (λ b. closed_eats closing (arguments inner (off + words e)) is_close_paren refl (λ args. Called e args) ts (arguments_fine good (off + words e) ts) b) (closes_paren (λ args. Called e args) (arguments inner (off + words e)) ts (arguments_fine good (off + words e) ts))
 
   suffix_opened : (off : ℕ) (b : Suffix) (e : Expr) (t : Placed) → Opened closing (postfix_with inner off b e) t
-  suffix_opened off Index e t = entered inner room (λ r. inner.read Rvalue (off + words e) r >>= λ f r. expect is_close_bracket r >>= λ o. Got (Indexed e f)) (λ good ts. closed_fine closing Closer (inner.read Rvalue (off + words e)) is_close_bracket token.CloseBracket refl refl refl (λ t h. h) (λ f. Indexed e f) ts (good.fine Rvalue (off + words e) ts)) t
+  suffix_opened off Index e t = entered inner room (λ r. inner.read Rvalue (off + words e) r >>= λ f r. expect is_close_bracket r >>= λ o. Got (Indexed e f)) (λ good ts. closed_fine closing Closer (inner.read Rvalue (off + words e)) is_close_bracket token.CloseBracket refl refl refl (λ f. Indexed e f) ts (good.fine Rvalue (off + words e) ts)) t
   suffix_opened off Call e t = entered inner room (call inner off e) (λ good ts. call_fine_at good off e ts (is_close_paren (first ts)) refl) t
   suffix_opened off (Step op) e t = enters (λ x. Got (Postfixed op t.line e) x) (λ ts. refl) (got_fine closing (Postfixed op t.line e))
 

@@ -26,13 +26,13 @@ module _ (C : Closing) where
   pub startable : {A : Type 0} (p : Reader A) → Start C.Is p → Start Any p
   startable p s = record { with_ = s.with_; value = s.value; done = s.done; front = λ k h. tt }
 
-  bind_goes : {A B : Type 0} (Safe : Token → Type 0) (m : Reader A) (f : A → Reader B) → ((t : Token) → C.Is t → Safe t) → (u r ts : List Placed) (a : A) → ts ≡ u ++ r → ((new : List Placed) → Near Safe r new → m (u ++ new) ≡ Got a new) → Start Safe (f a) → Fine C.Is (f a) r → Fine C.Is (λ x. m x >>= f) ts
+  bind_goes : {A B : Type 0} (Safe : Token → Type 0) (m : Reader A) (f : A → Reader B) → ((a : A) (r : List Placed) (b : B) → f a r ≡ Got b r → (t : Token) → C.Is t → Safe t) → (u r ts : List Placed) (a : A) → ts ≡ u ++ r → ((new : List Placed) → Near Safe r new → m (u ++ new) ≡ Got a new) → Start Safe (f a) → Fine C.Is (f a) r → Fine C.Is (λ x. m x >>= f) ts
   bind_goes Safe m f weak u r ts a e go s (goes [] r2 b e2 go2) =
       goes u r2 b (e ∙ ap (λ x. u ++ x) e2) (λ new n. ap (λ x. x >>= f) (go new (near new n)) ∙ go2 new n)
     where
       near : (new : List Placed) → Near C.Is r2 new → Near Safe r new
       near new (inl h) = inl (h ∙ sym (ap first e2))
-      near new (inr h) = inr (weak (first new) h)
+      near new (inr h) = inr (weak a r2 b (go2 r2 (inl refl)) (first new) h)
   bind_goes Safe m f weak u r ts a e go s (goes (t ∷ u2) r2 b e2 go2) =
       goes (u ++ (t ∷ u2)) r2 b (e ∙ ap (λ x. u ++ x) e2 ∙ sym (append_assoc u (t ∷ u2) r2)) (λ new n. ap (λ x. m x >>= f) (append_assoc u (t ∷ u2) new) ∙ ap (λ x. x >>= f) (go ((t ∷ u2) ++ new) (inl (sym (ap first e2)))) ∙ go2 new n)
   bind_goes Safe m f weak u r ts a e go s (halts [] r2 e2 stop c b fin) =
@@ -40,11 +40,15 @@ module _ (C : Closing) where
   bind_goes Safe m f weak u r ts a e go s (halts (t ∷ u2) r2 e2 stop c b fin) =
       halts (u ++ (t ∷ u2)) r2 (e ∙ ap (λ x. u ++ x) e2 ∙ sym (append_assoc u (t ∷ u2) r2)) (λ new h. ap (λ x. m x >>= f) (append_assoc u (t ∷ u2) new) ∙ ap (λ x. x >>= f) (go ((t ∷ u2) ++ new) (inl (sym (ap first e2)))) ∙ stop new h) c b (λ k h. ap (λ x. m x >>= f) (append_assoc u (t ∷ u2) (c ++ k)) ∙ ap (λ x. x >>= f) (go ((t ∷ u2) ++ (c ++ k)) (inl (sym (ap first e2)))) ∙ fin k h)
 
-  -- one after the other, where the second is fine on each end of the tokens
-  pub bind_fine : {A B : Type 0} (Safe : Token → Type 0) (m : Reader A) (f : A → Reader B) → ((t : Token) → C.Is t → Safe t) → ((a : A) → Start Safe (f a)) → (ts : List Placed) → Fine Safe m ts → ((a : A) (u r : List Placed) → ts ≡ u ++ r → m ts ≡ Got a r → Fine C.Is (f a) r) → Fine C.Is (λ x. m x >>= f) ts
-  bind_fine Safe m f weak st ts (goes u r a e go) ff = bind_goes Safe m f weak u r ts a e go (st a) (ff a u r e (ap m e ∙ go r (inl refl)))
-  bind_fine Safe m f weak st ts (halts u r e stop c a fin) ff =
+  -- One after the other, where the second is fine on each end of the tokens. Where it takes nothing, a token that ends both ends the first.
+  pub bind_taking : {A B : Type 0} (Safe : Token → Type 0) (m : Reader A) (f : A → Reader B) → ((a : A) (r : List Placed) (b : B) → f a r ≡ Got b r → (t : Token) → C.Is t → Safe t) → ((a : A) → Start Safe (f a)) → (ts : List Placed) → Fine Safe m ts → ((a : A) (u r : List Placed) → ts ≡ u ++ r → m ts ≡ Got a r → Fine C.Is (f a) r) → Fine C.Is (λ x. m x >>= f) ts
+  bind_taking Safe m f weak st ts (goes u r a e go) ff = bind_goes Safe m f weak u r ts a e go (st a) (ff a u r e (ap m e ∙ go r (inl refl)))
+  bind_taking Safe m f weak st ts (halts u r e stop c a fin) ff =
       halts u r e (λ new h. ap (λ x. x >>= f) (stop new h)) (c ++ (st a).with_) (st a).value (λ k h. ap (λ x. m (u ++ x) >>= f) (append_assoc c (st a).with_ k) ∙ ap (λ x. x >>= f) (fin ((st a).with_ ++ k) ((st a).front k h)) ∙ (st a).done k h)
+
+  -- the same, where it may take nothing
+  pub bind_fine : {A B : Type 0} (Safe : Token → Type 0) (m : Reader A) (f : A → Reader B) → ((t : Token) → C.Is t → Safe t) → ((a : A) → Start Safe (f a)) → (ts : List Placed) → Fine Safe m ts → ((a : A) (u r : List Placed) → ts ≡ u ++ r → m ts ≡ Got a r → Fine C.Is (f a) r) → Fine C.Is (λ x. m x >>= f) ts
+  bind_fine Safe m f weak = bind_taking Safe m f (λ a r b h. weak)
 
   -- a reader whose first token is known
   pub shift : {A : Type 0} (p g : Reader A) (t : Placed) → ((ts : List Placed) → p (t ∷ ts) ≡ g ts) → (ts : List Placed) → Fine C.Is g ts → Fine C.Is p (t ∷ ts)
@@ -84,6 +88,15 @@ module _ (C : Closing) where
   shrinks p ts r a (halts u r2 e stop c a2 fin) h =
       let e2 : Got a r ≡ Stop r2 = sym h ∙ ap p e ∙ stop r2 refl in cc
 
+  -- the same before fewer tokens
+  pub narrower : {A : Type 0} {p : Reader A} {ts : List Placed} (Wide : Token → Type 0) → ((t : Token) → C.Is t → Wide t) → Fine Wide p ts → Fine C.Is p ts
+  narrower {A} {p} {ts} Wide weak (goes u r a e go) = goes u r a e (λ new n. go new (near new n))
+    where
+      near : (new : List Placed) → Near C.Is r new → Near Wide r new
+      near new (inl h) = inl h
+      near new (inr h) = inr (weak (first new) h)
+  narrower Wide weak (halts u r e stop c a fin) = halts u r e stop c a (λ k h. fin k (weak (first k) h))
+
   weaker : (t : Token) → C.Is t → C.Is t
   weaker t h = h
 
@@ -116,22 +129,26 @@ module _ (C : Closing) where
   pub expect_start : {B : Type 0} (Safe : Token → Type 0) (is : Token → Bool) (t : Token) → is t ≡ true → Safe t → (f : Reader B) → Start Any f → Start Safe (λ x. expect is x >>= λ o. f)
   expect_start Safe is t yes_ h f s = record { with_ = mark t ∷ s.with_; value = s.value; done = λ k g. rw yes_ (s.done k g); front = λ k g. h }
 
+  -- it takes the token
+  pub expect_takes : {B : Type 0} (is : Token → Bool) → is token.End ≡ false → (f : Reader B) → ((ts : List Placed) → Fine C.Is f ts) → (ts r : List Placed) (b : B) → (expect is ts >>= λ o. f) ≡ Got b r → length r < length ts
+  expect_takes is end f fine [] r b e = let e2 = rw end at e in cc
+  expect_takes {B} is end f fine (t ∷ ts) r b e = go (is t.token) refl
+    where
+      go : (v : Bool) → is t.token ≡ v → length r < length (t ∷ ts)
+      go true h = omega (arith, shrinks f ts r b (fine ts) (rw h at e))
+      go false h = let e2 = rw h at e in cc
+
   -- something, and then a token that closes it
-  pub closed_fine : {A B : Type 0} (Safe : Token → Type 0) (p : Reader A) (is : Token → Bool) (t : Token) → is t ≡ true → is token.End ≡ false → Safe t → ((t : Token) → C.Is t → Safe t) → (f : A → B) → (ts : List Placed) → Fine Safe p ts → Fine C.Is (λ x. p x >>= λ a r. expect is r >>= λ o. Got (f a)) ts
-  closed_fine Safe p is t yes_ end safe weak f ts fine = bind_fine Safe p (λ a r. expect is r >>= λ o. Got (f a)) weak (λ a. expect_start Safe is t yes_ safe (λ x. Got (f a) x) (startable (λ x. Got (f a) x) (got_start (f a)))) ts fine (λ a u r e g. expect_then is t yes_ end (λ x. Got (f a) x) (startable (λ x. Got (f a) x) (got_start (f a))) (got_fine (f a)) r)
+  pub closed_fine : {A B : Type 0} (Safe : Token → Type 0) (p : Reader A) (is : Token → Bool) (t : Token) → is t ≡ true → is token.End ≡ false → Safe t → (f : A → B) → (ts : List Placed) → Fine Safe p ts → Fine C.Is (λ x. p x >>= λ a r. expect is r >>= λ o. Got (f a)) ts
+  closed_fine Safe p is t yes_ end safe f ts fine = bind_taking Safe p (λ a r. expect is r >>= λ o. Got (f a)) (λ a r b e. absurd (omega (arith, expect_takes is end (λ x. Got (f a) x) (got_fine (f a)) r r b e))) (λ a. expect_start Safe is t yes_ safe (λ x. Got (f a) x) (startable (λ x. Got (f a) x) (got_start (f a)))) ts fine (λ a u r e g. expect_then is t yes_ end (λ x. Got (f a) x) (startable (λ x. Got (f a) x) (got_start (f a))) (got_fine (f a)) r)
 
   -- it takes the token that closes it
   pub closed_eats : {A B : Type 0} (p : Reader A) (is : Token → Bool) → is token.End ≡ false → (f : A → B) → (ts : List Placed) → Fine C.Is p ts → (b : B) → (p ts >>= λ a r. expect is r >>= λ o. Got (f a)) ≡ Got b ts → ⊥
   closed_eats {A} {B} p is end f ts fine b = go (p ts) refl
     where
-      shut : (a : A) (r : List Placed) → length r ≤ length ts → (v : Bool) → is (first r) ≡ v → (expect is r >>= λ o. Got (f a)) ≡ Got b ts → ⊥
-      shut a [] le v h e = let e2 = rw end at e in cc
-      shut a (t ∷ r) le true h e = let e2 = rw h at e in let q : r ≡ ts = cc in absurd (omega (arith, ap length q))
-      shut a (t ∷ r) le false h e = let e2 = rw h at e in cc
-
       go : (x : Read A) → p ts ≡ x → (x >>= λ a r. expect is r >>= λ o. Got (f a)) ≡ Got b ts → ⊥
       go (Stop r) h e = cc
-      go (Got a r) h e = shut a r (shrinks p ts r a fine h) (is (first r)) refl e
+      go (Got a r) h e = omega (arith, shrinks p ts r a fine h, expect_takes is end (λ x. Got (f a) x) (got_fine (f a)) r ts b e)
 
   -- A reader of what a token opens: it stops there, or reads on after it.
   pub data Opened {A : Type 0} (p : Reader A) (t : Placed) : Type 0 where

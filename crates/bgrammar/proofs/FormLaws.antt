@@ -7,12 +7,13 @@ use Rattle.blang.specs.Trees.{mark, kept, kept_tokens}
 use Rattle.blang.specs.Walk.{tokens_in}
 use Rattle.bgrammar.specs.Reading.{Read, Got, Stop, Reader, ◌>>=◌, first, expect}
 use Rattle.bgrammar.specs.StatementReader as statements
+use Rattle.bgrammar.specs.StatementReader.{is_else}
 use Rattle.bgrammar.specs.ReadingOn.{Closer}
 use Rattle.bgrammar.proofs.KeptLemmas.{first-kept}
 use Rattle.bgrammar.proofs.Lineless.{Lineless, bind_lineless, expect_lineless}
 use Rattle.bgrammar.proofs.ExpressionSound.{Sound}
 use Rattle.bgrammar.proofs.ExpressionFine as E
-use Rattle.bgrammar.proofs.Fine.{Any, Fine, Closing, Start, bind_fine, expect_then, expect_start}
+use Rattle.bgrammar.proofs.Fine.{Any, Fine, Closing, Start, bind_taking, expect_then, expect_start, expect_takes}
 use Rattle.bgrammar.proofs.Forms.{Mark, Thing, Inner, Body, Tree, walk_of, words_of, read, Fit, Shut, Part, Sign, Item, Fields, walk_parts, onto, onto_is, read_parts, FieldsFit}
 
 module _ (level : statements.Level) where
@@ -79,9 +80,13 @@ module _ (room : ℕ) (level : statements.Level) (each : (j : Thing) (off : ℕ)
   sound_parts Q stop (Sign m ∷ ps) off made ts h = expect_mark Q stop m (read_parts level ps off made) ts (λ r e. sound_parts Q stop ps off made r (λ x r2 e2 f. h x r2 (e ∙ ap (λ l. mark m.it ∷ l) e2) f))
   sound_parts Q stop (Item j ∷ ps) off made ts h = after_thing Q stop j ps off made ts (read level j off ts) (each j off ts) h (λ a r s. sound_parts Q stop ps (off + words_of j a) (λ x. made (a, x)) r s)
 
+-- a token that can come after any statement
+abbrev pub Elseless : Token → Type 0
+Elseless t = is_else t ≡ false
+
 -- 4. A reader reads on, where after each thing comes a token that ends it.
 abbrev pub After : Thing → Token → Type 0
-After Inner t = Closer t
+After Inner t = Elseless t
 After Body t = Closer t
 After _ t = E.Closer t
 
@@ -108,7 +113,7 @@ module _ (C : Closing) where
   abbrev pub Follow : List Part → Type 0
   Follow [] = Unit {0}
   Follow (Sign m ∷ ps) = Follow ps
-  Follow (Item j ∷ ps) = ((t : Token) → C.Is t → After j t) × Begins (After j) ps × Follow ps
+  Follow (Item j ∷ ps) = Begins (After j) ps × Follow ps
 
   module _ (level : statements.Level) (each : (j : Thing) → FineThing level j) where
     wider : {A : Type 0} {p : Reader A} (Safe : Token → Type 0) → ((t : Token) → C.Is t → Safe t) → Start C C.Is p → Start C Safe p
@@ -119,7 +124,7 @@ module _ (C : Closing) where
     start_parts Safe (Sign m ∷ ps) off made f b s = expect_start C Safe m.is (m.it) m.found b (read_parts level ps off made) (start_parts Any ps off made f (begins_any ps) s)
     start_parts Safe (Item j ∷ ps) off made f b s =
         let a = (each j).least in
-        let r = start_parts (After j) ps (off + words_of j a) (λ x. made (a, x)) f.2 f.1 (λ x. s (a, x)) in
+        let r = start_parts (After j) ps (off + words_of j a) (λ x. made (a, x)) f.1 f.0 (λ x. s (a, x)) in
         record {
           with_ = (each j).with_ ++ r.with_;
           value = r.value;
@@ -127,9 +132,17 @@ module _ (C : Closing) where
           front = λ u h. b _;
         }
 
-    pub fine_parts : {B : Type 0} (ps : List Part) (off : ℕ) (made : Fields ps → Reader B) → Follow ps → ((x : Fields ps) → Start C C.Is (made x)) → ((x : Fields ps) (r : List Placed) → Fine C.Is (made x) r) → (ts : List Placed) → Fine C.Is (read_parts level ps off made) ts
-    fine_parts [] off made f s h ts = h tt ts
-    fine_parts (Sign m ∷ ps) off made f s h ts = expect_then C m.is (m.it) m.found m.unended (read_parts level ps off made) (start_parts Any ps off made f (begins_any ps) s) (fine_parts ps off made f s h) ts
-    fine_parts (Item j ∷ ps) off made f s h ts =
-        bind_fine C (After j) (read level j off) (λ a. read_parts level ps (off + words_of j a) (λ x. made (a, x))) f.0 (λ a. start_parts (After j) ps (off + words_of j a) (λ x. made (a, x)) f.2 f.1 (λ x. s (a, x))) ts ((each j).fine off ts)
-        (λ a u r e g. fine_parts ps (off + words_of j a) (λ x. made (a, x)) f.2 (λ x. s (a, x)) (λ x. h (a, x)) r)
+    mutual
+      -- what ends the row ends the thing before it, unless a mark comes first
+      weak : {B : Type 0} (Safe : Token → Type 0) (qs : List Part) → Begins Safe qs → Follow qs → (off : ℕ) (made : Fields qs → Reader B) → ((x : Fields qs) → Start C C.Is (made x)) → ((x : Fields qs) (r : List Placed) → Fine C.Is (made x) r) → (r : List Placed) (b : B) → read_parts level qs off made r ≡ Got b r → (t : Token) → C.Is t → Safe t
+      weak Safe [] begins f off made s h r b e = begins
+      weak Safe (Sign m ∷ qs) begins f off made s h r b e = absurd (omega (arith, expect_takes C m.is m.unended (read_parts level qs off made) (fine_parts qs off made f s h) r r b e))
+      weak Safe (Item k ∷ qs) begins f off made s h r b e = λ t i. begins t
+
+      pub fine_parts : {B : Type 0} (ps : List Part) (off : ℕ) (made : Fields ps → Reader B) → Follow ps → ((x : Fields ps) → Start C C.Is (made x)) → ((x : Fields ps) (r : List Placed) → Fine C.Is (made x) r) → (ts : List Placed) → Fine C.Is (read_parts level ps off made) ts
+      fine_parts [] off made f s h ts = h tt ts
+      fine_parts (Sign m ∷ ps) off made f s h ts = expect_then C m.is (m.it) m.found m.unended (read_parts level ps off made) (start_parts Any ps off made f (begins_any ps) s) (fine_parts ps off made f s h) ts
+      fine_parts (Item j ∷ ps) off made f s h ts =
+          bind_taking C (After j) (read level j off) (λ a. read_parts level ps (off + words_of j a) (λ x. made (a, x))) (λ a r b e. weak (After j) ps f.0 f.1 (off + words_of j a) (λ x. made (a, x)) (λ x. s (a, x)) (λ x. h (a, x)) r b e)
+          (λ a. start_parts (After j) ps (off + words_of j a) (λ x. made (a, x)) f.1 f.0 (λ x. s (a, x))) ts ((each j).fine off ts)
+          (λ a u r e g. fine_parts ps (off + words_of j a) (λ x. made (a, x)) f.1 (λ x. s (a, x)) (λ x. h (a, x)) r)

@@ -13,18 +13,21 @@ pub use Rattle.bgrammar.specs.ReadingOn.{closes, Closer}
 use Rattle.bgrammar.specs.Commas.{comma_item}
 use Rattle.blang.specs.Walk.{walk_heading, walk_statement}
 use Rattle.bgrammar.specs.StatementReader.{is_open_paren, is_semicolon, is_else, name, constant, size_at, size, declared, headed, Lead, no_lead, with_heading, Step, Declares, Imports, Selects, Defaults, Mentions, Labels, step_at, lead_step, lead_turn, lead, goes_on, Level, else_part, one_more, ended, returned, stmt_at, stmt_after, stmt_with, level, statement}
-use Rattle.bgrammar.proofs.Fine.{Near, Any, Fine, Closing, Start, startable, bind_fine, then_fine, shift, idle, stuck, same, got_fine, got_start, map_fine, expect_then, closed_fine, Opened, enters, Loop, opened_loop, runs, many_none, many_fine}
+use Rattle.bgrammar.proofs.Fine.{Near, Any, Fine, Closing, Start, startable, bind_taking, then_fine, shift, idle, stuck, same_eats, narrower, got_fine, got_start, map_fine, expect_then, expect_takes, closed_fine, closed_eats, Opened, enters, Loop, opened_loop, runs, many_none, many_fine}
 use Rattle.bgrammar.proofs.ExpressionFine.{one, one_tree, reader_fine, reader_one, from_name_fine, from_name_one}
 use Rattle.bgrammar.proofs.ExpressionFine as E
 use Rattle.bgrammar.proofs.ExpressionAgain.{expr_opens, opens}
 use Rattle.bgrammar.proofs.CommaLaws.{list_fine}
 use Rattle.bgrammar.proofs.KeptLemmas.{kept-length}
-use Rattle.bgrammar.proofs.StatementSound.{Spelled, flat_told, statement_sound}
+use Rattle.bgrammar.proofs.StatementSound.{Spelled, flat_told, level_told, stmt_told, statement_sound}
 use Rattle.bgrammar.proofs.Forms.{Thing, Value, Inner, Body, Declarations, Names, A_constant, Part, Fields, onto, onto_is, read_parts, flat, block_parts, tested_parts, switch_parts, value_parts, paid_parts, end_parts, declaration_parts, import_parts, case_parts, default_parts}
-use Rattle.bgrammar.proofs.FormLaws.{FineThing, Follow, fine_parts}
+use Rattle.bgrammar.proofs.FormLaws.{Elseless, FineThing, Follow, fine_parts}
 
 abbrev pub closing : Closing
 closing = record { Is = Closer; at_end = refl }
+
+abbrev elseless : Closing
+elseless = record { Is = Elseless; at_end = refl }
 
 -- a token that ends what stands before a statement
 abbrev pub begins_last : Token → Bool
@@ -39,12 +42,6 @@ Last t = begins_last t ≡ true
 abbrev pub lasting : Closing
 lasting = record { Is = Last; at_end = refl }
 
-last_is_safe : (t : Token) → Last t → E.Closer t
-last_is_safe token.Semicolon h = refl
-last_is_safe token.CloseBrace h = refl
-last_is_safe token.End h = refl
-last_is_safe _ h = cc
-
 -- what holds of the two closers
 pub at_closers : (P : Token → Type 0) → P token.CloseBrace → P token.End → (t : Token) → Closer t → P t
 at_closers P brace end token.CloseBrace h = brace
@@ -53,6 +50,9 @@ at_closers P brace end _ h = cc
 
 pub safer : (t : Token) → Closer t → E.Closer t
 safer = at_closers E.Closer refl refl
+
+no_else : (t : Token) → Closer t → Elseless t
+no_else = at_closers Elseless refl refl
 
 -- a name, a constant, a declared name
 abbrev pub some_word : Identifier
@@ -103,7 +103,7 @@ no_step o _ h = cc
 pub record Good (level : Level) : Type 0 where
   pub expr_fine : (off : ℕ) (ts : List Placed) → Fine E.Closer (level.expr off) ts
   pub expr_one : (off : ℕ) (k : List Placed) → E.Closer (first k) → level.expr off (one ∷ k) ≡ Got one_tree k
-  pub stmt_fine : (off : ℕ) (ts : List Placed) → Fine Closer (level.stmt off) ts
+  pub stmt_fine : (off : ℕ) (ts : List Placed) → Fine Elseless (level.stmt off) ts
   pub stmt_one : (off : ℕ) (k : List Placed) → level.stmt off (mark token.Semicolon ∷ k) ≡ Got Empty k
   pub stmt_takes : (off : ℕ) (ts r : List Placed) (s : Stmt) → level.stmt off ts ≡ Got s r → length r < length ts
 
@@ -116,7 +116,7 @@ no_comma _ h = refl
 
 module _ (level : Level) (good : Good level) where
   pub body_loop : (off : ℕ) → Loop closing (always goes_on) (one_more level off)
-  body_loop off = record { closed = λ a t h. goes_to_end t h; takes = λ b a a2 ts r h e. take a a2 ts r (level.stmt (off + body_words a) ts) refl e; turn = λ b a ts h. runs (map_fine closing (level.stmt (off + body_words a)) (λ s. More a s) ts (good.stmt_fine (off + body_words a) ts)) }
+  body_loop off = record { closed = λ a t h. goes_to_end t h; takes = λ b a a2 ts r h e. take a a2 ts r (level.stmt (off + body_words a) ts) refl e; turn = λ b a ts h. runs (map_fine closing (level.stmt (off + body_words a)) (λ s. More a s) ts (narrower closing Elseless no_else (good.stmt_fine (off + body_words a) ts))) }
     where
       take : (a a2 : Stmts) (ts r : List Placed) (x : Read Stmt) → level.stmt (off + body_words a) ts ≡ x → (x >>= λ s. Got (More a s)) ≡ Got a2 r → length r < length ts
       take a a2 ts r (Got s r2) eq e = let q : r2 ≡ r = cc in omega (arith, good.stmt_takes (off + body_words a) ts r2 s eq, ap length q)
@@ -173,7 +173,7 @@ flat_good : (room : ℕ) → Good (flat room)
 flat_good room = record {
   expr_fine = λ off ts. reader_fine room Rvalue off ts;
   expr_one = λ off k h. reader_one room Rvalue off k h;
-  stmt_fine = λ off ts. expect_then closing is_semicolon token.Semicolon refl refl (λ x. Got Empty x) (startable closing (λ x. Got Empty x) (got_start closing Empty)) (got_fine closing Empty) ts;
+  stmt_fine = λ off ts. expect_then elseless is_semicolon token.Semicolon refl refl (λ x. Got Empty x) (startable elseless (λ x. Got Empty x) (got_start elseless Empty)) (got_fine elseless Empty) ts;
   stmt_one = λ off k. refl;
   stmt_takes = λ off ts r s h. takes (λ s. Sits s room off) ts r s _ (flat_told room Inner off ts) h;
 }
@@ -186,9 +186,9 @@ heading_opened : (ps : List Part) (made : Fields ps → Lead) (turn : Reader Lea
 heading_opened ps made turn t agree f = enters (read_parts (flat 0) ps 0 (λ x. Got (made x))) agree (flat_fine lasting 0 ps 0 made f)
 
 lead_opened : (b : Step) (l : Lead) (t : Placed) → Opened lasting (lead_turn b l) t
-lead_opened Declares l t = heading_opened declaration_parts (λ x. with_heading l (Auto x.0)) (lead_turn Declares l) t (λ ts. refl) (last_is_safe, refl, tt)
-lead_opened Imports l t = heading_opened import_parts (λ x. with_heading l (Extrn x.0)) (lead_turn Imports l) t (λ ts. refl) (last_is_safe, refl, tt)
-lead_opened Selects l t = heading_opened case_parts (λ x. with_heading l (Case t.line x.0)) (lead_turn Selects l) t (λ ts. refl) (last_is_safe, refl, tt)
+lead_opened Declares l t = heading_opened declaration_parts (λ x. with_heading l (Auto x.0)) (lead_turn Declares l) t (λ ts. refl) (refl, tt)
+lead_opened Imports l t = heading_opened import_parts (λ x. with_heading l (Extrn x.0)) (lead_turn Imports l) t (λ ts. refl) (refl, tt)
+lead_opened Selects l t = heading_opened case_parts (λ x. with_heading l (Case t.line x.0)) (lead_turn Selects l) t (λ ts. refl) (refl, tt)
 lead_opened Defaults l t = heading_opened default_parts (λ x. with_heading l (Default t.line)) (lead_turn Defaults l) t (λ ts. refl) tt
 lead_opened (Mentions x) l t = enters (λ r. Got (record { headings = l.headings; word = Some (record { text = x; line = t.line }) }) r) (λ ts. refl) (got_fine lasting (record { headings = l.headings; word = Some (record { text = x; line = t.line }) }))
 lead_opened (Labels w) l t = enters (λ r. Got (with_heading l (Label w)) r) (λ ts. refl) (got_fine lasting (with_heading l (Label w)))
@@ -200,21 +200,18 @@ lead_fine : (ts : List Placed) → Fine Last lead ts
 lead_fine ts = many_fine lasting lead_step lead_turn lead_loop no_lead ts
 
 -- the rest of an if, after its statement
-no_else : (t : Token) → Closer t → is_else t ≡ false
-no_else = at_closers (λ t. is_else t ≡ false) refl refl
-
 module _ (level : Level) (off : ℕ) (e : Expr) (s : Stmt) where
-  else_start : Start closing Closer (else_part level off e s)
-  else_start = record { with_ = []; value = If e s; done = λ k h. rw (no_else (first k) h) refl; front = λ k h. h }
+  else_start : Start elseless Elseless (else_part level off e s)
+  else_start = record { with_ = []; value = If e s; done = λ k h. rw h refl; front = λ k h. h }
 
-  else_fine : Good level → (ts : List Placed) (b : Bool) → is_else (first ts) ≡ b → Fine Closer (else_part level off e s) ts
+  else_fine : Good level → (ts : List Placed) (b : Bool) → is_else (first ts) ≡ b → Fine Elseless (else_part level off e s) ts
   else_fine good [] true h = cc
-  else_fine good (t ∷ ts) true h = shift closing (else_part level off e s) (λ x. level.stmt (off + words e + statement_words s) x >>= λ other. Got (IfElse e s other)) t (λ x. rw h refl) ts (map_fine closing (level.stmt (off + words e + statement_words s)) (λ other. IfElse e s other) ts (good.stmt_fine (off + words e + statement_words s) ts))
-  else_fine good ts false h = idle closing (else_part level off e s) ts (If e s) near
+  else_fine good (t ∷ ts) true h = shift elseless (else_part level off e s) (λ x. level.stmt (off + words e + statement_words s) x >>= λ other. Got (IfElse e s other)) t (λ x. rw h refl) ts (map_fine elseless (level.stmt (off + words e + statement_words s)) (λ other. IfElse e s other) ts (good.stmt_fine (off + words e + statement_words s) ts))
+  else_fine good ts false h = idle elseless (else_part level off e s) ts (If e s) near
     where
-      near : (new : List Placed) → Near Closer ts new → else_part level off e s new ≡ Got (If e s) new
+      near : (new : List Placed) → Near Elseless ts new → else_part level off e s new ≡ Got (If e s) new
       near new (inl n) = rw (ap is_else n ∙ h) refl
-      near new (inr n) = rw (no_else (first new) n) refl
+      near new (inr n) = rw n refl
 
 -- where there is a level left
 abbrev pub LevelGood : ℕ → Type 0
@@ -224,58 +221,50 @@ LevelGood (suc k) = Good (level (suc k))
 abbrev at_first : ℕ → ℕ → Reader Stmt
 at_first room off ts = stmt_at room (level room) off (first ts) ts
 
-abbrev stmt_start : (room off : ℕ) → Start closing Any (at_first room off)
+abbrev stmt_start : (room off : ℕ) → Start elseless Any (at_first room off)
 stmt_start room off = record { with_ = mark token.Semicolon ∷ []; value = Empty; done = λ k h. refl; front = λ k h. tt }
 
 -- a row that opens a level
-entered : (room : ℕ) → LevelGood room → (off : ℕ) (t : Token) (ps : List Part) (made : Fields ps → Reader Stmt) → Follow closing ps → ((x : Fields ps) → Start closing Closer (made x)) → (Good (level room) → (x : Fields ps) (r : List Placed) → Fine Closer (made x) r)
-    → ((new : List Placed) → stmt_at room (level room) off t new ≡ ((level room).enter new >>= λ o. read_parts (level room) ps off made)) → (t ≡ token.End → ⊥) → (ts : List Placed) → first ts ≡ t → Fine Closer (at_first room off) ts
+entered : (room : ℕ) → LevelGood room → (off : ℕ) (t : Token) (ps : List Part) (made : Fields ps → Reader Stmt) → Follow elseless ps → ((x : Fields ps) → Start elseless Elseless (made x)) → (Good (level room) → (x : Fields ps) (r : List Placed) → Fine Elseless (made x) r)
+    → ((new : List Placed) → stmt_at room (level room) off t new ≡ ((level room).enter new >>= λ o. read_parts (level room) ps off made)) → (t ≡ token.End → ⊥) → (ts : List Placed) → first ts ≡ t → Fine Elseless (at_first room off) ts
 entered room g off t ps made f s h agree n [] e = absurd (n (sym e))
-entered zero g off t ps made f s h agree n (p ∷ ts) e = stuck closing (at_first zero off) (p ∷ ts) (λ new m. ap (λ x. stmt_at zero (level zero) off x new) (m ∙ e) ∙ agree new) (stmt_start zero off)
-entered (suc k) g off t ps made f s h agree n (p ∷ ts) e = shift closing (at_first (suc k) off) (read_parts (level (suc k)) ps off made) p (λ x. ap (λ y. stmt_at (suc k) (level (suc k)) off y (p ∷ x)) e ∙ agree (p ∷ x)) ts (fine_parts closing (level (suc k)) (fine_things (level (suc k)) g) ps off made f s (h g) ts)
+entered zero g off t ps made f s h agree n (p ∷ ts) e = stuck elseless (at_first zero off) (p ∷ ts) (λ new m. ap (λ x. stmt_at zero (level zero) off x new) (m ∙ e) ∙ agree new) (stmt_start zero off)
+entered (suc k) g off t ps made f s h agree n (p ∷ ts) e = shift elseless (at_first (suc k) off) (read_parts (level (suc k)) ps off made) p (λ x. ap (λ y. stmt_at (suc k) (level (suc k)) off y (p ∷ x)) e ∙ agree (p ∷ x)) ts (fine_parts elseless (level (suc k)) (fine_things (level (suc k)) g) ps off made f s (h g) ts)
 
 module _ (room : ℕ) (has : LevelGood room) where
   -- a row that opens none, after its first token
-  taken : (off : ℕ) (t : Token) (f : ℕ → Reader Stmt) → ((p : Placed) (ts : List Placed) → stmt_at room (level room) off t (p ∷ ts) ≡ f p.line ts) → (t ≡ token.End → ⊥) → ((line : ℕ) (ts : List Placed) → Fine Closer (f line) ts) → (ts : List Placed) → first ts ≡ t → Fine Closer (at_first room off) ts
+  taken : (off : ℕ) (t : Token) (f : ℕ → Reader Stmt) → ((p : Placed) (ts : List Placed) → stmt_at room (level room) off t (p ∷ ts) ≡ f p.line ts) → (t ≡ token.End → ⊥) → ((line : ℕ) (ts : List Placed) → Fine Elseless (f line) ts) → (ts : List Placed) → first ts ≡ t → Fine Elseless (at_first room off) ts
   taken off t f agree n fine [] e = absurd (n (sym e))
-  taken off t f agree n fine (p ∷ ts) e = shift closing (at_first room off) (f p.line) p (λ x. ap (λ y. stmt_at room (level room) off y (p ∷ x)) e ∙ agree p x) ts (fine p.line ts)
+  taken off t f agree n fine (p ∷ ts) e = shift elseless (at_first room off) (f p.line) p (λ x. ap (λ y. stmt_at room (level room) off y (p ∷ x)) e ∙ agree p x) ts (fine p.line ts)
 
-  ended_fine : (off : ℕ) (made : Expr → Stmt) (ts : List Placed) → Fine Closer (ended room off made) ts
-  ended_fine off made ts = flat_fine closing room value_parts off (λ x. made x.0) (safer, refl, tt) ts
+  ended_fine : (off : ℕ) (made : Expr → Stmt) (ts : List Placed) → Fine Elseless (ended room off made) ts
+  ended_fine off made ts = flat_fine elseless room value_parts off (λ x. made x.0) (refl, tt) ts
 
-  returned_start : (off : ℕ) → Start closing Any (returned room off)
+  returned_start : (off : ℕ) → Start elseless Any (returned room off)
   returned_start off = record { with_ = mark token.Semicolon ∷ []; value = Return; done = λ k h. refl; front = λ k h. tt }
 
-  returned_fine : (off : ℕ) (ts : List Placed) (b : Bool) → is_open_paren (first ts) ≡ b → Fine Closer (returned room off) ts
+  returned_fine : (off : ℕ) (ts : List Placed) (b : Bool) → is_open_paren (first ts) ≡ b → Fine Elseless (returned room off) ts
   returned_fine off [] true h = cc
-  returned_fine off (t ∷ ts) true h = shift closing (returned room off) (read_parts (flat room) paid_parts off (λ x. Got (ReturnValue x.0))) t (λ x. rw h refl) ts (flat_fine closing room paid_parts off (λ x. ReturnValue x.0) (safer, refl, tt) ts)
-  returned_fine off ts false h = same closing (returned room off) (λ r. expect is_semicolon r >>= λ o. Got Return) ts near (returned_start off) (flat_fine closing room end_parts off (λ x. Return) tt ts)
-    where
-      near : (new : List Placed) → Near Closer ts new → returned room off new ≡ (expect is_semicolon new >>= λ o. Got Return)
-      near new (inl n) = rw (ap is_open_paren n ∙ h) refl
-      near new (inr n) = rw (at_closers (λ t. is_open_paren t ≡ false) refl refl (first new) n) refl
+  returned_fine off (t ∷ ts) true h = shift elseless (returned room off) (read_parts (flat room) paid_parts off (λ x. Got (ReturnValue x.0))) t (λ x. rw h refl) ts (flat_fine elseless room paid_parts off (λ x. ReturnValue x.0) (refl, tt) ts)
+  returned_fine off ts false h = same_eats elseless (returned room off) (λ r. expect is_semicolon r >>= λ o. Got Return) ts (λ new n. rw (ap is_open_paren n ∙ h) refl) (returned_start off) (λ s e. omega (arith, expect_takes elseless is_semicolon refl (λ x. Got Return x) (got_fine elseless Return) ts ts s e)) (flat_fine elseless room end_parts off (λ x. Return) tt ts)
 
-  other : (off : ℕ) (t : Token) → ((ts : List Placed) → stmt_at room (level room) off t ts ≡ ended room off Evaluate ts) → (ts : List Placed) → first ts ≡ t → Fine Closer (at_first room off) ts
-  other off t is ts e = same closing (at_first room off) (ended room off Evaluate) ts near (stmt_start room off) (ended_fine off Evaluate ts)
-    where
-      near : (new : List Placed) → Near Closer ts new → stmt_at room (level room) off (first new) new ≡ ended room off Evaluate new
-      near new (inl n) = ap (λ x. stmt_at room (level room) off x new) (n ∙ e) ∙ is new
-      near new (inr n) = at_closers (λ t. stmt_at room (level room) off t new ≡ ended room off Evaluate new) refl refl (first new) n
+  other : (off : ℕ) (t : Token) → ((ts : List Placed) → stmt_at room (level room) off t ts ≡ ended room off Evaluate ts) → (ts : List Placed) → first ts ≡ t → Fine Elseless (at_first room off) ts
+  other off t is ts e = same_eats elseless (at_first room off) (ended room off Evaluate) ts (λ new n. ap (λ x. stmt_at room (level room) off x new) (n ∙ e) ∙ is new) (stmt_start room off) (closed_eats E.closing (reader room Rvalue off) is_semicolon refl Evaluate ts (reader_fine room Rvalue off ts)) (ended_fine off Evaluate ts)
 
-  stmt_fine_at : (off : ℕ) (t : Token) (ts : List Placed) → first ts ≡ t → Fine Closer (at_first room off) ts
-  stmt_fine_at off token.OpenBrace ts e = entered room has off token.OpenBrace block_parts (λ x. Got (Compound x.0)) ((λ t h. h), refl, tt) (λ x. got_start closing (Compound x.0)) (λ g x r. got_fine closing (Compound x.0) r) (λ new. refl) (λ n. cc) ts e
-  stmt_fine_at off (token.Keyword keyword.If) ts e = entered room has off (token.Keyword keyword.If) tested_parts (λ x. else_part (level room) off x.0 x.1.0) (safer, refl, ((λ t h. h), (λ t h. h), tt)) (λ x. else_start (level room) off x.0 x.1.0) (λ g x r. else_fine (level room) off x.0 x.1.0 g r (is_else (first r)) refl) (λ new. refl) (λ n. cc) ts e
-  stmt_fine_at off (token.Keyword keyword.While) ts e = entered room has off (token.Keyword keyword.While) tested_parts (λ x. Got (While x.0 x.1.0)) (safer, refl, ((λ t h. h), (λ t h. h), tt)) (λ x. got_start closing (While x.0 x.1.0)) (λ g x r. got_fine closing (While x.0 x.1.0) r) (λ new. refl) (λ n. cc) ts e
-  stmt_fine_at off (token.Keyword keyword.Switch) ts e = entered room has off (token.Keyword keyword.Switch) switch_parts (λ x. Got (Switch x.0 x.1.0)) (safer, refl, ((λ t h. h), refl, tt)) (λ x. got_start closing (Switch x.0 x.1.0)) (λ g x r. got_fine closing (Switch x.0 x.1.0) r) (λ new. refl) (λ n. cc) ts e
+  stmt_fine_at : (off : ℕ) (t : Token) (ts : List Placed) → first ts ≡ t → Fine Elseless (at_first room off) ts
+  stmt_fine_at off token.OpenBrace ts e = entered room has off token.OpenBrace block_parts (λ x. Got (Compound x.0)) (refl, tt) (λ x. got_start elseless (Compound x.0)) (λ g x r. got_fine elseless (Compound x.0) r) (λ new. refl) (λ n. cc) ts e
+  stmt_fine_at off (token.Keyword keyword.If) ts e = entered room has off (token.Keyword keyword.If) tested_parts (λ x. else_part (level room) off x.0 x.1.0) (refl, ((λ t h. h), tt)) (λ x. else_start (level room) off x.0 x.1.0) (λ g x r. else_fine (level room) off x.0 x.1.0 g r (is_else (first r)) refl) (λ new. refl) (λ n. cc) ts e
+  stmt_fine_at off (token.Keyword keyword.While) ts e = entered room has off (token.Keyword keyword.While) tested_parts (λ x. Got (While x.0 x.1.0)) (refl, ((λ t h. h), tt)) (λ x. got_start elseless (While x.0 x.1.0)) (λ g x r. got_fine elseless (While x.0 x.1.0) r) (λ new. refl) (λ n. cc) ts e
+  stmt_fine_at off (token.Keyword keyword.Switch) ts e = entered room has off (token.Keyword keyword.Switch) switch_parts (λ x. Got (Switch x.0 x.1.0)) (refl, (refl, tt)) (λ x. got_start elseless (Switch x.0 x.1.0)) (λ g x r. got_fine elseless (Switch x.0 x.1.0) r) (λ new. refl) (λ n. cc) ts e
   stmt_fine_at off (token.Keyword keyword.Goto) ts e = taken off (token.Keyword keyword.Goto) (λ line. ended room off Goto) (λ p ts. refl) (λ n. cc) (λ line. ended_fine off Goto) ts e
-  stmt_fine_at off (token.Keyword keyword.Break) ts e = taken off (token.Keyword keyword.Break) (λ line r. expect is_semicolon r >>= λ o. Got (Break line)) (λ p ts. refl) (λ n. cc) (λ line. flat_fine closing room end_parts off (λ x. Break line) tt) ts e
+  stmt_fine_at off (token.Keyword keyword.Break) ts e = taken off (token.Keyword keyword.Break) (λ line r. expect is_semicolon r >>= λ o. Got (Break line)) (λ p ts. refl) (λ n. cc) (λ line. flat_fine elseless room end_parts off (λ x. Break line) tt) ts e
   stmt_fine_at off (token.Keyword keyword.Return) ts e = taken off (token.Keyword keyword.Return) (λ line. returned room off) (λ p ts. refl) (λ n. cc) (λ line ts. returned_fine off ts (is_open_paren (first ts)) refl) ts e
-  stmt_fine_at off token.Semicolon ts e = taken off token.Semicolon (λ line x. Got Empty x) (λ p ts. refl) (λ n. cc) (λ line. got_fine closing Empty) ts e
+  stmt_fine_at off token.Semicolon ts e = taken off token.Semicolon (λ line x. Got Empty x) (λ p ts. refl) (λ n. cc) (λ line. got_fine elseless Empty) ts e
   stmt_fine_at off t ts e = other off t (λ us. refl) ts e
 
-  after_fine : (off : ℕ) (o : Option Identifier) (ts : List Placed) → Fine Closer (stmt_after room (level room) off o) ts
+  after_fine : (off : ℕ) (o : Option Identifier) (ts : List Placed) → Fine Elseless (stmt_after room (level room) off o) ts
   after_fine off None ts = stmt_fine_at off (first ts) ts refl
-  after_fine off (Some w) ts = closed_fine closing E.Closer (λ x. reader room Rvalue off (name_token w ∷ x)) is_semicolon token.Semicolon refl refl refl safer Evaluate ts (from_name_fine room off w ts)
+  after_fine off (Some w) ts = closed_fine elseless E.Closer (λ x. reader room Rvalue off (name_token w ∷ x)) is_semicolon token.Semicolon refl refl refl Evaluate ts (from_name_fine room off w ts)
 
   -- a semicolon ends whatever stands before it
   shortest : Option Identifier → Stmt
@@ -287,8 +276,17 @@ module _ (room : ℕ) (has : LevelGood room) where
   after_one off None k = refl
   after_one off (Some w) k = ap (λ x. x >>= λ e r. expect is_semicolon r >>= λ o. Got (Evaluate e)) (from_name_one room off w (mark token.Semicolon ∷ k) refl)
 
-  stmt_with_fine : (off : ℕ) (ts : List Placed) → Fine Closer (stmt_with room (level room) off) ts
-  stmt_with_fine off ts = bind_fine closing Last lead (λ l r. stmt_after room (level room) off l.word r >>= λ s. Got (headed l.headings s)) (at_closers Last refl refl) (λ l. record { with_ = mark token.Semicolon ∷ []; value = headed l.headings (shortest l.word); done = λ k h. ap (λ x. x >>= λ s. Got (headed l.headings s)) (after_one off l.word k); front = λ k h. refl }) ts (lead_fine ts) (λ l u r h g. map_fine closing (stmt_after room (level room) off l.word) (headed l.headings) r (after_fine off l.word r))
+  -- a statement takes a token
+  after_eats : (off : ℕ) (o : Option Identifier) (r : List Placed) (s : Stmt) → stmt_after room (level room) off o r ≡ Got s r → ⊥
+  after_eats off None r s e = omega (arith, takes _ r r s _ (stmt_told room (level_told room) off r) e)
+  after_eats off (Some w) r s e = closed_eats E.closing (λ x. reader room Rvalue off (name_token w ∷ x)) is_semicolon refl Evaluate r (from_name_fine room off w r) s e
+
+  headed_eats : (off : ℕ) (l : Lead) (r : List Placed) (s : Stmt) → (x : Read Stmt) → stmt_after room (level room) off l.word r ≡ x → (x >>= λ s. Got (headed l.headings s)) ≡ Got s r → ⊥
+  headed_eats off l r s (Got s2 r2) h e = let q : r2 ≡ r = cc in after_eats off l.word r s2 (h ∙ ap (λ k. Got s2 k) q)
+  headed_eats off l r s (Stop r2) h e = cc
+
+  stmt_with_fine : (off : ℕ) (ts : List Placed) → Fine Elseless (stmt_with room (level room) off) ts
+  stmt_with_fine off ts = bind_taking elseless Last lead (λ l r. stmt_after room (level room) off l.word r >>= λ s. Got (headed l.headings s)) (λ l r s e. absurd (headed_eats off l r s _ refl e)) (λ l. record { with_ = mark token.Semicolon ∷ []; value = headed l.headings (shortest l.word); done = λ k h. ap (λ x. x >>= λ s. Got (headed l.headings s)) (after_one off l.word k); front = λ k h. refl }) ts (lead_fine ts) (λ l u r h g. map_fine elseless (stmt_after room (level room) off l.word) (headed l.headings) r (after_fine off l.word r))
 
 statement_takes : (room off : ℕ) (ts r : List Placed) (s : Stmt) → statement room off ts ≡ Got s r → length r < length ts
 statement_takes room off ts r s h = takes (λ s. Sits s room off) ts r s _ (statement_sound room off ts) h
@@ -298,4 +296,4 @@ level_good zero = tt
 level_good (suc k) = record { expr_fine = λ off ts. reader_fine k Rvalue off ts; expr_one = λ off ts h. reader_one k Rvalue off ts h; stmt_fine = λ off ts. stmt_with_fine k (level_good k) off ts; stmt_one = λ off ts. refl; stmt_takes = λ off. statement_takes k off }
 
 pub statement_fine : (k off : ℕ) (ts : List Placed) → Fine Closer (statement k off) ts
-statement_fine k off ts = stmt_with_fine k (level_good k) off ts
+statement_fine k off ts = narrower closing Elseless no_else (stmt_with_fine k (level_good k) off ts)

@@ -243,7 +243,7 @@ module _ (room : ℕ) (h : LevelTold room) where
   stmt_told_at off token.Semicolon line ts = (refl, tt, λ n. cc)
   stmt_told_at off t line ts = evaluated off (placed t line ∷ ts)
 
-  stmt_told : (off : ℕ) (ts : List Placed) → Spelled (Here off) (kept_tokens ts) (stmt_at room (level room) off (first ts) ts)
+  pub stmt_told : (off : ℕ) (ts : List Placed) → Spelled (Here off) (kept_tokens ts) (stmt_at room (level room) off (first ts) ts)
   stmt_told off ts = by_first (λ ts. Spelled (Here off) (kept_tokens ts) (stmt_at room (level room) off (first ts) ts)) (evaluated off []) (stmt_told_at off) ts
 
   headed_told : (off : ℕ) (whole : List Placed) (hs : Headings) → AllHeadings hs → (tail : List Placed) → whole ≡ spell_headings hs ++ tail → (x : Read Stmt) → Spelled (Here off) tail x → Spelled (Here off) whole (x >>= λ s. Got (headed hs s))
@@ -261,7 +261,7 @@ module _ (room : ℕ) (h : LevelTold room) where
       go (Stop r) s = tt
       go (Got l r) s = after_told off (kept_tokens ts) l.headings l.word r s.1 s.0
 
-level_told : (room : ℕ) → LevelTold room
+pub level_told : (room : ℕ) → LevelTold room
 level_told zero = tt
 level_told (suc k) = λ off ts. stmt_with_told k (level_told k) off ts
 
