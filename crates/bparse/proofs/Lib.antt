@@ -11,3 +11,4 @@ pub mod TakenSteps
 pub mod TakenLaws
 pub mod NamesSteps
 mod WatchSteps
+mod WholeSteps

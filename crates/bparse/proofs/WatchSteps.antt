@@ -5,13 +5,15 @@ use Rattle.bword.specs.ByteEnds.{CanFollow, Incoming}
 use Rattle.blang.specs.Cut.{tokens_from}
 use Rattle.blang.specs.Trees.{Definition}
 use Rattle.blex.proofs.Passing.{Took-append}
+use Rattle.blang.specs.Compiles.{Compilation, CompilesTo}
 use Rattle.blang.specs.Lines.{lines_of, program_lines, lines_after}
 use Rattle.blang.specs.Walk.{spell_definition}
 use Rattle.bread.specs.Tokens.{lines_in, tokens_of}
-use Rattle.bparse.specs.Compilers.{Compiler, SameCompiler, HasWrittenSince, CompilerGives, Wrote, StoppedAfter, Spelled, new}
+use Rattle.bparse.specs.Compilers.{Compiler, SameCompiler, CompilerGives, Wrote, StoppedAfter, Spelled, new}
 use Rattle.bparse.specs.Watches.{KeepsMore, WatchGives, KeptSince, KeptAll, Watched}
 use Rattle.bparse.specs.declared.step.Step.{Step}
 use Rattle.bparse.specs.declared.step.Step.TheVariants as step
+use Rattle.bparse.proofs.WholeSteps.{written_all}
 use Rattle.bparse.proofs.SinceSteps.{since_new, follow}
 
 -- the lines of one definition more
@@ -71,21 +73,26 @@ kept_more kept mid now old next k gives w same = record { definitions = ds ++ d 
 
 -- after the last call
 kept_all : (kept mid now : Option (List ℕ)) (old last : Compiler) (lines : List ℕ) → KeptSince kept old mid → CompilerGives old step.Finished last → WatchGives mid step.Finished lines now → KeptAll old.first.edition old.first.source last.tokens.source.end kept now
-kept_all kept mid now old last lines k gives w =
-    let s = gives.1 k.definitions k.since in
-    record {
-      definitions = k.definitions;
-      taken = k.since.taken ++ s.taken;
-      took = Took-append k.since.took s.took;
-      formed = k.since.formed;
-      spelled = λ more f. (tokens_of old.tokens (s.taken ++ more), subst (λ bs. Spelled k.definitions (tokens_from old.first.edition 1 bs) (tokens_of old.tokens (s.taken ++ more))) (sym (append_assoc k.since.taken s.taken more)) (k.since.spelled (s.taken ++ more) (follow s.took more f)));
-      comes = s.comes;
-      lines = λ more f.
-          let all = lines_in (tokens_from old.first.edition 1 (k.since.taken ++ (s.taken ++ more))) in
+kept_all kept mid now old last lines k gives w = record { taken = k.since.taken ++ s.taken; took = Took-append k.since.took s.took; lines = kept_lines }
+  where
+    s : StoppedAfter k.since None last
+    s = gives.1 k.definitions k.since
+
+    kept_lines : (more : List ℕ) → CanFollow last.tokens.source.end more → (r : Compilation) (g : CompilesTo [] (tokens_from old.first.edition 1 ((k.since.taken ++ s.taken) ++ more)) r)
+        → (r.stop ≡ None) × KeepsMore kept (program_lines g.definitions (lines_in (tokens_from old.first.edition 1 ((k.since.taken ++ s.taken) ++ more)))) now
+    kept_lines more f r g =
+        let whole = append_assoc k.since.taken s.taken more in
+        let follows = follow s.took more f in
+        let is = s.comes more f r g in
+        let goes = k.since.comes (s.taken ++ more) follows r (subst (λ bs. CompilesTo [] (tokens_from old.first.edition 1 bs) r) whole g) in
+        let spelled = subst (λ bs. Spelled k.definitions (tokens_from old.first.edition 1 bs) (tokens_of old.tokens (s.taken ++ more))) (sym whole) (k.since.spelled (s.taken ++ more) follows) in
+        let same = written_all k.definitions k.since.formed spelled goes.1 goes.2 is g in
+        let before = program_lines k.definitions (lines_in (tokens_from old.first.edition 1 (k.since.taken ++ (s.taken ++ more)))) in (
+          is.1,
           subst (λ l. KeepsMore kept l now)
-          (append-nil (program_lines k.definitions all) ∙ ap (λ bs. program_lines k.definitions (lines_in (tokens_from old.first.edition 1 bs))) (sym (append_assoc k.since.taken s.taken more)))
-          (keeps_twice kept (program_lines k.definitions all) [] mid now (k.lines (s.taken ++ more) (follow s.took more f)) w);
-    }
+              (append-nil before ∙ ap (λ bs. program_lines k.definitions (lines_in (tokens_from old.first.edition 1 bs))) (sym whole) ∙ ap (λ ds. program_lines ds (lines_in (tokens_from old.first.edition 1 ((k.since.taken ++ s.taken) ++ more)))) same)
+              (keeps_twice kept before [] mid now (k.lines (s.taken ++ more) follows) w),
+        )
 
 pub watched : (kept mid now : Option (List ℕ)) (first old last : Compiler) (answer : Step) → SameCompiler first old → KeptSince kept old mid → CompilerGives old answer last → WatchGives mid answer last.tokens.noted.lines now → Watched first.first.edition first.first.source kept answer last.tokens.source.end now
 watched kept mid now first old last step.Finished same k gives w = subst (λ x. KeptAll x.edition x.source last.tokens.source.end kept now) same.first (kept_all kept mid now old last last.tokens.noted.lines k gives w)

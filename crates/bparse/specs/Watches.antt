@@ -1,15 +1,13 @@
 -- Promise: what a watcher keeps of the lines of a source.
-use Rattle.std.specs.Prelude.{◌≡◌, ◌⊎◌, ℕ, List, [], ◌++◌, map, Option, Some, None}
+use Rattle.std.specs.Prelude.{◌≡◌, ◌⊎◌, ℕ, List, [], ◌++◌, Option, Some, None}
 use Rattle.bword.specs.declared.edition.Edition.{Edition}
 use Rattle.bword.specs.ByteEnds.{Incoming, Took, CanFollow}
 use Rattle.blang.specs.Cut.{tokens_from}
 use Rattle.blang.specs.Trees.{Definition}
-use Rattle.blang.specs.declared.token.Placed.{Placed}
-use Rattle.blang.specs.WellFormed.{AllFormed}
-use Rattle.blang.specs.Compiles.{Whatever, compiled_text}
+use Rattle.blang.specs.Compiles.{Compilation, CompilesTo}
 use Rattle.bread.specs.Tokens.{lines_in}
 use Rattle.blang.specs.Lines.{program_lines}
-use Rattle.bparse.specs.Compilers.{Compiler, HasWrittenSince, Spelled}
+use Rattle.bparse.specs.Compilers.{Compiler, HasWrittenSince}
 use Rattle.bparse.specs.declared.step.Step.{Step}
 use Rattle.bparse.specs.declared.step.Step.TheVariants as step
 
@@ -30,18 +28,15 @@ pub record KeptSince (kept : Option (List ℕ)) (c : Compiler) (now : Option (Li
   pub lines : (more : List ℕ) → CanFollow c.tokens.source.end more
       → KeepsMore kept (program_lines definitions (lines_in (tokens_from c.first.edition 1 (since.taken ++ more)))) now
 
--- A watcher has kept the lines of all definitions of a source, which was read from one end to the other. These
--- definitions are spelled by its tokens, and their texts are its code.
+-- A watcher has kept the lines of all definitions of a source, which was read from one end to the other and has no
+-- fault.
 pub record KeptAll (edition : Edition) (source source_after : Incoming) (kept now : Option (List ℕ)) : Type 0 where
-  pub definitions : List Definition
   pub taken : List ℕ
   pub took : Took source taken source_after
-  pub formed : AllFormed definitions
-  pub spelled : (more : List ℕ) → CanFollow source_after more
-      → (rest : List Placed) × Spelled definitions (tokens_from edition 1 (taken ++ more)) rest
-  pub comes : Whatever edition taken source_after (λ r. (r.code ≡ map compiled_text definitions) × (r.stop ≡ None))
-  pub lines : (more : List ℕ) → CanFollow source_after more
-      → KeepsMore kept (program_lines definitions (lines_in (tokens_from edition 1 (taken ++ more)))) now
+  pub lines : (more : List ℕ) → CanFollow source_after more → (r : Compilation)
+      → (g : CompilesTo [] (tokens_from edition 1 (taken ++ more)) r)
+      → (r.stop ≡ None)
+      × KeepsMore kept (program_lines g.definitions (lines_in (tokens_from edition 1 (taken ++ more)))) now
 
 -- what a watcher has kept when all definitions were written
 abbrev pub Watched : Edition → Incoming → Option (List ℕ) → Step → Incoming → Option (List ℕ) → Type 0

@@ -1,4 +1,4 @@
-use Rattle.std.proofs.Common.{subst, ap, ◌∙◌}
+use Rattle.std.proofs.Common.{subst, ap}
 use Rattle.bparse.specs.Compilers.{CompilerGives}
 use Rattle.bparse.specs.Watches.{WatchGives}
 use Rattle.bparse.proofs.CompileSteps.{keeps_none, keeps_more, written_last}
