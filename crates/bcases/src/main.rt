@@ -1,5 +1,5 @@
-//! Serves each case of the folder that it is started in and tells each answer that isn't the one which is kept;
-//! `data/README.md` says what a case is.
+//! Serves each case of the folder that its first word names, or that it is started in, and tells each answer that isn't
+//! the one which is kept; `data/README.md` says what a case is.
 #![tactic(auto)]
 
 mod answer;
@@ -21,6 +21,9 @@ struct Tally {
 }
 
 fn main(rt: HostRuntime) -> Result<ExitCode> {
+    if let Some(folder) = env::args(&rt)?.nth(1) {
+        env::set_current_dir(&rt, folder)?;
+    }
     let top = env::current_dir(&rt)?;
     let mut to_come = Vec::new(rt.alloc());
     to_come.push(String::from_str(rt.alloc(), top.as_str())?)?;
