@@ -10,6 +10,8 @@ mod devices;
 #[cfg(test)]
 mod drafts;
 #[cfg(test)]
+mod forms;
+#[cfg(test)]
 mod loads;
 #[cfg(test)]
 mod names;
