@@ -17,7 +17,7 @@ use bcheck::{FindingForm, Request, check};
 use bcommand::{Display, Job, Question, Rows, Source, UNREAD, clash_text, job_of, parse};
 use bcount::{Counting, Style, count};
 use bdraw::draw;
-use bformat::format;
+use bformat::{House, format};
 use blang::status::{self, Status};
 use blist::{list, map};
 use bparse::compile_edition;
@@ -339,7 +339,7 @@ fn answer<I: ByteIn, O: ByteOut, D: ByteOut>(
         Question::Show(display) => {
             show_run(alloc, edition, files, text, display, input, out, diag)
         }
-        Question::Format(is_check) => format(alloc, text, edition, is_check, out, diag),
+        Question::Format(is_check) => format(&House, alloc, text, edition, is_check, out, diag),
     }
 }
 

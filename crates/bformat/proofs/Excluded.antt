@@ -1,6 +1,7 @@
 -- What never comes of a source that is to be laid out.
-use Rattle.std.proofs.Common.{◌≡◌, ℕ, Bool, true, false, List, [], Some, arith, refl, subst, sym, ◌⊎◌, inl, inr}
+use Rattle.std.proofs.Common.{◌≡◌, ◌≢◌, ◌∙◌, ℕ, Bool, true, false, List, [], Some, arith, refl, subst, sym, ◌⊎◌, inl, inr}
 use Rattle.std.proofs.lemmas.Bool.{both_ways}
+use Rattle.bword.specs.declared.edition.Edition.{Edition}
 use Rattle.bword.specs.declared.ends.EndFault.{EndFault}
 use Rattle.bword.specs.declared.ends.EndFault.TheVariants as end_fault
 use Rattle.bword.specs.ByteEnds.{Grew, Outgoing, Writes}
@@ -11,8 +12,8 @@ use Rattle.blang.specs.Reports.{Reported}
 use Rattle.btools.specs.Programs as programs
 use Rattle.btools.proofs.Compiled as compiling
 use Rattle.btools.proofs.Excluded as told
-use Rattle.bformat.specs.Excluded.{TellsNothing, WrongLayouts}
-use Rattle.bformat.specs.Formats.{Format, Formats, IsLayout, Shows, faulty, has_wrong_token, laid_out, no_memory}
+use Rattle.bformat.specs.Excluded.{ChecksAsWritten, TellsNothing, Twice, WrongLayouts}
+use Rattle.bformat.specs.Formats.{Format, Formats, FormatsBy, IsLayout, Shows, faulty, has_wrong_token, laid_out, no_memory}
 use Rattle.bformat.proofs.Compiled.{compiled_is_fine}
 
 -- the statuses of a source of which nothing is told
@@ -122,3 +123,58 @@ wrong_layouts f r g h = record {
   fault = fault f r g h;
   device = device f r g h;
 }
+
+-- Two calls in a style that has one layout for each source.
+module _ (layout : Edition → List ℕ → List ℕ) (check write : Format) (twice : Twice check write) where
+  abbrev Lays : Edition → List ℕ → List ℕ → Type 0
+  Lays edition source text = text ≡ layout edition source
+
+  -- a text that was written, and that lays the source out
+  abbrev Written : Type 0
+  Written = (text : List ℕ) × Lays write.edition write.source text × Writes write.out text write.out_after
+
+  wrote : FormatsBy Lays write → Written
+  wrote (laid_out text right made shows line) =
+      (text, made, was_written text write.source write.out write.out_after write.status write.is_check shows twice.writes twice.written)
+  wrote (faulty code wrong compiled out) = absurd (both_ways (has_wrong_token write.edition write.source) twice.fine wrong)
+  wrote (no_memory out line status) = absurd (omega (arith, twice.written, status))
+
+  -- what a check saw
+  abbrev Seen : Type 0
+  Seen = (text : List ℕ) × Lays write.edition write.source text
+      × ((check.status ≡ 0 → text ≡ write.source) × (check.status ≡ 2 → text ≢ write.source))
+
+  compared : (text source : List ℕ) (old new : Outgoing) (s : ℕ) (b : Bool) → Shows b text source old new s → b ≡ true
+      → (s ≡ 0 → text ≡ source) × (s ≡ 2 → text ≢ source)
+  compared text source old new s true (still, inl same) is = (λ e. same.0, λ e. absurd (omega (arith, e, same.1)))
+  compared text source old new s true (still, inr other) is = (λ e. absurd (omega (arith, e, other.1)), λ e. other.0)
+  compared text source old new s false h is = cc
+
+  wrong_of_check : has_wrong_token check.edition check.source ≡ false
+  wrong_of_check = rw twice.edition (rw twice.source twice.fine)
+
+  saw : FormatsBy Lays check → check.status ≢ 1 → check.status ≢ 134 → Seen
+  saw (laid_out text right made shows line) a b = (
+    text,
+    rw twice.edition at (rw twice.source at made),
+    rw twice.source at (compared text check.source check.out check.out_after check.status check.is_check shows twice.looks),
+  )
+  saw (faulty code wrong compiled out) a b = absurd (both_ways (has_wrong_token check.edition check.source) wrong_of_check wrong)
+  saw (no_memory out line status) a b = absurd (b status)
+
+  as_written : FormatsBy Lays check → FormatsBy Lays write
+      → (check.status ≡ 0 → Writes write.out write.source write.out_after)
+      × (check.status ≡ 2 → (text : List ℕ) × (text ≢ write.source) × Writes write.out text write.out_after)
+  as_written c w = (
+    λ e.
+        let s = saw c (λ is. omega (arith, e, is)) (λ is. omega (arith, e, is)) in
+        let t = wrote w in
+        subst (λ (text : List ℕ). Writes write.out text write.out_after) (t.1 ∙ sym s.1 ∙ s.2.0 e) t.2,
+    λ e.
+        let s = saw c (λ is. omega (arith, e, is)) (λ is. omega (arith, e, is)) in
+        let t = wrote w in
+        (t.0, (λ is. s.2.1 e (s.1 ∙ sym t.1 ∙ is)), t.2),
+  )
+
+pub checks_as_written : ChecksAsWritten
+checks_as_written = as_written

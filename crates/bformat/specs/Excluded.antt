@@ -1,12 +1,13 @@
 -- Promise: what never comes of a source that is to be laid out, whatever its streams do.
-use Rattle.std.specs.Prelude.{◌≡◌, ℕ, false, true, List, [], Some, None, ◌⊎◌}
+use Rattle.std.specs.Prelude.{◌≡◌, ◌≢◌, ℕ, false, true, List, [], Some, None, ◌⊎◌}
 use Rattle.bword.specs.ByteEnds.{Grew, Writes}
+use Rattle.bword.specs.declared.edition.Edition.{Edition}
 use Rattle.blang.specs.declared.status.TheConstants.{DEVICE, DONE, FAULT, MEMORY}
 use Rattle.blang.specs.declared.token.Diagnostic.{Diagnostic}
 use Rattle.blang.specs.Compiles.{Compilation, CompilesTo, line_of}
 use Rattle.blang.specs.Cut.{tokens_from}
 use Rattle.bformat.specs.declared.formatting.TheConstants.{CHANGES}
-use Rattle.bformat.specs.Formats.{Format, Formats, IsLayout, has_wrong_token}
+use Rattle.bformat.specs.Formats.{Format, Formats, FormatsBy, IsLayout, has_wrong_token}
 
 -- Nothing is told of the source, and it has one of these statuses.
 pub record TellsNothing (f : Format) : Type 0 where
@@ -37,3 +38,23 @@ pub record Excluded (f : Format) (r : Compilation) : Type 0 where
 abbrev pub WrongLayouts : Type 0
 WrongLayouts =
     (f : Format) (r : Compilation) → CompilesTo [] (tokens_from f.edition 1 f.source) r → Formats f → Excluded f r
+
+-- Of one source without a wrong token a layout is written, and a check answers.
+pub record Twice (check write : Format) : Type 0 where
+  pub edition : check.edition ≡ write.edition
+  pub source : check.source ≡ write.source
+  pub fine : has_wrong_token write.edition write.source ≡ false
+  pub looks : check.is_check ≡ true
+  pub writes : write.is_check ≡ false
+  pub written : write.status ≡ DONE
+
+-- In a style that has one layout for each source: 0 of a check where another text is written than the source, and 2
+-- where the source is.
+abbrev pub ChecksAsWritten : Type 0
+ChecksAsWritten =
+    (layout : Edition → List ℕ → List ℕ) (check write : Format) → Twice check write
+    → FormatsBy (λ edition source text. text ≡ layout edition source) check
+    → FormatsBy (λ edition source text. text ≡ layout edition source) write
+    → (check.status ≡ DONE → Writes write.out write.source write.out_after)
+    × (check.status ≡ CHANGES
+    → (text : List ℕ) × (text ≢ write.source) × Writes write.out text write.out_after)

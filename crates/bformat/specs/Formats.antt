@@ -47,11 +47,15 @@ Shows false text source out out_after status = Reported text DONE out out_after 
 Shows true text source out out_after status =
     (out_after ≡ out) × (((text ≡ source) × (status ≡ DONE)) ⊎ ((text ≢ source) × (status ≡ CHANGES)))
 
--- What comes of a source: it is laid out, and nothing is told; a token of it is wrong, and its first fault is told as
--- the compiler tells it; or memory was refused.
-pub data Formats (f : Format) : Type 0 where
-  laid_out : (text : List ℕ) → has_wrong_token f.edition f.source ≡ false → IsLayout f.edition f.source text
-      → Shows f.is_check text f.source f.out f.out_after f.status → f.line_after ≡ f.line → Formats f
+-- What comes of a source in a style, which says what is a layout: it is laid out, and nothing is told; a token of it is
+-- wrong, and its first fault is told as the compiler tells it; or memory was refused.
+pub data FormatsBy (lays : Edition → List ℕ → List ℕ → Type 0) (f : Format) : Type 0 where
+  laid_out : (text : List ℕ) → has_wrong_token f.edition f.source ≡ false → lays f.edition f.source text
+      → Shows f.is_check text f.source f.out f.out_after f.status → f.line_after ≡ f.line → FormatsBy lays f
   faulty : (code : List ℕ) → has_wrong_token f.edition f.source ≡ true
-      → WasCompiled f.edition f.source f.line f.line_after code f.status → f.out_after ≡ f.out → Formats f
-  no_memory : f.out_after ≡ f.out → f.line_after ≡ f.line → f.status ≡ MEMORY → Formats f
+      → WasCompiled f.edition f.source f.line f.line_after code f.status → f.out_after ≡ f.out → FormatsBy lays f
+  no_memory : f.out_after ≡ f.out → f.line_after ≡ f.line → f.status ≡ MEMORY → FormatsBy lays f
+
+-- the same in the style of the house
+abbrev pub Formats : Format → Type 0
+Formats = FormatsBy IsLayout

@@ -1,7 +1,8 @@
 //! Laying a source out.
-ghost use Rattle.std.specs.Prelude.{ℕ, List, ◌≡◌, IfOk};
-ghost use Rattle.bformat.specs.Excluded.{WrongLayouts};
-ghost use Rattle.bformat.specs.Formats.{Formats, IsLayout, Shows};
+ghost use Rattle.std.specs.Prelude.{ℕ, List, ◌≡◌, IfOk, MatchOption, false, true};
+ghost use Rattle.bword.specs.declared.edition.Edition.{Edition};
+ghost use Rattle.bformat.specs.Excluded.{ChecksAsWritten, WrongLayouts};
+ghost use Rattle.bformat.specs.Formats.{FormatsBy, IsLayout, Shows, has_wrong_token};
 ghost use Rattle.bformat.specs.Readings.{AreRead};
 ghost use Rattle.btools.specs.Programs.{WasCompiled};
 
@@ -16,12 +17,52 @@ use std::alloc::{AllocError, Global};
 /// The status where a source was only looked at, and would be laid out otherwise.
 pub const CHANGES: Status = 2;
 
-/// Lays a source out in the one style: its tokens and comments stay, and only what is blank between them changes. For a
+/// A style of layouts. `format` knows nothing of it, so what it writes or compares can only come from a call.
+pub trait Style {
+    // What is a layout of a source in an edition.
+    ghost lays: { Edition → List ℕ → List ℕ → Type 0 };
+
+    /// The layout of a source, or nothing if a token of the source is wrong.
+    ///
+    /// # Errors
+    ///
+    /// If memory was refused.
+    fn lay_out(
+        &self,
+        alloc: Global,
+        source: &[u8],
+        edition: Edition,
+    ) -> Result<Option<Text>, AllocError>
+        ensures lays { IfOk result (λ found. MatchOption found (has_wrong_token edition source.now ≡ true)
+            (λ text. (has_wrong_token edition source.now ≡ false) × lays edition source.now text)) };
+}
+
+/// The one style of the house.
+pub struct House;
+
+impl Style for House {
+    ghost lays = { IsLayout };
+
+    fn lay_out(
+        &self,
+        alloc: Global,
+        source: &[u8],
+        edition: Edition,
+    ) -> Result<Option<Text>, AllocError> {
+        match read(alloc, source, edition)? {
+            Some(pieces) => Ok(Some(layout(alloc, source, edition, &pieces)?)),
+            None => Ok(None),
+        }
+    }
+}
+
+/// Lays a source out in a style: its tokens and comments stay, and only what is blank between them changes. For a
 /// check nothing is written, and the status says whether the source is laid out already.
 ///
 /// The status is 0, or 2 for a check of a source that would change. If a token of the source is wrong, the line of the
 /// compiler is told, and the status is 1. All is written by one call of a stream.
-pub fn format<O: ByteOut, D: ByteOut>(
+pub fn format<S: Style, O: ByteOut, D: ByteOut>(
+    style: &S,
     alloc: Global,
     source: &[u8],
     edition: Edition,
@@ -29,7 +70,7 @@ pub fn format<O: ByteOut, D: ByteOut>(
     out: &mut O,
     diag: &mut D,
 ) -> Status
-    ensures formats { Formats (record {
+    ensures formats { FormatsBy S.lays (record {
       edition = edition;
       source = source.now;
       is_check = is_check;
@@ -42,14 +83,9 @@ pub fn format<O: ByteOut, D: ByteOut>(
     ensures out_lender { O.lender out.new ≡ O.lender out.old }
     ensures diag_lender { D.lender diag.new ≡ D.lender diag.old }
 {
-    let Ok(read) = read(alloc, source, edition) else {
-        return status::MEMORY;
-    };
-    let Some(pieces) = read else {
-        return tell_fault(alloc, source, edition, diag);
-    };
-    match layout(alloc, source, edition, &pieces) {
-        Ok(text) => show(text.as_slice(), source, is_check, out),
+    match style.lay_out(alloc, source, edition) {
+        Ok(Some(text)) => show(text.as_slice(), source, is_check, out),
+        Ok(None) => tell_fault(alloc, source, edition, diag),
         Err(_) => status::MEMORY,
     }
 }
@@ -100,4 +136,9 @@ fn show<O: ByteOut>(text: &[u8], source: &[u8], is_check: bool, out: &mut O) -> 
 /// No source that compiles is told that it can't be laid out, and no layout has other tokens or comments.
 pub fn wrong_layouts_are_excluded()
     ensures { WrongLayouts }
+{}
+
+/// Where a style has one layout for each source, a check answers 0 just where the source is written as it is.
+pub fn a_check_is_of_what_is_written()
+    ensures { ChecksAsWritten }
 {}

@@ -9,4 +9,6 @@ mod levels;
 mod reading;
 mod structure;
 
-pub use formatting::{CHANGES, format, wrong_layouts_are_excluded};
+pub use formatting::{
+    CHANGES, House, Style, a_check_is_of_what_is_written, format, wrong_layouts_are_excluded,
+};
