@@ -1,7 +1,7 @@
 -- What the steps of the compiler make of what was read.
 use Rattle.std.proofs.Common.{◌≡◌, ℕ, ◌<◌, Bool, true, false, List, [], ◌∷◌, ◌++◌, Some, None, Result, Ok, Err, IsErrAnd, refl, sym, ap, ◌∙◌, subst, append_assoc, arith, inl, inr, if◌then◌else◌}
 use Rattle.bword.specs.declared.edition.Edition.{Edition}
-use Rattle.blang.specs.Text.{end_text}
+use Rattle.blang.specs.Text.{end_text, IsWithinRanges}
 use Rattle.bword.specs.ByteEnds.{Outgoing, Writes, Refuses}
 use Rattle.bword.specs.declared.ends.EndFault.{EndFault}
 use Rattle.bword.specs.declared.ends.EndFault.TheVariants as fault
@@ -12,8 +12,14 @@ use Rattle.blang.specs.declared.token.Placed.{Placed}
 use Rattle.blang.specs.declared.token.Diagnostic.{Diagnostic}
 use Rattle.bgrammar.specs.Compiled.{AreNames}
 use Rattle.blang.specs.Compiles.{Defined, Compilation, CompilesTo, next_text, compiled_text}
-use Rattle.blang.specs.Code.{fault_of}
-use Rattle.blang.specs.Trees.{Definition}
+use Rattle.blang.specs.Code.{code_of, fault_of}
+use Rattle.blang.specs.Trees.{Definition, kept_tokens}
+use Rattle.blang.specs.Walk.{spell_definition}
+use Rattle.bgrammar.proofs.Definitions.{definition_within}
+use Rattle.bgrammar.proofs.Holds.{Holds-nil, Holds-cons, Holds-first, Holds-rest, Holds-front, Holds-back}
+use Rattle.bgrammar.proofs.KeptLemmas.{bare-kept}
+use Rattle.bgrammar.proofs.LawProofs.{definition_read}
+use Rattle.bgrammar.proofs.Tokens.{IsSound, AreSound, sound-tokens_from}
 use Rattle.bgrammar.specs.DefinitionReader.{definition}
 use Rattle.blang.specs.WellFormed.{fault_at}
 use Rattle.bgrammar.specs.Reading.{Got, Stop, first, line_ahead}
@@ -30,9 +36,13 @@ use Rattle.bword.specs.ByteEnds.{CanFollow}
 use Rattle.bread.proofs.TokenSteps.{Reads-append, LooksAt-append, CanFollow-append}
 use Rattle.bread.proofs.Moving.{single_here}
 use Rattle.blex.proofs.Passing.{Grew-after}
-use Rattle.bparse.specs.Steps.{Point, point, HasCode, Writing, Stopping, OutRefuses, PointGives, StandsAt, refused_step}
+use Rattle.bparse.specs.Steps.{AreOfSource, Point, point, HasCode, Writing, Stopping, OutRefuses, PointGives, StandsAt, refused_step}
 use Rattle.bparse.specs.declared.step.Step.{Step}
 use Rattle.bparse.specs.declared.step.Step.TheVariants as step
+
+sound_kept : (ts : List Placed) → AreSound ts → AreSound (kept_tokens ts)
+sound_kept [] h = Holds-nil
+sound_kept (p ∷ ts) h = Holds-cons (subst IsSound (sym (bare-kept p)) (Holds-first h)) (sound_kept ts (Holds-rest h))
 
 -- the tokens to come end
 token_first_ended : (b : Bool) (p : Placed) (rest : List Placed) → is_last p.token ≡ b → Ended rest → Ended (p ∷ (if b then [] else rest))
@@ -191,6 +201,16 @@ module _ (old mid : Tokens) (names : Defined) (l : Looks old mid) where
           ∙ ap (λ d. trailed_definition tree d (took (trail (m.passed ls) no_lines))) (sym (started_fresh names tree clean)) ∙ notes ls;
       comes = λ more c r g. comes_first clean more c r (by_membership names' (names ++ name ∷ []) (tokens_of new more) r added.members g);
     }
+
+    -- a definition without a fault is within its ranges
+    pub within : AreOfSource old → fault_of names tree ≡ None → IsWithinRanges (code_of tree)
+    within source clean =
+        let s = source (both new m ++ []) (λ over. let o = (both_read new m).took.over over in rw o.0 refl) in
+        let comes = come new m [] (λ over. refl) in
+        let all = Holds-back s.2 _ (subst AreSound s.3 (sound-tokens_from s.0 1 s.1)) in
+        let read = definition_read (tokens_of mid (m.taken ++ [])) (tokens_of new []) tree (m.come [] (λ over. refl)) in
+        let spelled = subst AreSound read.0 (sound_kept (tokens_of mid (m.taken ++ [])) (subst AreSound comes all)) in
+        definition_within names tree clean read.1 (Holds-front (spell_definition tree) _ spelled)
 
     pub fault_after : (names' : Defined) (fault : Diagnostic) → fault_of names tree ≡ Some fault → IsSingle new → Stopping (point old names out) (Some fault) (point new names' out)
     fault_after names' fault wrong single = record {

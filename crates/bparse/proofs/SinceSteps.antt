@@ -32,7 +32,7 @@ use Rattle.bcodegen.proofs.DefinitionNotes.{one_trail}
 use Rattle.bread.specs.Tokens.{lines_in, tokens_of, IsReady, LooksAt, last_ahead}
 use Rattle.bword.specs.ByteEnds.{CanFollow}
 use Rattle.bread.proofs.TokenSteps.{EndsWith-append}
-use Rattle.bparse.specs.Steps.{Point, point, name_of, Writing, Stopping, Breaking, BreakingNear, ReadFails, OutRefuses, NamesRefuse, OpensAndGives, GivesNext, PointGives, refused_step, to_begin}
+use Rattle.bparse.specs.Steps.{AreOfSource, Point, point, name_of, Writing, Stopping, Breaking, BreakingNear, ReadFails, OutRefuses, NamesRefuse, OpensAndGives, GivesNext, PointGives, refused_step, to_begin}
 use Rattle.bparse.specs.Compilers.{CompilerStart, Compiler, compiler_of, Spelled, GoesOnAfter, OpeningWritten, HasWrittenSince, MoreCanBeWritten, Wrote, StoppedAfter, BrokeOff, BrokeOffNear, TakenNear, GivesAfter, CompilerGives}
 use Rattle.bparse.specs.Compilers as compilers
 use Rattle.bparse.specs.declared.step.Step.{Step}
@@ -69,6 +69,9 @@ since_new start = record {
   near = record { passed = []; split = refl; few = omega arith; edition_is = refl; ends = λ p e. cc };
   is_open = refl;
 }
+
+pub of_source : (c : Compiler) → MoreCanBeWritten c → AreOfSource c.tokens
+of_source c m more f = let s = m.since.spelled more f in (c.first.edition, m.since.taken ++ more, s.passed, s.split)
 
 pub is_open_new : (start : CompilerStart) → MoreCanBeWritten (compilers.new start)
 is_open_new start = record { before = []; since = since_new start; ready = refl }

@@ -1,3 +1,4 @@
+pub mod CodeLists
 pub mod Compilers
 pub mod Compiles
 pub mod Excluded

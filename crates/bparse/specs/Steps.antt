@@ -13,6 +13,7 @@ use Rattle.bword.specs.declared.edition.Edition.{Edition}
 use Rattle.bword.specs.ByteEnds.{Outgoing, Grew, Writes, Refuses, CanFollow}
 use Rattle.bword.specs.declared.ends.EndFault.{EndFault}
 use Rattle.bword.specs.declared.ends.EndFault.TheVariants as end_fault
+use Rattle.blang.specs.Cut.{tokens_from}
 use Rattle.blang.specs.Text.{opening}
 use Rattle.blang.specs.declared.token.Diagnostic.{Diagnostic}
 use Rattle.blang.specs.declared.token.Token.{Token}
@@ -33,6 +34,13 @@ point tokens names out = record { tokens = tokens; names = names; out = out }
 
 abbrev pub name_of : Definition → List ℕ
 name_of d = (identifier_of d).text
+
+-- the tokens to come are the last ones of a source
+abbrev pub AreOfSource : Tokens → Type 0
+AreOfSource tokens =
+    (more : List ℕ) → CanFollow tokens.source.end more
+    → (edition : Edition) × (bytes : List ℕ) × (passed : List Placed)
+    × (tokens_from edition 1 bytes ≡ passed ++ tokens_of tokens more)
 
 -- what comes of the source from a point on, where these bytes were taken and more follow
 abbrev pub SourceComesTo : Point → List ℕ → List ℕ → Compilation → Type 0

@@ -7,16 +7,16 @@ ghost use Rattle.blang.specs.declared.limits.TheConstants.{MAX_INSTRUCTIONS, MAX
 ghost use Rattle.bread.specs.Tokens.{IsReady, IsLoaded};
 ghost use Rattle.bparse.specs.Compilers.{SameCompiler, CompilerGives, compiler_start};
 ghost use Rattle.bparse.specs.Compilers as compilers;
-ghost use Rattle.bparse.specs.Steps.{point, PointGives, GivesNext, is_end, to_begin};
+ghost use Rattle.bparse.specs.Steps.{AreOfSource, point, PointGives, GivesNext, is_end, to_begin};
 
+use crate::code_out::CodeOut;
 use crate::step::Step;
 use crate::view::view;
-use bcode::{write_begin, write_definition, write_end};
 use bemit::NameEntry;
 use blex::Lexeme;
 use bnames::NameTable;
 use bread::{Halt, Parser, Tokens, definition};
-use bword::{ByteIn, ByteOut, Edition};
+use bword::{ByteIn, Edition};
 use std::alloc::Global;
 use std::marker::Model;
 use std::snapshot::Snapshot;
@@ -25,7 +25,7 @@ use std::snapshot::Snapshot;
 ///
 /// It holds one definition, one token after it and the names that are defined.
 #[derive(Drop)]
-pub struct Compiler<I: ByteIn, O: ByteOut> {
+pub struct Compiler<I: ByteIn, O: CodeOut> {
     // What the ends were at first, for contracts alone: these take no room.
     first_input: Snapshot<I>,
     first_out: Snapshot<O>,
@@ -37,7 +37,7 @@ pub struct Compiler<I: ByteIn, O: ByteOut> {
     is_closed: bool,
 }
 
-impl<I: ByteIn, O: ByteOut> Model for Compiler<I, O> {
+impl<I: ByteIn, O: CodeOut> Model for Compiler<I, O> {
     ghost use Rattle.std.specs.Prelude.{◌≡◌, false};
     ghost use Rattle.std.specs.Map.{keys_of};
     ghost use Rattle.bparse.specs.Compilers.{Compiler, MoreCanBeWritten, compiler_of, compiler_start};
@@ -55,7 +55,7 @@ impl<I: ByteIn, O: ByteOut> Model for Compiler<I, O> {
         c.parser.tokens (keys_of c.names) (O.outgoing c.out) (O.lender c.out) c.is_begun c.is_closed) };
 }
 
-impl<I: ByteIn, O: ByteOut> Compiler<I, O> {
+impl<I: ByteIn, O: CodeOut> Compiler<I, O> {
     /// A compiler of the first edition that has read and written nothing.
     pub fn new(alloc: Global, input: I, out: O) -> Self
         ensures { result ≡ compilers.new (compiler_start editions.One (I.incoming input) (I.lender input) (O.outgoing out) (O.lender out)) }
@@ -172,32 +172,34 @@ impl<I: ByteIn, O: ByteOut> Compiler<I, O> {
 }
 
 // Reads and writes the next definition, after what a text of the edition begins with.
-fn compile_next<I: ByteIn, O: ByteOut>(
+fn compile_next<I: ByteIn, O: CodeOut>(
     edition: Edition,
     is_begun: bool,
     parser: &mut Parser<I>,
     names: &mut NameTable,
     out: &mut O,
 ) -> Result<(), Step>
-    requires { IsReady parser.old.tokens }
+    requires ready { IsReady parser.old.tokens }
+    requires source { AreOfSource parser.old.tokens }
     ensures gives { GivesNext (to_begin is_begun edition) (point parser.old.tokens (keys_of names.old) (O.outgoing out.old)) result
         (point parser.new.tokens (keys_of names.new) (O.outgoing out.new)) }
     ensures ready { OnOk result (IsReady parser.new.tokens) }
     ensures same { O.lender out.new ≡ O.lender out.old }
 {
     if !is_begun {
-        write_begin(edition, out)?;
+        out.begin(edition)?;
     }
     compile_definition(parser, names, out)
 }
 
 // Reads and writes the next definition, or tells why none was written.
-fn compile_definition<I: ByteIn, O: ByteOut>(
+fn compile_definition<I: ByteIn, O: CodeOut>(
     parser: &mut Parser<I>,
     names: &mut NameTable,
     out: &mut O,
 ) -> Result<(), Step>
-    requires { IsReady parser.old.tokens }
+    requires ready { IsReady parser.old.tokens }
+    requires source { AreOfSource parser.old.tokens }
     ensures gives { PointGives (point parser.old.tokens (keys_of names.old) (O.outgoing out.old)) result
         (point parser.new.tokens (keys_of names.new) (O.outgoing out.new)) }
     ensures ready { OnOk result (IsReady parser.new.tokens) }
@@ -205,7 +207,7 @@ fn compile_definition<I: ByteIn, O: ByteOut>(
 {
     parser.tokens.look()?;
     if is_at_end(&parser.tokens) {
-        write_end(out)?;
+        out.end()?;
         return Err(Step::Finished);
     }
     let header = match definition(parser, names) {
@@ -219,7 +221,7 @@ fn compile_definition<I: ByteIn, O: ByteOut>(
     parser.draft.resolve();
     // A name counts alone, without a value.
     names.insert(header.name, 0)?;
-    write_definition(view(&header, &parser.draft), out)?;
+    out.put(&view(&header, &parser.draft))?;
     Ok(())
 }
 

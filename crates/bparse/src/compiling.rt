@@ -2,12 +2,15 @@
 ghost use Rattle.std.specs.Prelude.{◌≡◌};
 ghost use Rattle.bword.specs.declared.edition.Edition.TheVariants as editions;
 ghost use Rattle.blang.specs.Compiles.{CompileHeadline, Compiles};
+ghost use Rattle.bparse.specs.CodeLists.{empty_list, outgoing_list};
 ghost use Rattle.bparse.specs.Compilers as compilers;
 ghost use Rattle.bparse.specs.Compiles.{CodeGives, LastGives, run_of};
 ghost use Rattle.bparse.specs.Watches.{KeptAll, Watched};
 ghost use Rattle.blang.specs.declared.status.TheConstants.{DONE};
 ghost use Rattle.bparse.specs.Excluded.{Excluded};
 
+use crate::code_list::CodeList;
+use crate::code_out::CodeOut;
 use crate::compiler::Compiler;
 use crate::diagnostic::write_diagnostic;
 use crate::step::Step;
@@ -77,22 +80,59 @@ pub fn compile_watched<I: ByteIn, O: ByteOut, D: ByteOut, W: Watcher>(
     ensures watched { result ≡ DONE → KeptAll edition (I.incoming source.old) (I.incoming source.new)
         (W.lines watcher.old) (W.lines watcher.new) }
 {
-    match compile_code(alloc, source, code, watcher, edition) {
-        Step::Finished => status::DONE,
+    let (status, code) = compile_and_tell(alloc, source, code, diag, watcher, edition);
+    let _ = code;
+    status
+}
+
+/// Compiles a source as `compile_edition` does, and keeps its definitions in place of their text.
+pub fn compile_list<I: ByteIn, D: ByteOut>(
+    alloc: Global,
+    source: &mut I,
+    diag: &mut D,
+    edition: Edition,
+) -> (Status, CodeList)
+    ensures compiles { Compiles (run_of edition (I.incoming source.old) (I.incoming source.new)
+        (outgoing_list empty_list) (outgoing_list result.1) (D.outgoing diag.old) (D.outgoing diag.new) result.0) }
+    ensures source_lender { I.lender source.new ≡ I.lender source.old }
+    ensures diag_lender { D.lender diag.new ≡ D.lender diag.old }
+{
+    let code = CodeList::new(alloc);
+    compile_and_tell(alloc, source, code, diag, &mut Unwatched, edition)
+}
+
+// Compiles to what takes the code part by part, and gives that back.
+fn compile_and_tell<I: ByteIn, C: CodeOut, D: ByteOut, W: Watcher>(
+    alloc: Global,
+    source: &mut I,
+    code: C,
+    diag: &mut D,
+    watcher: &mut W,
+    edition: Edition,
+) -> (Status, C)
+    ensures compiles { Compiles (run_of edition (I.incoming source.old) (I.incoming source.new)
+        (C.outgoing code) (C.outgoing result.1) (D.outgoing diag.old) (D.outgoing diag.new) result.0) }
+    ensures source_lender { I.lender source.new ≡ I.lender source.old }
+    ensures code_lender { C.lender result.1 ≡ C.lender code }
+    ensures diag_lender { D.lender diag.new ≡ D.lender diag.old }
+    ensures watched { result.0 ≡ DONE → KeptAll edition (I.incoming source.old) (I.incoming source.new)
+        (W.lines watcher.old) (W.lines watcher.new) }
+{
+    let (last, code) = compile_into(alloc, source, code, watcher, edition);
+    match last {
+        Step::Finished => (status::DONE, code),
         Step::Fault(fault) => match write_diagnostic(&fault, diag) {
-            Ok(()) => status::FAULT,
-            Err(fault) => status::of_fault(fault),
+            Ok(()) => (status::FAULT, code),
+            Err(fault) => (status::of_fault(fault), code),
         },
-        Step::Device => status::DEVICE,
-        Step::Memory => status::MEMORY,
+        Step::Device => (status::DEVICE, code),
+        Step::Memory => (status::MEMORY, code),
         Step::Written | Step::Closed => unreachable!(),
     }
 }
 
 /// Compiles all definitions from one end to the other, and gives the last answer. The watcher looks at the compiler
 /// after each one.
-// The compiler is large, and a caller that had it inlined would keep its room in each frame.
-#[inline(never)]
 pub fn compile_code<I: ByteIn, O: ByteOut, W: Watcher>(
     alloc: Global,
     source: &mut I,
@@ -106,16 +146,36 @@ pub fn compile_code<I: ByteIn, O: ByteOut, W: Watcher>(
     ensures source_lender { I.lender source.new ≡ I.lender source.old }
     ensures code_lender { O.lender code.new ≡ O.lender code.old }
 {
-    let mut compiler = Compiler::with_edition(alloc, source, code, edition);
-    let last = compile_all(&mut compiler, watcher);
-    let (source, code) = compiler.into_ends();
-    let _ = source;
+    let (last, code) = compile_into(alloc, source, code, watcher, edition);
     let _ = code;
     last
 }
 
+// The same, to what takes the code part by part.
+// The compiler is large, and a caller that had it inlined would keep its room in each frame.
+#[inline(never)]
+fn compile_into<I: ByteIn, C: CodeOut, W: Watcher>(
+    alloc: Global,
+    source: &mut I,
+    code: C,
+    watcher: &mut W,
+    edition: Edition,
+) -> (Step, C)
+    ensures gives { CodeGives edition (I.incoming source.old) (C.outgoing code) result.0
+        (I.incoming source.new) (C.outgoing result.1) }
+    ensures watched { Watched edition (I.incoming source.old) (W.lines watcher.old) result.0 (I.incoming source.new) (W.lines watcher.new) }
+    ensures source_lender { I.lender source.new ≡ I.lender source.old }
+    ensures code_lender { C.lender result.1 ≡ C.lender code }
+{
+    let mut compiler = Compiler::with_edition(alloc, source, code, edition);
+    let last = compile_all(&mut compiler, watcher);
+    let (source, code) = compiler.into_ends();
+    let _ = source;
+    (last, code)
+}
+
 // Compiles definitions until there is none, or one can't be written.
-fn compile_all<I: ByteIn, O: ByteOut, W: Watcher>(
+fn compile_all<I: ByteIn, O: CodeOut, W: Watcher>(
     compiler: &mut Compiler<I, O>,
     watcher: &mut W,
 ) -> Step

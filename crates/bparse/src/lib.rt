@@ -1,6 +1,8 @@
 //! The compiler: a source's bytes in, its code text out, one definition a call.
 #![tactic(auto)]
 
+mod code_list;
+mod code_out;
 mod compiler;
 mod compiling;
 mod diagnostic;
@@ -10,9 +12,12 @@ mod watcher;
 
 pub use bemit::{EntryKind, NameEntry};
 pub use blang::status::{self, Status};
+pub use code_list::CodeList;
+pub use code_out::CodeOut;
 pub use compiler::Compiler;
 pub use compiling::{
-    compile, compile_code, compile_edition, compile_watched, wrong_compilings_are_excluded,
+    compile, compile_code, compile_edition, compile_list, compile_watched,
+    wrong_compilings_are_excluded,
 };
 pub use diagnostic::write_diagnostic;
 pub use step::Step;

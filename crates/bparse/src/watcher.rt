@@ -2,9 +2,10 @@
 ghost use Rattle.std.specs.Prelude.{ℕ, List, Option, None};
 ghost use Rattle.bparse.specs.Watches.{WatchGives};
 
+use crate::code_out::CodeOut;
 use crate::compiler::Compiler;
 use crate::step::Step;
-use bword::{ByteIn, ByteOut};
+use bword::ByteIn;
 
 /// What looks on while a whole source is compiled, and can't change what comes of it.
 pub trait Watcher {
@@ -12,7 +13,7 @@ pub trait Watcher {
     ghost lines: { Self → Option (List ℕ) };
 
     /// Looks at the compiler after a call that gave this answer; the last one too.
-    fn watch<I: ByteIn, O: ByteOut>(&mut self, compiler: &Compiler<I, O>, step: &Step)
+    fn watch<I: ByteIn, O: CodeOut>(&mut self, compiler: &Compiler<I, O>, step: &Step)
         ensures { WatchGives (lines self.old) step.now compiler.now.tokens.noted.lines (lines self.new) };
 }
 
@@ -24,5 +25,5 @@ impl Watcher for Unwatched {
     ghost lines = { λ w. None };
 
     #[inline]
-    fn watch<I: ByteIn, O: ByteOut>(&mut self, _compiler: &Compiler<I, O>, _step: &Step) {}
+    fn watch<I: ByteIn, O: CodeOut>(&mut self, _compiler: &Compiler<I, O>, _step: &Step) {}
 }

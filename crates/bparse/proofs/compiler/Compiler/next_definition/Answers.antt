@@ -1,29 +1,32 @@
 use Rattle.std.specs.Map.{keys_of}
 use Rattle.bparse.specs.Steps.{point}
 use Rattle.bparse.specs.Compilers.{compiler_start}
-use Rattle.bparse.proofs.SinceSteps.{goes_on_open, written_now, stopped_now}
+use Rattle.bparse.proofs.SinceSteps.{of_source, goes_on_open, written_now, stopped_now}
 use Rattle.bparse.proofs.compiler.Compiler.next_definition.Goals as goal
+
+pub compile_next-requires-clause-source : goal.compile_next-requires-clause-source
+compile_next-requires-clause-source g c = of_source _ (c.self.invariant c.if-self.false)
 
 pub invariant_of-self : goal.invariant_of-self
 invariant_of-self g c = λ e.
     let i = c.self.inside in
     let n = c.compile_next.new in
-    goes_on_open (compiler_start i.edition (g.I.ByteIn.incoming i.first_input.value) (g.I.ByteIn.lender i.first_input.value) (g.O.ByteOut.outgoing i.first_out.value) (g.O.ByteOut.lender i.first_out.value))
-    (point i.parser.tokens (keys_of i.names) (g.O.ByteOut.outgoing i.out)) (point n.parser.tokens (keys_of n.names) (g.O.ByteOut.outgoing n.out)) (g.O.ByteOut.lender i.out) (g.O.ByteOut.lender n.out) i.is_begun i.is_closed c.if-self.false (c.self.invariant c.if-self.false)
+    goes_on_open (compiler_start i.edition (g.I.ByteIn.incoming i.first_input.value) (g.I.ByteIn.lender i.first_input.value) (g.O.CodeOut.outgoing i.first_out.value) (g.O.CodeOut.lender i.first_out.value))
+    (point i.parser.tokens (keys_of i.names) (g.O.CodeOut.outgoing i.out)) (point n.parser.tokens (keys_of n.names) (g.O.CodeOut.outgoing n.out)) (g.O.CodeOut.lender i.out) (g.O.CodeOut.lender n.out) i.is_begun i.is_closed c.if-self.false (c.self.invariant c.if-self.false)
     _ c.in-Ok.ensures.gives c.in-Ok.ensures.ready
 
 pub returns-in-Ok-clause-gives : goal.returns-in-Ok-clause-gives
 returns-in-Ok-clause-gives g c =
     let i = c.self.inside in
     let n = c.compile_next.new in
-    written_now (compiler_start i.edition (g.I.ByteIn.incoming i.first_input.value) (g.I.ByteIn.lender i.first_input.value) (g.O.ByteOut.outgoing i.first_out.value) (g.O.ByteOut.lender i.first_out.value))
-    (point i.parser.tokens (keys_of i.names) (g.O.ByteOut.outgoing i.out)) (point n.parser.tokens (keys_of n.names) (g.O.ByteOut.outgoing n.out)) (g.O.ByteOut.lender i.out) (g.O.ByteOut.lender n.out) i.is_begun i.is_closed c.if-self.false (c.self.invariant c.if-self.false)
+    written_now (compiler_start i.edition (g.I.ByteIn.incoming i.first_input.value) (g.I.ByteIn.lender i.first_input.value) (g.O.CodeOut.outgoing i.first_out.value) (g.O.CodeOut.lender i.first_out.value))
+    (point i.parser.tokens (keys_of i.names) (g.O.CodeOut.outgoing i.out)) (point n.parser.tokens (keys_of n.names) (g.O.CodeOut.outgoing n.out)) (g.O.CodeOut.lender i.out) (g.O.CodeOut.lender n.out) i.is_begun i.is_closed c.if-self.false (c.self.invariant c.if-self.false)
     c.args.self.now c.self.view_is _ c.in-Ok.ensures.gives
 
 pub returns-in-Err-clause-gives : goal.returns-in-Err-clause-gives
 returns-in-Err-clause-gives g c =
     let i = c.self.inside in
     let n = c.compile_next.new in
-    stopped_now (compiler_start i.edition (g.I.ByteIn.incoming i.first_input.value) (g.I.ByteIn.lender i.first_input.value) (g.O.ByteOut.outgoing i.first_out.value) (g.O.ByteOut.lender i.first_out.value))
-    (point i.parser.tokens (keys_of i.names) (g.O.ByteOut.outgoing i.out)) (point n.parser.tokens (keys_of n.names) (g.O.ByteOut.outgoing n.out)) (g.O.ByteOut.lender i.out) (g.O.ByteOut.lender n.out) i.is_begun i.is_closed c.if-self.false (c.self.invariant c.if-self.false)
+    stopped_now (compiler_start i.edition (g.I.ByteIn.incoming i.first_input.value) (g.I.ByteIn.lender i.first_input.value) (g.O.CodeOut.outgoing i.first_out.value) (g.O.CodeOut.lender i.first_out.value))
+    (point i.parser.tokens (keys_of i.names) (g.O.CodeOut.outgoing i.out)) (point n.parser.tokens (keys_of n.names) (g.O.CodeOut.outgoing n.out)) (g.O.CodeOut.lender i.out) (g.O.CodeOut.lender n.out) i.is_begun i.is_closed c.if-self.false (c.self.invariant c.if-self.false)
     c.args.self.now c.self.view_is c.in-Err.step c.in-Err.ensures.gives

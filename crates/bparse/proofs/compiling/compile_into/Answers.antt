@@ -1,5 +1,5 @@
 use Rattle.std.proofs.Common.{rules, ap}
-use Rattle.bparse.proofs.compiling.compile_code.Goals as goal
+use Rattle.bparse.proofs.compiling.compile_into.Goals as goal
 
 pub returns-clause-gives : goal.returns-clause-gives
 returns-clause-gives g c = record {

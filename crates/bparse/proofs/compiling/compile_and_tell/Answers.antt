@@ -1,7 +1,7 @@
 use Rattle.std.proofs.Common.{refl}
 use Rattle.bparse.proofs.CompileSteps.{compiles_between, done, faulty, cut_off, device, memory}
 use Rattle.bparse.proofs.CompileHeadlines.{compile_headline}
-use Rattle.bparse.proofs.compiling.compile_watched.Goals as goal
+use Rattle.bparse.proofs.compiling.compile_and_tell.Goals as goal
 
 pub returns-in-Finished-clause-compiles : goal.returns-in-Finished-clause-compiles
 returns-in-Finished-clause-compiles g c = compiles_between _ _ c.in-Finished.ensures.gives (λ first last l. done first last _ _ l refl)
