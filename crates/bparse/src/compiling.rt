@@ -80,8 +80,8 @@ pub fn compile_watched<I: ByteIn, O: ByteOut, D: ByteOut, W: Watcher>(
     ensures watched { result ≡ DONE → KeptAll edition (I.incoming source.old) (I.incoming source.new)
         (W.lines watcher.old) (W.lines watcher.new) }
 {
-    let (status, code) = compile_and_tell(alloc, source, code, diag, watcher, edition);
-    let _ = code;
+    let (status, end) = compile_and_tell(alloc, source, code, diag, watcher, edition);
+    let _ = end;
     status
 }
 
@@ -146,8 +146,8 @@ pub fn compile_code<I: ByteIn, O: ByteOut, W: Watcher>(
     ensures source_lender { I.lender source.new ≡ I.lender source.old }
     ensures code_lender { O.lender code.new ≡ O.lender code.old }
 {
-    let (last, code) = compile_into(alloc, source, code, watcher, edition);
-    let _ = code;
+    let (last, end) = compile_into(alloc, source, code, watcher, edition);
+    let _ = end;
     last
 }
 

@@ -1,36 +1,20 @@
 use Rattle.std.proofs.Common.{refl}
-use Rattle.bparse.proofs.CompileSteps.{compiles_between, done, faulty, cut_off, device, memory}
-use Rattle.bparse.proofs.CompileHeadlines.{compile_headline}
+use Rattle.bparse.proofs.CompileSteps.{answers, compiles_between, done, faulty, cut_off, device, memory}
 use Rattle.bparse.proofs.compiling.compile_and_tell.Goals as goal
 
 pub returns-in-Finished-clause-compiles : goal.returns-in-Finished-clause-compiles
-returns-in-Finished-clause-compiles g c = compiles_between _ _ c.in-Finished.ensures.gives (λ first last l. done first last _ _ l refl)
+returns-in-Finished-clause-compiles g c = compiles_between _ _ (answers c.in-Finished.is c.compile_into-last.ensures.gives) (λ first last l. done first last _ _ l refl)
 
 pub returns-in-Ok-clause-compiles : goal.returns-in-Ok-clause-compiles
 returns-in-Ok-clause-compiles g c =
-    compiles_between _ _ c.in-Fault.ensures.gives (λ first last l. faulty first last _ _ c.in-Fault.fault l c.in-Ok.ensures.gives)
+    compiles_between _ _ (answers c.in-Fault.is c.compile_into-last.ensures.gives) (λ first last l. faulty first last _ _ c.in-Fault.fault l c.in-Ok.ensures.gives)
 
 pub returns-in-Err-clause-compiles : goal.returns-in-Err-clause-compiles
 returns-in-Err-clause-compiles g c =
-    rw c.of_fault.ensures (compiles_between _ _ c.in-Fault.ensures.gives (λ first last l. cut_off first last _ _ c.in-Fault.fault c.in-Err.fault l c.in-Err.ensures.gives))
+    rw c.of_fault.ensures (compiles_between _ _ (answers c.in-Fault.is c.compile_into-last.ensures.gives) (λ first last l. cut_off first last _ _ c.in-Fault.fault c.in-Err.fault l c.in-Err.ensures.gives))
 
 pub returns-in-Device-clause-compiles : goal.returns-in-Device-clause-compiles
-returns-in-Device-clause-compiles g c = compiles_between _ _ c.in-Device.ensures.gives (λ first last l. device first last _ _ l refl)
+returns-in-Device-clause-compiles g c = compiles_between _ _ (answers c.in-Device.is c.compile_into-last.ensures.gives) (λ first last l. device first last _ _ l refl)
 
 pub returns-in-Memory-clause-compiles : goal.returns-in-Memory-clause-compiles
-returns-in-Memory-clause-compiles g c = compiles_between _ _ c.in-Memory.ensures.gives (λ first last l. memory first last _ _ l refl)
-
-pub returns-in-Finished-clause-headline : goal.returns-in-Finished-clause-headline
-returns-in-Finished-clause-headline g c = compile_headline _ (returns-in-Finished-clause-compiles g c)
-
-pub returns-in-Ok-clause-headline : goal.returns-in-Ok-clause-headline
-returns-in-Ok-clause-headline g c = compile_headline _ (returns-in-Ok-clause-compiles g c)
-
-pub returns-in-Err-clause-headline : goal.returns-in-Err-clause-headline
-returns-in-Err-clause-headline g c = compile_headline _ (returns-in-Err-clause-compiles g c)
-
-pub returns-in-Device-clause-headline : goal.returns-in-Device-clause-headline
-returns-in-Device-clause-headline g c = compile_headline _ (returns-in-Device-clause-compiles g c)
-
-pub returns-in-Memory-clause-headline : goal.returns-in-Memory-clause-headline
-returns-in-Memory-clause-headline g c = compile_headline _ (returns-in-Memory-clause-compiles g c)
+returns-in-Memory-clause-compiles g c = compiles_between _ _ (answers c.in-Memory.is c.compile_into-last.ensures.gives) (λ first last l. memory first last _ _ l refl)
