@@ -4,9 +4,9 @@ ghost use Rattle.bcheck.specs.Findings.{IsCompiled};
 
 use crate::spans::Source;
 use blang::{Definition, Diagnostic};
-use bparse::{Compiler, Step, Watcher};
+use bparse::{CodeOut, Compiler, Step, Watcher};
 use btools::compile_source;
-use bword::{ByteIn, ByteOut};
+use bword::ByteIn;
 use std::alloc::{AllocError, Global};
 
 /// The tokens of a definition: from one place among all tokens to another.
@@ -91,7 +91,7 @@ impl TokenCounter {
 impl Watcher for TokenCounter {
     ghost lines = { λ w. None };
 
-    fn watch<I: ByteIn, O: ByteOut>(&mut self, compiler: &Compiler<I, O>, step: &Step) {
+    fn watch<I: ByteIn, O: CodeOut>(&mut self, compiler: &Compiler<I, O>, step: &Step) {
         self.end = place(compiler.tokens_taken());
         match step {
             Step::Written => {

@@ -5,10 +5,10 @@ ghost use Rattle.blang.specs.Headline.{GoesOff, Headline};
 ghost use Rattle.blang.specs.Reports.{run_ends};
 ghost use Rattle.brun.specs.OneRun.{OneCompilationIsKnown, OneRunIsKnown};
 
-use crate::text::run_text;
+use crate::text::run_definitions;
 use blang::status::{self, Status};
-use bparse::compile_edition;
-use bword::{ByteIn, ByteOut, Edition, MemOut};
+use bparse::compile_list;
+use bword::{ByteIn, ByteOut, Edition};
 use std::alloc::Global;
 
 /// Compiles a source of the first edition and runs its program, as `go_edition` does.
@@ -58,12 +58,11 @@ pub fn go_edition<S: ByteIn, I: ByteIn, O: ByteOut, D: ByteOut>(
     ensures out_lender { O.lender out.new ≡ O.lender out.old }
     ensures diag_lender { D.lender diag.new ≡ D.lender diag.old }
 {
-    let mut code = MemOut::new(alloc);
-    let status = compile_edition(alloc, source, &mut code, diag, edition);
+    let (status, code) = compile_list(alloc, source, diag, edition);
     if status != status::DONE {
         return status;
     }
-    run_text(alloc, code.bytes(), input, out, diag, steps)
+    run_definitions(alloc, code.into_definitions(), input, out, diag, steps)
 }
 
 /// The headlines say something: by them alone one run and one compilation over streams in memory are known.

@@ -48,8 +48,8 @@ pub(crate) fn refuse<D: ByteOut>(fault: CodeFault, diag: &mut D) -> Status
     }
 }
 
-// Runs definitions, if they load.
-fn run_definitions<I: ByteIn, O: ByteOut, D: ByteOut>(
+/// Runs definitions, if they load.
+pub(crate) fn run_definitions<I: ByteIn, O: ByteOut, D: ByteOut>(
     alloc: Global,
     definitions: Vec<Definition>,
     input: &mut I,

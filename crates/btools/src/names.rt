@@ -2,8 +2,8 @@
 ghost use Rattle.std.specs.Prelude.{◌≡◌, ◌++◌, [], OnOk, IfSome, IfNone, Some, None};
 ghost use Rattle.btools.specs.KeptLines.{lines_kept};
 
-use bparse::{Compiler, EntryKind, NameEntry, Step, Watcher};
-use bword::{ByteIn, ByteOut, Name};
+use bparse::{CodeOut, Compiler, EntryKind, NameEntry, Step, Watcher};
+use bword::{ByteIn, Name};
 use std::alloc::{AllocError, Global};
 
 /// A word of a frame that has a name.
@@ -51,7 +51,7 @@ pub struct Names {
 
 impl Names {
     // Adds what the compiler tells of the definition that it wrote last.
-    fn add<I: ByteIn, O: ByteOut>(
+    fn add<I: ByteIn, O: CodeOut>(
         &mut self,
         alloc: Global,
         compiler: &Compiler<I, O>,
@@ -109,7 +109,7 @@ impl NameKeeper {
 impl Watcher for NameKeeper {
     ghost lines = { λ k. lines_kept k };
 
-    fn watch<I: ByteIn, O: ByteOut>(&mut self, compiler: &Compiler<I, O>, step: &Step) {
+    fn watch<I: ByteIn, O: CodeOut>(&mut self, compiler: &Compiler<I, O>, step: &Step) {
         if let Step::Written = step {
             self.is_refused = self.is_refused || self.names.add(self.alloc, compiler).is_err();
         }
