@@ -1,12 +1,13 @@
 -- Promise: a list of definitions, seen as a stream that their text is written to.
-use Rattle.std.specs.Prelude.{ℕ, Bool, true, false, List, [], ◌++◌, flat_map, if◌then◌else◌}
+use Rattle.std.specs.Prelude.{◌≡◌, ℕ, Bool, true, false, List, [], ◌∷◌, ◌++◌, Some, codes, if◌then◌else◌}
+use Rattle.std.specs.List.{flat_map}
 use Rattle.bword.specs.declared.edition.Edition.{Edition}
 use Rattle.bword.specs.declared.edition.Edition.TheVariants as editions
 use Rattle.bword.specs.ByteEnds.{Kept, Outgoing, outgoing_of}
 use Rattle.blang.specs.declared.code.Definition.{Definition}
 use Rattle.blang.specs.Text.{definition_text, end_text, opening}
 
--- the edition of a text, its definitions, whether its last line is there, and how often memory was refused
+-- The edition of a text, its definitions, whether its last line is there, and how often memory was refused.
 pub record CodeList : Type 0 where
   pub edition : Edition
   pub definitions : List Definition
@@ -24,3 +25,11 @@ kept_of l = record { bytes = list_text l; refusals = l.refusals }
 
 abbrev pub outgoing_list : CodeList → Outgoing
 outgoing_list l = outgoing_of (kept_of l)
+
+-- texts of lists, with and without the lines around the definitions, and what is seen of one
+pub record ListTexts : Type 0 where
+  pub none : list_text empty_list ≡ []
+  pub lines : list_text (record empty_list { edition = editions.Two; is_ended = true }) ≡ codes "B 2\nE\n"
+  pub order : (a b : Definition) → list_text (record empty_list { definitions = a ∷ b ∷ []; is_ended = true })
+      ≡ definition_text a ++ (definition_text b ++ end_text)
+  pub seen : outgoing_list (record empty_list { refusals = 2 }) ≡ record { written = Some []; failures = 0; refusals = 2 }

@@ -2,7 +2,7 @@
 ghost use Rattle.std.specs.Prelude.{◌≡◌};
 ghost use Rattle.bword.specs.declared.edition.Edition.TheVariants as editions;
 ghost use Rattle.blang.specs.Compiles.{CompileHeadline, Compiles};
-ghost use Rattle.bparse.specs.CodeLists.{empty_list, outgoing_list};
+ghost use Rattle.bparse.specs.CodeLists.{ListTexts, empty_list, outgoing_list};
 ghost use Rattle.bparse.specs.Compilers as compilers;
 ghost use Rattle.bparse.specs.Compiles.{CodeGives, LastGives, run_of};
 ghost use Rattle.bparse.specs.Watches.{KeptAll, Watched};
@@ -197,5 +197,6 @@ fn compile_all<I: ByteIn, O: CodeOut, W: Watcher>(
 /// What no compiling gives: other code than the source's, a line where there is no fault, none where there is one,
 /// a failure that isn't told or was none, or a fault after tokens that it doesn't want.
 pub fn wrong_compilings_are_excluded()
-    ensures { Excluded }
+    ensures excluded { Excluded }
+    ensures lists { ListTexts }
 {}
