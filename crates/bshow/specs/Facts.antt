@@ -1,5 +1,5 @@
 -- Promise: what a page tells beside its rows.
-use Rattle.std.specs.Prelude.{ℕ, ◌==◌, List, [], ◌++◌, codes, decimal, map, slice_index, zip, if◌then◌else◌}
+use Rattle.std.specs.Prelude.{ℕ, ◌==◌, List, [], ◌++◌, codes, decimal, length, map, max, slice_index, zip, if◌then◌else◌}
 use Rattle.std.specs.List.{flat_map, range_with_len}
 use Rattle.blang.specs.declared.code.Definition.{Definition}
 use Rattle.blang.specs.declared.code.Definition.TheVariants as definition
@@ -24,17 +24,20 @@ file_text f = codes "[\"" ++ escaped f.name ++ codes "\"," ++ decimal f.lines ++
 abbrev pub files_text : Files → List ℕ
 files_text files = codes "[" ++ file_text files.first ++ flat_map file_text files.rest ++ codes "0]"
 
--- a definition: where it lies, and its name; of a function also its parameters and the words of its frame
+-- a definition: where it lies, its name, and how large it is
 abbrev pub definition_name : Definition → List ℕ
 definition_name d = (shape_of d).name
 
-abbrev pub frame_numbers : Definition → List ℕ
-frame_numbers (definition.Function f) = codes "," ++ decimal f.parameters ++ codes "," ++ decimal f.frame
-frame_numbers d = []
+-- how large a definition is: parameters and words of the frame of a function, the words of an external before its
+-- strings, and in brackets those of a vector after its own word
+abbrev pub sizes_text : Definition → List ℕ
+sizes_text (definition.Function f) = codes "," ++ decimal f.parameters ++ codes "," ++ decimal f.frame
+sizes_text (definition.Simple x) = codes "," ++ decimal (max 1 (length x.values))
+sizes_text (definition.Vector v) = codes ",[" ++ decimal (max v.words (length v.values)) ++ codes "]"
 
 abbrev pub definition_text : (address : ℕ) → Definition → List ℕ
 definition_text address d =
-    codes "[" ++ decimal address ++ codes ",\"" ++ escaped (definition_name d) ++ codes "\"" ++ frame_numbers d
+    codes "[" ++ decimal address ++ codes ",\"" ++ escaped (definition_name d) ++ codes "\"" ++ sizes_text d
     ++ codes "],"
 
 abbrev pub spot_text : Spot × Definition → List ℕ

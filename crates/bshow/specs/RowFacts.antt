@@ -5,6 +5,8 @@ use Rattle.std.specs.Fmt.{digits}
 use Rattle.blang.specs.declared.code.Definition.{Definition}
 use Rattle.blang.specs.declared.code.Definition.TheVariants as definition
 use Rattle.blang.specs.declared.code.Instr.TheVariants as instr
+use Rattle.blang.specs.declared.code.Ival.{Ival}
+use Rattle.blang.specs.declared.code.Ival.TheVariants as ival
 use Rattle.blang.specs.declared.run.Library.TheVariants.{Getchar}
 use Rattle.blang.specs.declared.run.Outcome.TheVariants as outcome
 use Rattle.blang.specs.declared.run.Report.TheVariants as report
@@ -15,7 +17,8 @@ use Rattle.blang.specs.Machine.{Call, Loaded}
 use Rattle.blang.specs.Reports.{report_text}
 use Rattle.bsources.specs.Files.{File, Files, file_of}
 use Rattle.bshow.specs.Escapes.{escaped, is_safe, unescaped}
-use Rattle.bshow.specs.Facts.{calls_text, definitions_text, files_text, no_run_text, sentence, some_word, trap_words}
+use Rattle.bshow.specs.Facts.{calls_text, definitions_text, files_text, no_run_text, sentence, sizes_text, some_word}
+use Rattle.bshow.specs.Facts.{trap_words}
 use Rattle.bshow.specs.Facts.{unbegun_sentence}
 use Rattle.bshow.specs.OwnTexts.{own_texts}
 use Rattle.bshow.specs.Rows.{call_cells, done_cells, is_getchar, words_cell}
@@ -141,9 +144,25 @@ two_definitions =
     })
     ∷ []
 
-definitions_told : definitions_text two_definitions ≡ codes "[[7,\"x\"],[8,\"main\",0,5],9]"
+definitions_told : definitions_text two_definitions ≡ codes "[[7,\"x\",1],[8,\"main\",0,5],9]"
 unfolding digits
 definitions_told = refl
+
+-- of an external the words before its strings, and of a vector in brackets those after its own word
+simple_of : List Ival → Definition
+simple_of values = definition.Simple (record { name = codes "s"; values = values; strings = 4 ∷ [] })
+
+vector_of : (words : ℕ) → List Ival → Definition
+vector_of words values = definition.Vector (record { name = codes "v"; words = words; values = values; strings = 4 ∷ [] })
+
+two_values : List Ival
+two_values = ival.Number 1 ∷ ival.Text 0 ∷ []
+
+sizes_told :
+    map sizes_text (simple_of [] ∷ simple_of two_values ∷ vector_of 3 two_values ∷ vector_of 1 two_values ∷ [])
+    ≡ codes ",1" ∷ codes ",2" ∷ codes ",[3]" ∷ codes ",[2]" ∷ []
+unfolding digits simple_of vector_of two_values
+sizes_told = refl
 
 no_run_told : no_run_text ≡ codes ",\"calls_at\":0,\"calls\":[0],\"words\":[0],\"heard\":\"\",\"output\":\"\"}"
 no_run_told = refl

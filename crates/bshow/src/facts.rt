@@ -2,7 +2,7 @@
 ghost use Rattle.std.specs.Prelude.{◌≡◌, ◌≤◌, ◌++◌, OnOk, map};
 ghost use Rattle.blang.specs.Layout.{data_end, shape_of};
 ghost use Rattle.bsources.specs.Files.{file_shown, files_shown};
-ghost use Rattle.bshow.specs.Facts.{calls_text, definition_text, definitions_text, file_text, files_text, frame_numbers, frame_text, frame_word_text};
+ghost use Rattle.bshow.specs.Facts.{calls_text, definition_text, definitions_text, file_text, files_text, sizes_text, frame_text, frame_word_text};
 ghost use Rattle.bshow.specs.OwnTexts.{FilesReadBack};
 ghost use Rattle.bshow.specs.Facts.{active_text, frames_text, memory_text, program_text, run_text, some_word};
 
@@ -90,12 +90,12 @@ fn push_definition(text: &mut Text, definition: &Definition, address: u32) -> Re
     text.push(b",\"")?;
     push_escaped(text, name_of(definition).as_bytes())?;
     text.push(b"\"")?;
-    push_frame_numbers(text, definition)?;
+    push_sizes(text, definition)?;
     text.push(b"],")
 }
 
-fn push_frame_numbers(text: &mut Text, definition: &Definition) -> Result<(), AllocError>
-    ensures { OnOk result (text.new ≡ text.old ++ frame_numbers definition.now) }
+fn push_sizes(text: &mut Text, definition: &Definition) -> Result<(), AllocError>
+    ensures { OnOk result (text.new ≡ text.old ++ sizes_text definition.now) }
 {
     match definition {
         Definition::Function(function) => {
@@ -105,7 +105,16 @@ fn push_frame_numbers(text: &mut Text, definition: &Definition) -> Result<(), Al
             text.push(b",")?;
             text.push_number(u64::from(parts.frame))
         }
-        Definition::Simple(_) | Definition::Vector(_) => text.push(b""),
+        Definition::Simple(simple) => {
+            text.push(b",")?;
+            text.push_number(simple.parts().values.len().max(1) as u64)
+        }
+        Definition::Vector(vector) => {
+            let parts = vector.parts();
+            text.push(b",[")?;
+            text.push_number((parts.words as usize).max(parts.values.len()) as u64)?;
+            text.push(b"]")
+        }
     }
 }
 

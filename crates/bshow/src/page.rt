@@ -14,9 +14,11 @@ pub const HEAD: &[u8] = b"\
 :root {\n\
 \x20 color-scheme: light dark;\n\
 \x20 --ink: #1a1a1a; --ground: #fff; --line: #767676; --now: #ffe58a; --new: #b9e6b9; --soft: #f1f1f1;\n\
+\x20 --aim: #bcd9ff;\n\
 }\n\
 @media (prefers-color-scheme: dark) {\n\
-\x20 :root { --ink: #ededed; --ground: #151515; --line: #8c8c8c; --now: #5b4a00; --new: #1d4d24; --soft: #262626 }\n\
+\x20 :root { --ink: #ededed; --ground: #151515; --line: #8c8c8c; --now: #5b4a00; --new: #1d4d24; --soft: #262626;\n\
+\x20   --aim: #123f73 }\n\
 }\n\
 body {\n\
 \x20 margin: 0 auto; max-width: 75rem; padding: .5rem;\n\
@@ -31,13 +33,17 @@ pre {\n\
 }\n\
 #source { max-height: 35vh; overflow: auto; padding: 0 }\n\
 #source > div { padding: 0 .4rem 0 3.2rem; text-indent: -2.8rem }\n\
+#source button { all: unset; cursor: pointer; white-space: pre; text-indent: 0 }\n\
+#source button:focus-visible { outline: 3px solid #2a7ae2 }\n\
+#source button[aria-pressed=\"true\"] { background: var(--aim); font-weight: bold; text-decoration: underline }\n\
 #source [aria-current] { background: var(--now); outline: 1px solid var(--line); outline-offset: -1px }\n\
 #source .file { font-weight: bold }\n\
 #controls {\n\
 \x20 position: sticky; top: 0; z-index: 1; padding: .3rem 0;\n\
 \x20 background: var(--ground); border-bottom: 1px solid var(--line);\n\
 }\n\
-#at { width: 100%; margin: .3rem 0 }\n\
+#at, #visit { width: 100%; margin: .3rem 0 }\n\
+[hidden] { display: none !important }\n\
 button {\n\
 \x20 font: inherit; color: inherit; background: var(--soft);\n\
 \x20 min-height: 2.4rem; padding: 0 .7rem; margin: .1rem 0; border: 1px solid var(--line); border-radius: .3rem;\n\
@@ -49,17 +55,32 @@ button {\n\
 \x20 #source { max-height: 70vh }\n\
 }\n\
 mark { background: var(--new); color: inherit; font-weight: bold; text-decoration: underline }\n\
+.aim { background: var(--aim); outline: 2px solid var(--line) }\n\
 .words { display: flex; flex-wrap: wrap; gap: .2rem }\n\
 .words > span { border: 1px solid var(--line); padding: 0 .3rem }\n\
 .words small, #memory small { opacity: .85 }\n\
+.words i { font-style: normal; overflow-wrap: anywhere }\n\
+.words i::before { content: \" \" }\n\
+#arrow { position: absolute; top: 0; left: 0; z-index: 2; overflow: visible; pointer-events: none }\n\
+#about { min-height: 1.4em; margin: .3rem 0 }\n\
 ol { margin: 0; padding-left: 1.6rem }\n\
 table { border-collapse: collapse }\n\
 th, td { border: 1px solid var(--line); padding: 0 .4rem; text-align: left; vertical-align: top }\n\
 .scroll { overflow: auto }\n\
-@media (max-width: 30rem) { button { font-size: .85rem; padding: 0 .35rem } #keys { display: none } }\n\
+@media (scripting: enabled) { #all:not(.shown) > .scroll { display: none } }\n\
+@media (max-width: 48rem) {\n\
+\x20 #source { max-height: 22vh }\n\
+\x20 #output { max-height: 12vh; overflow: auto }\n\
+}\n\
+@media (max-width: 30rem) {\n\
+\x20 h1 { font-size: 1rem }\n\
+\x20 h2 { margin: .3rem 0 .1rem }\n\
+\x20 button { font-size: .85rem; padding: 0 .35rem; min-height: 2rem }\n\
+\x20 #keys { display: none }\n\
+}\n\
 @media print {\n\
 \x20 :root { color-scheme: light; --ink: #000; --ground: #fff; --line: #767676; --now: #ffe58a; --new: #b9e6b9 }\n\
-\x20 #controls button, #at, #keys, #view:not([hidden]) ~ #all { display: none }\n\
+\x20 #controls button, #controls label, #at, #visit, #keys, #view:not([hidden]) ~ #all { display: none }\n\
 \x20 #controls { position: static }\n\
 \x20 #source { max-height: none }\n\
 \x20 mark, [aria-current] { -webkit-print-color-adjust: exact; print-color-adjust: exact }\n\
@@ -70,30 +91,42 @@ th, td { border: 1px solid var(--line); padding: 0 .4rem; text-align: left; vert
 <div id=\"view\" hidden>\n\
 <div id=\"controls\">\n\
 <output id=\"step\" aria-live=\"polite\"></output>\n\
-<input id=\"at\" type=\"range\" min=\"0\" value=\"0\" aria-label=\"Step\">\n\
+<div id=\"gloss\" hidden></div>\n\
+<input id=\"visit\" type=\"range\" min=\"0\" value=\"0\" aria-label=\"Line of the run\">\n\
+<input id=\"at\" type=\"range\" min=\"0\" value=\"0\" aria-label=\"Step\" hidden>\n\
 <button data-go=\"first\">First</button>\n\
-<button data-go=\"back\">Back</button>\n\
-<button data-go=\"on\">Step</button>\n\
-<button data-go=\"last\">Last</button>\n\
+<button data-go=\"previous\">Previous line</button>\n\
 <button data-go=\"line\">Next line</button>\n\
-<button data-go=\"over\">Over this call</button>\n\
+<button data-go=\"over\">Over calls</button>\n\
+<button data-go=\"out\">Out of this call</button>\n\
+<button data-go=\"stop\">Next stop</button>\n\
 <button data-go=\"write\">To the next write</button>\n\
+<button data-go=\"last\">Last</button>\n\
+<button data-go=\"back\" hidden>Back</button>\n\
+<button data-go=\"on\" hidden>Step</button>\n\
+<label><input id=\"single\" type=\"checkbox\"> Instructions</label>\n\
 </div>\n\
-<p id=\"keys\">Keys: Left and Right, with Shift ten steps; Home, End;\n\
-L next line, O over this call, W to the next write.</p>\n\
+<p id=\"keys\">Keys: Left and Right a line, or a step of instructions, with Shift ten; Home, End; P and L previous and next\n\
+line, O over calls, U out of this call, S next stop, W to the next write, I instructions. A click on the number of a line\n\
+makes it a stop.</p>\n\
 <div id=\"parts\">\n\
 <div>\n\
 <h2>Source</h2><pre id=\"source\" tabindex=\"0\" aria-label=\"Source\"></pre>\n\
+<h2>Output so far</h2><pre id=\"output\"></pre>\n\
 </div>\n\
 <div>\n\
-<h2>Operands, the topmost last</h2><div id=\"operands\" class=\"words\"></div>\n\
+<div id=\"single-parts\" hidden><h2>Operands, the topmost last</h2><div id=\"operands\" class=\"words\"></div></div>\n\
 <h2>Active calls, the running one first</h2><ol id=\"calls\"></ol>\n\
-<h2>Output so far</h2><pre id=\"output\"></pre>\n\
+<p id=\"about\" aria-live=\"polite\"></p>\n\
 <h2>Input</h2><pre id=\"input\"></pre>\n\
 <h2>Memory</h2><div id=\"memory\" class=\"scroll\"></div>\n\
+<p>A word is a number. After it stands what it was made as: where an address leads, the name of a function or a label, a\n\
+character that was read. That goes by the steps that made it, and where these aren't here, by what lies at that address.\n\
+A word can always be meant otherwise: a click on it tells all that it can be.</p>\n\
 </div>\n\
 </div>\n\
 </div>\n\
+<svg id=\"arrow\" width=\"1\" height=\"1\" aria-hidden=\"true\"></svg>\n\
 <details id=\"all\" open>\n\
 <summary>All steps as a table</summary>\n\
 <p>A row tells the machine before a step, and then what the step did: the address from which on it stored words,\n\
@@ -153,16 +186,24 @@ const rows = [...$(\"steps\").tBodies[0].rows].map(({ cells }) => {\n\
 });\n\
 const made = rows.filter(row => row.isMade).length;\n\
 \n\
-// The functions, with the names of the words of their frames.\n\
+// The definitions as they lie: of a function the words of its frame with their names, and its value; of an external\n\
+// the words before its strings. A vector has its size in a list.\n\
 const end = facts.definitions.pop();\n\
 facts.frames.pop();\n\
-const functions = new Map();\n\
-for (const [address, name, parameters, frame] of facts.definitions) {\n\
-\x20 if (frame === undefined) continue;\n\
+const functions = new Map(), values = new Map();\n\
+[\"char\", \"lchar\", \"getchar\", \"putchar\", \"printn\", \"exit\"].forEach((name, k) => values.set(k + 1, name));\n\
+const spots = facts.definitions.map(([from, name, size, frame], k) => {\n\
+\x20 const to = facts.definitions[k + 1]?.[0] ?? end;\n\
+\x20 if (frame === undefined) {\n\
+\x20   const own = Array.isArray(size) ? 1 + size[0] : size;\n\
+\x20   return { from, to, name, texts: from + own, isVector: Array.isArray(size) };\n\
+\x20 }\n\
 \x20 const names = facts.frames.shift() ?? [];\n\
 \x20 names.pop();\n\
-\x20 functions.set(name, { address, parameters, frame, names });\n\
-}\n\
+\x20 functions.set(name, { address: from, parameters: size, frame, names });\n\
+\x20 values.set(6 + functions.size, name);\n\
+\x20 return { from, to, name, texts: from + 1, isFunction: true };\n\
+});\n\
 \n\
 // The calls below each one, as a chain. Those that were there before the first row are told by the row after their\n\
 // callee returned, or at the step for which all calls are told.\n\
@@ -183,8 +224,7 @@ rows.forEach((row, k) => {\n\
 facts.calls.pop();\n\
 let told = rows.find(row => row.step === facts.calls_at + 1)?.below;\n\
 for (const [strings, start] of facts.calls) {\n\
-\x20 const f = facts.definitions.find(([address]) => address === strings - 1);\n\
-\x20 fill(told, f?.[1], start);\n\
+\x20 fill(told, spots.find(it => it.from === strings - 1)?.name, start);\n\
 \x20 told = told?.below;\n\
 }\n\
 \n\
@@ -196,9 +236,149 @@ const first = 7;\n\
 const stores = new Set(rows.flatMap(row => row.stored.map((_, k) => row.address + k)));\n\
 const used = [...words.keys()].filter(a => a >= first || stores.has(a)).sort((a, b) => a - b);\n\
 let at = made;\n\
+const range = (from, to) => Array.from({ length: to - from }, (_, k) => from + k);\n\
+\n\
+// What a word was made as, which no word tells by itself: it goes with the word through the steps.\n\
+const NUMBER = 1, ADDRESS = 2, FUNCTION = 3, LABEL = 4, CHARACTER = 5;\n\
+const kinds = new Map();\n\
+const unsigned = word => word & 65535;\n\
+function kindAt(address) {\n\
+\x20 if (kinds.has(address)) return kinds.get(address);\n\
+\x20 const spot = spots.find(it => it.from <= address && address < it.texts);\n\
+\x20 if (address < first || spot?.isFunction) return FUNCTION;\n\
+\x20 if (spot?.isVector && address === spot.from) return ADDRESS;\n\
+\x20 const word = words.get(address);\n\
+\x20 return spot && textsOf(spot).some(it => it.from === word) ? ADDRESS : undefined;\n\
+}\n\
+const sum = (sign, one, other) => {\n\
+\x20 if (sign === \"+\" && one !== ADDRESS) return other === ADDRESS ? ADDRESS : NUMBER;\n\
+\x20 return \"+-\".includes(sign) && one === ADDRESS && other !== ADDRESS ? ADDRESS : NUMBER;\n\
+};\n\
+// What a step does to the kinds of the operands; of a store also the kinds of the words that it stores.\n\
+function follow(row, stack, isCall) {\n\
+\x20 const [code, part] = row.code.split(\" \"), top = unsigned(row.operands.at(-1) ?? 0);\n\
+\x20 const puts = { c: NUMBER, x: ADDRESS, a: ADDRESS, s: ADDRESS, l: LABEL }[code];\n\
+\x20 if (puts) stack.push(puts);\n\
+\x20 else if (code === \"v\") stack.splice(-1, 1, kindAt(top));\n\
+\x20 else if (code === \"n\" || code === \"h\") stack.splice(-1, 1, NUMBER);\n\
+\x20 else if (code === \"b\") stack.push(sum(part, ...stack.splice(-2)));\n\
+\x20 else if (code === \"i\") stack.splice(-1, 1, kindAt(top));\n\
+\x20 else if (code === \"w\" || code === \"m\") {\n\
+\x20   const [, kind] = stack.splice(-2);\n\
+\x20   stack.push(code === \"w\" ? kind : sum(part, kindAt(row.address), kind));\n\
+\x20 } else if (\"zgp\".includes(code) || code === \"e\" && Number(part) === top) stack.pop();\n\
+\x20 else if (code === \"k\") {\n\
+\x20   const given = Number(part) ? stack.splice(-Number(part)) : [];\n\
+\x20   stack.pop();\n\
+\x20   if (isCall) return given;\n\
+\x20   const name = values.get(unsigned(row.operands.at(-1 - given.length) ?? 0));\n\
+\x20   stack.push({ char: CHARACTER, getchar: CHARACTER, putchar: given[0], lchar: given[2] }[name] ?? NUMBER);\n\
+\x20   return [];\n\
+\x20 }\n\
+\x20 return stack.slice(-1);\n\
+}\n\
+function put({ address }, list, made) {\n\
+\x20 list.forEach((word, k) => words.set(address + k, word));\n\
+\x20 made?.forEach((kind, k) => kinds.set(address + k, kind));\n\
+}\n\
+for (; at > 0; at--) put(rows[at - 1], rows[at - 1].before);\n\
+let stack = [];\n\
+const below = [];\n\
+rows.forEach((row, k) => {\n\
+\x20 const last = rows[k - 1];\n\
+\x20 if (last && row.depth > last.depth) {\n\
+\x20   below.push(stack);\n\
+\x20   stack = [];\n\
+\x20 } else if (last && row.depth < last.depth) stack = [...below.pop() ?? [], stack.at(-1)];\n\
+\x20 while (stack.length < row.operands.length) stack.unshift(undefined);\n\
+\x20 stack.splice(0, stack.length - row.operands.length);\n\
+\x20 row.kinds = [...stack];\n\
+\x20 const given = row.isMade ? follow(row, stack, rows[k + 1]?.depth > row.depth) : [];\n\
+\x20 row.unmade = row.stored.map((_, n) => kindAt(row.address + n));\n\
+\x20 row.kept = row.stored.map((_, n) => given[n]);\n\
+\x20 put(row, row.stored, row.kept);\n\
+});\n\
+at = made;\n\
+\n\
 function seek(to) {\n\
-\x20 for (; at < to; at++) rows[at].stored.forEach((word, k) => words.set(rows[at].address + k, word));\n\
-\x20 for (; at > to; at--) rows[at - 1].before.forEach((word, k) => words.set(rows[at - 1].address + k, word));\n\
+\x20 for (; at < to; at++) put(rows[at], rows[at].stored, rows[at].kept);\n\
+\x20 for (; at > to; at--) put(rows[at - 1], rows[at - 1].before, rows[at - 1].unmade);\n\
+}\n\
+\n\
+// The characters of words, two in each, the low byte first.\n\
+function bytesOf(from, to) {\n\
+\x20 return range(from, to).map(a => unsigned(words.get(a) ?? 0)).flatMap(word => [word & 255, word >> 8]);\n\
+}\n\
+const ESCAPES = { 0: \"*0\", 4: \"*e\", 9: \"*t\", 10: \"*n\", 34: \"*\\\"\", 39: \"*'\", 42: \"**\" };\n\
+const character = byte => ESCAPES[byte] ?? (byte > 31 && byte < 127 ? String.fromCharCode(byte) : \"\\ufffd\");\n\
+// The strings in the words of a definition, each up to its *e, with the address of its first word.\n\
+function textsOf({ texts, to }) {\n\
+\x20 const found = [];\n\
+\x20 for (let from = texts, a = texts; a < to; a++) {\n\
+\x20   const word = unsigned(words.get(a) ?? 0);\n\
+\x20   if ((word & 255) !== 4 && word >> 8 !== 4 && a + 1 < to) continue;\n\
+\x20   found.push({ from, bytes: bytesOf(from, a + 1) });\n\
+\x20   from = a + 1;\n\
+\x20 }\n\
+\x20 return found;\n\
+}\n\
+const LONG = 24;\n\
+function quoted(bytes, mark = -1) {\n\
+\x20 const length = bytes.indexOf(4) < 0 ? bytes.length : bytes.indexOf(4);\n\
+\x20 const from = Math.max(0, Math.min(mark - LONG / 2, length - LONG)), to = Math.min(length, from + LONG);\n\
+\x20 const text = bytes.slice(from, to).map(character).join(\"\");\n\
+\x20 return (from ? \"..\" : \"\") + '\"' + text + '\"' + (to < length ? \"..\" : \"\");\n\
+}\n\
+\n\
+// The name of the word at an address: in the frame of a call, the running one first, or of a definition.\n\
+function inFrame(call, address) {\n\
+\x20 const f = functions.get(call.name), k = address - call.start;\n\
+\x20 if (!f || !(k >= 0 && k < f.frame)) return \"\";\n\
+\x20 const named = f.names.findLast(([, offset]) => offset <= k);\n\
+\x20 return named ? named[0] + (k > named[1] ? \"[\" + (k - named[1] - 1) + \"]\" : \"\") : \"@\" + address;\n\
+}\n\
+function nameAt(address) {\n\
+\x20 for (let call = rows[at]; call; call = call.below) {\n\
+\x20   const name = inFrame(call, address);\n\
+\x20   if (name) return call === rows[at] ? name : name + \" of \" + call.name;\n\
+\x20 }\n\
+\x20 const spot = spots.find(it => it.from <= address && address < it.to);\n\
+\x20 if (!spot) return \"\";\n\
+\x20 if (address === spot.from) return spot.name;\n\
+\x20 if (address >= spot.texts) {\n\
+\x20   const text = textsOf(spot).findLast(it => it.from <= address);\n\
+\x20   return text.from === address ? quoted(text.bytes) : quoted(text.bytes.slice(2 * (address - text.from)));\n\
+\x20 }\n\
+\x20 return spot.isVector ? spot.name + \"[\" + (address - spot.from - 1) + \"]\" : spot.name + \"+\" + (address - spot.from);\n\
+}\n\
+const ended = address => spots.find(it => it.isVector && it.texts === address)?.name;\n\
+// Where the steps that made a word aren't here, an address is one that lies in a frame or begins a string.\n\
+function guess(word) {\n\
+\x20 if ((rows[0]?.step ?? 1) === 1) return NUMBER;\n\
+\x20 const isText = spots.some(spot => spot.texts <= word && word < spot.to && textsOf(spot).some(it => it.from === word));\n\
+\x20 return isText || word >= end && nameAt(word) ? ADDRESS : NUMBER;\n\
+}\n\
+function meant(word, kind) {\n\
+\x20 const a = unsigned(word);\n\
+\x20 kind ??= guess(a);\n\
+\x20 if (kind === ADDRESS) {\n\
+\x20   const names = [nameAt(a), ended(a) && \"the end of \" + ended(a)].filter(Boolean);\n\
+\x20   return \"\\u2192 \" + (names.join(\" or \") || \"@\" + a);\n\
+\x20 }\n\
+\x20 if (kind === FUNCTION) return values.get(a) ?? \"\";\n\
+\x20 if (kind === LABEL) return \"a label\";\n\
+\x20 return kind === CHARACTER ? \"'\" + (a > 255 ? character(a >> 8) : \"\") + character(a & 255) + \"'\" : \"\";\n\
+}\n\
+// All that a word can be.\n\
+function readings(word) {\n\
+\x20 const a = unsigned(word), all = [String(a > 32767 ? a - 65536 : a)];\n\
+\x20 if (a > 32767) all.push(a + \" without a sign\");\n\
+\x20 if (a > 31 && a < 127 || ESCAPES[a]) all.push(\"'\" + character(a) + \"'\");\n\
+\x20 if (a > 255) all.push(\"the characters '\" + character(a & 255) + character(a >> 8) + \"' of a string\");\n\
+\x20 if (values.has(a)) all.push(\"the function \" + values.get(a));\n\
+\x20 if (nameAt(a)) all.push(\"the address of \" + nameAt(a));\n\
+\x20 if (ended(a)) all.push(\"the address after the end of \" + ended(a));\n\
+\x20 return all.join(\", or \");\n\
 }\n\
 \n\
 function element(tag, text, name) {\n\
@@ -208,13 +388,24 @@ function element(tag, text, name) {\n\
 \x20 return made;\n\
 }\n\
 \n\
-// A word, with a name or an address, marked where the last step stored it.\n\
+// A word with what it was made as. Where that is an address, the box leads to the word there.\n\
+function withMeaning(box, word, kind) {\n\
+\x20 const meaning = meant(word, kind);\n\
+\x20 if (meaning) box.append(element(\"i\", meaning));\n\
+\x20 box.dataset.word = word;\n\
+\x20 if ((kind ?? guess(unsigned(word))) === ADDRESS) {\n\
+\x20   box.dataset.to = unsigned(word);\n\
+\x20   box.tabIndex = 0;\n\
+\x20 }\n\
+\x20 return box;\n\
+}\n\
+// A word of memory, with a name or an address, marked where the last step stored it.\n\
 function word(address, name, fresh) {\n\
 \x20 const box = element(\"span\");\n\
 \x20 box.dataset.address = address;\n\
 \x20 box.append(element(\"small\", name + \" \"));\n\
 \x20 box.append(element(fresh.has(address) ? \"mark\" : \"b\", words.get(address) ?? 0));\n\
-\x20 return box;\n\
+\x20 return withMeaning(box, words.get(address) ?? 0, kindAt(address));\n\
 }\n\
 \n\
 function boxes(list, left) {\n\
@@ -226,11 +417,10 @@ function boxes(list, left) {\n\
 \n\
 // Words by their addresses. Of many the first ones are shown, and of the others those that the last step stored.\n\
 const LONGEST = 200;\n\
-function some(addresses, fresh) {\n\
-\x20 const list = addresses.filter((a, k) => k < LONGEST || fresh.has(a)).map(a => word(a, \"@\" + a, fresh));\n\
+function some(addresses, fresh, name = a => \"@\" + a) {\n\
+\x20 const list = addresses.filter((a, k) => k < LONGEST || fresh.has(a)).map(a => word(a, name(a), fresh));\n\
 \x20 return boxes(list, addresses.length - list.length);\n\
 }\n\
-const range = (from, to) => Array.from({ length: to - from }, (_, k) => from + k);\n\
 \n\
 // The source, a line each, each file with its own numbers.\n\
 const lines = [], places = [];\n\
@@ -240,9 +430,15 @@ facts.parts.forEach(([name, count], k) => {\n\
 \x20 if (facts.parts.length > 1) $(\"source\").append(element(\"div\", shown(name), \"file\"));\n\
 \x20 const last = k + 1 === facts.parts.length;\n\
 \x20 all.splice(0, last ? all.length : count).forEach((line, n) => {\n\
-\x20   lines.push(element(\"div\", String(n + 1).padStart(4) + \"  \" + line));\n\
+\x20   const number = element(\"button\", String(n + 1).padStart(4)), box = element(\"div\");\n\
 \x20   places.push(\"line \" + (n + 1) + (k ? \" of \" + shown(name) : \"\"));\n\
-\x20   $(\"source\").append(lines.at(-1));\n\
+\x20   number.dataset.line = places.length;\n\
+\x20   number.tabIndex = -1;\n\
+\x20   number.setAttribute(\"aria-pressed\", \"false\");\n\
+\x20   number.setAttribute(\"aria-label\", \"Stop at \" + places.at(-1));\n\
+\x20   box.append(number, \"  \" + line);\n\
+\x20   lines.push(box);\n\
+\x20   $(\"source\").append(box);\n\
 \x20 });\n\
 });\n\
 const place = line => places[line - 1] ?? \"line \" + line;\n\
@@ -262,27 +458,51 @@ function showCalls(row, fresh) {\n\
 \x20       left++;\n\
 \x20       continue;\n\
 \x20     }\n\
-\x20     const named = f.names.findLast(([, offset]) => offset <= k);\n\
-\x20     const inside = named && k > named[1] ? \"[\" + (k - named[1] - 1) + \"]\" : \"\";\n\
-\x20     list.push(word(a, named ? named[0] + inside : \"@\" + a, fresh));\n\
+\x20     list.push(word(a, inFrame({ name: call.name, start: 0 }, k).replace(/^@.*/, \"@\" + a), fresh));\n\
 \x20   }\n\
 \x20   item.append(boxes(list, left));\n\
 \x20   $(\"calls\").append(item);\n\
 \x20 }\n\
 }\n\
 \n\
+// A string as text. The character that a call looks at is marked, and those that words of frames lead to.\n\
+function shownText({ from, bytes }, row) {\n\
+\x20 const ends = bytes.indexOf(4) < 0 ? bytes.length : bytes.indexOf(4) + 1, marks = new Set();\n\
+\x20 for (let call = row; call; call = call.below) {\n\
+\x20   for (let k = 0; k < (functions.get(call.name)?.frame ?? 0); k++) {\n\
+\x20     const a = (call.start ?? 0) + k, to = unsigned(words.get(a) ?? 0);\n\
+\x20     if (kindAt(a) === ADDRESS && to > from) marks.add(2 * (to - from));\n\
+\x20   }\n\
+\x20 }\n\
+\x20 const given = row?.code.startsWith(\"k \") ? row.operands.slice(-1 - Number(row.code.slice(2))) : [];\n\
+\x20 if ([\"char\", \"lchar\"].includes(values.get(unsigned(given[0] ?? 0)))) {\n\
+\x20   marks.add(2 * (unsigned(given[1]) - from) + unsigned(given[2] ?? 0));\n\
+\x20 }\n\
+\x20 const box = element(\"div\");\n\
+\x20 box.append('\"');\n\
+\x20 bytes.slice(0, Math.min(ends, LONGEST)).forEach((byte, k) => {\n\
+\x20   box.append(marks.has(k) ? element(\"mark\", character(byte)) : character(byte));\n\
+\x20 });\n\
+\x20 box.append(ends > LONGEST ? \"..\" : '\"');\n\
+\x20 return box;\n\
+}\n\
+\n\
 function showMemory(row, fresh) {\n\
 \x20 const table = element(\"table\");\n\
-\x20 const add = (name, addresses) => {\n\
+\x20 const add = (name, addresses, inside) => {\n\
 \x20   const line = table.insertRow();\n\
 \x20   line.append(element(\"th\", name));\n\
-\x20   line.insertCell().append(some(addresses, fresh));\n\
+\x20   line.insertCell().append(some(addresses, fresh, inside && (a => \"@\" + a + \" \" + name + inside(a))));\n\
+\x20   return line.cells[1];\n\
 \x20 };\n\
-\x20 facts.definitions.forEach(([address, name, , frame], k) => {\n\
-\x20   const to = facts.definitions[k + 1]?.[0] ?? end;\n\
-\x20   if (frame === undefined) add(name, range(address, to));\n\
-\x20   else if (to > address + 1) add(\"strings of \" + name, range(address + 1, to));\n\
-\x20 });\n\
+\x20 for (const spot of spots) {\n\
+\x20   const inside = a => a === spot.from ? \"\" : spot.isVector ? \"[\" + (a - spot.from - 1) + \"]\" : \"+\" + (a - spot.from);\n\
+\x20   if (!spot.isFunction) add(spot.name, range(spot.from, spot.texts), inside);\n\
+\x20   for (const text of spot.texts < spot.to ? textsOf(spot) : []) {\n\
+\x20     const line = add(spot.name + \"'s string\", range(text.from, text.from + text.bytes.length / 2));\n\
+\x20     line.prepend(shownText(text, row));\n\
+\x20   }\n\
+\x20 }\n\
 \x20 let free = end;\n\
 \x20 for (let call = row; call; call = call.below) {\n\
 \x20   free = Math.max(free, (call.start ?? 0) + (functions.get(call.name)?.frame ?? 0));\n\
@@ -290,6 +510,65 @@ function showMemory(row, fresh) {\n\
 \x20 const others = used.filter(a => a >= free || a < first);\n\
 \x20 if (others.length) add(\"other words\", others);\n\
 \x20 $(\"memory\").replaceChildren(table);\n\
+}\n\
+\n\
+// What an instruction does, in words.\n\
+const SIGNS = {\n\
+\x20 \"==\": \"is equal to\", \"!=\": \"isn't equal to\", \"<\": \"is below\", \"<=\": \"is at most\", \">\": \"is above\", \">=\": \"is at least\",\n\
+};\n\
+function gloss({ code, operands, start, name }) {\n\
+\x20 const [what, one, two] = code.split(\" \"), top = operands.at(-1);\n\
+\x20 const frame = () => inFrame({ name, start }, unsigned(start + Number(one)));\n\
+\x20 const called = () => values.get(unsigned(operands.at(-1 - Number(one)) ?? 0)) ?? \"no function\";\n\
+\x20 switch (what) {\n\
+\x20   case \"c\": return `puts ${one}`;\n\
+\x20   case \"x\": return `puts the address of ${one}`;\n\
+\x20   case \"a\": return `puts the address of ${frame()}`;\n\
+\x20   case \"s\": return \"puts the address of a string\";\n\
+\x20   case \"l\": return \"puts the value of a label\";\n\
+\x20   case \"v\": return `takes the address ${top}, puts the word there`;\n\
+\x20   case \"w\": return `stores ${top} at the address below it, and leaves it`;\n\
+\x20   case \"b\": {\n\
+\x20     const [left, right] = operands.slice(-2);\n\
+\x20     return SIGNS[one] ? `puts 1 if ${left} ${SIGNS[one]} ${right}, else 0` : `puts ${left} ${one} ${right}`;\n\
+\x20   }\n\
+\x20   case \"m\": return `changes the word at the address by ${one}, and puts it`;\n\
+\x20   case \"n\": return `puts the negative of ${top}`;\n\
+\x20   case \"h\": return `puts 1 if ${top} is 0, else 0`;\n\
+\x20   case \"i\": {\n\
+\x20     const does = one % 2 ? \"takes 1 from\" : \"adds 1 to\";\n\
+\x20     return `${does} the word at ${top}, puts the ${one < 2 ? \"new\" : \"old\"} one`;\n\
+\x20   }\n\
+\x20   case \"j\": return `goes to place ${one}`;\n\
+\x20   case \"z\": return `goes to place ${one} if ${top} is 0`;\n\
+\x20   case \"g\": return `goes to the label of value ${top}`;\n\
+\x20   case \"e\": return `goes to place ${two} if the word is ${one}`;\n\
+\x20   case \"k\": return `calls ${called()} with ${one} ${one === \"1\" ? \"argument\" : \"arguments\"}`;\n\
+\x20   case \"r\": return `returns ${top}`;\n\
+\x20   case \"p\": return `drops ${top}`;\n\
+\x20 }\n\
+\x20 return \"\";\n\
+}\n\
+\n\
+// Marks the word to which a box leads and those that lead to it, with an arrow from a box that is seen.\n\
+function aim(box) {\n\
+\x20 document.querySelectorAll(\".aim\").forEach(it => it.classList.remove(\"aim\"));\n\
+\x20 $(\"arrow\").replaceChildren();\n\
+\x20 if (!box) return;\n\
+\x20 const { to, address } = box.dataset;\n\
+\x20 const there = [...document.querySelectorAll(`[data-address=\"${to}\"]`)].find(it => it !== box);\n\
+\x20 there?.classList.add(\"aim\");\n\
+\x20 if (address) document.querySelectorAll(`[data-to=\"${address}\"]`).forEach(it => it.classList.add(\"aim\"));\n\
+\x20 if (!there) return;\n\
+\x20 const [from, into] = [box, there].map(it => it.getBoundingClientRect());\n\
+\x20 const line = document.createElementNS(\"http://www.w3.org/2000/svg\", \"path\");\n\
+\x20 const [x, y] = [scrollX, scrollY], right = Math.max(from.right, into.right) + 24;\n\
+\x20 const height = it => it.top + it.height / 2 + y;\n\
+\x20 line.setAttribute(\"d\", `M${from.right + x} ${height(from)}C${right + x} ${height(from)} ${right + x} ${height(into)} `\n\
+\x20   + `${into.right + x} ${height(into)}l7 -4m-7 4l7 4`);\n\
+\x20 line.setAttribute(\"fill\", \"none\");\n\
+\x20 line.setAttribute(\"stroke\", \"currentColor\");\n\
+\x20 $(\"arrow\").append(line);\n\
 }\n\
 \n\
 // What was written or read before each row, by its length.\n\
@@ -323,19 +602,31 @@ function show(to) {\n\
 \x20 const row = rows[at], last = rows[at - 1];\n\
 \x20 const fresh = new Set(last ? last.stored.map((_, k) => last.address + k) : []);\n\
 \x20 $(\"at\").value = at;\n\
-\x20 $(\"step\").textContent = row\n\
-\x20   ? `Step ${row.step}: ${row.name}, place ${row.place}, ${place(row.line)}, ${row.code}`\n\
-\x20     + (row.isMade ? \"\" : \" (not made)\")\n\
-\x20   : made ? `After step ${last.step}` : \"No step\";\n\
+\x20 const single = $(\"single\").checked, unmade = row?.isMade === false ? \" (not made)\" : \"\";\n\
+\x20 $(\"step\").textContent = !row ? made ? `After step ${last.step}` : \"No step\"\n\
+\x20   : single ? `Step ${row.step}: ${row.name}, place ${row.place}, ${place(row.line)}, ${row.code}${unmade}`\n\
+\x20     : `${row.name}, ${place(row.line)}, before step ${row.step}${unmade}`;\n\
+\x20 $(\"gloss\").textContent = row ? row.code + \": \" + gloss(row) : \"\";\n\
+\x20 $(\"visit\").value = visits.findLastIndex(k => k <= at);\n\
 \x20 $(\"at\").setAttribute(\"aria-valuetext\", $(\"step\").textContent);\n\
-\x20 lines.forEach(line => line.removeAttribute(\"aria-current\"));\n\
+\x20 $(\"visit\").setAttribute(\"aria-valuetext\", $(\"step\").textContent);\n\
+\x20 aim();\n\
+\x20 lines.forEach(line => {\n\
+\x20   line.removeAttribute(\"aria-current\");\n\
+\x20   line.firstChild.tabIndex = -1;\n\
+\x20 });\n\
 \x20 const line = lines[(row?.line ?? 0) - 1];\n\
 \x20 if (line) {\n\
 \x20   line.setAttribute(\"aria-current\", \"step\");\n\
+\x20   line.firstChild.tabIndex = 0;\n\
 \x20   const box = $(\"source\"), y = line.offsetTop - box.offsetTop, height = box.clientHeight;\n\
 \x20   if (y < box.scrollTop || y + line.offsetHeight > box.scrollTop + height) box.scrollTop = y - height / 3;\n\
 \x20 }\n\
-\x20 $(\"operands\").replaceChildren(...(row?.operands ?? []).map(word => element(\"span\", word)));\n\
+\x20 $(\"operands\").replaceChildren(...(row?.operands ?? []).map((word, k) => {\n\
+\x20   const box = element(\"span\");\n\
+\x20   box.append(element(\"b\", word));\n\
+\x20   return withMeaning(box, word, row.kinds[k]);\n\
+\x20 }));\n\
 \x20 showCalls(row, fresh);\n\
 \x20 showMemory(row, fresh);\n\
 \x20 const output = shown(facts.output.slice(0, wrote[at]));\n\
@@ -345,10 +636,15 @@ function show(to) {\n\
 \x20 marked($(\"input\"), input, 0, common(input, shown(bytes.slice(0, heard[at]))));\n\
 }\n\
 \n\
+// A visit of a line begins where another line begins, or another call goes on.\n\
+const visits = [...rows.keys()].filter(k => k === 0 || k < made\n\
+\x20 && (rows[k].line !== rows[k - 1].line || rows[k].depth !== rows[k - 1].depth)).concat(made || []);\n\
 const next = is => {\n\
 \x20 for (let k = at + 1; k < made; k++) if (is(k)) return k;\n\
 \x20 return made;\n\
 };\n\
+const nextVisit = is => visits.find(k => k > at && (k === made || is(rows[k]))) ?? made;\n\
+const stops = new Set();\n\
 const go = {\n\
 \x20 first: () => 0,\n\
 \x20 last: () => made,\n\
@@ -356,16 +652,28 @@ const go = {\n\
 \x20 on: () => at + 1,\n\
 \x20 back10: () => at - 10,\n\
 \x20 on10: () => at + 10,\n\
-\x20 line: () => next(k => rows[k].line !== rows[at].line),\n\
-\x20 over: () => next(k => rows[k].depth <= rows[at].depth),\n\
+\x20 line: () => nextVisit(() => true),\n\
+\x20 previous: () => visits.findLast(k => k < at) ?? 0,\n\
+\x20 line10: () => visits[Math.min(visits.length - 1, visits.findLastIndex(k => k <= at) + 10)] ?? made,\n\
+\x20 previous10: () => visits[Math.max(0, visits.findLastIndex(k => k <= at) - 10)] ?? 0,\n\
+\x20 over: () => nextVisit(row => row.depth < rows[at].depth\n\
+\x20   || row.depth === rows[at].depth && row.line !== rows[at].line),\n\
+\x20 out: () => nextVisit(row => row.depth < rows[at].depth),\n\
+\x20 stop: () => nextVisit(row => stops.has(row.line)),\n\
 \x20 write: () => next(k => rows[k - 1].written !== \"\"),\n\
 };\n\
 const keys = {\n\
-\x20 Home: \"first\", End: \"last\", ArrowLeft: \"back\", ArrowRight: \"on\", l: \"line\", o: \"over\", w: \"write\",\n\
+\x20 Home: \"first\", End: \"last\", l: \"line\", p: \"previous\", o: \"over\", u: \"out\", s: \"stop\", w: \"write\",\n\
 };\n\
+const arrows = { ArrowLeft: [\"previous\", \"back\"], ArrowRight: [\"line\", \"on\"] };\n\
 document.addEventListener(\"keydown\", event => {\n\
 \x20 if (event.ctrlKey || event.altKey || event.metaKey) return;\n\
-\x20 const name = keys[event.key.length > 1 ? event.key : event.key.toLowerCase()];\n\
+\x20 const key = event.key.length > 1 ? event.key : event.key.toLowerCase();\n\
+\x20 if (key === \"i\") {\n\
+\x20   event.preventDefault();\n\
+\x20   $(\"single\").click();\n\
+\x20 }\n\
+\x20 const name = arrows[key]?.[Number($(\"single\").checked)] ?? keys[key];\n\
 \x20 if (!name) return;\n\
 \x20 event.preventDefault();\n\
 \x20 show(go[name + (event.shiftKey && name + \"10\" in go ? \"10\" : \"\")]());\n\
@@ -374,8 +682,31 @@ for (const button of document.querySelectorAll(\"[data-go]\")) {\n\
 \x20 button.addEventListener(\"click\", () => show(go[button.dataset.go]()));\n\
 }\n\
 $(\"at\").addEventListener(\"input\", () => show(Number($(\"at\").value)));\n\
+$(\"visit\").addEventListener(\"input\", () => show(visits[Number($(\"visit\").value)] ?? 0));\n\
+$(\"single\").addEventListener(\"change\", () => {\n\
+\x20 const single = $(\"single\").checked;\n\
+\x20 for (const id of [\"at\", \"gloss\", \"single-parts\"]) $(id).hidden = !single;\n\
+\x20 $(\"visit\").hidden = single;\n\
+\x20 for (const button of document.querySelectorAll(\"[data-go=back], [data-go=on]\")) button.hidden = !single;\n\
+\x20 show(at);\n\
+});\n\
+$(\"source\").addEventListener(\"click\", event => {\n\
+\x20 const number = event.target.closest(\"button\"), line = Number(number?.dataset.line);\n\
+\x20 if (!line) return;\n\
+\x20 if (!stops.delete(line)) stops.add(line);\n\
+\x20 number.setAttribute(\"aria-pressed\", String(stops.has(line)));\n\
+});\n\
+for (const type of [\"pointerover\", \"focusin\", \"click\"]) {\n\
+\x20 $(\"parts\").addEventListener(type, event => {\n\
+\x20   const box = event.target.closest(\"[data-word]\");\n\
+\x20   aim(box);\n\
+\x20   if (box && type !== \"pointerover\") $(\"about\").textContent = box.dataset.word + \": \" + readings(box.dataset.word);\n\
+\x20 });\n\
+}\n\
+$(\"all\").addEventListener(\"toggle\", () => $(\"all\").classList.toggle(\"shown\", $(\"all\").open));\n\
 $(\"at\").max = made;\n\
-$(\"keys\").after($(\"end\"));\n\
+$(\"visit\").max = Math.max(0, visits.length - 1);\n\
+$(\"keys\").before($(\"end\"));\n\
 $(\"view\").hidden = false;\n\
 $(\"all\").open = false;\n\
 show(0);\n\
