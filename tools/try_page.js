@@ -91,6 +91,7 @@ for (const [name, move] of Object.entries(page.go)) {
 }
 const seen = page.visits.map(at => {
   page.show(at);
-  return [page.box("step").textContent, page.box("output").textContent, told(page.box("calls")), told(page.box("memory"))];
+  const [step, output] = ["step", "output"].map(id => page.box(id).textContent);
+  return [step, output, told(page.box("calls")), told(page.box("memory"))];
 });
 console.log(JSON.stringify({ visits: page.visits, moves, seen, glosses: page.rows.map(page.gloss) }));

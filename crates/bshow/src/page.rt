@@ -120,9 +120,9 @@ makes it a stop.</p>\n\
 <p id=\"about\" aria-live=\"polite\"></p>\n\
 <h2>Input</h2><pre id=\"input\"></pre>\n\
 <h2>Memory</h2><div id=\"memory\" class=\"scroll\"></div>\n\
-<p>A word is a number. After it stands what it was made as: where an address leads, the name of a function or a label, a\n\
-character that was read. That goes by the steps that made it, and where these aren't here, by what lies at that address.\n\
-A word can always be meant otherwise: a click on it tells all that it can be.</p>\n\
+<p>A word is a number. After it stands what it was made as: where an address leads, the name of a function or a label, or\n\
+a character that was read or that stands so in its line. That goes by the steps that made it, and where these aren't\n\
+here, by what lies at that address. A word can always be meant otherwise: a click on it tells all that it can be.</p>\n\
 </div>\n\
 </div>\n\
 </div>\n\
@@ -238,6 +238,7 @@ const used = [...words.keys()].filter(a => a >= first || stores.has(a)).sort((a,
 let at = made;\n\
 const range = (from, to) => Array.from({ length: to - from }, (_, k) => from + k);\n\
 \n\
+const ESCAPES = { 0: \"*0\", 4: \"*e\", 9: \"*t\", 10: \"*n\", 34: \"*\\\"\", 39: \"*'\", 42: \"**\" };\n\
 // What a word was made as, which no word tells by itself: it goes with the word through the steps.\n\
 const NUMBER = 1, ADDRESS = 2, FUNCTION = 3, LABEL = 4, CHARACTER = 5;\n\
 const kinds = new Map();\n\
@@ -254,10 +255,15 @@ const sum = (sign, one, other) => {\n\
 \x20 if (sign === \"+\" && one !== ADDRESS) return other === ADDRESS ? ADDRESS : NUMBER;\n\
 \x20 return \"+-\".includes(sign) && one === ADDRESS && other !== ADDRESS ? ADDRESS : NUMBER;\n\
 };\n\
+// A constant is a character where it stands so in its line.\n\
+const sourceLines = facts.source.split(\"\\n\");\n\
+function constant({ line }, word) {\n\
+\x20 return word > 31 && sourceLines[line - 1]?.includes(constantText(word)) ? CHARACTER : NUMBER;\n\
+}\n\
 // What a step does to the kinds of the operands; of a store also the kinds of the words that it stores.\n\
 function follow(row, stack, isCall) {\n\
 \x20 const [code, part] = row.code.split(\" \"), top = unsigned(row.operands.at(-1) ?? 0);\n\
-\x20 const puts = { c: NUMBER, x: ADDRESS, a: ADDRESS, s: ADDRESS, l: LABEL }[code];\n\
+\x20 const puts = { c: constant(row, Number(part)), x: ADDRESS, a: ADDRESS, s: ADDRESS, l: LABEL }[code];\n\
 \x20 if (puts) stack.push(puts);\n\
 \x20 else if (code === \"v\") stack.splice(-1, 1, kindAt(top));\n\
 \x20 else if (code === \"n\" || code === \"h\") stack.splice(-1, 1, NUMBER);\n\
@@ -309,8 +315,12 @@ function seek(to) {\n\
 function bytesOf(from, to) {\n\
 \x20 return range(from, to).map(a => unsigned(words.get(a) ?? 0)).flatMap(word => [word & 255, word >> 8]);\n\
 }\n\
-const ESCAPES = { 0: \"*0\", 4: \"*e\", 9: \"*t\", 10: \"*n\", 34: \"*\\\"\", 39: \"*'\", 42: \"**\" };\n\
-const character = byte => ESCAPES[byte] ?? (byte > 31 && byte < 127 ? String.fromCharCode(byte) : \"\\ufffd\");\n\
+function constantText(a) {\n\
+\x20 return \"'\" + (a > 255 ? character(a >> 8) : \"\") + character(a & 255) + \"'\";\n\
+}\n\
+function character(byte) {\n\
+\x20 return ESCAPES[byte] ?? (byte > 31 && byte < 127 ? String.fromCharCode(byte) : \"\\ufffd\");\n\
+}\n\
 // The strings in the words of a definition, each up to its *e, with the address of its first word.\n\
 function textsOf({ texts, to }) {\n\
 \x20 const found = [];\n\
@@ -367,7 +377,7 @@ function meant(word, kind) {\n\
 \x20 }\n\
 \x20 if (kind === FUNCTION) return values.get(a) ?? \"\";\n\
 \x20 if (kind === LABEL) return \"a label\";\n\
-\x20 return kind === CHARACTER ? \"'\" + (a > 255 ? character(a >> 8) : \"\") + character(a & 255) + \"'\" : \"\";\n\
+\x20 return kind === CHARACTER ? constantText(a) : \"\";\n\
 }\n\
 // All that a word can be.\n\
 function readings(word) {\n\
