@@ -33,7 +33,7 @@ complete -c b -n '__fish_seen_subcommand_from run' -l no-limit -d 'Makes as many
 complete -c b -n '__fish_seen_subcommand_from go' -l edition -x -a '1 2' -d 'The edition of the source, 1 or 2; 1 if not given'
 complete -c b -n '__fish_seen_subcommand_from go' -l steps -x -d 'At most N steps, 1 to 4000000000; 10000000 if not given'
 complete -c b -n '__fish_seen_subcommand_from go' -l no-limit -d 'Makes as many steps as the run takes'
-complete -c b -n '__fish_seen_subcommand_from go' -l where -d 'Tells where a trap or the limit came, on a second line'
+complete -c b -n '__fish_seen_subcommand_from go' -l where -d 'Tells where a trap or the limit came, and what it means'
 complete -c b -n '__fish_seen_subcommand_from go' -l with -r -a 'input numbers print strings test vectors' -d 'Puts the source in LIB after FILE; as often as wanted'
 complete -c b -n '__fish_seen_subcommand_from list' -l edition -x -a '1 2' -d 'The edition of the source, 1 or 2; 1 if not given'
 complete -c b -n '__fish_seen_subcommand_from list' -l with -r -a 'input numbers print strings test vectors' -d 'Puts the source in LIB after FILE; as often as wanted'

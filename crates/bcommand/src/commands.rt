@@ -115,7 +115,7 @@ const NO_LIMIT: ArgumentRow = ArgumentRow {
 const WHERE: ArgumentRow = ArgumentRow {
     id: "where",
     kind: Kind::Flag,
-    help: "Tells where a trap or the limit came, on a second line",
+    help: "Tells where a trap or the limit came, and what it means",
 };
 
 const JSON: ArgumentRow = ArgumentRow {

@@ -233,8 +233,9 @@ The program reads standard input and writes standard output. A step is one
 instruction. If the line is limit, give more steps by --steps N or --no-limit.
 With --where, a second line tells where a trap or the limit came: the function,
 the place in it as b list shows it, the number of the source line, and how many
-steps were made. b trace --last N shows the steps before it. Where a fault is in
-a LIB, the second line tells the line there and the name of LIB.
+steps were made. Then come this line of the source, and what the trap means.
+b trace --last N shows the steps before it. Where a fault is in a LIB, the
+second line tells the line there and the name of LIB.
 
 Examples:
   b go --steps 1000 hello.b

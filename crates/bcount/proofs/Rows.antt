@@ -10,7 +10,8 @@ use Rattle.btools.proofs.AddedTexts.{piece}
 use Rattle.bcount.specs.declared.lines.LineCount.{LineCount}
 use Rattle.bcount.specs.declared.table.Style.{Style}
 use Rattle.bcount.specs.declared.table.Style.TheVariants as styles
-use Rattle.bcount.specs.SourceLines.{beside_text, source_lines}
+use Rattle.btools.specs.SourceLines.{source_lines}
+use Rattle.bcount.specs.SourceLines.{beside_text}
 use Rattle.bcount.specs.Tables.{cells_text, file_row, object_text, row_text}
 
 -- the row of one number more
@@ -48,9 +49,3 @@ table_row style files line count got marked bytes number beyond old t1 t2 t3 new
     let two : t3 ≡ old ++ ((file_row beyond ++ cells_text marked number got) ++ beside_text bytes) = piece old t2 t3 _ (beside_text bytes) one beside in
     let all : new ≡ old ++ (((file_row beyond ++ cells_text marked number got) ++ beside_text bytes) ++ codes "\n") = piece old t3 new _ (codes "\n") two end in
     all ∙ (λ i. old ++ (((file_row (first i) ++ cells_text marked (own i) (same i)) ++ beside_text bytes) ++ codes "\n")) ∙ ap (λ s. old ++ row_text s files line count marked bytes) (sym table)
-
--- one byte more beside a line
-pub byte_beside : (f : ℕ → ℕ) (old text new bytes : List ℕ) (i b : ℕ) → i < length bytes → b ≡ get_or bytes i 0 → text ≡ old ++ (codes "  " ++ map f (take i bytes)) → new ≡ text ++ f b ∷ [] → new ≡ old ++ (codes "  " ++ map f (take (i + 1) bytes))
-byte_beside f old text new bytes i b lt is before one =
-    one ∙ ap (λ t. t ++ f b ∷ []) before ∙ append_assoc old (codes "  " ++ map f (take i bytes)) (f b ∷ [])
-    ∙ ap (λ t. old ++ (codes "  " ++ t)) (sym (map-append f (take i bytes) (b ∷ [])) ∙ ap (map f) (ap (λ x. take i bytes ++ x ∷ []) is ∙ sym (take_more bytes i 0 lt)))

@@ -7,7 +7,8 @@ use Rattle.std.proofs.lemmas.List.Splits.{slice_split_first, slice_split_none}
 use Rattle.std.proofs.lemmas.List.Sums.{fails_before_first, position_or_len_is, sum_by-append}
 use Rattle.std.proofs.lemmas.List.Quantifiers.{position-Some}
 use Rattle.std.proofs.lemmas.Slice.Eq.{ends_is}
-use Rattle.bcount.specs.SourceLines.{source_lines, newlines_in}
+use Rattle.btools.specs.SourceLines.{source_lines}
+use Rattle.bcount.specs.SourceLines.{newlines_in}
 
 -- a text that ends with a newline has one
 pub ended : (s : List ℕ) → ends_with (λ a b. a == b) s (codes "\n") ≡ true → 0 < newlines_in s

@@ -8,7 +8,7 @@ use Rattle.bcount.specs.declared.lines.LineCount.{LineCount}
 use Rattle.bcount.specs.declared.table.Style.TheVariants as style
 use Rattle.bcount.specs.Counts.{line_counts, steps_on, times_on}
 use Rattle.bcount.specs.Marks.{is_marked, no_code}
-use Rattle.bcount.specs.SourceLines.{beside_text, last_line, source_lines}
+use Rattle.bcount.specs.SourceLines.{beside_text, last_line}
 use Rattle.bcount.specs.Tables.{cells_text, file_row, object_text, table_text, total_of}
 use Rattle.bcount.specs.Tallies.{bumped}
 use Rattle.bcount.specs.Together.{all_steps}
@@ -75,11 +75,8 @@ last_lines : map last_line ([] ∷ codes "a" ∷ codes "a\n" ∷ codes "a\nb" �
     ≡ 1 ∷ 1 ∷ 1 ∷ 2 ∷ 1 ∷ 2 ∷ []
 last_lines = refl
 
-lines_in_order : source_lines (codes "a\n\nbc\n") ≡ codes "a" ∷ [] ∷ codes "bc" ∷ [] ∷ []
-lines_in_order = refl
-
--- a tab, a byte that can't be printed, and the white space at the end of a line
-shown_beside : beside_text (9 ∷ codes "x " ++ 127 ∷ 31 ∷ codes "~ " ++ 9 ∷ 13 ∷ []) ≡ codes "   x ??~"
+-- a line with white space at its end, and one of nothing else
+shown_beside : beside_text (9 ∷ codes "x ") ≡ codes "   x"
 shown_beside = refl
 
 none_beside : beside_text (codes "  ") ≡ codes "  "

@@ -1,12 +1,7 @@
--- Inner words: the lines of a source.
-use Rattle.std.specs.Prelude.{ℕ, ◌-◌, ◌+◌, ◌==◌, List, ◌++◌, codes, count_by, length, map, take, if◌then◌else◌}
-use Rattle.std.specs.Char.{is_ascii_whitespace}
-use Rattle.std.specs.List.{ends_with, slice_split, suffix_len}
-use Rattle.btools.specs.Characters.{is_printable}
-
--- A newline ends a line, and the last one is what stands after them all.
-abbrev pub source_lines : List ℕ → List (List ℕ)
-source_lines source = slice_split (λ b. b == 10) source
+-- Inner words: how many lines a source has, and what stands beside their counts.
+use Rattle.std.specs.Prelude.{ℕ, ◌+◌, ◌==◌, List, ◌++◌, codes, count_by, if◌then◌else◌}
+use Rattle.std.specs.List.{ends_with}
+use Rattle.btools.specs.SourceLines.{shown_line}
 
 abbrev pub newlines_in : List ℕ → ℕ
 newlines_in source = count_by (λ b. b == 10) source
@@ -16,14 +11,6 @@ abbrev pub last_line : List ℕ → ℕ
 last_line source =
     if ends_with (λ a b. a == b) source (codes "\n") then newlines_in source else newlines_in source + 1
 
--- a line without the white space at its end
-abbrev pub trimmed : List ℕ → List ℕ
-trimmed line = take (length line - suffix_len is_ascii_whitespace line) line
-
--- a character; a blank for a tab, and `?` for what can't be printed
-abbrev pub plain_byte : ℕ → ℕ
-plain_byte b = if b == 9 then 32 else (if is_printable b then b else 63)
-
 -- what stands beside the counts of a line
 abbrev pub beside_text : (line : List ℕ) → List ℕ
-beside_text line = codes "  " ++ map plain_byte (trimmed line)
+beside_text line = codes "  " ++ shown_line line

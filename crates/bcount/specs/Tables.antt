@@ -5,8 +5,9 @@ use Rattle.std.specs.List.{flat_map, range_with_len}
 use Rattle.bsources.specs.Files.{Files, Line, beyond_first, own_line}
 use Rattle.btools.specs.Columns.{right}
 use Rattle.btools.specs.Quoting.{file_text, json_text}
+use Rattle.btools.specs.SourceLines.{source_lines}
 use Rattle.bcount.specs.Marks.{is_marked, no_code}
-use Rattle.bcount.specs.SourceLines.{beside_text, source_lines}
+use Rattle.bcount.specs.SourceLines.{beside_text}
 use Rattle.bcount.specs.declared.lines.LineCount.{LineCount}
 use Rattle.bcount.specs.declared.table.Style.{Style}
 use Rattle.bcount.specs.declared.table.Style.TheVariants as style

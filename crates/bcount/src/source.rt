@@ -1,7 +1,8 @@
 //! The lines of a source.
 ghost use Rattle.std.specs.Prelude.{◌≡◌, ◌<◌, ◌+◌, ◌-◌, ◌^◌, ◌==◌, IfSome, ℕ, suc, [], get_or, length};
 ghost use Rattle.std.specs.List.{position};
-ghost use Rattle.bcount.specs.SourceLines.{last_line, source_lines, newlines_in};
+ghost use Rattle.btools.specs.SourceLines.{source_lines};
+ghost use Rattle.bcount.specs.SourceLines.{last_line, newlines_in};
 
 /// The number of the last line.
 pub fn last_line(source: &[u8]) -> u64

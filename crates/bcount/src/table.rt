@@ -2,14 +2,14 @@
 ghost use Rattle.std.specs.Prelude.{◌≡◌, ◌<◌, ◌+◌, ◌++◌, IfOk, OnOk, get_or, length, option_map};
 ghost use Rattle.bsources.specs.Files.{files_shown, line_shown};
 ghost use Rattle.bcount.specs.Marks.{no_code};
-ghost use Rattle.bcount.specs.SourceLines.{beside_text, plain_byte};
+ghost use Rattle.bcount.specs.SourceLines.{beside_text};
 ghost use Rattle.bcount.specs.Tables.{cells_text, file_row, heading_of, object_text, row_text, table_text, total_of};
 
 use crate::lines::LineCount;
 use crate::marks::{is_marked, marks_of};
 use crate::source::split_line;
 use bsources::{FileLine, SourceFiles};
-use btools::{Text, push_file, push_quoted};
+use btools::{Text, push_file, push_quoted, push_source_line};
 use std::alloc::{AllocError, Global};
 
 /// How counts are written.
@@ -123,26 +123,12 @@ fn push_cells(
     }
 }
 
-// A line of the source after two blanks, without the white space at its end.
+// A line of the source after two blanks.
 fn push_beside(text: &mut Text, source: &[u8]) -> Result<(), AllocError>
     ensures { OnOk result (text.new ≡ text.old ++ beside_text source.now) }
 {
     text.push(b"  ")?;
-    for byte in source.trim_ascii_end() {
-        text.push(&[plain_byte(*byte)])?;
-    }
-    Ok(())
-}
-
-// What can't be printed is shown as `?`, and a tab as a blank.
-fn plain_byte(byte: u8) -> u8
-    ensures { result ≡ plain_byte byte }
-{
-    match byte {
-        b'\t' => b' ',
-        32..=126 => byte,
-        _ => b'?',
-    }
+    push_source_line(text, source)
 }
 
 // The object of a line that has code.

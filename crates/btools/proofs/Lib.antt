@@ -7,3 +7,4 @@ pub mod Refused
 pub mod Finding
 pub mod Functions
 pub mod Searching
+pub mod SourceLines

@@ -9,3 +9,4 @@ pub mod FaultPlaces
 pub mod PlaceRows
 pub mod TextRows
 pub mod KeptLines
+pub mod SourceLines

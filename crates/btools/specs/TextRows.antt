@@ -1,10 +1,12 @@
--- Closed facts: bytes and words as characters, columns, lines of loading, and where a name lies.
-use Rattle.std.specs.Prelude.{◌≡◌, [], ◌∷◌, codes, map, refl, true, false, Some, None}
+-- Closed facts: bytes and words as characters, columns, lines of loading, lines of a source, and where a name
+-- lies.
+use Rattle.std.specs.Prelude.{◌≡◌, [], ◌∷◌, ◌++◌, codes, map, refl, true, false, Some, None}
 use Rattle.blang.specs.declared.run.LoadFault.TheVariants as fault
 use Rattle.blang.specs.Machine.{Image}
 use Rattle.btools.specs.Characters.{is_printable, shown_byte, shown_word}
 use Rattle.btools.specs.Columns.{left, right, without_newline}
 use Rattle.btools.specs.Programs.{image_address, load_line}
+use Rattle.btools.specs.SourceLines.{line_at, shown_line, source_lines}
 
 printable_limits : map is_printable (10 ∷ 31 ∷ 32 ∷ 126 ∷ 127 ∷ 255 ∷ [])
     ≡ false ∷ false ∷ true ∷ true ∷ false ∷ false ∷ []
@@ -49,3 +51,18 @@ image = record {
 
 addresses_of_names : map (image_address image) (codes "n" ∷ codes "m" ∷ codes "o" ∷ []) ≡ 7 ∷ 8 ∷ 0 ∷ []
 addresses_of_names = refl
+
+-- the lines of a source: the first one, one without bytes, the last one, and one past it
+lines_by_number : map (line_at (codes "a\n\nbc\nd")) (1 ∷ 2 ∷ 3 ∷ 4 ∷ 5 ∷ [])
+    ≡ codes "a" ∷ [] ∷ codes "bc" ∷ codes "d" ∷ [] ∷ []
+lines_by_number = refl
+
+lines_in_order : source_lines (codes "a\n\nbc\n") ≡ codes "a" ∷ [] ∷ codes "bc" ∷ [] ∷ []
+lines_in_order = refl
+
+-- a tab, a byte that can't be printed, and the white space at the end of a line
+line_shown : shown_line (9 ∷ codes "x " ++ 127 ∷ 31 ∷ codes "~ " ++ 9 ∷ 13 ∷ []) ≡ codes " x ??~"
+line_shown = refl
+
+blank_line_shown : shown_line (codes "  ") ≡ []
+blank_line_shown = refl

@@ -7,6 +7,7 @@ mod program;
 mod quoting;
 mod refusal;
 mod sink;
+mod source_lines;
 mod tables;
 mod telling;
 mod text;
@@ -19,6 +20,7 @@ pub use refusal::{
     diagnostic_line, load_line, tell_fault, tell_placed, wrong_programs_are_excluded,
 };
 pub use sink::Sink;
+pub use source_lines::{line_at, push_source_line};
 pub use tables::{Entry, Tables};
 pub use telling::tell;
 pub use text::Text;

@@ -41,7 +41,7 @@ use Rattle.btools.proofs.Excluded.{not_grown}
 use Rattle.btools.proofs.Excluded as programs
 use Rattle.btrace.specs.Excluded.{ComesAlways, IsSourceOf, LocatesExcluded, TracesExcluded, calling, calling_f, closing, nothing, passing, reading, status_of, storing, trapping, writing}
 use Rattle.btrace.specs.Locates as locates
-use Rattle.btrace.specs.Locates.{Locates, TellsSite, located_status, site_line}
+use Rattle.btrace.specs.Locates.{Locates, TellsSite, explanation, located_status, told_site}
 use Rattle.btools.specs.Functions.{Placed, function_with, functions_of}
 use Rattle.btrace.specs.RowTexts.{Legend, Place, code_of, first_words, has_more, margin, name_in, name_of, operands_text, place_text, step_row, stored_text, words_text, written_row}
 use Rattle.btrace.specs.Traces as traces
@@ -1076,7 +1076,7 @@ module _ (file : File) where
   line_in result = []
 
   -- a run that is told with its place: the line of its outcome, and where the machine was
-  record Stops (ds : List Definition) (steps : ℕ) (text : List ℕ) (status : ℕ) : Type 0 where
+  record Stops (ds : List Definition) (source : List ℕ) (steps : ℕ) (text : List ℕ) (status : ℕ) : Type 0 where
     result : Outcome
     located : located_status result ≡ Some status
     active : Active
@@ -1084,7 +1084,7 @@ module _ (file : File) where
     made : ℕ
     stops : EndsAt (machine ds input) steps result active made
     line : ℕ
-    text_is : text ≡ line_in result ++ site_line (leg (functions_of ds)) active.strings active.place line made
+    text_is : text ≡ line_in result ++ told_site (leg (functions_of ds)) source result active.strings active.place line made
 
   line_told : (result : Outcome) (answer : ℕ) (mid following : Outgoing) → located_status result ≡ Some answer → Finishes result mid following answer → Writes mid (line_in result) following
   line_told (outcome.Exit n) answer mid following e f = cc
@@ -1093,9 +1093,9 @@ module _ (file : File) where
   line_told outcome.Device answer mid following e f = cc
   line_told outcome.Memory answer mid following e f = cc
 
-  site_told : (fs : List Placed) (strings place number answer : ℕ) (old new : Outgoing) (status : ℕ) → status < 132 → TellsSite (leg fs) strings place number answer old new status → (line : ℕ) × Writes old (site_line (leg fs) strings place line number) new × (status ≡ answer)
-  site_told fs strings place number answer old new status less (inl t) = let r = told _ answer old new status (omega arith) t.1 in (t.0, r.0, r.1)
-  site_told fs strings place number answer old new status less (inr t) = let bad : status ≡ 134 = t.1 in absurd (omega arith)
+  site_told : (fs : List Placed) (source : List ℕ) (result : Outcome) (strings place number answer : ℕ) (old new : Outgoing) (status : ℕ) → status < 132 → TellsSite (leg fs) source result strings place number answer old new status → (line : ℕ) × Writes old (told_site (leg fs) source result strings place line number) new × (status ≡ answer)
+  site_told fs source result strings place number answer old new status less (inl t) = let r = told _ answer old new status (omega arith) t.1 in (t.0, r.0, r.1)
+  site_told fs source result strings place number answer old new status less (inr t) = let bad : status ≡ 134 = t.1 in absurd (omega arith)
 
   -- a run without a place that wrote something
   not_alone : (result : Outcome) (mid following : Outgoing) (status : ℕ) (text : List ℕ) → status < 132 → Finishes result mid following status → (located_status result ≡ Some status → ⊥) → mid.written ≡ Some [] → following.written ≡ Some text → (text ≡ [] → ⊥) → ⊥
@@ -1111,12 +1111,12 @@ module _ (file : File) where
         begins ds image result ends.line ends.line_after status less starts (subst (λ x. IsLoadedFrom x image) (only edition source ds is other image program) program.loaded) never f
 
     -- the place is told
-    stops_so : (text : List ℕ) → ends.line.written ≡ Some [] → ends.line_after.written ≡ Some text → (text ≡ [] → ⊥) → Locates edition source one_file steps ends status → Stops ds steps text status
+    stops_so : (text : List ℕ) → ends.line.written ≡ Some [] → ends.line_after.written ≡ Some text → (text ≡ [] → ⊥) → Locates edition source one_file steps ends status → Stops ds source steps text status
     stops_so text before following some (locates.located out other image result answer active made program gives f located stops tells) =
         let same = only edition source ds is other image program in
-        let site = site_told (functions_of other) active.strings active.place made answer out ends.line_after status less tells in
+        let site = site_told (functions_of other) source result active.strings active.place made answer out ends.line_after status less tells in
         let whole = Writes-append (line_told result answer ends.line out located f) site.1 in
-        let here : Stops other steps text status = record {
+        let here : Stops other source steps text status = record {
           result = result;
           located = located ∙ ap Some (sym site.2);
           active = active;
@@ -1126,7 +1126,7 @@ module _ (file : File) where
           line = site.0;
           text_is = wrote ends.line ends.line_after [] _ text before following whole;
         } in
-        subst (λ x. Stops x steps text status) same here
+        subst (λ x. Stops x source steps text status) same here
     stops_so text before following some (locates.unlocated other image result program gives f unplaced) =
         absurd (not_alone result ends.line ends.line_after status text less f unplaced before following some)
     stops_so text before following some (locates.not_begun other image result program never f quiet) = absurd (never_begun other image result program never f)
@@ -1136,7 +1136,7 @@ module _ (file : File) where
     came_to : (result : Outcome) → ComesAlways ds steps result → Locates edition source one_file steps ends status → status ≡ status_of result
     came_to result comes (locates.located out other image r answer active made program gives f located stops tells) =
         let same = only edition source ds is other image program in
-        let site = site_told (functions_of other) active.strings active.place made answer out ends.line_after status less tells in
+        let site = site_told (functions_of other) source r active.strings active.place made answer out ends.line_after status less tells in
         let c = came other steps ends.input ends.input_after ends.out ends.out_after ends.line out answer (omega (arith, site.2)) r gives f in
         let at_end = subst (λ x. state_outcome (machine x c.1.0 steps) ≡ r) same c.1.1 in
         site.2 ∙ c.0 ∙ ap status_of (sym at_end ∙ comes c.1.0)
@@ -1165,28 +1165,28 @@ module _ (file : File) where
   trap_ends trap.BadBase text = refl
   trap_ends trap.Stuck text = refl
 
-  trap_alone : (result : Outcome) (kind : Trap) (fs : List Placed) (strings place line number : ℕ) → located_status result ≡ Some 130 → report_text (report.Trap kind) ≡ line_in result ++ site_line (leg fs) strings place line number → ⊥
-  trap_alone (outcome.Exit n) kind fs strings place line number e is = cc
-  trap_alone (outcome.Trap other) kind fs strings place line number e is =
+  trap_alone : (result : Outcome) (kind : Trap) (fs : List Placed) (source : List ℕ) (strings place line number : ℕ) → located_status result ≡ Some 130 → report_text (report.Trap kind) ≡ line_in result ++ told_site (leg fs) source result strings place line number → ⊥
+  trap_alone (outcome.Exit n) kind fs source strings place line number e is = cc
+  trap_alone (outcome.Trap other) kind fs source strings place line number e is =
       let nothing_more : at 8 (report_text (report.Trap kind)) ≡ 0 = ap (at 8) (sym (append-nil (report_text (report.Trap kind)))) ∙ trap_ends kind [] in
-      let more : at 8 (report_text (report.Trap other) ++ site_line (leg fs) strings place line number) ≡ 97 = trap_ends other (site_line (leg fs) strings place line number) in
+      let more : at 8 (report_text (report.Trap other) ++ told_site (leg fs) source (outcome.Trap other) strings place line number) ≡ 97 = trap_ends other (told_site (leg fs) source (outcome.Trap other) strings place line number) in
       let bad : 0 ≡ 97 = sym nothing_more ∙ ap (at 8) is ∙ more in
       omega (arith, bad)
-  trap_alone outcome.Limit kind fs strings place line number e is = let bad : 131 ≡ 130 = some_same 131 130 e in omega (arith, bad)
-  trap_alone outcome.Device kind fs strings place line number e is = cc
-  trap_alone outcome.Memory kind fs strings place line number e is = cc
+  trap_alone outcome.Limit kind fs source strings place line number e is = let bad : 131 ≡ 130 = some_same 131 130 e in omega (arith, bad)
+  trap_alone outcome.Device kind fs source strings place line number e is = cc
+  trap_alone outcome.Memory kind fs source strings place line number e is = cc
 
   -- what stands after the line
-  abbrev step_end : ℕ → List ℕ
-  step_end number = codes "  step " ++ decimal number ++ codes "\n"
+  abbrev step_end : ℕ → List ℕ → List ℕ
+  step_end number more = (codes "  step " ++ decimal number) ++ (codes "\n" ++ more)
 
-  site_parts : (a b c d e f : List ℕ) → (((a ++ (b ++ c)) ++ d) ++ e) ++ f ≡ a ++ (b ++ (c ++ ((d ++ e) ++ f)))
-  site_parts a b c d e f = simp append_assoc
+  site_parts : (a b c d e f g : List ℕ) → ((((a ++ (b ++ c)) ++ d) ++ e) ++ f) ++ g ≡ a ++ (b ++ (c ++ ((d ++ e) ++ (f ++ g))))
+  site_parts a b c d e f g = simp append_assoc
 
   -- the place of the limit, and the number of steps after it
-  limit_site : (ds : List Definition) (steps : ℕ) (text : List ℕ) (c : Call) → ((input : List ℕ) → call_of (machine ds input steps) ≡ Some c) → Stops ds steps text 131
-      → (line : ℕ) × (text ≡ codes "limit\n" ++ (codes "at     " ++ (place_head (functions_of ds) c.function.strings c.place ++ (right 4 (decimal line) ++ step_end steps))))
-  limit_site ds steps text c runs s =
+  limit_site : (ds : List Definition) (source : List ℕ) (steps : ℕ) (text : List ℕ) (c : Call) → ((input : List ℕ) → call_of (machine ds input steps) ≡ Some c) → Stops ds source steps text 131
+      → (line : ℕ) × (more : List ℕ) × (text ≡ codes "limit\n" ++ (codes "at     " ++ (place_head (functions_of ds) c.function.strings c.place ++ (right 4 (decimal line) ++ step_end steps more))))
+  limit_site ds source steps text c runs s =
       let fs = functions_of ds in
       let limit = limit_is s.result s.located in
       let at_limit = subst (λ x. EndsAt (machine ds s.input) steps x s.active s.made) limit s.stops in
@@ -1194,13 +1194,15 @@ module _ (file : File) where
       let call_is : r.call ≡ c = some_same r.call c (sym (ap call_of r.state_is) ∙ runs s.input) in
       let strings : s.active.strings ≡ c.function.strings = ap (λ (a : Active). a.strings) (sym r.active_is) ∙ ap (λ (x : Call). x.function.strings) call_is in
       let place : s.active.place ≡ c.place = ap (λ (a : Active). a.place) (sym r.active_is) ∙ ap (λ (x : Call). x.place) call_is in
-      let number = right 4 (decimal s.line) in (
+      let number = right 4 (decimal s.line) in
+      let more = explanation source outcome.Limit s.line in (
         s.line,
-        s.text_is ∙ ap (λ x. line_in x ++ site_line (leg fs) s.active.strings s.active.place s.line s.made) limit
-            ∙ ap (λ t. codes "limit\n" ++ t) (site_parts (codes "at     ") (place_head fs s.active.strings s.active.place) number (codes "  step ") (decimal s.made) (codes "\n"))
-            ∙ ap (λ n. codes "limit\n" ++ (codes "at     " ++ (place_head fs s.active.strings s.active.place ++ (number ++ step_end n)))) at_limit.1
-            ∙ ap (λ n. codes "limit\n" ++ (codes "at     " ++ (place_head fs n s.active.place ++ (number ++ step_end steps)))) strings
-            ∙ ap (λ n. codes "limit\n" ++ (codes "at     " ++ (place_head fs c.function.strings n ++ (number ++ step_end steps)))) place,
+        more,
+        s.text_is ∙ ap (λ x. line_in x ++ told_site (leg fs) source x s.active.strings s.active.place s.line s.made) limit
+            ∙ ap (λ t. codes "limit\n" ++ t) (site_parts (codes "at     ") (place_head fs s.active.strings s.active.place) number (codes "  step ") (decimal s.made) (codes "\n") more)
+            ∙ ap (λ n. codes "limit\n" ++ (codes "at     " ++ (place_head fs s.active.strings s.active.place ++ (number ++ step_end n more)))) at_limit.1
+            ∙ ap (λ n. codes "limit\n" ++ (codes "at     " ++ (place_head fs n s.active.place ++ (number ++ step_end steps more)))) strings
+            ∙ ap (λ n. codes "limit\n" ++ (codes "at     " ++ (place_head fs c.function.strings n ++ (number ++ step_end steps more)))) place,
       )
 
   located_read : (ds : List Definition) (steps : ℕ) (i j : Incoming) (o p : Outgoing) (result : Outcome) (answer : ℕ) → located_status result ≡ Some answer → RunGives (machine ds) steps i j o p result → j.failures ≡ i.failures
@@ -1222,24 +1224,24 @@ module _ (file : File) where
       → Locates edition source one_file 1 ends LIMIT → at 34 text ≡ 49
   nothing_stops edition source ends text is before following some h =
       let s = stops_so edition source nothing is 1 ends LIMIT (omega arith) (λ input. refl) text before following some h in
-      let l = limit_site nothing 1 text (call (loaded closing 8) 8 1 (0 ∷ [])) (λ input. refl) s in
-      ap (at 34) (l.1 ∙ ap (λ p. codes "limit\n" ++ (codes "at     " ++ (p ++ (right 4 (decimal l.0) ++ step_end 1)))) nothing_place)
+      let l = limit_site nothing source 1 text (call (loaded closing 8) 8 1 (0 ∷ [])) (λ input. refl) s in
+      ap (at 34) (l.2 ∙ ap (λ p. codes "limit\n" ++ (codes "at     " ++ (p ++ (right 4 (decimal l.0) ++ step_end 1 l.1)))) nothing_place)
 
   calling_stops : (edition : Edition) (source : List ℕ) (ends : RunEnds) (text : List ℕ) → IsSourceOf edition source calling → ends.line.written ≡ Some [] → ends.line_after.written ≡ Some text → (text ≡ [] → ⊥)
       → Locates edition source one_file 3 ends LIMIT → at 16 text ≡ 102
   calling_stops edition source ends text is before following some h =
       let s = stops_so edition source calling is 3 ends LIMIT (omega arith) (λ input. refl) text before following some h in
-      let l = limit_site calling 3 text (call (record { parameters = 0; frame = 0; targets = []; code = calling_f; strings = 9; first_label = 1 }) 9 0 []) (λ input. refl) s in
-      ap (at 16) (l.1 ∙ ap (λ p. codes "limit\n" ++ (codes "at     " ++ (p ++ (right 4 (decimal l.0) ++ step_end 3)))) calling_place)
+      let l = limit_site calling source 3 text (call (record { parameters = 0; frame = 0; targets = []; code = calling_f; strings = 9; first_label = 1 }) 9 0 []) (λ input. refl) s in
+      ap (at 16) (l.2 ∙ ap (λ p. codes "limit\n" ++ (codes "at     " ++ (p ++ (right 4 (decimal l.0) ++ step_end 3 l.1)))) calling_place)
 
   -- what stands after the line, at the limit of `nothing` and after the trap of `trapping`
-  one_step : drop 7 (skip_digits (step_end 1)) ≡ codes "1\n"
+  one_step : (more : List ℕ) → drop 7 (skip_digits (step_end 1 more)) ≡ codes "1\n" ++ more
   unfolding digits
-  one_step = refl
+  one_step more = refl
 
-  two_steps : drop 7 (skip_digits (step_end 2)) ≡ codes "2\n"
+  two_steps : (more : List ℕ) → drop 7 (skip_digits (step_end 2 more)) ≡ codes "2\n" ++ more
   unfolding digits
-  two_steps = refl
+  two_steps more = refl
 
   trap_is : (result : Outcome) → located_status result ≡ Some 130 → (kind : Trap) × (result ≡ outcome.Trap kind)
   trap_is (outcome.Exit n) e = cc
@@ -1255,9 +1257,9 @@ module _ (file : File) where
   over_at_two input (suc (suc zero)) active less h = let is = h.state_is in cc
   over_at_two input (suc (suc (suc n))) active less h = absurd (omega (arith, less))
 
-  trapping_stops : (text : List ℕ) → Stops trapping 3 text 130
-      → (line : ℕ) × (text ≡ codes "trap fn\n" ++ (codes "at     " ++ (codes "in main     place    1  line " ++ (right 4 (decimal line) ++ step_end 2))))
-  trapping_stops text s =
+  trapping_stops : (source text : List ℕ) → Stops trapping source 3 text 130
+      → (line : ℕ) × (more : List ℕ) × (text ≡ codes "trap fn\n" ++ (codes "at     " ++ (codes "in main     place    1  line " ++ (right 4 (decimal line) ++ step_end 2 more))))
+  trapping_stops source text s =
       let fs = functions_of trapping in
       let t = trap_is s.result s.located in
       let ends = subst (λ x. EndsAt (machine trapping s.input) 3 x s.active s.made) t.1 s.stops in
@@ -1268,25 +1270,27 @@ module _ (file : File) where
       let strings : s.active.strings ≡ 8 = ap (λ (a : Active). a.strings) (sym r.active_is) ∙ ap (λ (x : Call). x.function.strings) call_is in
       let place : s.active.place ≡ 1 = ap (λ (a : Active). a.place) (sym r.active_is) ∙ ap (λ (x : Call). x.place) call_is in
       let made : s.made ≡ 2 = ends.4 ∙ ap (λ n. n + 1) last in
-      let number = right 4 (decimal s.line) in (
+      let number = right 4 (decimal s.line) in
+      let more = explanation source (outcome.Trap trap.NotAFunction) s.line in (
         s.line,
-        s.text_is ∙ ap (λ x. line_in x ++ site_line (leg fs) s.active.strings s.active.place s.line s.made) (t.1 ∙ sym kind)
-            ∙ ap (λ t. codes "trap fn\n" ++ t) (site_parts (codes "at     ") (place_head fs s.active.strings s.active.place) number (codes "  step ") (decimal s.made) (codes "\n"))
-            ∙ ap (λ n. codes "trap fn\n" ++ (codes "at     " ++ (place_head fs s.active.strings s.active.place ++ (number ++ step_end n)))) made
-            ∙ ap (λ n. codes "trap fn\n" ++ (codes "at     " ++ (place_head fs n s.active.place ++ (number ++ step_end 2)))) strings
-            ∙ ap (λ n. codes "trap fn\n" ++ (codes "at     " ++ (place_head fs 8 n ++ (number ++ step_end 2)))) place
-            ∙ ap (λ p. codes "trap fn\n" ++ (codes "at     " ++ (p ++ (number ++ step_end 2)))) trapping_place,
+        more,
+        s.text_is ∙ ap (λ x. line_in x ++ told_site (leg fs) source x s.active.strings s.active.place s.line s.made) (t.1 ∙ sym kind)
+            ∙ ap (λ t. codes "trap fn\n" ++ t) (site_parts (codes "at     ") (place_head fs s.active.strings s.active.place) number (codes "  step ") (decimal s.made) (codes "\n") more)
+            ∙ ap (λ n. codes "trap fn\n" ++ (codes "at     " ++ (place_head fs s.active.strings s.active.place ++ (number ++ step_end n more)))) made
+            ∙ ap (λ n. codes "trap fn\n" ++ (codes "at     " ++ (place_head fs n s.active.place ++ (number ++ step_end 2 more)))) strings
+            ∙ ap (λ n. codes "trap fn\n" ++ (codes "at     " ++ (place_head fs 8 n ++ (number ++ step_end 2 more)))) place
+            ∙ ap (λ p. codes "trap fn\n" ++ (codes "at     " ++ (p ++ (number ++ step_end 2 more)))) trapping_place,
       )
 
   pub places_excluded : LocatesExcluded file
   places_excluded = record {
     limit_alone = λ ds steps starts edition source ends is before following h.
         let s = stops_so edition source ds is steps ends LIMIT (omega arith) starts (codes "limit\n") before following (λ e. cc) h in
-        let limit = s.text_is ∙ ap (λ x. line_in x ++ site_line (leg (functions_of ds)) s.active.strings s.active.place s.line s.made) (limit_is s.result s.located) in
+        let limit = s.text_is ∙ ap (λ x. line_in x ++ told_site (leg (functions_of ds)) source x s.active.strings s.active.place s.line s.made) (limit_is s.result s.located) in
         differ 6 0 97 _ _ limit refl refl (λ e. omega (arith, e));
     trap_alone = λ ds steps kind starts edition source ends is before following h.
         let s = stops_so edition source ds is steps ends TRAP (omega arith) starts (report_text (report.Trap kind)) before following (λ e. cc) h in
-        trap_alone s.result kind (functions_of ds) s.active.strings s.active.place s.line s.made s.located s.text_is;
+        trap_alone s.result kind (functions_of ds) source s.active.strings s.active.place s.line s.made s.located s.text_is;
     place_before = λ rest edition source ends is before following h.
         let bad : 48 ≡ 49 = nothing_stops edition source ends (codes "limit\nat     in main     place    0" ++ rest) is before following (λ e. cc) h in
         omega (arith, bad);
@@ -1299,16 +1303,16 @@ module _ (file : File) where
     other_step = λ text other edition source ends is before following h.
         let whole = codes "limit\nat     in main     place    1  line    1  step " ++ text in
         let s = stops_so edition source nothing is 1 ends LIMIT (omega arith) (λ input. refl) whole before following (λ e. cc) h in
-        let l = limit_site nothing 1 whole (call (loaded closing 8) 8 1 (0 ∷ [])) (λ input. refl) s in
-        let placed = l.1 ∙ ap (λ p. codes "limit\n" ++ (codes "at     " ++ (p ++ (right 4 (decimal l.0) ++ step_end 1)))) nothing_place in
-        let shown = append_cancel_left (codes "limit\nat     in main     place    1  line ") (codes "   1  step " ++ text) (right 4 (decimal l.0) ++ step_end 1) placed in
-        other (ap (drop 7) (ap after_number shown ∙ number_skipped 4 l.0 (step_end 1)) ∙ one_step);
+        let l = limit_site nothing source 1 whole (call (loaded closing 8) 8 1 (0 ∷ [])) (λ input. refl) s in
+        let placed = l.2 ∙ ap (λ p. codes "limit\n" ++ (codes "at     " ++ (p ++ (right 4 (decimal l.0) ++ step_end 1 l.1)))) nothing_place in
+        let shown = append_cancel_left (codes "limit\nat     in main     place    1  line ") (codes "   1  step " ++ text) (right 4 (decimal l.0) ++ step_end 1 l.1) placed in
+        other l.1 (ap (drop 7) (ap after_number shown ∙ number_skipped 4 l.0 (step_end 1 l.1)) ∙ one_step l.1);
     other_step_of_trap = λ text other edition source ends is before following h.
         let whole = codes "trap fn\nat     in main     place    1  line    1  step " ++ text in
         let s = stops_so edition source trapping is 3 ends TRAP (omega arith) (λ input. refl) whole before following (λ e. cc) h in
-        let l = trapping_stops whole s in
-        let shown = append_cancel_left (codes "trap fn\nat     in main     place    1  line ") (codes "   1  step " ++ text) (right 4 (decimal l.0) ++ step_end 2) l.1 in
-        other (ap (drop 7) (ap after_number shown ∙ number_skipped 4 l.0 (step_end 2)) ∙ two_steps);
+        let l = trapping_stops source whole s in
+        let shown = append_cancel_left (codes "trap fn\nat     in main     place    1  line ") (codes "   1  step " ++ text) (right 4 (decimal l.0) ++ step_end 2 l.1) l.2 in
+        other l.1 (ap (drop 7) (ap after_number shown ∙ number_skipped 4 l.0 (step_end 2 l.1)) ∙ two_steps l.1);
     other_status = λ ds steps result status starts comes wrong less edition source ends is h.
         wrong (came_to edition source ds is steps ends status less starts result comes h);
     read_failed = λ edition source steps ends failed h. place_read edition source steps ends failed h;

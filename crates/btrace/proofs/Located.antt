@@ -75,11 +75,11 @@ module _ (edition : Edition) (source : List ℕ) (files : Files) (n : ℕ) (ends
   -- a run whose place was told
   pub located_whole : (told : Outgoing) (legend : Legend) (answer : ℕ) (active : Active) (made : ℕ) → HasProgram edition source ds image → legend ≡ legend_in ds files → IsUnstarted image p
       → RunGives (steps_from p) n ends.input ends.input_after ends.out ends.out_after result → Finishes result ends.line told answer → located_status result ≡ Some answer
-      → IsOverAt (steps_from p) n ends.input ends.input_after result active made → TellsSite legend active.strings active.place made answer told ends.line_after status → Locates edition source files n ends status
+      → IsOverAt (steps_from p) n ends.input ends.input_after result active made → TellsSite legend source result active.strings active.place made answer told ends.line_after status → Locates edition source files n ends status
   located_whole told legend answer active made is functions begins gives finishes at stops tells =
       located told ds image result answer active made is (runs_whole is begins gives) finishes at
       (stops_run ds image p is.loaded begins n ends.input ends.input_after result active made stops)
-      (subst (λ (x : Legend). TellsSite x active.strings active.place made answer told ends.line_after status) functions tells)
+      (subst (λ (x : Legend). TellsSite x source result active.strings active.place made answer told ends.line_after status) functions tells)
 
   -- a run that has no place
   pub unlocated_whole : HasProgram edition source ds image → IsUnstarted image p → RunGives (steps_from p) n ends.input ends.input_after ends.out ends.out_after result

@@ -96,3 +96,7 @@ site_parts in_text at_text line_text old t1 t2 t3 t4 t5 t6 shown name place line
     let p4 = piece old t3 t4 (in_text ++ left 8 name ++ at_text) place p3 e4 in
     let p5 = piece old t4 t5 (in_text ++ left 8 name ++ at_text ++ place) line_text p4 e5 in
     piece old t5 t6 (in_text ++ left 8 name ++ at_text ++ place ++ line_text) line p5 e6
+
+-- a place with the line of the source after it, and what the outcome means
+pub told_parts : (a n i s k m e : List ℕ) → ((((a ++ (n ++ i)) ++ s) ++ k) ++ m) ++ e ≡ (a ++ n) ++ ((((i ++ s) ++ k) ++ m) ++ e)
+told_parts a n i s k m e = simp append_assoc

@@ -241,11 +241,10 @@ module _ (file : File) where
     pub place_of_frame : (rest : List ℕ)
         → NoPlace nothing 1 LIMIT (codes "limit\nat     in main     place    8" ++ rest)
     pub caller_in_place : (rest : List ℕ) → NoPlace calling 3 LIMIT (codes "limit\nat     in main" ++ rest)
-    -- another number of the step than 1 at the limit, than 2 for a trap in the second of three steps; or none, or more
-    -- after it
-    pub other_step : (text : List ℕ) → (text ≡ codes "1\n" → ⊥)
+    -- another number of the step than 1 at the limit, than 2 for a trap in the second of three steps; or none
+    pub other_step : (text : List ℕ) → ((rest : List ℕ) → text ≡ codes "1\n" ++ rest → ⊥)
         → NoPlace nothing 1 LIMIT (codes "limit\nat     in main     place    1  line    1  step " ++ text)
-    pub other_step_of_trap : (text : List ℕ) → (text ≡ codes "2\n" → ⊥)
+    pub other_step_of_trap : (text : List ℕ) → ((rest : List ℕ) → text ≡ codes "2\n" ++ rest → ⊥)
         → NoPlace trapping 3 TRAP (codes "trap fn\nat     in main     place    1  line    1  step " ++ text)
     -- another status than that of the machine after just so many steps
     pub other_status : (ds : List Definition) (steps : ℕ) (result : Outcome) (status : ℕ)

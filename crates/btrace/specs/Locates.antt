@@ -1,10 +1,11 @@
 -- Promise: what comes of a source that is run and where its run was over is told.
-use Rattle.std.specs.Prelude.{◌≡◌, ◌⊎◌, ℕ, List, ◌++◌, Option, Some, None, codes, decimal}
+use Rattle.std.specs.Prelude.{◌≡◌, ◌⊎◌, ℕ, List, [], ◌++◌, Option, Some, None, codes, decimal}
 use Rattle.bword.specs.declared.edition.Edition.{Edition}
 use Rattle.bword.specs.ByteEnds.{Outgoing}
 use Rattle.blang.specs.declared.code.Definition.{Definition}
 use Rattle.blang.specs.declared.run.Outcome.{Outcome}
 use Rattle.blang.specs.declared.run.Outcome.TheVariants as outcome
+use Rattle.blang.specs.declared.run.Trap.TheVariants as trap
 use Rattle.blang.specs.declared.status.TheConstants.{LIMIT, MEMORY, TRAP}
 use Rattle.blang.specs.Machine.{Image, machine}
 use Rattle.blang.specs.Reports.{Finishes, HasNotRun, RunEnds, RunGives, Reported}
@@ -13,6 +14,7 @@ use Rattle.bmach.specs.Stops.{IsOverAt}
 use Rattle.bmach.specs.declared.machine.Active.{Active}
 use Rattle.btools.specs.FaultPlaces.{fault_lines}
 use Rattle.btools.specs.Programs.{HasProgram, NoProgram}
+use Rattle.btools.specs.SourceLines.{line_at, shown_line}
 use Rattle.bsources.specs.Files.{Files}
 use Rattle.btrace.specs.RowTexts.{Legend, legend_in, site_text}
 
@@ -27,10 +29,32 @@ abbrev pub site_line : Legend → (strings place line number : ℕ) → List ℕ
 site_line legend strings place line number =
     codes "at     " ++ site_text legend strings place line ++ codes "  step " ++ decimal number ++ codes "\n"
 
--- A line with this place and this step was written, or memory was refused for it.
-abbrev pub TellsSite : Legend → (strings place number answer : ℕ) → (old new : Outgoing) → (status : ℕ) → Type 0
-TellsSite legend strings place number answer old new status =
-    ((line : ℕ) × Reported (site_line legend strings place line number) answer old new status)
+-- what a trap or the limit means
+abbrev pub meaning : Outcome → List ℕ
+meaning (outcome.Trap trap.ZeroDivisor) = codes "a division by 0"
+meaning (outcome.Trap trap.NotAFunction) = codes "a call of something that is no function"
+meaning (outcome.Trap trap.NotALabel) = codes "a goto to something that is no label of the function"
+meaning (outcome.Trap trap.NoRoom) = codes "a call whose frame has no room in memory"
+meaning (outcome.Trap trap.TooDeep) = codes "more than 4096 active calls"
+meaning (outcome.Trap trap.BadBase) = codes "a base of printn that isn't 2 to 10"
+meaning (outcome.Trap trap.Stuck) = codes "too few operands, or no instruction at this place"
+meaning outcome.Limit = codes "no end within so many steps; --steps N or --no-limit gives more"
+meaning result = []
+
+-- the line of the source, and what the outcome means
+abbrev pub explanation : (source : List ℕ) → Outcome → (line : ℕ) → List ℕ
+explanation source result line =
+    codes "    " ++ shown_line (line_at source line) ++ codes "\n  means: " ++ meaning result ++ codes "\n"
+
+abbrev pub told_site : Legend → (source : List ℕ) → Outcome → (strings place line number : ℕ) → List ℕ
+told_site legend source result strings place line number =
+    site_line legend strings place line number ++ explanation source result line
+
+-- A line with this place and this step, the line there and the meaning were written, or memory was refused for it.
+abbrev pub TellsSite : Legend → (source : List ℕ) → Outcome → (strings place number answer : ℕ) → (old new : Outgoing)
+    → (status : ℕ) → Type 0
+TellsSite legend source result strings place number answer old new status =
+    ((line : ℕ) × Reported (told_site legend source result strings place line number) answer old new status)
     ⊎ ((new ≡ old) × (status ≡ MEMORY))
 
 -- The program of the source was run for so many steps at most, as the machine runs it, and has its line and status; and
@@ -44,7 +68,7 @@ pub data Locates (edition : Edition) (source : List ℕ) (files : Files) (steps 
       → RunGives (machine ds) steps ends.input ends.input_after ends.out ends.out_after result
       → Finishes result ends.line told answer → located_status result ≡ Some answer
       → IsOverAt (machine ds) steps ends.input ends.input_after result active made
-      → TellsSite (legend_in ds files) active.strings active.place made answer told ends.line_after status
+      → TellsSite (legend_in ds files) source result active.strings active.place made answer told ends.line_after status
       → Locates edition source files steps ends status
   unlocated : (ds : List Definition) (image : Image) (result : Outcome)
       → HasProgram edition source ds image

@@ -3,7 +3,7 @@ use Rattle.std.specs.Prelude.{◌≡◌, ℕ, true, false, [], ◌∷◌, ◌++�
 use Rattle.std.specs.Fmt.{digits}
 use Rattle.blang.specs.declared.run.Outcome.TheVariants as outcome
 use Rattle.blang.specs.declared.run.Trap.TheVariants as trap
-use Rattle.btrace.specs.Locates.{located_status, site_line}
+use Rattle.btrace.specs.Locates.{explanation, located_status, site_line, told_site}
 use Rattle.bmach.specs.declared.machine.Active.{Active}
 use Rattle.btrace.specs.RowTexts.{first_words, has_more, instr_text, margin, operands_text, signed_text, stored_text}
 use Rattle.btrace.specs.RowTexts.{word_row, words_text, written_byte, written_row}
@@ -189,3 +189,13 @@ site_with_most_steps : site_line (record { functions = []; files = two_files }) 
     ≡ codes "at     in          place    0  line    1  step 18446744073709551615\n"
 unfolding digits
 site_with_most_steps = refl
+
+-- after the place the line of the source, and what the outcome means
+told_trap : told_site (record { functions = []; files = two_files }) (codes "main()\n  f(1 / 0); \n") (outcome.Trap trap.ZeroDivisor)
+    9 3 2 7 ≡ codes "at     in          place    3  line    2  step 7\n      f(1 / 0);\n  means: a division by 0\n"
+unfolding digits
+told_trap = refl
+
+told_limit : explanation (codes "main() f();") outcome.Limit 1
+    ≡ codes "    main() f();\n  means: no end within so many steps; --steps N or --no-limit gives more\n"
+told_limit = refl

@@ -12,7 +12,6 @@ use Rattle.blang.specs.Machine.{Call, Image, Loaded, State, Running, Halted, Stu
 use Rattle.blang.specs.Reports.{Reported, RunEnds, Finishes}
 use Rattle.blang.specs.Machine.{image_of, machine, state_world}
 use Rattle.blang.specs.Reports.{AsksForByte, HasNotRun, RunGives, state_outcome}
-use Rattle.blang.specs.Machine as runs
 use Rattle.bmach.specs.Readings.{ReadBySteps}
 use Rattle.bmach.specs.Stepping.{BeginsNot, Paused, machine_at}
 use Rattle.bmach.specs.Stops.{active_of}

@@ -4,25 +4,26 @@ ghost use Rattle.blang.specs.Reports.{run_ends};
 ghost use Rattle.btrace.specs.Excluded.{LocatesExcluded};
 ghost use Rattle.bsources.specs.Files.{File, files_shown};
 ghost use Rattle.btrace.specs.RowTexts.{legend_of};
-ghost use Rattle.btrace.specs.Locates.{Locates, TellsSite, located_status, site_line};
+ghost use Rattle.btrace.specs.Locates.{Locates, TellsSite, located_status, meaning, told_site};
 
 use crate::legend::Legend;
-use crate::places::push_site;
-use blang::Outcome;
+use crate::places::{line_of, push_site};
+use blang::{Outcome, Trap};
 use blang::status::{self, Status};
 use bmach::{Stepper, Stop};
 use bpages::PagedStore;
 use brun::finish;
 use bsources::SourceFiles;
-use btools::{Tables, Text, read_program, tell, tell_placed};
+use btools::{Tables, Text, line_at, push_source_line, read_program, tell, tell_placed};
 use bword::{ByteIn, ByteOut, Edition};
 use std::alloc::{AllocError, Global};
 
 /// Compiles a source, runs its program for at most so many steps, and tells where the run ended.
 ///
 /// The output, the line and the status are those of `go_edition`. After the line of a trap or of the limit, a second
-/// line tells the function, the place in it, the line of the source, and how many steps were made. If `main` had no
-/// room for its frame, the run never began, and there is no second line.
+/// line tells the function, the place in it, the number of the line of the source, and how many steps were made; then
+/// come this line of the source, and what the trap or the limit means. If `main` had no room for its frame, the run
+/// never began, and nothing comes after the first line.
 pub fn locate<I: ByteIn, O: ByteOut, D: ByteOut>(
     alloc: Global,
     source: &[u8],
@@ -62,7 +63,7 @@ pub fn locate<I: ByteIn, O: ByteOut, D: ByteOut>(
     };
     let told = finish(stop.outcome, diag);
     match located_status(stop.outcome) {
-        Some(status) if status == told => tell_site(alloc, &legend, stop, told, diag),
+        Some(status) if status == told => tell_site(alloc, &legend, source, stop, told, diag),
         _ => told,
     }
 }
@@ -78,31 +79,61 @@ fn located_status(outcome: Outcome) -> Option<Status>
     }
 }
 
+// What a trap or the limit means; nothing for another outcome.
+#[rattlefmt::skip]
+fn meaning(outcome: Outcome) -> &'static str
+    ensures { result.now ≡ meaning outcome }
+{
+    match outcome {
+        Outcome::Trap(Trap::ZeroDivisor) => "a division by 0",
+        Outcome::Trap(Trap::NotAFunction) => "a call of something that is no function",
+        Outcome::Trap(Trap::NotALabel) => "a goto to something that is no label of the function",
+        Outcome::Trap(Trap::NoRoom) => "a call whose frame has no room in memory",
+        Outcome::Trap(Trap::TooDeep) => "more than 4096 active calls",
+        Outcome::Trap(Trap::BadBase) => "a base of printn that isn't 2 to 10",
+        Outcome::Trap(Trap::Stuck) => "too few operands, or no instruction at this place",
+        Outcome::Limit => "no end within so many steps; --steps N or --no-limit gives more",
+        Outcome::Exit(_) | Outcome::Device | Outcome::Memory => "",
+    }
+}
+
 fn tell_site<D: ByteOut>(
     alloc: Global,
     legend: &Legend<'_, '_, '_>,
+    source: &[u8],
     stop: Stop,
     status: Status,
     diag: &mut D,
 ) -> Status
-    ensures tells { TellsSite (legend_of legend.now) stop.call.strings stop.call.place stop.steps status (D.outgoing diag.old) (D.outgoing diag.new) result }
+    ensures tells { TellsSite (legend_of legend.now) source.now stop.outcome stop.call.strings stop.call.place stop.steps
+        status (D.outgoing diag.old) (D.outgoing diag.new) result }
     ensures same { D.lender diag.new ≡ D.lender diag.old }
 {
-    match site_line(alloc, legend, stop) {
+    match told_site(alloc, legend, source, stop) {
         Ok(text) => tell(text.as_slice(), status, diag),
         Err(_) => status::MEMORY,
     }
 }
 
-fn site_line(alloc: Global, legend: &Legend<'_, '_, '_>, stop: Stop) -> Result<Text, AllocError>
-    ensures { IfOk result (λ text. (line : ℕ)
-        × (text ≡ site_line (legend_of legend.now) stop.call.strings stop.call.place line stop.steps)) }
+fn told_site(
+    alloc: Global,
+    legend: &Legend<'_, '_, '_>,
+    source: &[u8],
+    stop: Stop,
+) -> Result<Text, AllocError>
+    ensures { IfOk result (λ text. (line : ℕ) × (text ≡ told_site (legend_of legend.now) source.now stop.outcome
+        stop.call.strings stop.call.place line stop.steps)) }
 {
+    let line = line_of(legend, stop.call);
     let mut text = Text::new(alloc);
     text.push(b"at     ")?;
-    push_site(&mut text, legend, stop.call)?;
+    push_site(&mut text, legend, stop.call, line)?;
     text.push(b"  step ")?;
     text.push_number(stop.steps)?;
+    text.push(b"\n    ")?;
+    push_source_line(&mut text, line_at(source, line))?;
+    text.push(b"\n  means: ")?;
+    text.push(meaning(stop.outcome).as_bytes())?;
     text.push(b"\n")?;
     Ok(text)
 }

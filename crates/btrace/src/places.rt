@@ -55,9 +55,14 @@ fn push_place<S: Store + Drop>(
     ensures { OnOk result ((line : ℕ) ×
         (text.new ≡ text.old ++ place_text (legend_of legend.now) stepper.now.store (record { call = call; line = line }))) }
 {
-    push_site(text, legend, call)?;
+    push_site(text, legend, call, line_of(legend, call))?;
     push_words(text, stepper, call)?;
     text.push(b"\n")
+}
+
+/// The line of the source of the instruction at which a call is.
+pub fn line_of(legend: &Legend<'_, '_, '_>, call: Active) -> u64 {
+    legend.tables.line(legend.tables.entry(call.strings), call.place)
 }
 
 /// Adds the function of a call, the place in it, and the line of the source.
@@ -65,11 +70,11 @@ pub fn push_site(
     text: &mut Text,
     legend: &Legend<'_, '_, '_>,
     call: Active,
+    line: u64,
 ) -> Result<(), AllocError>
-    ensures { OnOk result ((line : ℕ) × (text.new ≡ text.old ++ site_text (legend_of legend.now) call.strings call.place line)) }
+    ensures { OnOk result (text.new ≡ text.old ++ site_text (legend_of legend.now) call.strings call.place line) }
 {
     let entry = legend.tables.entry(call.strings);
-    let line = legend.tables.line(entry, call.place);
     text.push(b"in ")?;
     text.push_left(8, name_of(entry))?;
     text.push(b" place ")?;

@@ -1,6 +1,6 @@
 use Rattle.std.proofs.Common.{◌∙◌, ◌+◌, ◌-◌, ℕ, suc, List, [], ap, arith, drop, get_or, length, sym}
 use Rattle.std.proofs.lemmas.List.{length-drop, take_all}
-use Rattle.bcount.specs.SourceLines.{source_lines}
+use Rattle.btools.specs.SourceLines.{source_lines}
 use Rattle.bcount.proofs.Splits.{line_alone, line_found, none_after}
 use Rattle.bcount.proofs.source.split_line.Goals as goal
 

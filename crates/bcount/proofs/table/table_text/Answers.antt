@@ -2,7 +2,7 @@ use Rattle.std.proofs.Common.{◌≡◌, ◌∙◌, ◌+◌, ◌++◌, ◌==◌,
 use Rattle.std.specs.List.{flat_map, list_any, range_with_len}
 use Rattle.bsources.specs.Files.{files_shown}
 use Rattle.bcount.specs.Marks.{no_code}
-use Rattle.bcount.specs.SourceLines.{source_lines}
+use Rattle.btools.specs.SourceLines.{source_lines}
 use Rattle.bcount.specs.Tables.{heading_of, row_after, row_text, total_of}
 use Rattle.bcount.specs.declared.marks.Mark.{Mark}
 use Rattle.bcount.proofs.Rows.{one_row, rest_first, rest_next}

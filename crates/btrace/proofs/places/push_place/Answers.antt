@@ -7,11 +7,11 @@ use Rattle.btrace.proofs.places.push_place.Goals as goal
 
 pub returns : goal.returns
 returns g c =
-    let site = c.in_ok-push_site.ensures in
-    let shown = site_text (legend_of c.args.legend.now) c.args.call.strings c.args.call.place site.0 in
+    let line = c.line_of.result in
+    let shown = site_text (legend_of c.args.legend.now) c.args.call.strings c.args.call.place line in
     let words = words_text (first_words c.args.stepper.now.store c.args.call) (has_more c.args.call) in
-    let both = piece c.args.text.now c.push_site.new.text c.push_words.new.text shown words site.1 c.in_ok-push_words.ensures in
+    let both = piece c.args.text.now c.push_site.new.text c.push_words.new.text shown words c.in_ok-push_site.ensures c.in_ok-push_words.ensures in
     on_ok_weaker c.push.result (λ end. (
-      site.0,
+      line,
       piece c.args.text.now c.push_words.new.text c.push.new.self (shown ++ words) (codes "\n") both end,
     )) c.push.ensures

@@ -1,0 +1,25 @@
+-- Inner words: the lines of a source, as they are shown.
+use Rattle.std.specs.Prelude.{ℕ, ◌-◌, ◌==◌, List, [], get_or, length, map, take, if◌then◌else◌}
+use Rattle.std.specs.Char.{is_ascii_whitespace}
+use Rattle.std.specs.List.{slice_split, suffix_len}
+use Rattle.btools.specs.Characters.{is_printable}
+
+-- A newline ends a line, and the last one is what stands after them all.
+abbrev pub source_lines : List ℕ → List (List ℕ)
+source_lines source = slice_split (λ b. b == 10) source
+
+-- the line of a number, from 1 on; nothing where there is none
+abbrev pub line_at : (source : List ℕ) → (number : ℕ) → List ℕ
+line_at source number = get_or (source_lines source) (number - 1) []
+
+-- a line without the white space at its end
+abbrev pub trimmed : List ℕ → List ℕ
+trimmed line = take (length line - suffix_len is_ascii_whitespace line) line
+
+-- a character; a blank for a tab, and `?` for what can't be printed
+abbrev pub plain_byte : ℕ → ℕ
+plain_byte b = if b == 9 then 32 else (if is_printable b then b else 63)
+
+-- a line as it is shown
+abbrev pub shown_line : List ℕ → List ℕ
+shown_line line = map plain_byte (trimmed line)
