@@ -12,11 +12,9 @@ pub(crate) enum Kind {
     /// A keyword that none of the others is.
     Keyword,
     If,
-    While,
     Else,
-    Switch,
-    Case,
-    Default,
+    /// `case` or `default`
+    Arm,
     /// `-`, `*` or `&`, before one operand or between two.
     Sign,
     /// `!`
@@ -53,11 +51,8 @@ impl Kind {
     fn of_keyword(keyword: Keyword) -> Self {
         match keyword {
             Keyword::If => Kind::If,
-            Keyword::While => Kind::While,
             Keyword::Else => Kind::Else,
-            Keyword::Switch => Kind::Switch,
-            Keyword::Case => Kind::Case,
-            Keyword::Default => Kind::Default,
+            Keyword::Case | Keyword::Default => Kind::Arm,
             // It stands alone, as a name does.
             Keyword::Break => Kind::Word,
             _ => Kind::Keyword,

@@ -15,7 +15,7 @@ const DEEPEST: usize = MAX_NESTING;
 
 /// The pieces in the style of the house.
 pub(crate) fn lay_out(alloc: Global, pieces: &[Piece<'_>]) -> Result<Text, AllocError> {
-    let spots = spots(alloc, tokens(alloc, pieces)?.as_slice())?;
+    let spots = spots(alloc, pieces)?;
     let mut spots = spots.as_slice();
     let mut layout = Layout::new(alloc);
     for index in 0..pieces.len() {
@@ -29,16 +29,6 @@ pub(crate) fn lay_out(alloc: Global, pieces: &[Piece<'_>]) -> Result<Text, Alloc
         }
     }
     layout.finish()
-}
-
-fn tokens(alloc: Global, pieces: &[Piece<'_>]) -> Result<Vec<Kind>, AllocError> {
-    let mut tokens = Vec::new(alloc);
-    for piece in pieces {
-        if piece.kind != Kind::Comment {
-            tokens.push(piece.kind)?;
-        }
-    }
-    Ok(tokens)
 }
 
 // Whether a line ends before the next piece.

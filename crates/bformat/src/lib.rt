@@ -5,7 +5,6 @@ mod formatting;
 mod gaps;
 mod kind;
 mod layout;
-mod levels;
 mod reading;
 mod structure;
 

@@ -6,6 +6,7 @@ ghost use Rattle.bformat.specs.Readings.{AreRead, is_bad, texts};
 
 use crate::kind::Kind;
 use blex::{Lexeme, PlacedPiece, Scanner};
+use btree::Sort;
 use bword::Edition;
 use std::alloc::{AllocError, Global};
 
@@ -14,6 +15,8 @@ use std::alloc::{AllocError, Global};
 pub(crate) struct Piece<'a> {
     pub text: &'a [u8],
     pub kind: Kind,
+    /// What a token is for the constructs.
+    pub sort: Option<Sort>,
     /// How many lines end between the piece before and this one.
     pub breaks: usize,
     /// How many blanks and tabs stand before it on its line.
@@ -55,6 +58,7 @@ fn piece_after<'a>(source: &'a [u8], at: usize, found: &PlacedPiece) -> Piece<'a
     Piece {
         text: &source[found.first..found.end],
         kind: Kind::of(found.lexeme),
+        sort: found.lexeme.map(Sort::of),
         breaks: breaks(gap),
         blanks: blanks(gap),
     }

@@ -1,7 +1,8 @@
 //! Which tokens begin a line, and at which level.
 use crate::gaps::{Gap, Role, gap_before, role_of};
 use crate::kind::Kind;
-use crate::levels::{Construct, Levels};
+use crate::reading::Piece;
+use btree::{Construct, Sort, Tag, tags_of};
 use std::alloc::{AllocError, Global};
 
 /// How many levels further in a line stands that goes on with a statement.
@@ -38,48 +39,69 @@ pub(crate) const END: Spot = Spot {
 };
 
 /// Where each token stands.
-pub(crate) fn spots(alloc: Global, tokens: &[Kind]) -> Result<Vec<Spot>, AllocError> {
+pub(crate) fn spots(alloc: Global, pieces: &[Piece<'_>]) -> Result<Vec<Spot>, AllocError> {
+    let tags = tags_of(alloc, sorts(alloc, pieces)?.as_slice())?;
+    let mut tokens = pieces.iter().filter(|piece| piece.kind != Kind::Comment);
     let mut structure = Structure::new(alloc);
     let mut spots = Vec::new(alloc);
-    for index in 0..tokens.len() {
-        let next = tokens.get(index + 1).copied();
-        spots.push(structure.see(tokens[index], next)?)?;
+    for tag in &tags {
+        match tag {
+            Tag::Begins(construct) => structure.begin(*construct),
+            Tag::Ends => structure.end(),
+            Tag::Token => {
+                if let Some(piece) = tokens.next() {
+                    spots.push(structure.see(piece.kind)?)?;
+                }
+            }
+        }
     }
     Ok(spots)
 }
 
-/// What a token is part of.
+fn sorts(alloc: Global, pieces: &[Piece<'_>]) -> Result<Vec<Sort>, AllocError> {
+    let mut sorts = Vec::new(alloc);
+    for piece in pieces {
+        if let Some(sort) = piece.sort {
+            sorts.push(sort)?;
+        }
+    }
+    Ok(sorts)
+}
+
+/// How a statement or a definition begins.
 #[derive(Clone, Copy, PartialEq, Eq)]
-enum Part {
-    /// Nothing yet: a statement or a definition begins.
-    Start,
+enum Start {
+    /// As one of several.
+    Plain,
     /// The same, after the colon of a case or a default.
     Armed,
-    /// The same, as the one statement of the innermost construct.
+    /// As the one statement of the construct around it.
     Body,
-    /// A definition of which the name has come.
-    Name,
-    Parameters,
-    Values,
-    /// The condition of an `if` or a `while`.
-    Condition(Construct),
-    /// What a `switch` looks at.
-    Subject,
-    /// A case or a default, up to its colon.
-    Arm,
-    Label,
-    Statement,
+}
+
+// A construct that is open, its first token, and the level of its first line.
+#[derive(Clone, Copy)]
+struct Open {
+    construct: Construct,
+    first: Kind,
+    level: usize,
+    // Whether a case or a default has come.
+    has_arms: bool,
 }
 
 #[derive(Drop)]
 struct Structure {
-    levels: Levels,
-    part: Part,
+    // What is open, from the outside in.
+    opens: Vec<Open>,
+    // What begins with the next token.
+    begun: Option<Construct>,
+    start: Start,
     // The level of the line on which the statement began.
     level: usize,
-    // How many parentheses and brackets, and how many `?`, are open in it.
-    depth: usize,
+    // How many `?` are open in it.
     questions: usize,
+    // The token before, unless a construct has ended after it.
+    latest: Option<Kind>,
     // The token before, and its role.
     before: Option<Kind>,
     role: Role,
@@ -88,204 +110,180 @@ struct Structure {
 impl Structure {
     fn new(alloc: Global) -> Self {
         Structure {
-            levels: Levels::new(alloc),
-            part: Part::Start,
+            opens: Vec::new(alloc),
+            begun: None,
+            start: Start::Plain,
             level: 0,
-            depth: 0,
             questions: 0,
+            latest: None,
             before: None,
             role: Role::Infix,
         }
     }
 
-    fn see(&mut self, kind: Kind, next: Option<Kind>) -> Result<Spot, AllocError> {
-        if self.is_cut_off(kind) {
-            self.levels.open(Construct::Body, self.level)?;
-            self.part = Part::Body;
+    fn begin(&mut self, construct: Construct) {
+        if let Some(before) = self.latest {
+            self.start = match before {
+                Kind::OpenBrace => Start::Plain,
+                _ => Start::Body,
+            };
         }
-        let spot = if self.is_start() || kind == Kind::CloseBrace {
-            self.begin(kind, next)?
-        } else {
-            self.go_on(kind)?
+        self.begun = Some(construct);
+    }
+
+    fn end(&mut self) {
+        self.latest = None;
+        self.start = match self.opens.pop() {
+            Some(open) if open.first == Kind::Arm => Start::Armed,
+            _ => Start::Plain,
         };
+    }
+
+    fn see(&mut self, kind: Kind) -> Result<Spot, AllocError> {
+        let spot = match self.begun {
+            Some(construct) => self.see_first(construct, kind)?,
+            None => self.see_further(kind),
+        };
+        self.begun = None;
+        self.latest = Some(kind);
         self.before = Some(kind);
         Ok(spot)
     }
 
-    fn is_start(&self) -> bool {
-        matches!(self.part, Part::Start | Part::Armed | Part::Body)
-    }
-
-    // Whether what a `switch` looks at is over, or a block begins where none is expected.
-    fn is_cut_off(&self, kind: Kind) -> bool {
-        match kind {
-            Kind::OpenBrace => !self.is_start(),
-            Kind::Word => self.is_after_subject(),
-            _ => role_of(kind, self.role) == Role::Keyword && self.is_after_subject(),
+    // A token with which a construct begins.
+    fn see_first(&mut self, construct: Construct, kind: Kind) -> Result<Spot, AllocError> {
+        let spot = self.first_spot(construct, kind);
+        self.begin_line(kind, spot.level);
+        if kind == Kind::Arm {
+            self.see_arm();
         }
-    }
-
-    fn is_after_subject(&self) -> bool {
-        self.part == Part::Subject && self.depth == 0 && self.role == Role::Operand
-    }
-
-    // A token with which a statement or a definition begins.
-    fn begin(&mut self, kind: Kind, next: Option<Kind>) -> Result<Spot, AllocError> {
-        self.depth = 0;
-        self.questions = 0;
-        if kind != Kind::Else {
-            self.levels.end_ifs();
-        }
-        let spot = self.first_spot(kind, next);
-        self.level = spot.level;
-        self.role = role_of(kind, Role::Infix);
-        self.enter(kind, next)?;
+        self.opens.push(Open {
+            construct,
+            first: kind,
+            level: spot.level,
+            has_arms: false,
+        })?;
         Ok(spot)
     }
 
-    fn first_spot(&self, kind: Kind, next: Option<Kind>) -> Spot {
-        let outside = self.levels.outside();
-        let inside = self.levels.statement();
-        let is_body = self.part == Part::Body;
+    fn begin_line(&mut self, kind: Kind, level: usize) {
+        self.level = level;
+        self.questions = 0;
+        self.role = role_of(kind, Role::Infix);
+    }
+
+    fn first_spot(&self, construct: Construct, kind: Kind) -> Spot {
+        let outside = self.outside();
+        let inside = self.inside();
+        let is_body = self.start == Start::Body;
         match kind {
             Kind::OpenBrace if is_body => Spot::new(Gap::Blank, outside, outside),
-            Kind::CloseBrace => Spot::new(Gap::Line, self.levels.block(), inside),
-            Kind::Else if self.before == Some(Kind::CloseBrace) => {
-                Spot::new(Gap::Blank, outside, outside)
-            }
-            Kind::Else => Spot::new(Gap::Line, outside, outside),
             Kind::If if is_body && self.before == Some(Kind::Else) => {
                 Spot::new(Gap::Blank, outside, outside)
             }
-            Kind::Case | Kind::Default => {
-                let arm = self.levels.arm();
-                Spot::new(self.arm_gap(), arm, arm)
-            }
-            _ if self.is_label(kind, next) => Spot::new(self.line_gap(), 0, inside),
+            Kind::Arm => Spot::new(self.arm_gap(), self.arm(), self.arm()),
+            Kind::Word if construct == Construct::Heading => Spot::new(self.line_gap(), 0, inside),
             _ => Spot::new(self.line_gap(), inside, inside),
         }
     }
 
-    fn is_label(&self, kind: Kind, next: Option<Kind>) -> bool {
-        kind == Kind::Word && next == Some(Kind::Colon) && !self.levels.is_empty()
-    }
-
     fn line_gap(&self) -> Gap {
         match self.before {
-            Some(Kind::Semicolon | Kind::CloseBrace) if self.part == Part::Start => Gap::Paragraph,
+            Some(Kind::Semicolon | Kind::CloseBrace) if self.start == Start::Plain => {
+                Gap::Paragraph
+            }
             _ => Gap::Line,
         }
     }
 
     // Cases may stand side by side.
     fn arm_gap(&self) -> Gap {
-        match self.part {
-            Part::Armed => Gap::Soft,
+        match self.start {
+            Start::Armed => Gap::Soft,
             _ => self.line_gap(),
         }
     }
 
-    // What comes after the first token.
-    fn enter(&mut self, kind: Kind, next: Option<Kind>) -> Result<(), AllocError> {
-        self.part = match kind {
-            Kind::OpenBrace => {
-                self.levels.open(Construct::Block, self.level)?;
-                Part::Start
-            }
+    // Another token.
+    fn see_further(&mut self, kind: Kind) -> Spot {
+        let outside = self.outside();
+        match kind {
             Kind::CloseBrace => {
-                self.levels.close_block();
-                self.levels.end_statement();
-                Part::Start
-            }
-            Kind::Semicolon => {
-                self.levels.end_statement();
-                Part::Start
+                self.begin_line(kind, outside);
+                Spot::new(Gap::Line, outside, self.inside())
             }
             Kind::Else => {
-                self.levels.see_else();
-                Part::Body
+                self.begin_line(kind, outside);
+                Spot::new(self.else_gap(), outside, outside)
             }
-            Kind::If => Part::Condition(Construct::If),
-            Kind::While => Part::Condition(Construct::Body),
-            Kind::Switch => Part::Subject,
-            Kind::Case | Kind::Default => {
-                self.levels.see_arm();
-                Part::Arm
-            }
-            _ if self.is_label(kind, next) => Part::Label,
-            Kind::Word if self.levels.is_empty() => Part::Name,
-            _ => Part::Statement,
-        };
-        if kind == Kind::OpenParen {
-            self.depth = 1;
+            _ => self.go_on(kind),
         }
-        Ok(())
+    }
+
+    fn else_gap(&self) -> Gap {
+        match self.before {
+            Some(Kind::CloseBrace) => Gap::Blank,
+            _ => Gap::Line,
+        }
     }
 
     // A token within a statement or a definition.
-    fn go_on(&mut self, kind: Kind) -> Result<Spot, AllocError> {
+    fn go_on(&mut self, kind: Kind) -> Spot {
+        let around = self.opens.last().map(|open| open.construct);
         let before = self.role;
-        self.role = match (self.part, kind) {
-            (Part::Name | Part::Values, Kind::Sign) => Role::Prefix,
+        self.role = match (around, kind) {
+            (Some(Construct::Definition), Kind::Sign) => Role::Prefix,
             _ => role_of(kind, before),
         };
-        let further = self.level.saturating_add(self.further());
-        let spot = Spot::new(self.gap(before, kind), further, further);
-        self.advance(kind)?;
-        Ok(spot)
-    }
-
-    fn gap(&self, before: Role, kind: Kind) -> Gap {
-        match kind {
+        let gap = match kind {
             Kind::Colon if self.questions == 0 => Gap::Nothing,
             _ => gap_before(before, kind, self.role),
-        }
-    }
-
-    fn further(&self) -> usize {
-        match self.part {
-            Part::Condition(_) => FURTHER_IN_CONDITION,
+        };
+        self.count_questions(kind);
+        let further = match around {
+            Some(Construct::If | Construct::While) => FURTHER_IN_CONDITION,
             _ => FURTHER,
-        }
+        };
+        let level = self.level.saturating_add(further);
+        Spot::new(gap, level, level)
     }
 
-    fn advance(&mut self, kind: Kind) -> Result<(), AllocError> {
+    fn count_questions(&mut self, kind: Kind) {
         match kind {
-            Kind::OpenParen | Kind::OpenBracket => self.depth = self.depth.saturating_add(1),
-            Kind::CloseParen | Kind::CloseBracket => self.depth = self.depth.saturating_sub(1),
             Kind::Question => self.questions = self.questions.saturating_add(1),
+            Kind::Colon => self.questions = self.questions.saturating_sub(1),
             _ => {}
         }
-        self.part = match (self.part, kind) {
-            (_, Kind::Semicolon) => {
-                self.levels.end_statement();
-                Part::Start
-            }
-            (Part::Condition(construct), Kind::CloseParen) if self.depth == 0 => {
-                self.levels.open(construct, self.level)?;
-                Part::Body
-            }
-            (Part::Parameters, Kind::CloseParen) if self.depth == 0 => {
-                self.levels.open(Construct::Body, self.level)?;
-                Part::Body
-            }
-            (Part::Name, Kind::OpenParen) => Part::Parameters,
-            (Part::Name, _) => Part::Values,
-            (_, Kind::Colon) => self.after_colon(),
-            (part, _) => part,
-        };
-        Ok(())
     }
 
-    fn after_colon(&mut self) -> Part {
-        if self.questions > 0 {
-            self.questions -= 1;
-            return self.part;
+    // The level of the line on which the innermost construct begins.
+    fn outside(&self) -> usize {
+        match self.opens.last() {
+            Some(open) => open.level,
+            None => 0,
         }
-        match self.part {
-            Part::Arm => Part::Armed,
-            Part::Label => Part::Start,
-            part => part,
+    }
+
+    // The level of a case or a default in it.
+    fn arm(&self) -> usize {
+        match self.opens.last() {
+            Some(open) => open.level.saturating_add(1),
+            None => 0,
+        }
+    }
+
+    // The level of a statement in it.
+    fn inside(&self) -> usize {
+        match self.opens.last() {
+            Some(open) if open.has_arms => self.arm().saturating_add(1),
+            _ => self.arm(),
+        }
+    }
+
+    // A case or a default has come.
+    fn see_arm(&mut self) {
+        if let Some(open) = self.opens.last_mut() {
+            open.has_arms = true;
         }
     }
 }
