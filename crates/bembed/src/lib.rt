@@ -1,0 +1,7 @@
+//! The compiler and the machine for programs in C, and in all that calls C: texts in, texts out.
+//!
+//! Each call writes in the rooms of its caller. A room too small is a write that failed.
+#![tactic(auto)]
+
+mod calls;
+mod room;
