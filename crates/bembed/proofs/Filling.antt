@@ -1,8 +1,9 @@
 -- What was done over streams that were made over memory was done over their bytes.
-use Rattle.std.proofs.Common.{◌≡◌, ℕ, List, false, refl, sym, subst}
+use Rattle.std.proofs.Common.{◌≡◌, ℕ, List, Option, Some, false, refl, sym, subst}
+use Rattle.bword.specs.declared.edition.Edition.{Edition}
 use Rattle.bword.specs.ByteEnds.{Incoming, Outgoing, Unread, incoming_of}
-use Rattle.bembed.specs.Rooms.{room_of, fresh}
-use Rattle.bembed.specs.Calls.{all_of}
+use Rattle.bembed.specs.Rooms.{Room, room_of, fresh}
+use Rattle.bembed.specs.Calls.{InEdition, all_of, edition_of}
 
 begins : (room : List ℕ) (count failures : ℕ) → (count ≡ 0) × (failures ≡ 0) → room_of room count failures ≡ fresh
 begins room count failures empty =
@@ -29,3 +30,8 @@ into_rooms P stream bytes out out_now out_after oc of ow od line line_now line_a
     (subst (λ r. P (incoming_of stream) fresh (room_of out_now ow od) fresh (room_of r lw ld)) (sym told)
     (subst (λ o. P (incoming_of stream) o (room_of out_now ow od) fresh (room_of line_now lw ld)) (begins out oc of empty_out)
     (subst (λ l. P (incoming_of stream) (room_of out oc of) (room_of out_now ow od) l (room_of line_now lw ld)) (begins line lc lf empty_line) h))))
+
+pub in_edition : (P : Edition → Type 0) (out line : Room) (status number : ℕ) (told : Option Edition) (edition : Edition)
+    → told ≡ edition_of number → told ≡ Some edition → P edition → InEdition (edition_of number) out line status P
+in_edition P out line status number told edition is some h =
+    subst (λ e. InEdition e out line status P) is (subst (λ e. InEdition e out line status P) (sym some) h)

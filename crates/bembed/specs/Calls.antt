@@ -2,7 +2,7 @@
 use Rattle.std.specs.Prelude.{◌≡◌, ℕ, ◌==◌, if◌then◌else◌, List, [], false, Option, Some, None}
 use Rattle.bword.specs.declared.edition.Edition.{Edition}
 use Rattle.bword.specs.declared.edition.Edition.TheVariants as editions
-use Rattle.bword.specs.ByteEnds.{Incoming, Unread, incoming_of}
+use Rattle.bword.specs.ByteEnds.{Incoming, Outgoing, Unread, incoming_of}
 use Rattle.blang.specs.Compiles.{Compiles, CompileHeadline, Run}
 use Rattle.blang.specs.Headline.{GoesOff, Headline}
 use Rattle.blang.specs.Reports.{RunEnds, run_ends}
@@ -19,23 +19,30 @@ abbrev pub InEdition : Option Edition → (out line : Room) → (status : ℕ) �
 InEdition (Some edition) out line status P = P edition
 InEdition None out line status P = Untouched out × Untouched line × (status ≡ WRONG_COMMAND)
 
--- a stream of all of these bytes, and one that has these left
+-- a stream of all of these bytes
 abbrev pub all_of : List ℕ → Incoming
 all_of bytes = incoming_of (record { left = bytes; is_over = false })
 
--- the run of the compiler over streams in memory
-abbrev pub compile_run : Edition → (source : List ℕ) → Unread → (out line : Room) → (out_failures line_failures : ℕ)
+-- a run of the compiler, in order
+abbrev pub run_over : Edition → (source source_after : Incoming) → (code code_after line line_after : Outgoing)
     → (status : ℕ) → Run
-compile_run edition source after out line out_failures line_failures status = record {
+run_over edition source source_after code code_after line line_after status = record {
   edition = edition;
-  source = all_of source;
-  source_after = incoming_of after;
-  code = fresh;
-  code_after = stream_of out out_failures;
-  line = fresh;
-  line_after = stream_of line line_failures;
+  source = source;
+  source_after = source_after;
+  code = code;
+  code_after = code_after;
+  line = line;
+  line_after = line_after;
   status = status;
 }
+
+-- the run of the compiler over a source in memory and two rooms
+abbrev pub compile_run : Edition → (source : List ℕ) → Unread → (out line : Room) → (out_failures line_failures : ℕ)
+    → (status : ℕ) → Run
+compile_run edition source after out line out_failures line_failures status =
+    run_over edition (all_of source) (incoming_of after) fresh (stream_of out out_failures)
+    fresh (stream_of line line_failures) status
 
 -- A source in memory is compiled into two rooms.
 pub record CompilesIn (source : List ℕ) (out line : Room) (status : ℕ) (edition : Edition) : Type 0 where

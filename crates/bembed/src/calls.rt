@@ -1,5 +1,6 @@
 //! The calls.
 ghost use Rattle.std.specs.Prelude.{◌≡◌};
+ghost use Rattle.blang.specs.declared.status.TheConstants.{WRONG_COMMAND};
 ghost use Rattle.bembed.specs.Calls.{edition_of, InEdition, CompilesIn, GoesIn, RunsIn};
 
 use crate::room::Room;
@@ -27,6 +28,45 @@ fn edition_of(number: u8) -> Option<Edition>
     }
 }
 
+// Nothing is written where there is no such edition.
+fn refuse(written: &mut Written) -> Status
+    ensures nothing { (written.new.out ≡ 0) × (written.new.line ≡ 0) }
+    ensures answer { result ≡ WRONG_COMMAND }
+{
+    written.out = 0;
+    written.line = 0;
+    status::WRONG_COMMAND
+}
+
+/// Compiles a source, as `compile_edition` does.
+#[unsafe(no_mangle)]
+pub extern "C" fn b_compile(
+    alloc: Global,
+    source: &[u8],
+    edition: u8,
+    out: &mut [u8],
+    line: &mut [u8],
+    written: &mut Written,
+) -> u8
+    ensures compiles { InEdition (edition_of edition)
+        (record { before = out.old; after = out.new; count = written.new.out })
+        (record { before = line.old; after = line.new; count = written.new.line }) result
+        (CompilesIn source.now
+        (record { before = out.old; after = out.new; count = written.new.out })
+        (record { before = line.old; after = line.new; count = written.new.line }) result) }
+{
+    let Some(edition) = edition_of(edition) else {
+        return refuse(written);
+    };
+    let mut out = Room::new(out);
+    let mut line = Room::new(line);
+    let mut source = MemIn::new(source);
+    let status = compile_edition(alloc, &mut source, &mut out, &mut line, edition);
+    written.out = out.count;
+    written.line = line.count;
+    status
+}
+
 /// Runs a code text, as `run_text` does.
 #[unsafe(no_mangle)]
 pub extern "C" fn b_run(
@@ -46,6 +86,38 @@ pub extern "C" fn b_run(
     let mut line = Room::new(line);
     let mut input = MemIn::new(input);
     let status = run_text(alloc, code, &mut input, &mut out, &mut line, steps);
+    written.out = out.count;
+    written.line = line.count;
+    status
+}
+
+/// Compiles a source and runs its program, as `go_edition` does.
+#[unsafe(no_mangle)]
+pub extern "C" fn b_go(
+    alloc: Global,
+    source: &[u8],
+    input: &[u8],
+    edition: u8,
+    steps: u64,
+    out: &mut [u8],
+    line: &mut [u8],
+    written: &mut Written,
+) -> u8
+    ensures goes { InEdition (edition_of edition)
+        (record { before = out.old; after = out.new; count = written.new.out })
+        (record { before = line.old; after = line.new; count = written.new.line }) result
+        (GoesIn steps source.now input.now
+        (record { before = out.old; after = out.new; count = written.new.out })
+        (record { before = line.old; after = line.new; count = written.new.line }) result) }
+{
+    let Some(edition) = edition_of(edition) else {
+        return refuse(written);
+    };
+    let mut out = Room::new(out);
+    let mut line = Room::new(line);
+    let mut source = MemIn::new(source);
+    let mut input = MemIn::new(input);
+    let status = go_edition(alloc, &mut source, &mut input, &mut out, &mut line, steps, edition);
     written.out = out.count;
     written.line = line.count;
     status
