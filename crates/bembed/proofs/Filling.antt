@@ -22,7 +22,7 @@ pub into_rooms : (P : Incoming → Outgoing → Outgoing → Outgoing → Outgoi
     → (out_count ≡ 0) × (out_failures ≡ 0) → (line_count ≡ 0) × (line_failures ≡ 0)
     → out_after ≡ out_now → line_after ≡ line_now
     → P (incoming_of stream) (room_of out out_count out_failures) (room_of out_now out_written out_failed)
-        (room_of line line_count line_failures) (room_of line_now line_written line_failed)
+    (room_of line line_count line_failures) (room_of line_now line_written line_failed)
     → P (all_of bytes) fresh (room_of out_after out_written out_failed) fresh (room_of line_after line_written line_failed)
 into_rooms P stream bytes out out_now out_after oc of ow od line line_now line_after lc lf lw ld is empty_out empty_line left told h =
     from_memory (λ i. P i fresh (room_of out_after ow od) fresh (room_of line_after lw ld)) stream bytes is

@@ -1,1 +1,1 @@
-pub mod Filling
+mod Filling

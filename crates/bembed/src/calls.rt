@@ -117,7 +117,15 @@ pub extern "C" fn b_go(
     let mut line = Room::new(line);
     let mut source = MemIn::new(source);
     let mut input = MemIn::new(input);
-    let status = go_edition(alloc, &mut source, &mut input, &mut out, &mut line, steps, edition);
+    let status = go_edition(
+        alloc,
+        &mut source,
+        &mut input,
+        &mut out,
+        &mut line,
+        steps,
+        edition,
+    );
     written.out = out.count;
     written.line = line.count;
     status

@@ -1,0 +1,59 @@
+/* The compiler of B and the machine that runs its code, for programs in C.
+ *
+ * Texts come in as a pointer and a length, and go out into rooms of the caller. The calls keep nothing from one to the
+ * next, print nothing, and start no thread.
+ *
+ * The caller sees to this:
+ * - Each pointer is valid for so many bytes and is not null, where the length is 0, too.
+ * - The two rooms and the struct overlap neither one another nor a text.
+ * - malloc, realloc and free come from one allocator, which aligns blocks to 16 bytes, as that of the C library does.
+ * - No call is made from a signal handler, or from the forked child of a process with threads.
+ *
+ * What is said of a call holds for what fits into its rooms. A room that is too small is a write that failed: the status
+ * is B_FAILED, and the room is full of the beginning of what it should hold. So where neither B_FAILED nor B_NO_MEMORY
+ * is answered, all was written. */
+#ifndef B_H
+#define B_H
+
+#include <stddef.h>
+#include <stdint.h>
+
+#ifdef __cplusplus
+extern "C" {
+#endif
+
+/* How many bytes a call has written at the head of each room. The line is what `b` writes to standard error. */
+struct b_written {
+    size_t out;
+    size_t line;
+};
+
+/* The statuses are those of the program `b`. One below 128 is the program's own. */
+enum {
+    B_DONE = 0,
+    B_FAULT = 1,           /* the source has a fault, which the line tells; a program may answer 1, too */
+    B_TRAP = 130,          /* the run ended with a trap, which the line tells */
+    B_LIMIT = 131,         /* the run reached the limit of its steps */
+    B_REFUSED = 132,       /* the text is no code text, or its code doesn't load; the line tells why */
+    B_FAILED = 133,        /* a room is too small */
+    B_NO_MEMORY = 134,     /* out of memory */
+    B_WRONG_EDITION = 135  /* there is no edition of this number; nothing was written */
+};
+
+/* Compiles a source of edition 1 or 2 to its code text, as `b compile` does. */
+uint8_t b_compile(const uint8_t *source, size_t source_size, uint8_t edition, uint8_t *out, size_t out_size, uint8_t *line,
+                  size_t line_size, struct b_written *written);
+
+/* Runs a code text of either edition on an input, for so many steps at most, as `b run` does. */
+uint8_t b_run(const uint8_t *code, size_t code_size, const uint8_t *input, size_t input_size, uint64_t steps, uint8_t *out,
+              size_t out_size, uint8_t *line, size_t line_size, struct b_written *written);
+
+/* Compiles a source and runs its program, as `b go` does. */
+uint8_t b_go(const uint8_t *source, size_t source_size, const uint8_t *input, size_t input_size, uint8_t edition, uint64_t steps,
+             uint8_t *out, size_t out_size, uint8_t *line, size_t line_size, struct b_written *written);
+
+#ifdef __cplusplus
+}
+#endif
+
+#endif

@@ -1,0 +1,75 @@
+/* Tries the calls of the library: worked rows, rooms that are too small, and many calls. */
+#include "b.h"
+
+#include <malloc.h>
+#include <stdio.h>
+#include <string.h>
+
+static uint8_t out[1 << 16], line[256];
+static struct b_written written;
+static int wrong;
+
+static void expect(const char *what, int status, int wanted, const char *text, const char *told) {
+    if (status == wanted && written.out == strlen(text) && memcmp(out, text, written.out) == 0 && written.line == strlen(told) &&
+        memcmp(line, told, written.line) == 0)
+        return;
+    printf("%s: status %d, wrote `%.*s` and `%.*s`\n", what, status, (int)written.out, (char *)out, (int)written.line, (char *)line);
+    wrong = 1;
+}
+
+static int go(const char *source, const char *input, int edition, uint64_t steps, size_t room, size_t line_room) {
+    return b_go((const uint8_t *)source, strlen(source), (const uint8_t *)input, strlen(input), edition, steps, out, room, line, line_room,
+                &written);
+}
+
+static int compile(const char *source, int edition, size_t room, size_t line_room) {
+    return b_compile((const uint8_t *)source, strlen(source), edition, out, room, line, line_room, &written);
+}
+
+static int run(const char *code, const char *input, uint64_t steps, size_t room, size_t line_room) {
+    return b_run((const uint8_t *)code, strlen(code), (const uint8_t *)input, strlen(input), steps, out, room, line, line_room, &written);
+}
+
+int main(void) {
+    const char *answer = "main() { printn(6*7, 10); }";
+    const char *echo = "main() { auto c; while((c = getchar()) != '*e') putchar(c); exit(3); }";
+    expect("a number", go(answer, "", 1, 1000000, sizeof out, sizeof line), 0, "42", "");
+    expect("an input", go(echo, "some text", 1, 1000000, sizeof out, sizeof line), 3, "some text", "");
+    expect("a fault", go("main() { return(x); }", "", 1, 1000000, sizeof out, sizeof line), 1, "", "un x 1\n");
+    expect("a trap", go("main() { printn(1/0, 10); }", "", 1, 1000000, sizeof out, sizeof line), 130, "", "trap dz\n");
+    expect("the limit", go("main() { while(1); }", "", 1, 1000, sizeof out, sizeof line), 131, "", "limit\n");
+    expect("no edition", go(answer, "", 3, 1000, sizeof out, sizeof line), 135, "", "");
+    expect("a room too small", go(answer, "", 1, 1000000, 1, sizeof line), 133, "4", "");
+    expect("no room", go(answer, "", 1, 1000000, 0, 0), 133, "", "");
+    expect("a room that fits", go(answer, "", 1, 1000000, 2, 0), 0, "42", "");
+    expect("a room too small for the line", go("main() { return(x); }", "", 1, 1000000, 0, 4), 133, "", "un x");
+    expect("no code text", run("F", "", 1000, sizeof out, sizeof line), 132, "", "code 1\n");
+
+    char code[sizeof out];
+    int status = compile(echo, 1, sizeof out, sizeof line);
+    memcpy(code, out, written.out);
+    code[written.out] = 0;
+    size_t size = written.out;
+    expect("its code", run(code, "some text", 1000000, sizeof out, sizeof line), 3, "some text", "");
+    if (status != 0 || compile(echo, 1, size, 0) != 0 || memcmp(out, code, size) != 0) {
+        puts("compiling: not the same code in a room that fits");
+        wrong = 1;
+    }
+    for (size_t room = 0; room < size; room++)
+        if (compile(echo, 1, room, 0) != 133 || written.out != room || memcmp(out, code, room) != 0) {
+            printf("compiling into %zu bytes: not the beginning of the code\n", room);
+            wrong = 1;
+            break;
+        }
+
+    for (int i = 0; i < 1000; i++)
+        go(answer, "", 1, 1000000, sizeof out, sizeof line);
+    size_t before = mallinfo2().uordblks;
+    for (int i = 0; i < 100000; i++)
+        go(answer, "", 1, 1000000, sizeof out, sizeof line);
+    if (mallinfo2().uordblks != before) {
+        puts("100000 calls: memory isn't as it was");
+        wrong = 1;
+    }
+    return wrong;
+}

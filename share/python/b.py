@@ -1,0 +1,87 @@
+"""The compiler of B and the machine that runs its code, by the library libb.so.
+
+  >>> import b
+  >>> b.go(b"main() { printn(6*7, 10); }").output
+  b'42'
+
+Texts are bytes. A source with a fault, a trap and whatever else has a line is an Error, with its status, its line and
+what was written before it. The library is looked for at the path in B_LIBRARY, beside this file, and where the system
+has its libraries."""
+import ctypes
+import os
+from typing import NamedTuple
+
+STEPS = 100_000_000
+FAULT, TRAP, LIMIT, REFUSED, FAILED, NO_MEMORY, WRONG_EDITION = 1, 130, 131, 132, 133, 134, 135
+_LINE = 256
+
+
+class Ran(NamedTuple):
+    """What a program wrote, and its status, which is below 128."""
+
+    output: bytes
+    status: int
+
+
+class Error(Exception):
+    """What the library answers with a line, or with a status of its own: `status`, `line`, and `output` so far."""
+
+    def __init__(self, status: int, output: bytes, line: bytes):
+        super().__init__(line.decode("ascii", "replace").strip() or f"status {status}")
+        self.status, self.output, self.line = status, output, line
+
+
+class _Written(ctypes.Structure):
+    _fields_ = [("out", ctypes.c_size_t), ("line", ctypes.c_size_t)]
+
+
+def _load():
+    beside = os.path.join(os.path.dirname(os.path.abspath(__file__)), "libb.so")
+    path = os.environ.get("B_LIBRARY") or (beside if os.path.exists(beside) else "libb.so")
+    library = ctypes.CDLL(path)
+    text, room = [ctypes.c_char_p, ctypes.c_size_t], [ctypes.c_void_p, ctypes.c_size_t]
+    ends = room + room + [ctypes.POINTER(_Written)]
+    library.b_compile.argtypes = text + [ctypes.c_uint8] + ends
+    library.b_run.argtypes = text + text + [ctypes.c_uint64] + ends
+    library.b_go.argtypes = text + text + [ctypes.c_uint8, ctypes.c_uint64] + ends
+    for call in (library.b_compile, library.b_run, library.b_go):
+        call.restype = ctypes.c_uint8
+    return library
+
+
+_library = _load()
+
+
+def _call(function, *words, room):
+    """The status, the output and the line of a call."""
+    out, line, written = ctypes.create_string_buffer(max(room, 1)), ctypes.create_string_buffer(_LINE), _Written()
+    status = function(*words, out, room, line, _LINE, ctypes.byref(written))
+    return status, ctypes.string_at(out, written.out), line.raw[: written.line]
+
+
+def compile(source: bytes, *, edition: int = 1, room: int = 1 << 16) -> bytes:
+    """The code text of a source. A room that is too small is doubled until the text fits."""
+    while True:
+        status, out, line = _call(_library.b_compile, source, len(source), edition, room=room)
+        if status != FAILED:
+            break
+        room *= 2
+    if status != 0:
+        raise Error(status, out, line)
+    return out
+
+
+def _ran(status, out, line):
+    if line or status >= 128:
+        raise Error(status, out, line)
+    return Ran(out, status)
+
+
+def run(code: bytes, input: bytes = b"", *, steps: int = STEPS, room: int = 1 << 16) -> Ran:
+    """What a code text does with an input. Past its room of so many bytes the run ends with FAILED."""
+    return _ran(*_call(_library.b_run, code, len(code), input, len(input), steps, room=room))
+
+
+def go(source: bytes, input: bytes = b"", *, edition: int = 1, steps: int = STEPS, room: int = 1 << 16) -> Ran:
+    """What the program of a source does with an input. Past its room of so many bytes the run ends with FAILED."""
+    return _ran(*_call(_library.b_go, source, len(source), input, len(input), edition, steps, room=room))

@@ -1,0 +1,90 @@
+"""Tries b.py with the library: worked rows, errors and rooms, and each case of `go`, `run` and `compile` that is kept.
+
+  B_LIBRARY=LIBRARY PYTHONPATH=FOLDER python3 try.py CASES
+
+CASES is the folder of kept cases, whose README.md tells their files."""
+import pathlib
+import sys
+
+import b
+
+ECHO = b"main() { auto c; while((c = getchar()) != '*e') putchar(c); exit(3); }"
+MOST = 2**64 - 1
+ROOM = 1 << 20
+
+
+def error_of(call, *words, **named):
+    try:
+        call(*words, **named)
+    except b.Error as error:
+        return error.status, error.line, error.output
+    return None
+
+
+def rows():
+    """What is found and what is wanted, of each row."""
+    yield b.go(b"main() { printn(6*7, 10); }"), (b"42", 0)
+    yield b.go(ECHO, b"some\0text"), (b"some\0text", 3)
+    yield b.go(b"main() { exit(1); }"), (b"", 1)
+    yield b.run(b.compile(ECHO), b"some text"), (b"some text", 3)
+    yield b.compile(ECHO, room=1), b.compile(ECHO)
+    yield error_of(b.go, b"main() { return(x); }"), (b.FAULT, b"un x 1\n", b"")
+    yield error_of(b.go, b"main() { printn(7, 10); printn(1/0, 10); }"), (b.TRAP, b"trap dz\n", b"7")
+    yield error_of(b.go, b"main() { while(1); }", steps=1000), (b.LIMIT, b"limit\n", b"")
+    yield error_of(b.run, b"F"), (b.REFUSED, b"code 1\n", b"")
+    yield error_of(b.go, b"main() { printn(42, 10); }", room=1), (b.FAILED, b"", b"4")
+    yield error_of(b.compile, b"main() { }", edition=3), (b.WRONG_EDITION, b"", b"")
+
+
+def contents(path):
+    return path.read_bytes() if path.exists() else b""
+
+
+def asked(path):
+    """The command, the editions and the limit of steps of a case, or None where it asks for more than a call can do."""
+    words = path.read_text().split("\n")
+    words = words[:-1] if words[-1] == "" else words
+    command, editions, steps = words[0], [1], MOST
+    source = path.with_suffix(".code" if command == "run" else ".b")
+    rest = iter(words[1:])
+    for word in rest:
+        if word.startswith("--edition="):
+            said = word.partition("=")[2]
+            editions = [1, 2] if said == "both" else [int(said)]
+        elif word == "--steps":
+            steps = int(next(rest))
+        elif word != source.name:
+            return None
+    has_text = source.exists() and (command == "compile" or source.name in words)
+    return (command, editions, steps, source) if command in ("go", "run", "compile") and has_text else None
+
+
+def answer(command, text, given, edition, steps):
+    if command == "go":
+        return b._call(b._library.b_go, text, len(text), given, len(given), edition, steps, room=ROOM)
+    if command == "run":
+        return b._call(b._library.b_run, text, len(text), given, len(given), steps, room=ROOM)
+    return b._call(b._library.b_compile, text, len(text), edition, room=ROOM)
+
+
+def cases(folder):
+    """What is found and what is wanted, of each case that a call can serve."""
+    for path in sorted(folder.glob("**/*.args")):
+        kept = [path.with_suffix(it) for it in (".out", ".line", ".status", ".in", ".shown")]
+        out, line, status, given = (contents(it) for it in kept[:4])
+        ask = None if kept[4].exists() or b"...\n" in out + line else asked(path)
+        if ask:
+            command, editions, steps, source = ask
+            for edition in editions:
+                wanted = out if command != "compile" or edition == 1 or len(editions) == 1 else b"B 2\n" + out
+                found = answer(command, source.read_bytes(), given, edition, steps)
+                yield found, (int(status or 0), wanted, line), f"{path.relative_to(folder)}, edition {edition}"
+
+
+tried = [(found, wanted, "a row") for found, wanted in rows()]
+tried += cases(pathlib.Path(sys.argv[1]))
+wrong = [row for row in tried if row[0] != row[1]]
+for found, wanted, name in wrong:
+    print(f"b.py: {name}: {found}, and not {wanted}")
+print(f"b.py: {len(tried)} rows and cases were tried")
+raise SystemExit(1 if wrong else 0)
