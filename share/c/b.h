@@ -9,9 +9,12 @@
  * - malloc, realloc and free come from one allocator, which aligns blocks to 16 bytes, as that of the C library does.
  * - No call is made from a signal handler, or from the forked child of a process with threads.
  *
- * What is said of a call holds for what fits into its rooms. A room that is too small is a write that failed: the status
- * is B_FAILED, and the room is full of the beginning of what it should hold. So where neither B_FAILED nor B_NO_MEMORY
- * is answered, all was written. */
+ * What is said of a call holds for what fits into its rooms. A room that is too small is a write that failed: the
+ * status is B_FAILED, and the room is full of the beginning of what it should hold. So where neither B_FAILED nor
+ * B_NO_MEMORY is answered, all was written.
+ *
+ * Several threads may call at once, each with rooms of its own: calls share nothing but malloc. That was tried, and is
+ * no part of what is proved. */
 #ifndef B_H
 #define B_H
 
@@ -41,16 +44,17 @@ enum {
 };
 
 /* Compiles a source of edition 1 or 2 to its code text, as `b compile` does. */
-uint8_t b_compile(const uint8_t *source, size_t source_size, uint8_t edition, uint8_t *out, size_t out_size, uint8_t *line,
-                  size_t line_size, struct b_written *written);
+uint8_t b_compile(const uint8_t *source, size_t source_size, uint8_t edition, uint8_t *out, size_t out_size,
+                  uint8_t *line, size_t line_size, struct b_written *written);
 
 /* Runs a code text of either edition on an input, for so many steps at most, as `b run` does. */
-uint8_t b_run(const uint8_t *code, size_t code_size, const uint8_t *input, size_t input_size, uint64_t steps, uint8_t *out,
-              size_t out_size, uint8_t *line, size_t line_size, struct b_written *written);
+uint8_t b_run(const uint8_t *code, size_t code_size, const uint8_t *input, size_t input_size, uint64_t steps,
+              uint8_t *out, size_t out_size, uint8_t *line, size_t line_size, struct b_written *written);
 
 /* Compiles a source and runs its program, as `b go` does. */
-uint8_t b_go(const uint8_t *source, size_t source_size, const uint8_t *input, size_t input_size, uint8_t edition, uint64_t steps,
-             uint8_t *out, size_t out_size, uint8_t *line, size_t line_size, struct b_written *written);
+uint8_t b_go(const uint8_t *source, size_t source_size, const uint8_t *input, size_t input_size, uint8_t edition,
+             uint64_t steps, uint8_t *out, size_t out_size, uint8_t *line, size_t line_size,
+             struct b_written *written);
 
 #ifdef __cplusplus
 }

@@ -2,6 +2,7 @@
 #include "b.h"
 
 #include <malloc.h>
+#include <pthread.h>
 #include <stdio.h>
 #include <string.h>
 
@@ -10,16 +11,17 @@ static struct b_written written;
 static int wrong;
 
 static void expect(const char *what, int status, int wanted, const char *text, const char *told) {
-    if (status == wanted && written.out == strlen(text) && memcmp(out, text, written.out) == 0 && written.line == strlen(told) &&
-        memcmp(line, told, written.line) == 0)
+    if (status == wanted && written.out == strlen(text) && memcmp(out, text, written.out) == 0 &&
+        written.line == strlen(told) && memcmp(line, told, written.line) == 0)
         return;
-    printf("%s: status %d, wrote `%.*s` and `%.*s`\n", what, status, (int)written.out, (char *)out, (int)written.line, (char *)line);
+    printf("%s: status %d, wrote `%.*s` and `%.*s`\n", what, status, (int)written.out, (char *)out, (int)written.line,
+           (char *)line);
     wrong = 1;
 }
 
 static int go(const char *source, const char *input, int edition, uint64_t steps, size_t room, size_t line_room) {
-    return b_go((const uint8_t *)source, strlen(source), (const uint8_t *)input, strlen(input), edition, steps, out, room, line, line_room,
-                &written);
+    return b_go((const uint8_t *)source, strlen(source), (const uint8_t *)input, strlen(input), edition, steps, out,
+                room, line, line_room, &written);
 }
 
 static int compile(const char *source, int edition, size_t room, size_t line_room) {
@@ -27,7 +29,34 @@ static int compile(const char *source, int edition, size_t room, size_t line_roo
 }
 
 static int run(const char *code, const char *input, uint64_t steps, size_t room, size_t line_room) {
-    return b_run((const uint8_t *)code, strlen(code), (const uint8_t *)input, strlen(input), steps, out, room, line, line_room, &written);
+    return b_run((const uint8_t *)code, strlen(code), (const uint8_t *)input, strlen(input), steps, out, room, line,
+                 line_room, &written);
+}
+
+/* Many calls in a thread, with rooms of its own: it gives its argument back where one was answered otherwise. */
+static void *call_often(void *name) {
+    const char *source = "main() { auto i; i = 0; while(i < 50) { printn(i, 10); i =+ 1; } }";
+    uint8_t own[128], own_line[16];
+    struct b_written so_much;
+    for (int i = 0; i < 2000; i++)
+        if (b_go((const uint8_t *)source, strlen(source), (const uint8_t *)"", 0, 1, 1000000, own, sizeof own, own_line,
+                 sizeof own_line, &so_much) != 0 ||
+            so_much.out != 90 || memcmp(own + 86, "4849", 4) != 0)
+            return name;
+    return NULL;
+}
+
+static void try_threads(void) {
+    pthread_t threads[4];
+    void *failed;
+    for (int i = 0; i < 4; i++)
+        if (pthread_create(&threads[i], NULL, call_often, out) != 0)
+            wrong = 1;
+    for (int i = 0; i < 4; i++)
+        if (pthread_join(threads[i], &failed) != 0 || failed) {
+            puts("four threads at once: a call was answered otherwise");
+            wrong = 1;
+        }
 }
 
 int main(void) {
@@ -71,5 +100,6 @@ int main(void) {
         puts("100000 calls: memory isn't as it was");
         wrong = 1;
     }
+    try_threads();
     return wrong;
 }
