@@ -36,7 +36,10 @@ fn add_comment(
 ) -> Result<(), AllocError> {
     let line = comment.line;
     let last = line.saturating_add(newlines(text, comment.first, comment.end));
-    if last > line && files.own_line(line).file != files.own_line(last).file {
+    if files.beyond_first(line).is_none()
+        && last > line
+        && files.own_line(line).file != files.own_line(last).file
+    {
         found.push(Place {
             line,
             start: comment.first,

@@ -3,7 +3,7 @@ use crate::brackets::Brackets;
 use crate::effects::has_effect;
 use crate::kinds::Kind;
 use crate::patterns::Found;
-use crate::spans::{Spans, lexeme_at};
+use crate::spans::{Spans, is_joined, lexeme_at};
 use crate::warnings::Warning;
 use blang::Keyword;
 use blex::Lexeme;
@@ -35,6 +35,12 @@ fn found_in(spans: &Spans, token: usize, assigned: Option<usize>) -> Option<Warn
     match lexeme_at(spans, token) {
         Lexeme::Assign(None) if is_closed_after(spans, token) => Some(Warning::ConditionAssigns),
         Lexeme::Assign(Some(BinOp::Eq)) => Some(Warning::ConditionAssigns),
+        Lexeme::Assign(Some(BinOp::Ne | BinOp::Lt | BinOp::Le | BinOp::Gt | BinOp::Ge)) => {
+            Some(Warning::AssignsCompared)
+        }
+        Lexeme::Assign(Some(BinOp::Sub)) if is_constant_after(spans, token) => {
+            Some(Warning::ConditionAssigns)
+        }
         Lexeme::Operator(op) if assigned.is_some() && compares_call(spans, token, op) => {
             Some(Warning::AssignsComparison)
         }
@@ -56,6 +62,13 @@ fn compares_call(spans: &Spans, token: usize, op: BinOp) -> bool {
 // Whether a parenthesis closes after the token after this one.
 fn is_closed_after(spans: &Spans, token: usize) -> bool {
     lexeme_at(spans, token.wrapping_add(2)) == Lexeme::CloseParen
+}
+
+// Whether a constant and then a parenthesis come after a token, and a blank or another line between.
+fn is_constant_after(spans: &Spans, token: usize) -> bool {
+    is_closed_after(spans, token)
+        && !is_joined(spans, token)
+        && Kind::Constant.fits(&lexeme_at(spans, token.wrapping_add(1)))
 }
 
 // A `;` after a condition, where nothing else is done.

@@ -188,7 +188,12 @@ fn warnings(
             brackets: &brackets,
             defined: &defined,
         };
-        find(alloc, &tokens, extent, &mut findings)?;
+        if files
+            .beyond_first(place_of(&spans, extent.first).line)
+            .is_none()
+        {
+            find(alloc, &tokens, extent, &mut findings)?;
+        }
     }
     add_comments(comments.as_slice(), last, usize::MAX, &mut findings)?;
     Ok(findings)

@@ -8,8 +8,9 @@ use crate::around::{Around, look_around};
 use crate::bytes::{Constant, byte_of, constant_at};
 use crate::compiled::{Compiled, Extent};
 use crate::finding::{Finding, Place};
+use crate::foreign::{Foreign, word_at_fault};
 use crate::limits::limit_of;
-use crate::spans::{Source, SpanReader, Spans, is_next_line, lexeme_at, place_of};
+use crate::spans::{Source, SpanReader, Spans, is_next_line, lexeme_at, name_at, place_of};
 use crate::syntax::{self, Mark, Syntax};
 use crate::unknown::{Lvalue, Unknown, unknown_name, without_address};
 use bcode::read_code;
@@ -17,6 +18,9 @@ use blang::{About, Diagnostic, Letters, MAX_NESTING};
 use blex::Lexeme;
 use bword::Name;
 use std::alloc::{AllocError, Global};
+
+/// How many tokens are looked at from the one at fault on, which are those of any line.
+const LOOKED_AHEAD: usize = 40;
 
 /// A fault, and the tokens of its definition as far as they were read.
 #[derive(Clone, Copy)]
@@ -39,7 +43,7 @@ pub(crate) fn finding(
     let extent = compiled.extent(compiled.ends.len());
     let looked_at = Extent {
         first: extent.first.saturating_sub(2),
-        end: extent.end.saturating_add(3),
+        end: extent.end.saturating_add(LOOKED_AHEAD),
     };
     let spans = Spans::between(alloc, source, looked_at)?;
     let fault = Fault {
@@ -204,6 +208,9 @@ fn syntax_at(alloc: Global, source: &[u8], spans: &Spans, fault: &Fault, token: 
         return Finding::new(Matter::Syntax(Syntax::CodeText), place_of(spans, token));
     }
     let around = look_around(spans, fault.extent, token);
+    if let Some((word, meaning)) = word_at_fault(spans, &around) {
+        return foreign(spans, &around, word, meaning, fault.diagnostic.line);
+    }
     let (syntax, mark) = syntax::found(source, spans, &around);
     Finding {
         matter: Matter::Syntax(syntax),
@@ -211,6 +218,19 @@ fn syntax_at(alloc: Global, source: &[u8], spans: &Spans, fault: &Fault, token: 
         other: None,
         place: marked(spans, &around, mark, fault.diagnostic.line),
         related: related(source, spans, fault.extent, &around, syntax),
+    }
+}
+
+// What is said of a word of another language.
+fn foreign(spans: &Spans, around: &Around, word: usize, meaning: Foreign, line: u64) -> Finding
+    ensures { matter_code result.matter ≡ codes "sx" }
+{
+    Finding {
+        matter: Matter::Syntax(Syntax::Foreign(meaning)),
+        name: name_at(spans, word),
+        other: None,
+        place: on_line(spans, word, around.token, line),
+        related: None,
     }
 }
 
@@ -222,11 +242,16 @@ fn marked(spans: &Spans, around: &Around, mark: Mark, line: u64) -> Place {
         Mark::First => around.first,
         Mark::Head => around.head(),
     };
+    on_line(spans, token, around.token, line)
+}
+
+// The place of a token, if it is on this line, and else that of another one.
+fn on_line(spans: &Spans, token: usize, other: usize, line: u64) -> Place {
     let place = place_of(spans, token);
     if place.line == line {
         place
     } else {
-        place_of(spans, around.token)
+        place_of(spans, other)
     }
 }
 

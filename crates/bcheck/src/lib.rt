@@ -16,6 +16,7 @@ mod explain;
 mod faults;
 mod finding;
 mod flow;
+mod foreign;
 mod form;
 mod json;
 mod kinds;

@@ -210,6 +210,8 @@ const ANY: Kind = Kind::Any;
 
 const AND: Kind = Kind::Is(Lexeme::Operator(BinOp::And));
 
+const MUL: Kind = Kind::Is(Lexeme::Operator(BinOp::Mul));
+
 const NOT: Kind = Kind::Is(Lexeme::Not);
 
 const STRING: Kind = Kind::Is(Lexeme::String);
@@ -218,12 +220,15 @@ const OPEN_PAREN: Kind = Kind::Is(Lexeme::OpenParen);
 
 const CLOSE_PAREN: Kind = Kind::Is(Lexeme::CloseParen);
 
+const PRINTN: Kind = Kind::Word("printn");
+
 const PUTCHAR: Kind = Kind::Word("putchar");
 
 /// The first row that fits is the one.
 #[rattlefmt::skip]
-const ROWS: [Row; 15] = [
+const ROWS: [Row; 17] = [
     Row([ANY, ANY, AND, AND, ANY], If::Joined, Some(Warning::AndAnd)),
+    Row([ANY, Kind::Ended, MUL, MUL, ANY], If::Joined, Some(Warning::Power)),
     Row([ANY, ANY, Kind::Is(Lexeme::Assign(Some(BinOp::Sub))), ANY, ANY], If::Joined, Some(Warning::OperatorAssigns)),
     Row([ANY, ANY, Kind::Is(Lexeme::Assign(Some(BinOp::Mul))), ANY, ANY], If::Joined, Some(Warning::OperatorAssigns)),
     Row([ANY, ANY, Kind::Is(Lexeme::Assign(Some(BinOp::And))), ANY, ANY], If::Joined, Some(Warning::OperatorAssigns)),
@@ -233,6 +238,7 @@ const ROWS: [Row; 15] = [
     Row([NOT, Kind::Operand, Kind::Compares, NOT, ANY], If::Always, None),
     Row([NOT, Kind::Operand, Kind::Compares, ANY, ANY], If::Always, Some(Warning::NotCompared)),
     Row([NOT, Kind::Operand, Kind::Relates, ANY, ANY], If::Always, Some(Warning::NotCompared)),
+    Row([PRINTN, OPEN_PAREN, STRING, ANY, ANY], If::Always, Some(Warning::StringForNumber)),
     Row([PUTCHAR, OPEN_PAREN, STRING, CLOSE_PAREN, ANY], If::Short, Some(Warning::StringForCharacter)),
     Row([PUTCHAR, OPEN_PAREN, STRING, CLOSE_PAREN, ANY], If::Always, Some(Warning::StringPut)),
     Row([ANY, Kind::Compares, STRING, ANY, ANY], If::Short, Some(Warning::StringForCharacter)),

@@ -4,6 +4,7 @@ ghost use Rattle.std.specs.Prelude.{◌∷◌, [], IsTrue};
 ghost use Rattle.bcheck.specs.Checks.{is_on_line};
 
 use crate::around::{Around, Part, opener_of};
+use crate::foreign::Foreign;
 use crate::kinds::Kind;
 use crate::spans::{Spans, is_joined, is_next_line, lexeme_at};
 use blang::Keyword;
@@ -54,6 +55,12 @@ pub(crate) enum Syntax {
     NumberName,
     FunctionInside,
     CallBody,
+    HeadColon,
+    Prototype,
+    CompareSigns,
+    LessGreater,
+    ColonEquals,
+    Foreign(Foreign),
     OperandMissing,
     AssignLeft,
     CommaAlone,
@@ -117,7 +124,7 @@ impl Syntax {
             Syntax::ElseInBraces => ("this else has no if: the { of line % is open", "write a } before the else"),
             Syntax::ElseAlone =>
                 ("no if ends right before this else", "between if(x) and else is one statement: put { } around more"),
-            Syntax::OrOr => ("there is no operator ||", "a | b, or a ? 1 : b"),
+            Syntax::OrOr => ("there is no operator ||", "a ? 1 : b"),
             Syntax::EqualsAfter => ("the = of an assignment comes first", "x =+ 2; and not x += 2;"),
             Syntax::Arrow => ("there are no structures, and no ->", "a vector has its parts by numbers: p[0], p[1]"),
             Syntax::QuoteEscaped =>
@@ -127,6 +134,13 @@ impl Syntax {
                 ("a function begins here, and the { of line % is open",
                  "write the } that is missing before the function"),
             Syntax::CallBody => ("a call has no { } after it", "look at the word before the ( for another spelling"),
+            Syntax::HeadColon =>
+                ("no : comes here: braces are around several statements", "if(x) { .. } else { .. }"),
+            Syntax::Prototype => ("there are no prototypes: a call needs none", "take it out"),
+            Syntax::CompareSigns => ("no comparison has these signs", "a == b, a != b, a <= b or a >= b"),
+            Syntax::LessGreater => ("there is no operator <>", "a != b"),
+            Syntax::ColonEquals => ("there is no operator :=", "x = 5;"),
+            Syntax::Foreign(word) => word.advice(),
             Syntax::OperandMissing =>
                 ("an operand is missing before this", "write a name, a constant or an expression there"),
             Syntax::AssignLeft =>
@@ -169,6 +183,8 @@ enum If {
     IfBrace,
     /// The parenthesis that is open is the one after `for`.
     For,
+    /// A `;` comes after the parameters.
+    Prototype,
 }
 
 /// Which token is marked.
@@ -206,6 +222,8 @@ const RETURN: Kind = Kind::Is(Lexeme::Keyword(Keyword::Return));
 const ELSE: Kind = Kind::Is(Lexeme::Keyword(Keyword::Else));
 
 const DIV: Kind = Kind::Is(Lexeme::Operator(BinOp::Div));
+
+const LT: Kind = Kind::Is(Lexeme::Operator(BinOp::Lt));
 
 const SUB: Kind = Kind::Is(Lexeme::Operator(BinOp::Sub));
 
@@ -259,7 +277,9 @@ const BEGINNINGS: [Row; 9] = [
 
 /// Externals and the parameters of a function.
 #[rattlefmt::skip]
-const OUTSIDE: [Row; 11] = [
+const OUTSIDE: [Row; 13] = [
+    Row(EXTERNAL, If::Prototype, [Kind::Type, ANY, Kind::Name, OPEN_PAREN, ANY], Syntax::Prototype, Mark::First),
+    Row(HEADER, If::Prototype, [ANY, ANY, Kind::Type, Kind::Name, ANY], Syntax::Prototype, Mark::Before),
     Row(EXTERNAL, If::Always, [Kind::Type, ANY, ANY, ANY, ANY], Syntax::TypeFirst, Mark::First),
     Row(EXTERNAL, If::NextLine, [ANY, ANY, Kind::Ended, Kind::Name, ANY], Syntax::SemicolonMissing, Mark::Here),
     Row(EXTERNAL, If::Always, [ANY, ANY, Kind::Name, OPEN_PAREN, ANY], Syntax::TypeFirst, Mark::First),
@@ -305,8 +325,17 @@ const WORDS: [Row; 14] = [
 
 /// Operators and operands, and brackets around them.
 #[rattlefmt::skip]
-const OPERANDS: [Row; 12] = [
+const OPERANDS: [Row; 21] = [
     Row(BODY, If::Always, [ANY, ANY, OR, OR, ANY], Syntax::OrOr, Mark::Here),
+    Row(BODY, If::Always, [IF, ANY, CLOSE_PAREN, COLON, ANY], Syntax::HeadColon, Mark::Here),
+    Row(BODY, If::Always, [WHILE, ANY, CLOSE_PAREN, COLON, ANY], Syntax::HeadColon, Mark::Here),
+    Row(BODY, If::Always, [ELSE, ANY, CLOSE_PAREN, COLON, ANY], Syntax::HeadColon, Mark::Here),
+    Row(BODY, If::Always, [ANY, ANY, ELSE, COLON, ANY], Syntax::HeadColon, Mark::Here),
+    Row(BODY, If::LineStart, [Kind::Name, ANY, CLOSE_PAREN, COLON, ANY], Syntax::HeadColon, Mark::Here),
+    Row(BODY, If::Joined, [ANY, ANY, COLON, Kind::Assigns, ANY], Syntax::ColonEquals, Mark::Before),
+    Row(BODY, If::Joined, [ANY, ANY, LT, GT, ANY], Syntax::LessGreater, Mark::Before),
+    Row(BODY, If::Always, [ANY, ANY, Kind::Compares, Kind::Assigns, ANY], Syntax::CompareSigns, Mark::Before),
+    Row(BODY, If::Always, [ANY, ANY, Kind::Relates, Kind::Assigns, ANY], Syntax::CompareSigns, Mark::Before),
     Row(BODY, If::Always, [ANY, ANY, Kind::Operator, Kind::Assigns, ANY], Syntax::EqualsAfter, Mark::Here),
     Row(BODY, If::Joined, [ANY, ANY, SUB, GT, ANY], Syntax::Arrow, Mark::Before),
     Row(BODY, If::Backslash, [ANY, ANY, STRING, ANY, ANY], Syntax::QuoteEscaped, Mark::Here),
@@ -451,7 +480,18 @@ fn holds(condition: If, source: &[u8], spans: &Spans, around: &Around) -> bool {
         If::BraceOpen => around.is_in(spans, Lexeme::OpenBrace),
         If::IfBrace => around.is_in(spans, Lexeme::OpenBrace) && is_after_if(spans, around.head()),
         If::For => around.is_call_of(spans, "for"),
+        If::Prototype => is_prototype(spans, around.token),
     }
+}
+
+// Whether a `;` comes right after the first `)` after a token.
+fn is_prototype(spans: &Spans, token: usize) -> bool {
+    for at in token..spans.end() {
+        if lexeme_at(spans, at) == Lexeme::CloseParen {
+            return lexeme_at(spans, at.wrapping_add(1)) == Lexeme::Semicolon;
+        }
+    }
+    false
 }
 
 // Whether the condition of an `if` ends with this token.

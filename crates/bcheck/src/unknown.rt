@@ -9,6 +9,7 @@ use crate::around::opener_of;
 use crate::compiled::{Compiled, Extent};
 use crate::defined::is_function;
 use crate::finding::Finding;
+use crate::foreign::{Foreign, declaring_word, foreign_word};
 use crate::kinds::{Kind, is_ended, is_word};
 use crate::mention::{first_mention, token_of_mention};
 use crate::near::{Definitions, find_definitions, library_arguments, near};
@@ -26,6 +27,7 @@ pub(crate) enum Unknown {
     External,
     Function,
     Library,
+    Foreign(Foreign),
     Near,
     NoLabel,
     Other,
@@ -48,6 +50,7 @@ impl Unknown {
                  "@() calls it, and after extrn @; its name is its value"),
             Unknown::Library =>
                 ("@ is a function of the library", "@() calls it, and after extrn @; its name is its value"),
+            Unknown::Foreign(word) => word.advice(),
             Unknown::Near => ("no @ is declared here: did you mean #?", "write #, or declare @"),
             Unknown::NoLabel => ("this function has no label @", "put @: before a statement of this function"),
             Unknown::Other =>
@@ -60,6 +63,7 @@ impl Unknown {
 /// than C's, it is which file.
 #[derive(Clone, Copy)]
 pub(crate) enum Undefined {
+    Foreign(Foreign),
     Near,
     Type,
     InInput,
@@ -127,13 +131,16 @@ const IN_LIBRARY: [(&str, Undefined); 47] = [
     ("vecnext", Undefined::InVectors),
 ];
 
-/// What C names otherwise than the files of the folder `lib`.
-const IN_C: [(&str, &str, Undefined); 15] = [
+/// What other languages name otherwise than the files of the folder `lib`.
+const IN_C: [(&str, &str, Undefined); 18] = [
     ("atoi", "number", Undefined::LikeNumbers),
+    ("calloc", "getvec", Undefined::LikeVectors),
     ("fgets", "getline", Undefined::LikeInput),
     ("gets", "getstr", Undefined::LikeInput),
+    ("len", "length", Undefined::LikeStrings),
     ("malloc", "getvec", Undefined::LikeVectors),
     ("memset", "fill", Undefined::LikeVectors),
+    ("parseInt", "number", Undefined::LikeNumbers),
     ("puts", "putstr", Undefined::LikePrint),
     ("qsort", "sortby", Undefined::LikeVectors),
     ("scanf", "getnum", Undefined::LikeInput),
@@ -153,6 +160,7 @@ impl Undefined {
         ensures { IsTrue (list_all is_on_line (result.0.now ∷ result.1.now ∷ [])) }
     {
         match self {
+            Undefined::Foreign(word) => word.advice(),
             Undefined::Near => ("nothing defines @: did you mean #?", "write #, or define @"),
             Undefined::Type => ("there are no types: the name before @ is defined", "@; defines @"),
             Undefined::InInput => ("nothing defines @", "lib/input.b has it: b go FILE --with input"),
@@ -212,12 +220,14 @@ pub(crate) fn unknown_name(
     let defined = find_definitions(source, &name);
     let other = like(spans, extent, &name, &defined);
     let is_label = lexeme_at(spans, token.wrapping_sub(1)) == Lexeme::Keyword(Keyword::Goto);
-    let what = match name.as_str() {
-        "break" | "default" => Unknown::OtherEdition,
-        "continue" => Unknown::Continue,
+    let word = if is_label { None } else { foreign_word(&name) };
+    let what = match (name.as_str(), word) {
+        ("break" | "default", _) => Unknown::OtherEdition,
+        ("continue", _) => Unknown::Continue,
         _ if defined.is_function => Unknown::Function,
         _ if defined.same.is_some() => Unknown::External,
         _ if library_arguments(&name).is_some() => Unknown::Library,
+        (_, Some(word)) => Unknown::Foreign(word),
         _ if other.is_some() => Unknown::Near,
         _ if is_label => Unknown::NoLabel,
         _ => Unknown::Other,
@@ -263,14 +273,30 @@ fn undefined_at(
     ensures { matter_code result.matter ≡ codes "load 3" }
 {
     let defined = find_definitions(source, &name);
+    if let Some((word, meaning)) = declaring_word(spans, extent) {
+        return not_defined(spans, extent.first, Undefined::Foreign(meaning), word, None);
+    }
     let alike = like(spans, Extent { first: 0, end: 0 }, &name, &defined);
     let is_typed = Kind::Type.fits(&lexeme_at(spans, extent.first));
-    let (what, other) = match in_library(&name) {
+    let (what, other) = match (in_library(&name), foreign_word(&name)) {
         _ if is_typed && !is_function(spans, extent) => (Undefined::Type, None),
-        Some(found) => found,
-        None if alike.is_some() => (Undefined::Near, alike),
-        None => (Undefined::Other, None),
+        (Some(found), _) => found,
+        (None, Some(word)) => (Undefined::Foreign(word), None),
+        (None, None) if alike.is_some() => (Undefined::Near, alike),
+        (None, None) => (Undefined::Other, None),
     };
+    not_defined(spans, token, what, name, other)
+}
+
+fn not_defined(
+    spans: &Spans,
+    token: usize,
+    what: Undefined,
+    name: Name,
+    other: Option<Name>,
+) -> Finding
+    ensures { matter_code result.matter ≡ codes "load 3" }
+{
     Finding {
         matter: Matter::NotDefined(what),
         name: Some(name),

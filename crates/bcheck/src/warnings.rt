@@ -9,12 +9,15 @@ ghost use Rattle.bcheck.specs.Findings.{warning_code};
 pub(crate) enum Warning {
     CommentGoesOn,
     AndAnd,
+    Power,
     OperatorAssigns,
     ConditionAssigns,
     AssignsComparison,
+    AssignsCompared,
     EmptyIf,
     EmptyLoop,
     PastVector,
+    StringForNumber,
     StringForCharacter,
     StringPut,
     StringCompared,
@@ -48,7 +51,8 @@ impl Warning {
     {
         match self {
             Warning::CommentGoesOn => ("*/", "this comment goes on into another file", "write */ where it ends"),
-            Warning::AndAnd => ("and", "&& is the operator & and then an address", "a & b, or a ? b : 0"),
+            Warning::AndAnd => ("and", "&& is the operator & and then an address", "a ? b : 0"),
+            Warning::Power => ("and", "** is the operator * and then the word at an address", "a loop multiplies: p =* x;"),
             Warning::OperatorAssigns =>
                 ("op", "this operator changes what stands before it", "a blank after the = sets it: x = -1;"),
             Warning::ConditionAssigns =>
@@ -56,11 +60,16 @@ impl Warning {
             Warning::AssignsComparison =>
                 ("if", "this assigns what the comparison gives, 1 or 0",
                  "parentheses around the assignment: (c = f()) != 'a'"),
+            Warning::AssignsCompared =>
+                ("if", "this stores the 1 or 0 of a comparison", ">= <= != and == compare alone: x >= 18"),
             Warning::EmptyIf => ("em", "this ; is all that the if does", "take it out"),
             Warning::EmptyLoop => ("em", "this ; is all that the loop repeats", "take it out"),
             Warning::PastVector =>
                 ("ix", "the vector @ has no word of this index",
                  "auto v 5; has v[0] to v[5], and so has v[5]; outside"),
+            Warning::StringForNumber =>
+                ("st", "a string is an address, and printn writes numbers",
+                 "putstr(s); of lib/print.b writes it: b go FILE --with print"),
             Warning::StringForCharacter =>
                 ("st", "a string is an address, and no character", "write single quotes: 'a'"),
             Warning::StringPut =>

@@ -1,0 +1,183 @@
+//! Words that other languages have, and what stands for them here.
+ghost use Rattle.std.specs.List.{list_all};
+ghost use Rattle.std.specs.Prelude.{◌∷◌, [], IsTrue};
+ghost use Rattle.bcheck.specs.Checks.{is_on_line};
+
+use crate::around::Around;
+use crate::compiled::Extent;
+use crate::defined::is_function;
+use crate::kinds::{is_ended, is_operand};
+use crate::spans::{Spans, lexeme_at, name_at};
+use blex::Lexeme;
+use bword::Name;
+
+/// What a word is for in another language.
+#[derive(Clone, Copy, PartialEq, Eq)]
+pub(crate) enum Foreign {
+    Declares,
+    External,
+    Function,
+    And,
+    Or,
+    Not,
+    Block,
+    Truth,
+    Nothing,
+    InputEnd,
+    Writes,
+    Reads,
+}
+
+/// Words of C, JavaScript, Pascal and Python.
+const WORDS: [(&str, Foreign); 31] = [
+    ("const", Foreign::Declares),
+    ("let", Foreign::Declares),
+    ("var", Foreign::Declares),
+    ("extern", Foreign::External),
+    ("def", Foreign::Function),
+    ("fn", Foreign::Function),
+    ("func", Foreign::Function),
+    ("function", Foreign::Function),
+    ("and", Foreign::And),
+    ("or", Foreign::Or),
+    ("not", Foreign::Not),
+    ("begin", Foreign::Block),
+    ("end", Foreign::Block),
+    ("endif", Foreign::Block),
+    ("True", Foreign::Truth),
+    ("true", Foreign::Truth),
+    ("TRUE", Foreign::Truth),
+    ("False", Foreign::Truth),
+    ("false", Foreign::Truth),
+    ("FALSE", Foreign::Truth),
+    ("None", Foreign::Nothing),
+    ("NULL", Foreign::Nothing),
+    ("nil", Foreign::Nothing),
+    ("null", Foreign::Nothing),
+    ("EOF", Foreign::InputEnd),
+    ("echo", Foreign::Writes),
+    ("print", Foreign::Writes),
+    ("println", Foreign::Writes),
+    ("writeln", Foreign::Writes),
+    ("input", Foreign::Reads),
+    ("prompt", Foreign::Reads),
+];
+
+impl Foreign {
+    /// One sentence on it, and how to fix it.
+    #[rattlefmt::skip]
+    pub(crate) fn advice(self) -> (&'static str, &'static str)
+        ensures { IsTrue (list_all is_on_line (result.0.now ∷ result.1.now ∷ [])) }
+    {
+        match self {
+            Foreign::Declares =>
+                ("there is no @: auto declares names in a function", "auto n; n = 5; and outside of functions n 5;"),
+            Foreign::External =>
+                ("there is no @: extrn is in a function", "extrn n; in each function that has n, and here nothing"),
+            Foreign::Function => ("there is no @: a function begins with its name", "f(x) { .. }"),
+            Foreign::And => ("there is no operator @", "a ? b : 0"),
+            Foreign::Or => ("there is no operator @", "a ? 1 : b"),
+            Foreign::Not => ("there is no operator @: it is !", "!(a > b)"),
+            Foreign::Block => ("there is no @: braces are around statements", "{ f(); g(); }"),
+            Foreign::Truth => ("there is no @: 0 is false, and all else is true", "1 is true, and 0 is false"),
+            Foreign::Nothing => ("there is no @: 0 is no address", "write 0"),
+            Foreign::InputEnd => ("there is no @: the input ends with '*e', 4", "write '*e'"),
+            Foreign::Writes =>
+                ("there is no @: printn writes a number", "printn(n, 10); and putstr(s); with b go FILE --with print"),
+            Foreign::Reads =>
+                ("there is no @: getchar reads a character", "getstr(s); and getnum(&n); with b go FILE --with input"),
+        }
+    }
+
+    // Whether it stands between or before operands.
+    fn is_operator(self) -> bool {
+        matches!(self, Foreign::And | Foreign::Or | Foreign::Not)
+    }
+
+    // Whether a statement or a definition begins or ends with it.
+    fn is_head(self) -> bool {
+        matches!(
+            self,
+            Foreign::Declares
+                | Foreign::External
+                | Foreign::Function
+                | Foreign::Block
+                | Foreign::Writes
+        )
+    }
+}
+
+/// What a name is for in another language.
+pub(crate) fn foreign_word(name: &Name) -> Option<Foreign> {
+    for (word, meaning) in &WORDS {
+        if name.as_str() == *word {
+            return Some(*meaning);
+        }
+    }
+    None
+}
+
+/// The token that is such a word by which no program goes on here, and what it is for.
+pub(crate) fn word_at_fault(spans: &Spans, around: &Around) -> Option<(usize, Foreign)> {
+    let (first, token) = (around.first, around.token);
+    let before = token.wrapping_sub(1);
+    if let Some(found) = operator_word(spans, first, token) {
+        return Some(found);
+    }
+    if is_ended(&lexeme_at(spans, before)) {
+        if let Some(found) = head_word(spans, token) {
+            return Some(found);
+        }
+    }
+    if may_follow_word(&lexeme_at(spans, token)) {
+        if let Some(found) = head_word(spans, before) {
+            return Some(found);
+        }
+    }
+    name_at(spans, first.wrapping_add(1))?;
+    head_word(spans, first)
+}
+
+// The first token between two that is the word of an operator.
+fn operator_word(spans: &Spans, first: usize, last: usize) -> Option<(usize, Foreign)> {
+    for token in first..last.saturating_add(1) {
+        if let Some(word) = word_at(spans, token) {
+            if word.is_operator() {
+                return Some((token, word));
+            }
+        }
+    }
+    None
+}
+
+fn head_word(spans: &Spans, token: usize) -> Option<(usize, Foreign)> {
+    let word = word_at(spans, token)?;
+    if word.is_head() {
+        Some((token, word))
+    } else {
+        None
+    }
+}
+
+fn word_at(spans: &Spans, token: usize) -> Option<Foreign> {
+    foreign_word(&name_at(spans, token)?)
+}
+
+// Whether what another language has after such a word may begin with this token.
+fn may_follow_word(lexeme: &Lexeme) -> bool {
+    is_operand(lexeme) || matches!(lexeme, Lexeme::Keyword(_) | Lexeme::CloseBrace)
+}
+
+/// The word that an external begins with, if it is one that declares names in another language.
+pub(crate) fn declaring_word(spans: &Spans, extent: Extent) -> Option<(Name, Foreign)> {
+    if is_function(spans, extent) {
+        return None;
+    }
+    let name = name_at(spans, extent.first)?;
+    let word = foreign_word(&name)?;
+    if word.is_head() {
+        Some((name, word))
+    } else {
+        None
+    }
+}
