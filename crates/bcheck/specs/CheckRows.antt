@@ -70,17 +70,21 @@ load_codes code = (λ reason. reason, λ reason. reason)
 -- the code of each warning
 warning_codes : map warning_code (
     warning.CommentGoesOn ∷ warning.AndAnd ∷ warning.Power ∷ warning.OperatorAssigns ∷ warning.ConditionAssigns
-    ∷ warning.AssignsComparison ∷ warning.AssignsCompared ∷ warning.EmptyIf ∷ warning.EmptyLoop ∷ warning.PastVector
+    ∷ warning.AssignsComparison ∷ warning.AssignsCompared ∷ warning.EmptyIf ∷ warning.EmptyLoop
+    ∷ warning.PastVector ∷ warning.VectorForWord ∷ warning.WordForVector ∷ warning.VectorAddress
+    ∷ warning.ReturnsVector ∷ warning.NegativeNumber ∷ warning.StringEnd ∷ warning.InputEnd
     ∷ warning.StringForNumber ∷ warning.StringForCharacter ∷ warning.StringPut ∷ warning.StringCompared
     ∷ warning.NameAlone ∷ warning.ComparesAlone ∷ warning.NoEffect ∷ warning.Backslash ∷ warning.BitsCompared
     ∷ warning.ComparesTwice ∷ warning.NotCompared ∷ warning.ManyArguments ∷ warning.FewArguments
-    ∷ warning.LibraryArguments ∷ warning.NoReturn ∷ warning.NeverUsed ∷ warning.Unset ∷ warning.UnsetVector
-    ∷ warning.HidesExternal ∷ warning.HidesLibrary ∷ warning.NearMain ∷ warning.DefaultLabel ∷ warning.WordOutside
-    ∷ []
-    ) ≡ codes "*/" ∷ codes "and" ∷ codes "and" ∷ codes "op" ∷ codes "if" ∷ codes "if" ∷ codes "if" ∷ codes "em" ∷ codes "em"
-    ∷ codes "ix" ∷ codes "st" ∷ codes "st" ∷ codes "st" ∷ codes "st" ∷ codes "no" ∷ codes "no" ∷ codes "no"
-    ∷ codes "bs" ∷ codes "pr" ∷ codes "pr" ∷ codes "pr" ∷ codes "ar" ∷ codes "ar" ∷ codes "ar" ∷ codes "rt"
-    ∷ codes "us" ∷ codes "in" ∷ codes "in" ∷ codes "hi" ∷ codes "hi" ∷ codes "ma" ∷ codes "ed" ∷ codes "ed" ∷ []
+    ∷ warning.LibraryArguments ∷ warning.SwappedArguments ∷ warning.NoReturn ∷ warning.NeverUsed ∷ warning.Unset
+    ∷ warning.UnsetVector ∷ warning.HidesExternal ∷ warning.HidesLibrary ∷ warning.NearMain
+    ∷ warning.DefaultLabel ∷ warning.WordOutside ∷ []
+    ) ≡ codes "*/" ∷ codes "and" ∷ codes "and" ∷ codes "op" ∷ codes "if" ∷ codes "if" ∷ codes "if" ∷ codes "em"
+    ∷ codes "em" ∷ codes "ix" ∷ codes "ix" ∷ codes "ix" ∷ codes "ix" ∷ codes "ix" ∷ codes "sg" ∷ codes "en"
+    ∷ codes "en" ∷ codes "st" ∷ codes "st" ∷ codes "st" ∷ codes "st" ∷ codes "no" ∷ codes "no" ∷ codes "no"
+    ∷ codes "bs" ∷ codes "pr" ∷ codes "pr" ∷ codes "pr" ∷ codes "ar" ∷ codes "ar" ∷ codes "ar" ∷ codes "ar"
+    ∷ codes "rt" ∷ codes "us" ∷ codes "in" ∷ codes "in" ∷ codes "hi" ∷ codes "hi" ∷ codes "ma" ∷ codes "ed"
+    ∷ codes "ed" ∷ []
 warning_codes = refl
 
 -- the line and the column of a place after a text

@@ -23,6 +23,8 @@ pub(crate) enum What {
     /// The last index of a vector.
     Vector(u64),
     Simple,
+    /// A word with a number, which isn't 0, for its value.
+    Number,
 }
 
 /// A definition, and where it begins.
@@ -90,8 +92,13 @@ fn is_among(spans: &Spans, first: usize, end: usize, name: Lexeme) -> bool {
 
 fn external(spans: &Spans, brackets: &Brackets, extent: Extent) -> What {
     let opener = extent.first.saturating_add(1);
-    if lexeme_at(spans, opener) != Lexeme::OpenBracket {
-        return What::Simple;
+    match (
+        lexeme_at(spans, opener),
+        lexeme_at(spans, opener.wrapping_add(1)),
+    ) {
+        (Lexeme::OpenBracket, _) => {}
+        (Lexeme::Number(1..), Lexeme::Semicolon) => return What::Number,
+        _ => return What::Simple,
     }
     let asked = match lexeme_at(spans, opener.wrapping_add(1)) {
         Lexeme::Number(last) => u64::from(last),

@@ -13,9 +13,12 @@ use bword::BinOp;
 pub(crate) struct Flow {
     /// Whether a label or an address has ended it.
     is_over: bool,
-    /// The tokens of the loop around, in which all that is mentioned may be set.
+    /// The tokens of the loop around.
     loop_first: usize,
     loop_end: usize,
+    /// The tokens of this loop that a turn may leave out.
+    branch_first: usize,
+    branch_end: usize,
     /// The automatic to which a value is assigned just now.
     pending: Option<usize>,
 }
@@ -26,6 +29,8 @@ impl Flow {
             is_over: false,
             loop_first: 0,
             loop_end: 0,
+            branch_first: 0,
+            branch_end: 0,
             pending: None,
         }
     }
@@ -48,15 +53,34 @@ impl Flow {
                 self.loop_first = brackets.mate(token.wrapping_add(1)).saturating_add(1);
                 self.loop_end = statement_end(spans, brackets, self.loop_first);
             }
+            Lexeme::Keyword(Keyword::Goto) if token < self.loop_end => self.is_over = true,
+            Lexeme::Keyword(Keyword::If | Keyword::While) if token >= self.branch_end => {
+                let body = brackets.mate(token.wrapping_add(1)).saturating_add(1);
+                self.leaves_out(spans, brackets, body);
+            }
+            Lexeme::Keyword(Keyword::Switch) if token >= self.branch_end => {
+                self.leaves_out(spans, brackets, token.saturating_add(1));
+            }
+            Lexeme::Question => {
+                self.settle(locals);
+                if token >= self.branch_end {
+                    self.leaves_out(spans, brackets, token);
+                }
+            }
             Lexeme::Semicolon
             | Lexeme::Comma
             | Lexeme::CloseParen
             | Lexeme::CloseBracket
-            | Lexeme::Question
             | Lexeme::Colon => self.settle(locals),
             _ => {}
         }
         false
+    }
+
+    // Takes note of a statement that begins with this token and isn't done on each way.
+    fn leaves_out(&mut self, spans: &Spans, brackets: &Brackets, first: usize) {
+        self.branch_first = first;
+        self.branch_end = statement_end(spans, brackets, first);
     }
 
     // What a mention of a local does, and whether nothing has set it before.
@@ -73,7 +97,8 @@ impl Flow {
         if locals.is_set(place) || self.is_over {
             return false;
         }
-        if token >= self.loop_first && token < self.loop_end {
+        let is_left_out = token >= self.branch_first && token < self.branch_end;
+        if is_left_out && token >= self.loop_first && token < self.loop_end {
             locals.set(place);
             return false;
         }

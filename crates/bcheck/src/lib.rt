@@ -11,6 +11,7 @@ mod compiled;
 mod conditions;
 mod defined;
 mod effects;
+mod ends;
 mod excerpt;
 mod explain;
 mod faults;

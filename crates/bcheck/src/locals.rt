@@ -1,5 +1,6 @@
 //! The names that a function declares.
 use crate::compiled::Extent;
+use crate::kinds::Kind;
 use crate::spans::{Spans, lexeme_at, name_at};
 use blang::Keyword;
 use blex::Lexeme;
@@ -23,8 +24,38 @@ pub(crate) struct Local {
     pub role: Role,
     /// How often the function has it, but for the declaration.
     pub uses: u64,
+    /// How often it is followed by an index.
+    pub indexed: u64,
+    /// How often something is stored in it, or it is compared with a constant.
+    pub as_word: u64,
     /// Whether a statement that came before has set it.
     pub is_set: bool,
+}
+
+impl Local {
+    // Counts the mention at this token.
+    fn count(&mut self, spans: &Spans, token: usize) {
+        self.uses = self.uses.saturating_add(1);
+        if lexeme_at(spans, token.wrapping_add(1)) == Lexeme::OpenBracket {
+            self.indexed = self.indexed.saturating_add(1);
+        }
+        if is_as_word(spans, token) {
+            self.as_word = self.as_word.saturating_add(1);
+        }
+    }
+}
+
+// Whether something is stored in the name at this token, or it is compared with a constant.
+fn is_as_word(spans: &Spans, token: usize) -> bool {
+    let before = lexeme_at(spans, token.wrapping_sub(1));
+    let next = lexeme_at(spans, token.wrapping_add(1));
+    let is_compared = Kind::Compares.fits(&next) || Kind::Relates.fits(&next);
+    matches!(before, Lexeme::Increment | Lexeme::Decrement)
+        || matches!(
+            next,
+            Lexeme::Assign(_) | Lexeme::Increment | Lexeme::Decrement
+        )
+        || (is_compared && Kind::Constant.fits(&lexeme_at(spans, token.wrapping_add(2))))
 }
 
 /// The names that a function declares, at most 128.
@@ -62,7 +93,7 @@ impl Locals {
         match role {
             Some(role) => self.declare(spans, token, name, role),
             None => {
-                self.mention(&name);
+                self.mention(spans, token, &name);
                 Ok(())
             }
         }
@@ -83,18 +114,20 @@ impl Locals {
             name,
             role,
             uses: 0,
+            indexed: 0,
+            as_word: 0,
             is_set: role != Role::Auto,
         })?;
         Ok(())
     }
 
-    fn mention(&mut self, name: &Name) {
+    fn mention(&mut self, spans: &Spans, token: usize, name: &Name) {
         if name.as_str() == "default" {
             self.defaults = self.defaults.saturating_add(1);
         }
         if let Some(place) = self.place(name) {
             if let Some(local) = self.all.get_mut(place) {
-                local.uses = local.uses.saturating_add(1);
+                local.count(spans, token);
             }
         }
     }

@@ -10,7 +10,7 @@ use bword::Name;
 pub(crate) fn outside(tokens: &Tokens<'_>, token: usize) -> Option<Found> {
     let name = name_at(tokens.spans, token)?;
     match (tokens.defined.find(&name)?.what, name.as_str()) {
-        (What::Simple, "break" | "default") => Some(Found {
+        (What::Simple | What::Number, "break" | "default") => Some(Found {
             token,
             warning: Warning::WordOutside,
             name: Some(name),

@@ -6,9 +6,10 @@ use crate::compiled::Extent;
 use crate::conditions::condition;
 use crate::defined::{Defined, What, is_function};
 use crate::effects::statement;
+use crate::ends::end_compared;
 use crate::finding::{Finding, Place};
 use crate::flow::Flow;
-use crate::kinds::Kind;
+use crate::kinds::{Kind, is_ended};
 use crate::locals::{Locals, Role};
 use crate::near::library_arguments;
 use crate::outside::outside;
@@ -175,8 +176,12 @@ fn declared(tokens: &Tokens<'_>, locals: &Locals, token: usize) -> Option<Found>
     let Lexeme::Name(name) = lexeme_at(tokens.spans, token) else {
         return None;
     };
-    if locals.find(&name)?.uses == 0 {
+    let local = locals.find(&name)?;
+    if local.uses == 0 {
         return Found::of_name(token, Warning::NeverUsed, name);
+    }
+    if matches!(local.role, Role::Vector(_)) && local.indexed == 0 && local.as_word > 0 {
+        return Found::of_name(token, Warning::VectorForWord, name);
     }
     if let Some(definition) = tokens.defined.find(&name) {
         return Some(Found {
@@ -200,6 +205,8 @@ enum If {
     Joined,
     /// The string has one or two characters.
     Short,
+    /// The number has the sign bit.
+    Large,
 }
 
 /// The two tokens before, a token and the two after it; what else is so, and what is said, if anything.
@@ -220,13 +227,23 @@ const OPEN_PAREN: Kind = Kind::Is(Lexeme::OpenParen);
 
 const CLOSE_PAREN: Kind = Kind::Is(Lexeme::CloseParen);
 
+const COMMA: Kind = Kind::Is(Lexeme::Comma);
+
+const EIGHT: Kind = Kind::Is(Lexeme::Number(8));
+
+const TEN: Kind = Kind::Is(Lexeme::Number(10));
+
+const CHAR: Kind = Kind::Word("char");
+
+const LCHAR: Kind = Kind::Word("lchar");
+
 const PRINTN: Kind = Kind::Word("printn");
 
 const PUTCHAR: Kind = Kind::Word("putchar");
 
 /// The first row that fits is the one.
 #[rattlefmt::skip]
-const ROWS: [Row; 17] = [
+const ROWS: [Row; 23] = [
     Row([ANY, ANY, AND, AND, ANY], If::Joined, Some(Warning::AndAnd)),
     Row([ANY, Kind::Ended, MUL, MUL, ANY], If::Joined, Some(Warning::Power)),
     Row([ANY, ANY, Kind::Is(Lexeme::Assign(Some(BinOp::Sub))), ANY, ANY], If::Joined, Some(Warning::OperatorAssigns)),
@@ -238,6 +255,12 @@ const ROWS: [Row; 17] = [
     Row([NOT, Kind::Operand, Kind::Compares, NOT, ANY], If::Always, None),
     Row([NOT, Kind::Operand, Kind::Compares, ANY, ANY], If::Always, Some(Warning::NotCompared)),
     Row([NOT, Kind::Operand, Kind::Relates, ANY, ANY], If::Always, Some(Warning::NotCompared)),
+    Row([ANY, Kind::Relates, Kind::Constant, ANY, ANY], If::Large, Some(Warning::NegativeNumber)),
+    Row([ANY, ANY, Kind::Constant, Kind::Relates, ANY], If::Large, Some(Warning::NegativeNumber)),
+    Row([PRINTN, OPEN_PAREN, EIGHT, COMMA, Kind::Name], If::Always, Some(Warning::SwappedArguments)),
+    Row([PRINTN, OPEN_PAREN, TEN, COMMA, Kind::Name], If::Always, Some(Warning::SwappedArguments)),
+    Row([CHAR, OPEN_PAREN, Kind::Constant, COMMA, ANY], If::Always, Some(Warning::SwappedArguments)),
+    Row([LCHAR, OPEN_PAREN, Kind::Constant, COMMA, ANY], If::Always, Some(Warning::SwappedArguments)),
     Row([PRINTN, OPEN_PAREN, STRING, ANY, ANY], If::Always, Some(Warning::StringForNumber)),
     Row([PUTCHAR, OPEN_PAREN, STRING, CLOSE_PAREN, ANY], If::Short, Some(Warning::StringForCharacter)),
     Row([PUTCHAR, OPEN_PAREN, STRING, CLOSE_PAREN, ANY], If::Always, Some(Warning::StringPut)),
@@ -260,6 +283,7 @@ fn found_at(tokens: &Tokens<'_>, locals: &Locals, token: usize) -> Option<Found>
     match lexeme_at(spans, token) {
         Lexeme::Keyword(Keyword::If | Keyword::While) => condition(spans, brackets, token),
         Lexeme::String | Lexeme::Character(_) => backslash(tokens, token),
+        Lexeme::CloseParen => end_compared(spans, brackets, token),
         _ => statement(spans, brackets, token),
     }
 }
@@ -289,6 +313,7 @@ fn holds(condition: If, tokens: &Tokens<'_>, token: usize) -> bool {
         If::Always => true,
         If::Joined => is_joined(tokens.spans, token),
         If::Short => is_short(text_of(tokens, token)),
+        If::Large => matches!(lexeme_at(tokens.spans, token), Lexeme::Number(0x8000..)),
     }
 }
 
@@ -326,10 +351,10 @@ fn backslash(tokens: &Tokens<'_>, token: usize) -> Option<Found> {
 fn named(tokens: &Tokens<'_>, locals: &Locals, token: usize, name: Name) -> Option<Found> {
     let next = token.wrapping_add(1);
     match lexeme_at(tokens.spans, next) {
-        Lexeme::OpenBracket => past_vector(tokens, locals, token, name),
+        Lexeme::OpenBracket => indexed(tokens, locals, token, name),
         Lexeme::OpenParen => called(tokens, locals, token, name),
         Lexeme::Colon if name.as_str() == "default" => default_label(tokens, locals, token),
-        _ => None,
+        _ => whole_vector(tokens, locals, token, name),
     }
 }
 
@@ -343,15 +368,57 @@ fn default_label(tokens: &Tokens<'_>, locals: &Locals, token: usize) -> Option<F
 
 // A constant index past the vector of this name.
 fn past_vector(tokens: &Tokens<'_>, locals: &Locals, token: usize, name: Name) -> Option<Found> {
+    let spans = tokens.spans;
     let place = token.wrapping_add(2);
-    let Lexeme::Number(index) = lexeme_at(tokens.spans, place) else {
-        return None;
+    let last = last_of(tokens, locals, &name)?;
+    let is_past = match (
+        lexeme_at(spans, place),
+        lexeme_at(spans, place.wrapping_add(1)),
+    ) {
+        (Lexeme::Number(index), Lexeme::CloseBracket) => u64::from(index) > last,
+        (Lexeme::Operator(BinOp::Sub), Lexeme::Number(1..)) => {
+            lexeme_at(spans, place.wrapping_add(2)) == Lexeme::CloseBracket
+        }
+        _ => false,
     };
-    let is_whole = lexeme_at(tokens.spans, token.wrapping_add(3)) == Lexeme::CloseBracket;
-    if is_whole && u64::from(index) > last_of(tokens, locals, &name)? {
-        return Found::of_name(place, Warning::PastVector, name);
+    if is_past {
+        Found::of_name(place, Warning::PastVector, name)
+    } else {
+        None
     }
-    None
+}
+
+// What is found of a name with an index.
+fn indexed(tokens: &Tokens<'_>, locals: &Locals, token: usize, name: Name) -> Option<Found> {
+    let local = locals.find(&name)?;
+    if local.role != Role::External || local.as_word > 0 {
+        return past_vector(tokens, locals, token, name);
+    }
+    match tokens.defined.find(&name)?.what {
+        What::Number => Found::of_name(token, Warning::WordForVector, name),
+        _ => past_vector(tokens, locals, token, name),
+    }
+}
+
+// What is found of a vector without an index.
+fn whole_vector(tokens: &Tokens<'_>, locals: &Locals, token: usize, name: Name) -> Option<Found> {
+    let spans = tokens.spans;
+    last_of(tokens, locals, &name)?;
+    let before = token.wrapping_sub(1);
+    let before_that = lexeme_at(spans, token.wrapping_sub(2));
+    let is_alone = lexeme_at(spans, token.wrapping_add(1)) == Lexeme::CloseParen;
+    match lexeme_at(spans, before) {
+        Lexeme::Operator(BinOp::And) if !is_ended(&before_that) => {
+            Found::of_name(before, Warning::VectorAddress, name)
+        }
+        Lexeme::OpenParen
+            if is_alone
+                && before_that == Lexeme::Keyword(Keyword::Return)
+                && locals.find(&name)?.role != Role::External => {
+            Found::of_name(token, Warning::ReturnsVector, name)
+        }
+        _ => None,
+    }
 }
 
 // The last index of the vector of this name.

@@ -17,6 +17,13 @@ pub(crate) enum Warning {
     EmptyIf,
     EmptyLoop,
     PastVector,
+    VectorForWord,
+    WordForVector,
+    VectorAddress,
+    ReturnsVector,
+    NegativeNumber,
+    StringEnd,
+    InputEnd,
     StringForNumber,
     StringForCharacter,
     StringPut,
@@ -31,6 +38,7 @@ pub(crate) enum Warning {
     ManyArguments,
     FewArguments,
     LibraryArguments,
+    SwappedArguments,
     NoReturn,
     NeverUsed,
     Unset,
@@ -67,6 +75,19 @@ impl Warning {
             Warning::PastVector =>
                 ("ix", "the vector @ has no word of this index",
                  "auto v 5; has v[0] to v[5], and so has v[5]; outside"),
+            Warning::VectorForWord =>
+                ("ix", "@ is a vector, and used as a word", "auto @; is a word: its value comes by @ = 5;"),
+            Warning::WordForVector =>
+                ("ix", "@ is a word with a value, and no vector", "@[10]; outside of functions has @[0] to @[10]"),
+            Warning::VectorAddress =>
+                ("ix", "@ is an address itself: & gives where that is kept", "@ is the address of @[0]"),
+            Warning::ReturnsVector =>
+                ("ix", "the words of @ are gone after the return", "@[10]; outside of functions, and extrn @; here"),
+            Warning::NegativeNumber =>
+                ("sg", "this number is below 0 where it is compared", "words go from -32768 to 32767"),
+            Warning::StringEnd => ("en", "a string ends with '*e', 4, and not with 0", "char(s, i) != '*e'"),
+            Warning::InputEnd =>
+                ("en", "the input ends with '*e', 4, and not with -1", "(c = getchar()) != '*e'"),
             Warning::StringForNumber =>
                 ("st", "a string is an address, and printn writes numbers",
                  "putstr(s); of lib/print.b writes it: b go FILE --with print"),
@@ -96,6 +117,8 @@ impl Warning {
             Warning::LibraryArguments =>
                 ("ar", "@ takes another number of arguments",
                  "char(s, i) lchar(s, i, c) getchar() putchar(c) printn(n, b) exit(n)"),
+            Warning::SwappedArguments =>
+                ("ar", "the arguments have another order", "printn(n, 10) char(s, i) lchar(s, i, c)"),
             Warning::NoReturn =>
                 ("rt", "the value of @ is used, and @ returns none",
                  "return(x); in @ gives the value x; without it the value is 0"),
