@@ -9,7 +9,7 @@ use crate::effects::statement;
 use crate::ends::end_compared;
 use crate::finding::{Finding, Place};
 use crate::flow::Flow;
-use crate::kinds::{Kind, is_ended};
+use crate::kinds::Kind;
 use crate::locals::{Locals, Role};
 use crate::near::library_arguments;
 use crate::outside::outside;
@@ -261,7 +261,7 @@ const ROWS: [Row; 23] = [
     Row([PRINTN, OPEN_PAREN, TEN, COMMA, Kind::Name], If::Always, Some(Warning::SwappedArguments)),
     Row([CHAR, OPEN_PAREN, Kind::Constant, COMMA, ANY], If::Always, Some(Warning::SwappedArguments)),
     Row([LCHAR, OPEN_PAREN, Kind::Constant, COMMA, ANY], If::Always, Some(Warning::SwappedArguments)),
-    Row([PRINTN, OPEN_PAREN, STRING, ANY, ANY], If::Always, Some(Warning::StringForNumber)),
+    Row([PRINTN, OPEN_PAREN, STRING, Kind::Closes, ANY], If::Always, Some(Warning::StringForNumber)),
     Row([PUTCHAR, OPEN_PAREN, STRING, CLOSE_PAREN, ANY], If::Short, Some(Warning::StringForCharacter)),
     Row([PUTCHAR, OPEN_PAREN, STRING, CLOSE_PAREN, ANY], If::Always, Some(Warning::StringPut)),
     Row([ANY, Kind::Compares, STRING, ANY, ANY], If::Short, Some(Warning::StringForCharacter)),
@@ -406,9 +406,9 @@ fn whole_vector(tokens: &Tokens<'_>, locals: &Locals, token: usize, name: Name) 
     last_of(tokens, locals, &name)?;
     let before = token.wrapping_sub(1);
     let before_that = lexeme_at(spans, token.wrapping_sub(2));
-    let is_alone = lexeme_at(spans, token.wrapping_add(1)) == Lexeme::CloseParen;
+    let is_alone = Kind::Closes.fits(&lexeme_at(spans, token.wrapping_add(1)));
     match lexeme_at(spans, before) {
-        Lexeme::Operator(BinOp::And) if !is_ended(&before_that) => {
+        Lexeme::Operator(BinOp::And) if is_alone && begins_value(&before_that) => {
             Found::of_name(before, Warning::VectorAddress, name)
         }
         Lexeme::OpenParen
@@ -469,6 +469,14 @@ fn by_definition(spans: &Spans, token: usize, given: u64, what: What) -> Option<
     } else {
         None
     }
+}
+
+// Whether a value begins after a token that is passed on or stored as it is.
+fn begins_value(lexeme: &Lexeme) -> bool {
+    matches!(
+        lexeme,
+        Lexeme::OpenParen | Lexeme::Comma | Lexeme::Assign(None)
+    )
 }
 
 // Whether a call that begins with this token is a part of an expression, and no statement.
