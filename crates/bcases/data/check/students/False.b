@@ -1,0 +1,5 @@
+main() {
+    auto done;
+    done = False;
+    printn(done, 10);
+}

@@ -1,0 +1,6 @@
+find() {
+    return(None);
+}
+main() {
+    printn(find(), 10);
+}

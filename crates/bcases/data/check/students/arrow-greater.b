@@ -1,0 +1,6 @@
+main() {
+    auto age;
+    age = 20;
+    if(age => 18)
+        putchar('y');
+}

@@ -1,0 +1,5 @@
+main() {
+    auto most 100;
+    if(most > 50)
+        putchar('y');
+}

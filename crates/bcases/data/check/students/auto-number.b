@@ -1,0 +1,7 @@
+main() {
+    auto n 5;
+    while(n > 0) {
+        printn(n, 10);
+        n--;
+    }
+}

@@ -1,0 +1,5 @@
+main() {
+    auto n;
+    n = 42;
+    printn(10, n);
+}

@@ -1,0 +1,5 @@
+const SIZE = 8;
+main() {
+    extrn SIZE;
+    printn(SIZE, 10);
+}

@@ -1,0 +1,8 @@
+main() {
+    auto n;
+    n = 5;
+    if(n > 3)
+        putchar('y');
+    else:
+        putchar('n');
+}

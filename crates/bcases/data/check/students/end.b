@@ -1,0 +1,5 @@
+main() {
+    if(1) {
+        putchar('x');
+    } end;
+}

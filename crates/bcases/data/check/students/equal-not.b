@@ -1,0 +1,6 @@
+main() {
+    auto c;
+    c = getchar();
+    if(c =!= 4)
+        putchar(c);
+}

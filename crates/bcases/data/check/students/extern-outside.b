@@ -1,0 +1,4 @@
+extern int score;
+main() {
+    printn(1, 10);
+}

@@ -1,0 +1,5 @@
+main() {
+    extern score;
+    score = 1;
+}
+score;

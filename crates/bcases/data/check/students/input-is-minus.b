@@ -1,0 +1,5 @@
+main() {
+    while(1)
+        if(getchar() == -1)
+            return;
+}

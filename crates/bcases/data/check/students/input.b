@@ -1,0 +1,5 @@
+main() {
+    auto n;
+    n = input();
+    printn(n, 10);
+}

@@ -1,0 +1,4 @@
+let total;
+main() {
+    printn(1, 10);
+}

@@ -1,0 +1,4 @@
+main() {
+    let count = 0;
+    printn(count, 10);
+}

@@ -1,0 +1,5 @@
+first nil;
+main() {
+    extrn first;
+    printn(first, 10);
+}

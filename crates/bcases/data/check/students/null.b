@@ -1,0 +1,6 @@
+main() {
+    auto p;
+    p = 0;
+    if(p == null)
+        putchar('n');
+}

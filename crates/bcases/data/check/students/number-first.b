@@ -1,0 +1,6 @@
+main() {
+    auto n;
+    n = getchar();
+    if(50000 >= n)
+        putchar(n);
+}

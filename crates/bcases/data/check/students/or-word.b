@@ -1,0 +1,6 @@
+main() {
+    auto n;
+    n = 5;
+    if(n == 3 or n == 5)
+        putchar('y');
+}

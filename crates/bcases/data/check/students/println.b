@@ -1,0 +1,3 @@
+main() {
+    println(42);
+}

@@ -1,0 +1,5 @@
+main() {
+    auto name;
+    name = prompt("Name?");
+    printn(name, 10);
+}

@@ -1,0 +1,6 @@
+void show();
+main() {
+    show();
+}
+show()
+    putchar('x');

@@ -1,0 +1,4 @@
+# writes a star
+main() {
+    putchar('**');
+}

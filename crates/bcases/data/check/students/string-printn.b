@@ -1,0 +1,3 @@
+main() {
+    printn("hello", 10);
+}

@@ -1,0 +1,9 @@
+main() {
+    auto i, sum;
+    i = 1;
+    while(i <= 10) {
+        sum = sum + i;
+        i++;
+    }
+    printn(sum, 10);
+}

@@ -1,0 +1,4 @@
+main() {
+    while(true)
+        putchar(getchar());
+}

@@ -1,0 +1,5 @@
+main() {
+    var i;
+    i = 3;
+    printn(i, 10);
+}
