@@ -1,7 +1,7 @@
 -- What no counts are.
-use Rattle.std.proofs.Common.{◌≡◌, ◌∙◌, ℕ, zero, suc, ◌<◌, ◌≤◌, List, [], ◌∷◌, ◌++◌, ap, arith, codes, map, refl, subst}
+use Rattle.std.proofs.Common.{◌≡◌, ◌∙◌, ◌⊎◌, ℕ, zero, suc, ◌<◌, ◌≤◌, List, [], ◌∷◌, ◌++◌, ap, arith, codes, inl, inr, length, map, refl, subst, sym}
 use Rattle.std.specs.Fmt.{digits}
-use Rattle.std.specs.List.{All}
+use Rattle.std.specs.List.{All, flat_map, range_with_len}
 use Rattle.std.proofs.lemmas.List.Elements.{All-head, All-tail}
 use Rattle.bsources.specs.Files.{Files}
 use Rattle.bword.specs.ByteEnds.{Incoming, outgoing_of}
@@ -25,8 +25,9 @@ use Rattle.bcount.specs.Counts as count
 use Rattle.bcount.specs.Counts.{AreCounts, Asked, Counts, IsOnLines, line_counts}
 use Rattle.bcount.specs.Excluded.{CountsExcluded, CountsOnly, ShowsBoth, nothing}
 use Rattle.bcount.specs.SourceLines.{last_line, newlines_in}
-use Rattle.bcount.specs.Tables.{table_text}
+use Rattle.bcount.specs.Tables.{heading_of, hint, row_after, table_text, total_of}
 use Rattle.bcount.specs.declared.lines.Counted.{Counted}
+use Rattle.bcount.specs.declared.lines.LineCount.{LineCount}
 use Rattle.bcount.specs.declared.table.Style.{Style}
 use Rattle.bcount.specs.declared.table.Style.TheVariants as styles
 use Rattle.bcount.specs.declared.table.TheConstants.{HEADING}
@@ -85,7 +86,7 @@ of_one_line style source text last h =
     h.text_is ∙ (λ i. table_text style alone source (line_counts (on.is i) (last i)) 2)
     ∙ (λ i. table_text style alone source (line_counts (both (only_one on.one on.one_on i) (only_one on.two on.two_on i)) 1) 2)
 
-one_table : table_text styles.Table alone (codes "main(){}") (line_counts (both 1 1) 1) 2 ≡ HEADING.now ++ codes ">      1             1             2  main(){}\n" ++ codes "   total                           2\n"
+one_table : table_text styles.Table alone (codes "main(){}") (line_counts (both 1 1) 1) 2 ≡ HEADING.now ++ codes ">      1             1             2  main(){}\n" ++ codes "   total                           2\n" ++ hint
 unfolding digits
 one_table = refl
 
@@ -93,24 +94,33 @@ one_object : table_text styles.Json alone (codes "main(){}\n") (line_counts (bot
 unfolding digits
 one_object = refl
 
-abbrev rows_on : (one two : ℕ) → ℕ
-rows_on one two = newlines_in (table_text styles.Table alone (codes "main()\n{}\n") (line_counts (both one two) 2) 2)
+abbrev both_lines : (one two : ℕ) → List ℕ
+both_lines one two = table_text styles.Table alone (codes "main()\n{}\n") (line_counts (both one two) 2) 2
 
-four_rows : (one two : ℕ) → (0 < one) × (one ≤ 2) → (0 < two) × (two ≤ 2) → rows_on one two ≡ 4
+-- four lines, or the hint after four
+abbrev HasFourRows : List ℕ → Type 0
+HasFourRows text = (newlines_in text ≡ 4) ⊎ ((rest : List ℕ) × (text ≡ rest ++ hint) × (newlines_in rest ≡ 4))
+
+abbrev unhinted : List LineCount → List ℕ
+unhinted lines =
+    heading_of styles.Table ++ flat_map (row_after styles.Table alone (codes "main()\n{}\n") lines) (range_with_len 0 (length lines))
+    ++ total_of styles.Table 2
+
+four_rows : (one two : ℕ) → (0 < one) × (one ≤ 2) → (0 < two) × (two ≤ 2) → HasFourRows (both_lines one two)
 unfolding digits
 four_rows zero two h g = let bad = h.0 in absurd (omega (arith, bad))
 four_rows (suc (suc (suc n))) two h g = let bad = h.1 in absurd (omega (arith, bad))
 four_rows (suc n) zero h g = let bad = g.0 in absurd (omega (arith, bad))
 four_rows (suc n) (suc (suc (suc m))) h g = let bad = g.1 in absurd (omega (arith, bad))
-four_rows (suc zero) (suc zero) h g = refl
-four_rows (suc zero) (suc (suc zero)) h g = refl
-four_rows (suc (suc zero)) (suc zero) h g = refl
-four_rows (suc (suc zero)) (suc (suc zero)) h g = refl
+four_rows (suc zero) (suc zero) h g = inr (unhinted (line_counts (both 1 1) 2), refl, refl)
+four_rows (suc zero) (suc (suc zero)) h g = inl refl
+four_rows (suc (suc zero)) (suc zero) h g = inl refl
+four_rows (suc (suc zero)) (suc (suc zero)) h g = inr (unhinted (line_counts (both 2 2) 2), refl, refl)
 
-of_two_lines : (text : List ℕ) → ShowsBoth styles.Table (codes "main()\n{}\n") text → newlines_in text ≡ 4
+of_two_lines : (text : List ℕ) → ShowsBoth styles.Table (codes "main()\n{}\n") text → HasFourRows text
 of_two_lines text h =
     let on = on_lines 2 h.counted h.counts_are h.on_lines in
-    ap newlines_in (h.text_is ∙ ap (λ cs. table_text styles.Table alone (codes "main()\n{}\n") (line_counts cs 2) 2) on.is) ∙ four_rows on.one on.two on.one_on on.two_on
+    subst HasFourRows (sym (h.text_is ∙ ap (λ cs. table_text styles.Table alone (codes "main()\n{}\n") (line_counts cs 2) 2) on.is)) (four_rows on.one on.two on.one_on on.two_on)
 
 -- a run that has counts read without a failure
 reads_whole : (fs : List Placed) (ds : List Definition) (n : ℕ) (i j : Incoming) (made : ℕ) (tallies : List (List ℕ)) → (j.failures ≡ i.failures → ⊥) → (result : Outcome) → Watches (image_of ds).functions (machine ds) n i j result made (AreCounts fs tallies) → ⊥

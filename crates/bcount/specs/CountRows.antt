@@ -9,7 +9,7 @@ use Rattle.bcount.specs.declared.table.Style.TheVariants as style
 use Rattle.bcount.specs.Counts.{line_counts, steps_on, times_on}
 use Rattle.bcount.specs.Marks.{is_marked, no_code}
 use Rattle.bcount.specs.SourceLines.{beside_text, last_line}
-use Rattle.bcount.specs.Tables.{cells_text, file_row, object_text, table_text, total_of}
+use Rattle.bcount.specs.Tables.{cells_text, file_row, hint_of, object_text, table_text, total_of}
 use Rattle.bcount.specs.Tallies.{bumped}
 use Rattle.bcount.specs.Together.{all_steps}
 
@@ -69,6 +69,23 @@ total = refl
 
 no_total : total_of style.Json 78 ≡ []
 no_total = refl
+
+-- the hint: where one line has code, and not where two or none have
+abbrev done_once : LineCount
+done_once = record { times = Some 1; steps = 2 }
+
+hint_of_one_line : hint_of style.Table (no_code ∷ done_once ∷ no_code ∷ [])
+    ≡ codes "  hint: all code is on one line; b format FILE gives each statement its own\n"
+hint_of_one_line = refl
+
+no_hint_of_two : hint_of style.Table (done_once ∷ no_code ∷ done_once ∷ []) ≡ []
+no_hint_of_two = refl
+
+no_hint_without_code : hint_of style.Table (no_code ∷ []) ≡ []
+no_hint_without_code = refl
+
+no_hint_of_objects : hint_of style.Json (done_once ∷ []) ≡ []
+no_hint_of_objects = refl
 
 -- the number of the last line: without a newline, with one at the end, with one before it, and with newlines alone
 last_lines : map last_line ([] ∷ codes "a" ∷ codes "a\n" ∷ codes "a\nb" ∷ codes "\n" ∷ codes "\n\n" ∷ [])

@@ -1,5 +1,5 @@
 -- Promise: what the contract of `count` excludes.
-use Rattle.std.specs.Prelude.{◌≡◌, ℕ, List, [], ◌∷◌, ◌++◌, codes}
+use Rattle.std.specs.Prelude.{◌≡◌, ◌⊎◌, ℕ, List, [], ◌∷◌, ◌++◌, codes}
 use Rattle.bword.specs.declared.edition.Edition.TheVariants as editions
 use Rattle.bword.specs.ByteEnds.{Incoming}
 use Rattle.blang.specs.declared.code.Definition.{Definition}
@@ -18,6 +18,7 @@ use Rattle.btools.specs.Functions.{functions_of}
 use Rattle.bwatch.specs.Watches.{Watches}
 use Rattle.bcount.specs.Counts.{AreCounts, Asked, Counts, IsTableOf}
 use Rattle.bcount.specs.SourceLines.{newlines_in}
+use Rattle.bcount.specs.Tables.{hint}
 use Rattle.bcount.specs.declared.table.Style.{Style}
 use Rattle.bcount.specs.declared.table.Style.TheVariants as style
 use Rattle.bcount.specs.declared.table.TheConstants.{HEADING}
@@ -60,11 +61,13 @@ pub record CountsExcluded : Type 0 where
   pub other_table : (text : List ℕ) → ShowsBoth style.Table (codes "main(){}") text
       → text ≡ HEADING.now ++ codes ">      1             1             2  main(){}\n"
       ++ codes "   total                           2\n"
+      ++ hint
   -- no object, another one, or more
   pub other_object : (text : List ℕ) → ShowsBoth style.Json (codes "main(){}\n") text
       → text ≡ codes "{\"file\":\"p.b\",\"line\":1,\"times\":1,\"steps\":2}\n"
   -- of a source of two lines: a row left out or one more, whichever line an instruction is on
-  pub other_rows : (text : List ℕ) → ShowsBoth style.Table (codes "main()\n{}\n") text → newlines_in text ≡ 4
+  pub other_rows : (text : List ℕ) → ShowsBoth style.Table (codes "main()\n{}\n") text
+      → (newlines_in text ≡ 4) ⊎ ((rest : List ℕ) × (text ≡ rest ++ hint) × (newlines_in rest ≡ 4))
   -- where a read failed: another status than 133, or something that is written
   pub read_failed : (asked : Asked) (source : List ℕ) (ends : RunEnds) (status : ℕ)
       → (ends.input_after.failures ≡ ends.input.failures → ⊥) → Counts asked source ends status

@@ -1,6 +1,6 @@
 -- Inner words: the counts of lines as they are written.
-use Rattle.std.specs.Prelude.{◌≡◌, ℕ, ◌+◌, ◌==◌, Bool, List, [], ◌++◌, Option, Some, None, codes, decimal, get_or}
-use Rattle.std.specs.Prelude.{length, refl, replicate, if◌then◌else◌}
+use Rattle.std.specs.Prelude.{◌≡◌, ℕ, ◌+◌, ◌==◌, Bool, List, [], ◌++◌, Option, Some, None, codes, count_by, decimal, get_or}
+use Rattle.std.specs.Prelude.{is_some, length, refl, replicate, if◌then◌else◌}
 use Rattle.std.specs.List.{flat_map, range_with_len}
 use Rattle.bsources.specs.Files.{Files, Line, beyond_first, own_line}
 use Rattle.btools.specs.Columns.{right}
@@ -63,8 +63,20 @@ abbrev pub total_of : Style → (made : ℕ) → List ℕ
 total_of style.Table made = codes "   total" ++ right 28 (decimal made) ++ codes "\n"
 total_of style.Json made = []
 
--- a row of each line, in order, and how many steps were made
+-- how many lines have code
+abbrev pub lines_with_code : List LineCount → ℕ
+lines_with_code lines = count_by (λ c. is_some c.times) lines
+
+-- what is said of a program whose code is all on one line
+abbrev pub hint : List ℕ
+hint = codes "  hint: all code is on one line; b format FILE gives each statement its own\n"
+
+abbrev pub hint_of : Style → List LineCount → List ℕ
+hint_of style.Table lines = if lines_with_code lines == 1 then hint else []
+hint_of style.Json lines = []
+
+-- a row of each line, in order, how many steps were made, and perhaps the hint
 abbrev pub table_text : Style → Files → (source : List ℕ) → List LineCount → (made : ℕ) → List ℕ
 table_text style files source lines made =
     heading_of style ++ flat_map (row_after style files source lines) (range_with_len 0 (length lines))
-    ++ total_of style made
+    ++ total_of style made ++ hint_of style lines

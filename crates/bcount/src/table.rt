@@ -3,7 +3,7 @@ ghost use Rattle.std.specs.Prelude.{◌≡◌, ◌<◌, ◌+◌, ◌++◌, IfOk,
 ghost use Rattle.bsources.specs.Files.{files_shown, line_shown};
 ghost use Rattle.bcount.specs.Marks.{no_code};
 ghost use Rattle.bcount.specs.SourceLines.{beside_text};
-ghost use Rattle.bcount.specs.Tables.{cells_text, file_row, heading_of, object_text, row_text, table_text, total_of};
+ghost use Rattle.bcount.specs.Tables.{cells_text, file_row, heading_of, hint_of, lines_with_code, object_text, row_text, table_text, total_of};
 
 use crate::lines::LineCount;
 use crate::marks::{is_marked, marks_of};
@@ -36,6 +36,8 @@ pub struct Table<'a> {
 /// The columns of a table.
 const HEADING: &[u8] = b"    line         times         steps  source\n";
 
+const HINT: &[u8] = b"  hint: all code is on one line; b format FILE gives each statement its own\n";
+
 /// The text of the counts.
 pub fn table_text(alloc: Global, table: &Table<'_>) -> Result<Text, AllocError>
     ensures { IfOk result (λ text. text ≡ table_text table.now.style (files_shown table.now.files) table.now.source.now
@@ -52,6 +54,7 @@ pub fn table_text(alloc: Global, table: &Table<'_>) -> Result<Text, AllocError>
         push_row(&mut text, table, index, is_marked, line)?;
     }
     push_total(&mut text, table.style, table.made)?;
+    push_hint(&mut text, table.style, table.lines)?;
     Ok(text)
 }
 
@@ -160,4 +163,20 @@ fn push_total(text: &mut Text, style: Style, made: u64) -> Result<(), AllocError
         }
         Style::Json => text.push(b""),
     }
+}
+
+// What helps where all code is on one line, so that its counts tell little.
+fn push_hint(text: &mut Text, style: Style, lines: &[LineCount]) -> Result<(), AllocError>
+    ensures { OnOk result (text.new ≡ text.old ++ hint_of style lines.now) }
+{
+    match style {
+        Style::Table if lines_with_code(lines) == 1 => text.push(HINT),
+        Style::Table | Style::Json => text.push(b""),
+    }
+}
+
+fn lines_with_code(lines: &[LineCount]) -> usize
+    ensures { result ≡ lines_with_code lines.now }
+{
+    lines.iter().filter(|line| line.times.is_some()).count()
 }

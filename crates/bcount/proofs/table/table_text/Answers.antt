@@ -3,7 +3,7 @@ use Rattle.std.specs.List.{flat_map, list_any, range_with_len}
 use Rattle.bsources.specs.Files.{files_shown}
 use Rattle.bcount.specs.Marks.{no_code}
 use Rattle.btools.specs.SourceLines.{source_lines}
-use Rattle.bcount.specs.Tables.{heading_of, row_after, row_text, total_of}
+use Rattle.bcount.specs.Tables.{heading_of, hint_of, row_after, row_text, total_of}
 use Rattle.bcount.specs.declared.marks.Mark.{Mark}
 use Rattle.bcount.proofs.Rows.{one_row, rest_first, rest_next}
 use Rattle.bcount.proofs.table.table_text.Goals as goal
@@ -39,5 +39,7 @@ returns c =
     let files = files_shown t.files in
     let lines = t.lines.now in
     let all : c.loop-index.index ≡ length lines = omega (arith, c.loop-index-test.false, c.loop-index.auto.index-end) in
-    c.in_ok-push_total.ensures ∙ ap (λ (t0 : List ℕ). t0 ++ total_of t.style t.made) c.loop-index.invariant.rows
-    ∙ ap (λ n. heading_of t.style ++ flat_map (row_after t.style files t.source.now lines) (range_with_len 0 n) ++ total_of t.style t.made) all
+    let total = total_of t.style t.made in
+    let before = c.in_ok-push_total.ensures ∙ ap (λ (t0 : List ℕ). t0 ++ total) c.loop-index.invariant.rows in
+    c.in_ok-push_hint.ensures ∙ ap (λ (t0 : List ℕ). t0 ++ hint_of t.style lines) before
+    ∙ ap (λ n. heading_of t.style ++ flat_map (row_after t.style files t.source.now lines) (range_with_len 0 n) ++ total ++ hint_of t.style lines) all
