@@ -56,6 +56,10 @@ uint8_t b_go(const uint8_t *source, size_t source_size, const uint8_t *input, si
              uint64_t steps, uint8_t *out, size_t out_size, uint8_t *line, size_t line_size,
              struct b_written *written);
 
+/* Writes a code text of edition 1 as one of edition 2, as `b migrate` does. */
+uint8_t b_migrate(const uint8_t *code, size_t code_size, uint8_t *out, size_t out_size, uint8_t *line, size_t line_size,
+                  struct b_written *written);
+
 #ifdef __cplusplus
 }
 #endif

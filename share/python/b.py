@@ -44,7 +44,8 @@ def _load():
     library.b_compile.argtypes = text + [ctypes.c_uint8] + ends
     library.b_run.argtypes = text + text + [ctypes.c_uint64] + ends
     library.b_go.argtypes = text + text + [ctypes.c_uint8, ctypes.c_uint64] + ends
-    for call in (library.b_compile, library.b_run, library.b_go):
+    library.b_migrate.argtypes = text + ends
+    for call in (library.b_compile, library.b_run, library.b_go, library.b_migrate):
         call.restype = ctypes.c_uint8
     return library
 
@@ -59,16 +60,26 @@ def _call(function, *words, room):
     return status, ctypes.string_at(out, written.out), line.raw[: written.line]
 
 
-def compile(source: bytes, *, edition: int = 1, room: int = 1 << 16) -> bytes:
-    """The code text of a source. A room that is too small is doubled until the text fits."""
+def _text(function, *words, room):
+    """The text that a call writes. A room that is too small is doubled until the text fits."""
     while True:
-        status, out, line = _call(_library.b_compile, source, len(source), edition, room=room)
+        status, out, line = _call(function, *words, room=room)
         if status != FAILED:
             break
         room *= 2
     if status != 0:
         raise Error(status, out, line)
     return out
+
+
+def compile(source: bytes, *, edition: int = 1, room: int = 1 << 16) -> bytes:
+    """The code text of a source."""
+    return _text(_library.b_compile, source, len(source), edition, room=room)
+
+
+def migrate(code: bytes, *, room: int = 1 << 16) -> bytes:
+    """A code text of edition 1 as one of edition 2."""
+    return _text(_library.b_migrate, code, len(code), room=room)
 
 
 def _ran(status, out, line):

@@ -28,6 +28,8 @@ def rows():
     yield b.go(b"main() { exit(1); }"), (b"", 1)
     yield b.run(b.compile(ECHO), b"some text"), (b"some text", 3)
     yield b.compile(ECHO, room=1), b.compile(ECHO)
+    yield b.migrate(b.compile(ECHO), room=1), b.compile(ECHO, edition=2)
+    yield error_of(b.migrate, b"F"), (b.REFUSED, b"code 1\n", b"B 2\n")
     yield error_of(b.go, b"main() { return(x); }"), (b.FAULT, b"un x 1\n", b"")
     yield error_of(b.go, b"main() { printn(7, 10); printn(1/0, 10); }"), (b.TRAP, b"trap dz\n", b"7")
     yield error_of(b.go, b"main() { while(1); }", steps=1000), (b.LIMIT, b"limit\n", b"")

@@ -1,5 +1,5 @@
 -- Closed facts: the editions by their numbers, and the streams over rooms.
-use Rattle.std.specs.Prelude.{◌≡◌, ℕ, List, [], ◌∷◌, map, Option, Some, None, refl}
+use Rattle.std.specs.Prelude.{◌≡◌, [], ◌∷◌, map, Some, None, refl}
 use Rattle.bword.specs.ByteEnds.{Outgoing}
 use Rattle.bword.specs.declared.edition.Edition.TheVariants as editions
 use Rattle.bembed.specs.Calls.{edition_of}

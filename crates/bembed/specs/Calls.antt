@@ -7,6 +7,7 @@ use Rattle.blang.specs.Compiles.{Compiles, CompileHeadline, Run}
 use Rattle.blang.specs.Headline.{GoesOff, Headline}
 use Rattle.blang.specs.Reports.{RunEnds, run_ends}
 use Rattle.blang.specs.declared.status.TheConstants.{WRONG_COMMAND}
+use Rattle.brun.specs.Migrates.{Migrates, rewriting}
 use Rattle.brun.specs.Runs.{RunsText}
 use Rattle.bembed.specs.Rooms.{Room, Filled, Untouched, fresh, stream_of}
 
@@ -80,3 +81,13 @@ pub record RunsIn (steps : ℕ) (code input : List ℕ) (out line : Room) (statu
   pub out_filled : Filled out out_failures
   pub line_filled : Filled line line_failures
   pub runs : RunsText steps code (ends_of input input_after out line out_failures line_failures) status
+
+-- A code text in memory is migrated into two rooms.
+pub record MigratesIn (code : List ℕ) (out line : Room) (status : ℕ) : Type 0 where
+  pub code_after : Unread
+  pub out_failures : ℕ
+  pub line_failures : ℕ
+  pub out_filled : Filled out out_failures
+  pub line_filled : Filled line line_failures
+  pub migrates : Migrates (rewriting (all_of code) (incoming_of code_after) fresh (stream_of out out_failures))
+      fresh (stream_of line line_failures) status

@@ -1,12 +1,12 @@
 //! The calls.
 ghost use Rattle.std.specs.Prelude.{◌≡◌};
 ghost use Rattle.blang.specs.declared.status.TheConstants.{WRONG_COMMAND};
-ghost use Rattle.bembed.specs.Calls.{edition_of, InEdition, CompilesIn, GoesIn, RunsIn};
+ghost use Rattle.bembed.specs.Calls.{edition_of, InEdition, CompilesIn, GoesIn, MigratesIn, RunsIn};
 
 use crate::room::Room;
 use blang::status::{self, Status};
 use bparse::compile_edition;
-use brun::{go_edition, run_text};
+use brun::{go_edition, migrate, run_text};
 use bword::{Edition, MemIn};
 use std::alloc::Global;
 
@@ -126,6 +126,28 @@ pub extern "C" fn b_go(
         steps,
         edition,
     );
+    written.out = out.count;
+    written.line = line.count;
+    status
+}
+
+/// Writes a code text of edition 1 as one of edition 2, as `migrate` does.
+#[unsafe(no_mangle)]
+pub extern "C" fn b_migrate(
+    alloc: Global,
+    code: &[u8],
+    out: &mut [u8],
+    line: &mut [u8],
+    written: &mut Written,
+) -> u8
+    ensures migrates { MigratesIn code.now
+        (record { before = out.old; after = out.new; count = written.new.out })
+        (record { before = line.old; after = line.new; count = written.new.line }) result }
+{
+    let mut out = Room::new(out);
+    let mut line = Room::new(line);
+    let mut code = MemIn::new(code);
+    let status = migrate(alloc, &mut code, &mut out, &mut line);
     written.out = out.count;
     written.line = line.count;
     status
