@@ -98,7 +98,8 @@ impl Flow {
             return false;
         }
         let is_left_out = token >= self.branch_first && token < self.branch_end;
-        if is_left_out && token >= self.loop_first && token < self.loop_end {
+        let is_in_loop = token >= self.loop_first && token < self.loop_end;
+        if is_left_out && is_in_loop && locals.is_set_somewhere(place) {
             locals.set(place);
             return false;
         }
@@ -129,14 +130,14 @@ fn is_label(spans: &Spans, token: usize) -> bool {
     lexeme_at(spans, token.wrapping_add(1)) == Lexeme::Colon && may_begin(spans, token)
 }
 
-// Whether the address of a name is taken.
-fn is_address(spans: &Spans, token: usize) -> bool {
+/// Whether the address of a name is taken.
+pub(crate) fn is_address(spans: &Spans, token: usize) -> bool {
     lexeme_at(spans, token.wrapping_sub(1)) == Lexeme::Operator(BinOp::And)
         && !is_ended(&lexeme_at(spans, token.wrapping_sub(2)))
 }
 
-// Whether a value is assigned to a name itself. `x=-1` is told of in another way.
-fn is_target(spans: &Spans, token: usize) -> bool {
+/// Whether a value is assigned to a name itself. `x=-1` is told of in another way.
+pub(crate) fn is_target(spans: &Spans, token: usize) -> bool {
     let next = token.wrapping_add(1);
     let assigns = match lexeme_at(spans, next) {
         Lexeme::Assign(None) => true,

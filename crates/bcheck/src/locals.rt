@@ -1,6 +1,7 @@
 //! The names that a function declares.
 use crate::compiled::Extent;
-use crate::kinds::Kind;
+use crate::flow::{is_address, is_target};
+use crate::kinds::{Kind, is_word};
 use crate::spans::{Spans, lexeme_at, name_at};
 use blang::Keyword;
 use blex::Lexeme;
@@ -28,6 +29,10 @@ pub(crate) struct Local {
     pub indexed: u64,
     /// How often something is stored in it, or it is compared with a constant.
     pub as_word: u64,
+    /// How often a value is assigned to it, or its address is taken.
+    pub sets: u64,
+    /// Whether a character of the input is assigned to it.
+    pub is_input: bool,
     /// Whether a statement that came before has set it.
     pub is_set: bool,
 }
@@ -42,7 +47,17 @@ impl Local {
         if is_as_word(spans, token) {
             self.as_word = self.as_word.saturating_add(1);
         }
+        if is_target(spans, token) || is_address(spans, token) {
+            self.sets = self.sets.saturating_add(1);
+        }
+        self.is_input = self.is_input || is_read(spans, token);
     }
+}
+
+// Whether a character of the input is assigned to the name at this token.
+fn is_read(spans: &Spans, token: usize) -> bool {
+    lexeme_at(spans, token.wrapping_add(1)) == Lexeme::Assign(None)
+        && is_word(&lexeme_at(spans, token.wrapping_add(2)), "getchar")
 }
 
 // Whether something is stored in the name at this token, or it is compared with a constant.
@@ -116,6 +131,8 @@ impl Locals {
             uses: 0,
             indexed: 0,
             as_word: 0,
+            sets: 0,
+            is_input: false,
             is_set: role != Role::Auto,
         })?;
         Ok(())
@@ -147,6 +164,14 @@ impl Locals {
     /// The one of this name.
     pub(crate) fn find(&self, name: &Name) -> Option<Local> {
         self.all.get(self.place(name)?).copied()
+    }
+
+    /// Whether anything sets one, in the place where it is read or in another one.
+    pub(crate) fn is_set_somewhere(&self, place: usize) -> bool {
+        match self.all.get(place) {
+            Some(local) => local.sets > 0,
+            None => true,
+        }
     }
 
     /// Whether one is set; one that isn't there is.

@@ -354,6 +354,7 @@ fn named(tokens: &Tokens<'_>, locals: &Locals, token: usize, name: Name) -> Opti
         Lexeme::OpenBracket => indexed(tokens, locals, token, name),
         Lexeme::OpenParen => called(tokens, locals, token, name),
         Lexeme::Colon if name.as_str() == "default" => default_label(tokens, locals, token),
+        Lexeme::Operator(BinOp::Eq | BinOp::Ne) => input_compared(tokens, locals, token, name),
         _ => whole_vector(tokens, locals, token, name),
     }
 }
@@ -386,6 +387,18 @@ fn past_vector(tokens: &Tokens<'_>, locals: &Locals, token: usize, name: Name) -
     } else {
         None
     }
+}
+
+// What is found of a name that is compared, if a character of the input is in it.
+fn input_compared(tokens: &Tokens<'_>, locals: &Locals, token: usize, name: Name) -> Option<Found> {
+    let spans = tokens.spans;
+    let wanted = token.wrapping_add(2);
+    let is_minus_one = lexeme_at(spans, wanted) == Lexeme::Operator(BinOp::Sub)
+        && lexeme_at(spans, wanted.wrapping_add(1)) == Lexeme::Number(1);
+    if is_minus_one && locals.find(&name)?.is_input {
+        return Found::new(wanted, Warning::InputEnd);
+    }
+    None
 }
 
 // What is found of a name with an index.

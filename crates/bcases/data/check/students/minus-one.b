@@ -1,0 +1,6 @@
+main() {
+    auto n;
+    n = 3;
+    while(n != -1)
+        printn(n--, 10);
+}
