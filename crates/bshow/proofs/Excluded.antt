@@ -1,5 +1,5 @@
 -- Which rows the pages of small programs have, and what no page is.
-use Rattle.std.proofs.Common.{◌≡◌, ◌∙◌, ◌⊎◌, ℕ, zero, suc, ◌+◌, ◌≤◌, List, [], ◌∷◌, ◌++◌, Option, Some, None, ap, append_assoc, arith, codes, decimal, inl, inr, length, map, refl, reverse, subst, sym}
+use Rattle.std.proofs.Common.{◌≡◌, ◌∙◌, ◌⊎◌, ℕ, zero, suc, ◌+◌, List, [], ◌∷◌, ◌++◌, Option, Some, None, ap, append_assoc, arith, codes, decimal, inl, inr, length, map, refl, reverse, subst, sym}
 use Rattle.std.specs.Prelude.{All, slice_index}
 use Rattle.std.specs.Fmt.{digits}
 use Rattle.std.proofs.lemmas.List.Elements.{All-head, All-tail}
@@ -16,6 +16,8 @@ use Rattle.blang.specs.Layout.{load_fault}
 use Rattle.blang.specs.Machine.{Call, Halted, Image, Loaded, Running, State, States, Stuck, image_of, machine, state_world, steps}
 use Rattle.blang.specs.Reports.{RunEnds, RunGives, state_outcome}
 use Rattle.bmach.specs.Readings.{LeftBySteps}
+use Rattle.bmach.specs.Stops.{active_of}
+use Rattle.bmach.specs.declared.machine.Active.{Active}
 use Rattle.bmach.proofs.Readings.{left_by, run_left}
 use Rattle.bmach.proofs.Running.{device_failed}
 use Rattle.btools.specs.Excluded.{Excluded, code_in}
@@ -190,17 +192,17 @@ in_second states made zero result own first over is tries ends = absurd (own (sy
 in_second states made (suc zero) result own first over is tries ends = omega (arith, is)
 in_second states made (suc (suc n)) result own first over is tries ends = absurd (not_trying states (suc (suc n)) (over n) tries)
 
-calls_of_next : (which : PageRows) (input : List ℕ) (at : ℕ) (text : List ℕ) → TellsCalls which (machine calling input) 4 at text → (at ≡ 4) × (text ≡ codes "[[8,9],0]")
+calls_of_next : (input : List ℕ) (at : ℕ) (calls : List Active) → TellsCalls (machine calling input) 4 at calls → (at ≡ 4) × (calls_text calls ≡ codes "[[8,9],0]")
 unfolding digits
-calls_of_next which input at text h =
+calls_of_next input at calls h =
     let states = machine calling input in
     let is : at ≡ 4 = h.next (record { call = top_of (states 4); below = below_of (states 4); world = state_world (states 4); state_is = refl }) in
-    (is, h.calls_are ∙ ap calls_text (sym (ap below_of h.tries.state_is) ∙ ap (λ m. below_of (states m)) is))
+    (is, ap calls_text (h.calls_are ∙ ap (map active_of) (sym (ap below_of h.tries.state_is) ∙ ap (λ m. below_of (states m)) is)))
 
-calls_of_trap : (input : List ℕ) (at : ℕ) (text : List ℕ) → TellsCalls (rows.Last 1) (machine trapping input) 2 at text → (at ≡ 1) × (text ≡ codes "[0]")
-calls_of_trap input zero text h = let some : 1 ≤ 0 = h.among (omega arith) in absurd (omega (arith, some))
-calls_of_trap input (suc zero) text h = (refl, h.calls_are ∙ ap calls_text (sym (ap below_of h.tries.state_is)))
-calls_of_trap input (suc (suc n)) text h = absurd (not_trying (machine trapping input) (suc (suc n)) (trapped_over input n) h.tries)
+calls_of_trap : (input : List ℕ) (at : ℕ) (calls : List Active) → TellsCalls (machine trapping input) 2 at calls → (at ≡ 1) × (calls ≡ [])
+calls_of_trap input zero calls h = absurd (omega (arith, h.last))
+calls_of_trap input (suc zero) calls h = (refl, h.calls_are ∙ ap (map active_of) (sym (ap below_of h.tries.state_is)))
+calls_of_trap input (suc (suc n)) calls h = absurd (not_trying (machine trapping input) (suc (suc n)) (trapped_over input n) h.tries)
 
 next_told : (input : List ℕ) (made : ℕ) (next : List ℕ) → EndsAs (functions_of calling) (machine calling input) made 3 outcome.Limit next → (made ≡ 3) × IsRowOf (row fourth_row.start (codes "<td>x f<td>[]<td>1<td>9</tr>\n")) next
 unfolding digits

@@ -1,20 +1,17 @@
 -- The parts of the facts of a page, one after another.
-use Rattle.std.proofs.Common.{◌≡◌, ◌∙◌, ℕ, zero, suc, ◌+◌, ◌<◌, ◌≤◌, Bool, true, false, ◌||◌, List, [], ◌∷◌, ◌++◌, None, Option, Some, ap, append-nil, append_assoc, arith, get_or, length, map, nat_lt, refl, sym, take}
-use Rattle.std.specs.Prelude.{option_map, slice_get, zip}
+use Rattle.std.proofs.Common.{◌≡◌, ◌∙◌, ℕ, ◌+◌, ◌<◌, ◌≤◌, Bool, true, false, ◌||◌, List, [], ◌∷◌, ◌++◌, None, Option, Some, ap, append-nil, append_assoc, arith, get_or, length, map, nat_lt, refl, reverse, sym, take}
+use Rattle.std.specs.Prelude.{zip}
 use Rattle.std.specs.List.{flat_map, range_with_len}
-use Rattle.std.proofs.lemmas.List.{length-map, map-append, take-map, take_more}
+use Rattle.std.proofs.lemmas.List.{length-map, map-append, reverse-append, take-map, take_more}
 use Rattle.std.proofs.lemmas.Bool.Decides.{nat_tests}
 use Rattle.std.proofs.lemmas.List.Concat.{flat_map-append}
 use Rattle.std.proofs.lemmas.List.Sums.{sum_by-take-le}
-use Rattle.blang.specs.Machine.{Call}
 use Rattle.blang.specs.declared.code.Definition.{Definition}
 use Rattle.blang.specs.Layout.{data_end, first_some, label_count, load_fault, shape_of, size_of, some_if, spot_after, spots, store_words}
 use Rattle.bmach.proofs.Spots.{data_end-push, length-spots_after, spots_after-push, zip-push}
-use Rattle.bmach.specs.Stops.{active_of}
 use Rattle.bmach.specs.declared.machine.Active.{Active}
-use Rattle.btools.proofs.AddedTexts.{each_more}
 use Rattle.bshow.specs.Shows.{rows_text}
-use Rattle.bshow.specs.Facts.{active_text, all_addresses, call_text, definition_text, spot_text}
+use Rattle.bshow.specs.Facts.{all_addresses, call_text, definition_text, spot_text}
 
 -- the texts of definitions, with one more
 abbrev pub texts_of : List Definition → List ℕ
@@ -61,22 +58,18 @@ not_more end labels h = grind (arith, nat_tests)
 pub data_fit : (ds : List Definition) → load_fault ds ≡ None → data_end (map shape_of ds) ≤ 65536
 data_fit ds h = not_more (data_end (map shape_of ds)) (label_count (map shape_of ds)) (second_none _ _ _ _ h)
 
--- a caller that isn't there, and one that is
-pub some_caller : (below : List Call) (number : ℕ) → number < length below → None ≡ option_map active_of (slice_get below number) → ⊥
-some_caller [] number within is = omega arith
-some_caller (c ∷ below) zero within is = cc
-some_caller (c ∷ below) (suc number) within is = some_caller below number (omega arith) is
+-- a call more of those that are left, and none
+pub calls_left : (text new whole : List ℕ) (left rest : List Active) (c : Active) → left ≡ rest ++ c ∷ [] → text ++ flat_map call_text (reverse left) ≡ whole → new ≡ text ++ call_text c
+    → new ++ flat_map call_text (reverse rest) ≡ whole
+calls_left text new whole left rest c is before one =
+    ap (λ t. t ++ flat_map call_text (reverse rest)) one
+    ∙ append_assoc text (call_text c) (flat_map call_text (reverse rest))
+    ∙ ap (λ cs. text ++ flat_map call_text cs) (sym (ap reverse is ∙ reverse-append rest (c ∷ [])))
+    ∙ before
 
-active_at : (below : List Call) (number : ℕ) (a : Active) → Some a ≡ option_map active_of (slice_get below number) → (c : Call) × (c ≡ get_or below number c) × (a ≡ active_of c)
-active_at [] number a e = cc
-active_at (c ∷ below) zero a e = (c, refl, cc)
-active_at (c ∷ below) (suc n) a e = active_at below n a e
-
-pub call_more : (below : List Call) (number : ℕ) (a : Active) (head text new : List ℕ) → number < length below → Some a ≡ option_map active_of (slice_get below number)
-    → text ≡ head ++ flat_map call_text (take number below) → new ≡ text ++ active_text a → new ≡ head ++ flat_map call_text (take (number + 1) below)
-call_more below number a head text new lt e before one =
-    let at = active_at below number a e in
-    each_more call_text head text new below number at.0 lt at.1 before (one ∙ ap (λ x. text ++ active_text x) at.2)
+pub no_calls_left : (text whole : List ℕ) (left : List Active) → length left ≡ 0 → text ++ flat_map call_text (reverse left) ≡ whole → text ≡ whole
+no_calls_left text whole [] none all = sym (append-nil text) ∙ all
+no_calls_left text whole (c ∷ left) none all = cc
 
 -- the numbers below that of all words
 pub all_are : (n : ℕ) → n ≡ store_words → range_with_len 0 n ≡ all_addresses

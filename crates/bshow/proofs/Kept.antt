@@ -8,8 +8,8 @@ use Rattle.std.proofs.lemmas.List.FromFn.{length-range_with_len}
 use Rattle.std.proofs.lemmas.List.Elements.{All-nil, All-append, All-cons, All-tail}
 use Rattle.blang.specs.Machine.{Loaded, State}
 use Rattle.btools.specs.Functions.{Placed}
-use Rattle.bshow.specs.Shows.{AreShown, ShowsStep, StepRow, first_of, shown_of}
-use Rattle.bshow.specs.Steps.{has_row, kept_texts, retells}
+use Rattle.bshow.specs.Shows.{AreShown, ShowsStep, StepRow, shown_of}
+use Rattle.bshow.specs.Steps.{has_row, kept_texts}
 use Rattle.bshow.specs.declared.showing.PageRows.{PageRows}
 use Rattle.bshow.specs.declared.showing.PageRows.TheVariants as rows
 use Rattle.bshow.proofs.Ranges.{one_from_zero, one_further, one_more}
@@ -116,23 +116,3 @@ module _ (fs : List Placed) (functions : List Loaded) (states : ℕ → State) (
   pub one_shown : (which : PageRows) → has_row which made ≡ true → (texts : List (List ℕ)) → AreShown fs functions which states made texts → AreShown fs functions which states (made + 1) (kept_texts which texts row)
   one_shown (rows.From number) h texts a = from_one number (grind (arith, nat_tests)) texts a
   one_shown (rows.Last count) h texts a = last_one count texts a (nat_lt count (length (texts ++ row ∷ []))) refl
-
--- where the calls were told is among the steps that are shown
-abbrev pub IsAmong : PageRows → (made at : ℕ) → Type 0
-IsAmong which made at = first_of which made < made → first_of which made ≤ at
-
-pub told_now : (which : PageRows) (made : ℕ) → IsAmong which (made + 1) made
-told_now which made lt = omega (arith, lt)
-
-pub told_before : (which : PageRows) (made at : ℕ) → retells which made at ≡ false → at ≤ made → IsAmong which made at → IsAmong which (made + 1) at
-told_before (rows.From number) made at h le among lt =
-    by_number number h lt among
-  where
-    by_number : (n : ℕ) → retells (rows.From n) made at ≡ false → first_of (rows.From n) (made + 1) < made + 1 → IsAmong (rows.From n) made at → first_of (rows.From n) (made + 1) ≤ at
-    by_number zero h lt among = omega arith
-    by_number (suc k) h lt among =
-        let other : suc k ≡ made + 1 → ⊥ = grind (arith, nat_tests) in
-        among (omega (arith, lt, other))
-told_before (rows.Last count) made at h le among lt =
-    let less : made - at < count = grind (arith, nat_tests) in
-    omega (arith, less, le)

@@ -1,5 +1,6 @@
 pub mod Ranges
 pub mod FactParts
+pub mod Calls
 pub mod Kept
 pub mod Told
 pub mod Whole

@@ -1,5 +1,5 @@
 -- Steps that are made and told, one after another.
-use Rattle.std.proofs.Common.{◌≡◌, ◌∙◌, ℕ, ◌+◌, ◌-◌, ◌<◌, ◌≤◌, Bool, true, false, List, [], ◌∷◌, ◌++◌, Ok, Err, Result, Some, ap, append-nil, append_assoc, arith, drop, length, refl, subst, sym}
+use Rattle.std.proofs.Common.{◌≡◌, ◌∙◌, ℕ, ◌+◌, ◌-◌, ◌<◌, ◌≤◌, Bool, true, false, List, [], ◌∷◌, ◌++◌, Ok, Err, Result, Some, ap, append-nil, append_assoc, arith, drop, length, map, refl, subst, sym}
 use Rattle.std.specs.List.{flat_map, range_with_len}
 use Rattle.std.specs.Result.{OnErr}
 use Rattle.std.specs.Prelude.{slice_index}
@@ -16,36 +16,35 @@ use Rattle.blang.specs.Machine as machine
 use Rattle.bmach.specs.Readings.{ReadBySteps, ReadInStep}
 use Rattle.bmach.specs.Steps.{world_with}
 use Rattle.bmach.specs.Stepping.{Paused, machine_at}
+use Rattle.bmach.specs.Stops.{active_of}
 use Rattle.bmach.specs.Stored.{stored, stored_next}
+use Rattle.bmach.specs.declared.machine.Active.{Active}
 use Rattle.bmach.specs.Turns.{HasHalted, LeavesWords, MovesOn, TurnGives}
 use Rattle.bmach.proofs.Readings.{read_more, read_so_far}
 use Rattle.bmach.proofs.Running.{at_limit, following, one_more, run_over}
 use Rattle.bmach.proofs.Turning.{follows, goes_on, runs_on}
 use Rattle.btools.specs.Functions.{Placed}
-use Rattle.bshow.specs.Facts.{calls_text}
 use Rattle.bshow.specs.Rows.{call_cells, done_cells, heard_by, heard_in, words_in}
-use Rattle.bshow.specs.Shows.{AreShown, Record, ShowsStep, TellsSteps, first_of, heard_after, shown_of, record_of}
+use Rattle.bshow.specs.Shows.{AreShown, Record, ShowsStep, TellsSteps, first_of, heard_after, shown_of}
 use Rattle.btrace.specs.Traces.{StepsGive, Tries, store_after, stored_after}
 use Rattle.btools.specs.Programs.{steps_from}
-use Rattle.bshow.specs.Steps.{IsRow, KeepsStep, KeepsRow, TellsRun, TellsUnless, has_row, kept_texts, next_stored, retells, retold}
-use Rattle.bshow.specs.declared.showing.Recorder.{Recorder}
+use Rattle.bshow.specs.Steps.{IsRow, KeepsStep, KeepsRow, TellsRun, TellsUnless, FollowsCalls, followed, has_row, kept_texts, next_stored}
 use Rattle.bshow.specs.declared.showing.PageRows.{PageRows}
-use Rattle.bshow.proofs.Kept.{IsAmong, none_shown, one_shown, told_before, told_now}
+use Rattle.bshow.proofs.Calls.{moved}
+use Rattle.bshow.proofs.Kept.{none_shown, one_shown}
 use Rattle.bshow.proofs.Ranges as ranges
 
 -- what is told of so many steps, but their output
 pub record TellsOf (fs : List Placed) (functions : List Loaded) (which : PageRows) (states : ℕ → State) (made : ℕ) (r : Record) : Type 0 where
   pub shown : AreShown fs functions which states made r.texts
-  pub tries : Tries states r.calls_at
-  pub calls_are : r.calls ≡ calls_text tries.below
   pub heard : r.heard ≡ flat_map (heard_after fs states) (range_with_len 0 made)
 
 -- So many steps were made from a state on, and told.
 pub record IsTold (fs : List Placed) (which : PageRows) (first : Paused) (made : ℕ) (now : Paused) (i j : Incoming) (o q : Kept) (r : Record) : Type 0 where
   pub image_is : now.image ≡ first.image
   pub goes : MovesOn (λ left before. steps first.image made (machine_at first left before)) (machine_at now) i j (outgoing_of o) (outgoing_of q)
-  pub within : r.calls_at ≤ made
-  pub among : IsAmong which made r.calls_at
+  pub at : r.calls_at ≡ made
+  pub calls : r.calls ≡ map active_of now.below
   pub tells : (more : List ℕ) → CanFollow j more → TellsOf fs first.image.functions which (steps_from first (goes.taken ++ more)) made r
   pub output : r.output ≡ q.bytes
 
@@ -63,10 +62,6 @@ read_tried fs which first now made n i j m o q r lt t step =
     read_more first.image made n (machine_at first) (machine_at now) i j m (outgoing_of o) (outgoing_of q) (omega (arith, lt)) t.goes
     (subst (λ (x : Image). ReadInStep x (machine_at now) j m) t.image_is step)
 
--- the same state by another number
-abbrev tries_at : (states : ℕ → State) {a b : ℕ} → a ≡ b → Tries states b → Tries states a
-tries_at states e t = record { call = t.call; below = t.below; world = t.world; state_is = ap states e ∙ t.state_is }
-
 -- before the first step
 none_of : (fs : List Placed) (functions : List Loaded) (which : PageRows) (states : ℕ → State) → shown_of which 0 ≡ [] → AreShown fs functions which states 0 []
 none_of fs functions which states none = record { kept = []; texts_are = refl; all = sym none; each = All-nil _ }
@@ -77,68 +72,21 @@ none_first which = ap (range_with_len (first_of which 0)) (zero_less (first_of w
     zero_less : (n : ℕ) → 0 - n ≡ 0
     zero_less n = omega arith
 
-pub told_none : (fs : List Placed) (which : PageRows) (first : Paused) (i : Incoming) (o : Kept) (r : Record) → r.texts ≡ [] → r.heard ≡ [] → r.calls ≡ calls_text first.below → r.calls_at ≡ 0 → r.output ≡ o.bytes
+pub told_none : (fs : List Placed) (which : PageRows) (first : Paused) (i : Incoming) (o : Kept) (r : Record) → r.texts ≡ [] → r.heard ≡ [] → r.calls ≡ map active_of first.below → r.calls_at ≡ 0 → r.output ≡ o.bytes
     → IsTold fs which first 0 first i i o o r
 told_none fs which first i o r texts heard calls at output =
     let begun = goes_on (following first.image 0 (machine_at first)) (machine_at first) i (outgoing_of o) (λ left before. refl) in
     record {
       image_is = refl;
       goes = begun;
-      within = omega (arith, at);
-      among = λ lt. omega (arith, lt);
+      at = at;
+      calls = calls;
       tells = λ more can. record {
         shown = subst (AreShown fs first.image.functions which (steps_from first (begun.taken ++ more)) 0) (sym texts) (none_of fs first.image.functions which (steps_from first (begun.taken ++ more)) (none_first which));
-        tries = record {
-          call = first.call;
-          below = first.below;
-          world = world_with first.store more begun.output;
-          state_is = ap (steps_from first (begun.taken ++ more)) at ∙ begun.comes more [] can;
-        };
-        calls_are = calls;
         heard = heard;
       };
       output = output;
     }
-
--- the calls are told anew
-anew : (fs : List Placed) (which : PageRows) (first : Paused) (made : ℕ) (now : Paused) (i j : Incoming) (o q : Kept) (r : Record) → IsTold fs which first made now i j o q r → IsTold fs which first made now i j o q (retold true r now.below made)
-anew fs which first made now i j o q r t = record {
-  image_is = t.image_is;
-  goes = t.goes;
-  within = omega arith;
-  among = λ lt. omega (arith, lt);
-  tells = λ more can. record {
-    shown = (t.tells more can).shown;
-    tries = record { call = now.call; below = now.below; world = world_with now.store more t.goes.output; state_is = t.goes.comes more [] can };
-    calls_are = refl;
-    heard = (t.tells more can).heard;
-  };
-  output = t.output;
-}
-
--- the same, or not
-pub told_anew : (fs : List Placed) (which : PageRows) (first : Paused) (made : ℕ) (now : Paused) (i j : Incoming) (o q : Kept) (r : Record) → IsTold fs which first made now i j o q r
-    → (b : Bool) → retells which made r.calls_at ≡ b → IsTold fs which first made now i j o q (retold b r now.below made) × IsAmong which (made + 1) (retold b r now.below made).calls_at
-told_anew fs which first made now i j o q r t true h = (anew fs which first made now i j o q r t, told_now which made)
-told_anew fs which first made now i j o q r t false h = (t, told_before which made r.calls_at h t.within t.among)
-
--- before a step, the calls told anew or not
-pub ready_told : (fs : List Placed) (which : PageRows) (first : Paused) (made : ℕ) (now : Paused) (i j : Incoming) (o : Kept) (k k' : Recorder) → IsTold fs which first made now i j o k.written (record_of k)
-    → record_of k' ≡ retold (retells which made k.calls_at) (record_of k) now.below made → k'.written ≡ k.written → IsTold fs which first made now i j o k'.written (record_of k') × IsAmong which (made + 1) k'.calls_at
-ready_told fs which first made now i j o k k' t is same =
-    let again = told_anew fs which first made now i j o k.written (record_of k) t (retells which made k.calls_at) refl in (
-      subst (λ (w : Kept). IsTold fs which first made now i j o w (record_of k')) (sym same) (subst (λ (r : Record). IsTold fs which first made now i j o k.written r) (sym is) again.0),
-      subst (λ (r : Record). IsAmong which (made + 1) r.calls_at) (sym is) again.1,
-    )
-
--- after all steps, with the calls told anew
-pub last_told : (fs : List Placed) (which : PageRows) (first : Paused) (made : ℕ) (now : Paused) (i j : Incoming) (o : Kept) (k k' : Recorder) → IsTold fs which first made now i j o k.written (record_of k)
-    → record_of k' ≡ retold true (record_of k) now.below made → k'.written ≡ k.written → IsTold fs which first made now i j o k'.written (record_of k') × (k'.calls_at ≡ made)
-last_told fs which first made now i j o k k' t is same = (
-  subst (λ (w : Kept). IsTold fs which first made now i j o w (record_of k')) (sym same)
-      (subst (λ (r : Record). IsTold fs which first made now i j o k.written r) (sym is) (anew fs which first made now i j o k.written (record_of k) t)),
-  ap (λ (r : Record). r.calls_at) is,
-)
 
 turned : (first now new : Paused) {j m : Incoming} {p q : Outgoing} → now.image ≡ first.image → MovesOn (λ left before. step now.image (machine_at now left before)) (machine_at new) j m p q
     → MovesOn (λ left before. step first.image (machine_at now left before)) (machine_at new) j m p q
@@ -182,7 +130,7 @@ row_more : (fs : List Placed) (functions : List Loaded) (which : PageRows) (stat
 row_more fs functions which states made old new a some row shows is =
     subst (AreShown fs functions which states (made + 1)) (sym is) (one_shown fs functions states made row shows which some old a)
 
-module _ (fs : List Placed) (which : PageRows) (first now : Paused) (made : ℕ) (i j m : Incoming) (o p : Kept) (r : Record) (t : IsTold fs which first made now i j o p r) (ready : IsAmong which (made + 1) r.calls_at) where
+module _ (fs : List Placed) (which : PageRows) (first now : Paused) (made : ℕ) (i j m : Incoming) (o p : Kept) (r : Record) (t : IsTold fs which first made now i j o p r) where
   -- where the machine is
   abbrev there : (more : List ℕ) → CanFollow j more → steps_from first (t.goes.taken ++ more) made ≡ machine_at now more t.goes.output
   there more can = t.goes.comes more [] can
@@ -190,7 +138,7 @@ module _ (fs : List Placed) (which : PageRows) (first now : Paused) (made : ℕ)
   abbrev after_it : (more : List ℕ) → CanFollow j more → steps_from first (t.goes.taken ++ more) (made + 1) ≡ step first.image (machine_at now more t.goes.output)
   after_it more can = one_more first.image made _ _ (there more can)
 
-  module _ (new : Paused) (q : Kept) (r' : Record) (b : Bool) (g : MovesOn (λ left before. step first.image (machine_at now left before)) (machine_at new) j m (outgoing_of p) (outgoing_of q)) (k : KeepsStep b fs which made now new (Ok tt) r r') (b_is : has_row which made ≡ b) (output : r'.output ≡ q.bytes) where
+  module _ (new : Paused) (q : Kept) (r' : Record) (b : Bool) (g : MovesOn (λ left before. step first.image (machine_at now left before)) (machine_at new) j m (outgoing_of p) (outgoing_of q)) (k : KeepsStep b fs which made now new (Ok tt) r r') (b_is : has_row which made ≡ b) (output : r'.output ≡ q.bytes) (calls : List Active) (by : FollowsCalls new.below r'.calls calls) where
     abbrev input : List ℕ → List ℕ
     input more = (t.goes.taken ++ g.taken) ++ more
 
@@ -265,24 +213,22 @@ module _ (fs : List Placed) (which : PageRows) (first now : Paused) (made : ℕ)
     shown_by false is row more can = rows_more fs first.image.functions which (steps_from first (input more)) made r.texts r'.texts (before_it more can).shown is row
     shown_by true is row more can = row_more fs first.image.functions which (steps_from first (input more)) made r.texts r'.texts (before_it more can).shown is row.0 (row_shown more can row.0 row.1) row.2
 
-    told_by : new.image ≡ first.image → IsTold fs which first (made + 1) new i m o q r'
+    told_by : new.image ≡ first.image → IsTold fs which first (made + 1) new i m o q (followed r' calls (made + 1))
     told_by same = record {
       image_is = same;
       goes = goes_further;
-      within = let w = t.within in let at = k.calls_at in omega (arith, w, at);
-      among = λ lt. let a = ready lt in let at = k.calls_at in omega (arith, a, at);
+      at = refl;
+      calls = by now.below (moved first.image now new g) (k.calls ∙ t.calls);
       tells = λ more can. record {
         shown = shown_by b b_is k.row more can;
-        tries = tries_at (steps_from first (input more)) k.calls_at (before_it more can).tries;
-        calls_are = k.calls ∙ (before_it more can).calls_are;
         heard = heard_more fs (steps_from first (input more)) made r.heard r'.heard (heard_in fs now.call new.call) (before_it more can).heard k.heard (heard_it more can);
       };
       output = output;
     }
 
   pub told_one : (new : Paused) (q : Kept) (r' : Record) → TurnGives now.image (machine_at now) (machine_at new) j m (outgoing_of p) (outgoing_of q) (Ok tt) → new.image ≡ now.image
-      → KeepsStep (has_row which made) fs which made now new (Ok tt) r r' → r'.output ≡ q.bytes → IsTold fs which first (made + 1) new i m o q r'
-  told_one new q r' g same k output = told_by new q r' (has_row which made) (turned first now new t.image_is g) k refl output (same ∙ t.image_is)
+      → KeepsStep (has_row which made) fs which made now new (Ok tt) r r' → r'.output ≡ q.bytes → (calls : List Active) → FollowsCalls new.below r'.calls calls → IsTold fs which first (made + 1) new i m o q (followed r' calls (made + 1))
+  told_one new q r' g same k output calls by = told_by new q r' (has_row which made) (turned first now new t.image_is g) k refl output calls by (same ∙ t.image_is)
 
   -- the run was over in the next step
   pub over_gives : (new : Paused) (q : Kept) (n : ℕ) (e : Outcome) → made < n → TurnGives now.image (machine_at now) (machine_at new) j m (outgoing_of p) (outgoing_of q) (Err e) → StepsGive first n i m (outgoing_of o) (outgoing_of q) e
@@ -352,13 +298,15 @@ module _ (fs : List Placed) (which : PageRows) (first now : Paused) (made : ℕ)
         let before = t.tells more (can_before more can) in
         record {
           shown = over_shown (has_row which made) refl row more can;
-          calls = record {
-            tries = tries_at states at before.tries;
-            within = let w = t.within in omega (arith, w, at);
-            among = λ lt. let a = ready lt in omega (arith, a, at);
-            next = λ u. absurd (over_it more can (ap state_outcome u.state_is));
-            calls_are = calls ∙ before.calls_are;
-          };
+          calls =
+              let last : r'.calls_at ≡ made = at ∙ t.at in
+              record {
+                tries = record { call = now.call; below = now.below; world = world_with now.store more t.goes.output; state_is = ap states last ∙ there more (can_before more can) };
+                within = omega (arith, last);
+                last = omega (arith, last);
+                next = λ u. absurd (over_it more can (ap state_outcome u.state_is));
+                calls_are = calls ∙ t.calls;
+              };
           heard = heard_more fs states made r.heard r'.heard [] before.heard heard (sym (none_heard fs (states made) (states (made + 1)) (over_it more can)));
           output = output ∙ bytes_same (ap (λ (x : Outgoing). x.written) g.output) ∙ t.goes.written.appended ∙ ap (λ x. x ++ t.goes.output) empty ∙ sym (last_shows more can).written;
         }
@@ -445,19 +393,19 @@ module _ (fs : List Placed) (which : PageRows) (first now : Paused) (made : ℕ)
 pub all_give : (fs : List Placed) (which : PageRows) (first now : Paused) (made : ℕ) (i j : Incoming) (o p : Kept) (r : Record) → IsTold fs which first made now i j o p r → StepsGive first made i j (outgoing_of o) (outgoing_of p) outcome.Limit
 all_give fs which first now made i j o p r t = at_limit first.image made (machine_at first) now.call now.below now.store t.goes
 
-pub all_told : (fs : List Placed) (which : PageRows) (first now : Paused) (made : ℕ) (i j : Incoming) (o p : Kept) (r : Record) → IsTold fs which first made now i j o p r → r.calls_at ≡ made → o.bytes ≡ [] → TellsRun fs which first now made i j r (record { outcome = outcome.Limit; made = made })
-all_told fs which first now made i j o p r t at empty = record {
+pub all_told : (fs : List Placed) (which : PageRows) (first now : Paused) (made : ℕ) (i j : Incoming) (o p : Kept) (r : Record) → IsTold fs which first made now i j o p r → o.bytes ≡ [] → TellsRun fs which first now made i j r (record { outcome = outcome.Limit; made = made })
+all_told fs which first now made i j o p r t empty = record {
   within = omega arith;
   taken = t.goes.taken;
   took = t.goes.took;
   tells = λ more can. record {
     shown = (t.tells more can).shown;
     calls = record {
-      tries = (t.tells more can).tries;
-      within = t.within;
-      among = t.among;
-      next = λ u. at;
-      calls_are = (t.tells more can).calls_are;
+      tries = record { call = now.call; below = now.below; world = world_with now.store more t.goes.output; state_is = ap (steps_from first (t.goes.taken ++ more)) t.at ∙ t.goes.comes more [] can };
+      within = omega (arith, t.at);
+      last = omega (arith, t.at);
+      next = λ u. t.at;
+      calls_are = t.calls;
     };
     heard = (t.tells more can).heard;
     output = t.output ∙ t.goes.written.appended ∙ ap (λ x. x ++ t.goes.output) empty ∙ sym (ap (λ s. (state_world s).output) (t.goes.comes more [] can));

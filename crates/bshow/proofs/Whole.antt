@@ -1,9 +1,8 @@
 -- What is told of a program that was loaded is what its definitions do.
-use Rattle.std.proofs.Common.{◌≡◌, ◌∙◌, ℕ, ◌+◌, List, ◌++◌, None, Some, ⊎_elim, ap, codes, length, map, refl, subst, sym}
+use Rattle.std.proofs.Common.{◌≡◌, ◌∙◌, ℕ, ◌+◌, List, [], ◌∷◌, ◌++◌, None, Some, ⊎_elim, ap, codes, length, map, refl, subst, sym}
 use Rattle.std.specs.Prelude.{slice_index}
 use Rattle.std.specs.List.{flat_map, range_with_len}
 use Rattle.std.proofs.lemmas.List.{length-map}
-use Rattle.std.proofs.lemmas.List.Folds.{flat_map-map}
 use Rattle.std.proofs.lemmas.List.Elements.{All-weaker}
 use Rattle.bword.specs.declared.edition.Edition.{Edition}
 use Rattle.bword.specs.ByteEnds.{Incoming, Kept, Outgoing, outgoing_of}
@@ -17,6 +16,7 @@ use Rattle.blang.specs.Reports.{RunEnds, state_outcome}
 use Rattle.bmach.specs.Readings.{ReadBySteps}
 use Rattle.bmach.specs.Resolved.{call_resolved, resolved, state_resolved}
 use Rattle.bmach.specs.Stepping.{BeginsNot, IsUnstarted, Paused}
+use Rattle.bmach.specs.Stops.{active_of}
 use Rattle.bmach.specs.Stored.{stored}
 use Rattle.bmach.proofs.Beginning.{run_from}
 use Rattle.bmach.proofs.Readings.{none_at_first, run_read}
@@ -26,7 +26,7 @@ use Rattle.brun.proofs.RunSteps.{outcome-resolved, read_of_loaded, run_loaded, r
 use Rattle.btools.specs.declared.names.Frame.{Frame}
 use Rattle.btools.specs.Programs.{HasProgram, nothing_written}
 use Rattle.btools.specs.Functions.{Placed, functions_of}
-use Rattle.bshow.specs.Facts.{call_text, calls_text, program_text}
+use Rattle.bshow.specs.Facts.{program_text}
 use Rattle.bshow.specs.Rows.{call_cells, done_cells, heard_by, words_in}
 use Rattle.bshow.specs.Shows.{AreShown, Asked, EndsAs, IsOverAfter, IsPageOf, IsWritten, Record, Shows, ShowsStep, StepRow, TellsSteps, heard_after, shown, no_memory, not_begun, unread}
 use Rattle.btrace.specs.Traces.{StepsGive, Tries, store_after, stored_after}
@@ -49,8 +49,9 @@ heard_same fs I (Running c b v) (Stuck v') = refl
 heard_same fs I (Halted e v) t = refl
 heard_same fs I (Stuck v) t = refl
 
-below_same : (I : Image) (b : List Call) → calls_text (map (call_resolved I) b) ≡ calls_text b
-below_same I b = ap (λ x. codes "[" ++ x ++ codes "0]") (flat_map-map call_text (call_resolved I) b)
+below_same : (I : Image) (b : List Call) → map active_of (map (call_resolved I) b) ≡ map active_of b
+below_same I [] = refl
+below_same I (c ∷ b) = ap (λ told. active_of c ∷ told) (below_same I b)
 
 -- The states of one machine are those of the other, resolved.
 module _ (fs : List Placed) (which : PageRows) (I : Image) (f g : ℕ → State) (e : (n : ℕ) → g n ≡ state_resolved I (f n)) where
@@ -119,9 +120,9 @@ module _ (fs : List Placed) (which : PageRows) (I : Image) (f g : ℕ → State)
         record {
           tries = t.0;
           within = h.calls.within;
-          among = h.calls.among;
+          last = h.calls.last;
           next = λ u. h.calls.next (tries_resolved made u);
-          calls_are = h.calls.calls_are ∙ sym (ap calls_text t.3) ∙ below_same I t.0.below;
+          calls_are = h.calls.calls_are ∙ sym (ap (map active_of) t.3) ∙ below_same I t.0.below;
         };
     heard = h.heard ∙ (λ i. flat_map (λ n. heard_after_same n i) (range_with_len 0 made));
     output = h.output ∙ ap (λ (w : World). w.output) (world_same made);

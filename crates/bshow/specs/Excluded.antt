@@ -14,11 +14,13 @@ use Rattle.blang.specs.Layout.{load_fault}
 use Rattle.blang.specs.Machine.{image_of, machine}
 use Rattle.blang.specs.Reports.{RunEnds}
 use Rattle.bmach.specs.Readings.{LeftBySteps}
+use Rattle.bmach.specs.declared.machine.Active.{Active}
 use Rattle.btools.specs.Excluded.{code_in}
 use Rattle.btools.specs.Functions.{functions_of}
 use Rattle.btools.specs.FaultPlaces.{fault_lines}
 use Rattle.btools.specs.Programs.{load_line}
 use Rattle.btrace.specs.Excluded.{calling, nothing, passing, reading, storing, trapping, writing}
+use Rattle.bshow.specs.Facts.{calls_text}
 use Rattle.bshow.specs.Shows.{AreShown, Asked, EndsAs, Shows, TellsCalls, page_text}
 use Rattle.bshow.specs.declared.showing.PageRows.{PageRows}
 use Rattle.bshow.specs.declared.showing.PageRows.TheVariants as rows
@@ -97,11 +99,11 @@ pub record RowsExcluded : Type 0 where
   pub written : OnlyRows writing (rows.Last 1) 4 [] (written_row ∷ [])
   -- the step of a trap left out, or anything told of it that it didn't do
   pub trapped : OnlyRows trapping (rows.Last 1) 2 [] (trapped_row ∷ [])
-  -- other calls than those before the next step, or those of a step that has no row or is none
-  pub calls : (which : PageRows) (input : List ℕ) (at : ℕ) (text : List ℕ)
-      → TellsCalls which (machine calling input) 4 at text → (at ≡ 4) × (text ≡ codes "[[8,9],0]")
-  pub calls_of_trap : (input : List ℕ) (at : ℕ) (text : List ℕ)
-      → TellsCalls (rows.Last 1) (machine trapping input) 2 at text → (at ≡ 1) × (text ≡ codes "[0]")
+  -- other calls than those before the next step, or before the last one, where the run is over
+  pub calls : (input : List ℕ) (at : ℕ) (calls : List Active)
+      → TellsCalls (machine calling input) 4 at calls → (at ≡ 4) × (calls_text calls ≡ codes "[[8,9],0]")
+  pub calls_of_trap : (input : List ℕ) (at : ℕ) (calls : List Active)
+      → TellsCalls (machine trapping input) 2 at calls → (at ≡ 1) × (calls ≡ [])
   -- the end of a run told with another step, or with a row after it, or before it was there
   pub trap_elsewhere : (input : List ℕ) (made steps : ℕ) (kind : Trap) (next : List ℕ)
       → EndsAs (functions_of trapping) (machine trapping input) made steps (outcome.Trap kind) next

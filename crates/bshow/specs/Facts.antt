@@ -8,8 +8,6 @@ use Rattle.blang.specs.declared.run.Outcome.TheVariants as outcome
 use Rattle.blang.specs.declared.run.Trap.{Trap}
 use Rattle.blang.specs.declared.run.Trap.TheVariants as trap
 use Rattle.blang.specs.Layout.{Spot, data_end, shape_of, spots, store_words}
-use Rattle.blang.specs.Machine.{Call}
-use Rattle.bmach.specs.Stops.{active_of}
 use Rattle.bmach.specs.declared.machine.Active.{Active}
 use Rattle.bsources.specs.Files.{File, Files}
 use Rattle.btools.specs.declared.names.Frame.{Frame}
@@ -67,13 +65,10 @@ program_text files source given ds frames =
     ++ frames_text frames
 
 -- the calls below the running one, the nearest first: the address of the string words, and that of the frame
-abbrev pub active_text : Active → List ℕ
-active_text c = codes "[" ++ decimal c.strings ++ codes "," ++ decimal c.start ++ codes "],"
+abbrev pub call_text : Active → List ℕ
+call_text c = codes "[" ++ decimal c.strings ++ codes "," ++ decimal c.start ++ codes "],"
 
-abbrev pub call_text : Call → List ℕ
-call_text c = active_text (active_of c)
-
-abbrev pub calls_text : List Call → List ℕ
+abbrev pub calls_text : List Active → List ℕ
 calls_text calls = codes "[" ++ flat_map call_text calls ++ codes "0]"
 
 -- the words of memory that aren't 0, each after its address
@@ -91,9 +86,9 @@ abbrev pub memory_text : (store : List ℕ) → List ℕ
 memory_text store = codes "[" ++ flat_map (memory_word store) all_addresses ++ codes "0]"
 
 -- what is known after the run: the calls before the step after so many, the words, and what was read and written
-abbrev pub run_text : (calls : List ℕ) → (at : ℕ) → (store heard output : List ℕ) → List ℕ
+abbrev pub run_text : (calls : List Active) → (at : ℕ) → (store heard output : List ℕ) → List ℕ
 run_text calls at store heard output =
-    codes ",\"calls_at\":" ++ decimal at ++ codes ",\"calls\":" ++ calls ++ codes ",\"words\":"
+    codes ",\"calls_at\":" ++ decimal at ++ codes ",\"calls\":" ++ calls_text calls ++ codes ",\"words\":"
     ++ memory_text store ++ codes ",\"heard\":\"" ++ escaped heard ++ codes "\",\"output\":\"" ++ escaped output
     ++ codes "\"}"
 

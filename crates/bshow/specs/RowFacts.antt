@@ -15,6 +15,7 @@ use Rattle.blang.specs.declared.run.Trap.TheVariants as trap
 use Rattle.blang.specs.Layout.{OfLibrary, callee_of}
 use Rattle.blang.specs.Machine.{Call, Loaded}
 use Rattle.blang.specs.Reports.{report_text}
+use Rattle.bmach.specs.Stops.{active_of}
 use Rattle.bsources.specs.Files.{File, Files, file_of}
 use Rattle.bshow.specs.Escapes.{escaped, is_safe, unescaped}
 use Rattle.bshow.specs.Facts.{calls_text, definitions_text, files_text, no_run_text, sentence, sizes_text, some_word}
@@ -127,7 +128,7 @@ nothing_done = refl
 no_calls : calls_text [] ≡ codes "[0]"
 no_calls = refl
 
-calls_told : calls_text (a_call 9 10 ∷ a_call 8 12 ∷ []) ≡ codes "[[9,10],[8,12],0]"
+calls_told : calls_text (map active_of (a_call 9 10 ∷ a_call 8 12 ∷ [])) ≡ codes "[[9,10],[8,12],0]"
 unfolding digits
 calls_told = refl
 

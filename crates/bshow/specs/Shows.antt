@@ -1,27 +1,26 @@
 -- Promise: the page of a run.
-use Rattle.std.specs.Prelude.{◌≡◌, ℕ, ◌+◌, ◌-◌, ◌<◌, ◌≤◌, List, [], ◌++◌, All, codes, length, map, slice_index}
+use Rattle.std.specs.Prelude.{◌≡◌, ℕ, ◌+◌, ◌-◌, ◌≤◌, List, [], ◌++◌, All, codes, length, map, reverse, slice_index}
 use Rattle.std.specs.List.{flat_map, range_with_len}
 use Rattle.bword.specs.declared.edition.Edition.{Edition}
-use Rattle.bword.specs.ByteEnds.{CanFollow, Incoming, Kept, Outgoing, Took, outgoing_of}
+use Rattle.bword.specs.ByteEnds.{CanFollow, Incoming, Kept, Took, outgoing_of}
 use Rattle.blang.specs.declared.code.Definition.{Definition}
 use Rattle.blang.specs.declared.run.Outcome.{Outcome}
 use Rattle.blang.specs.declared.run.Outcome.TheVariants as outcome
 use Rattle.blang.specs.declared.run.Trap.{Trap}
 use Rattle.blang.specs.declared.status.TheConstants.{DEVICE, DONE, MEMORY}
-use Rattle.blang.specs.Layout.{World}
-use Rattle.blang.specs.Machine.{Call, Image, Loaded, Running, State, States, image_of, machine, state_world}
-use Rattle.blang.specs.Machine as runs
+use Rattle.blang.specs.Machine.{Image, Loaded, State, States, image_of, machine, state_world}
 use Rattle.blang.specs.Reports.{HasNotRun, Reported, RunEnds, RunGives, state_outcome}
 use Rattle.bmach.specs.Readings.{ReadBySteps}
-use Rattle.bmach.specs.Stepping.{BeginsNot, Paused, machine_at}
-use Rattle.bmach.specs.Stored.{stored}
+use Rattle.bmach.specs.Stepping.{BeginsNot}
+use Rattle.bmach.specs.Stops.{active_of}
+use Rattle.bmach.specs.declared.machine.Active.{Active}
 use Rattle.bsources.specs.Files.{Files, files_shown}
 use Rattle.btools.specs.declared.names.Frame.{Frame}
 use Rattle.btools.specs.FaultPlaces.{fault_lines}
 use Rattle.btools.specs.Programs.{HasProgram, NoProgram, nothing_written}
 use Rattle.btools.specs.Functions.{Placed, functions_of}
 use Rattle.btrace.specs.Traces.{Tries, store_after, stored_after}
-use Rattle.bshow.specs.Facts.{calls_text, no_run_text, program_text, run_text, sentence, unbegun_sentence}
+use Rattle.bshow.specs.Facts.{no_run_text, program_text, run_text, sentence, unbegun_sentence}
 use Rattle.bshow.specs.Rows.{call_cells, done_cells, heard_by, words_in}
 use Rattle.bshow.specs.declared.page.TheConstants.{BETWEEN, HEAD, SCRIPT, TAIL}
 use Rattle.bshow.specs.declared.showing.Recorder.{Recorder}
@@ -71,28 +70,28 @@ pub record AreShown (fs : List Placed) (functions : List Loaded) (which : PageRo
   pub all : map (λ r. r.made) kept ≡ shown_of which made
   pub each : All (λ r. ShowsStep fs functions states r.made r.row) kept
 
--- The calls below the running one are told as they were before the step after so many: before one that has a row, where
--- any has one, and before the next one, where the machine is to make it.
-pub record TellsCalls (which : PageRows) (states : ℕ → State) (made at : ℕ) (calls : List ℕ) : Type 0 where
+-- The calls below the running one are told, the nearest first, as they were before the last of so many steps; or before
+-- the next one, where the machine is to make it.
+pub record TellsCalls (states : ℕ → State) (made at : ℕ) (calls : List Active) : Type 0 where
   pub tries : Tries states at
   pub within : at ≤ made
-  pub among : first_of which made < made → first_of which made ≤ at
+  pub last : made ≤ at + 1
   pub next : Tries states made → at ≡ made
-  pub calls_are : calls ≡ calls_text tries.below
+  pub calls_are : calls ≡ map active_of tries.below
 
 -- what is kept of a run: its rows, what it read and wrote, and the calls before the step after so many
 pub record Record : Type 0 where
   pub texts : List (List ℕ)
   pub heard : List ℕ
   pub output : List ℕ
-  pub calls : List ℕ
+  pub calls : List Active
   pub calls_at : ℕ
 
 -- It tells so many steps of a machine.
 pub record TellsSteps (fs : List Placed) (functions : List Loaded) (which : PageRows) (states : ℕ → State) (made : ℕ)
     (r : Record) : Type 0 where
   pub shown : AreShown fs functions which states made r.texts
-  pub calls : TellsCalls which states made r.calls_at r.calls
+  pub calls : TellsCalls states made r.calls_at r.calls
   pub heard : r.heard ≡ flat_map (heard_after fs states) (range_with_len 0 made)
   pub output : r.output ≡ (state_world (states made)).output
 
@@ -190,6 +189,6 @@ record_of k = record {
   texts = k.rows.items;
   heard = k.heard;
   output = k.written.bytes;
-  calls = k.calls;
+  calls = reverse k.calls.items;
   calls_at = k.calls_at;
 }

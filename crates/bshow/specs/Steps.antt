@@ -1,6 +1,6 @@
 -- Inner words: what is kept of one step, and of all of them.
-use Rattle.std.specs.Prelude.{◌≡◌, ◌⊎◌, ℕ, ◌+◌, ◌-◌, ◌≤◌, ◌==◌, Bool, true, false, List, [], ◌∷◌, ◌++◌}
-use Rattle.std.specs.Prelude.{Result, Ok, Err, Option, Some, None, codes, drop, length, nat_le, nat_lt, slice_index, if◌then◌else◌}
+use Rattle.std.specs.Prelude.{◌≡◌, ◌⊎◌, ℕ, ◌+◌, ◌≤◌, Bool, true, false, List, [], ◌∷◌, ◌++◌}
+use Rattle.std.specs.Prelude.{Result, Ok, Err, Option, Some, None, codes, drop, length, map, nat_le, nat_lt, slice_index, if◌then◌else◌}
 use Rattle.std.specs.List.{range_with_len}
 use Rattle.bword.specs.ByteEnds.{CanFollow, Incoming, Kept, Outgoing, Took, outgoing_of}
 use Rattle.blang.specs.declared.code.Definition.{Definition}
@@ -12,13 +12,15 @@ use Rattle.blang.specs.Machine.{Call}
 use Rattle.blang.specs.Reports.{Reported}
 use Rattle.bmach.specs.Readings.{ReadBySteps}
 use Rattle.bmach.specs.Stepping.{Paused}
+use Rattle.bmach.specs.Stops.{active_of}
 use Rattle.bmach.specs.Stored.{stored_next}
+use Rattle.bmach.specs.declared.machine.Active.{Active}
 use Rattle.btools.specs.declared.names.Frame.{Frame}
 use Rattle.btools.specs.Programs.{nothing_written}
 use Rattle.btools.specs.Functions.{Placed}
-use Rattle.bshow.specs.Facts.{calls_text, no_run_text, program_text, run_text, sentence, unbegun_sentence}
+use Rattle.bshow.specs.Facts.{no_run_text, program_text, run_text, sentence, unbegun_sentence}
 use Rattle.bshow.specs.Rows.{call_cells, done_cells, heard_in, words_in}
-use Rattle.bshow.specs.Shows.{Asked, EndsAs, Record, TellsSteps, page_text, rows_text}
+use Rattle.bshow.specs.Shows.{Asked, EndsAs, Record, TellsSteps, page_text, record_of, rows_text}
 use Rattle.btrace.specs.Traces.{StepsGive}
 use Rattle.btools.specs.Programs.{steps_from}
 use Rattle.btrace.specs.Traces.{store_after}
@@ -33,19 +35,29 @@ kept_texts (rows.From number) texts row = texts ++ row ∷ []
 kept_texts (rows.Last count) texts row =
     if nat_lt count (length (texts ++ row ∷ [])) then drop 1 (texts ++ row ∷ []) else texts ++ row ∷ []
 
--- whether the step after so many is to have a row, and whether the calls are told anew before it
+-- whether the step after so many is to have a row
 abbrev pub has_row : PageRows → (made : ℕ) → Bool
 has_row (rows.From number) made = nat_le number (made + 1)
 has_row (rows.Last count) made = true
 
-abbrev pub retells : PageRows → (made at : ℕ) → Bool
-retells (rows.From number) made at = number == made + 1
-retells (rows.Last count) made at = nat_le count (made - at)
+-- A step went on in its call, or began one, or returned: so the calls below the running one became others.
+abbrev pub Moves : (old new : List Call) → Type 0
+Moves old new =
+    (new ≡ old) ⊎ ((caller : Call) × (new ≡ caller ∷ old)) ⊎ ((caller : Call) × (old ≡ caller ∷ new))
 
--- what is kept, with the calls told anew before the step after so many
-abbrev pub retold : Bool → Record → (below : List Call) → (made : ℕ) → Record
-retold true r below made = record r { calls = calls_text below; calls_at = made }
-retold false r below made = r
+-- what is kept, with the calls as they are after so many steps
+abbrev pub followed : Record → (calls : List Active) → (made : ℕ) → Record
+followed r calls made = record r { calls = calls; calls_at = made }
+
+-- These were the calls below before a step, and these are those after it.
+abbrev pub FollowsCalls : (below : List Call) → (old new : List Active) → Type 0
+FollowsCalls below old new =
+    (before : List Call) → Moves before below → old ≡ map active_of before → new ≡ map active_of below
+
+pub record Follows (below : List Call) (made : ℕ) (old new : Recorder) : Type 0 where
+  pub calls : FollowsCalls below (record_of old).calls (record_of new).calls
+  pub others : record_of new ≡ followed (record_of old) (record_of new).calls made
+  pub written : new.written ≡ old.written
 
 -- the addresses at which the next step stores words
 abbrev pub next_stored : Paused → List ℕ
@@ -89,12 +101,12 @@ pub record KeepsStep (b : Bool) (fs : List Placed) (which : PageRows) (made : �
   pub calls_at : following.calls_at ≡ before.calls_at
   pub row : KeepsRow b fs which made old new r before following
 
--- nothing is kept but the calls before the first step
-pub record IsEmpty (first : Paused) (k : Recorder) : Type 0 where
+-- nothing is kept before the first step
+pub record IsEmpty (k : Recorder) : Type 0 where
   pub rows : k.rows.items ≡ []
   pub heard : k.heard ≡ []
   pub output : k.written ≡ record { bytes = []; refusals = 0 }
-  pub calls : k.calls ≡ calls_text first.below
+  pub calls : k.calls.items ≡ []
   pub calls_at : k.calls_at ≡ 0
 
 -- How a run has ended, of which this is the last state.

@@ -1,10 +1,10 @@
 //! What a page tells beside its rows, as one object of JSON.
-ghost use Rattle.std.specs.Prelude.{◌≡◌, ◌≤◌, ◌++◌, OnOk, map};
+ghost use Rattle.std.specs.Prelude.{◌≡◌, ◌≤◌, ◌++◌, OnOk, map, reverse};
 ghost use Rattle.blang.specs.Layout.{data_end, shape_of};
 ghost use Rattle.bsources.specs.Files.{file_shown, files_shown};
 ghost use Rattle.bshow.specs.Facts.{calls_text, definition_text, definitions_text, file_text, files_text, sizes_text, frame_text, frame_word_text};
 ghost use Rattle.bshow.specs.OwnTexts.{FilesReadBack};
-ghost use Rattle.bshow.specs.Facts.{active_text, frames_text, memory_text, program_text, run_text, some_word};
+ghost use Rattle.bshow.specs.Facts.{call_text, frames_text, memory_text, program_text, run_text, some_word};
 
 use crate::escapes::push_escaped;
 use blang::Definition;
@@ -149,23 +149,18 @@ fn push_frame_word(text: &mut Text, word: FrameWord) -> Result<(), AllocError>
 }
 
 /// Adds the active calls below the running one, the nearest first.
-pub fn push_calls<S: Store + Drop>(
-    text: &mut Text,
-    stepper: &Stepper<'_, S>,
-) -> Result<(), AllocError>
-    ensures { OnOk result (text.new ≡ text.old ++ calls_text stepper.now.below) }
+fn push_calls(text: &mut Text, calls: &[Active]) -> Result<(), AllocError>
+    ensures { OnOk result (text.new ≡ text.old ++ calls_text (reverse calls.now)) }
 {
     text.push(b"[")?;
-    for number in 0..stepper.callers() {
-        if let Some(caller) = stepper.caller(number) {
-            push_caller(text, caller)?;
-        }
+    for call in calls.iter().rev() {
+        push_call(text, *call)?;
     }
     text.push(b"0]")
 }
 
-fn push_caller(text: &mut Text, call: Active) -> Result<(), AllocError>
-    ensures { OnOk result (text.new ≡ text.old ++ active_text call) }
+fn push_call(text: &mut Text, call: Active) -> Result<(), AllocError>
+    ensures { OnOk result (text.new ≡ text.old ++ call_text call) }
 {
     text.push(b"[")?;
     text.push_number(u64::from(call.strings))?;
@@ -174,22 +169,22 @@ fn push_caller(text: &mut Text, call: Active) -> Result<(), AllocError>
     text.push(b"],")
 }
 
-/// Adds what is known after the run: the calls before the step after so many, the words that aren't 0, each after its
-/// address, and what was read and written.
+/// Adds what is known after the run: the calls before the step after so many, of which the nearest stands last, the words
+/// that aren't 0, each after its address, and what was read and written.
 pub fn push_run<S: Store + Drop>(
     text: &mut Text,
     stepper: &Stepper<'_, S>,
-    calls: &[u8],
+    calls: &[Active],
     at: u64,
     heard: &[u8],
     output: &[u8],
 ) -> Result<(), AllocError>
-    ensures { OnOk result (text.new ≡ text.old ++ run_text calls.now at stepper.now.store heard.now output.now) }
+    ensures { OnOk result (text.new ≡ text.old ++ run_text (reverse calls.now) at stepper.now.store heard.now output.now) }
 {
     text.push(b",\"calls_at\":")?;
     text.push_number(at)?;
     text.push(b",\"calls\":")?;
-    text.push(calls)?;
+    push_calls(text, calls)?;
     text.push(b",\"words\":")?;
     push_memory(text, stepper)?;
     text.push(b",\"heard\":\"")?;

@@ -1,5 +1,5 @@
 //! Showing the run of a program.
-ghost use Rattle.std.specs.Prelude.{◌≡◌, ◌+◌, ◌-◌, ◌<◌, ◌≤◌, ◌%◌, ◌^◌, ◌++◌, ◌∷◌, [], true, IfOk, OnErr, OnOk, drop, length, map, slice_index, if◌then◌else◌};
+ghost use Rattle.std.specs.Prelude.{◌≡◌, ◌+◌, ◌-◌, ◌<◌, ◌≤◌, ◌%◌, ◌^◌, ◌++◌, ◌∷◌, [], true, IfOk, OnErr, OnOk, drop, length, map, reverse, slice_index, if◌then◌else◌};
 ghost use Rattle.std.specs.List.{range_with_len};
 ghost use Rattle.blang.specs.Layout.{data_end, shape_of};
 ghost use Rattle.blang.specs.Machine.{step};
@@ -11,23 +11,24 @@ ghost use Rattle.btools.specs.Programs.{nothing_written, steps_from};
 ghost use Rattle.btools.specs.Functions.{entries_of};
 ghost use Rattle.bshow.specs.Shows.{Shows, asked_of, head, record_of, rows_text, tail};
 ghost use Rattle.btrace.specs.Traces.{StepsGive};
-ghost use Rattle.bshow.specs.Steps.{ShowsRun, ShowsUnbegun, broken_status, AddsDone, AddsNext, IsEmpty, IsPage, KeepsStep, TellsRun, TellsUnless, has_row, heard_if, kept_texts, retells, retold};
+ghost use Rattle.bshow.specs.Steps.{ShowsRun, ShowsUnbegun, broken_status, AddsDone, AddsNext, IsEmpty, IsPage, Follows, FollowsCalls, KeepsStep, TellsRun, TellsUnless, has_row, heard_if, kept_texts};
 ghost use Rattle.bshow.specs.Steps.{unbegun_page};
 ghost use Rattle.bshow.specs.Excluded.{NoPages, RowsExcluded};
 
 use crate::ending::{push_sentence, push_unbegun};
-use crate::facts::{push_calls, push_program, push_run};
+use crate::facts::{push_program, push_run};
 use crate::page::{BETWEEN, HEAD, SCRIPT, TAIL};
 use crate::rows::{calls_getchar, operand, push_call, push_done, words_in};
 use blang::status::{self, Status};
 use blang::{Outcome, Trap};
-use bmach::Stepper;
+use bmach::{Active, Stepper};
 use bpages::PagedStore;
 use bsources::SourceFiles;
 use btools::{Program, Tables, Text, read_program, tell, tell_placed};
 use bword::{ByteIn, ByteOut, Edition, MemOut, Store};
 use std::alloc::{AllocError, Global};
 use std::collections::VecDeque;
+use std::mem;
 use std::ops::Range;
 
 /// Which of the steps that are made have a row.
@@ -55,11 +56,13 @@ pub struct PageRequest<'a> {
 #[derive(Drop)]
 struct Recorder {
     rows: VecDeque<Text>,
+    /// A row that was let go of, whose memory the next one takes.
+    spare: Text,
     /// What `getchar` gave.
     heard: Text,
     written: MemOut,
-    /// The calls below the running one, before the step after so many.
-    calls: Text,
+    /// The calls below the running one, the nearest last, before the step after so many.
+    calls: Vec<Active>,
     calls_at: u64,
 }
 
@@ -83,17 +86,6 @@ impl PageRows {
         match self {
             PageRows::From(number) => number <= made + 1,
             PageRows::Last(_) => true,
-        }
-    }
-
-    // Whether the calls are told anew, which were told before the step after `at`.
-    fn retells(self, made: u64, at: u64) -> bool
-        requires { made + 1 < 2 ^ 64 }
-        ensures { result ≡ retells self made at }
-    {
-        match self {
-            PageRows::From(number) => number == made + 1,
-            PageRows::Last(count) => count <= made.saturating_sub(at),
         }
     }
 }
@@ -186,16 +178,15 @@ fn show_run<S: Store + Drop, I: ByteIn, O: ByteOut>(
     input: &mut I,
     out: &mut O,
 ) -> Status
-    requires { data_end (map shape_of program.now.definitions.items) ≤ 65536 }
+    requires room { data_end (map shape_of program.now.definitions.items) ≤ 65536 }
+    requires alone { stepper.below ≡ [] }
     ensures shows { ShowsRun (asked_of wanted.entry) source.now program.now.definitions.items program.now.names.frames.items
         (entries_of tables.now) stepper.entry (I.incoming input.old) (I.incoming input.new) (O.outgoing out.old)
         (O.outgoing out.new) result }
     ensures input_lender { I.lender input.new ≡ I.lender input.old }
     ensures out_lender { O.lender out.new ≡ O.lender out.old }
 {
-    let Ok(mut kept) = Recorder::new(alloc, &stepper) else {
-        return status::MEMORY;
-    };
+    let mut kept = Recorder::new(alloc);
     let ended = match run_steps(
         alloc,
         &mut stepper,
@@ -279,7 +270,7 @@ fn page_of<S: Store + Drop>(
     push_run(
         &mut page,
         stepper,
-        kept.calls.as_slice(),
+        &kept.calls,
         kept.calls_at,
         kept.heard.as_slice(),
         kept.written.bytes(),
@@ -328,20 +319,52 @@ fn push_next<S: Store + Drop>(
 }
 
 impl Recorder {
-    // Nothing is kept yet but the calls before the first step.
-    fn new<S: Store + Drop>(alloc: Global, stepper: &Stepper<'_, S>) -> Result<Self, AllocError>
-        ensures { IfOk result (λ kept. IsEmpty stepper.now kept) }
+    // Nothing is kept before the first step, which no call is below.
+    fn new(alloc: Global) -> Self
+        ensures { IsEmpty result }
     {
-        let mut calls = Text::new(alloc);
-        push_calls(&mut calls, stepper)?;
-        Ok(Recorder {
+        Recorder {
             rows: VecDeque::new(alloc),
+            spare: Text::new(alloc),
             heard: Text::new(alloc),
             written: MemOut::new(alloc),
-            calls,
+            calls: Vec::new(alloc),
             calls_at: 0,
-        })
+        }
     }
+
+    // Follows the calls below the running one through a step, after which so many were made.
+    fn follow<S: Store + Drop>(
+        &mut self,
+        stepper: &Stepper<'_, S>,
+        made: u64,
+    ) -> Result<(), AllocError>
+        ensures { OnOk result (Follows stepper.now.below made self.old self.new) }
+    {
+        self.calls_at = made;
+        follow_calls(&mut self.calls, stepper)
+    }
+}
+
+// Makes one call more or one less of those that were below before a step, where the step began a call or returned.
+fn follow_calls<S: Store + Drop>(
+    calls: &mut Vec<Active>,
+    stepper: &Stepper<'_, S>,
+) -> Result<(), AllocError>
+    ensures { OnOk result (FollowsCalls stepper.now.below (reverse calls.old.items) (reverse calls.new.items)) }
+{
+    let depth = stepper.callers();
+    if depth == calls.len() {
+        return Ok(());
+    }
+    if depth < calls.len() {
+        calls.pop();
+        return Ok(());
+    }
+    if let Some(caller) = stepper.caller(0) {
+        calls.push(caller)?;
+    }
+    Ok(())
 }
 
 // Makes so many steps, or fewer where the run is over before.
@@ -354,7 +377,8 @@ fn run_steps<S: Store + Drop, I: ByteIn>(
     kept: &mut Recorder,
     input: &mut I,
 ) -> Result<Ended, AllocError>
-    requires { IsEmpty stepper.old kept.old }
+    requires empty { IsEmpty kept.old }
+    requires alone { stepper.old.below ≡ [] }
     ensures gives { IfOk result (λ e. StepsGive stepper.old steps (I.incoming input.old) (I.incoming input.new)
         nothing_written (outgoing_of kept.new.written) e.outcome) }
     ensures tells { IfOk result (λ e. TellsUnless e.outcome (TellsRun (entries_of tables.now) which stepper.old stepper.new steps
@@ -363,9 +387,8 @@ fn run_steps<S: Store + Drop, I: ByteIn>(
     ensures same { I.lender input.new ≡ I.lender input.old }
 {
     for made in 0..steps {
-        kept.retell(alloc, stepper, which, made)?;
         match run_step(alloc, stepper, tables, which, made, kept, input)? {
-            Ok(()) => {}
+            Ok(()) => kept.follow(stepper, made + 1)?,
             Err(outcome) => {
                 return Ok(Ended {
                     outcome,
@@ -374,49 +397,10 @@ fn run_steps<S: Store + Drop, I: ByteIn>(
             }
         }
     }
-    kept.tell_calls(alloc, stepper, steps)?;
     Ok(Ended {
         outcome: Outcome::Limit,
         made: steps,
     })
-}
-
-impl Recorder {
-    // Tells the calls below the running one anew, if that is due before the step after so many.
-    fn retell<S: Store + Drop>(
-        &mut self,
-        alloc: Global,
-        stepper: &Stepper<'_, S>,
-        which: PageRows,
-        made: u64,
-    ) -> Result<(), AllocError>
-        requires { made + 1 < 2 ^ 64 }
-        ensures told { OnOk result (record_of self.new ≡ retold (retells which made self.old.calls_at) (record_of self.old)
-            stepper.now.below made) }
-        ensures written { self.new.written ≡ self.old.written }
-    {
-        if !which.retells(made, self.calls_at) {
-            return Ok(());
-        }
-        self.tell_calls(alloc, stepper, made)
-    }
-
-    // Tells the calls below the running one as they are before the step after so many.
-    fn tell_calls<S: Store + Drop>(
-        &mut self,
-        alloc: Global,
-        stepper: &Stepper<'_, S>,
-        made: u64,
-    ) -> Result<(), AllocError>
-        ensures told { OnOk result (record_of self.new ≡ retold true (record_of self.old) stepper.now.below made) }
-        ensures written { self.new.written ≡ self.old.written }
-    {
-        let mut calls = Text::new(alloc);
-        push_calls(&mut calls, stepper)?;
-        self.calls = calls;
-        self.calls_at = made;
-        Ok(())
-    }
 }
 
 // Makes a step, and keeps its row if it is to have one.
@@ -443,7 +427,8 @@ fn run_step<S: Store + Drop, I: ByteIn>(
     if !which.has_row(made) {
         return make_step(stepper, tables, &mut kept.heard, &mut kept.written, input);
     }
-    let mut row = Text::new(alloc);
+    let mut row = mem::replace(&mut kept.spare, Text::new(alloc));
+    row.clear();
     push_call(&mut row, tables, stepper, made)?;
     match row_step(
         alloc,
@@ -456,20 +441,27 @@ fn run_step<S: Store + Drop, I: ByteIn>(
     )? {
         Err(Outcome::Device) => Ok(Err(Outcome::Device)),
         result => {
-            keep(&mut kept.rows, row, which)?;
+            keep(&mut kept.rows, &mut kept.spare, row, which)?;
             Ok(result)
         }
     }
 }
 
-// Adds a row to those that are kept.
-fn keep(rows: &mut VecDeque<Text>, row: Text, which: PageRows) -> Result<(), AllocError>
+// Adds a row to those that are kept, and lets go of the oldest one if there are too many.
+fn keep(
+    rows: &mut VecDeque<Text>,
+    spare: &mut Text,
+    row: Text,
+    which: PageRows,
+) -> Result<(), AllocError>
     ensures { OnOk result (rows.new.items ≡ kept_texts which rows.old.items row) }
 {
     rows.push_back(row)?;
     if let PageRows::Last(count) = which {
         if count < rows.len() as u64 {
-            rows.pop_front();
+            if let Some(oldest) = rows.pop_front() {
+                *spare = oldest;
+            }
         }
     }
     Ok(())

@@ -1,7 +1,9 @@
-use Rattle.std.proofs.Common.{◌≡◌, ◌++◌, codes, take}
+use Rattle.std.proofs.Common.{◌≡◌, ◌++◌, codes, reverse}
 use Rattle.std.specs.List.{flat_map}
 use Rattle.bshow.specs.Facts.{call_text}
 use Rattle.bshow.proofs.facts.push_calls.Given as goal
 
-abbrev pub invariant-loop-number : goal.invariant-loop-number
-invariant-loop-number g l = l.text ≡ (l.fn.text ++ codes "[") ++ flat_map call_text (take l.number l.stepper.below)
+-- what is there, with the calls that are left
+abbrev pub invariant-loop-call : goal.invariant-loop-call
+invariant-loop-call l =
+    l.text ++ flat_map call_text (reverse l.call-iterator.iter.rest.now) ≡ (l.fn.text ++ codes "[") ++ flat_map call_text (reverse l.calls)

@@ -1,4 +1,5 @@
-use Rattle.std.proofs.Common.{◌∙◌, ◌++◌, ℕ, List, ap}
+use Rattle.std.proofs.Common.{◌≡◌, ◌∙◌, ◌++◌, ℕ, List, ap, reverse}
+use Rattle.bmach.specs.declared.machine.Active.{Active}
 use Rattle.btools.proofs.AddedTexts.{piece}
 use Rattle.bsources.specs.Files.{files_shown}
 use Rattle.bshow.specs.Facts.{program_text, run_text, sentence}
@@ -12,7 +13,9 @@ returns g c =
     let said : List ℕ = sentence c.args.ended.outcome c.args.ended.made in
     let rows : List ℕ = rows_text c.args.kept.now.rows.items in
     let program : List ℕ = program_text (files_shown c.args.wanted.files) c.args.source.now c.args.wanted.given.now c.args.program.now.definitions.items c.args.program.now.names.frames.items in
-    let run : List ℕ = run_text c.as_slice.result.now c.args.kept.now.calls_at c.args.stepper.now.store c.as_slice-2.result.now c.bytes.result.now in
+    let same : c.deref.result.now ≡ c.args.kept.now.calls.items = c.deref.ensures.value in
+    let calls : List Active = reverse c.deref.result.now in
+    let run : List ℕ = run_text calls c.args.kept.now.calls_at c.args.stepper.now.store c.as_slice.result.now c.bytes.result.now in
     let facts = piece c.push-2.new.self c.push_program.new.text c.push_run.new.text program run c.in_ok-push_program.ensures c.in_ok-push_run.ensures in
     let table = piece c.push_head.new.page c.push_rows.new.page c.push_next.new.page rows next.0 c.in_ok-push_rows.ensures next.2 in
     let e1 = c.in_ok-push_head.ensures ∙ ap (λ t. t ++ head) c.new-page.ensures in
@@ -25,5 +28,5 @@ returns g c =
       next.0,
       next.1,
       e7
-          ∙ (λ i. head ++ (rows ++ next.0) ++ BETWEEN.now ++ said ++ SCRIPT.now ++ (program ++ run_text (c.as_slice.ensures i) c.args.kept.now.calls_at c.args.stepper.now.store (c.as_slice-2.ensures i) (c.bytes.ensures i)) ++ tail),
+          ∙ (λ i. head ++ (rows ++ next.0) ++ BETWEEN.now ++ said ++ SCRIPT.now ++ (program ++ run_text (reverse (same i)) c.args.kept.now.calls_at c.args.stepper.now.store (c.as_slice.ensures i) (c.bytes.ensures i)) ++ tail),
     )

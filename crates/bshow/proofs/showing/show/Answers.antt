@@ -3,6 +3,7 @@ use Rattle.blang.specs.Machine.{image_of}
 use Rattle.bmach.proofs.Readings.{none_at_first}
 use Rattle.btools.specs.Functions.{entries_of}
 use Rattle.bshow.specs.Shows.{asked_of, no_memory, stopped}
+use Rattle.bshow.proofs.Calls.{none_below}
 use Rattle.bshow.proofs.FactParts.{data_fit}
 use Rattle.bshow.proofs.Whole.{run_whole, unbegun_whole}
 use Rattle.bshow.proofs.showing.show.Goals as goal
@@ -14,7 +15,7 @@ pub show_unbegun-requires : goal.show_unbegun-requires
 show_unbegun-requires g c = record { room = data_fit c.in-Ok.program.definitions.items c.in-Ok.ensures.loads; begins = c.in-Err-begin.ensures }
 
 pub show_run-requires : goal.show_run-requires
-show_run-requires g c = data_fit c.in-Ok.program.definitions.items c.in-Ok.ensures.loads
+show_run-requires g c = record { room = data_fit c.in-Ok.program.definitions.items c.in-Ok.ensures.loads; alone = none_below c.in-Ok.program.image c.in-Ok-begin.stepper c.in-Ok-begin.ensures }
 
 pub returns-in-Err-clause-shows : goal.returns-in-Err-clause-shows
 returns-in-Err-clause-shows g c = stopped (c.tell_placed.ensures.tells c.args.edition c.args.source.now c.in-Err.ensures) (record { unread = refl; silent = refl })
