@@ -26,7 +26,7 @@ use bcode::{Page, push_header_line, push_instr_line, push_ival_line, push_number
 use blang::status::{self, Status};
 use blang::{Definition, FunctionParts, Instr, Ival, SimpleParts, VectorParts};
 use bmach::name_of;
-use btools::{Frame, Program, Text, lines_in, read_program, tell, tell_fault};
+use btools::{Frame, Program, Text, read_program, split_lines, tell, tell_fault};
 use bword::{ByteOut, Edition};
 use std::alloc::{AllocError, Global};
 
@@ -105,14 +105,15 @@ fn listing(
     let mut frames = program.names.frames.as_slice();
     let mut lines = program.names.lines.as_slice();
     for definition in &program.definitions {
+        let (own, later) = split_lines(lines, definition);
         let told = Sources {
-            lines: &lines[..lines.len().min(lines_in(definition))],
+            lines: own,
             frame: frames.first(),
             texts: &sources,
         };
         let address = program.image.address(&name_of(definition)).unwrap_or(0);
         push_wanted(&mut text, definition, name, address, told)?;
-        lines = lines.get(lines_in(definition)..).unwrap_or(&[]);
+        lines = later;
         if let Definition::Function(_) = definition {
             frames = frames.get(1..).unwrap_or(&[]);
         }

@@ -16,7 +16,7 @@ no_more [] rest h = h
 no_more (x ∷ xs) rest h = no_more xs rest cc
 
 -- what is left of a source can follow what was taken
-follows : (source : List ℕ) (following : Unread) (taken : List ℕ) → Took (incoming_of (record { left = source; is_over = false })) taken (incoming_of following) → CanFollow (incoming_of following) following.left
+pub follows : (source : List ℕ) (following : Unread) (taken : List ℕ) → Took (incoming_of (record { left = source; is_over = false })) taken (incoming_of following) → CanFollow (incoming_of following) following.left
 follows source following taken t over = no_more taken following.left (sym t.bytes ∙ (t.all refl over ∙ append-nil taken))
 
 -- what compiling between these ends does

@@ -41,7 +41,7 @@ pub data_fit : (ds : List Definition) → load_fault ds ≡ None → data_end (m
 data_fit ds h = not_more (data_end (map shape_of ds)) (label_count (map shape_of ds)) (second_none _ _ _ _ h)
 
 module _ (ds : List Definition) (i : ℕ) (d : Definition) (lt : i < length ds) (is : d ≡ get_or ds i d) where
-  taken : take (i + 1) ds ≡ take i ds ++ d ∷ []
+  pub taken : take (i + 1) ds ≡ take i ds ++ d ∷ []
   taken = take_more ds i d lt ∙ ap (λ x. take i ds ++ x ∷ []) (sym is)
 
   -- where the next definition lies

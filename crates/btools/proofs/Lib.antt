@@ -8,3 +8,5 @@ pub mod Finding
 pub mod Functions
 pub mod Searching
 pub mod SourceLines
+pub mod ProgramLines
+pub mod KeptLines

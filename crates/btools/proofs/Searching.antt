@@ -1,6 +1,7 @@
 -- A function among those of a program, which ascend.
 use Rattle.std.proofs.Common.{◌≡◌, ◌∙◌, ℕ, zero, suc, ◌+◌, ◌<◌, ◌≤◌, ◌⊎◌, inl, inr, ⊎_elim, ap, List, [], ◌∷◌, ◌++◌, Some, None, arith, get_or, length, map, refl, subst, sym}
-use Rattle.std.specs.List.{All, AllPairs}
+use Rattle.std.specs.List.{All, AllPairs, find}
+use Rattle.std.specs.Prelude.{◌==◌}
 use Rattle.std.proofs.lemmas.Bool.{cases_order}
 use Rattle.std.proofs.lemmas.List.{get_or_default}
 use Rattle.std.proofs.lemmas.List.Elements.{All-push}
@@ -8,7 +9,7 @@ use Rattle.std.proofs.lemmas.List.Quantifiers.{all_pairs_push}
 use Rattle.blang.specs.Layout.{shape_of, size_of}
 use Rattle.blang.specs.declared.code.Definition.{Definition}
 use Rattle.blang.specs.declared.code.Definition.TheVariants as definition
-use Rattle.btools.specs.Functions.{LiesAt, function_with, placed_entry}
+use Rattle.btools.specs.Functions.{LiesAt}
 use Rattle.btools.specs.declared.tables.Entry.{Entry}
 use Rattle.btools.proofs.Finding.{other_number, same_number}
 
@@ -37,18 +38,20 @@ module _ (es : List Entry) (i strings : ℕ) (e : Entry) (ascend : Ascend es) (l
       (λ at. (let same = ap (λ (x : Entry). x.strings) (is ∙ get_or_default es i e d lt ∙ ap (λ n. get_or es n d) at) in omega (arith, same, less)))
       (at_or_before i k le)
 
--- Whether none has its string words there, or just this one.
-pub with_none : (es : List Entry) (strings : ℕ) → ((k : ℕ) (d : Entry) → k < length es → (get_or es k d).strings ≡ strings → ⊥) → function_with (map placed_entry es) strings ≡ None
-with_none [] strings others = refl
-with_none (e ∷ es) strings others = rw (other_number e.strings strings (others 0 e (omega arith))) (with_none es strings (λ k d lt. others (suc k) d (omega arith)))
+-- Whether none has its string words there, or just this one, in a list of what is known of each.
+module _ {B : Type 0} (f : Entry → B) (key : B → ℕ) (same : (e : Entry) → key (f e) ≡ e.strings) (strings : ℕ) where
+  pub with_none : (es : List Entry) → ((k : ℕ) (d : Entry) → k < length es → (get_or es k d).strings ≡ strings → ⊥) → find (λ b. key b == strings) (map f es) ≡ None
+  with_none [] others = refl
+  with_none (e ∷ es) others =
+      rw (ap (λ n. n == strings) (same e) ∙ other_number e.strings strings (others 0 e (omega arith))) (with_none es (λ k d lt. others (suc k) d (omega arith)))
 
-pub with_one : (es : List Entry) (strings i : ℕ) (d : Entry) → Ascend es → i < length es → (get_or es i d).strings ≡ strings → function_with (map placed_entry es) strings ≡ Some (placed_entry (get_or es i d))
-with_one [] strings i d ascend lt is = absurd (omega arith)
-with_one (e ∷ es) strings zero d ascend lt is = rw (same_number e.strings strings is) refl
-with_one (e ∷ es) strings (suc i) d ascend lt is =
-    let before = ascend 0 (suc i) d (omega arith) lt in
-    rw (other_number e.strings strings (λ same. omega (arith, before, same, is)))
-    (with_one es strings i d (λ k l c less within. ascend (suc k) (suc l) c (omega arith) (omega arith)) (omega arith) is)
+  pub with_one : (es : List Entry) (i : ℕ) (d : Entry) → Ascend es → i < length es → (get_or es i d).strings ≡ strings → find (λ b. key b == strings) (map f es) ≡ Some (f (get_or es i d))
+  with_one [] i d ascend lt is = absurd (omega arith)
+  with_one (e ∷ es) zero d ascend lt is = rw (ap (λ n. n == strings) (same e) ∙ same_number e.strings strings is) refl
+  with_one (e ∷ es) (suc i) d ascend lt is =
+      let before = ascend 0 (suc i) d (omega arith) lt in
+      rw (ap (λ n. n == strings) (same e) ∙ other_number e.strings strings (λ at. omega (arith, before, at, is)))
+      (with_one es i d (λ k l c less within. ascend (suc k) (suc l) c (omega arith) (omega arith)) (omega arith) is)
 
 -- each definition takes a word
 pub some_word : (d : Definition) → 0 < size_of (shape_of d)

@@ -10,3 +10,5 @@ pub mod PlaceRows
 pub mod TextRows
 pub mod KeptLines
 pub mod SourceLines
+pub mod ProgramLines
+pub mod LineRows

@@ -14,7 +14,7 @@ mod text;
 
 pub use characters::{hexadecimal_digit, push_byte, push_characters};
 pub use names::{Frame, FrameWord, Names};
-pub use program::{Program, ProgramFault, compile_source, lines_in, read_program};
+pub use program::{Program, ProgramFault, compile_source, read_program, split_lines};
 pub use quoting::{push_file, push_quoted};
 pub use refusal::{
     diagnostic_line, load_line, tell_fault, tell_placed, wrong_programs_are_excluded,

@@ -1,8 +1,12 @@
 //! A source that is compiled and loaded.
-ghost use Rattle.std.specs.Prelude.{IfOk, List, MatchResult, ℕ};
+ghost use Rattle.std.specs.Prelude.{◌≡◌, [], IfOk, List, MatchResult, Option, Some, drop, take, ℕ};
 ghost use Rattle.bword.specs.declared.edition.Edition.{Edition};
+ghost use Rattle.blang.specs.Lines.{size_of};
 ghost use Rattle.blang.specs.Text.{IsCodeText};
 ghost use Rattle.bparse.specs.declared.step.Step.{Step};
+ghost use Rattle.bparse.specs.declared.step.Step.TheVariants as step;
+ghost use Rattle.btools.specs.KeptLines.{lines_kept};
+ghost use Rattle.btools.specs.ProgramLines.{HasLines, KeepsLinesOf};
 ghost use Rattle.btools.specs.Programs.{HasFault, HasNoProgram, IsCodeOf, IsThisProgram, LoadGives, WasAnswered};
 
 use crate::names::{NameKeeper, Names};
@@ -32,8 +36,17 @@ pub enum ProgramFault {
     Memory,
 }
 
-/// How many of the lines of a program's names are those of a definition: one for each instruction or initial value.
-pub fn lines_in(definition: &Definition) -> usize {
+/// The lines of a definition, one for each instruction or initial value, and those of the definitions after it.
+pub fn split_lines<'a>(lines: &'a [u64], definition: &Definition) -> (&'a [u64], &'a [u64])
+    ensures own { result.0.now ≡ take (size_of definition.now) lines.now }
+    ensures later { result.1.now ≡ drop (size_of definition.now) lines.now }
+{
+    lines.split_at(lines.len().min(lines_in(definition)))
+}
+
+fn lines_in(definition: &Definition) -> usize
+    ensures { result ≡ size_of definition.now }
+{
     match definition {
         Definition::Function(function) => function.parts().code.len(),
         Definition::Simple(simple) => simple.parts().values.len(),
@@ -43,7 +56,8 @@ pub fn lines_in(definition: &Definition) -> usize {
 
 /// Compiles and loads a source.
 pub fn read_program(alloc: Global, source: &[u8], edition: Edition) -> Result<Program, ProgramFault>
-    ensures { MatchResult result (IsThisProgram edition source.now) (HasNoProgram edition source.now) }
+    ensures program { MatchResult result (IsThisProgram edition source.now) (HasNoProgram edition source.now) }
+    ensures lines { IfOk result (λ p. HasLines edition source.now p.names.lines.items) }
 {
     let mut keeper = NameKeeper::new(alloc);
     match compile_source(alloc, source, edition, &mut keeper) {
@@ -59,7 +73,8 @@ fn load(
     definitions: Vec<Definition>,
     keeper: NameKeeper,
 ) -> Result<Program, ProgramFault>
-    ensures { LoadGives definitions.items result }
+    ensures gives { LoadGives definitions.items result }
+    ensures lines { IfOk result (λ p. lines_kept keeper ≡ Some p.names.lines.items) }
 {
     let image = match load_slice(alloc, &definitions) {
         Ok(image) => image,
@@ -83,7 +98,8 @@ pub fn compile_source<W: Watcher>(
     edition: Edition,
     watcher: &mut W,
 ) -> Result<Result<Vec<Definition>, Diagnostic>, AllocError>
-    ensures { IfOk result (λ code. MatchResult code (λ v. IsCodeOf edition source.now v.items) (HasFault edition source.now)) }
+    ensures code { IfOk result (λ code. MatchResult code (λ v. IsCodeOf edition source.now v.items) (HasFault edition source.now)) }
+    ensures lines { IfOk result (λ code. IfOk code (λ v. KeepsLinesOf edition source.now (W.lines watcher.old) (W.lines watcher.new))) }
 {
     let mut input = MemIn::new(source);
     let mut code = MemOut::new(alloc);
@@ -98,8 +114,9 @@ fn code_of(
     code: &MemOut,
 ) -> Result<Result<Vec<Definition>, Diagnostic>, AllocError>
     requires { (edition : Edition) × (source : List ℕ) × WasAnswered edition source last code.now }
-    ensures { IfOk result (λ r. (edition : Edition) (source : List ℕ) → WasAnswered edition source last code.now
+    ensures code { IfOk result (λ r. (edition : Edition) (source : List ℕ) → WasAnswered edition source last code.now
         → MatchResult r (λ v. IsCodeOf edition source v.items) (HasFault edition source)) }
+    ensures finished { IfOk result (λ r. IfOk r (λ v. last ≡ step.Finished)) }
 {
     match last {
         Step::Finished => Ok(Ok(definitions_of(alloc, code.bytes())?)),

@@ -2,7 +2,7 @@
 ghost use Rattle.std.specs.Prelude.{◌<◌};
 ghost use Rattle.std.specs.List.{AllPairs};
 
-use crate::program::{Program, lines_in};
+use crate::program::{Program, split_lines};
 use blang::{Definition, FunctionParts};
 use bmach::{FIRST_ADDRESS, size_of};
 use std::alloc::{AllocError, Global};
@@ -13,45 +13,46 @@ pub struct Entry<'a> {
     /// The address of its first string word.
     pub strings: u32,
     pub parts: &'a FunctionParts,
-    /// Where its lines begin among those of the program.
-    start: usize,
+    /// The lines of its instructions.
+    lines: &'a [u64],
 }
 
 /// The functions of a program, in order.
 #[derive(Drop)]
 pub struct Tables<'a> {
     entries: Vec<Entry<'a>>,
-    lines: &'a [u64],
     ghost in_order: { AllPairs (λ e f. e.strings < f.strings) entries.items },
 }
 
 impl<'a> Tables<'a> {
     ghost use Rattle.std.specs.Prelude.{◌≡◌, ◌≤◌, IfOk, map, option_map};
     ghost use Rattle.blang.specs.Layout.{data_end, shape_of};
+    ghost use Rattle.btools.specs.ProgramLines.{line_in, lined_entry, lined_functions, lines_shown, lines_with};
     ghost use Rattle.btools.specs.Functions.{LiesAt, entries_of, function_with, function_named, functions_of, placed_entry};
 
     pub fn new(alloc: Global, program: &'a Program) -> Result<Self, AllocError>
         requires { data_end (map shape_of program.now.definitions.items) ≤ 65536 }
-        ensures { IfOk result (λ t. entries_of t ≡ functions_of program.now.definitions.items) }
+        ensures functions { IfOk result (λ t. entries_of t ≡ functions_of program.now.definitions.items) }
+        ensures lines { IfOk result (λ t. lines_shown t ≡ lined_functions program.now.definitions.items program.now.names.lines.items) }
     {
         let mut entries = Vec::new(alloc);
         let mut address = u32::from(FIRST_ADDRESS);
-        let mut start: usize = 0;
+        let mut lines = program.names.lines.as_slice();
         for definition in &program.definitions {
+            let (own, later) = split_lines(lines, definition);
             if let Definition::Function(function) = definition {
                 let parts = function.parts();
                 let strings = address + 1;
                 entries.push(Entry {
                     strings,
                     parts,
-                    start,
+                    lines: own,
                 })?;
             }
             address += u32::from(size_of(definition));
-            start = start.saturating_add(lines_in(definition));
+            lines = later;
         }
-        let lines = program.names.lines.as_slice();
-        Ok(Tables { entries, lines })
+        Ok(Tables { entries })
     }
 
     /// The functions, in order.
@@ -86,7 +87,8 @@ impl<'a> Tables<'a> {
 
     /// The function whose string words begin there.
     pub fn entry(&self, strings: u32) -> Option<Entry<'a>>
-        ensures { option_map placed_entry result ≡ function_with (entries_of self.now) strings }
+        ensures function { option_map placed_entry result ≡ function_with (entries_of self.now) strings }
+        ensures lines { option_map lined_entry result ≡ lines_with (lines_shown self.now) strings }
     {
         match self.position(strings) {
             Some(place) => Some(self.entries[place]),
@@ -107,12 +109,11 @@ impl<'a> Tables<'a> {
     }
 
     /// The line of an instruction of a function, or 0 where none is known.
-    pub fn line(&self, entry: Option<Entry<'a>>, place: usize) -> u64 {
+    pub fn line(&self, entry: Option<Entry<'a>>, place: usize) -> u64
+        ensures { result ≡ line_in (option_map lined_entry entry.entry) place }
+    {
         match entry {
-            Some(entry) => {
-                let index = entry.start.saturating_add(place);
-                self.lines.get(index).copied().unwrap_or(0)
-            }
+            Some(entry) => entry.lines.get(place).copied().unwrap_or(0),
             None => 0,
         }
     }

@@ -9,11 +9,11 @@ use Rattle.btools.specs.declared.program.ProgramFault.TheVariants.{Memory}
 use Rattle.blist.proofs.listing.list.Goals as goal
 
 pub returns-in-Err-clause-lists : goal.returns-in-Err-clause-lists
-returns-in-Err-clause-lists g c = stopped (c.in-Err.fault, c.in-Err.ensures, c.tell_fault.ensures.tells) refl
+returns-in-Err-clause-lists g c = stopped (c.in-Err.fault, c.in-Err.ensures.program, c.tell_fault.ensures.tells) refl
 
 pub returns-then-is_none_wanted-clause-lists : goal.returns-then-is_none_wanted-clause-lists
 returns-then-is_none_wanted-clause-lists g c =
-    unnamed c.in-Ok.program.definitions.items c.in-Ok.program.image c.in-Ok.ensures
+    unnamed c.in-Ok.program.definitions.items c.in-Ok.program.image c.in-Ok.ensures.program
     (subst (λ (ds : List Definition). wanted (option_map (λ n. n.now) c.args.name) ds ≡ []) c.deref.ensures.value (c.is_none_wanted.ensures.0 c.if-is_none_wanted.true))
     c.tell.ensures.told refl
 
@@ -23,7 +23,7 @@ returns-in-Ok-listing-clause-lists g c =
     let name : Option (List ℕ) = option_map (λ (n : Bor (List ℕ)). n.now) c.args.name in
     let some : wanted name c.in-Ok.program.definitions.items ≡ [] → ⊥ = λ none.
     both_ways c.is_none_wanted.result c.if-is_none_wanted.false (c.is_none_wanted.ensures.1 (ap (wanted name) c.deref.ensures.value ∙ none)) in
-    listed c.in-Ok.program.definitions.items c.in-Ok.program.image rows.0 c.in-Ok.ensures refl some rows.1
+    listed c.in-Ok.program.definitions.items c.in-Ok.program.image rows.0 c.in-Ok.ensures.program refl some rows.1
     (subst (λ (t : List ℕ). Reported t 0 (g.O.ByteOut.outgoing c.args.out.now) (g.O.ByteOut.outgoing c.tell-in-Ok-listing.new.out) c.tell-in-Ok-listing.result)
     (c.as_slice.ensures ∙ rows.2) c.tell-in-Ok-listing.ensures.told)
 

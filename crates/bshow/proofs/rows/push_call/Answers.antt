@@ -13,7 +13,7 @@ pub returns : goal.returns
 returns g c =
     let fs = entries_of c.args.tables.now in
     let call = c.args.stepper.now.call in
-    let entry : option_map placed_entry c.entry-entry.result ≡ function_with fs call.function.strings = c.entry-entry.ensures ∙ ap (λ (a : Active). function_with fs a.strings) c.top-call.ensures in
+    let entry : option_map placed_entry c.entry-entry.result ≡ function_with fs call.function.strings = c.entry-entry.ensures.function ∙ ap (λ (a : Active). function_with fs a.strings) c.top-call.ensures in
     let name = c.name_of.ensures ∙ ap name_in entry in
     let operands : c.operands.result.now ≡ reverse call.operands = sym (reverse-reverse c.operands.result.now) ∙ ap reverse c.operands.ensures in
     let t0 = c.args.text.now in

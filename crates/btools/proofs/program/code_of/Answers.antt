@@ -12,11 +12,11 @@ definitions_of-requires c =
 pub unreachable-requires : goal.unreachable-requires
 unreachable-requires c = never_so c.requires.0 c.requires.1 c.requires.2.0 c.args.code.now c.args.last c.requires.2.1 c.in-Written.is
 
-pub returns-in_ok-definitions_of-in-Finished : goal.returns-in_ok-definitions_of-in-Finished
-returns-in_ok-definitions_of-in-Finished c =
+pub returns-in_ok-definitions_of-in-Finished-clause-code : goal.returns-in_ok-definitions_of-in-Finished-clause-code
+returns-in_ok-definitions_of-in-Finished-clause-code c =
     let ds = c.in_ok-definitions_of-in-Finished.field-0.items in
     let text = subst (λ text. IsCodeText text ds) c.bytes.ensures c.in_ok-definitions_of-in-Finished.ensures in
     λ edition source was. code_whole edition source was.0 c.args.code.now ds (answers c.in-Finished.is was.1) text
 
-pub returns-in-Fault : goal.returns-in-Fault
-returns-in-Fault c = λ edition source was. fault_whole edition source was.0 c.args.code.now c.in-Fault.fault (answers c.in-Fault.is was.1)
+pub returns-in-Fault-clause-code : goal.returns-in-Fault-clause-code
+returns-in-Fault-clause-code c = λ edition source was. fault_whole edition source was.0 c.args.code.now c.in-Fault.fault (answers c.in-Fault.is was.1)

@@ -9,10 +9,10 @@ use Rattle.btrace.proofs.locating.locate.Goals as goal
 use Rattle.btrace.proofs.locating.locate.Goals.{in_default-located_status-2, in_default-located_status}
 
 pub new-requires : goal.new-requires
-new-requires g c = data_fit c.in-Ok.program.definitions.items c.in-Ok.ensures.loads
+new-requires g c = data_fit c.in-Ok.program.definitions.items c.in-Ok.ensures.program.loads
 
 pub returns-in-Err-clause-locates : goal.returns-in-Err-clause-locates
-returns-in-Err-clause-locates g c = stopped (c.tell_placed.ensures.tells c.args.edition c.args.source.now c.in-Err.ensures) (record { unread = refl; silent = refl })
+returns-in-Err-clause-locates g c = stopped (c.tell_placed.ensures.tells c.args.edition c.args.source.now c.in-Err.ensures.program) (record { unread = refl; silent = refl })
 
 pub returns-in_default-clause-locates : goal.returns-in_default-clause-locates
 returns-in_default-clause-locates g c = stopped (Memory, tt, (refl, refl)) (record { unread = refl; silent = refl })
@@ -22,7 +22,7 @@ returns-in_default-new-clause-locates g c = stopped (Memory, tt, (refl, refl)) (
 
 pub returns-in-Err-begin-clause-locates : goal.returns-in-Err-begin-clause-locates
 returns-in-Err-begin-clause-locates g c =
-    not_begun c.in-Ok.program.definitions.items c.in-Ok.program.image c.in-Err-begin.outcome c.in-Ok.ensures c.in-Err-begin.ensures
+    not_begun c.in-Ok.program.definitions.items c.in-Ok.program.image c.in-Err-begin.outcome c.in-Ok.ensures.program c.in-Err-begin.ensures
     c.finish.ensures.gives (record { unread = refl; silent = refl })
 
 pub returns-clause-locates : goal.returns-clause-locates
@@ -31,11 +31,11 @@ returns-clause-locates g c =
     elim c.match-located_status.branch [
       | in_default-located_status-2 w ↦
           rw w.result-is
-          (unlocated_whole c.args.edition c.args.source.now _ c.args.steps _ c.finish-told.result c.in-Ok.program.definitions.items c.in-Ok.program.image c.in-Ok-begin.stepper outcome c.in-Ok.ensures c.in-Ok-begin.ensures c.run-stop.ensures.gives c.finish-told.ensures.gives
+          (unlocated_whole c.args.edition c.args.source.now _ c.args.steps _ c.finish-told.result c.in-Ok.program.definitions.items c.in-Ok.program.image c.in-Ok-begin.stepper outcome c.in-Ok.ensures.program c.in-Ok-begin.ensures c.run-stop.ensures.gives c.finish-told.ensures.gives
           (no_other _ _ _ (sym c.located_status.ensures ∙ w.in-Some.is) w.if-status-told.false))
       | in_default-located_status w ↦
           rw w.result-is
-          (unlocated_whole c.args.edition c.args.source.now _ c.args.steps _ c.finish-told.result c.in-Ok.program.definitions.items c.in-Ok.program.image c.in-Ok-begin.stepper outcome c.in-Ok.ensures c.in-Ok-begin.ensures c.run-stop.ensures.gives c.finish-told.ensures.gives
+          (unlocated_whole c.args.edition c.args.source.now _ c.args.steps _ c.finish-told.result c.in-Ok.program.definitions.items c.in-Ok.program.image c.in-Ok-begin.stepper outcome c.in-Ok.ensures.program c.in-Ok-begin.ensures c.run-stop.ensures.gives c.finish-told.ensures.gives
           (not_none _ _ (sym c.located_status.ensures ∙ w.in_default-located_status.is)))
     ]
 
@@ -43,5 +43,5 @@ pub returns-in-Some-clause-locates : goal.returns-in-Some-clause-locates
 returns-in-Some-clause-locates g c =
     located_whole c.args.edition c.args.source.now (files_shown c.args.files) c.args.steps _ c.tell_site.result c.in-Ok.program.definitions.items c.in-Ok.program.image c.in-Ok-begin.stepper c.run-stop.result.outcome
     (g.D.ByteOut.outgoing c.finish-told.new.diag) (record { functions = entries_of c.in-Ok-new.tables; files = files_shown c.args.files }) c.finish-told.result c.run-stop.result.call c.run-stop.result.steps
-    c.in-Ok.ensures (λ i. record { functions = c.in-Ok-new.ensures i; files = files_shown c.args.files }) c.in-Ok-begin.ensures c.run-stop.ensures.gives c.finish-told.ensures.gives
+    c.in-Ok.ensures.program (λ i. record { functions = c.in-Ok-new.ensures.functions i; files = files_shown c.args.files }) c.in-Ok-begin.ensures c.run-stop.ensures.gives c.finish-told.ensures.gives
     (sym c.located_status.ensures ∙ c.in-Some.is ∙ ap Some c.if-status-told.true) c.run-stop.ensures.stops c.tell_site.ensures.tells

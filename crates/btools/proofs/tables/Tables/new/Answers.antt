@@ -5,6 +5,8 @@ use Rattle.blang.specs.declared.code.Definition.{Definition}
 use Rattle.btools.specs.Functions.{placed_entry}
 use Rattle.btools.proofs.Searching.{Ascend, further, one_more, some_word}
 use Rattle.btools.proofs.Functions.{ends_within, next_end, with_function, with_other}
+use Rattle.btools.specs.ProgramLines.{lined_entry}
+use Rattle.btools.proofs.ProgramLines.{left_next, lined_function_more, lined_other}
 use Rattle.btools.proofs.tables.Tables.new.Goals.{in-Function+in_ok-push, in_default}
 use Rattle.btools.proofs.tables.Tables.new.Goals as goal
 
@@ -28,6 +30,7 @@ loop-definition-preserved c =
     let d = c.definition-item.result in
     let before = c.loop-definition.invariant in
     let more = c.from-address-in-loop-definition.ensures ∙ c.size_of.ensures.value in
+    let all = c.args.program.now.names.lines.items in
     let some : 0 < c.from-address-in-loop-definition.result = omega (arith, more, some_word d) in
     record {
       address = next_end ds i d c.loop-definition-test.true c.definition-item.is c.loop-definition.address c.from-address-in-loop-definition.result before.address more;
@@ -36,6 +39,12 @@ loop-definition-preserved c =
             (ap (λ v. map placed_entry v.items) w.entries-is ∙ ap (map placed_entry) w.in_ok-push.ensures.items ∙ map-append placed_entry c.loop-definition.entries.items _ ∙ (λ j. map placed_entry c.loop-definition.entries.items ++ record { strings = c.loop-definition.address + 1; function = w.parts-parts.ensures.same j } ∷ []))
         | in_default w ↦ ap (λ v. map placed_entry v.items) w.entries-is ∙ with_other ds i d c.loop-definition-test.true c.definition-item.is (map placed_entry c.loop-definition.entries.items) w.in_default.not-Function before.entries
       ];
+      lines = elim c.match-definition.branch [
+        | in-Function+in_ok-push w ↦ lined_function_more ds all i d c.loop-definition-test.true c.definition-item.is w.in-Function.function (map lined_entry c.loop-definition.entries.items) (map lined_entry c.match-definition.entries.items) c.loop-definition.address c.loop-definition.lines.now w.in-Function.is before.address before.left before.lines
+            (ap (λ v. map lined_entry v.items) w.entries-is ∙ ap (map lined_entry) w.in_ok-push.ensures.items ∙ map-append lined_entry c.loop-definition.entries.items _ ∙ (λ j. map lined_entry c.loop-definition.entries.items ++ record { strings = c.loop-definition.address + 1; lines = c.split_lines.ensures.own j } ∷ []))
+        | in_default w ↦ ap (λ v. map lined_entry v.items) w.entries-is ∙ lined_other ds all i d c.loop-definition-test.true c.definition-item.is (map lined_entry c.loop-definition.entries.items) w.in_default.not-Function before.lines
+      ];
+      left = left_next ds all i d c.loop-definition-test.true c.definition-item.is c.loop-definition.lines.now c.split_lines.result.1.now before.left c.split_lines.ensures.later;
       ascend = elim c.match-definition.branch [
         | in-Function+in_ok-push w ↦ (one_more c.loop-definition.entries.items c.match-definition.entries.items c.loop-definition.address c.from-address-in-loop-definition.result before.below _ (ap (λ v. v.items) w.entries-is ∙ w.in_ok-push.ensures.items) refl some before.ascend).0
         | in_default w ↦ subst Ascend (ap (λ v. v.items) (sym w.entries-is)) before.ascend
