@@ -36,7 +36,8 @@ pub struct Table<'a> {
 /// The columns of a table.
 const HEADING: &[u8] = b"    line         times         steps  source\n";
 
-const HINT: &[u8] = b"  hint: all code is on one line; b format FILE gives each statement its own\n";
+const HINT: &[u8] =
+    b"  hint: all code is on one line; b format FILE gives each statement its own\n";
 
 /// The text of the counts.
 pub fn table_text(alloc: Global, table: &Table<'_>) -> Result<Text, AllocError>

@@ -11,7 +11,12 @@ use Rattle.btools.specs.ProgramLines.{line_at, lined_functions, with_lines}
 abbrev function_with_code : List ℕ → List Instr → Definition
 function_with_code name code =
     definition.Function (record {
-      name = name; parameters = 0; frame = 0; targets = []; strings = 0 ∷ []; code = code;
+      name = name;
+      parameters = 0;
+      frame = 0;
+      targets = [];
+      strings = 0 ∷ [];
+      code = code;
     })
 
 -- an external of two words, a vector of one value, a function of two instructions and one of three

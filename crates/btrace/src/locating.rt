@@ -8,8 +8,8 @@ ghost use Rattle.btrace.specs.Locates.{Locates, TellsSite, located_status, meani
 
 use crate::legend::Legend;
 use crate::places::{line_of, push_site};
-use blang::{Outcome, Trap};
 use blang::status::{self, Status};
+use blang::{Outcome, Trap};
 use bmach::{Stepper, Stop};
 use bpages::PagedStore;
 use brun::finish;

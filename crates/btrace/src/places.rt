@@ -62,7 +62,9 @@ fn push_place<S: Store + Drop>(
 
 /// The line of the source of the instruction at which a call is.
 pub fn line_of(legend: &Legend<'_, '_, '_>, call: Active) -> u64 {
-    legend.tables.line(legend.tables.entry(call.strings), call.place)
+    legend
+        .tables
+        .line(legend.tables.entry(call.strings), call.place)
 }
 
 /// Adds the function of a call, the place in it, and the line of the source.

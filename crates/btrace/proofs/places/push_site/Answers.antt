@@ -11,5 +11,5 @@ returns c =
     let name = c.name_of.ensures ∙ ap name_in c.entry-entry.ensures.function in
     on_ok_weaker c.push_line.result (λ end.
     site_parts (codes "in ") (codes " place ") (codes "  line ") c.args.text.now c.push.new.self c.push_left.new.self c.push-2.new.self c.push_right_number.new.self c.push-3.new.self c.push_line.new.text
-        c.name_of.result.now (name_in (function_with (legend_of c.args.legend.now).functions c.args.call.strings)) (right 4 (decimal c.args.call.place)) (line_text 4 (legend_of c.args.legend.now).files c.args.line)
-        c.in_ok-push.ensures c.in_ok-push_left.ensures name c.in_ok-push-2.ensures c.in_ok-push_right_number.ensures c.in_ok-push-3.ensures end) c.push_line.ensures
+    c.name_of.result.now (name_in (function_with (legend_of c.args.legend.now).functions c.args.call.strings)) (right 4 (decimal c.args.call.place)) (line_text 4 (legend_of c.args.legend.now).files c.args.line)
+    c.in_ok-push.ensures c.in_ok-push_left.ensures name c.in_ok-push-2.ensures c.in_ok-push_right_number.ensures c.in_ok-push-3.ensures end) c.push_line.ensures
