@@ -65,6 +65,7 @@ impl Unknown {
 pub(crate) enum Undefined {
     Foreign(Foreign),
     Near,
+    OtherEdition,
     Type,
     InInput,
     InNumbers,
@@ -162,6 +163,8 @@ impl Undefined {
         match self {
             Undefined::Foreign(word) => word.advice(),
             Undefined::Near => ("nothing defines @: did you mean #?", "write #, or define @"),
+            Undefined::OtherEdition =>
+                ("nothing defines @: in edition 1 it is a name", "--edition 2 makes it a keyword"),
             Undefined::Type => ("there are no types: the name before @ is defined", "@; defines @"),
             Undefined::InInput => ("nothing defines @", "lib/input.b has it: b go FILE --with input"),
             Undefined::InNumbers => ("nothing defines @", "lib/numbers.b has it: b go FILE --with numbers"),
@@ -278,12 +281,13 @@ fn undefined_at(
     }
     let alike = like(spans, Extent { first: 0, end: 0 }, &name, &defined);
     let is_typed = Kind::Type.fits(&lexeme_at(spans, extent.first));
-    let (what, other) = match (in_library(&name), foreign_word(&name)) {
+    let (what, other) = match (name.as_str(), in_library(&name), foreign_word(&name)) {
         _ if is_typed && !is_function(spans, extent) => (Undefined::Type, None),
-        (Some(found), _) => found,
-        (None, Some(word)) => (Undefined::Foreign(word), None),
-        (None, None) if alike.is_some() => (Undefined::Near, alike),
-        (None, None) => (Undefined::Other, None),
+        ("break" | "default", _, _) => (Undefined::OtherEdition, None),
+        (_, Some(found), _) => found,
+        (_, None, Some(word)) => (Undefined::Foreign(word), None),
+        (_, None, None) if alike.is_some() => (Undefined::Near, alike),
+        (_, None, None) => (Undefined::Other, None),
     };
     not_defined(spans, token, what, name, other)
 }
