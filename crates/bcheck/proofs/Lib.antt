@@ -1,6 +1,6 @@
 pub mod AddedFindings
 pub mod CheckSteps
-pub mod Excluded
+pub mod CheckExcluded
 pub mod FindingTexts
 pub mod OnLine
 pub mod TokenPlaces

@@ -11,7 +11,7 @@ use Rattle.blang.specs.declared.run.LoadFault.TheVariants as fault
 use Rattle.bcheck.specs.Checks.{FindingParts, Reason, finding_text, findings_text, is_in_line, is_on_line, second_text}
 use Rattle.bcheck.specs.Checks.{column_after, diagnostic_code, next_column, severity_of, severity_word, shown_byte}
 use Rattle.bcheck.specs.Checks.{shown_in_form, told_first}
-use Rattle.bcheck.specs.Excluded.{has_no_colon, is_printed, newlines}
+use Rattle.bcheck.specs.CheckExcluded.{has_no_colon, is_printed, newlines}
 use Rattle.bcheck.specs.Findings.{warning_code}
 use Rattle.bcheck.specs.Tokens.{has_token_on, is_in_token, pieces_from}
 use Rattle.blang.specs.Cut.{fixed_of, greatest, keyword_of, line_number_after, longest, number_in, operator_of}

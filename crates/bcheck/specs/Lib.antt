@@ -1,6 +1,6 @@
 pub mod Tokens
 pub mod CheckRows
 pub mod Checks
-pub mod Excluded
+pub mod CheckExcluded
 pub mod Findings
 pub mod Pieces

@@ -1,7 +1,7 @@
 //! Checking a source.
 ghost use Rattle.std.specs.Prelude.{◌≡◌, ◌++◌, IfOk};
 ghost use Rattle.bcheck.specs.Checks.{AreFindings, Checks, Outcome, TellsFirst, verdict_line, shown_in_form};
-ghost use Rattle.bcheck.specs.Excluded.{Excluded};
+ghost use Rattle.bcheck.specs.CheckExcluded.{Excluded};
 ghost use Rattle.bsources.specs.Files.{Files, files_shown};
 ghost use Rattle.bcheck.specs.declared.form.FindingForm.{FindingForm};
 

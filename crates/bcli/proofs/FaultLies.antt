@@ -10,8 +10,8 @@ use Rattle.bgrammar.proofs.GoesLaws.{each_source_comes}
 use Rattle.brun.specs.OneRun.{unread}
 use Rattle.btools.specs.FaultPlaces.{fault_lines}
 use Rattle.btools.specs.Programs.{HasFault, HasProgram, NoProgram}
-use Rattle.btools.proofs.Excluded as programs
-use Rattle.btools.proofs.Excluded.{other_answer}
+use Rattle.btools.proofs.ProgramsExcluded as programs
+use Rattle.btools.proofs.ProgramsExcluded.{other_answer}
 use Rattle.bcount.specs.Counts as counts
 use Rattle.bcount.specs.Counts.{Counts}
 use Rattle.bcount.specs.Counts.{Asked as Counting}
@@ -24,7 +24,7 @@ use Rattle.btrace.specs.Traces.{Traces}
 use Rattle.btrace.specs.declared.trail.TraceRows.{TraceRows}
 use Rattle.bcommand.specs.CommandLine.{Question, check, count, draw, format, list, locate, map, show, trace}
 use Rattle.bsources.specs.Files.{Files}
-use Rattle.bcli.specs.Excluded.{tells_run}
+use Rattle.bcli.specs.ShellExcluded.{tells_run}
 use Rattle.bcli.specs.Serves.{Answers}
 
 module _ (edition : Edition) (text : List ℕ) (d : Diagnostic) (faulty : HasFault edition text d) where

@@ -1,5 +1,5 @@
 mod Answered
-mod Excluded
+mod ShellExcluded
 mod Joined
 mod ReadLibs
 mod FaultLies

@@ -5,11 +5,11 @@ use Rattle.std.specs.Io.KnownBytes.{Appends}
 use Rattle.clap.specs.Words.{Text}
 use Rattle.bword.specs.ByteEnds.{Outgoing}
 use Rattle.blang.specs.Reports.{Reported, RunEnds}
-use Rattle.bcli.specs.Excluded.{AreWrong, Excluded, ProcessExcluded, silent_lines}
+use Rattle.bcli.specs.ShellExcluded.{AreWrong, Excluded, ProcessExcluded, silent_lines}
 use Rattle.bcli.specs.Processes.{AnswersWords, KnownStreams, PerformsInOrder}
 use Rattle.bcli.specs.Serves.{RefusesWords, Serves, did, no_memory, refused, unread_line}
 use Rattle.bcli.specs.Shelves.{Holdings}
-use Rattle.bcli.proofs.Excluded.{excluded, fault_is_no_complaint}
+use Rattle.bcli.proofs.ShellExcluded.{excluded, fault_is_no_complaint}
 use Rattle.bcli.proofs.Showing.{held_grows, held_stays}
 
 -- what no task may do is not done

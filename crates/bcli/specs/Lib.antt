@@ -1,5 +1,5 @@
 pub mod Blocks
-pub mod Excluded
+pub mod ShellExcluded
 pub mod Processes
 pub mod Reading
 pub mod Serves

@@ -5,7 +5,7 @@ ghost use Rattle.std.specs.Io.{ReadsAtMost, WritesAtMost};
 ghost use Rattle.std.specs.Io.KnownBytes.{Keeps, ReadConsumes, WriteAppends};
 ghost use Rattle.blang.specs.Reports.{RunEnds, run_ends};
 ghost use Rattle.bcli.specs.Blocks.{WasShown, WasTaken};
-ghost use Rattle.bcli.specs.Excluded.{ProcessExcluded};
+ghost use Rattle.bcli.specs.ShellExcluded.{ProcessExcluded};
 ghost use Rattle.bcli.specs.Processes.{AnswersWords, PerformsInOrder, ServesProcess};
 ghost use Rattle.bcli.specs.Shelves.{opened};
 

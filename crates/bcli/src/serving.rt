@@ -5,7 +5,7 @@ ghost use Rattle.bword.specs.ByteEnds.{Incoming, Outgoing};
 ghost use Rattle.blang.specs.declared.status.TheConstants.{DEVICE, MEMORY, WRONG_COMMAND};
 ghost use Rattle.blang.specs.Reports.{Reported, run_ends};
 ghost use Rattle.bcommand.specs.CommandLine.{ask, asked, asked_of, compile, go, question_of, run, source_shown};
-ghost use Rattle.bcli.specs.Excluded.{Excluded, FileIsRead};
+ghost use Rattle.bcli.specs.ShellExcluded.{Excluded, FileIsRead};
 ghost use Rattle.bshow.specs.Shows.{asked_of as page_of};
 ghost use Rattle.bsources.specs.Files.{file_shown, files_shown};
 ghost use Rattle.bcli.specs.Serves.{Answers, CompilesJoined, Does, NamesFile, RefusesWords, SaysNothing, Serves, ShowsRun, form_of, page_rows, style_of, traced_rows, no_file_line, unread_line};

@@ -1,7 +1,7 @@
 //! The reader of a code text that comes in a stream.
 ghost use Rattle.std.specs.Prelude.{◌≡◌};
 ghost use Rattle.bcode.specs.Ahead.{NextDefinitionGives, OpeningGives, EndingGives};
-ghost use Rattle.bcode.specs.Excluded.{Excluded};
+ghost use Rattle.bcode.specs.CodeExcluded.{Excluded};
 ghost use Rattle.bcode.specs.Readers.{SameReader, StepGives, reader_start, to_open};
 ghost use Rattle.bcode.specs.Readers as readers;
 

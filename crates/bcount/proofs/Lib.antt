@@ -4,7 +4,7 @@ mod LineSums
 mod Rows
 mod Costs
 mod Splits
-mod Excluded
+mod CountExcluded
 mod OwnCalls
 mod Addresses
 mod Totals

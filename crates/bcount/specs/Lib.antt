@@ -3,6 +3,6 @@ pub mod Marks
 pub mod SourceLines
 pub mod Tables
 pub mod Counts
-pub mod Excluded
+pub mod CountExcluded
 pub mod Together
 pub mod CountRows

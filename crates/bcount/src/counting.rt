@@ -2,7 +2,7 @@
 ghost use Rattle.std.specs.Prelude.{◌≡◌, IfOk};
 ghost use Rattle.blang.specs.Reports.{run_ends};
 ghost use Rattle.bcount.specs.Counts.{Counts, IsTableOf, asked_of};
-ghost use Rattle.bcount.specs.Excluded.{CountsExcluded};
+ghost use Rattle.bcount.specs.CountExcluded.{CountsExcluded};
 ghost use Rattle.bcount.specs.Tallies.{tallies_of};
 ghost use Rattle.bcount.specs.Together.{StepsAddUp};
 

@@ -7,7 +7,7 @@ use Rattle.std.proofs.lemmas.Bool.{and_from, cond_both, ltb-true}
 use Rattle.std.proofs.lemmas.Bool.Decides.{nat_tests}
 use Rattle.std.proofs.lemmas.List.Folds.{list_all-append}
 use Rattle.bdraw.specs.Draws.{drawn}
-use Rattle.bdraw.specs.Excluded.{classes_in, fill_letter, is_no_tag}
+use Rattle.bdraw.specs.DrawExcluded.{classes_in, fill_letter, is_no_tag}
 use Rattle.bdraw.specs.Shapes.{attribute, beginning, cell_text, escaped, label_text, picture_text, shape_text, style_name, text_element}
 use Rattle.bdraw.specs.declared.shapes.Fill.{Fill}
 use Rattle.bdraw.specs.declared.shapes.Fill.TheVariants as fill

@@ -1,4 +1,4 @@
 pub mod Shapes
 pub mod Draws
 pub mod PictureRows
-pub mod Excluded
+pub mod DrawExcluded

@@ -2,7 +2,7 @@
 ghost use Rattle.std.specs.Prelude.{◌≡◌, IfOk};
 ghost use Rattle.blang.specs.Reports.{run_ends};
 ghost use Rattle.bmach.specs.Stepping.{BeginsNot, IsUnstarted};
-ghost use Rattle.bdraw.specs.Excluded.{NoPictures, WrongShapes};
+ghost use Rattle.bdraw.specs.DrawExcluded.{NoPictures, WrongShapes};
 ghost use Rattle.btools.specs.Programs.{untold};
 ghost use Rattle.bdraw.specs.Draws.{Draws, DrawsRun, EndGives, IsPicture, Made, ShowsMemory, Unbegun};
 

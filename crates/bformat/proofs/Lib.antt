@@ -1,3 +1,3 @@
 pub mod Upcoming
 pub mod Compiled
-pub mod Excluded
+pub mod FormatExcluded

@@ -3,4 +3,4 @@ pub mod Readings
 pub mod Formats
 pub mod PieceRows
 pub mod FormatRows
-pub mod Excluded
+pub mod FormatExcluded

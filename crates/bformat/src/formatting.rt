@@ -1,7 +1,7 @@
 //! Laying a source out.
 ghost use Rattle.std.specs.Prelude.{ℕ, List, ◌≡◌, IfOk, MatchOption, false, true};
 ghost use Rattle.bword.specs.declared.edition.Edition.{Edition};
-ghost use Rattle.bformat.specs.Excluded.{ChecksAsWritten, WrongLayouts};
+ghost use Rattle.bformat.specs.FormatExcluded.{ChecksAsWritten, WrongLayouts};
 ghost use Rattle.bformat.specs.Formats.{FormatsBy, IsLayout, Shows, has_wrong_token};
 ghost use Rattle.bformat.specs.Readings.{AreRead};
 ghost use Rattle.btools.specs.Programs.{WasCompiled};

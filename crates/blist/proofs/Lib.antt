@@ -1,6 +1,6 @@
 pub mod AddedRows
 pub mod Beside
-pub mod Excluded
+pub mod ListExcluded
 pub mod Printable
 pub mod ShownRows
 pub mod Spots

@@ -12,7 +12,7 @@ use Rattle.blist.specs.declared.rows.CodeSpot.{CodeSpot}
 use Rattle.blist.specs.declared.rows.CodeSpot.TheVariants as spot
 use Rattle.btools.specs.Characters.{IsPrintable, is_printable}
 use Rattle.btools.specs.Columns.{right, without_newline}
-use Rattle.blist.specs.Excluded.{WrongRows, from_letter, is_one_line, newlines}
+use Rattle.blist.specs.ListExcluded.{WrongRows, from_letter, is_one_line, newlines}
 use Rattle.blist.specs.Listings.{AreRows, IsApart, ListingRow, margin_text, number_text, row_text, spot_text}
 
 -- a byte that may stand in a margin

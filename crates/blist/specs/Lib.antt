@@ -2,4 +2,4 @@ pub mod Maps
 pub mod Listings
 pub mod ListingRows
 pub mod MapRows
-pub mod Excluded
+pub mod ListExcluded

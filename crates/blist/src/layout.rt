@@ -1,7 +1,7 @@
 //! The layout of memory.
 ghost use Rattle.std.specs.Prelude.{◌≡◌, ◌++◌, IfOk, OnOk};
 ghost use Rattle.blang.specs.Layout.{shape_of};
-ghost use Rattle.blist.specs.Excluded.{NoMaps};
+ghost use Rattle.blist.specs.ListExcluded.{NoMaps};
 ghost use Rattle.blist.specs.Maps.{Maps, dots, kind_text, map_row, map_text, words_from};
 ghost use Rattle.btools.specs.Programs.{told_ends};
 

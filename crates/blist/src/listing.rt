@@ -4,7 +4,7 @@ ghost use Rattle.std.specs.List.{flat_map};
 ghost use Rattle.blang.specs.Text.{header_line, instr_line, ival_line, lines_of, string_line, target_line};
 ghost use Rattle.blang.specs.CodeParts.{function_of, simple_of, vector_of};
 ghost use Rattle.blang.specs.declared.code.Definition.TheVariants as definition;
-ghost use Rattle.blist.specs.Excluded.{NoListings, WrongRows};
+ghost use Rattle.blist.specs.ListExcluded.{NoListings, WrongRows};
 ghost use Rattle.blist.specs.Listings.{
   Adds,
   AreRows,

@@ -19,7 +19,7 @@ pub mod Running
 pub mod Copying
 pub mod Told
 pub mod Losing
-pub mod Excluded
+pub mod MachineExcluded
 pub mod Stopping
 pub mod Fusing
 pub mod Fetching

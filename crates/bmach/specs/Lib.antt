@@ -9,7 +9,7 @@ pub mod Taken
 pub mod Split
 pub mod Steps
 pub mod Turns
-pub mod Excluded
+pub mod MachineExcluded
 pub mod Stepping
 pub mod Stops
 pub mod Readings

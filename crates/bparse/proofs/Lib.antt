@@ -2,7 +2,7 @@ pub mod CleanLaws
 pub mod CompilerSteps
 pub mod CompileSteps
 pub mod CompileHeadlines
-pub mod Excluded
+pub mod CompileExcluded
 pub mod MadeSteps
 pub mod ReadingLaws
 pub mod Remaining

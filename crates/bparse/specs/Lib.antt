@@ -1,7 +1,7 @@
 pub mod CodeLists
 pub mod Compilers
 pub mod Compiles
-pub mod Excluded
+pub mod CompileExcluded
 pub mod Sizes
 pub mod Steps
 pub mod Watches

@@ -7,7 +7,7 @@ ghost use Rattle.bparse.specs.Compilers as compilers;
 ghost use Rattle.bparse.specs.Compiles.{CodeGives, LastGives, run_of};
 ghost use Rattle.bparse.specs.Watches.{KeptAll, Watched};
 ghost use Rattle.blang.specs.declared.status.TheConstants.{DONE};
-ghost use Rattle.bparse.specs.Excluded.{Excluded};
+ghost use Rattle.bparse.specs.CompileExcluded.{Excluded};
 
 use crate::code_list::CodeList;
 use crate::code_out::CodeOut;

@@ -1,5 +1,5 @@
 pub mod Endings
-pub mod Excluded
+pub mod RunExcluded
 pub mod OneRun
 pub mod GoSteps
 pub mod HeadlineSteps

@@ -20,7 +20,7 @@ use Rattle.bgrammar.proofs.Parting.{parted_end}
 use Rattle.bgrammar.proofs.Outcomes.{parted_after, parted_once}
 use Rattle.bgrammar.proofs.SourceRows.{a_number}
 use Rattle.brun.specs.OneRun.{OneRunIsKnown, OneCompilationIsKnown, one_run_ends, one_compilation_run, unread}
-use Rattle.brun.proofs.Excluded.{writes_a, main_a, state}
+use Rattle.brun.proofs.RunExcluded.{writes_a, main_a, state}
 
 no_failure : Grew 0 0 → ⊥
 no_failure grew = omega (arith, grew)

@@ -15,7 +15,7 @@ use Rattle.bcode.proofs.FaultLaws.{unique_code}
 use Rattle.bmach.proofs.Running.{device_failed}
 use Rattle.brun.specs.Runs as texts
 use Rattle.brun.specs.Runs.{RunsDefinitions, RunsText}
-use Rattle.brun.proofs.Excluded.{AnyFailed, told_device}
+use Rattle.brun.proofs.RunExcluded.{AnyFailed, told_device}
 
 -- a status that is told for want of memory before the run
 abbrev NoRoom : RunEnds → ℕ → Type 0

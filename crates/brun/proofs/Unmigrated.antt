@@ -15,7 +15,7 @@ use Rattle.blang.specs.Text.{opening, code_lines, definition_text, end_text, hea
 use Rattle.blang.specs.declared.status.TheConstants.{DEVICE, MEMORY, REFUSED}
 use Rattle.blang.specs.declared.code.Definition.{Definition}
 use Rattle.blang.specs.declared.code.Definition.TheVariants as kinds
-use Rattle.bcode.proofs.Excluded.{none_after}
+use Rattle.bcode.proofs.CodeExcluded.{none_after}
 use Rattle.bcode.proofs.StreamLaws.{FailsAfter-counted}
 use Rattle.bparse.proofs.Remaining.{all_written, rest_of}
 use Rattle.brun.specs.Migrates.{Rewriting, IsMigrated, InputFailed, IsRefused, Migrates, NoRoom, RefusesNext, definition, done, failed, faulty, first_line, last_line, no_memory, rewritten}

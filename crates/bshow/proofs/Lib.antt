@@ -6,4 +6,4 @@ pub mod Told
 pub mod Whole
 pub mod Escaping
 pub mod OwnTexts
-pub mod Excluded
+pub mod ShowExcluded

@@ -5,4 +5,4 @@ pub mod OwnTexts
 pub mod Shows
 pub mod Steps
 pub mod RowFacts
-pub mod Excluded
+pub mod ShowExcluded

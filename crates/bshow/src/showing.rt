@@ -13,7 +13,7 @@ ghost use Rattle.bshow.specs.Shows.{Shows, asked_of, head, record_of, rows_text,
 ghost use Rattle.btrace.specs.Traces.{StepsGive};
 ghost use Rattle.bshow.specs.Steps.{ShowsRun, ShowsUnbegun, broken_status, AddsDone, AddsNext, IsEmpty, IsPage, Follows, FollowsCalls, KeepsStep, TellsRun, TellsUnless, has_row, heard_if, kept_texts};
 ghost use Rattle.bshow.specs.Steps.{unbegun_page};
-ghost use Rattle.bshow.specs.Excluded.{NoPages, RowsExcluded};
+ghost use Rattle.bshow.specs.ShowExcluded.{NoPages, RowsExcluded};
 
 use crate::ending::{push_sentence, push_unbegun};
 use crate::facts::{push_program, push_run};

@@ -8,8 +8,8 @@ use Rattle.blang.specs.Cut.{tokens_from}
 use Rattle.blang.specs.Text.{IsCodeText}
 use Rattle.bgrammar.proofs.ReadingBack.{reads_back}
 use Rattle.btools.specs.Programs.{WasCompiled}
-use Rattle.btools.specs.Excluded.{code_in}
-use Rattle.btools.proofs.Excluded.{not_grown}
+use Rattle.btools.specs.ProgramsExcluded.{code_in}
+use Rattle.btools.proofs.ProgramsExcluded.{not_grown}
 
 no_more : (taken rest : List ℕ) → taken ++ rest ≡ taken → rest ≡ []
 no_more [] rest h = h

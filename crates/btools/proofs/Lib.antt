@@ -1,5 +1,5 @@
 pub mod AddedTexts
-pub mod Excluded
+pub mod ProgramsExcluded
 pub mod Unasked
 pub mod Compiled
 pub mod Reading

@@ -24,10 +24,10 @@ use Rattle.btools.specs.Programs.{HasFault, HasNoProgram, IsCodeOf, IsThisProgra
 use Rattle.btools.specs.declared.program.Program.{Program}
 use Rattle.btools.specs.declared.program.ProgramFault.{ProgramFault}
 use Rattle.btools.specs.declared.program.ProgramFault.TheVariants as why
-use Rattle.btools.specs.Excluded.{code_in}
+use Rattle.btools.specs.ProgramsExcluded.{code_in}
 use Rattle.btools.proofs.Compiled as compiled
 use Rattle.btools.proofs.Compiled.{clean}
-use Rattle.btools.proofs.Excluded.{not_grown}
+use Rattle.btools.proofs.ProgramsExcluded.{not_grown}
 
 -- a wrong line is no want of memory
 pub no_line : (n : ℕ) → code_fault.Line n ≡ code_fault.Memory → ⊥

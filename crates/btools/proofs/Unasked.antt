@@ -8,7 +8,7 @@ use Rattle.blang.specs.Cut.{tokens_from}
 use Rattle.blang.specs.Machine.{Image, image_of, machine}
 use Rattle.bmach.specs.Readings.{LeftBySteps}
 use Rattle.bmach.proofs.Readings.{left_by, none_at_first}
-use Rattle.btools.specs.Excluded.{code_in}
+use Rattle.btools.specs.ProgramsExcluded.{code_in}
 use Rattle.btools.specs.Programs.{HasProgram}
 
 module _ (edition : Edition) (source : List ℕ) (r : Compilation) (g : CompilesTo [] (tokens_from edition 1 source) r) (n : ℕ) (i j : Incoming) where

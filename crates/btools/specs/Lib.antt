@@ -4,7 +4,7 @@ pub mod Programs
 pub mod Quoting
 pub mod QuotingRows
 pub mod Functions
-pub mod Excluded
+pub mod ProgramsExcluded
 pub mod FaultPlaces
 pub mod PlaceRows
 pub mod TextRows

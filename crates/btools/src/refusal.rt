@@ -3,7 +3,7 @@ ghost use Rattle.std.specs.Prelude.{◌≡◌, ◌++◌, IfOk, List, option_map,
 ghost use Rattle.bword.specs.declared.edition.Edition.{Edition};
 ghost use Rattle.blang.specs.Compiles.{line_of};
 ghost use Rattle.bsources.specs.Files.{files_shown, line_shown};
-ghost use Rattle.btools.specs.Excluded.{WrongPrograms};
+ghost use Rattle.btools.specs.ProgramsExcluded.{WrongPrograms};
 ghost use Rattle.btools.specs.FaultPlaces.{fault_lines, place_line};
 ghost use Rattle.btools.specs.Programs.{HasNoProgram, NoProgram, TellsFault, load_line};
 

@@ -7,4 +7,4 @@ mod Unresolved
 mod Located
 mod ReadTexts
 mod Unasked
-mod Excluded
+mod TraceExcluded

@@ -23,7 +23,7 @@ use Rattle.bmach.proofs.Asking.{asks_if_taken}
 use Rattle.bmach.proofs.Readings.{read_more, read_so_far, turn_read}
 use Rattle.bmach.proofs.Running.{at_limit, following, one_more, run_over}
 use Rattle.bmach.proofs.Turning.{follows, goes_on, runs_on, took_nothing}
-use Rattle.btools.proofs.Excluded.{not_grown}
+use Rattle.btools.proofs.ProgramsExcluded.{not_grown}
 use Rattle.btools.specs.Programs.{nothing_written}
 use Rattle.btrace.specs.RowTexts.{Legend, step_row, stored_text, written_row}
 use Rattle.btrace.specs.Trails.{chosen, trail_text}

@@ -9,7 +9,7 @@ use Rattle.blang.specs.Reports.{RunEnds}
 use Rattle.bmach.specs.Readings.{LeftBySteps}
 use Rattle.bmach.proofs.Readings.{left_by, run_left}
 use Rattle.bsources.specs.Files.{Files}
-use Rattle.btools.specs.Excluded.{code_in}
+use Rattle.btools.specs.ProgramsExcluded.{code_in}
 use Rattle.btools.specs.Programs.{nothing_written}
 use Rattle.btools.proofs.Unasked.{program_left, untaken}
 use Rattle.btrace.specs.Locates as locates

@@ -2,5 +2,5 @@ pub mod RowTexts
 pub mod Trails
 pub mod Traces
 pub mod Locates
-pub mod Excluded
+pub mod TraceExcluded
 pub mod RowFacts

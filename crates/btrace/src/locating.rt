@@ -1,7 +1,7 @@
 //! Telling where a run was over.
 ghost use Rattle.std.specs.Prelude.{◌≡◌, ℕ, IfOk};
 ghost use Rattle.blang.specs.Reports.{run_ends};
-ghost use Rattle.btrace.specs.Excluded.{LocatesExcluded};
+ghost use Rattle.btrace.specs.TraceExcluded.{LocatesExcluded};
 ghost use Rattle.bsources.specs.Files.{File, files_shown};
 ghost use Rattle.btrace.specs.RowTexts.{legend_of};
 ghost use Rattle.btrace.specs.Locates.{Locates, TellsSite, located_status, meaning, told_site};

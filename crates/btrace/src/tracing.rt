@@ -6,7 +6,7 @@ ghost use Rattle.bmach.specs.Readings.{ReadBySteps, ReadInStep};
 ghost use Rattle.bmach.specs.Stepping.{machine_at};
 ghost use Rattle.bmach.specs.Turns.{KeepsBelow, LeavesWords};
 ghost use Rattle.bword.specs.ByteEnds.{Kept, outgoing_of};
-ghost use Rattle.btrace.specs.Excluded.{TracesExcluded};
+ghost use Rattle.btrace.specs.TraceExcluded.{TracesExcluded};
 ghost use Rattle.bsources.specs.Files.{File, files_shown};
 ghost use Rattle.btools.specs.Functions.{entries_of};
 ghost use Rattle.btools.specs.Programs.{nothing_written};

@@ -1,4 +1,4 @@
-use Rattle.bcli.proofs.Excluded.{file_is_read}
+use Rattle.bcli.proofs.ShellExcluded.{file_is_read}
 use Rattle.bcli.proofs.serving.files_are_read.Goals as goal
 
 pub returns : goal.returns

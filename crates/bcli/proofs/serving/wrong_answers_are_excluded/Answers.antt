@@ -1,4 +1,4 @@
-use Rattle.bcli.proofs.Excluded.{excluded}
+use Rattle.bcli.proofs.ShellExcluded.{excluded}
 use Rattle.bcli.proofs.serving.wrong_answers_are_excluded.Goals as goal
 
 pub returns : goal.returns

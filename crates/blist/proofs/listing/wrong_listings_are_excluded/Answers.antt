@@ -1,4 +1,4 @@
-use Rattle.blist.proofs.Excluded.{no_listings}
+use Rattle.blist.proofs.ListExcluded.{no_listings}
 use Rattle.blist.proofs.ShownRows.{wrong_rows}
 use Rattle.blist.proofs.listing.wrong_listings_are_excluded.Goals as goal
 

@@ -1,6 +1,6 @@
 use Rattle.std.proofs.Common.{[], ◌++◌, append_assoc, append-nil, ap, ◌∙◌, refl}
 use Rattle.blang.specs.Text.{definition_text, end_text}
-use Rattle.bparse.proofs.Excluded.{excluded}
+use Rattle.bparse.proofs.CompileExcluded.{excluded}
 use Rattle.bparse.proofs.compiling.wrong_compilings_are_excluded.Goals as goal
 
 pub returns-clause-excluded : goal.returns-clause-excluded

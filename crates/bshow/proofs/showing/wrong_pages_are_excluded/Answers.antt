@@ -1,4 +1,4 @@
-use Rattle.bshow.proofs.Excluded.{no_pages, rows_excluded}
+use Rattle.bshow.proofs.ShowExcluded.{no_pages, rows_excluded}
 use Rattle.bshow.proofs.showing.wrong_pages_are_excluded.Goals as goal
 
 pub returns : goal.returns

@@ -1,4 +1,4 @@
-use Rattle.btrace.proofs.Excluded.{places_excluded}
+use Rattle.btrace.proofs.TraceExcluded.{places_excluded}
 use Rattle.btrace.proofs.locating.wrong_places_are_excluded.Goals as goal
 
 pub returns : goal.returns

@@ -15,11 +15,11 @@ use Rattle.blang.specs.Machine.{image_of, machine}
 use Rattle.blang.specs.Reports.{RunEnds}
 use Rattle.bmach.specs.Readings.{LeftBySteps}
 use Rattle.bmach.specs.declared.machine.Active.{Active}
-use Rattle.btools.specs.Excluded.{code_in}
+use Rattle.btools.specs.ProgramsExcluded.{code_in}
 use Rattle.btools.specs.Functions.{functions_of}
 use Rattle.btools.specs.FaultPlaces.{fault_lines}
 use Rattle.btools.specs.Programs.{load_line}
-use Rattle.btrace.specs.Excluded.{calling, nothing, passing, reading, storing, trapping, writing}
+use Rattle.btrace.specs.TraceExcluded.{calling, nothing, passing, reading, storing, trapping, writing}
 use Rattle.bshow.specs.Facts.{calls_text}
 use Rattle.bshow.specs.Shows.{AreShown, Asked, EndsAs, Shows, TellsCalls, page_text}
 use Rattle.bshow.specs.declared.showing.PageRows.{PageRows}

@@ -13,7 +13,7 @@ use Rattle.blang.specs.Cut.{tokens_from}
 use Rattle.blang.specs.Machine.{image_of, machine}
 use Rattle.blang.specs.Reports.{RunEnds}
 use Rattle.bmach.specs.Readings.{LeftBySteps}
-use Rattle.btools.specs.Excluded.{code_in}
+use Rattle.btools.specs.ProgramsExcluded.{code_in}
 use Rattle.btools.specs.Functions.{functions_of}
 use Rattle.bwatch.specs.Watches.{Watches}
 use Rattle.bcount.specs.Counts.{AreCounts, Asked, Counts, IsTableOf}

@@ -17,7 +17,7 @@ use Rattle.blang.specs.Cut.{tokens_from}
 use Rattle.blang.specs.Layout.{load_fault}
 use Rattle.blang.specs.Machine.{Image, run, state_world}
 use Rattle.blang.specs.Reports.{RunEnds}
-use Rattle.btools.specs.Excluded.{code_in}
+use Rattle.btools.specs.ProgramsExcluded.{code_in}
 use Rattle.btools.specs.Programs.{load_line}
 use Rattle.bdraw.specs.Draws.{Drawn, Draws, IsPicture, drawn, named, row, seen}
 use Rattle.bdraw.specs.Shapes.{escaped, fill_name}

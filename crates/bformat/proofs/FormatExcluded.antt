@@ -11,8 +11,8 @@ use Rattle.blang.specs.Cut.{tokens_from}
 use Rattle.blang.specs.Reports.{Reported}
 use Rattle.btools.specs.Programs as programs
 use Rattle.btools.proofs.Compiled as compiling
-use Rattle.btools.proofs.Excluded as told
-use Rattle.bformat.specs.Excluded.{ChecksAsWritten, TellsNothing, Twice, WrongLayouts}
+use Rattle.btools.proofs.ProgramsExcluded as told
+use Rattle.bformat.specs.FormatExcluded.{ChecksAsWritten, TellsNothing, Twice, WrongLayouts}
 use Rattle.bformat.specs.Formats.{Format, Formats, FormatsBy, IsLayout, Shows, faulty, has_wrong_token, laid_out, no_memory}
 use Rattle.bformat.proofs.Compiled.{compiled_is_fine}
 

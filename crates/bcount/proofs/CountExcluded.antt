@@ -16,14 +16,14 @@ use Rattle.blang.specs.Machine.{image_of, machine}
 use Rattle.bmach.specs.Readings.{LeftBySteps}
 use Rattle.bmach.proofs.Readings.{left_by, run_left}
 use Rattle.btools.specs.Functions.{Placed, functions_of}
-use Rattle.btools.specs.Excluded.{code_in}
+use Rattle.btools.specs.ProgramsExcluded.{code_in}
 use Rattle.btools.specs.Programs.{nothing_written}
 use Rattle.btools.proofs.Unasked.{program_left, untaken}
 use Rattle.bwatch.specs.Sights.{Sights, sights_of}
 use Rattle.bwatch.specs.Watches.{Watches}
 use Rattle.bcount.specs.Counts as count
 use Rattle.bcount.specs.Counts.{AreCounts, Asked, Counts, IsOnLines, line_counts}
-use Rattle.bcount.specs.Excluded.{CountsExcluded, CountsOnly, ShowsBoth, nothing}
+use Rattle.bcount.specs.CountExcluded.{CountsExcluded, CountsOnly, ShowsBoth, nothing}
 use Rattle.bcount.specs.SourceLines.{last_line, newlines_in}
 use Rattle.bcount.specs.Tables.{heading_of, hint, row_after, table_text, total_of}
 use Rattle.bcount.specs.declared.lines.Counted.{Counted}

@@ -2,7 +2,7 @@
 use Rattle.std.proofs.Common.{subst, ◌≡◌, ℕ, suc, ◌≤◌, List, [], ◌∷◌, ◌++◌, length, sym, ap, ◌∙◌, arith, append_assoc, ◌⊎◌, inl, inr}
 use Rattle.std.specs.Prelude.{All}
 use Rattle.std.proofs.lemmas.List.Elements.{All-head, All-tail}
-use Rattle.bcode.specs.Excluded.{Excluded}
+use Rattle.bcode.specs.CodeExcluded.{Excluded}
 use Rattle.bcode.specs.Readers.{CodeReader, StoppedAtLine}
 use Rattle.bcode.specs.Streams.{HasNoNewline, IsWholeLine, IsLinePart, AreLines, EndsInLine}
 use Rattle.blang.specs.Text.{joined}

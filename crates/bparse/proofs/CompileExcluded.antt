@@ -9,7 +9,7 @@ use Rattle.blang.specs.Compiles.{Run, Compiles, Compilation, CompilesTo, TakenUp
 use Rattle.bgrammar.specs.SourceRows.{Comes}
 use Rattle.bgrammar.proofs.SourceRows.{a_function, a_name_twice, a_number, an_empty_source, outcome_sound}
 use Rattle.bgrammar.proofs.GoesLaws.{tokens_from-ended, each_source_comes}
-use Rattle.bparse.specs.Excluded.{Observed, NoneFailed, NoneRefused, NoReadFailed, Excluded}
+use Rattle.bparse.specs.CompileExcluded.{Observed, NoneFailed, NoneRefused, NoReadFailed, Excluded}
 use Rattle.bparse.proofs.ReadingLaws.{held_at_fault}
 use Rattle.bparse.proofs.Remaining.{rest_of, all_written}
 use Rattle.bparse.proofs.TakenLaws.{plain, no_words, more_begun, all_begun}

@@ -24,13 +24,13 @@ use Rattle.blang.specs.Cut.{tokens_from}
 use Rattle.blang.specs.Layout.{load_fault}
 use Rattle.blang.specs.Machine.{Image, Running, run, state_world}
 use Rattle.blang.specs.Reports.{ComesTo, RunEnds, RunGives}
-use Rattle.btools.specs.Excluded.{Excluded, code_in}
+use Rattle.btools.specs.ProgramsExcluded.{Excluded, code_in}
 use Rattle.btools.specs.Programs.{load_line, nothing_written}
-use Rattle.btools.proofs.Excluded.{device_grew, excluded, no_done, not_grown, other_answer, was_told}
+use Rattle.btools.proofs.ProgramsExcluded.{device_grew, excluded, no_done, not_grown, other_answer, was_told}
 use Rattle.bdraw.specs.Draws.{Drawn, Draws, DrawsProgram, DrawsRun, IsAfter, IsAtEnd, IsOver, IsPicture, ShowsMemory, drawn, named, row, seen}
 use Rattle.bdraw.specs.Draws as draws
 use Rattle.bdraw.specs.Shapes.{escape, escaped}
-use Rattle.bdraw.specs.Excluded.{HasFills, IsOfStep, NoPictures, Shows, TellsBytes, WrongShapes, classes_in, fill_letter, is_no_tag}
+use Rattle.bdraw.specs.DrawExcluded.{HasFills, IsOfStep, NoPictures, Shows, TellsBytes, WrongShapes, classes_in, fill_letter, is_no_tag}
 use Rattle.bdraw.proofs.Classes.{picture_classes}
 use Rattle.bdraw.specs.declared.picture.TheConstants.{MOST_NAMES}
 use Rattle.bdraw.specs.declared.shapes.Fill.{Fill}

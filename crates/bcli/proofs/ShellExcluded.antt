@@ -26,7 +26,7 @@ use Rattle.bsources.specs.Files.{Files, NamedText, file_in, file_of, following}
 use Rattle.bcli.proofs.FaultLies.{fault_told}
 use Rattle.bcli.proofs.Joined.{failed_joined, joined_answers}
 use Rattle.bcli.specs.Serves.{CompilesJoined, NamesLib, Reads, ReadsLibs, compiling, files_read, whole, Answers, Does, HasNoFile, IsHelp, NamesFile, RefusesWords, SaysNothing, Serves, did, refused, no_memory}
-use Rattle.bcli.specs.Excluded.{AreWrong, Excluded, FileIsRead, HoldsOne, NothingFails, alone, files_alone, with_lib}
+use Rattle.bcli.specs.ShellExcluded.{AreWrong, Excluded, FileIsRead, HoldsOne, NothingFails, alone, files_alone, with_lib}
 
 fault_is_told : (f : EndFault) → 0 ≡ status_of f → ⊥
 fault_is_told end_fault.Device e = omega (arith, e)

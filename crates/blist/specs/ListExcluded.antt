@@ -15,7 +15,7 @@ use Rattle.blang.specs.Machine.{image_of}
 use Rattle.blang.specs.Text.{lines_of}
 use Rattle.btools.specs.Characters.{IsPrintable}
 use Rattle.btools.specs.Columns.{right, without_newline}
-use Rattle.btools.specs.Excluded.{code_in}
+use Rattle.btools.specs.ProgramsExcluded.{code_in}
 use Rattle.btools.specs.Programs.{ToldEnds, load_line}
 use Rattle.blist.specs.declared.listing.TheConstants.{HEADING, UNDEFINED}
 use Rattle.blist.specs.declared.rows.CodeSpot.{CodeSpot}

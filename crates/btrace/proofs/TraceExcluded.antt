@@ -37,9 +37,9 @@ use Rattle.brun.proofs.RunSteps.{outcome-resolved, run_loaded}
 use Rattle.btools.specs.Columns.{left, right}
 use Rattle.btools.specs.Programs.{HasProgram, NoProgram, nothing_written}
 use Rattle.btools.proofs.Compiled.{text_in}
-use Rattle.btools.proofs.Excluded.{not_grown}
-use Rattle.btools.proofs.Excluded as programs
-use Rattle.btrace.specs.Excluded.{ComesAlways, IsSourceOf, LocatesExcluded, TracesExcluded, calling, calling_f, closing, nothing, passing, reading, status_of, storing, trapping, writing}
+use Rattle.btools.proofs.ProgramsExcluded.{not_grown}
+use Rattle.btools.proofs.ProgramsExcluded as programs
+use Rattle.btrace.specs.TraceExcluded.{ComesAlways, IsSourceOf, LocatesExcluded, TracesExcluded, calling, calling_f, closing, nothing, passing, reading, status_of, storing, trapping, writing}
 use Rattle.btrace.specs.Locates as locates
 use Rattle.btrace.specs.Locates.{Locates, TellsSite, explanation, located_status, told_site}
 use Rattle.btools.specs.Functions.{Placed, function_with, functions_of}

@@ -18,7 +18,7 @@ use Rattle.blang.specs.Reports.{RunEnds, report_text, state_outcome}
 use Rattle.blang.specs.Text.{IsCodeText}
 use Rattle.bmach.specs.Readings.{LeftBySteps}
 use Rattle.bsources.specs.Files.{File, Files}
-use Rattle.btools.specs.Excluded.{code_in}
+use Rattle.btools.specs.ProgramsExcluded.{code_in}
 use Rattle.btrace.specs.Locates.{Locates}
 use Rattle.btrace.specs.Traces.{Traces}
 use Rattle.btrace.specs.declared.tracing.TheConstants.{HEADING}

@@ -20,14 +20,14 @@ use Rattle.bmach.specs.Stops.{active_of}
 use Rattle.bmach.specs.declared.machine.Active.{Active}
 use Rattle.bmach.proofs.Readings.{left_by, run_left}
 use Rattle.bmach.proofs.Running.{device_failed}
-use Rattle.btools.specs.Excluded.{Excluded, code_in}
+use Rattle.btools.specs.ProgramsExcluded.{Excluded, code_in}
 use Rattle.btools.specs.Functions.{Placed, functions_of}
 use Rattle.btools.specs.Programs.{load_line, nothing_written}
 use Rattle.btools.specs.FaultPlaces.{fault_lines}
-use Rattle.btools.proofs.Excluded.{device_grew, excluded, no_done, not_grown, other_answer, was_told}
+use Rattle.btools.proofs.ProgramsExcluded.{device_grew, excluded, no_done, not_grown, other_answer, was_told}
 use Rattle.btools.proofs.Unasked.{program_left, untaken}
-use Rattle.btrace.specs.Excluded.{calling, nothing, passing, reading, storing, trapping, writing}
-use Rattle.bshow.specs.Excluded.{AreRows, IsRowOf, NoPages, RowParts, RowsExcluded, first_row, fourth_row, passed_row, read_row, row, second_row, stored_row, third_row, trapped_row, written_row}
+use Rattle.btrace.specs.TraceExcluded.{calling, nothing, passing, reading, storing, trapping, writing}
+use Rattle.bshow.specs.ShowExcluded.{AreRows, IsRowOf, NoPages, RowParts, RowsExcluded, first_row, fourth_row, passed_row, read_row, row, second_row, stored_row, third_row, trapped_row, written_row}
 use Rattle.bshow.specs.Facts.{calls_text}
 use Rattle.bshow.specs.Rows.{call_cells, code_of, done_cells, name_of, number_cell, text_cell, words_cell, words_in}
 use Rattle.bshow.specs.Shows as pages

@@ -14,10 +14,10 @@ use Rattle.blang.specs.Layout.{Shape, load_fault, shape_of, size_of}
 use Rattle.blang.specs.Machine.{Image, image_of}
 use Rattle.blang.specs.Text.{lines_of}
 use Rattle.btools.specs.Columns.{left, right}
-use Rattle.btools.specs.Excluded.{Excluded, code_in}
+use Rattle.btools.specs.ProgramsExcluded.{Excluded, code_in}
 use Rattle.btools.specs.Programs.{ToldEnds, image_address, load_line}
-use Rattle.btools.proofs.Excluded.{device_grew, excluded, no_done, other_answer, was_told}
-use Rattle.blist.specs.Excluded.{IsListing, NoListings, NoMaps, WrongStatuses}
+use Rattle.btools.proofs.ProgramsExcluded.{device_grew, excluded, no_done, other_answer, was_told}
+use Rattle.blist.specs.ListExcluded.{IsListing, NoListings, NoMaps, WrongStatuses}
 use Rattle.blist.specs.declared.rows.CodeSpot.{CodeSpot}
 use Rattle.blist.specs.declared.layout.TheConstants as layout_texts
 use Rattle.blist.specs.declared.listing.TheConstants.{HEADING, UNDEFINED}

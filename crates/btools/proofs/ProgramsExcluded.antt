@@ -16,7 +16,7 @@ use Rattle.blang.specs.Reports.{Reported}
 use Rattle.btools.specs.declared.program.ProgramFault.{ProgramFault}
 use Rattle.btools.specs.declared.program.ProgramFault.TheVariants as why
 use Rattle.btools.specs.Programs.{HasNoProgram, HasProgram, TellsFault, load_line}
-use Rattle.btools.specs.Excluded.{WrongPrograms, code_in}
+use Rattle.btools.specs.ProgramsExcluded.{WrongPrograms, code_in}
 
 pub not_grown : (a b : ℕ) → a ≡ 0 → b ≡ 0 → Grew a b → ⊥
 not_grown a b e f h = omega (arith, e, f, h)
