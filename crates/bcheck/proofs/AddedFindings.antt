@@ -21,9 +21,9 @@ use Rattle.btools.specs.Quoting.{file_text, json_text}
 use Rattle.bcheck.specs.Findings.{AddsFinding, IsExcerpt, IsSecond, ReasonAt}
 use Rattle.bcheck.specs.Pieces.{piece_text, spot_text}
 use Rattle.bcheck.specs.declared.excerpt.Excerpt.{Excerpt}
-use Rattle.bcheck.specs.declared.pieces.Piece.{Piece}
+use Rattle.bcheck.specs.declared.pieces.Fragment.{Fragment}
 use Rattle.bcheck.specs.declared.finding.Severity.{Severity}
-use Rattle.bcheck.specs.declared.finding.Spot.{Spot}
+use Rattle.bcheck.specs.declared.finding.SecondPlace.{SecondPlace}
 use Rattle.bcheck.specs.declared.form.FindingForm.{FindingForm}
 use Rattle.bcheck.specs.declared.form.FindingForm.TheVariants as form
 
@@ -32,7 +32,7 @@ on_ok (Ok u) P Q f h = f h
 on_ok (Err e) P Q f h = h
 
 -- the text of one piece more
-pub piece_more : (head text new : List ℕ) (pieces : List Piece) (i : ℕ) (other : Piece) → i < length pieces → text ≡ head ++ flat_map piece_text (take i pieces) → new ≡ text ++ piece_text (get_or pieces i other)
+pub piece_more : (head text new : List ℕ) (pieces : List Fragment) (i : ℕ) (other : Fragment) → i < length pieces → text ≡ head ++ flat_map piece_text (take i pieces) → new ≡ text ++ piece_text (get_or pieces i other)
     → new ≡ head ++ flat_map piece_text (take (i + 1) pieces)
 piece_more head text new pieces i other lt e f = each_more piece_text head text new pieces i (get_or pieces i other) lt (get_or_default _ _ _ _ lt) e f
 
@@ -49,11 +49,11 @@ pub three_more : (o a m r : List ℕ) → ((o ++ a) ++ m) ++ r ≡ o ++ (a ++ (m
 three_more o a m r = simp append_assoc refl
 
 -- the second place
-abbrev pub second_of : (files : Files) (source : List ℕ) (s : Option Spot) → IsSecond files source s → Option (Second source)
+abbrev pub second_of : (files : Files) (source : List ℕ) (s : Option SecondPlace) → IsSecond files source s → Option (Second source)
 second_of files source None i = None
 second_of files source (Some s) i = Some (record { before = i.0; after = i.1; split = i.2 })
 
-pub second_same : (files : Files) (source : List ℕ) (s : Option Spot) (i : IsSecond files source s) → spot_text s ≡ second_text files (second_of files source s i)
+pub second_same : (files : Files) (source : List ℕ) (s : Option SecondPlace) (i : IsSecond files source s) → spot_text s ≡ second_text files (second_of files source s i)
 second_same files source None i = refl
 second_same files source (Some s) i =
     ap (λ told. spot_words told (line_shown s.at) s.column) i.4 ∙ ap (λ l. spot_words (is_of_several files) l s.column) i.3

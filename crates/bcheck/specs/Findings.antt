@@ -18,7 +18,7 @@ use Rattle.btools.specs.Programs.{HasFault, IsCodeOf}
 use Rattle.bcheck.specs.declared.compiled.Compiled.{Compiled}
 use Rattle.bcheck.specs.declared.excerpt.Excerpt.{Excerpt}
 use Rattle.bcheck.specs.declared.finding.Finding.{Finding}
-use Rattle.bcheck.specs.declared.finding.Spot.{Spot}
+use Rattle.bcheck.specs.declared.finding.SecondPlace.{SecondPlace}
 use Rattle.bcheck.specs.declared.finding.Severity.{Severity}
 use Rattle.bcheck.specs.declared.form.FindingForm.{FindingForm}
 use Rattle.bcheck.specs.declared.places.Milestone.{Milestone}
@@ -147,13 +147,13 @@ pub record IsExcerpt (source : List ℕ) (start : ℕ) (e : Excerpt) : Type 0 wh
   pub marked : 0 < e.marks
 
 -- the line of its file and the column are those of a place of the source
-abbrev pub IsSpot : Files → (source : List ℕ) → Spot → Type 0
+abbrev pub IsSpot : Files → (source : List ℕ) → SecondPlace → Type 0
 IsSpot files source s =
     (before : List ℕ) × (after : List ℕ) × (source ≡ before ++ after)
     × (line_shown s.at ≡ own_line files (line_number_after 1 before)) × (s.is_of_several ≡ is_of_several files)
     × (s.column ≡ column_after 1 before)
 
-abbrev pub IsSecond : Files → (source : List ℕ) → Option Spot → Type 0
+abbrev pub IsSecond : Files → (source : List ℕ) → Option SecondPlace → Type 0
 IsSecond files source s = IfSome s (IsSpot files source)
 
 -- the text has a finding of this code at this place more

@@ -4,16 +4,16 @@ use Rattle.std.specs.List.{flat_map}
 use Rattle.bsources.specs.Files.{line_shown}
 use Rattle.bcheck.specs.Checks.{shown_text, spot_words}
 use Rattle.btools.specs.Quoting.{file_text, json_text}
-use Rattle.bcheck.specs.declared.finding.Spot.{Spot}
-use Rattle.bcheck.specs.declared.pieces.Piece.{Piece}
-use Rattle.bcheck.specs.declared.pieces.Piece.TheVariants as piece
+use Rattle.bcheck.specs.declared.finding.SecondPlace.{SecondPlace}
+use Rattle.bcheck.specs.declared.pieces.Fragment.{Fragment}
+use Rattle.bcheck.specs.declared.pieces.Fragment.TheVariants as piece
 
 -- the line and the column of a second place, as an editor is told them
-abbrev pub spot_text : Option Spot → List ℕ
+abbrev pub spot_text : Option SecondPlace → List ℕ
 spot_text None = []
 spot_text (Some s) = spot_words s.is_of_several (line_shown s.at) s.column
 
-abbrev pub piece_text : Piece → List ℕ
+abbrev pub piece_text : Fragment → List ℕ
 piece_text (piece.Words words) = words.now
 piece_text (piece.Number n) = decimal n
 piece_text (piece.Quoted words) = json_text words.now

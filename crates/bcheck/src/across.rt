@@ -1,6 +1,6 @@
 //! Comments that begin in one file of a source and end in another one.
 use crate::finding::Place;
-use crate::spans::{Source, is_last};
+use crate::spans::{SourceText, is_last};
 use blex::{PlacedPiece, Scanner};
 use bsources::SourceFiles;
 use std::alloc::{AllocError, Global};
@@ -8,7 +8,7 @@ use std::alloc::{AllocError, Global};
 /// The comments of a source that begin in one file and end in another one.
 pub(crate) fn comments_across(
     alloc: Global,
-    source: Source<'_>,
+    source: SourceText<'_>,
     files: &SourceFiles<'_>,
 ) -> Result<Vec<Place>, AllocError> {
     let mut found = Vec::new(alloc);

@@ -7,7 +7,7 @@ use blex::Lexeme;
 
 /// In which part of a definition a token is.
 #[derive(Clone, Copy, PartialEq, Eq)]
-pub(crate) enum Part {
+pub(crate) enum Region {
     /// It is the first one.
     Start,
     /// In an external.
@@ -22,7 +22,7 @@ pub(crate) enum Part {
 #[derive(Clone, Copy)]
 pub(crate) struct Around {
     pub token: usize,
-    pub part: Part,
+    pub part: Region,
     /// The first token of its statement, or of its definition.
     pub first: usize,
     /// The innermost bracket that is open before it.
@@ -95,20 +95,20 @@ pub(crate) fn is_heading(spans: &Spans, colon: usize) -> bool {
     ) || lexeme_at(spans, colon.wrapping_sub(1)) == Lexeme::Keyword(Keyword::Default)
 }
 
-fn part_of(spans: &Spans, extent: Extent, token: usize) -> Part {
+fn part_of(spans: &Spans, extent: Extent, token: usize) -> Region {
     if token == extent.first {
-        return Part::Start;
+        return Region::Start;
     }
     let second = extent.first.saturating_add(1);
     if token <= second || lexeme_at(spans, second) != Lexeme::OpenParen {
-        return Part::External;
+        return Region::External;
     }
     for at in second..token {
         if lexeme_at(spans, at) == Lexeme::CloseParen {
-            return Part::Body;
+            return Region::Body;
         }
     }
-    Part::Header
+    Region::Header
 }
 
 impl Around {

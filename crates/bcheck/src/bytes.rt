@@ -4,7 +4,7 @@ ghost use Rattle.std.specs.Prelude.{◌∷◌, [], IsTrue};
 ghost use Rattle.bcheck.specs.Checks.{is_on_line};
 
 use crate::finding::Place;
-use crate::spans::letter_length;
+use crate::spans::utf8_length;
 
 /// A byte that begins no token.
 #[derive(Clone, Copy)]
@@ -181,7 +181,7 @@ fn within(place: &Place, text: &[u8], index: usize, wrong: Constant) -> Place {
     let (from, len) = match wrong {
         Constant::Unclosed => (0, 1),
         Constant::Escape => (index.saturating_sub(1), 2),
-        _ => (index, letter_length(text.get(index..).unwrap_or(&[]))),
+        _ => (index, utf8_length(text.get(index..).unwrap_or(&[]))),
     };
     Place {
         line: place.line,

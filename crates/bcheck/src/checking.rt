@@ -7,7 +7,7 @@ ghost use Rattle.bcheck.specs.declared.form.FindingForm.{FindingForm};
 
 use crate::explain::explain;
 use crate::form::{FindingForm, Request};
-use crate::spans::Source;
+use crate::spans::SourceText;
 use crate::verdict::{Verdict, judge};
 use blang::status::{self, Status};
 use btools::{Text, tell};
@@ -32,7 +32,7 @@ pub fn check<O: ByteOut>(alloc: Global, source: &[u8], asked: Request<'_>, out: 
     }) }
     ensures out_lender { O.lender out.new ≡ O.lender out.old }
 {
-    let text = Source {
+    let text = SourceText {
         text: source,
         edition: asked.edition,
     };

@@ -2,7 +2,7 @@
 ghost use Rattle.std.specs.Prelude.{IfOk, None};
 ghost use Rattle.bcheck.specs.Findings.{IsCompiled};
 
-use crate::spans::Source;
+use crate::spans::SourceText;
 use blang::{Definition, Diagnostic};
 use bparse::{CodeOut, Compiler, Step, Watcher};
 use btools::compile_source;
@@ -52,7 +52,7 @@ impl Compiled {
 }
 
 /// Compiles a source.
-pub(crate) fn compile(alloc: Global, source: Source<'_>) -> Result<Compiled, AllocError>
+pub(crate) fn compile(alloc: Global, source: SourceText<'_>) -> Result<Compiled, AllocError>
     ensures { IfOk result (IsCompiled source.entry.edition source.entry.text.now) }
 {
     let mut counter = TokenCounter::new(alloc);

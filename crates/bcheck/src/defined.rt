@@ -3,7 +3,7 @@ use crate::brackets::Brackets;
 use crate::compiled::Extent;
 use crate::finding::Place;
 use crate::kinds::is_ended;
-use crate::spans::{Source, SpanReader, Spans, lexeme_at, name_at, place_of};
+use crate::spans::{SourceText, SpanReader, Spans, lexeme_at, name_at, place_of};
 use blang::Keyword;
 use blex::Lexeme;
 use bnames::{NameTable, Probes};
@@ -29,19 +29,19 @@ pub(crate) enum What {
 
 /// A definition, and where it begins.
 #[derive(Clone, Copy)]
-pub(crate) struct Definition {
+pub(crate) struct PlacedDefinition {
     pub place: Place,
     pub what: What,
 }
 
-impl Definition {
+impl PlacedDefinition {
     fn new(spans: &Spans, brackets: &Brackets, extent: Extent) -> Self {
         let what = if is_function(spans, extent) {
             function(spans, brackets, extent)
         } else {
             external(spans, brackets, extent)
         };
-        Definition {
+        PlacedDefinition {
             place: place_of(spans, extent.first),
             what,
         }
@@ -116,7 +116,7 @@ fn external(spans: &Spans, brackets: &Brackets, extent: Extent) -> What {
 /// The definitions of a source, and their places among them by their names.
 #[derive(Drop)]
 pub(crate) struct Defined {
-    all: Vec<Definition>,
+    all: Vec<PlacedDefinition>,
     names: NameTable,
 }
 
@@ -124,7 +124,7 @@ impl Defined {
     /// Those of a source that compiles, whose last tokens these places come after.
     pub(crate) fn read(
         alloc: Global,
-        source: Source<'_>,
+        source: SourceText<'_>,
         ends: &[usize],
     ) -> Result<Self, AllocError> {
         let mut defined = Defined {
@@ -156,12 +156,13 @@ impl Defined {
                 return Err(AllocError);
             };
         }
-        self.all.push(Definition::new(spans, brackets, extent))?;
+        self.all
+            .push(PlacedDefinition::new(spans, brackets, extent))?;
         Ok(())
     }
 
     /// The one of this name.
-    pub(crate) fn find(&self, name: &Name) -> Option<Definition> {
+    pub(crate) fn find(&self, name: &Name) -> Option<PlacedDefinition> {
         let place = self.names.find(name, &mut Probes::new())?;
         self.all.get(usize::try_from(place).ok()?).copied()
     }

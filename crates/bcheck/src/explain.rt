@@ -15,9 +15,9 @@ use crate::defined::Defined;
 use crate::excerpt::excerpt_at;
 use crate::finding::{Finding, Told};
 use crate::form::{FindingForm, Request};
-use crate::patterns::{Tokens, add_comments, find};
+use crate::patterns::{DefinitionTokens, add_comments, find};
 use crate::places::{milestones, place_on, spot_of};
-use crate::spans::{Source, SpanReader, Spans, place_of};
+use crate::spans::{SourceText, SpanReader, Spans, place_of};
 use crate::unknown::undefined_name;
 use crate::verdict::{Judgement, Verdict};
 use crate::words::Words;
@@ -30,7 +30,7 @@ use std::alloc::{AllocError, Global};
 /// What is said of a source with this verdict.
 pub(crate) fn explain(
     alloc: Global,
-    source: Source<'_>,
+    source: SourceText<'_>,
     asked: Request<'_>,
     judgement: &Judgement,
 ) -> Result<Text, AllocError>
@@ -70,7 +70,7 @@ pub(crate) fn explain(
 
 fn findings(
     alloc: Global,
-    source: Source<'_>,
+    source: SourceText<'_>,
     files: &SourceFiles<'_>,
     judgement: &Judgement,
 ) -> Result<Vec<Finding>, AllocError>
@@ -98,7 +98,7 @@ fn findings(
 // What is said of the error that a source has, if it has one.
 fn error_of(
     alloc: Global,
-    source: Source<'_>,
+    source: SourceText<'_>,
     judgement: &Judgement,
 ) -> Result<Option<Finding>, AllocError>
     requires judged { Judged source.edition source.text.now judgement.now.verdict }
@@ -123,7 +123,7 @@ fn error_of(
 // What is said of the fault that a source has, on its line.
 fn fault_of(
     alloc: Global,
-    source: Source<'_>,
+    source: SourceText<'_>,
     compiled: &Compiled,
     diagnostic: &Diagnostic,
 ) -> Result<Finding, AllocError>
@@ -144,7 +144,7 @@ fn fault_of(
 // What is said of code that doesn't load.
 fn unloaded(
     alloc: Global,
-    source: Source<'_>,
+    source: SourceText<'_>,
     compiled: &Compiled,
     fault: &LoadFault,
 ) -> Result<Finding, AllocError>
@@ -162,7 +162,7 @@ fn unloaded(
 // What compiles and is probably a mistake.
 fn warnings(
     alloc: Global,
-    source: Source<'_>,
+    source: SourceText<'_>,
     files: &SourceFiles<'_>,
     ends: &[usize],
 ) -> Result<Vec<Finding>, AllocError> {
@@ -182,7 +182,7 @@ fn warnings(
         add_comments(comments.as_slice(), last, reader.end, &mut findings)?;
         last = reader.end;
         let brackets = Brackets::new(alloc, &spans)?;
-        let tokens = Tokens {
+        let tokens = DefinitionTokens {
             source: source.text,
             spans: &spans,
             brackets: &brackets,

@@ -10,8 +10,8 @@ use crate::compiled::{Compiled, Extent};
 use crate::finding::{Finding, Place};
 use crate::foreign::{Foreign, word_at_fault};
 use crate::limits::limit_of;
-use crate::spans::{Source, SpanReader, Spans, is_next_line, lexeme_at, name_at, place_of};
-use crate::syntax::{self, Mark, Syntax};
+use crate::spans::{SourceText, SpanReader, Spans, is_next_line, lexeme_at, name_at, place_of};
+use crate::syntax::{self, Marking, Syntax};
 use crate::unknown::{Lvalue, Unknown, unknown_name, without_address};
 use bcode::read_code;
 use blang::{About, Diagnostic, Letters, MAX_NESTING};
@@ -34,7 +34,7 @@ struct Fault {
 /// What is said of the fault of a source.
 pub(crate) fn finding(
     alloc: Global,
-    source: Source<'_>,
+    source: SourceText<'_>,
     compiled: &Compiled,
     diagnostic: Diagnostic,
 ) -> Result<Finding, AllocError>
@@ -58,7 +58,7 @@ pub(crate) fn finding(
 }
 
 // What is said of a fault, but for a name that is there already.
-fn finding_of(alloc: Global, source: Source<'_>, spans: &Spans, fault: &Fault) -> Finding
+fn finding_of(alloc: Global, source: SourceText<'_>, spans: &Spans, fault: &Fault) -> Finding
     ensures { matter_code result.matter ≡ diagnostic_code fault.now.diagnostic }
 {
     let diagnostic = &fault.diagnostic;
@@ -102,7 +102,7 @@ fn constant(source: &[u8], place: Place) -> Finding
 
 // What is said of a name that is there already, with its first place in the definition, or its definition.
 fn again(
-    source: Source<'_>,
+    source: SourceText<'_>,
     compiled: &Compiled,
     spans: &Spans,
     fault: &Fault,
@@ -126,7 +126,7 @@ fn again(
 }
 
 // Where one of the definitions that were written begins with this name.
-fn definition_of(source: Source<'_>, compiled: &Compiled, name: Name) -> Option<Place> {
+fn definition_of(source: SourceText<'_>, compiled: &Compiled, name: Name) -> Option<Place> {
     let mut reader = SpanReader::new(source);
     let mut token = 0;
     for end in compiled.ends.as_slice() {
@@ -235,12 +235,12 @@ fn foreign(spans: &Spans, around: &Around, word: usize, meaning: Foreign, line: 
 }
 
 // The place that is marked, if it is on this line, and else the token itself.
-fn marked(spans: &Spans, around: &Around, mark: Mark, line: u64) -> Place {
+fn marked(spans: &Spans, around: &Around, mark: Marking, line: u64) -> Place {
     let token = match mark {
-        Mark::Here => around.token,
-        Mark::Before => around.token.wrapping_sub(1),
-        Mark::First => around.first,
-        Mark::Head => around.head(),
+        Marking::Here => around.token,
+        Marking::Before => around.token.wrapping_sub(1),
+        Marking::First => around.first,
+        Marking::Head => around.head(),
     };
     on_line(spans, token, around.token, line)
 }

@@ -47,7 +47,7 @@ impl Finding {
 
 /// The line and the column of a second place.
 #[derive(Clone, Copy)]
-pub(crate) struct Spot<'a> {
+pub(crate) struct SecondPlace<'a> {
     pub at: FileLine<'a>,
     /// Whether the source has several files.
     pub is_of_several: bool,
@@ -59,7 +59,7 @@ pub(crate) struct Spot<'a> {
 pub(crate) struct Told<'a> {
     pub at: FileLine<'a>,
     pub excerpt: Excerpt<'a>,
-    pub second: Option<Spot<'a>>,
+    pub second: Option<SecondPlace<'a>>,
     pub severity: Severity,
     pub words: &'a Words,
 }

@@ -10,7 +10,7 @@ use bword::BinOp;
 
 /// How far the judgement of a function has come.
 #[derive(Clone, Copy)]
-pub(crate) struct Flow {
+pub(crate) struct Judgement {
     /// Whether a label or an address has ended it.
     is_over: bool,
     /// The tokens of the loop around.
@@ -23,9 +23,9 @@ pub(crate) struct Flow {
     pending: Option<usize>,
 }
 
-impl Flow {
+impl Judgement {
     pub(crate) fn new() -> Self {
-        Flow {
+        Judgement {
             is_over: false,
             loop_first: 0,
             loop_end: 0,

@@ -7,7 +7,7 @@ ghost use Rattle.bsources.specs.Files.{Files, line_shown, own_line};
 ghost use Rattle.bcheck.specs.declared.form.FindingForm.TheVariants as form;
 
 use crate::finding::Told;
-use crate::pieces::{Piece, push_all, push_second};
+use crate::pieces::{Fragment, push_all, push_second};
 use btools::Text;
 use std::alloc::AllocError;
 
@@ -24,22 +24,22 @@ pub(crate) fn write(text: &mut Text, told: &Told<'_>) -> Result<(), AllocError>
     push_all(
         text,
         &[
-            Piece::Words(b"{\"file\":"),
-            Piece::Quoted(told.at.file.as_bytes()),
-            Piece::Words(b",\"line\":"),
-            Piece::Number(told.at.line),
-            Piece::Words(b",\"column\":"),
-            Piece::Number(excerpt.column as u64),
-            Piece::Words(b",\"severity\":\""),
-            Piece::Words(told.severity.word()),
-            Piece::Words(b"\",\"code\":"),
-            Piece::Quoted(told.words.code.as_bytes()),
-            Piece::Words(b",\"message\":"),
-            Piece::Quoted(told.words.sentence.as_slice()),
-            Piece::Words(b",\"fix\":"),
-            Piece::Quoted(told.words.fix.as_slice()),
-            Piece::Words(b",\"end\":"),
-            Piece::Number(excerpt.mark_end()),
+            Fragment::Words(b"{\"file\":"),
+            Fragment::Quoted(told.at.file.as_bytes()),
+            Fragment::Words(b",\"line\":"),
+            Fragment::Number(told.at.line),
+            Fragment::Words(b",\"column\":"),
+            Fragment::Number(excerpt.column as u64),
+            Fragment::Words(b",\"severity\":\""),
+            Fragment::Words(told.severity.word()),
+            Fragment::Words(b"\",\"code\":"),
+            Fragment::Quoted(told.words.code.as_bytes()),
+            Fragment::Words(b",\"message\":"),
+            Fragment::Quoted(told.words.sentence.as_slice()),
+            Fragment::Words(b",\"fix\":"),
+            Fragment::Quoted(told.words.fix.as_slice()),
+            Fragment::Words(b",\"end\":"),
+            Fragment::Number(excerpt.mark_end()),
         ],
     )?;
     push_second(text, told.second)?;

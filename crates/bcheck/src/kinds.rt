@@ -5,7 +5,7 @@ use bword::{BinOp, Name};
 
 /// Which tokens fit a place of a pattern.
 #[derive(Clone, Copy)]
-pub(crate) enum Kind {
+pub(crate) enum TokenTest {
     Any,
     /// This one alone.
     Is(Lexeme),
@@ -42,34 +42,34 @@ const TYPES: [&str; 13] = [
     "const", "static", "struct",
 ];
 
-impl Kind {
+impl TokenTest {
     /// Whether a token fits.
     pub(crate) fn fits(&self, lexeme: &Lexeme) -> bool {
         match self {
-            Kind::Any => true,
-            Kind::Is(one) => *lexeme == *one,
-            Kind::Word(word) => is_word(lexeme, word),
-            Kind::Type => is_type(lexeme),
-            Kind::Name => matches!(lexeme, Lexeme::Name(_)),
-            Kind::Constant => matches!(lexeme, Lexeme::Number(_) | Lexeme::Character(_)),
-            Kind::Operand => is_operand(lexeme),
-            Kind::Ended => is_ended(lexeme),
-            Kind::Keyword => matches!(lexeme, Lexeme::Keyword(_)),
-            Kind::Operator => matches!(lexeme, Lexeme::Operator(_)),
-            Kind::Assigns => matches!(lexeme, Lexeme::Assign(_)),
-            Kind::Waits => waits(lexeme),
-            Kind::Compares => matches!(lexeme, Lexeme::Operator(BinOp::Eq | BinOp::Ne)),
-            Kind::Relates => matches!(
+            TokenTest::Any => true,
+            TokenTest::Is(one) => *lexeme == *one,
+            TokenTest::Word(word) => is_word(lexeme, word),
+            TokenTest::Type => is_type(lexeme),
+            TokenTest::Name => matches!(lexeme, Lexeme::Name(_)),
+            TokenTest::Constant => matches!(lexeme, Lexeme::Number(_) | Lexeme::Character(_)),
+            TokenTest::Operand => is_operand(lexeme),
+            TokenTest::Ended => is_ended(lexeme),
+            TokenTest::Keyword => matches!(lexeme, Lexeme::Keyword(_)),
+            TokenTest::Operator => matches!(lexeme, Lexeme::Operator(_)),
+            TokenTest::Assigns => matches!(lexeme, Lexeme::Assign(_)),
+            TokenTest::Waits => waits(lexeme),
+            TokenTest::Compares => matches!(lexeme, Lexeme::Operator(BinOp::Eq | BinOp::Ne)),
+            TokenTest::Relates => matches!(
                 lexeme,
                 Lexeme::Operator(BinOp::Lt | BinOp::Le | BinOp::Gt | BinOp::Ge)
             ),
-            Kind::Bits => matches!(lexeme, Lexeme::Operator(BinOp::And | BinOp::Or)),
-            Kind::Closes => closes(lexeme),
+            TokenTest::Bits => matches!(lexeme, Lexeme::Operator(BinOp::And | BinOp::Or)),
+            TokenTest::Closes => closes(lexeme),
         }
     }
 
     /// Whether each token is of its kind.
-    pub(crate) fn fit(kinds: &[Kind; 5], tokens: &[Lexeme; 5]) -> bool {
+    pub(crate) fn fit(kinds: &[TokenTest; 5], tokens: &[Lexeme; 5]) -> bool {
         for index in 0..5 {
             if !kinds[index].fits(&tokens[index]) {
                 return false;

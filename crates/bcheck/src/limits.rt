@@ -36,7 +36,7 @@ impl Limit {
 
 /// How many words of strings, initial values and words of its own a definition has.
 #[derive(Clone, Copy)]
-struct Sizes {
+struct WordCounts {
     strings: usize,
     values: usize,
     words: u64,
@@ -59,8 +59,8 @@ pub(crate) fn limit_of(source: &[u8], spans: &Spans, extent: Extent) -> Limit {
     }
 }
 
-fn sizes_of(source: &[u8], spans: &Spans, extent: Extent) -> Sizes {
-    let mut sizes = Sizes {
+fn sizes_of(source: &[u8], spans: &Spans, extent: Extent) -> WordCounts {
+    let mut sizes = WordCounts {
         strings: 0,
         values: 1,
         words: 0,

@@ -1,7 +1,7 @@
 //! The names that a function declares.
 use crate::compiled::Extent;
 use crate::flow::{is_address, is_target};
-use crate::kinds::{Kind, is_word};
+use crate::kinds::{TokenTest, is_word};
 use crate::spans::{Spans, lexeme_at, name_at};
 use blang::Keyword;
 use blex::Lexeme;
@@ -10,7 +10,7 @@ use std::alloc::{AllocError, Global};
 
 /// As what a name is declared.
 #[derive(Clone, Copy, PartialEq, Eq)]
-pub(crate) enum Role {
+pub(crate) enum NameRole {
     Parameter,
     Auto,
     /// A vector with this last index.
@@ -22,7 +22,7 @@ pub(crate) enum Role {
 #[derive(Clone, Copy)]
 pub(crate) struct Local {
     pub name: Name,
-    pub role: Role,
+    pub role: NameRole,
     /// How often the function has it, but for the declaration.
     pub uses: u64,
     /// How often it is followed by an index.
@@ -64,13 +64,13 @@ fn is_read(spans: &Spans, token: usize) -> bool {
 fn is_as_word(spans: &Spans, token: usize) -> bool {
     let before = lexeme_at(spans, token.wrapping_sub(1));
     let next = lexeme_at(spans, token.wrapping_add(1));
-    let is_compared = Kind::Compares.fits(&next) || Kind::Relates.fits(&next);
+    let is_compared = TokenTest::Compares.fits(&next) || TokenTest::Relates.fits(&next);
     matches!(before, Lexeme::Increment | Lexeme::Decrement)
         || matches!(
             next,
             Lexeme::Assign(_) | Lexeme::Increment | Lexeme::Decrement
         )
-        || (is_compared && Kind::Constant.fits(&lexeme_at(spans, token.wrapping_add(2))))
+        || (is_compared && TokenTest::Constant.fits(&lexeme_at(spans, token.wrapping_add(2))))
 }
 
 /// The names that a function declares, at most 128.
@@ -88,11 +88,11 @@ impl Locals {
             all: Vec::new(alloc),
             defaults: 0,
         };
-        let mut role = Some(Role::Parameter);
+        let mut role = Some(NameRole::Parameter);
         for token in function.first.saturating_add(1)..function.end {
             match lexeme_at(spans, token) {
-                Lexeme::Keyword(Keyword::Auto) => role = Some(Role::Auto),
-                Lexeme::Keyword(Keyword::Extrn) => role = Some(Role::External),
+                Lexeme::Keyword(Keyword::Auto) => role = Some(NameRole::Auto),
+                Lexeme::Keyword(Keyword::Extrn) => role = Some(NameRole::External),
                 Lexeme::Semicolon | Lexeme::CloseParen => role = None,
                 _ => locals.meet(spans, token, role)?,
             }
@@ -101,7 +101,12 @@ impl Locals {
     }
 
     // Adds the name that this token is, if it declares one, and else counts it.
-    fn meet(&mut self, spans: &Spans, token: usize, role: Option<Role>) -> Result<(), AllocError> {
+    fn meet(
+        &mut self,
+        spans: &Spans,
+        token: usize,
+        role: Option<NameRole>,
+    ) -> Result<(), AllocError> {
         let Some(name) = name_at(spans, token) else {
             return Ok(());
         };
@@ -119,10 +124,10 @@ impl Locals {
         spans: &Spans,
         token: usize,
         name: Name,
-        role: Role,
+        role: NameRole,
     ) -> Result<(), AllocError> {
         let role = match (role, lexeme_at(spans, token.wrapping_add(1))) {
-            (Role::Auto, Lexeme::Number(last)) => Role::Vector(last),
+            (NameRole::Auto, Lexeme::Number(last)) => NameRole::Vector(last),
             _ => role,
         };
         self.all.push(Local {
@@ -133,7 +138,7 @@ impl Locals {
             as_word: 0,
             sets: 0,
             is_input: false,
-            is_set: role != Role::Auto,
+            is_set: role != NameRole::Auto,
         })?;
         Ok(())
     }

@@ -8,9 +8,9 @@ use crate::defined::{Defined, What, is_function};
 use crate::effects::statement;
 use crate::ends::end_compared;
 use crate::finding::{Finding, Place};
-use crate::flow::Flow;
-use crate::kinds::Kind;
-use crate::locals::{Locals, Role};
+use crate::flow::Judgement;
+use crate::kinds::TokenTest;
+use crate::locals::{Locals, NameRole};
 use crate::near::library_arguments;
 use crate::outside::outside;
 use crate::spans::{Spans, is_joined, lexeme_at, name_at, place_of};
@@ -25,7 +25,7 @@ const MOST_WARNINGS: usize = 100;
 
 /// The tokens of a definition of a source that compiles, with all that it defines.
 #[derive(Clone, Copy)]
-pub(crate) struct Tokens<'a> {
+pub(crate) struct DefinitionTokens<'a> {
     pub source: &'a [u8],
     pub spans: &'a Spans,
     pub brackets: &'a Brackets,
@@ -115,7 +115,7 @@ fn add_comment(place: Place, findings: &mut Vec<Finding>) -> Result<(), AllocErr
 /// Adds what is found in a definition.
 pub(crate) fn find(
     alloc: Global,
-    tokens: &Tokens<'_>,
+    tokens: &DefinitionTokens<'_>,
     definition: Extent,
     findings: &mut Vec<Finding>,
 ) -> Result<(), AllocError> {
@@ -130,13 +130,13 @@ pub(crate) fn find(
 // Adds what is found in a function.
 fn find_in(
     alloc: Global,
-    tokens: &Tokens<'_>,
+    tokens: &DefinitionTokens<'_>,
     function: Extent,
     findings: &mut Vec<Finding>,
 ) -> Result<(), AllocError> {
     let spans = tokens.spans;
     let mut locals = Locals::new(alloc, spans, function)?;
-    let mut flow = Flow::new();
+    let mut flow = Judgement::new();
     let mut declares = None;
     let body = tokens
         .brackets
@@ -172,7 +172,7 @@ fn unset(spans: &Spans, token: usize) -> Option<Found> {
 }
 
 // What is found of a name that `auto` declares.
-fn declared(tokens: &Tokens<'_>, locals: &Locals, token: usize) -> Option<Found> {
+fn declared(tokens: &DefinitionTokens<'_>, locals: &Locals, token: usize) -> Option<Found> {
     let Lexeme::Name(name) = lexeme_at(tokens.spans, token) else {
         return None;
     };
@@ -180,7 +180,7 @@ fn declared(tokens: &Tokens<'_>, locals: &Locals, token: usize) -> Option<Found>
     if local.uses == 0 {
         return Found::of_name(token, Warning::NeverUsed, name);
     }
-    if matches!(local.role, Role::Vector(_)) && local.indexed == 0 && local.as_word > 0 {
+    if matches!(local.role, NameRole::Vector(_)) && local.indexed == 0 && local.as_word > 0 {
         return Found::of_name(token, Warning::VectorForWord, name);
     }
     if let Some(definition) = tokens.defined.find(&name) {
@@ -211,66 +211,66 @@ enum If {
 
 /// The two tokens before, a token and the two after it; what else is so, and what is said, if anything.
 #[derive(Clone, Copy)]
-struct Row([Kind; 5], If, Option<Warning>);
+struct PatternRow([TokenTest; 5], If, Option<Warning>);
 
-const ANY: Kind = Kind::Any;
+const ANY: TokenTest = TokenTest::Any;
 
-const AND: Kind = Kind::Is(Lexeme::Operator(BinOp::And));
+const AND: TokenTest = TokenTest::Is(Lexeme::Operator(BinOp::And));
 
-const MUL: Kind = Kind::Is(Lexeme::Operator(BinOp::Mul));
+const MUL: TokenTest = TokenTest::Is(Lexeme::Operator(BinOp::Mul));
 
-const NOT: Kind = Kind::Is(Lexeme::Not);
+const NOT: TokenTest = TokenTest::Is(Lexeme::Not);
 
-const STRING: Kind = Kind::Is(Lexeme::String);
+const STRING: TokenTest = TokenTest::Is(Lexeme::String);
 
-const OPEN_PAREN: Kind = Kind::Is(Lexeme::OpenParen);
+const OPEN_PAREN: TokenTest = TokenTest::Is(Lexeme::OpenParen);
 
-const CLOSE_PAREN: Kind = Kind::Is(Lexeme::CloseParen);
+const CLOSE_PAREN: TokenTest = TokenTest::Is(Lexeme::CloseParen);
 
-const COMMA: Kind = Kind::Is(Lexeme::Comma);
+const COMMA: TokenTest = TokenTest::Is(Lexeme::Comma);
 
-const EIGHT: Kind = Kind::Is(Lexeme::Number(8));
+const EIGHT: TokenTest = TokenTest::Is(Lexeme::Number(8));
 
-const TEN: Kind = Kind::Is(Lexeme::Number(10));
+const TEN: TokenTest = TokenTest::Is(Lexeme::Number(10));
 
-const CHAR: Kind = Kind::Word("char");
+const CHAR: TokenTest = TokenTest::Word("char");
 
-const LCHAR: Kind = Kind::Word("lchar");
+const LCHAR: TokenTest = TokenTest::Word("lchar");
 
-const PRINTN: Kind = Kind::Word("printn");
+const PRINTN: TokenTest = TokenTest::Word("printn");
 
-const PUTCHAR: Kind = Kind::Word("putchar");
+const PUTCHAR: TokenTest = TokenTest::Word("putchar");
 
 /// The first row that fits is the one.
 #[rattlefmt::skip]
-const ROWS: [Row; 23] = [
-    Row([ANY, ANY, AND, AND, ANY], If::Joined, Some(Warning::AndAnd)),
-    Row([ANY, Kind::Ended, MUL, MUL, ANY], If::Joined, Some(Warning::Power)),
-    Row([ANY, ANY, Kind::Is(Lexeme::Assign(Some(BinOp::Sub))), ANY, ANY], If::Joined, Some(Warning::OperatorAssigns)),
-    Row([ANY, ANY, Kind::Is(Lexeme::Assign(Some(BinOp::Mul))), ANY, ANY], If::Joined, Some(Warning::OperatorAssigns)),
-    Row([ANY, ANY, Kind::Is(Lexeme::Assign(Some(BinOp::And))), ANY, ANY], If::Joined, Some(Warning::OperatorAssigns)),
-    Row([ANY, ANY, Kind::Bits, Kind::Constant, Kind::Compares], If::Always, Some(Warning::BitsCompared)),
-    Row([Kind::Relates, Kind::Operand, Kind::Relates, ANY, ANY], If::Always, Some(Warning::ComparesTwice)),
-    Row([Kind::Compares, Kind::Operand, Kind::Compares, ANY, ANY], If::Always, Some(Warning::ComparesTwice)),
-    Row([NOT, Kind::Operand, Kind::Compares, NOT, ANY], If::Always, None),
-    Row([NOT, Kind::Operand, Kind::Compares, ANY, ANY], If::Always, Some(Warning::NotCompared)),
-    Row([NOT, Kind::Operand, Kind::Relates, ANY, ANY], If::Always, Some(Warning::NotCompared)),
-    Row([ANY, Kind::Relates, Kind::Constant, ANY, ANY], If::Large, Some(Warning::NegativeNumber)),
-    Row([ANY, ANY, Kind::Constant, Kind::Relates, ANY], If::Large, Some(Warning::NegativeNumber)),
-    Row([PRINTN, OPEN_PAREN, EIGHT, COMMA, Kind::Name], If::Always, Some(Warning::SwappedArguments)),
-    Row([PRINTN, OPEN_PAREN, TEN, COMMA, Kind::Name], If::Always, Some(Warning::SwappedArguments)),
-    Row([CHAR, OPEN_PAREN, Kind::Constant, COMMA, ANY], If::Always, Some(Warning::SwappedArguments)),
-    Row([LCHAR, OPEN_PAREN, Kind::Constant, COMMA, ANY], If::Always, Some(Warning::SwappedArguments)),
-    Row([PRINTN, OPEN_PAREN, STRING, Kind::Closes, ANY], If::Always, Some(Warning::StringForNumber)),
-    Row([PUTCHAR, OPEN_PAREN, STRING, CLOSE_PAREN, ANY], If::Short, Some(Warning::StringForCharacter)),
-    Row([PUTCHAR, OPEN_PAREN, STRING, CLOSE_PAREN, ANY], If::Always, Some(Warning::StringPut)),
-    Row([ANY, Kind::Compares, STRING, ANY, ANY], If::Short, Some(Warning::StringForCharacter)),
-    Row([ANY, Kind::Compares, STRING, ANY, ANY], If::Always, Some(Warning::StringCompared)),
-    Row([ANY, ANY, STRING, Kind::Compares, ANY], If::Always, Some(Warning::StringCompared)),
+const ROWS: [PatternRow; 23] = [
+    PatternRow([ANY, ANY, AND, AND, ANY], If::Joined, Some(Warning::AndAnd)),
+    PatternRow([ANY, TokenTest::Ended, MUL, MUL, ANY], If::Joined, Some(Warning::Power)),
+    PatternRow([ANY, ANY, TokenTest::Is(Lexeme::Assign(Some(BinOp::Sub))), ANY, ANY], If::Joined, Some(Warning::OperatorAssigns)),
+    PatternRow([ANY, ANY, TokenTest::Is(Lexeme::Assign(Some(BinOp::Mul))), ANY, ANY], If::Joined, Some(Warning::OperatorAssigns)),
+    PatternRow([ANY, ANY, TokenTest::Is(Lexeme::Assign(Some(BinOp::And))), ANY, ANY], If::Joined, Some(Warning::OperatorAssigns)),
+    PatternRow([ANY, ANY, TokenTest::Bits, TokenTest::Constant, TokenTest::Compares], If::Always, Some(Warning::BitsCompared)),
+    PatternRow([TokenTest::Relates, TokenTest::Operand, TokenTest::Relates, ANY, ANY], If::Always, Some(Warning::ComparesTwice)),
+    PatternRow([TokenTest::Compares, TokenTest::Operand, TokenTest::Compares, ANY, ANY], If::Always, Some(Warning::ComparesTwice)),
+    PatternRow([NOT, TokenTest::Operand, TokenTest::Compares, NOT, ANY], If::Always, None),
+    PatternRow([NOT, TokenTest::Operand, TokenTest::Compares, ANY, ANY], If::Always, Some(Warning::NotCompared)),
+    PatternRow([NOT, TokenTest::Operand, TokenTest::Relates, ANY, ANY], If::Always, Some(Warning::NotCompared)),
+    PatternRow([ANY, TokenTest::Relates, TokenTest::Constant, ANY, ANY], If::Large, Some(Warning::NegativeNumber)),
+    PatternRow([ANY, ANY, TokenTest::Constant, TokenTest::Relates, ANY], If::Large, Some(Warning::NegativeNumber)),
+    PatternRow([PRINTN, OPEN_PAREN, EIGHT, COMMA, TokenTest::Name], If::Always, Some(Warning::SwappedArguments)),
+    PatternRow([PRINTN, OPEN_PAREN, TEN, COMMA, TokenTest::Name], If::Always, Some(Warning::SwappedArguments)),
+    PatternRow([CHAR, OPEN_PAREN, TokenTest::Constant, COMMA, ANY], If::Always, Some(Warning::SwappedArguments)),
+    PatternRow([LCHAR, OPEN_PAREN, TokenTest::Constant, COMMA, ANY], If::Always, Some(Warning::SwappedArguments)),
+    PatternRow([PRINTN, OPEN_PAREN, STRING, TokenTest::Closes, ANY], If::Always, Some(Warning::StringForNumber)),
+    PatternRow([PUTCHAR, OPEN_PAREN, STRING, CLOSE_PAREN, ANY], If::Short, Some(Warning::StringForCharacter)),
+    PatternRow([PUTCHAR, OPEN_PAREN, STRING, CLOSE_PAREN, ANY], If::Always, Some(Warning::StringPut)),
+    PatternRow([ANY, TokenTest::Compares, STRING, ANY, ANY], If::Short, Some(Warning::StringForCharacter)),
+    PatternRow([ANY, TokenTest::Compares, STRING, ANY, ANY], If::Always, Some(Warning::StringCompared)),
+    PatternRow([ANY, ANY, STRING, TokenTest::Compares, ANY], If::Always, Some(Warning::StringCompared)),
 ];
 
 // What is found of a token that declares nothing.
-fn found_at(tokens: &Tokens<'_>, locals: &Locals, token: usize) -> Option<Found> {
+fn found_at(tokens: &DefinitionTokens<'_>, locals: &Locals, token: usize) -> Option<Found> {
     let (spans, brackets) = (tokens.spans, tokens.brackets);
     if let Some(warning) = by_row(tokens, token) {
         return Found::new(token, warning);
@@ -288,10 +288,10 @@ fn found_at(tokens: &Tokens<'_>, locals: &Locals, token: usize) -> Option<Found>
     }
 }
 
-fn by_row(tokens: &Tokens<'_>, token: usize) -> Option<Warning> {
+fn by_row(tokens: &DefinitionTokens<'_>, token: usize) -> Option<Warning> {
     let window = window(tokens.spans, token);
     for row in &ROWS {
-        if Kind::fit(&row.0, &window) && holds(row.1, tokens, token) {
+        if TokenTest::fit(&row.0, &window) && holds(row.1, tokens, token) {
             return row.2;
         }
     }
@@ -308,7 +308,7 @@ fn window(spans: &Spans, token: usize) -> [Lexeme; 5] {
     ]
 }
 
-fn holds(condition: If, tokens: &Tokens<'_>, token: usize) -> bool {
+fn holds(condition: If, tokens: &DefinitionTokens<'_>, token: usize) -> bool {
     match condition {
         If::Always => true,
         If::Joined => is_joined(tokens.spans, token),
@@ -318,7 +318,7 @@ fn holds(condition: If, tokens: &Tokens<'_>, token: usize) -> bool {
 }
 
 // The bytes of a token.
-fn text_of<'a>(tokens: &Tokens<'a>, token: usize) -> &'a [u8] {
+fn text_of<'a>(tokens: &DefinitionTokens<'a>, token: usize) -> &'a [u8] {
     match tokens.spans.get(token) {
         Some(span) => tokens
             .source
@@ -334,7 +334,7 @@ fn is_short(text: &[u8]) -> bool {
 }
 
 // A backslash before what is an escape in C.
-fn backslash(tokens: &Tokens<'_>, token: usize) -> Option<Found> {
+fn backslash(tokens: &DefinitionTokens<'_>, token: usize) -> Option<Found> {
     let text = text_of(tokens, token);
     for index in 1..text.len().saturating_sub(2) {
         let next = text.get(index.saturating_add(1));
@@ -348,7 +348,12 @@ fn backslash(tokens: &Tokens<'_>, token: usize) -> Option<Found> {
 }
 
 // What is found of a name.
-fn named(tokens: &Tokens<'_>, locals: &Locals, token: usize, name: Name) -> Option<Found> {
+fn named(
+    tokens: &DefinitionTokens<'_>,
+    locals: &Locals,
+    token: usize,
+    name: Name,
+) -> Option<Found> {
     let next = token.wrapping_add(1);
     match lexeme_at(tokens.spans, next) {
         Lexeme::OpenBracket => indexed(tokens, locals, token, name),
@@ -360,7 +365,7 @@ fn named(tokens: &Tokens<'_>, locals: &Locals, token: usize, name: Name) -> Opti
 }
 
 // A label `default` that nothing else names, where the other edition has a keyword.
-fn default_label(tokens: &Tokens<'_>, locals: &Locals, token: usize) -> Option<Found> {
+fn default_label(tokens: &DefinitionTokens<'_>, locals: &Locals, token: usize) -> Option<Found> {
     if locals.defaults == 1 && may_begin(tokens.spans, token) {
         return Found::new(token, Warning::DefaultLabel);
     }
@@ -368,7 +373,12 @@ fn default_label(tokens: &Tokens<'_>, locals: &Locals, token: usize) -> Option<F
 }
 
 // A constant index past the vector of this name.
-fn past_vector(tokens: &Tokens<'_>, locals: &Locals, token: usize, name: Name) -> Option<Found> {
+fn past_vector(
+    tokens: &DefinitionTokens<'_>,
+    locals: &Locals,
+    token: usize,
+    name: Name,
+) -> Option<Found> {
     let spans = tokens.spans;
     let place = token.wrapping_add(2);
     let last = last_of(tokens, locals, &name)?;
@@ -390,7 +400,12 @@ fn past_vector(tokens: &Tokens<'_>, locals: &Locals, token: usize, name: Name) -
 }
 
 // What is found of a name that is compared, if a character of the input is in it.
-fn input_compared(tokens: &Tokens<'_>, locals: &Locals, token: usize, name: Name) -> Option<Found> {
+fn input_compared(
+    tokens: &DefinitionTokens<'_>,
+    locals: &Locals,
+    token: usize,
+    name: Name,
+) -> Option<Found> {
     let spans = tokens.spans;
     let wanted = token.wrapping_add(2);
     let is_minus_one = lexeme_at(spans, wanted) == Lexeme::Operator(BinOp::Sub)
@@ -402,9 +417,14 @@ fn input_compared(tokens: &Tokens<'_>, locals: &Locals, token: usize, name: Name
 }
 
 // What is found of a name with an index.
-fn indexed(tokens: &Tokens<'_>, locals: &Locals, token: usize, name: Name) -> Option<Found> {
+fn indexed(
+    tokens: &DefinitionTokens<'_>,
+    locals: &Locals,
+    token: usize,
+    name: Name,
+) -> Option<Found> {
     let local = locals.find(&name)?;
-    if local.role != Role::External || local.as_word > 0 {
+    if local.role != NameRole::External || local.as_word > 0 {
         return past_vector(tokens, locals, token, name);
     }
     match tokens.defined.find(&name)?.what {
@@ -414,12 +434,17 @@ fn indexed(tokens: &Tokens<'_>, locals: &Locals, token: usize, name: Name) -> Op
 }
 
 // What is found of a vector without an index.
-fn whole_vector(tokens: &Tokens<'_>, locals: &Locals, token: usize, name: Name) -> Option<Found> {
+fn whole_vector(
+    tokens: &DefinitionTokens<'_>,
+    locals: &Locals,
+    token: usize,
+    name: Name,
+) -> Option<Found> {
     let spans = tokens.spans;
     last_of(tokens, locals, &name)?;
     let before = token.wrapping_sub(1);
     let before_that = lexeme_at(spans, token.wrapping_sub(2));
-    let is_alone = Kind::Closes.fits(&lexeme_at(spans, token.wrapping_add(1)));
+    let is_alone = TokenTest::Closes.fits(&lexeme_at(spans, token.wrapping_add(1)));
     match lexeme_at(spans, before) {
         Lexeme::Operator(BinOp::And) if is_alone && begins_value(&before_that) => {
             Found::of_name(before, Warning::VectorAddress, name)
@@ -427,7 +452,7 @@ fn whole_vector(tokens: &Tokens<'_>, locals: &Locals, token: usize, name: Name) 
         Lexeme::OpenParen
             if is_alone
                 && before_that == Lexeme::Keyword(Keyword::Return)
-                && locals.find(&name)?.role != Role::External => {
+                && locals.find(&name)?.role != NameRole::External => {
             Found::of_name(token, Warning::ReturnsVector, name)
         }
         _ => None,
@@ -435,10 +460,10 @@ fn whole_vector(tokens: &Tokens<'_>, locals: &Locals, token: usize, name: Name) 
 }
 
 // The last index of the vector of this name.
-fn last_of(tokens: &Tokens<'_>, locals: &Locals, name: &Name) -> Option<u64> {
+fn last_of(tokens: &DefinitionTokens<'_>, locals: &Locals, name: &Name) -> Option<u64> {
     match locals.find(name)?.role {
-        Role::Vector(last) => Some(u64::from(last)),
-        Role::External => match tokens.defined.find(name)?.what {
+        NameRole::Vector(last) => Some(u64::from(last)),
+        NameRole::External => match tokens.defined.find(name)?.what {
             What::Vector(last) => Some(last),
             _ => None,
         },
@@ -447,9 +472,14 @@ fn last_of(tokens: &Tokens<'_>, locals: &Locals, name: &Name) -> Option<u64> {
 }
 
 // What is found of a call.
-fn called(tokens: &Tokens<'_>, locals: &Locals, token: usize, name: Name) -> Option<Found> {
+fn called(
+    tokens: &DefinitionTokens<'_>,
+    locals: &Locals,
+    token: usize,
+    name: Name,
+) -> Option<Found> {
     if let Some(local) = locals.find(&name) {
-        if local.role != Role::External {
+        if local.role != NameRole::External {
             return None;
         }
     }

@@ -4,13 +4,13 @@ ghost use Rattle.std.specs.Prelude.{◌≡◌, ◌<◌, ◌++◌, OnOk, Some, re
 ghost use Rattle.bcheck.specs.Checks.{file_member, shown_byte, shown_text};
 ghost use Rattle.bcheck.specs.Pieces.{piece_text, spot_text};
 
-use crate::finding::Spot;
+use crate::finding::SecondPlace;
 use btools::{Text, push_file, push_quoted};
 use std::alloc::AllocError;
 
 /// A piece of a text.
 #[derive(Clone, Copy)]
-pub(crate) enum Piece<'a> {
+pub(crate) enum Fragment<'a> {
     /// These bytes.
     Words(&'a [u8]),
     /// The digits of a number.
@@ -28,7 +28,7 @@ pub(crate) enum Piece<'a> {
 }
 
 /// Adds pieces, one after another.
-pub(crate) fn push_all(text: &mut Text, pieces: &[Piece<'_>]) -> Result<(), AllocError>
+pub(crate) fn push_all(text: &mut Text, pieces: &[Fragment<'_>]) -> Result<(), AllocError>
     ensures { OnOk result (text.new ≡ text.old ++ flat_map piece_text pieces.now) }
 {
     for piece in pieces {
@@ -38,7 +38,10 @@ pub(crate) fn push_all(text: &mut Text, pieces: &[Piece<'_>]) -> Result<(), Allo
 }
 
 /// Adds the line and the column of a second place, for an editor, if there is one.
-pub(crate) fn push_second(text: &mut Text, second: Option<Spot<'_>>) -> Result<(), AllocError>
+pub(crate) fn push_second(
+    text: &mut Text,
+    second: Option<SecondPlace<'_>>,
+) -> Result<(), AllocError>
     ensures { OnOk result (text.new ≡ text.old ++ spot_text second.entry) }
 {
     match second {
@@ -47,7 +50,7 @@ pub(crate) fn push_second(text: &mut Text, second: Option<Spot<'_>>) -> Result<(
     }
 }
 
-fn push_spot(text: &mut Text, spot: &Spot<'_>) -> Result<(), AllocError>
+fn push_spot(text: &mut Text, spot: &SecondPlace<'_>) -> Result<(), AllocError>
     ensures { OnOk result (text.new ≡ text.old ++ spot_text (Some spot.now)) }
 {
     text.push(b",\"related\":{")?;
@@ -55,16 +58,16 @@ fn push_spot(text: &mut Text, spot: &Spot<'_>) -> Result<(), AllocError>
     push_all(
         text,
         &[
-            Piece::Words(b"\"line\":"),
-            Piece::Number(spot.at.line),
-            Piece::Words(b",\"column\":"),
-            Piece::Number(spot.column as u64),
-            Piece::Words(b"}"),
+            Fragment::Words(b"\"line\":"),
+            Fragment::Number(spot.at.line),
+            Fragment::Words(b",\"column\":"),
+            Fragment::Number(spot.column as u64),
+            Fragment::Words(b"}"),
         ],
     )
 }
 
-fn push_file_of(text: &mut Text, spot: &Spot<'_>) -> Result<(), AllocError>
+fn push_file_of(text: &mut Text, spot: &SecondPlace<'_>) -> Result<(), AllocError>
     ensures { OnOk result (text.new ≡ text.old ++ file_member spot.now.is_of_several spot.now.at.file.now) }
 {
     if spot.is_of_several {
@@ -81,24 +84,24 @@ fn push_file_member(text: &mut Text, file: &[u8]) -> Result<(), AllocError>
     push_all(
         text,
         &[
-            Piece::Words(b"\"file\":"),
-            Piece::Quoted(file),
-            Piece::Words(b","),
+            Fragment::Words(b"\"file\":"),
+            Fragment::Quoted(file),
+            Fragment::Words(b","),
         ],
     )
 }
 
-fn push(text: &mut Text, piece: Piece<'_>) -> Result<(), AllocError>
+fn push(text: &mut Text, piece: Fragment<'_>) -> Result<(), AllocError>
     ensures { OnOk result (text.new ≡ text.old ++ piece_text piece.entry) }
 {
     match piece {
-        Piece::Words(words) => text.push(words),
-        Piece::Number(number) => text.push_number(number),
-        Piece::Quoted(words) => push_quoted(text, words),
-        Piece::File(name) => push_file(text, name),
-        Piece::Shown(bytes) => push_shown(text, bytes),
-        Piece::Blanks(count) => text.push_blanks(count),
-        Piece::Marks(count) => push_marks(text, count),
+        Fragment::Words(words) => text.push(words),
+        Fragment::Number(number) => text.push_number(number),
+        Fragment::Quoted(words) => push_quoted(text, words),
+        Fragment::File(name) => push_file(text, name),
+        Fragment::Shown(bytes) => push_shown(text, bytes),
+        Fragment::Blanks(count) => text.push_blanks(count),
+        Fragment::Marks(count) => push_marks(text, count),
     }
 }
 

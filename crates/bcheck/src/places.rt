@@ -7,7 +7,7 @@ ghost use Rattle.bcheck.specs.Findings.{Chooses, FindsOn, IsMilestone, IsSecond}
 ghost use Rattle.bcheck.specs.Tokens.{ends, is_on, is_token};
 ghost use Rattle.bsources.specs.Files.{files_shown};
 
-use crate::finding::{Place, Spot};
+use crate::finding::{Place, SecondPlace};
 use blex::{Lexeme, Lexer, PlacedPiece, Scanner};
 use bsources::SourceFiles;
 use bword::{Edition, MemIn};
@@ -109,7 +109,7 @@ pub(crate) fn spot_of<'a>(
     files: &SourceFiles<'a>,
     milestones: &[Milestone],
     place: &Option<Place>,
-) -> Option<Spot<'a>>
+) -> Option<SecondPlace<'a>>
     requires { All (IsMilestone source.now) milestones.now }
     ensures { IsSecond (files_shown files.now) source.now result }
 {
@@ -117,7 +117,7 @@ pub(crate) fn spot_of<'a>(
         return None;
     };
     let (line, column) = position(source, milestones, place.start);
-    Some(Spot {
+    Some(SecondPlace {
         at: files.own_line(line),
         is_of_several: !files.rest.is_empty(),
         column,

@@ -36,7 +36,7 @@ impl Span {
 
 /// A source in its edition.
 #[derive(Clone, Copy)]
-pub(crate) struct Source<'a> {
+pub(crate) struct SourceText<'a> {
     pub text: &'a [u8],
     pub edition: Edition,
 }
@@ -52,7 +52,7 @@ pub(crate) struct SpanReader<'a> {
 }
 
 impl<'a> SpanReader<'a> {
-    pub(crate) fn new(source: Source<'a>) -> Self {
+    pub(crate) fn new(source: SourceText<'a>) -> Self {
         SpanReader {
             text: source.text,
             scanner: Scanner::new(source.text, source.edition),
@@ -94,7 +94,7 @@ impl<'a> SpanReader<'a> {
     }
 }
 
-/// Tokens that stand one after another, each by its place among all tokens of the source.
+/// DefinitionTokens that stand one after another, each by its place among all tokens of the source.
 #[derive(Drop)]
 pub(crate) struct Spans {
     /// The place of the first one.
@@ -114,7 +114,7 @@ impl Spans {
     /// The tokens of a source from this place to that one, or to the last one.
     pub(crate) fn between(
         alloc: Global,
-        source: Source<'_>,
+        source: SourceText<'_>,
         extent: Extent,
     ) -> Result<Self, AllocError> {
         let mut reader = SpanReader::new(source);
@@ -214,13 +214,13 @@ fn marked(lexeme: &Lexeme, text: &[u8], len: usize) -> usize {
     match (*letters, text.first()) {
         (Letters::OpenComment, _) => 2,
         (Letters::Constant, Some(b'\'' | b'"')) => 1,
-        (Letters::Character, Some(0x80..)) => letter_length(text),
+        (Letters::Character, Some(0x80..)) => utf8_length(text),
         _ => len,
     }
 }
 
 // The bytes of a letter beyond ASCII, if the text is UTF-8.
-pub(crate) fn letter_length(text: &[u8]) -> usize {
+pub(crate) fn utf8_length(text: &[u8]) -> usize {
     for index in 1..text.len().min(4) {
         if !matches!(text[index], 0x80..=0xBF) {
             return index;

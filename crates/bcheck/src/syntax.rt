@@ -3,9 +3,9 @@ ghost use Rattle.std.specs.List.{list_all};
 ghost use Rattle.std.specs.Prelude.{◌∷◌, [], IsTrue};
 ghost use Rattle.bcheck.specs.Checks.{is_on_line};
 
-use crate::around::{Around, Part, opener_of};
+use crate::around::{Around, Region, opener_of};
 use crate::foreign::Foreign;
-use crate::kinds::Kind;
+use crate::kinds::TokenTest;
 use crate::spans::{Spans, is_joined, is_next_line, lexeme_at};
 use blang::Keyword;
 use blex::Lexeme;
@@ -189,7 +189,7 @@ enum If {
 
 /// Which token is marked.
 #[derive(Clone, Copy)]
-pub(crate) enum Mark {
+pub(crate) enum Marking {
     Here,
     Before,
     First,
@@ -199,189 +199,189 @@ pub(crate) enum Mark {
 /// In which part of a definition, and what else is so; the first token of the statement, the two tokens before, the
 /// token and the next one; what is said, and which token is marked.
 #[derive(Clone, Copy)]
-struct Row(Option<Part>, If, [Kind; 5], Syntax, Mark);
+struct SyntaxRow(Option<Region>, If, [TokenTest; 5], Syntax, Marking);
 
-const ANY: Kind = Kind::Any;
+const ANY: TokenTest = TokenTest::Any;
 
-const END: Kind = Kind::Is(Lexeme::End);
+const END: TokenTest = TokenTest::Is(Lexeme::End);
 
-const AUTO: Kind = Kind::Is(Lexeme::Keyword(Keyword::Auto));
+const AUTO: TokenTest = TokenTest::Is(Lexeme::Keyword(Keyword::Auto));
 
-const EXTRN: Kind = Kind::Is(Lexeme::Keyword(Keyword::Extrn));
+const EXTRN: TokenTest = TokenTest::Is(Lexeme::Keyword(Keyword::Extrn));
 
-const CASE: Kind = Kind::Is(Lexeme::Keyword(Keyword::Case));
+const CASE: TokenTest = TokenTest::Is(Lexeme::Keyword(Keyword::Case));
 
-const IF: Kind = Kind::Is(Lexeme::Keyword(Keyword::If));
+const IF: TokenTest = TokenTest::Is(Lexeme::Keyword(Keyword::If));
 
-const WHILE: Kind = Kind::Is(Lexeme::Keyword(Keyword::While));
+const WHILE: TokenTest = TokenTest::Is(Lexeme::Keyword(Keyword::While));
 
-const SWITCH: Kind = Kind::Is(Lexeme::Keyword(Keyword::Switch));
+const SWITCH: TokenTest = TokenTest::Is(Lexeme::Keyword(Keyword::Switch));
 
-const RETURN: Kind = Kind::Is(Lexeme::Keyword(Keyword::Return));
+const RETURN: TokenTest = TokenTest::Is(Lexeme::Keyword(Keyword::Return));
 
-const ELSE: Kind = Kind::Is(Lexeme::Keyword(Keyword::Else));
+const ELSE: TokenTest = TokenTest::Is(Lexeme::Keyword(Keyword::Else));
 
-const DIV: Kind = Kind::Is(Lexeme::Operator(BinOp::Div));
+const DIV: TokenTest = TokenTest::Is(Lexeme::Operator(BinOp::Div));
 
-const LT: Kind = Kind::Is(Lexeme::Operator(BinOp::Lt));
+const LT: TokenTest = TokenTest::Is(Lexeme::Operator(BinOp::Lt));
 
-const SUB: Kind = Kind::Is(Lexeme::Operator(BinOp::Sub));
+const SUB: TokenTest = TokenTest::Is(Lexeme::Operator(BinOp::Sub));
 
-const GT: Kind = Kind::Is(Lexeme::Operator(BinOp::Gt));
+const GT: TokenTest = TokenTest::Is(Lexeme::Operator(BinOp::Gt));
 
-const OR: Kind = Kind::Is(Lexeme::Operator(BinOp::Or));
+const OR: TokenTest = TokenTest::Is(Lexeme::Operator(BinOp::Or));
 
-const EQUALS: Kind = Kind::Is(Lexeme::Assign(None));
+const EQUALS: TokenTest = TokenTest::Is(Lexeme::Assign(None));
 
-const SEMICOLON: Kind = Kind::Is(Lexeme::Semicolon);
+const SEMICOLON: TokenTest = TokenTest::Is(Lexeme::Semicolon);
 
-const COLON: Kind = Kind::Is(Lexeme::Colon);
+const COLON: TokenTest = TokenTest::Is(Lexeme::Colon);
 
-const COMMA: Kind = Kind::Is(Lexeme::Comma);
+const COMMA: TokenTest = TokenTest::Is(Lexeme::Comma);
 
-const OPEN_PAREN: Kind = Kind::Is(Lexeme::OpenParen);
+const OPEN_PAREN: TokenTest = TokenTest::Is(Lexeme::OpenParen);
 
-const CLOSE_PAREN: Kind = Kind::Is(Lexeme::CloseParen);
+const CLOSE_PAREN: TokenTest = TokenTest::Is(Lexeme::CloseParen);
 
-const OPEN_BRACKET: Kind = Kind::Is(Lexeme::OpenBracket);
+const OPEN_BRACKET: TokenTest = TokenTest::Is(Lexeme::OpenBracket);
 
-const CLOSE_BRACKET: Kind = Kind::Is(Lexeme::CloseBracket);
+const CLOSE_BRACKET: TokenTest = TokenTest::Is(Lexeme::CloseBracket);
 
-const OPEN_BRACE: Kind = Kind::Is(Lexeme::OpenBrace);
+const OPEN_BRACE: TokenTest = TokenTest::Is(Lexeme::OpenBrace);
 
-const CLOSE_BRACE: Kind = Kind::Is(Lexeme::CloseBrace);
+const CLOSE_BRACE: TokenTest = TokenTest::Is(Lexeme::CloseBrace);
 
-const STRING: Kind = Kind::Is(Lexeme::String);
+const STRING: TokenTest = TokenTest::Is(Lexeme::String);
 
-const START: Option<Part> = Some(Part::Start);
+const START: Option<Region> = Some(Region::Start);
 
-const EXTERNAL: Option<Part> = Some(Part::External);
+const EXTERNAL: Option<Region> = Some(Region::External);
 
-const HEADER: Option<Part> = Some(Part::Header);
+const HEADER: Option<Region> = Some(Region::Header);
 
-const BODY: Option<Part> = Some(Part::Body);
+const BODY: Option<Region> = Some(Region::Body);
 
 /// The end of the source, comments, and the first token of a definition.
 #[rattlefmt::skip]
-const BEGINNINGS: [Row; 9] = [
-    Row(None, If::ParenOpen, [ANY, ANY, ANY, END, ANY], Syntax::ParenOpen, Mark::Here),
-    Row(None, If::BraceOpen, [ANY, ANY, ANY, END, ANY], Syntax::BraceOpen, Mark::Here),
-    Row(None, If::Always, [ANY, ANY, ANY, END, ANY], Syntax::SourceEnds, Mark::Here),
-    Row(None, If::Joined, [ANY, ANY, DIV, DIV, ANY], Syntax::Slashes, Mark::Before),
-    Row(None, If::Always, [ANY, ANY, ANY, DIV, DIV], Syntax::Slashes, Mark::Here),
-    Row(START, If::Always, [ANY, ANY, CLOSE_BRACE, SEMICOLON, ANY], Syntax::BraceSemicolon, Mark::Here),
-    Row(START, If::Always, [ANY, ANY, ANY, CLOSE_BRACE, ANY], Syntax::BraceCloses, Mark::Here),
-    Row(START, If::Always, [ANY, ANY, ANY, Kind::Keyword, ANY], Syntax::StatementOutside, Mark::Here),
-    Row(START, If::Always, [ANY, ANY, ANY, ANY, ANY], Syntax::NameMissing, Mark::Here),
+const BEGINNINGS: [SyntaxRow; 9] = [
+    SyntaxRow(None, If::ParenOpen, [ANY, ANY, ANY, END, ANY], Syntax::ParenOpen, Marking::Here),
+    SyntaxRow(None, If::BraceOpen, [ANY, ANY, ANY, END, ANY], Syntax::BraceOpen, Marking::Here),
+    SyntaxRow(None, If::Always, [ANY, ANY, ANY, END, ANY], Syntax::SourceEnds, Marking::Here),
+    SyntaxRow(None, If::Joined, [ANY, ANY, DIV, DIV, ANY], Syntax::Slashes, Marking::Before),
+    SyntaxRow(None, If::Always, [ANY, ANY, ANY, DIV, DIV], Syntax::Slashes, Marking::Here),
+    SyntaxRow(START, If::Always, [ANY, ANY, CLOSE_BRACE, SEMICOLON, ANY], Syntax::BraceSemicolon, Marking::Here),
+    SyntaxRow(START, If::Always, [ANY, ANY, ANY, CLOSE_BRACE, ANY], Syntax::BraceCloses, Marking::Here),
+    SyntaxRow(START, If::Always, [ANY, ANY, ANY, TokenTest::Keyword, ANY], Syntax::StatementOutside, Marking::Here),
+    SyntaxRow(START, If::Always, [ANY, ANY, ANY, ANY, ANY], Syntax::NameMissing, Marking::Here),
 ];
 
 /// Externals and the parameters of a function.
 #[rattlefmt::skip]
-const OUTSIDE: [Row; 13] = [
-    Row(EXTERNAL, If::Prototype, [Kind::Type, ANY, Kind::Name, OPEN_PAREN, ANY], Syntax::Prototype, Mark::First),
-    Row(HEADER, If::Prototype, [ANY, ANY, Kind::Type, Kind::Name, ANY], Syntax::Prototype, Mark::Before),
-    Row(EXTERNAL, If::Always, [Kind::Type, ANY, ANY, ANY, ANY], Syntax::TypeFirst, Mark::First),
-    Row(EXTERNAL, If::NextLine, [ANY, ANY, Kind::Ended, Kind::Name, ANY], Syntax::SemicolonMissing, Mark::Here),
-    Row(EXTERNAL, If::Always, [ANY, ANY, Kind::Name, OPEN_PAREN, ANY], Syntax::TypeFirst, Mark::First),
-    Row(EXTERNAL, If::Always, [ANY, ANY, ANY, Kind::Assigns, ANY], Syntax::EqualsOutside, Mark::Here),
-    Row(EXTERNAL, If::Always, [ANY, ANY, ANY, SUB, ANY], Syntax::SignOutside, Mark::Here),
-    Row(EXTERNAL, If::Always, [ANY, ANY, ANY, OPEN_BRACE, ANY], Syntax::BracesOutside, Mark::Here),
-    Row(HEADER, If::Always, [ANY, ANY, Kind::Name, Kind::Name, ANY], Syntax::TypeParameter, Mark::Before),
-    Row(HEADER, If::Always, [ANY, ANY, Kind::Name, OPEN_BRACKET, ANY], Syntax::VectorParameter, Mark::Here),
-    Row(HEADER, If::Always, [ANY, ANY, ANY, Kind::Constant, ANY], Syntax::CallOutside, Mark::Here),
-    Row(HEADER, If::Always, [ANY, ANY, ANY, STRING, ANY], Syntax::CallOutside, Mark::Here),
-    Row(HEADER, If::Always, [ANY, ANY, Kind::Name, OPEN_PAREN, ANY], Syntax::CallOutside, Mark::Here),
+const OUTSIDE: [SyntaxRow; 13] = [
+    SyntaxRow(EXTERNAL, If::Prototype, [TokenTest::Type, ANY, TokenTest::Name, OPEN_PAREN, ANY], Syntax::Prototype, Marking::First),
+    SyntaxRow(HEADER, If::Prototype, [ANY, ANY, TokenTest::Type, TokenTest::Name, ANY], Syntax::Prototype, Marking::Before),
+    SyntaxRow(EXTERNAL, If::Always, [TokenTest::Type, ANY, ANY, ANY, ANY], Syntax::TypeFirst, Marking::First),
+    SyntaxRow(EXTERNAL, If::NextLine, [ANY, ANY, TokenTest::Ended, TokenTest::Name, ANY], Syntax::SemicolonMissing, Marking::Here),
+    SyntaxRow(EXTERNAL, If::Always, [ANY, ANY, TokenTest::Name, OPEN_PAREN, ANY], Syntax::TypeFirst, Marking::First),
+    SyntaxRow(EXTERNAL, If::Always, [ANY, ANY, ANY, TokenTest::Assigns, ANY], Syntax::EqualsOutside, Marking::Here),
+    SyntaxRow(EXTERNAL, If::Always, [ANY, ANY, ANY, SUB, ANY], Syntax::SignOutside, Marking::Here),
+    SyntaxRow(EXTERNAL, If::Always, [ANY, ANY, ANY, OPEN_BRACE, ANY], Syntax::BracesOutside, Marking::Here),
+    SyntaxRow(HEADER, If::Always, [ANY, ANY, TokenTest::Name, TokenTest::Name, ANY], Syntax::TypeParameter, Marking::Before),
+    SyntaxRow(HEADER, If::Always, [ANY, ANY, TokenTest::Name, OPEN_BRACKET, ANY], Syntax::VectorParameter, Marking::Here),
+    SyntaxRow(HEADER, If::Always, [ANY, ANY, ANY, TokenTest::Constant, ANY], Syntax::CallOutside, Marking::Here),
+    SyntaxRow(HEADER, If::Always, [ANY, ANY, ANY, STRING, ANY], Syntax::CallOutside, Marking::Here),
+    SyntaxRow(HEADER, If::Always, [ANY, ANY, TokenTest::Name, OPEN_PAREN, ANY], Syntax::CallOutside, Marking::Here),
 ];
 
 /// Declarations in a function.
 #[rattlefmt::skip]
-const DECLARATIONS: [Row; 6] = [
-    Row(BODY, If::Always, [AUTO, ANY, Kind::Name, EQUALS, ANY], Syntax::AutoValue, Mark::Here),
-    Row(BODY, If::Always, [AUTO, ANY, Kind::Name, OPEN_BRACKET, ANY], Syntax::AutoBrackets, Mark::Here),
-    Row(BODY, If::NextLine, [AUTO, ANY, Kind::Operand, ANY, ANY], Syntax::SemicolonMissing, Mark::Here),
-    Row(BODY, If::Always, [AUTO, ANY, ANY, ANY, ANY], Syntax::AutoList, Mark::Here),
-    Row(BODY, If::NextLine, [EXTRN, ANY, Kind::Name, ANY, ANY], Syntax::SemicolonMissing, Mark::Here),
-    Row(BODY, If::Always, [EXTRN, ANY, ANY, ANY, ANY], Syntax::ExtrnList, Mark::Here),
+const DECLARATIONS: [SyntaxRow; 6] = [
+    SyntaxRow(BODY, If::Always, [AUTO, ANY, TokenTest::Name, EQUALS, ANY], Syntax::AutoValue, Marking::Here),
+    SyntaxRow(BODY, If::Always, [AUTO, ANY, TokenTest::Name, OPEN_BRACKET, ANY], Syntax::AutoBrackets, Marking::Here),
+    SyntaxRow(BODY, If::NextLine, [AUTO, ANY, TokenTest::Operand, ANY, ANY], Syntax::SemicolonMissing, Marking::Here),
+    SyntaxRow(BODY, If::Always, [AUTO, ANY, ANY, ANY, ANY], Syntax::AutoList, Marking::Here),
+    SyntaxRow(BODY, If::NextLine, [EXTRN, ANY, TokenTest::Name, ANY, ANY], Syntax::SemicolonMissing, Marking::Here),
+    SyntaxRow(BODY, If::Always, [EXTRN, ANY, ANY, ANY, ANY], Syntax::ExtrnList, Marking::Here),
 ];
 
 /// Words, with what has to come after them.
 #[rattlefmt::skip]
-const WORDS: [Row; 14] = [
-    Row(BODY, If::For, [ANY, ANY, ANY, ANY, ANY], Syntax::For, Mark::Head),
-    Row(BODY, If::Always, [ANY, ANY, Kind::Word("do"), ANY, ANY], Syntax::Do, Mark::Before),
-    Row(BODY, If::Always, [ANY, ANY, Kind::Word("then"), ANY, ANY], Syntax::Then, Mark::Before),
-    Row(BODY, If::Always, [Kind::Word("elif"), ANY, CLOSE_PAREN, ANY, ANY], Syntax::ElseIf, Mark::First),
-    Row(BODY, If::Always, [Kind::Word("elsif"), ANY, CLOSE_PAREN, ANY, ANY], Syntax::ElseIf, Mark::First),
-    Row(BODY, If::Always, [Kind::Word("elseif"), ANY, CLOSE_PAREN, ANY, ANY], Syntax::ElseIf, Mark::First),
-    Row(BODY, If::Always, [ANY, ANY, Kind::Type, Kind::Name, ANY], Syntax::TypeInside, Mark::Before),
-    Row(BODY, If::Always, [ANY, ANY, CASE, SUB, ANY], Syntax::CaseSign, Mark::Here),
-    Row(BODY, If::Always, [ANY, ANY, CASE, ANY, ANY], Syntax::CaseValue, Mark::Here),
-    Row(BODY, If::Always, [ANY, CASE, Kind::Constant, COMMA, ANY], Syntax::CaseList, Mark::Here),
-    Row(BODY, If::Always, [ANY, CASE, Kind::Constant, ANY, ANY], Syntax::CaseColon, Mark::Here),
-    Row(BODY, If::Always, [ANY, ANY, IF, ANY, ANY], Syntax::Condition, Mark::Here),
-    Row(BODY, If::Always, [ANY, ANY, WHILE, ANY, ANY], Syntax::Condition, Mark::Here),
-    Row(BODY, If::Always, [ANY, ANY, RETURN, ANY, ANY], Syntax::ReturnValue, Mark::Here),
+const WORDS: [SyntaxRow; 14] = [
+    SyntaxRow(BODY, If::For, [ANY, ANY, ANY, ANY, ANY], Syntax::For, Marking::Head),
+    SyntaxRow(BODY, If::Always, [ANY, ANY, TokenTest::Word("do"), ANY, ANY], Syntax::Do, Marking::Before),
+    SyntaxRow(BODY, If::Always, [ANY, ANY, TokenTest::Word("then"), ANY, ANY], Syntax::Then, Marking::Before),
+    SyntaxRow(BODY, If::Always, [TokenTest::Word("elif"), ANY, CLOSE_PAREN, ANY, ANY], Syntax::ElseIf, Marking::First),
+    SyntaxRow(BODY, If::Always, [TokenTest::Word("elsif"), ANY, CLOSE_PAREN, ANY, ANY], Syntax::ElseIf, Marking::First),
+    SyntaxRow(BODY, If::Always, [TokenTest::Word("elseif"), ANY, CLOSE_PAREN, ANY, ANY], Syntax::ElseIf, Marking::First),
+    SyntaxRow(BODY, If::Always, [ANY, ANY, TokenTest::Type, TokenTest::Name, ANY], Syntax::TypeInside, Marking::Before),
+    SyntaxRow(BODY, If::Always, [ANY, ANY, CASE, SUB, ANY], Syntax::CaseSign, Marking::Here),
+    SyntaxRow(BODY, If::Always, [ANY, ANY, CASE, ANY, ANY], Syntax::CaseValue, Marking::Here),
+    SyntaxRow(BODY, If::Always, [ANY, CASE, TokenTest::Constant, COMMA, ANY], Syntax::CaseList, Marking::Here),
+    SyntaxRow(BODY, If::Always, [ANY, CASE, TokenTest::Constant, ANY, ANY], Syntax::CaseColon, Marking::Here),
+    SyntaxRow(BODY, If::Always, [ANY, ANY, IF, ANY, ANY], Syntax::Condition, Marking::Here),
+    SyntaxRow(BODY, If::Always, [ANY, ANY, WHILE, ANY, ANY], Syntax::Condition, Marking::Here),
+    SyntaxRow(BODY, If::Always, [ANY, ANY, RETURN, ANY, ANY], Syntax::ReturnValue, Marking::Here),
 ];
 
 /// Operators and operands, and brackets around them.
 #[rattlefmt::skip]
-const OPERANDS: [Row; 21] = [
-    Row(BODY, If::Always, [ANY, ANY, OR, OR, ANY], Syntax::OrOr, Mark::Here),
-    Row(BODY, If::Always, [IF, ANY, CLOSE_PAREN, COLON, ANY], Syntax::HeadColon, Mark::Here),
-    Row(BODY, If::Always, [WHILE, ANY, CLOSE_PAREN, COLON, ANY], Syntax::HeadColon, Mark::Here),
-    Row(BODY, If::Always, [ELSE, ANY, CLOSE_PAREN, COLON, ANY], Syntax::HeadColon, Mark::Here),
-    Row(BODY, If::Always, [ANY, ANY, ELSE, COLON, ANY], Syntax::HeadColon, Mark::Here),
-    Row(BODY, If::LineStart, [Kind::Name, ANY, CLOSE_PAREN, COLON, ANY], Syntax::HeadColon, Mark::Here),
-    Row(BODY, If::Joined, [ANY, ANY, COLON, Kind::Assigns, ANY], Syntax::ColonEquals, Mark::Before),
-    Row(BODY, If::Joined, [ANY, ANY, LT, GT, ANY], Syntax::LessGreater, Mark::Before),
-    Row(BODY, If::Always, [ANY, ANY, Kind::Compares, Kind::Assigns, ANY], Syntax::CompareSigns, Mark::Before),
-    Row(BODY, If::Always, [ANY, ANY, Kind::Relates, Kind::Assigns, ANY], Syntax::CompareSigns, Mark::Before),
-    Row(BODY, If::Always, [ANY, ANY, Kind::Operator, Kind::Assigns, ANY], Syntax::EqualsAfter, Mark::Here),
-    Row(BODY, If::Joined, [ANY, ANY, SUB, GT, ANY], Syntax::Arrow, Mark::Before),
-    Row(BODY, If::Backslash, [ANY, ANY, STRING, ANY, ANY], Syntax::QuoteEscaped, Mark::Here),
-    Row(BODY, If::Joined, [ANY, ANY, Kind::Constant, Kind::Name, ANY], Syntax::NumberName, Mark::Here),
-    Row(BODY, If::Always, [ANY, ANY, Kind::Waits, Kind::Closes, ANY], Syntax::OperandMissing, Mark::Here),
-    Row(BODY, If::Always, [ANY, ANY, Kind::Waits, Kind::Operator, ANY], Syntax::OperandMissing, Mark::Here),
-    Row(BODY, If::Always, [ANY, ANY, Kind::Waits, Kind::Assigns, ANY], Syntax::OperandMissing, Mark::Here),
-    Row(BODY, If::Always, [ANY, ANY, Kind::Waits, Kind::Keyword, ANY], Syntax::OperandMissing, Mark::Here),
-    Row(BODY, If::ParenOpen, [ANY, ANY, Kind::Ended, OPEN_BRACE, ANY], Syntax::ParenOpen, Mark::Here),
-    Row(BODY, If::Asked, [ANY, ANY, Kind::Ended, Kind::Closes, ANY], Syntax::ColonMissing, Mark::Here),
-    Row(BODY, If::ParenOpen, [ANY, ANY, Kind::Ended, Kind::Closes, ANY], Syntax::ParenOpen, Mark::Here),
+const OPERANDS: [SyntaxRow; 21] = [
+    SyntaxRow(BODY, If::Always, [ANY, ANY, OR, OR, ANY], Syntax::OrOr, Marking::Here),
+    SyntaxRow(BODY, If::Always, [IF, ANY, CLOSE_PAREN, COLON, ANY], Syntax::HeadColon, Marking::Here),
+    SyntaxRow(BODY, If::Always, [WHILE, ANY, CLOSE_PAREN, COLON, ANY], Syntax::HeadColon, Marking::Here),
+    SyntaxRow(BODY, If::Always, [ELSE, ANY, CLOSE_PAREN, COLON, ANY], Syntax::HeadColon, Marking::Here),
+    SyntaxRow(BODY, If::Always, [ANY, ANY, ELSE, COLON, ANY], Syntax::HeadColon, Marking::Here),
+    SyntaxRow(BODY, If::LineStart, [TokenTest::Name, ANY, CLOSE_PAREN, COLON, ANY], Syntax::HeadColon, Marking::Here),
+    SyntaxRow(BODY, If::Joined, [ANY, ANY, COLON, TokenTest::Assigns, ANY], Syntax::ColonEquals, Marking::Before),
+    SyntaxRow(BODY, If::Joined, [ANY, ANY, LT, GT, ANY], Syntax::LessGreater, Marking::Before),
+    SyntaxRow(BODY, If::Always, [ANY, ANY, TokenTest::Compares, TokenTest::Assigns, ANY], Syntax::CompareSigns, Marking::Before),
+    SyntaxRow(BODY, If::Always, [ANY, ANY, TokenTest::Relates, TokenTest::Assigns, ANY], Syntax::CompareSigns, Marking::Before),
+    SyntaxRow(BODY, If::Always, [ANY, ANY, TokenTest::Operator, TokenTest::Assigns, ANY], Syntax::EqualsAfter, Marking::Here),
+    SyntaxRow(BODY, If::Joined, [ANY, ANY, SUB, GT, ANY], Syntax::Arrow, Marking::Before),
+    SyntaxRow(BODY, If::Backslash, [ANY, ANY, STRING, ANY, ANY], Syntax::QuoteEscaped, Marking::Here),
+    SyntaxRow(BODY, If::Joined, [ANY, ANY, TokenTest::Constant, TokenTest::Name, ANY], Syntax::NumberName, Marking::Here),
+    SyntaxRow(BODY, If::Always, [ANY, ANY, TokenTest::Waits, TokenTest::Closes, ANY], Syntax::OperandMissing, Marking::Here),
+    SyntaxRow(BODY, If::Always, [ANY, ANY, TokenTest::Waits, TokenTest::Operator, ANY], Syntax::OperandMissing, Marking::Here),
+    SyntaxRow(BODY, If::Always, [ANY, ANY, TokenTest::Waits, TokenTest::Assigns, ANY], Syntax::OperandMissing, Marking::Here),
+    SyntaxRow(BODY, If::Always, [ANY, ANY, TokenTest::Waits, TokenTest::Keyword, ANY], Syntax::OperandMissing, Marking::Here),
+    SyntaxRow(BODY, If::ParenOpen, [ANY, ANY, TokenTest::Ended, OPEN_BRACE, ANY], Syntax::ParenOpen, Marking::Here),
+    SyntaxRow(BODY, If::Asked, [ANY, ANY, TokenTest::Ended, TokenTest::Closes, ANY], Syntax::ColonMissing, Marking::Here),
+    SyntaxRow(BODY, If::ParenOpen, [ANY, ANY, TokenTest::Ended, TokenTest::Closes, ANY], Syntax::ParenOpen, Marking::Here),
 ];
 
 /// Statements that begin or end at the wrong place.
 #[rattlefmt::skip]
-const STATEMENTS: [Row; 9] = [
-    Row(BODY, If::ParenOpen, [ANY, ANY, Kind::Ended, Kind::Keyword, ANY], Syntax::ParenOpen, Mark::Here),
-    Row(BODY, If::Always, [SWITCH, ANY, Kind::Ended, ANY, ANY], Syntax::SwitchBraces, Mark::Here),
-    Row(BODY, If::IfBrace, [ANY, ANY, SEMICOLON, ELSE, ANY], Syntax::ElseInBraces, Mark::Here),
-    Row(BODY, If::IfBrace, [ANY, ANY, CLOSE_BRACE, ELSE, ANY], Syntax::ElseInBraces, Mark::Here),
-    Row(BODY, If::NextLine, [ANY, ANY, Kind::Ended, ELSE, ANY], Syntax::SemicolonMissing, Mark::Here),
-    Row(BODY, If::Always, [ANY, ANY, SEMICOLON, ELSE, ANY], Syntax::ElseAlone, Mark::Here),
-    Row(BODY, If::Always, [ANY, ANY, CLOSE_BRACE, ELSE, ANY], Syntax::ElseAlone, Mark::Here),
-    Row(BODY, If::LineStart, [Kind::Name, ANY, CLOSE_PAREN, OPEN_BRACE, ANY], Syntax::FunctionInside, Mark::First),
-    Row(BODY, If::Always, [Kind::Name, ANY, CLOSE_PAREN, OPEN_BRACE, ANY], Syntax::CallBody, Mark::First),
+const STATEMENTS: [SyntaxRow; 9] = [
+    SyntaxRow(BODY, If::ParenOpen, [ANY, ANY, TokenTest::Ended, TokenTest::Keyword, ANY], Syntax::ParenOpen, Marking::Here),
+    SyntaxRow(BODY, If::Always, [SWITCH, ANY, TokenTest::Ended, ANY, ANY], Syntax::SwitchBraces, Marking::Here),
+    SyntaxRow(BODY, If::IfBrace, [ANY, ANY, SEMICOLON, ELSE, ANY], Syntax::ElseInBraces, Marking::Here),
+    SyntaxRow(BODY, If::IfBrace, [ANY, ANY, CLOSE_BRACE, ELSE, ANY], Syntax::ElseInBraces, Marking::Here),
+    SyntaxRow(BODY, If::NextLine, [ANY, ANY, TokenTest::Ended, ELSE, ANY], Syntax::SemicolonMissing, Marking::Here),
+    SyntaxRow(BODY, If::Always, [ANY, ANY, SEMICOLON, ELSE, ANY], Syntax::ElseAlone, Marking::Here),
+    SyntaxRow(BODY, If::Always, [ANY, ANY, CLOSE_BRACE, ELSE, ANY], Syntax::ElseAlone, Marking::Here),
+    SyntaxRow(BODY, If::LineStart, [TokenTest::Name, ANY, CLOSE_PAREN, OPEN_BRACE, ANY], Syntax::FunctionInside, Marking::First),
+    SyntaxRow(BODY, If::Always, [TokenTest::Name, ANY, CLOSE_PAREN, OPEN_BRACE, ANY], Syntax::CallBody, Marking::First),
 ];
 
 /// The rest, where what comes after an operand is no part of its expression.
 #[rattlefmt::skip]
-const REST: [Row; 12] = [
-    Row(BODY, If::Always, [ANY, ANY, ANY, Kind::Assigns, ANY], Syntax::AssignLeft, Mark::Here),
-    Row(BODY, If::Always, [ANY, ANY, ANY, COMMA, ANY], Syntax::CommaAlone, Mark::Here),
-    Row(BODY, If::Always, [ANY, ANY, ANY, CLOSE_PAREN, ANY], Syntax::Unopened, Mark::Here),
-    Row(BODY, If::Always, [ANY, ANY, ANY, CLOSE_BRACKET, ANY], Syntax::Unopened, Mark::Here),
-    Row(BODY, If::Always, [ANY, ANY, SEMICOLON, CLOSE_BRACE, ANY], Syntax::NoStatement, Mark::Here),
-    Row(BODY, If::Always, [ANY, ANY, COLON, CLOSE_BRACE, ANY], Syntax::NoStatement, Mark::Here),
-    Row(BODY, If::NextLine, [ANY, ANY, Kind::Ended, ANY, ANY], Syntax::SemicolonMissing, Mark::Here),
-    Row(BODY, If::Always, [ANY, ANY, Kind::Ended, CLOSE_BRACE, ANY], Syntax::SemicolonBefore, Mark::Here),
-    Row(BODY, If::Second, [ANY, ANY, Kind::Name, Kind::Operand, ANY], Syntax::CallParens, Mark::Here),
-    Row(BODY, If::Always, [ANY, ANY, Kind::Ended, Kind::Operand, ANY], Syntax::TwoOperands, Mark::Here),
-    Row(BODY, If::Always, [ANY, ANY, Kind::Ended, Kind::Keyword, ANY], Syntax::TwoOperands, Mark::Here),
-    Row(BODY, If::Always, [ANY, ANY, Kind::Ended, OPEN_BRACE, ANY], Syntax::TwoOperands, Mark::Here),
+const REST: [SyntaxRow; 12] = [
+    SyntaxRow(BODY, If::Always, [ANY, ANY, ANY, TokenTest::Assigns, ANY], Syntax::AssignLeft, Marking::Here),
+    SyntaxRow(BODY, If::Always, [ANY, ANY, ANY, COMMA, ANY], Syntax::CommaAlone, Marking::Here),
+    SyntaxRow(BODY, If::Always, [ANY, ANY, ANY, CLOSE_PAREN, ANY], Syntax::Unopened, Marking::Here),
+    SyntaxRow(BODY, If::Always, [ANY, ANY, ANY, CLOSE_BRACKET, ANY], Syntax::Unopened, Marking::Here),
+    SyntaxRow(BODY, If::Always, [ANY, ANY, SEMICOLON, CLOSE_BRACE, ANY], Syntax::NoStatement, Marking::Here),
+    SyntaxRow(BODY, If::Always, [ANY, ANY, COLON, CLOSE_BRACE, ANY], Syntax::NoStatement, Marking::Here),
+    SyntaxRow(BODY, If::NextLine, [ANY, ANY, TokenTest::Ended, ANY, ANY], Syntax::SemicolonMissing, Marking::Here),
+    SyntaxRow(BODY, If::Always, [ANY, ANY, TokenTest::Ended, CLOSE_BRACE, ANY], Syntax::SemicolonBefore, Marking::Here),
+    SyntaxRow(BODY, If::Second, [ANY, ANY, TokenTest::Name, TokenTest::Operand, ANY], Syntax::CallParens, Marking::Here),
+    SyntaxRow(BODY, If::Always, [ANY, ANY, TokenTest::Ended, TokenTest::Operand, ANY], Syntax::TwoOperands, Marking::Here),
+    SyntaxRow(BODY, If::Always, [ANY, ANY, TokenTest::Ended, TokenTest::Keyword, ANY], Syntax::TwoOperands, Marking::Here),
+    SyntaxRow(BODY, If::Always, [ANY, ANY, TokenTest::Ended, OPEN_BRACE, ANY], Syntax::TwoOperands, Marking::Here),
 ];
 
 /// What is said of a token with which no program goes on, and which token is marked: the first row that fits tells it.
-pub(crate) fn found(source: &[u8], spans: &Spans, around: &Around) -> (Syntax, Mark) {
+pub(crate) fn found(source: &[u8], spans: &Spans, around: &Around) -> (Syntax, Marking) {
     let place = Tried {
         source,
         spans,
@@ -389,10 +389,10 @@ pub(crate) fn found(source: &[u8], spans: &Spans, around: &Around) -> (Syntax, M
         tokens: window(spans, around),
     };
     let found = match around.part {
-        Part::Body => in_body(&place),
+        Region::Body => in_body(&place),
         _ => outside(&place),
     };
-    found.unwrap_or((Syntax::Other, Mark::Here))
+    found.unwrap_or((Syntax::Other, Marking::Here))
 }
 
 /// A token on which rows are tried.
@@ -404,35 +404,35 @@ struct Tried<'a> {
     tokens: [Lexeme; 5],
 }
 
-fn outside(tried: &Tried<'_>) -> Option<(Syntax, Mark)> {
+fn outside(tried: &Tried<'_>) -> Option<(Syntax, Marking)> {
     beginnings(tried).or(first_of(tried, &OUTSIDE))
 }
 
-fn beginnings(tried: &Tried<'_>) -> Option<(Syntax, Mark)> {
+fn beginnings(tried: &Tried<'_>) -> Option<(Syntax, Marking)> {
     first_of(tried, &BEGINNINGS)
 }
 
-fn in_body(tried: &Tried<'_>) -> Option<(Syntax, Mark)> {
+fn in_body(tried: &Tried<'_>) -> Option<(Syntax, Marking)> {
     beginnings(tried)
         .or(words(tried))
         .or(operands(tried))
         .or(rest(tried))
 }
 
-fn words(tried: &Tried<'_>) -> Option<(Syntax, Mark)> {
+fn words(tried: &Tried<'_>) -> Option<(Syntax, Marking)> {
     first_of(tried, &DECLARATIONS).or(first_of(tried, &WORDS))
 }
 
-fn operands(tried: &Tried<'_>) -> Option<(Syntax, Mark)> {
+fn operands(tried: &Tried<'_>) -> Option<(Syntax, Marking)> {
     first_of(tried, &OPERANDS)
 }
 
-fn rest(tried: &Tried<'_>) -> Option<(Syntax, Mark)> {
+fn rest(tried: &Tried<'_>) -> Option<(Syntax, Marking)> {
     first_of(tried, &STATEMENTS).or(first_of(tried, &REST))
 }
 
 // What the first row says that fits.
-fn first_of(tried: &Tried<'_>, rows: &[Row]) -> Option<(Syntax, Mark)> {
+fn first_of(tried: &Tried<'_>, rows: &[SyntaxRow]) -> Option<(Syntax, Marking)> {
     for row in rows {
         if fits(row, tried) {
             return Some((row.3, row.4));
@@ -451,13 +451,13 @@ fn window(spans: &Spans, around: &Around) -> [Lexeme; 5] {
     ]
 }
 
-fn fits(row: &Row, tried: &Tried<'_>) -> bool {
+fn fits(row: &SyntaxRow, tried: &Tried<'_>) -> bool {
     is_part(row.0, tried.around.part)
-        && Kind::fit(&row.2, &tried.tokens)
+        && TokenTest::fit(&row.2, &tried.tokens)
         && holds(row.1, tried.source, tried.spans, tried.around)
 }
 
-fn is_part(asked: Option<Part>, part: Part) -> bool {
+fn is_part(asked: Option<Region>, part: Region) -> bool {
     match asked {
         Some(asked) => asked == part,
         None => true,

@@ -7,7 +7,7 @@ ghost use Rattle.bsources.specs.Files.{Files, line_shown, own_line};
 ghost use Rattle.bcheck.specs.declared.form.FindingForm.TheVariants as form;
 
 use crate::finding::Told;
-use crate::pieces::{Piece, push_all};
+use crate::pieces::{Fragment, push_all};
 use btools::Text;
 use std::alloc::AllocError;
 
@@ -24,24 +24,24 @@ pub(crate) fn write(text: &mut Text, told: &Told<'_>) -> Result<(), AllocError>
     push_all(
         text,
         &[
-            Piece::File(told.at.file.as_bytes()),
-            Piece::Words(b":"),
-            Piece::Number(told.at.line),
-            Piece::Words(b":"),
-            Piece::Number(excerpt.column as u64),
-            Piece::Words(b": "),
-            Piece::Words(told.severity.word()),
-            Piece::Words(b": "),
-            Piece::Words(told.words.sentence.as_slice()),
-            Piece::Words(b"\n    "),
-            Piece::Shown(excerpt.left),
-            Piece::Shown(excerpt.right),
-            Piece::Words(b"\n    "),
-            Piece::Blanks(excerpt.left.len()),
-            Piece::Marks(excerpt.marks),
-            Piece::Words(b"\n  fix: "),
-            Piece::Words(told.words.fix.as_slice()),
-            Piece::Words(b"\n"),
+            Fragment::File(told.at.file.as_bytes()),
+            Fragment::Words(b":"),
+            Fragment::Number(told.at.line),
+            Fragment::Words(b":"),
+            Fragment::Number(excerpt.column as u64),
+            Fragment::Words(b": "),
+            Fragment::Words(told.severity.word()),
+            Fragment::Words(b": "),
+            Fragment::Words(told.words.sentence.as_slice()),
+            Fragment::Words(b"\n    "),
+            Fragment::Shown(excerpt.left),
+            Fragment::Shown(excerpt.right),
+            Fragment::Words(b"\n    "),
+            Fragment::Blanks(excerpt.left.len()),
+            Fragment::Marks(excerpt.marks),
+            Fragment::Words(b"\n  fix: "),
+            Fragment::Words(told.words.fix.as_slice()),
+            Fragment::Words(b"\n"),
         ],
     )
 }

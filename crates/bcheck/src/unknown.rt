@@ -10,10 +10,10 @@ use crate::compiled::{Compiled, Extent};
 use crate::defined::is_function;
 use crate::finding::Finding;
 use crate::foreign::{Foreign, declaring_word, foreign_word};
-use crate::kinds::{Kind, is_ended, is_word};
+use crate::kinds::{TokenTest, is_ended, is_word};
 use crate::mention::{first_mention, token_of_mention};
 use crate::near::{Definitions, find_definitions, library_arguments, near};
-use crate::spans::{Source, Spans, lexeme_at, place_of};
+use crate::spans::{SourceText, Spans, lexeme_at, place_of};
 use blang::Keyword;
 use blex::Lexeme;
 use bword::{BinOp, Name};
@@ -212,7 +212,7 @@ impl Lvalue {
 
 /// What is said of a name of a function that is neither declared nor a label.
 pub(crate) fn unknown_name(
-    source: Source<'_>,
+    source: SourceText<'_>,
     spans: &Spans,
     extent: Extent,
     token: usize,
@@ -252,7 +252,7 @@ fn like(spans: &Spans, extent: Extent, name: &Name, defined: &Definitions) -> Op
 /// What is said of a name that nothing defines, where it is mentioned first.
 pub(crate) fn undefined_name(
     alloc: Global,
-    source: Source<'_>,
+    source: SourceText<'_>,
     compiled: &Compiled,
     name: Name,
 ) -> Result<Finding, AllocError>
@@ -267,7 +267,7 @@ pub(crate) fn undefined_name(
 
 // What is said of a name that nothing defines, of which this token of a definition is the first mention.
 fn undefined_at(
-    source: Source<'_>,
+    source: SourceText<'_>,
     spans: &Spans,
     extent: Extent,
     token: usize,
@@ -280,7 +280,7 @@ fn undefined_at(
         return not_defined(spans, extent.first, Undefined::Foreign(meaning), word, None);
     }
     let alike = like(spans, Extent { first: 0, end: 0 }, &name, &defined);
-    let is_typed = Kind::Type.fits(&lexeme_at(spans, extent.first));
+    let is_typed = TokenTest::Type.fits(&lexeme_at(spans, extent.first));
     let (what, other) = match (name.as_str(), in_library(&name), foreign_word(&name)) {
         _ if is_typed && !is_function(spans, extent) => (Undefined::Type, None),
         ("break" | "default", _, _) => (Undefined::OtherEdition, None),
@@ -331,7 +331,7 @@ fn in_c(name: &Name) -> Option<(Undefined, Option<Name>)> {
 
 /// What is said of the operand that the operator at this place wants the address of, on this line.
 pub(crate) fn without_address(
-    source: Source<'_>,
+    source: SourceText<'_>,
     spans: &Spans,
     operator: usize,
     line: u64,
@@ -388,7 +388,7 @@ fn ended_by(spans: &Spans, last: usize) -> Lvalue {
     let callee = lexeme_at(spans, opener.wrapping_sub(1));
     if is_word(&callee, "char") {
         Lvalue::Character
-    } else if Kind::Name.fits(&callee) {
+    } else if TokenTest::Name.fits(&callee) {
         Lvalue::Call
     } else {
         Lvalue::Other

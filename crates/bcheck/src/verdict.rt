@@ -8,7 +8,7 @@ ghost use Rattle.bcheck.specs.Findings.{IsCompiled, IsStopOf};
 
 use crate::compiled::{Compiled, compile};
 use crate::finding::Severity;
-use crate::spans::Source;
+use crate::spans::SourceText;
 use blang::status::{self, Status};
 use blang::{Definition, Diagnostic, LoadFault};
 use bmach::load_slice;
@@ -69,7 +69,7 @@ impl Verdict {
 }
 
 /// What the compiler and the loader say of a source.
-pub(crate) fn judge(alloc: Global, source: Source<'_>) -> Result<Judgement, AllocError>
+pub(crate) fn judge(alloc: Global, source: SourceText<'_>) -> Result<Judgement, AllocError>
     ensures judged { IfOk result (λ j. Judged source.entry.edition source.entry.text.now j.verdict) }
     ensures stop { IfOk result (λ j. IsStopOf source.entry.edition source.entry.text.now j.verdict) }
 {

@@ -5,8 +5,8 @@ ghost use Rattle.std.specs.List.{list_all};
 ghost use Rattle.bcheck.specs.Checks.{is_on_line};
 ghost use Rattle.bcheck.specs.Findings.{matter_code};
 
-use crate::finding::{Finding, Spot};
-use crate::pieces::{Piece, push_all};
+use crate::finding::{Finding, SecondPlace};
+use crate::pieces::{Fragment, push_all};
 use bsources::FileLine;
 use btools::Text;
 use bword::Name;
@@ -26,7 +26,7 @@ impl Words {
         alloc: Global,
         finding: &Finding,
         file: &str,
-        second: &Option<Spot<'_>>,
+        second: &Option<SecondPlace<'_>>,
     ) -> Result<Self, AllocError>
         ensures code { IfOk result (λ words. words.code.now ≡ matter_code finding.now.matter) }
         ensures on_lines { IfOk result (λ words.
@@ -55,7 +55,7 @@ struct Given<'a> {
     name: Option<Name>,
     other: Option<Name>,
     file: &'a str,
-    second: Option<Spot<'a>>,
+    second: Option<SecondPlace<'a>>,
 }
 
 // A sentence with the names and the line in the places of `@`, `#` and `%`.
@@ -136,9 +136,9 @@ fn push_line_of(text: &mut Text, at: FileLine<'_>) -> Result<(), AllocError>
     push_all(
         text,
         &[
-            Piece::Number(at.line),
-            Piece::Words(b" of "),
-            Piece::Shown(at.file.as_bytes()),
+            Fragment::Number(at.line),
+            Fragment::Words(b" of "),
+            Fragment::Shown(at.file.as_bytes()),
         ],
     )
 }

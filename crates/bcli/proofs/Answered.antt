@@ -10,7 +10,7 @@ use Rattle.bword.specs.declared.edition.Edition.{Edition}
 use Rattle.brun.specs.OneRun.{unread}
 use Rattle.std.specs.Borrow.{Bor}
 use Rattle.blang.specs.Compiles.{CompileHeadline, Compiles}
-use Rattle.bcommand.specs.CommandLine.{Question, Source, ask, compile, asked_of, go, question_of}
+use Rattle.bcommand.specs.CommandLine.{Question, SourceAsked, ask, compile, asked_of, go, question_of}
 use Rattle.bcommand.specs.declared.job.Job.{Job}
 use Rattle.bcommand.specs.declared.job.Question.{Question as Questioned}
 use Rattle.clap.specs.Words.{Text}
@@ -58,7 +58,7 @@ named_for reason other file ends status why (inl named) = inl (why named.0, name
 named_for reason other file ends status why (inr silent) = inr silent
 
 -- a source over an end in memory
-pub gone : (shelf : Holdings) (source : Source) (steps : ℕ) (it : Whole) (given : List ℕ) (first following : Unread) (ends : RunEnds) (status : ℕ)
+pub gone : (shelf : Holdings) (source : SourceAsked) (steps : ℕ) (it : Whole) (given : List ℕ) (first following : Unread) (ends : RunEnds) (status : ℕ)
     → HasReadSource shelf source it → given ≡ it.text.items → first ≡ record { left = given; is_over = false } → GoesOff source.edition steps (incoming_of first) (incoming_of following) ends status
     → Headline source.edition steps (incoming_of first) (incoming_of following) ends status → Does shelf (go source steps) ends status
 gone shelf source steps it given first following ends status h same is goes headline =
@@ -71,7 +71,7 @@ gone shelf source steps it given first following ends status h same is goes head
     ))
 
 -- an answer of a source that was read
-pub asked_of_source : (shelf : Holdings) (source : Source) (it : Whole) (files : Files) (given : List ℕ) (question : Question) (ends : RunEnds) (status : ℕ)
+pub asked_of_source : (shelf : Holdings) (source : SourceAsked) (it : Whole) (files : Files) (given : List ℕ) (question : Question) (ends : RunEnds) (status : ℕ)
     → HasReadSource shelf source it → given ≡ it.text.items → files.first ≡ file_shown it.first → files.rest ≡ it.libs.files
     → Answers source.edition files given question ends status → Does shelf (ask source question) ends status
 asked_of_source shelf source it files given question ends status h same first rest answers =
@@ -98,7 +98,7 @@ lib_named shelf names it ends status h told = record {
 }
 
 -- the same of a source, whose first one was read
-pub lib_named_of : (shelf : Holdings) (source : Source) (it : LibFault) (ends : RunEnds) (status : ℕ) → IsUnread shelf source (read_faults.Lib it)
+pub lib_named_of : (shelf : Holdings) (source : SourceAsked) (it : LibFault) (ends : RunEnds) (status : ℕ) → IsUnread shelf source (read_faults.Lib it)
     → NamesFile (it.fault ≡ file_fault.Device) it.name.now ends status → NamesLibOf shelf source ends status
 lib_named_of shelf source it ends status h told = (h.0, h.1, lib_named shelf source.libs it ends status h.2 told)
 

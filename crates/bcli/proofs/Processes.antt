@@ -1,4 +1,4 @@
--- Answers that the contract of `serve_in_order` excludes, whatever is proved of the body that gives them.
+-- Answers that the contract of `serve_process` excludes, whatever is proved of the body that gives them.
 use Rattle.std.proofs.Common.{◌≡◌, ◌⊎◌, ℕ, Bool, true, false, IsTrue, ◌+◌, List, [], ◌++◌, length, Option, Some, None, ap, sym, subst, arith, inl, inr, length-append, ◌∙◌}
 use Rattle.std.proofs.lemmas.List.{nil_from_length}
 use Rattle.std.specs.Io.KnownBytes.{Appends}
@@ -6,7 +6,7 @@ use Rattle.clap.specs.Words.{Text}
 use Rattle.bword.specs.ByteEnds.{Outgoing}
 use Rattle.blang.specs.Reports.{Reported, RunEnds}
 use Rattle.bcli.specs.ShellExcluded.{AreWrong, Excluded, ProcessExcluded, silent_lines}
-use Rattle.bcli.specs.Processes.{AnswersWords, KnownStreams, PerformsInOrder}
+use Rattle.bcli.specs.Processes.{AnswersWords, KnownStreams, PerformsTask}
 use Rattle.bcli.specs.Serves.{RefusesWords, Serves, did, no_memory, refused, unread_line}
 use Rattle.bcli.specs.Shelves.{Holdings}
 use Rattle.bcli.proofs.ShellExcluded.{excluded, fault_is_no_complaint}
@@ -15,7 +15,7 @@ use Rattle.bcli.proofs.Showing.{held_grows, held_stays}
 -- what no task may do is not done
 not_performed : (does : RunEnds → ℕ → Type 0) (known : KnownStreams) (status : ℕ) → (status ≡ 133 → ⊥) → (status ≡ 134 → ⊥)
     → ((ends : RunEnds) → ends.line.written ≡ known.line → ends.line_after.written ≡ known.line_after → does ends status → ⊥)
-    → PerformsInOrder does (Unit {0}) known status → ⊥
+    → PerformsTask does (Unit {0}) known status → ⊥
 not_performed does known status device memory never (inl it) = by_status it.status_is
   where
     by_status : (status ≡ it.told) × Unit {0} ⊎ (status ≡ 133) → ⊥
@@ -24,7 +24,7 @@ not_performed does known status device memory never (inl it) = by_status it.stat
 not_performed does known status device memory never (inr none) = memory none.1
 
 unanswered : (test : RunEnds → ℕ → Bool) (known : KnownStreams) (status : ℕ) → ((ends : RunEnds) → test ends status ≡ false)
-    → PerformsInOrder (λ ends told. IsTrue (test ends told)) (Unit {0}) known status → (status ≡ 133) ⊎ (status ≡ 134)
+    → PerformsTask (λ ends told. IsTrue (test ends told)) (Unit {0}) known status → (status ≡ 133) ⊎ (status ≡ 134)
 unanswered test known status never (inl it) = by_status it.status_is
   where
     by_status : (status ≡ it.told) × Unit {0} ⊎ (status ≡ 133) → (status ≡ 133) ⊎ (status ≡ 134)
@@ -34,7 +34,7 @@ unanswered test known status never (inl it) = by_status it.status_is
     by_status (inr failed) = inl failed
 unanswered test known status never (inr memory) = inr memory.1
 
-unshown : (known : KnownStreams) (status : ℕ) → PerformsInOrder (λ ends told. Unit {0}) ⊥ known status
+unshown : (known : KnownStreams) (status : ℕ) → PerformsTask (λ ends told. Unit {0}) ⊥ known status
     → (status ≡ 133) ⊎ (status ≡ 134)
 unshown known status (inl it) = by_status it.status_is
   where

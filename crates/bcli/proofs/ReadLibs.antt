@@ -7,7 +7,7 @@ use Rattle.std.proofs.lemmas.List.{map-append}
 use Rattle.std.proofs.lemmas.List.Elements.{All-nil, All-push}
 use Rattle.clap.specs.Words.{Text}
 use Rattle.bsources.specs.Files.{Followed, NamedText, file_of, file_shown, followed}
-use Rattle.bcommand.specs.CommandLine.{Source}
+use Rattle.bcommand.specs.CommandLine.{SourceAsked}
 use Rattle.bcli.specs.Serves.{ReadsLibs}
 use Rattle.bcli.specs.declared.shelf.FileFault.TheVariants as file_fault
 use Rattle.bcli.specs.declared.sources.LibFault.{LibFault}
@@ -55,7 +55,7 @@ unread_in_turn shelf names i d libs it lt h is why = record {
 }
 
 -- a source was read: its first file, and those that follow it, whose bytes come after
-pub source_read : (shelf : Holdings) (source : Source) (it : Whole) (text more same : List ℕ) → shelf.holds source.file text → HasReadLibs shelf source.libs it.libs
+pub source_read : (shelf : Holdings) (source : SourceAsked) (it : Whole) (text more same : List ℕ) → shelf.holds source.file text → HasReadLibs shelf source.libs it.libs
     → it.text.items ≡ text ++ more → more ≡ it.libs.text → file_shown it.first ≡ file_of source.file same → same ≡ text → HasReadSource shelf source it
 source_read shelf source it text more same holds libs items rest first is = record {
   reads = record { text = text; held = holds; libs = libs.0 };

@@ -40,10 +40,10 @@ pub record Performed (does : RunEnds → ℕ → Type 0) (shown : Type 0) (known
   pub status_is : (status ≡ told) × shown ⊎ (status ≡ DEVICE)
 
 -- a task was performed, or memory for the streams was refused and no line was written
-abbrev pub PerformsInOrder : (does : RunEnds → ℕ → Type 0) → (shown : Type 0) → KnownStreams → ℕ → Type 0
-PerformsInOrder does shown known status =
+abbrev pub PerformsTask : (does : RunEnds → ℕ → Type 0) → (shown : Type 0) → KnownStreams → ℕ → Type 0
+PerformsTask does shown known status =
     Performed does shown known status ⊎ (known.line_after ≡ known.line) × (status ≡ MEMORY)
 
 -- the words of a process were served over these files, or memory for its streams was refused
 abbrev pub ServesProcess : Holdings → Option (List Text) → KnownStreams → ℕ → Type 0
-ServesProcess files words known status = PerformsInOrder (AnswersWords files words) (Unit {0}) known status
+ServesProcess files words known status = PerformsTask (AnswersWords files words) (Unit {0}) known status

@@ -2,7 +2,7 @@
 use Rattle.std.specs.Prelude.{◌≡◌, ℕ, List, ◌∷◌, ◌++◌}
 use Rattle.clap.specs.Words.{Text}
 use Rattle.bsources.specs.Files.{Followed, file_of, file_shown, followed}
-use Rattle.bcommand.specs.CommandLine.{Source}
+use Rattle.bcommand.specs.CommandLine.{SourceAsked}
 use Rattle.bcli.specs.declared.shelf.FileFault.TheVariants as file_fault
 use Rattle.bcli.specs.declared.sources.LibFault.{LibFault}
 use Rattle.bcli.specs.declared.sources.Unread.{Unread}
@@ -15,7 +15,7 @@ abbrev pub HasReadLibs : Holdings → List Text → Followed → Type 0
 HasReadLibs shelf names libs = (r : ReadsLibs shelf names) × (libs ≡ followed r.texts)
 
 -- a source was read, and this is its text, and these are its files
-pub record HasReadSource (shelf : Holdings) (source : Source) (it : Whole) : Type 0 where
+pub record HasReadSource (shelf : Holdings) (source : SourceAsked) (it : Whole) : Type 0 where
   pub reads : Reads shelf source
   pub text : it.text.items ≡ whole reads
   pub first : file_shown it.first ≡ file_of source.file reads.text
@@ -29,7 +29,7 @@ pub record LibIsUnread (shelf : Holdings) (names : List Text) (it : LibFault) : 
   pub reads : ReadsLibs shelf before
   pub reason : it.fault ≡ file_fault.Device → shelf.lacks it.name.now
 
-abbrev pub IsUnread : Holdings → Source → Unread → Type 0
+abbrev pub IsUnread : Holdings → SourceAsked → Unread → Type 0
 IsUnread shelf source (unread.File fault) = fault ≡ file_fault.Device → shelf.lacks source.file
 IsUnread shelf source (unread.Lib it) =
     (text : List ℕ) × shelf.holds source.file text × LibIsUnread shelf source.libs it

@@ -1,7 +1,7 @@
 -- Closed facts: how an option changes what is asked, and what is read of the files of a source.
 use Rattle.std.specs.Prelude.{◌≡◌, true, false, List, [], ◌∷◌, codes, map, refl}
 use Rattle.bcheck.specs.declared.form.FindingForm.TheVariants as forms
-use Rattle.bcount.specs.declared.table.Style.TheVariants as styles
+use Rattle.bcount.specs.declared.table.CountStyle.TheVariants as styles
 use Rattle.btrace.specs.declared.trail.TraceRows.TheVariants as traced
 use Rattle.bshow.specs.declared.showing.PageRows.TheVariants as paged
 use Rattle.bcommand.specs.declared.job.Rows.TheVariants as which

@@ -27,13 +27,13 @@ use Rattle.btrace.specs.Traces.{Traces}
 use Rattle.btrace.specs.declared.trail.TraceRows.{TraceRows as Traced}
 use Rattle.btrace.specs.declared.trail.TraceRows.TheVariants as traced
 use Rattle.bcount.specs.Counts.{Counts}
-use Rattle.bcount.specs.declared.table.Style.{Style}
-use Rattle.bcount.specs.declared.table.Style.TheVariants as styles
+use Rattle.bcount.specs.declared.table.CountStyle.{CountStyle}
+use Rattle.bcount.specs.declared.table.CountStyle.TheVariants as styles
 use Rattle.bshow.specs.Shows.{Shows}
 use Rattle.bshow.specs.declared.showing.PageRows.{PageRows as Paged}
 use Rattle.bshow.specs.declared.showing.PageRows.TheVariants as paged
 use Rattle.bformat.specs.Formats.{Formats}
-use Rattle.bcommand.specs.CommandLine.{Asked, Question, Source, asked, clash_line, command_line}
+use Rattle.bcommand.specs.CommandLine.{Asked, Question, SourceAsked, asked, clash_line, command_line}
 use Rattle.bcommand.specs.CommandLine.{compile, run, go, migrate, ask, contradiction}
 use Rattle.bcommand.specs.CommandLine.{list, map, draw, check, trace, locate, count, show, format}
 use Rattle.bcommand.specs.declared.job.Rows.{Rows}
@@ -79,7 +79,7 @@ page_rows (which.From number) = paged.From number
 page_rows (which.Last most) = paged.Last most
 
 -- how counts are told
-abbrev pub style_of : (for_editor : Bool) → Style
+abbrev pub style_of : (for_editor : Bool) → CountStyle
 style_of for_editor = if for_editor then styles.Json else styles.Table
 
 -- a page of a run whose input is given, or that reads the program's own
@@ -116,16 +116,16 @@ pub record ReadsLibs (shelf : Holdings) (names : List Text) : Type 0 where
   pub held : All (λ it. shelf.holds it.name it.text) texts
 
 -- A source was read: its first file, and those that follow it.
-pub record Reads (shelf : Holdings) (source : Source) : Type 0 where
+pub record Reads (shelf : Holdings) (source : SourceAsked) : Type 0 where
   pub text : List ℕ
   pub held : shelf.holds source.file text
   pub libs : ReadsLibs shelf source.libs
 
 -- the bytes of the source: those of its files, a newline between them
-abbrev pub whole : {shelf : Holdings} {source : Source} → Reads shelf source → List ℕ
+abbrev pub whole : {shelf : Holdings} {source : SourceAsked} → Reads shelf source → List ℕ
 whole r = joined r.text (map_each (λ it. it.text) r.libs.texts)
 
-abbrev pub files_read : {shelf : Holdings} {source : Source} → Reads shelf source → Files
+abbrev pub files_read : {shelf : Holdings} {source : SourceAsked} → Reads shelf source → Files
 files_read {shelf} {source} r =
     record { first = file_of source.file r.text; rest = (followed r.libs.texts).files }
 
@@ -140,7 +140,7 @@ pub record NamesLib (shelf : Holdings) (names : List Text) (ends : RunEnds) (sta
   pub named : NamesFile (shelf.lacks lib) lib ends status
 
 -- the first file of a source was read, and then one could not be
-abbrev pub NamesLibOf : Holdings → Source → RunEnds → ℕ → Type 0
+abbrev pub NamesLibOf : Holdings → SourceAsked → RunEnds → ℕ → Type 0
 NamesLibOf shelf source ends status =
     (text : List ℕ) × shelf.holds source.file text × NamesLib shelf source.libs ends status
 

@@ -17,7 +17,7 @@ use Rattle.blang.specs.Headline.{GoesOff}
 use Rattle.blang.specs.Reports.{HasNotRun, Reported, RunEnds}
 use Rattle.brun.specs.OneRun.{nothing_written, one_run_ends, unread}
 use Rattle.brun.specs.Runs.{RunsText}
-use Rattle.bcommand.specs.CommandLine.{Question, Source, ask, asked, command_line, compile, contradiction, go, run}
+use Rattle.bcommand.specs.CommandLine.{Question, SourceAsked, ask, asked, command_line, compile, contradiction, go, run}
 use Rattle.bcommand.specs.CommandLine.{count, locate, show, trace}
 use Rattle.bsources.specs.Files.{Files, file_of}
 use Rattle.bsources.specs.JoinedEnds.{joined_in}
@@ -28,7 +28,7 @@ use Rattle.bcli.specs.declared.shelf.MemFile.{MemFile}
 use Rattle.bcli.specs.Serves.{Answers, CompilesJoined, Does, HasNoFile, IsHelp, NamesFile, NamesLib, NamesLibOf}
 use Rattle.bcli.specs.Serves.{SaysNothing, Serves, compiling, unread_line}
 use Rattle.bcli.specs.Blocks.{HandsOn, Held, TakesPiece, held}
-use Rattle.bcli.specs.Processes.{KnownStreams, PerformsInOrder, ServesProcess}
+use Rattle.bcli.specs.Processes.{KnownStreams, PerformsTask, ServesProcess}
 use Rattle.bcli.specs.Shelves.{Holdings, holding}
 
 -- The words have a fault, and don't ask for help.
@@ -42,7 +42,7 @@ pub record HoldsOne (shelf : Holdings) (file text : List ℕ) : Type 0 where
   pub there : shelf.lacks file → ⊥
 
 -- a source in two files
-abbrev pub with_lib : (file lib : Text) → Edition → Source
+abbrev pub with_lib : (file lib : Text) → Edition → SourceAsked
 with_lib file lib edition = record { file = file; libs = lib ∷ []; edition = edition }
 
 -- The input and the bytes after it are fewer than a u64 counts, and so are the calls that failed.
@@ -100,7 +100,7 @@ pub record Excluded (shelf : Holdings) : Type 0 where
   pub lib_later : (lib : Text) (libs : List Text) (ends : RunEnds) (status : ℕ)
       → ((text : List ℕ) → shelf.holds lib text → ⊥) → NamesLib shelf (lib ∷ libs) ends status
       → NamesFile (shelf.lacks lib) lib ends status
-  pub file_later : (source : Source) (ends : RunEnds) (status : ℕ)
+  pub file_later : (source : SourceAsked) (ends : RunEnds) (status : ℕ)
       → ((text : List ℕ) → shelf.holds source.file text → ⊥) → NamesLibOf shelf source ends status → ⊥
   -- a source of two files that is run, or of which is told, as other bytes than the one's, a newline and the other's
   pub joined_alone : (file lib a b : List ℕ) (edition : Edition) (steps : ℕ) (ends : RunEnds) (status : ℕ)
@@ -138,7 +138,7 @@ pub record Excluded (shelf : Holdings) : Type 0 where
   pub unread_words_done : (old new : Outgoing) → Reported unread_line WRONG_COMMAND old new DONE → ⊥
 
 -- the source in a file
-abbrev pub alone : MemFile → Edition → Source
+abbrev pub alone : MemFile → Edition → SourceAsked
 alone file edition = record { file = file.name.now; libs = []; edition = edition }
 
 -- its name and its lines
@@ -189,9 +189,9 @@ pub record ProcessExcluded (files : Holdings) : Type 0 where
   -- a status that no task of this kind answers, or one that isn't that of a failed write though nothing was shown
   pub unanswered : (test : RunEnds → ℕ → Bool) (known : KnownStreams) (status : ℕ)
       → ((ends : RunEnds) → test ends status ≡ false)
-      → PerformsInOrder (λ ends told. IsTrue (test ends told)) (Unit {0}) known status
+      → PerformsTask (λ ends told. IsTrue (test ends told)) (Unit {0}) known status
       → (status ≡ DEVICE) ⊎ (status ≡ MEMORY)
-  pub unshown : (known : KnownStreams) (status : ℕ) → PerformsInOrder (λ ends told. Unit {0}) ⊥ known status
+  pub unshown : (known : KnownStreams) (status : ℕ) → PerformsTask (λ ends told. Unit {0}) ⊥ known status
       → (status ≡ DEVICE) ⊎ (status ≡ MEMORY)
   -- a block that loses bytes or has others, when it takes a piece and when it shows what it keeps
   pub held_grows : (has_room fits : Bool) (old new : Held) (piece : List ℕ) → TakesPiece has_room fits old piece new

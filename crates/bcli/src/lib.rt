@@ -2,11 +2,11 @@
 #![tactic(auto)]
 
 mod block;
-mod in_order;
+mod process;
 mod serving;
 mod shelf;
 mod sources;
 
-pub use in_order::{Served, Streams, serve_in_order, wrong_processes_are_excluded};
+pub use process::{Served, Streams, serve_process, wrong_processes_are_excluded};
 pub use serving::{files_are_read, refuse_words, serve, serve_with, wrong_answers_are_excluded};
 pub use shelf::{FileFault, MemFile, Shelf, SystemFiles};

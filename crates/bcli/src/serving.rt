@@ -14,8 +14,8 @@ ghost use Rattle.bcli.specs.Shelves.{opened};
 use crate::shelf::{FileFault, MemFile, Shelf, SystemFiles};
 use crate::sources::{Unread, Whole, read_libs, read_source};
 use bcheck::{FindingForm, Request, check};
-use bcommand::{Display, Job, Question, Rows, Source, UNREAD, clash_text, job_of, parse};
-use bcount::{Counting, Style, count};
+use bcommand::{Display, Job, Question, Rows, SourceNames, UNREAD, clash_text, job_of, parse};
+use bcount::{CountStyle, Counting, count};
 use bdraw::draw;
 use bformat::{House, format};
 use blang::status::{self, Status};
@@ -202,7 +202,7 @@ fn run_file<S: Shelf, I: ByteIn, O: ByteOut, D: ByteOut>(
 fn go_file<S: Shelf, I: ByteIn, O: ByteOut, D: ByteOut>(
     alloc: Global,
     shelf: &S,
-    source: Source<'_>,
+    source: SourceNames<'_>,
     steps: u64,
     input: &mut I,
     out: &mut O,
@@ -234,7 +234,7 @@ fn go_file<S: Shelf, I: ByteIn, O: ByteOut, D: ByteOut>(
 fn ask_file<S: Shelf, I: ByteIn, O: ByteOut, D: ByteOut>(
     alloc: Global,
     shelf: &S,
-    source: Source<'_>,
+    source: SourceNames<'_>,
     question: Question<'_>,
     input: &mut I,
     out: &mut O,
@@ -407,13 +407,13 @@ fn page_rows(rows: Rows) -> bshow::PageRows
     }
 }
 
-fn style_of(for_editor: bool) -> Style
+fn style_of(for_editor: bool) -> CountStyle
     ensures { result ≡ style_of for_editor }
 {
     if for_editor {
-        Style::Json
+        CountStyle::Json
     } else {
-        Style::Table
+        CountStyle::Table
     }
 }
 

@@ -5,7 +5,7 @@ ghost use Rattle.bsources.specs.Files.{files_shown};
 ghost use Rattle.bcli.specs.Reading.{HasReadLibs, HasReadSource, IsUnread, LibIsUnread};
 
 use crate::shelf::{FileFault, Shelf};
-use bcommand::Source;
+use bcommand::SourceNames;
 use bsources::{Following, SourceFile, SourceFiles};
 use std::alloc::Global;
 
@@ -36,7 +36,7 @@ pub(crate) enum Unread<'a> {
 pub(crate) fn read_source<'a, S: Shelf>(
     alloc: Global,
     shelf: &S,
-    source: Source<'a>,
+    source: SourceNames<'a>,
 ) -> Result<Whole<'a>, Unread<'a>>
     ensures ok { IfOk result (HasReadSource (S.holdings shelf.now) (source_shown source.entry)) }
     ensures err { IfErr result (IsUnread (S.holdings shelf.now) (source_shown source.entry)) }

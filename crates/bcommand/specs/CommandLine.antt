@@ -19,7 +19,7 @@ use Rattle.bcommand.specs.declared.job.Job.{Job}
 use Rattle.bcommand.specs.declared.job.Job.TheVariants as job
 use Rattle.bcommand.specs.declared.job.Question.{Question as Questioned}
 use Rattle.bcommand.specs.declared.job.Question.TheVariants as questioned
-use Rattle.bcommand.specs.declared.job.Source.{Source as Given}
+use Rattle.bcommand.specs.declared.job.SourceNames.{SourceNames as Given}
 use Rattle.bcommand.specs.declared.job.Walk.{Walk}
 use Rattle.bcommand.specs.declared.job.Clash.{Clash}
 use Rattle.bcommand.specs.declared.job.Clash.TheVariants as clash
@@ -224,12 +224,12 @@ abbrev pub input_in : List Row → Option Text
 input_in rows = first_of (codes "input") rows
 
 -- a source: the name of its file, those of the files that come after it, and its edition
-pub record Source : Type 0 where
+pub record SourceAsked : Type 0 where
   pub file : Text
   pub libs : List Text
   pub edition : Edition
 
-abbrev pub source_in : List Row → Source
+abbrev pub source_in : List Row → SourceAsked
 source_in rows = record { file = file_in rows; libs = libs_in rows; edition = edition_in rows }
 
 -- What is asked of a source: its code, or that of its definitions of a name; its layout; a picture of its memory, after
@@ -254,9 +254,9 @@ pub data Question : Type 0 where
 pub data Asked : Type 0 where
   compile : (edition : Edition) (libs : List Text) → Asked
   run : (file : Text) (steps : ℕ) → Asked
-  go : Source → (steps : ℕ) → Asked
+  go : SourceAsked → (steps : ℕ) → Asked
   migrate : Asked
-  ask : Source → Question → Asked
+  ask : SourceAsked → Question → Asked
   contradiction : Clash → Asked
 
 abbrev pub run_asked : Text → Option ℕ → Asked
@@ -264,7 +264,7 @@ run_asked file (Some steps) = run file steps
 run_asked file None = contradiction clash.Limits
 
 -- where the run was over is asked for by a flag
-abbrev pub go_asked : Source → (is_located : Bool) → Option ℕ → Asked
+abbrev pub go_asked : SourceAsked → (is_located : Bool) → Option ℕ → Asked
 go_asked source false (Some steps) = go source steps
 go_asked source true (Some steps) = ask source (locate steps)
 go_asked source is_located None = contradiction clash.Limits
@@ -275,16 +275,16 @@ map_asked false None = map
 map_asked false (Some steps) = draw (Some steps)
 map_asked true steps = draw steps
 
-abbrev pub trace_asked : Source → (steps : Option ℕ) → Option Rows → (function : Option Text) → Asked
+abbrev pub trace_asked : SourceAsked → (steps : Option ℕ) → Option Rows → (function : Option Text) → Asked
 trace_asked source steps (Some shown) function =
     ask source (trace (unwrap_or steps (trace_steps shown)) shown function)
 trace_asked source steps None function = contradiction clash.Rows
 
-abbrev pub show_asked : Source → (steps : Option ℕ) → Option Rows → (input : Option Text) → Asked
+abbrev pub show_asked : SourceAsked → (steps : Option ℕ) → Option Rows → (input : Option Text) → Asked
 show_asked source steps (Some shown) input = ask source (show (unwrap_or steps (shown_steps shown)) shown input)
 show_asked source steps None input = contradiction clash.Rows
 
-abbrev pub count_asked : Source → (for_editor : Bool) → Option ℕ → Asked
+abbrev pub count_asked : SourceAsked → (for_editor : Bool) → Option ℕ → Asked
 count_asked source for_editor (Some steps) = ask source (count steps for_editor)
 count_asked source for_editor None = contradiction clash.Limits
 
@@ -325,7 +325,7 @@ abbrev pub asked : Option (Text × List Row) → Asked
 asked None = compile editions.One []
 asked (Some command) = asked_by command.0 command.1
 
-abbrev pub source_shown : Given → Source
+abbrev pub source_shown : Given → SourceAsked
 source_shown source =
     record { file = source.file.now; libs = map_each (λ lib. lib.now) source.libs.now; edition = source.edition }
 

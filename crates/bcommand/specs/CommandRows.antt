@@ -5,7 +5,7 @@ use Rattle.clap.specs.declared.error.kind.ErrorKind.TheVariants as kind
 use Rattle.clap.proofs.OnLiterals.{clap_on_literals}
 use Rattle.bword.specs.declared.edition.Edition.TheVariants as editions
 use Rattle.bword.specs.declared.edition.Edition.{Edition}
-use Rattle.bcommand.specs.CommandLine.{Asked, Source, asked, command_line}
+use Rattle.bcommand.specs.CommandLine.{Asked, SourceAsked, asked, command_line}
 use Rattle.bcommand.specs.CommandLine.{compile, run, go, migrate, ask, contradiction}
 use Rattle.bcommand.specs.CommandLine.{list, map, draw, check, trace, locate, count, show, format}
 use Rattle.bcommand.specs.declared.job.Clash.TheVariants as clash
@@ -22,11 +22,11 @@ abbrev Asks : List Text → Asked → Type 0
 Asks words what = (fault_of command_line words ≡ []) × (asked (subcommand_of command_line words) ≡ what)
 
 -- the source in the file x
-abbrev x : Edition → Source
+abbrev x : Edition → SourceAsked
 x edition = record { file = codes "x"; libs = []; edition = edition }
 
 -- the same, and after it these files
-abbrev x_with : List Text → Source
+abbrev x_with : List Text → SourceAsked
 x_with libs = record { file = codes "x"; libs = libs; edition = editions.One }
 
 compiles : Asks (codes "b" ∷ codes "compile" ∷ []) (compile editions.One [])

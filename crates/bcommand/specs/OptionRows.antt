@@ -3,7 +3,7 @@ use Rattle.std.specs.Prelude.{◌≡◌, ◌==◌, true, false, List, [], ◌∷
 use Rattle.clap.specs.Words.{Text, fault_of, subcommand_of}
 use Rattle.clap.proofs.OnLiterals.{clap_on_literals}
 use Rattle.bword.specs.declared.edition.Edition.TheVariants as editions
-use Rattle.bcommand.specs.CommandLine.{Asked, Source, asked, command_line}
+use Rattle.bcommand.specs.CommandLine.{Asked, SourceAsked, asked, command_line}
 use Rattle.bcommand.specs.CommandLine.{compile, run, go, ask, contradiction}
 use Rattle.bcommand.specs.CommandLine.{list, map as layout, draw, check, trace, locate, count, show, format}
 use Rattle.bcommand.specs.declared.job.Clash.TheVariants as clash
@@ -114,7 +114,7 @@ abbrev asked_by_words : List Text → Asked
 asked_by_words words = asked (subcommand_of command_line (codes "b" ∷ words))
 
 -- the source in the file x, and l after it
-abbrev both : Source
+abbrev both : SourceAsked
 both = record { file = codes "x"; libs = codes "l" ∷ []; edition = editions.Two }
 
 abbrev of_both : (name : Text) → (more : List Text) → Asked
@@ -139,7 +139,7 @@ compiles_both = refl
 abbrev of_x : (words : List Text) → Asked
 of_x words = asked_by_words (words ++ x)
 
-abbrev alone : Source
+abbrev alone : SourceAsked
 alone = record { file = codes "x"; libs = []; edition = editions.One }
 
 -- a number of steps, none, and both

@@ -4,10 +4,10 @@ use Rattle.clap.specs.Words.{App, Rule, Text, new_app, with_rule, with_subcomman
 use Rattle.bcommand.specs.CommandLine.{argument_rule, bare_line, flag_rule, number_rule, repeated_rule, text_rule}
 use Rattle.bcommand.specs.declared.commands.ArgumentRow.{ArgumentRow}
 use Rattle.bcommand.specs.declared.commands.CommandRow.{CommandRow}
-use Rattle.bcommand.specs.declared.commands.Kind.{Kind}
-use Rattle.bcommand.specs.declared.commands.Kind.TheVariants.{Flag, Number, Text as Texted, Repeated, Positional}
+use Rattle.bcommand.specs.declared.commands.GivenAs.{GivenAs}
+use Rattle.bcommand.specs.declared.commands.GivenAs.TheVariants.{Flag, Number, Text as Texted, Repeated, Positional}
 
-abbrev pub rule_by : Kind → Text → Rule
+abbrev pub rule_by : GivenAs → Text → Rule
 rule_by Flag id = flag_rule id
 rule_by (Number most) id = number_rule id most
 rule_by (Texted name) id = text_rule id

@@ -25,13 +25,13 @@ pub(crate) struct CommandRow {
 #[derive(Clone, Copy)]
 pub(crate) struct ArgumentRow {
     id: &'static str,
-    kind: Kind,
+    kind: GivenAs,
     help: &'static str,
 }
 
 /// How an option, a flag or an argument is given.
 #[derive(Clone, Copy)]
-pub(crate) enum Kind {
+pub(crate) enum GivenAs {
     Flag,
     /// An option with a number from 1 to this one.
     Number(u32),
@@ -48,109 +48,109 @@ const MOST_STEPS: u32 = 4_000_000_000;
 
 const EDITION: ArgumentRow = ArgumentRow {
     id: "edition",
-    kind: Kind::Number(2),
+    kind: GivenAs::Number(2),
     help: "The edition of the source, 1 or 2; 1 if not given",
 };
 
 const STEPS: ArgumentRow = ArgumentRow {
     id: "steps",
-    kind: Kind::Number(MOST_STEPS),
+    kind: GivenAs::Number(MOST_STEPS),
     help: "At most N steps, 1 to 4000000000; 10000000 if not given",
 };
 
 const TRACE_STEPS: ArgumentRow = ArgumentRow {
     id: "steps",
-    kind: Kind::Number(MOST_STEPS),
+    kind: GivenAs::Number(MOST_STEPS),
     help: "At most N steps, 1 to 4000000000; 1000 if not given",
 };
 
 const MOMENT: ArgumentRow = ArgumentRow {
     id: "steps",
-    kind: Kind::Number(MOST_STEPS),
+    kind: GivenAs::Number(MOST_STEPS),
     help: "Draws memory after N steps, 1 to 4000000000",
 };
 
 const FROM: ArgumentRow = ArgumentRow {
     id: "from",
-    kind: Kind::Number(MOST_STEPS),
+    kind: GivenAs::Number(MOST_STEPS),
     help: "Shows steps from N on, 1 to 4000000000; 1 if not given",
 };
 
 const LAST: ArgumentRow = ArgumentRow {
     id: "last",
-    kind: Kind::Number(MOST_STEPS),
+    kind: GivenAs::Number(MOST_STEPS),
     help: "Shows the last N of the steps, 1 to 4000000000",
 };
 
 const SHOWN_STEPS: ArgumentRow = ArgumentRow {
     id: "steps",
-    kind: Kind::Number(MOST_STEPS),
+    kind: GivenAs::Number(MOST_STEPS),
     help: "At most N steps, 1 to 4000000000; 2000 shown if not given",
 };
 
 const INPUT: ArgumentRow = ArgumentRow {
     id: "input",
-    kind: Kind::Text("TEXT"),
+    kind: GivenAs::Text("TEXT"),
     help: "The input of the program, in place of standard input",
 };
 
 const CHECK: ArgumentRow = ArgumentRow {
     id: "check",
-    kind: Kind::Flag,
+    kind: GivenAs::Flag,
     help: "Writes nothing, and ends with 2 where it would change",
 };
 
 const FUNCTION: ArgumentRow = ArgumentRow {
     id: "function",
-    kind: Kind::Text("NAME"),
+    kind: GivenAs::Text("NAME"),
     help: "Shows the steps of this function; of all if not given",
 };
 
 const NO_LIMIT: ArgumentRow = ArgumentRow {
     id: "no-limit",
-    kind: Kind::Flag,
+    kind: GivenAs::Flag,
     help: "Makes as many steps as the run takes",
 };
 
 const WHERE: ArgumentRow = ArgumentRow {
     id: "where",
-    kind: Kind::Flag,
+    kind: GivenAs::Flag,
     help: "Tells where a trap or the limit came, and what it means",
 };
 
 const JSON: ArgumentRow = ArgumentRow {
     id: "json",
-    kind: Kind::Flag,
+    kind: GivenAs::Flag,
     help: "Writes one object on each line, for an editor",
 };
 
 const SVG: ArgumentRow = ArgumentRow {
     id: "svg",
-    kind: Kind::Flag,
+    kind: GivenAs::Flag,
     help: "Draws a picture, an SVG file",
 };
 
 const WITH: ArgumentRow = ArgumentRow {
     id: "with",
-    kind: Kind::Repeated("LIB"),
+    kind: GivenAs::Repeated("LIB"),
     help: "Puts the source in LIB after FILE; as often as wanted",
 };
 
 const FILE: ArgumentRow = ArgumentRow {
     id: "FILE",
-    kind: Kind::Positional(true),
+    kind: GivenAs::Positional(true),
     help: "The file; /dev/stdin is standard input",
 };
 
 const FILE_OR_INPUT: ArgumentRow = ArgumentRow {
     id: "FILE",
-    kind: Kind::Positional(true),
+    kind: GivenAs::Positional(true),
     help: "The file; - is standard input",
 };
 
 const NAME: ArgumentRow = ArgumentRow {
     id: "NAME",
-    kind: Kind::Positional(false),
+    kind: GivenAs::Positional(false),
     help: "The definition to list; all if not given",
 };
 
@@ -296,14 +296,14 @@ fn argument_of<'a>(alloc: Global, row: ArgumentRow) -> Arg<'a>
 {
     let arg = Arg::new(alloc, row.id).help(row.help);
     match row.kind {
-        Kind::Flag => arg.long(row.id).action(ArgAction::SetTrue),
-        Kind::Number(most) => arg
+        GivenAs::Flag => arg.long(row.id).action(ArgAction::SetTrue),
+        GivenAs::Number(most) => arg
             .long(row.id)
             .value_name("N")
             .action(ArgAction::Set)
             .value_parser(value_parser!(u64).range(1..=i64::from(most))),
-        Kind::Text(name) => arg.long(row.id).value_name(name).action(ArgAction::Set),
-        Kind::Repeated(name) => arg.long(row.id).value_name(name).action(ArgAction::Append),
-        Kind::Positional(is_required) => arg.required(is_required).action(ArgAction::Set),
+        GivenAs::Text(name) => arg.long(row.id).value_name(name).action(ArgAction::Set),
+        GivenAs::Repeated(name) => arg.long(row.id).value_name(name).action(ArgAction::Append),
+        GivenAs::Positional(is_required) => arg.required(is_required).action(ArgAction::Set),
     }
 }

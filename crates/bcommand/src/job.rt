@@ -9,9 +9,9 @@ pub enum Job<'a> {
     /// A run of the code text in a file, of so many steps at most.
     Run(&'a str, u64),
     /// A run of a source, of so many steps at most.
-    Go(Source<'a>, u64),
+    Go(SourceNames<'a>, u64),
     Migrate,
-    Ask(Source<'a>, Question<'a>),
+    Ask(SourceNames<'a>, Question<'a>),
     /// Two options that contradict each other.
     Contradiction(Clash),
 }
@@ -74,7 +74,7 @@ pub struct Display<'a> {
 
 /// A source in a file, and in those that come after it.
 #[derive(Clone, Copy)]
-pub struct Source<'a> {
+pub struct SourceNames<'a> {
     pub file: &'a str,
     pub libs: &'a [&'a str],
     pub edition: Edition,

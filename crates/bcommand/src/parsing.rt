@@ -5,7 +5,7 @@ ghost use Rattle.bcommand.specs.CommandLine.{asked, asked_of, command_line, edit
 ghost use Rattle.bcommand.specs.CommandLine.{count_in, go_in, map_in, rows_asked, run_in, show_in, shown_steps, trace_in, trace_steps};
 
 use crate::commands::command;
-use crate::job::{Clash, Display, Job, Question, Rows, Source, Walk};
+use crate::job::{Clash, Display, Job, Question, Rows, SourceNames, Walk};
 use bword::Edition;
 use clap::{ArgMatches, Error};
 use std::alloc::Global;
@@ -73,10 +73,10 @@ fn go_of<'m, 'a: 'm>(given: &'m ArgMatches<'a>) -> Job<'m>
     }
 }
 
-fn source_of<'m, 'a: 'm>(given: &'m ArgMatches<'a>) -> Source<'m>
+fn source_of<'m, 'a: 'm>(given: &'m ArgMatches<'a>) -> SourceNames<'m>
     ensures { source_shown result ≡ source_in (rows_of (found_of given.now)) }
 {
-    Source {
+    SourceNames {
         file: file_of(given),
         libs: libs_of(given),
         edition: edition_of(given),

@@ -5,10 +5,10 @@ use Rattle.std.specs.List.{insert, position, position_or_len}
 use Rattle.std.proofs.lemmas.Bool.{ltb-false}
 use Rattle.std.proofs.lemmas.List.Sums.{prefix_len-le-length}
 use Rattle.bcount.specs.Marks.{inserted}
-use Rattle.bcount.specs.declared.marks.Mark.{Mark}
+use Rattle.bcount.specs.declared.marks.MarkedLine.{MarkedLine}
 
 -- where it is inserted
-pub inserted_at : (m : Mark) (xs : List Mark) → insert xs (position_or_len (λ k. nat_lt k.steps m.steps) xs) m ≡ inserted m xs
+pub inserted_at : (m : MarkedLine) (xs : List MarkedLine) → insert xs (position_or_len (λ k. nat_lt k.steps m.steps) xs) m ≡ inserted m xs
 inserted_at m [] = refl
 inserted_at m (k ∷ ks) = by (nat_lt k.steps m.steps) (inserted_at m ks)
   where

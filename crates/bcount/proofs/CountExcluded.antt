@@ -28,8 +28,8 @@ use Rattle.bcount.specs.SourceLines.{last_line, newlines_in}
 use Rattle.bcount.specs.Tables.{heading_of, hint, row_after, table_text, total_of}
 use Rattle.bcount.specs.declared.lines.Counted.{Counted}
 use Rattle.bcount.specs.declared.lines.LineCount.{LineCount}
-use Rattle.bcount.specs.declared.table.Style.{Style}
-use Rattle.bcount.specs.declared.table.Style.TheVariants as styles
+use Rattle.bcount.specs.declared.table.CountStyle.{CountStyle}
+use Rattle.bcount.specs.declared.table.CountStyle.TheVariants as styles
 use Rattle.bcount.specs.declared.table.TheConstants.{HEADING}
 use Rattle.bcount.specs.Tallies.{counts_of}
 
@@ -80,7 +80,7 @@ only_one : (n : ℕ) → (0 < n) × (n ≤ 1) → n ≡ 1
 only_one n h = omega (arith, h.0, h.1)
 
 -- what is shown of a source of one line
-of_one_line : (style : Style) (source text : List ℕ) → last_line source ≡ 1 → ShowsBoth style source text → text ≡ table_text style alone source (line_counts (both 1 1) 1) 2
+of_one_line : (style : CountStyle) (source text : List ℕ) → last_line source ≡ 1 → ShowsBoth style source text → text ≡ table_text style alone source (line_counts (both 1 1) 1) 2
 of_one_line style source text last h =
     let on = on_lines 1 h.counted h.counts_are (subst (λ n. All (IsOnLines n) h.counted) last h.on_lines) in
     h.text_is ∙ (λ i. table_text style alone source (line_counts (on.is i) (last i)) 2)

@@ -8,8 +8,8 @@ use Rattle.std.proofs.lemmas.List.FromFn.{map-range_with_len_more}
 use Rattle.bsources.specs.Files.{Files, Line, beyond_first, own_line}
 use Rattle.btools.proofs.AddedTexts.{piece}
 use Rattle.bcount.specs.declared.lines.LineCount.{LineCount}
-use Rattle.bcount.specs.declared.table.Style.{Style}
-use Rattle.bcount.specs.declared.table.Style.TheVariants as styles
+use Rattle.bcount.specs.declared.table.CountStyle.{CountStyle}
+use Rattle.bcount.specs.declared.table.CountStyle.TheVariants as styles
 use Rattle.btools.specs.SourceLines.{source_lines}
 use Rattle.bcount.specs.SourceLines.{beside_text}
 use Rattle.bcount.specs.Tables.{cells_text, file_row, object_text, row_text}
@@ -35,13 +35,13 @@ rest_next source rest after index h next k =
     ∙ ap (λ n. get_or (source_lines rest) n []) (add-one k) ∙ next k
 
 -- the row of a line as an object
-pub object_row : (style : Style) (files : Files) (line : ℕ) (count got : LineCount) (marked : Bool) (bytes : List ℕ) (at : Line) (old new : List ℕ) → style ≡ styles.Json → at ≡ own_line files line → got ≡ count → new ≡ old ++ object_text at got
+pub object_row : (style : CountStyle) (files : Files) (line : ℕ) (count got : LineCount) (marked : Bool) (bytes : List ℕ) (at : Line) (old new : List ℕ) → style ≡ styles.Json → at ≡ own_line files line → got ≡ count → new ≡ old ++ object_text at got
     → new ≡ old ++ row_text style files line count marked bytes
 object_row style files line count got marked bytes at old new json there same is =
     is ∙ (λ i. old ++ object_text (there i) (same i)) ∙ ap (λ s. old ++ row_text s files line count marked bytes) (sym json)
 
 -- the row of a line of a table
-pub table_row : (style : Style) (files : Files) (line : ℕ) (count got : LineCount) (marked : Bool) (bytes : List ℕ) (number : ℕ) (beyond : Option Line) (old t1 t2 t3 new : List ℕ) → style ≡ styles.Table → beyond ≡ beyond_first files line
+pub table_row : (style : CountStyle) (files : Files) (line : ℕ) (count got : LineCount) (marked : Bool) (bytes : List ℕ) (number : ℕ) (beyond : Option Line) (old t1 t2 t3 new : List ℕ) → style ≡ styles.Table → beyond ≡ beyond_first files line
     → number ≡ (own_line files line).line → got ≡ count → t1 ≡ old ++ file_row beyond → t2 ≡ t1 ++ cells_text marked number got → t3 ≡ t2 ++ beside_text bytes → new ≡ t3 ++ codes "\n"
     → new ≡ old ++ row_text style files line count marked bytes
 table_row style files line count got marked bytes number beyond old t1 t2 t3 new table first own same file cells beside end =

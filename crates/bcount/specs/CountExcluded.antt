@@ -19,8 +19,8 @@ use Rattle.bwatch.specs.Watches.{Watches}
 use Rattle.bcount.specs.Counts.{AreCounts, Asked, Counts, IsTableOf}
 use Rattle.bcount.specs.SourceLines.{newlines_in}
 use Rattle.bcount.specs.Tables.{hint}
-use Rattle.bcount.specs.declared.table.Style.{Style}
-use Rattle.bcount.specs.declared.table.Style.TheVariants as style
+use Rattle.bcount.specs.declared.table.CountStyle.{CountStyle}
+use Rattle.bcount.specs.declared.table.CountStyle.TheVariants as style
 use Rattle.bcount.specs.declared.table.TheConstants.{HEADING}
 
 -- the code of `main(){}`, which halts with its second step
@@ -42,7 +42,7 @@ CountsOnly steps result tallies =
     → other ≡ tallies
 
 -- A text that shows that each of the two instructions of this source was made once.
-abbrev pub ShowsBoth : Style → (source text : List ℕ) → Type 0
+abbrev pub ShowsBoth : CountStyle → (source text : List ℕ) → Type 0
 ShowsBoth style source text = IsTableOf (record {
   edition = editions.One;
   steps = 2;

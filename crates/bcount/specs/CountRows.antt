@@ -5,7 +5,7 @@ use Rattle.std.specs.List.{range_with_len}
 use Rattle.bsources.specs.Files.{Files, Line}
 use Rattle.bcount.specs.declared.lines.Counted.{Counted}
 use Rattle.bcount.specs.declared.lines.LineCount.{LineCount}
-use Rattle.bcount.specs.declared.table.Style.TheVariants as style
+use Rattle.bcount.specs.declared.table.CountStyle.TheVariants as style
 use Rattle.bcount.specs.Counts.{line_counts, steps_on, times_on}
 use Rattle.bcount.specs.Marks.{is_marked, no_code}
 use Rattle.bcount.specs.SourceLines.{beside_text, last_line}

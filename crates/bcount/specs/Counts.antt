@@ -24,14 +24,14 @@ use Rattle.bcount.specs.Tallies.{counts_of}
 use Rattle.bcount.specs.declared.counting.Counting.{Counting}
 use Rattle.bcount.specs.declared.lines.Counted.{Counted}
 use Rattle.bcount.specs.declared.lines.LineCount.{LineCount}
-use Rattle.bcount.specs.declared.table.Style.{Style}
+use Rattle.bcount.specs.declared.table.CountStyle.{CountStyle}
 
 -- what is asked for
 pub record Asked : Type 0 where
   pub edition : Edition
   pub steps : ℕ
   pub files : Files
-  pub style : Style
+  pub style : CountStyle
 
 abbrev pub asked_of : Counting → Asked
 asked_of c = record { edition = c.edition; steps = c.steps; files = files_shown c.files; style = c.style }

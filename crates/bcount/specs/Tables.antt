@@ -9,15 +9,15 @@ use Rattle.btools.specs.SourceLines.{source_lines}
 use Rattle.bcount.specs.Marks.{is_marked, no_code}
 use Rattle.bcount.specs.SourceLines.{beside_text}
 use Rattle.bcount.specs.declared.lines.LineCount.{LineCount}
-use Rattle.bcount.specs.declared.table.Style.{Style}
-use Rattle.bcount.specs.declared.table.Style.TheVariants as style
+use Rattle.bcount.specs.declared.table.CountStyle.{CountStyle}
+use Rattle.bcount.specs.declared.table.CountStyle.TheVariants as style
 use Rattle.bcount.specs.declared.table.TheConstants.{HEADING}
 
 -- the columns of a table
 table_heading : HEADING.now ≡ codes "    line         times         steps  source\n"
 table_heading = refl
 
-abbrev pub heading_of : Style → List ℕ
+abbrev pub heading_of : CountStyle → List ℕ
 heading_of style.Table = HEADING.now
 heading_of style.Json = []
 
@@ -47,19 +47,19 @@ abbrev pub object_text : Line → LineCount → List ℕ
 object_text at c = counts_object at c.times c.steps
 
 -- the row of a line: what its code did, whether it is marked, and its bytes
-abbrev pub row_text : Style → Files → (line : ℕ) → LineCount → Bool → (bytes : List ℕ) → List ℕ
+abbrev pub row_text : CountStyle → Files → (line : ℕ) → LineCount → Bool → (bytes : List ℕ) → List ℕ
 row_text style.Json files line c marked bytes = object_text (own_line files line) c
 row_text style.Table files line c marked bytes =
     file_row (beyond_first files line) ++ cells_text marked (own_line files line).line c ++ beside_text bytes
     ++ codes "\n"
 
 -- the row of the line that comes after so many
-abbrev pub row_after : Style → Files → (source : List ℕ) → List LineCount → (index : ℕ) → List ℕ
+abbrev pub row_after : CountStyle → Files → (source : List ℕ) → List LineCount → (index : ℕ) → List ℕ
 row_after style files source lines index =
     row_text style files (index + 1) (get_or lines index no_code) (is_marked lines index)
     (get_or (source_lines source) index [])
 
-abbrev pub total_of : Style → (made : ℕ) → List ℕ
+abbrev pub total_of : CountStyle → (made : ℕ) → List ℕ
 total_of style.Table made = codes "   total" ++ right 28 (decimal made) ++ codes "\n"
 total_of style.Json made = []
 
@@ -71,12 +71,12 @@ lines_with_code lines = count_by (λ c. is_some c.times) lines
 abbrev pub hint : List ℕ
 hint = codes "  hint: all code is on one line; b format FILE gives each statement its own\n"
 
-abbrev pub hint_of : Style → List LineCount → List ℕ
+abbrev pub hint_of : CountStyle → List LineCount → List ℕ
 hint_of style.Table lines = if lines_with_code lines == 1 then hint else []
 hint_of style.Json lines = []
 
 -- a row of each line, in order, how many steps were made, and perhaps the hint
-abbrev pub table_text : Style → Files → (source : List ℕ) → List LineCount → (made : ℕ) → List ℕ
+abbrev pub table_text : CountStyle → Files → (source : List ℕ) → List LineCount → (made : ℕ) → List ℕ
 table_text style files source lines made =
     heading_of style ++ flat_map (row_after style files source lines) (range_with_len 0 (length lines))
     ++ total_of style made ++ hint_of style lines

@@ -8,7 +8,7 @@ ghost use Rattle.bcount.specs.Together.{StepsAddUp};
 
 use crate::lines::{counted_of, lines_of};
 use crate::source::last_line;
-use crate::table::{Style, Table, table_text};
+use crate::table::{CountStyle, Table, table_text};
 use crate::tallies::Tallies;
 use blang::Outcome;
 use blang::status::{self, Status};
@@ -27,7 +27,7 @@ pub struct Counting<'a> {
     pub steps: u64,
     /// The files of the source.
     pub files: SourceFiles<'a>,
-    pub style: Style,
+    pub style: CountStyle,
 }
 
 /// Compiles a source, runs its program for at most so many steps, and writes how often each line was made.

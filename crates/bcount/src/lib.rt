@@ -9,4 +9,4 @@ mod table;
 mod tallies;
 
 pub use counting::{Counting, count, steps_of_all_lines_add_up, wrong_counts_are_excluded};
-pub use table::Style;
+pub use table::CountStyle;

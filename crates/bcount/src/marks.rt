@@ -11,27 +11,27 @@ const MARKED: usize = 3;
 
 /// A line by the number of those before it, and how many steps its code took.
 #[derive(Clone, Copy)]
-pub struct Mark {
+pub struct MarkedLine {
     pub index: usize,
     pub steps: u64,
 }
 
 /// The lines that took most steps, the costliest first.
-pub fn marks_of(alloc: Global, lines: &[LineCount]) -> Result<Vec<Mark>, AllocError>
+pub fn marks_of(alloc: Global, lines: &[LineCount]) -> Result<Vec<MarkedLine>, AllocError>
     ensures { IfOk result (λ v. v.items ≡ marks_of lines.now) }
 {
     let mut marks = Vec::new(alloc);
     for index in 0..lines.len() {
         let steps = lines[index].steps;
         if steps > 0 {
-            place(&mut marks, Mark { index, steps })?;
+            place(&mut marks, MarkedLine { index, steps })?;
         }
     }
     Ok(marks)
 }
 
 // Puts a line before the first one that took fewer steps, and lets go of the last one if there are too many.
-fn place(marks: &mut Vec<Mark>, mark: Mark) -> Result<(), AllocError>
+fn place(marks: &mut Vec<MarkedLine>, mark: MarkedLine) -> Result<(), AllocError>
     ensures { OnOk result (marks.new.items ≡ take MARKED (inserted mark marks.old.items)) }
 {
     let cheaper = cheaper(marks, mark.steps);
@@ -41,7 +41,7 @@ fn place(marks: &mut Vec<Mark>, mark: Mark) -> Result<(), AllocError>
 }
 
 // The first line that took fewer steps.
-fn cheaper(marks: &[Mark], steps: u64) -> Option<usize>
+fn cheaper(marks: &[MarkedLine], steps: u64) -> Option<usize>
     ensures value { result ≡ position (λ m. nat_lt m.steps steps) marks.now }
     ensures within { IfSome result (λ n. n < length marks.now) }
 {
@@ -49,7 +49,7 @@ fn cheaper(marks: &[Mark], steps: u64) -> Option<usize>
 }
 
 /// Whether a line is one of them.
-pub fn is_marked(marks: &[Mark], index: usize) -> bool
+pub fn is_marked(marks: &[MarkedLine], index: usize) -> bool
     ensures { result ≡ list_any (λ m. m.index == index) marks.now }
 {
     marks.iter().any(|mark| mark.index == index)

@@ -14,7 +14,7 @@ use std::alloc::{AllocError, Global};
 
 /// How counts are written.
 #[derive(Clone, Copy)]
-pub enum Style {
+pub enum CountStyle {
     /// For people: a row for each line of the source.
     Table,
     /// For programs: an object a line, for each line of the source that has code.
@@ -26,7 +26,7 @@ pub enum Style {
 pub struct Table<'a> {
     pub source: &'a [u8],
     pub files: SourceFiles<'a>,
-    pub style: Style,
+    pub style: CountStyle,
     /// What the code of each line did.
     pub lines: &'a [LineCount],
     /// How many steps were made.
@@ -59,12 +59,12 @@ pub fn table_text(alloc: Global, table: &Table<'_>) -> Result<Text, AllocError>
     Ok(text)
 }
 
-fn push_heading(text: &mut Text, style: Style) -> Result<(), AllocError>
+fn push_heading(text: &mut Text, style: CountStyle) -> Result<(), AllocError>
     ensures { OnOk result (text.new ≡ text.old ++ heading_of style) }
 {
     match style {
-        Style::Table => text.push(HEADING),
-        Style::Json => text.push(b""),
+        CountStyle::Table => text.push(HEADING),
+        CountStyle::Json => text.push(b""),
     }
 }
 
@@ -84,8 +84,8 @@ fn push_row(
     let line = index as u64 + 1;
     let at = table.files.own_line(line);
     match table.style {
-        Style::Json => push_object(text, at, count),
-        Style::Table => {
+        CountStyle::Json => push_object(text, at, count),
+        CountStyle::Table => {
             push_file_row(text, table.files.beyond_first(line))?;
             push_cells(text, is_marked, at.line, count)?;
             push_beside(text, source)?;
@@ -153,26 +153,26 @@ fn push_object(text: &mut Text, at: FileLine<'_>, count: LineCount) -> Result<()
     text.push(b"}\n")
 }
 
-fn push_total(text: &mut Text, style: Style, made: u64) -> Result<(), AllocError>
+fn push_total(text: &mut Text, style: CountStyle, made: u64) -> Result<(), AllocError>
     ensures { OnOk result (text.new ≡ text.old ++ total_of style made) }
 {
     match style {
-        Style::Table => {
+        CountStyle::Table => {
             text.push(b"   total")?;
             text.push_right_number(28, made)?;
             text.push(b"\n")
         }
-        Style::Json => text.push(b""),
+        CountStyle::Json => text.push(b""),
     }
 }
 
 // What helps where all code is on one line, so that its counts tell little.
-fn push_hint(text: &mut Text, style: Style, lines: &[LineCount]) -> Result<(), AllocError>
+fn push_hint(text: &mut Text, style: CountStyle, lines: &[LineCount]) -> Result<(), AllocError>
     ensures { OnOk result (text.new ≡ text.old ++ hint_of style lines.now) }
 {
     match style {
-        Style::Table if lines_with_code(lines) == 1 => text.push(HINT),
-        Style::Table | Style::Json => text.push(b""),
+        CountStyle::Table if lines_with_code(lines) == 1 => text.push(HINT),
+        CountStyle::Table | CountStyle::Json => text.push(b""),
     }
 }
 

@@ -13,8 +13,8 @@ use Rattle.bdraw.specs.declared.shapes.Fill.{Fill}
 use Rattle.bdraw.specs.declared.shapes.Fill.TheVariants as fill
 use Rattle.bdraw.specs.declared.shapes.Shape.{Shape}
 use Rattle.bdraw.specs.declared.shapes.Shape.TheVariants as shape
-use Rattle.bdraw.specs.declared.shapes.Style.{Style}
-use Rattle.bdraw.specs.declared.shapes.Style.TheVariants as style
+use Rattle.bdraw.specs.declared.shapes.LabelStyle.{LabelStyle}
+use Rattle.bdraw.specs.declared.shapes.LabelStyle.TheVariants as style
 use Rattle.bdraw.specs.declared.shapes.TheConstants.{STYLES}
 
 both : (a b : Bool) → (a && b) ≡ true → (a ≡ true) × (b ≡ true)
@@ -100,7 +100,7 @@ element head x y words h tagless =
     with_none (tag ++ words) (codes "</text>\n") []
     (with_none tag words [] (with_none (placed head x y) (codes ">") [] (opening head [] x y h) (λ rest. refl)) (has_none words tagless)) (λ rest. refl)
 
-label : (s : Style) (x y : ℕ) (words : List ℕ) → list_all is_no_tag words ≡ true → Has (text_element (style_name s) x y words) []
+label : (s : LabelStyle) (x y : ℕ) (words : List ℕ) → list_all is_no_tag words ≡ true → Has (text_element (style_name s) x y words) []
 label style.Title x y words h = element (codes "<text class='title'") x y words (λ rest. refl) h
 label style.Name x y words h = element (codes "<text class='name'") x y words (λ rest. refl) h
 label style.Note x y words h = element (codes "<text class='note'") x y words (λ rest. refl) h

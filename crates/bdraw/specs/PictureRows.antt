@@ -8,7 +8,7 @@ use Rattle.bdraw.specs.declared.shapes.Cell.{Cell}
 use Rattle.bdraw.specs.declared.shapes.Fill.TheVariants as fill
 use Rattle.bdraw.specs.declared.shapes.Label.{Label}
 use Rattle.bdraw.specs.declared.shapes.Shape.TheVariants as shape
-use Rattle.bdraw.specs.declared.shapes.Style.TheVariants as style
+use Rattle.bdraw.specs.declared.shapes.LabelStyle.TheVariants as style
 use Rattle.bdraw.specs.declared.shapes.TheConstants.{STYLES}
 
 bytes_of_tags : map escape (38 ∷ 60 ∷ 62 ∷ 39 ∷ []) ≡ codes "&amp;" ∷ codes "&lt;" ∷ codes "&gt;" ∷ codes "'" ∷ []

@@ -9,8 +9,8 @@ use Rattle.bdraw.specs.declared.shapes.Label.{Label}
 use Rattle.bdraw.specs.declared.shapes.Shape.{Shape}
 use Rattle.bdraw.specs.declared.shapes.Shape.TheVariants as shape
 use Rattle.bdraw.specs.declared.shapes.TheConstants.{STYLES}
-use Rattle.bdraw.specs.declared.shapes.Style.{Style}
-use Rattle.bdraw.specs.declared.shapes.Style.TheVariants as style
+use Rattle.bdraw.specs.declared.shapes.LabelStyle.{LabelStyle}
+use Rattle.bdraw.specs.declared.shapes.LabelStyle.TheVariants as style
 
 -- how the shapes look
 styles : STYLES.now
@@ -41,7 +41,7 @@ abbrev pub fill_name : Fill → List ℕ
 fill_name fill.Same = codes "same"
 fill_name fill.Changed = codes "changed"
 
-abbrev pub style_name : Style → List ℕ
+abbrev pub style_name : LabelStyle → List ℕ
 style_name style.Title = codes "title"
 style_name style.Name = codes "name"
 style_name style.Note = codes "note"

@@ -5,7 +5,7 @@ ghost use Rattle.bdraw.specs.Draws.{AddsRow, Drawn, addresses_from, drawn, fill_
 ghost use Rattle.bdraw.specs.declared.shapes.Shape.TheVariants as shape;
 
 use crate::scene::{Memory, Moment, Scene, function_of};
-use crate::shapes::{Cell, Fill, HALF_BOX, Label, Shape, Style};
+use crate::shapes::{Cell, Fill, HALF_BOX, Label, LabelStyle, Shape};
 use blang::{Definition, FunctionParts};
 use bmach::{Active, FIRST_ADDRESS, LIBRARY, name_of, size_of};
 use btools::{Frame, Program, Text, push_characters};
@@ -43,13 +43,13 @@ pub fn picture_of<M: Memory>(alloc: Global, scene: &Scene<'_, M>) -> Result<Pict
         shapes: Vec::new(alloc),
         height: 24,
     };
-    picture.add_line(Style::Title, title_of(alloc, scene.moment)?)?;
+    picture.add_line(LabelStyle::Title, title_of(alloc, scene.moment)?)?;
     picture.add_library(alloc, scene)?;
     let definitions = scene.program.definitions.as_slice();
     let count = MOST_NAMES.min(definitions.len());
     picture.add_definitions(alloc, scene, &definitions[..count])?;
     picture.add_names_left_out(alloc, scene.program, &definitions[count..])?;
-    picture.add_line(Style::Name, data_end_of(alloc, scene.program)?)?;
+    picture.add_line(LabelStyle::Name, data_end_of(alloc, scene.program)?)?;
     picture.add_frames(alloc, scene)?;
     Ok(picture)
 }
@@ -97,7 +97,13 @@ impl Picture {
         y
     }
 
-    fn add_label(&mut self, x: u32, y: u32, style: Style, words: Text) -> Result<(), AllocError>
+    fn add_label(
+        &mut self,
+        x: u32,
+        y: u32,
+        style: LabelStyle,
+        words: Text,
+    ) -> Result<(), AllocError>
         ensures { OnOk result (drawn self.new.shapes.items ≡ drawn self.old.shapes.items) }
     {
         self.shapes
@@ -106,7 +112,7 @@ impl Picture {
     }
 
     // A line of text between rows.
-    fn add_line(&mut self, style: Style, words: Text) -> Result<(), AllocError>
+    fn add_line(&mut self, style: LabelStyle, words: Text) -> Result<(), AllocError>
         ensures { OnOk result (drawn self.new.shapes.items ≡ drawn self.old.shapes.items) }
     {
         let y = self.height;
@@ -126,7 +132,7 @@ impl Picture {
         let y = self.next_row();
         let mut name = Text::new(alloc);
         name.push(b"the library")?;
-        self.add_label(MARGIN, y.saturating_add(14), Style::Name, name)?;
+        self.add_label(MARGIN, y.saturating_add(14), LabelStyle::Name, name)?;
         self.add_cells(alloc, scene, y, 0, FIRST_ADDRESS)?;
         self.add_library_names(alloc, y)
     }
@@ -194,12 +200,12 @@ impl Picture {
     {
         let mut title = Text::new(alloc);
         title.push(name)?;
-        self.add_label(MARGIN, y.saturating_add(14), Style::Name, title)?;
+        self.add_label(MARGIN, y.saturating_add(14), LabelStyle::Name, title)?;
         let mut note = Text::new(alloc);
         note.push(kind)?;
         note.push(b", ")?;
         push_count(&mut note, u64::from(count), b"word")?;
-        self.add_label(MARGIN, y.saturating_add(28), Style::Note, note)
+        self.add_label(MARGIN, y.saturating_add(28), LabelStyle::Note, note)
     }
 
     // The characters of string words, which stand at these places from an address on.
@@ -246,7 +252,7 @@ impl Picture {
         let mut note = Text::new(alloc);
         push_count(&mut note, others, b"frame")?;
         note.push(b" more, of the outermost calls")?;
-        self.add_line(Style::Note, note)
+        self.add_line(LabelStyle::Note, note)
     }
 
     // The frame of a call.
@@ -342,7 +348,7 @@ impl Picture {
             let mut dots = Text::new(alloc);
             dots.push(b"..")?;
             let x = box_at(MOST_WORDS);
-            return self.add_label(x, y.saturating_add(14), Style::Name, dots);
+            return self.add_label(x, y.saturating_add(14), LabelStyle::Name, dots);
         }
         Ok(())
     }
@@ -384,7 +390,7 @@ impl Picture {
         ensures { OnOk result (drawn self.new.shapes.items ≡ drawn self.old.shapes.items) }
     {
         let x = box_at(place).saturating_add(HALF_BOX);
-        self.add_label(x, y.saturating_sub(4), Style::Above, words)
+        self.add_label(x, y.saturating_sub(4), LabelStyle::Above, words)
     }
 
     fn add_names_left_out(
@@ -404,7 +410,7 @@ impl Picture {
         push_place(&mut note, program, first)?;
         note.push(b" to ")?;
         push_place(&mut note, program, last)?;
-        self.add_line(Style::Note, note)
+        self.add_line(LabelStyle::Note, note)
     }
 }
 

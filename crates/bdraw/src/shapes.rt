@@ -24,7 +24,7 @@ pub struct Cell {
 
 /// How a label is written.
 #[derive(Clone, Copy)]
-pub enum Style {
+pub enum LabelStyle {
     Title,
     Name,
     Note,
@@ -37,7 +37,7 @@ pub enum Style {
 pub struct Label {
     pub x: u32,
     pub y: u32,
-    pub style: Style,
+    pub style: LabelStyle,
     pub words: Text,
 }
 
@@ -150,14 +150,14 @@ fn fill_name(fill: Fill) -> &'static [u8]
     }
 }
 
-fn style_name(style: Style) -> &'static [u8]
+fn style_name(style: LabelStyle) -> &'static [u8]
     ensures { result.now ≡ style_name style }
 {
     match style {
-        Style::Title => b"title",
-        Style::Name => b"name",
-        Style::Note => b"note",
-        Style::Above => b"above",
+        LabelStyle::Title => b"title",
+        LabelStyle::Name => b"name",
+        LabelStyle::Note => b"note",
+        LabelStyle::Above => b"above",
     }
 }
 

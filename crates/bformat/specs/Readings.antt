@@ -3,7 +3,7 @@ use Rattle.std.specs.Prelude.{◌≡◌, ℕ, Bool, false, true, List, map, Opti
 use Rattle.bword.specs.declared.edition.Edition.{Edition}
 use Rattle.blex.specs.declared.lexeme.Lexeme.{Lexeme}
 use Rattle.blex.specs.declared.lexeme.Lexeme.TheVariants as lexeme
-use Rattle.bformat.specs.declared.reading.Piece.{Piece}
+use Rattle.bformat.specs.declared.reading.SourceItem.{SourceItem}
 use Rattle.bformat.specs.Formats.{has_wrong_token}
 use Rattle.bformat.specs.Pieces.{pieces_of}
 

@@ -7,7 +7,7 @@ ghost use Rattle.bformat.specs.Readings.{AreRead};
 ghost use Rattle.btools.specs.Programs.{WasCompiled};
 
 use crate::layout::lay_out;
-use crate::reading::{Piece, has_pieces, read};
+use crate::reading::{SourceItem, has_pieces, read};
 use blang::status::{self, Status};
 use bparse::compile_edition;
 use btools::{Text, tell};
@@ -104,7 +104,7 @@ fn layout(
     alloc: Global,
     source: &[u8],
     edition: Edition,
-    pieces: &[Piece<'_>],
+    pieces: &[SourceItem<'_>],
 ) -> Result<Text, AllocError>
     requires { AreRead edition source.now pieces.now }
     ensures { IfOk result (IsLayout edition source.now) }

@@ -1,5 +1,5 @@
 //! What stands between two tokens of a line.
-use crate::kind::Kind;
+use crate::kind::ItemKind;
 use bword::is_name_byte;
 
 /// What stands before a token.
@@ -31,28 +31,30 @@ pub(crate) enum Role {
 }
 
 /// The role of a token after one of another role.
-pub(crate) fn role_of(kind: Kind, before: Role) -> Role {
+pub(crate) fn role_of(kind: ItemKind, before: Role) -> Role {
     match kind {
-        Kind::Word | Kind::CloseParen | Kind::CloseBracket => Role::Operand,
-        Kind::OpenParen | Kind::OpenBracket => Role::Open,
-        Kind::Comma => Role::Comma,
-        Kind::Not => Role::Prefix,
-        Kind::Sign if before != Role::Operand => Role::Prefix,
-        Kind::Step if before == Role::Operand => Role::Operand,
-        Kind::Step => Role::Prefix,
-        Kind::Sign | Kind::Operator | Kind::Question | Kind::Colon => Role::Infix,
-        Kind::Comment | Kind::Semicolon | Kind::OpenBrace | Kind::CloseBrace => Role::Infix,
+        ItemKind::Word | ItemKind::CloseParen | ItemKind::CloseBracket => Role::Operand,
+        ItemKind::OpenParen | ItemKind::OpenBracket => Role::Open,
+        ItemKind::Comma => Role::Comma,
+        ItemKind::Not => Role::Prefix,
+        ItemKind::Sign if before != Role::Operand => Role::Prefix,
+        ItemKind::Step if before == Role::Operand => Role::Operand,
+        ItemKind::Step => Role::Prefix,
+        ItemKind::Sign | ItemKind::Operator | ItemKind::Question | ItemKind::Colon => Role::Infix,
+        ItemKind::Comment | ItemKind::Semicolon | ItemKind::OpenBrace | ItemKind::CloseBrace =>
+            Role::Infix,
         _ => Role::Keyword,
     }
 }
 
 /// What stands before a token of this role, within a statement.
-pub(crate) fn gap_before(before: Role, kind: Kind, role: Role) -> Gap {
+pub(crate) fn gap_before(before: Role, kind: ItemKind, role: Role) -> Gap {
     match kind {
-        Kind::Comma | Kind::Semicolon | Kind::CloseParen | Kind::CloseBracket => Gap::Nothing,
-        Kind::OpenBracket if before == Role::Operand => Gap::Nothing,
-        Kind::OpenParen if before == Role::Operand || before == Role::Keyword => Gap::Nothing,
-        Kind::Step if role == Role::Operand => Gap::Nothing,
+        ItemKind::Comma | ItemKind::Semicolon | ItemKind::CloseParen | ItemKind::CloseBracket =>
+            Gap::Nothing,
+        ItemKind::OpenBracket if before == Role::Operand => Gap::Nothing,
+        ItemKind::OpenParen if before == Role::Operand || before == Role::Keyword => Gap::Nothing,
+        ItemKind::Step if role == Role::Operand => Gap::Nothing,
         _ if role == Role::Infix => Gap::Soft,
         _ => match before {
             Role::Open | Role::Prefix => Gap::Nothing,

@@ -5,7 +5,7 @@ use bword::BinOp;
 
 /// A comment or a token, as far as the layout tells them apart.
 #[derive(Clone, Copy, PartialEq, Eq)]
-pub(crate) enum Kind {
+pub(crate) enum ItemKind {
     Comment,
     /// A name or a constant.
     Word,
@@ -35,44 +35,44 @@ pub(crate) enum Kind {
     CloseBrace,
 }
 
-impl Kind {
+impl ItemKind {
     /// What a token is, or what is none.
     pub(crate) fn of(lexeme: Option<Lexeme>) -> Self {
         match lexeme {
-            None => Kind::Comment,
-            Some(Lexeme::Keyword(keyword)) => Kind::of_keyword(keyword),
-            Some(Lexeme::Operator(BinOp::Sub | BinOp::Mul | BinOp::And)) => Kind::Sign,
-            Some(Lexeme::Operator(_) | Lexeme::Assign(_)) => Kind::Operator,
-            Some(Lexeme::Increment | Lexeme::Decrement) => Kind::Step,
-            Some(lexeme) => Kind::of_mark(lexeme),
+            None => ItemKind::Comment,
+            Some(Lexeme::Keyword(keyword)) => ItemKind::of_keyword(keyword),
+            Some(Lexeme::Operator(BinOp::Sub | BinOp::Mul | BinOp::And)) => ItemKind::Sign,
+            Some(Lexeme::Operator(_) | Lexeme::Assign(_)) => ItemKind::Operator,
+            Some(Lexeme::Increment | Lexeme::Decrement) => ItemKind::Step,
+            Some(lexeme) => ItemKind::of_mark(lexeme),
         }
     }
 
     fn of_keyword(keyword: Keyword) -> Self {
         match keyword {
-            Keyword::If => Kind::If,
-            Keyword::Else => Kind::Else,
-            Keyword::Case | Keyword::Default => Kind::Arm,
+            Keyword::If => ItemKind::If,
+            Keyword::Else => ItemKind::Else,
+            Keyword::Case | Keyword::Default => ItemKind::Arm,
             // It stands alone, as a name does.
-            Keyword::Break => Kind::Word,
-            _ => Kind::Keyword,
+            Keyword::Break => ItemKind::Word,
+            _ => ItemKind::Keyword,
         }
     }
 
     fn of_mark(lexeme: Lexeme) -> Self {
         match lexeme {
-            Lexeme::Not => Kind::Not,
-            Lexeme::Question => Kind::Question,
-            Lexeme::Colon => Kind::Colon,
-            Lexeme::Comma => Kind::Comma,
-            Lexeme::Semicolon => Kind::Semicolon,
-            Lexeme::OpenParen => Kind::OpenParen,
-            Lexeme::CloseParen => Kind::CloseParen,
-            Lexeme::OpenBracket => Kind::OpenBracket,
-            Lexeme::CloseBracket => Kind::CloseBracket,
-            Lexeme::OpenBrace => Kind::OpenBrace,
-            Lexeme::CloseBrace => Kind::CloseBrace,
-            _ => Kind::Word,
+            Lexeme::Not => ItemKind::Not,
+            Lexeme::Question => ItemKind::Question,
+            Lexeme::Colon => ItemKind::Colon,
+            Lexeme::Comma => ItemKind::Comma,
+            Lexeme::Semicolon => ItemKind::Semicolon,
+            Lexeme::OpenParen => ItemKind::OpenParen,
+            Lexeme::CloseParen => ItemKind::CloseParen,
+            Lexeme::OpenBracket => ItemKind::OpenBracket,
+            Lexeme::CloseBracket => ItemKind::CloseBracket,
+            Lexeme::OpenBrace => ItemKind::OpenBrace,
+            Lexeme::CloseBrace => ItemKind::CloseBrace,
+            _ => ItemKind::Word,
         }
     }
 }

@@ -1,8 +1,8 @@
 //! The text of a source that is laid out.
 use crate::gaps::{Gap, joins};
-use crate::kind::Kind;
-use crate::reading::Piece;
-use crate::structure::{END, Spot, spots};
+use crate::kind::ItemKind;
+use crate::reading::SourceItem;
+use crate::structure::{END, TokenLayout, spots};
 use blang::MAX_NESTING;
 use btools::Text;
 use std::alloc::{AllocError, Global};
@@ -14,14 +14,14 @@ const LEVEL: usize = 4;
 const DEEPEST: usize = MAX_NESTING;
 
 /// The pieces in the style of the house.
-pub(crate) fn lay_out(alloc: Global, pieces: &[Piece<'_>]) -> Result<Text, AllocError> {
+pub(crate) fn lay_out(alloc: Global, pieces: &[SourceItem<'_>]) -> Result<Text, AllocError> {
     let spots = spots(alloc, pieces)?;
     let mut spots = spots.as_slice();
     let mut layout = Layout::new(alloc);
     for index in 0..pieces.len() {
         let piece = &pieces[index];
         let spot = spots.first().unwrap_or(&END);
-        if piece.kind == Kind::Comment {
+        if piece.kind == ItemKind::Comment {
             layout.put_comment(piece, spot, ends_line(pieces.get(index + 1)))?;
         } else {
             layout.put_token(piece, spot)?;
@@ -32,7 +32,7 @@ pub(crate) fn lay_out(alloc: Global, pieces: &[Piece<'_>]) -> Result<Text, Alloc
 }
 
 // Whether a line ends before the next piece.
-fn ends_line(next: Option<&Piece<'_>>) -> bool {
+fn ends_line(next: Option<&SourceItem<'_>>) -> bool {
     match next {
         Some(piece) => piece.breaks > 0,
         None => true,
@@ -76,7 +76,7 @@ impl Layout {
         Ok(text)
     }
 
-    fn put_token(&mut self, piece: &Piece<'_>, spot: &Spot) -> Result<(), AllocError> {
+    fn put_token(&mut self, piece: &SourceItem<'_>, spot: &TokenLayout) -> Result<(), AllocError> {
         let first = piece.text.first().copied().unwrap_or(b' ');
         match self.before {
             Before::Start => self.text.push(b"")?,
@@ -90,8 +90,8 @@ impl Layout {
 
     fn put_gap(
         &mut self,
-        piece: &Piece<'_>,
-        spot: &Spot,
+        piece: &SourceItem<'_>,
+        spot: &TokenLayout,
         is_joined: bool,
     ) -> Result<(), AllocError> {
         match spot.gap {
@@ -106,8 +106,8 @@ impl Layout {
     // A comment that began a line may have the first token of a statement after it on the same line.
     fn put_gap_after_comment(
         &mut self,
-        piece: &Piece<'_>,
-        spot: &Spot,
+        piece: &SourceItem<'_>,
+        spot: &TokenLayout,
         level: Option<usize>,
     ) -> Result<(), AllocError> {
         let begins_line = matches!(spot.gap, Gap::Line | Gap::Paragraph);
@@ -122,8 +122,8 @@ impl Layout {
 
     fn put_comment(
         &mut self,
-        piece: &Piece<'_>,
-        spot: &Spot,
+        piece: &SourceItem<'_>,
+        spot: &TokenLayout,
         ends_line: bool,
     ) -> Result<(), AllocError> {
         let begins_line = piece.breaks > 0 || self.before == Before::Start;
@@ -147,7 +147,7 @@ impl Layout {
     }
 
     // Ends the line, and leaves one empty where the source has one, but not at the beginning of a block.
-    fn end_paragraph(&mut self, piece: &Piece<'_>, level: usize) -> Result<(), AllocError> {
+    fn end_paragraph(&mut self, piece: &SourceItem<'_>, level: usize) -> Result<(), AllocError> {
         if piece.breaks > 1 && self.before != Before::Token(b'{') {
             self.text.push(b"\n")?;
         }

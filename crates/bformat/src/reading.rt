@@ -4,7 +4,7 @@ ghost use Rattle.bformat.specs.Formats.{has_wrong_token};
 ghost use Rattle.bformat.specs.Pieces.{is_end, pieces_of};
 ghost use Rattle.bformat.specs.Readings.{AreRead, is_bad, texts};
 
-use crate::kind::Kind;
+use crate::kind::ItemKind;
 use blex::{Lexeme, PlacedPiece, Scanner};
 use btree::Sort;
 use bword::Edition;
@@ -12,9 +12,9 @@ use std::alloc::{AllocError, Global};
 
 /// A comment or a token.
 #[derive(Clone, Copy)]
-pub(crate) struct Piece<'a> {
+pub(crate) struct SourceItem<'a> {
     pub text: &'a [u8],
-    pub kind: Kind,
+    pub kind: ItemKind,
     /// What a token is for the constructs.
     pub sort: Option<Sort>,
     /// How many lines end between the piece before and this one.
@@ -28,7 +28,7 @@ pub(crate) fn read(
     alloc: Global,
     source: &[u8],
     edition: Edition,
-) -> Result<Option<Vec<Piece<'_>>>, AllocError>
+) -> Result<Option<Vec<SourceItem<'_>>>, AllocError>
     ensures { IfOk result (λ found. MatchOption found (has_wrong_token edition source.now ≡ true)
         (λ pieces. AreRead edition source.now pieces.items)) }
 {
@@ -49,15 +49,15 @@ pub(crate) fn read(
 }
 
 // A piece, where the one before it ended at a place.
-fn piece_after<'a>(source: &'a [u8], at: usize, found: &PlacedPiece) -> Piece<'a>
+fn piece_after<'a>(source: &'a [u8], at: usize, found: &PlacedPiece) -> SourceItem<'a>
     requires order { (at ≤ found.now.first) × (found.now.first ≤ found.now.end) }
     requires within { found.now.end ≤ length source.now }
     ensures { result.text.now ≡ slice_range source.now found.now.first found.now.end }
 {
     let gap = &source[at..found.first];
-    Piece {
+    SourceItem {
         text: &source[found.first..found.end],
-        kind: Kind::of(found.lexeme),
+        kind: ItemKind::of(found.lexeme),
         sort: found.lexeme.map(Sort::of),
         breaks: breaks(gap),
         blanks: blanks(gap),
@@ -77,7 +77,7 @@ fn is_bad(lexeme: Option<Lexeme>) -> bool
 }
 
 /// Whether these are the pieces of a text.
-pub(crate) fn has_pieces(text: &[u8], edition: Edition, pieces: &[Piece<'_>]) -> bool
+pub(crate) fn has_pieces(text: &[u8], edition: Edition, pieces: &[SourceItem<'_>]) -> bool
     ensures { IsTrue result → pieces_of edition text.now ≡ texts pieces.now }
 {
     let mut scanner = Scanner::new(text, edition);

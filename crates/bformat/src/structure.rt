@@ -1,7 +1,7 @@
 //! Which tokens begin a line, and at which level.
 use crate::gaps::{Gap, Role, gap_before, role_of};
-use crate::kind::Kind;
-use crate::reading::Piece;
+use crate::kind::ItemKind;
+use crate::reading::SourceItem;
 use btree::{Construct, Sort, Tag, tags_of};
 use std::alloc::{AllocError, Global};
 
@@ -13,7 +13,7 @@ const FURTHER_IN_CONDITION: usize = 2;
 
 /// Where a token stands.
 #[derive(Clone, Copy)]
-pub(crate) struct Spot {
+pub(crate) struct TokenLayout {
     pub gap: Gap,
     /// The level of its line, if it begins one.
     pub level: usize,
@@ -21,9 +21,9 @@ pub(crate) struct Spot {
     pub comments: usize,
 }
 
-impl Spot {
+impl TokenLayout {
     fn new(gap: Gap, level: usize, comments: usize) -> Self {
-        Spot {
+        TokenLayout {
             gap,
             level,
             comments,
@@ -32,16 +32,21 @@ impl Spot {
 }
 
 /// Where the end of a source stands.
-pub(crate) const END: Spot = Spot {
+pub(crate) const END: TokenLayout = TokenLayout {
     gap: Gap::Line,
     level: 0,
     comments: 0,
 };
 
 /// Where each token stands.
-pub(crate) fn spots(alloc: Global, pieces: &[Piece<'_>]) -> Result<Vec<Spot>, AllocError> {
+pub(crate) fn spots(
+    alloc: Global,
+    pieces: &[SourceItem<'_>],
+) -> Result<Vec<TokenLayout>, AllocError> {
     let tags = tags_of(alloc, sorts(alloc, pieces)?.as_slice())?;
-    let mut tokens = pieces.iter().filter(|piece| piece.kind != Kind::Comment);
+    let mut tokens = pieces
+        .iter()
+        .filter(|piece| piece.kind != ItemKind::Comment);
     let mut structure = Structure::new(alloc);
     let mut spots = Vec::new(alloc);
     for tag in &tags {
@@ -58,7 +63,7 @@ pub(crate) fn spots(alloc: Global, pieces: &[Piece<'_>]) -> Result<Vec<Spot>, Al
     Ok(spots)
 }
 
-fn sorts(alloc: Global, pieces: &[Piece<'_>]) -> Result<Vec<Sort>, AllocError> {
+fn sorts(alloc: Global, pieces: &[SourceItem<'_>]) -> Result<Vec<Sort>, AllocError> {
     let mut sorts = Vec::new(alloc);
     for piece in pieces {
         if let Some(sort) = piece.sort {
@@ -83,7 +88,7 @@ enum Start {
 #[derive(Clone, Copy)]
 struct Open {
     construct: Construct,
-    first: Kind,
+    first: ItemKind,
     level: usize,
     // Whether a case or a default has come.
     has_arms: bool,
@@ -101,9 +106,9 @@ struct Structure {
     // How many `?` are open in it.
     questions: usize,
     // The token before, unless a construct has ended after it.
-    latest: Option<Kind>,
+    latest: Option<ItemKind>,
     // The token before, and its role.
-    before: Option<Kind>,
+    before: Option<ItemKind>,
     role: Role,
 }
 
@@ -124,7 +129,7 @@ impl Structure {
     fn begin(&mut self, construct: Construct) {
         if let Some(before) = self.latest {
             self.start = match before {
-                Kind::OpenBrace => Start::Plain,
+                ItemKind::OpenBrace => Start::Plain,
                 _ => Start::Body,
             };
         }
@@ -134,12 +139,12 @@ impl Structure {
     fn end(&mut self) {
         self.latest = None;
         self.start = match self.opens.pop() {
-            Some(open) if open.first == Kind::Arm => Start::Armed,
+            Some(open) if open.first == ItemKind::Arm => Start::Armed,
             _ => Start::Plain,
         };
     }
 
-    fn see(&mut self, kind: Kind) -> Result<Spot, AllocError> {
+    fn see(&mut self, kind: ItemKind) -> Result<TokenLayout, AllocError> {
         let spot = match self.begun {
             Some(construct) => self.see_first(construct, kind)?,
             None => self.see_further(kind),
@@ -151,10 +156,14 @@ impl Structure {
     }
 
     // A token with which a construct begins.
-    fn see_first(&mut self, construct: Construct, kind: Kind) -> Result<Spot, AllocError> {
+    fn see_first(
+        &mut self,
+        construct: Construct,
+        kind: ItemKind,
+    ) -> Result<TokenLayout, AllocError> {
         let spot = self.first_spot(construct, kind);
         self.begin_line(kind, spot.level);
-        if kind == Kind::Arm {
+        if kind == ItemKind::Arm {
             self.see_arm();
         }
         self.opens.push(Open {
@@ -166,30 +175,34 @@ impl Structure {
         Ok(spot)
     }
 
-    fn begin_line(&mut self, kind: Kind, level: usize) {
+    fn begin_line(&mut self, kind: ItemKind, level: usize) {
         self.level = level;
         self.questions = 0;
         self.role = role_of(kind, Role::Infix);
     }
 
-    fn first_spot(&self, construct: Construct, kind: Kind) -> Spot {
+    fn first_spot(&self, construct: Construct, kind: ItemKind) -> TokenLayout {
         let outside = self.outside();
         let inside = self.inside();
         let is_body = self.start == Start::Body;
         match kind {
-            Kind::OpenBrace if is_body => Spot::new(Gap::Blank, outside, outside),
-            Kind::If if is_body && self.before == Some(Kind::Else) => {
-                Spot::new(Gap::Blank, outside, outside)
+            ItemKind::OpenBrace if is_body => TokenLayout::new(Gap::Blank, outside, outside),
+            ItemKind::If if is_body && self.before == Some(ItemKind::Else) => {
+                TokenLayout::new(Gap::Blank, outside, outside)
             }
-            Kind::Arm => Spot::new(self.arm_gap(), self.arm(), self.arm()),
-            Kind::Word if construct == Construct::Heading => Spot::new(self.line_gap(), 0, inside),
-            _ => Spot::new(self.line_gap(), inside, inside),
+            ItemKind::Arm => TokenLayout::new(self.arm_gap(), self.arm(), self.arm()),
+            ItemKind::Word if construct == Construct::Heading => TokenLayout::new(
+                self.line_gap(),
+                0,
+                inside,
+            ),
+            _ => TokenLayout::new(self.line_gap(), inside, inside),
         }
     }
 
     fn line_gap(&self) -> Gap {
         match self.before {
-            Some(Kind::Semicolon | Kind::CloseBrace) if self.start == Start::Plain => {
+            Some(ItemKind::Semicolon | ItemKind::CloseBrace) if self.start == Start::Plain => {
                 Gap::Paragraph
             }
             _ => Gap::Line,
@@ -205,16 +218,16 @@ impl Structure {
     }
 
     // Another token.
-    fn see_further(&mut self, kind: Kind) -> Spot {
+    fn see_further(&mut self, kind: ItemKind) -> TokenLayout {
         let outside = self.outside();
         match kind {
-            Kind::CloseBrace => {
+            ItemKind::CloseBrace => {
                 self.begin_line(kind, outside);
-                Spot::new(Gap::Line, outside, self.inside())
+                TokenLayout::new(Gap::Line, outside, self.inside())
             }
-            Kind::Else => {
+            ItemKind::Else => {
                 self.begin_line(kind, outside);
-                Spot::new(self.else_gap(), outside, outside)
+                TokenLayout::new(self.else_gap(), outside, outside)
             }
             _ => self.go_on(kind),
         }
@@ -222,21 +235,21 @@ impl Structure {
 
     fn else_gap(&self) -> Gap {
         match self.before {
-            Some(Kind::CloseBrace) => Gap::Blank,
+            Some(ItemKind::CloseBrace) => Gap::Blank,
             _ => Gap::Line,
         }
     }
 
     // A token within a statement or a definition.
-    fn go_on(&mut self, kind: Kind) -> Spot {
+    fn go_on(&mut self, kind: ItemKind) -> TokenLayout {
         let around = self.opens.last().map(|open| open.construct);
         let before = self.role;
         self.role = match (around, kind) {
-            (Some(Construct::Definition), Kind::Sign) => Role::Prefix,
+            (Some(Construct::Definition), ItemKind::Sign) => Role::Prefix,
             _ => role_of(kind, before),
         };
         let gap = match kind {
-            Kind::Colon if self.questions == 0 => Gap::Nothing,
+            ItemKind::Colon if self.questions == 0 => Gap::Nothing,
             _ => gap_before(before, kind, self.role),
         };
         self.count_questions(kind);
@@ -245,13 +258,13 @@ impl Structure {
             _ => FURTHER,
         };
         let level = self.level.saturating_add(further);
-        Spot::new(gap, level, level)
+        TokenLayout::new(gap, level, level)
     }
 
-    fn count_questions(&mut self, kind: Kind) {
+    fn count_questions(&mut self, kind: ItemKind) {
         match kind {
-            Kind::Question => self.questions = self.questions.saturating_add(1),
-            Kind::Colon => self.questions = self.questions.saturating_sub(1),
+            ItemKind::Question => self.questions = self.questions.saturating_add(1),
+            ItemKind::Colon => self.questions = self.questions.saturating_sub(1),
             _ => {}
         }
     }

@@ -40,11 +40,11 @@ fn a_read_that_fails_in_mid_stream(rt: HostRuntime) {
 
 // A writer that takes some bytes and then fails.
 #[derive(Drop)]
-struct Full {
+struct FullWriter {
     room: usize,
 }
 
-impl Write for Full {
+impl Write for FullWriter {
     fn write(&mut self, buf: &[u8]) -> io::Result<usize> {
         if self.room == 0 {
             return Err(io::Error::from(io::ErrorKind::Other));
@@ -62,7 +62,7 @@ impl Write for Full {
 #[test]
 fn a_write_that_fails_in_mid_stream(rt: HostRuntime) {
     let mut diag = MemOut::new(rt.alloc());
-    let mut out = Writing::new(Full { room: 10 });
+    let mut out = Writing::new(FullWriter { room: 10 });
     let answer = compile(rt.alloc(), &mut MemIn::new(b"a;b;"), &mut out, &mut diag);
     assert_eq!(rt; answer, 133);
     assert_eq!(rt; diag.bytes().len(), 0);
@@ -71,7 +71,7 @@ fn a_write_that_fails_in_mid_stream(rt: HostRuntime) {
 #[test]
 fn a_line_that_can_not_be_written(rt: HostRuntime) {
     let mut out = MemOut::new(rt.alloc());
-    let mut diag = Writing::new(Full { room: 3 });
+    let mut diag = Writing::new(FullWriter { room: 3 });
     let answer = compile(rt.alloc(), &mut MemIn::new(b"a;a;"), &mut out, &mut diag);
     assert_eq!(rt; answer, 133);
     assert_eq!(rt; out.bytes(), b"X a 0 0\n".as_slice());

@@ -16,7 +16,7 @@ use std::test::Fail;
 
 // What is called with which text and input, and what comes of it where nothing fails.
 #[derive(Clone, Copy)]
-struct Row<'a> {
+struct FailingCall<'a> {
     call: &'a str,
     text: &'a str,
     input: &'a str,
@@ -26,9 +26,9 @@ struct Row<'a> {
 }
 
 // A row `call~text~input~output~line~status`.
-fn row_of(row: &str) -> Row<'_> {
+fn row_of(row: &str) -> FailingCall<'_> {
     let mut parts = row.split('~');
-    Row {
+    FailingCall {
         call: parts.next().unwrap_or(""),
         text: parts.next().unwrap_or(""),
         input: parts.next().unwrap_or(""),
@@ -46,7 +46,7 @@ struct Reads<'a> {
 }
 
 // Ends that don't fail.
-fn reads_of<'a>(row: &Row<'a>) -> Reads<'a> {
+fn reads_of<'a>(row: &FailingCall<'a>) -> Reads<'a> {
     Reads {
         source: FailIn::new(row.text.as_bytes(), u64::MAX),
         input: FailIn::new(row.input.as_bytes(), u64::MAX),
@@ -55,7 +55,7 @@ fn reads_of<'a>(row: &Row<'a>) -> Reads<'a> {
 
 fn answer<O: ByteOut, D: ByteOut>(
     alloc: Global,
-    row: &Row<'_>,
+    row: &FailingCall<'_>,
     reads: &mut Reads<'_>,
     out: &mut O,
     line: &mut D,
@@ -206,13 +206,13 @@ X a 0 0
 
 // How a call ended whose output and line were written into so much room.
 #[derive(Drop)]
-struct Ended {
+struct CallEnds {
     status: Status,
     out: FailOut,
     line: FailOut,
 }
 
-impl Ended {
+impl CallEnds {
     fn is(&self, status: Status, output: &[u8], line: &[u8]) -> bool {
         self.status == status && self.out.bytes() == output && self.line.bytes() == line
     }
@@ -220,15 +220,15 @@ impl Ended {
 
 fn limited(
     alloc: Global,
-    row: &Row<'_>,
+    row: &FailingCall<'_>,
     reads: &mut Reads<'_>,
     output: usize,
     line: usize,
-) -> Ended {
+) -> CallEnds {
     let mut out = FailOut::new(alloc, output as u64);
     let mut line = FailOut::new(alloc, line as u64);
     let status = answer(alloc, row, reads, &mut out, &mut line);
-    Ended { status, out, line }
+    CallEnds { status, out, line }
 }
 
 // A beginning of the code was written, nothing is run, and nothing is read after the failure.
@@ -317,15 +317,15 @@ fn each_write_fails(rt: HostRuntime) {
 
 // An end over memory of which one call is refused, counted from 0.
 #[derive(Drop)]
-struct Refusing {
+struct RefusingEnd {
     bytes: MemOut,
     calls: u64,
     refused: u64,
     refusals: u64,
 }
 
-fn end_refusing(alloc: Global, refused: u64) -> Refusing {
-    Refusing {
+fn end_refusing(alloc: Global, refused: u64) -> RefusingEnd {
+    RefusingEnd {
         bytes: MemOut::new(alloc),
         calls: 0,
         refused,
@@ -333,7 +333,7 @@ fn end_refusing(alloc: Global, refused: u64) -> Refusing {
     }
 }
 
-impl ByteOut for Refusing {
+impl ByteOut for RefusingEnd {
     ghost outgoing = { λ r. record { written = Some r.bytes.bytes; failures = 0; refusals = r.refusals } };
 
     ghost lender = { λ _. [] };
@@ -355,7 +355,7 @@ impl ByteOut for Refusing {
 // no call follows it.
 fn is_refused(
     rt: &(impl AllocGlobal + Abort),
-    row: &Row<'_>,
+    row: &FailingCall<'_>,
     of_output: u64,
     of_line: u64,
 ) -> bool {
@@ -427,11 +427,11 @@ fn served(
     words: &str,
     output: usize,
     line: usize,
-) -> Result<Ended, Fail> {
+) -> Result<CallEnds, Fail> {
     let mut out = FailOut::new(rt.alloc(), output as u64);
     let mut line = FailOut::new(rt.alloc(), line as u64);
     let status = answer_to(rt, words, &mut MemIn::new(b"x"), &mut out, &mut line)?;
-    Ok(Ended { status, out, line })
+    Ok(CallEnds { status, out, line })
 }
 
 // The output goes out in one piece, and then the line: of each there is what it has room for.

@@ -12,11 +12,11 @@ mod end_tests;
 #[cfg(test)]
 mod failing_tests;
 #[cfg(test)]
-mod in_order_tests;
-#[cfg(test)]
 mod list_tests;
 #[cfg(test)]
 mod migrate_tests;
+#[cfg(test)]
+mod process_tests;
 #[cfg(test)]
 mod program_tests;
 #[cfg(test)]

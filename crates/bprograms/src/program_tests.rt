@@ -176,12 +176,12 @@ fn input_status_and_steps(rt: HostRuntime) {
 
 /// An end that counts its calls.
 #[derive(Drop)]
-pub(crate) struct Counted<'a> {
+pub(crate) struct CountingEnd<'a> {
     pub(crate) end: MemIn<'a>,
     pub(crate) calls: u64,
 }
 
-impl ByteIn for Counted<'_> {
+impl ByteIn for CountingEnd<'_> {
     ghost incoming = { λ c. incoming_of c.end };
 
     ghost lender = { λ _. [] };
@@ -210,7 +210,7 @@ n;~0
 ";
     for row in rows.lines() {
         let (source, calls) = row.split_once('~').unwrap_or((row, ""));
-        let mut input = Counted {
+        let mut input = CountingEnd {
             end: MemIn::new(b"hi"),
             calls: 0,
         };

@@ -8,7 +8,7 @@ use std::test::Fail;
 
 // A call of a scope, with its answer.
 #[derive(Clone, Copy)]
-enum Call {
+enum ScopeCall {
     Declare(&'static str, Declared, Result<(), DeclareFault>),
     Mention(&'static str, bool, Result<Binding, MentionFault>),
     Label(&'static str, u16, Result<u16, DeclareFault>),
@@ -22,17 +22,17 @@ fn name(text: &str) -> Result<Name, Fail> {
 }
 
 // Whether the scope gives this answer.
-fn is_answered(scope: &mut Scope, call: Call) -> Result<bool, Fail> {
+fn is_answered(scope: &mut Scope, call: ScopeCall) -> Result<bool, Fail> {
     Ok(match call {
-        Call::Declare(text, how, want) => scope.declare(name(text)?, how) == want,
-        Call::Mention(text, called, want) => scope.mention(name(text)?, called, 2) == want,
-        Call::Label(text, place, want) => scope.place_label(name(text)?, place) == want,
-        Call::Finish(Some(text)) => {
+        ScopeCall::Declare(text, how, want) => scope.declare(name(text)?, how) == want,
+        ScopeCall::Mention(text, called, want) => scope.mention(name(text)?, called, 2) == want,
+        ScopeCall::Label(text, place, want) => scope.place_label(name(text)?, place) == want,
+        ScopeCall::Finish(Some(text)) => {
             let name = name(text)?;
             scope.finish() == Err(Undefined { name, line: 2 })
         }
-        Call::Finish(None) => scope.finish() == Ok(()),
-        Call::Clear => {
+        ScopeCall::Finish(None) => scope.finish() == Ok(()),
+        ScopeCall::Clear => {
             scope.clear();
             scope.targets().is_empty()
         }
@@ -40,7 +40,7 @@ fn is_answered(scope: &mut Scope, call: Call) -> Result<bool, Fail> {
 }
 
 // The first row that the scope answers otherwise.
-fn wrong_row(scope: &mut Scope, calls: &[Call]) -> Result<Option<usize>, Fail> {
+fn wrong_row(scope: &mut Scope, calls: &[ScopeCall]) -> Result<Option<usize>, Fail> {
     for (row, call) in calls.iter().enumerate() {
         if !is_answered(scope, *call)? {
             return Ok(Some(row));
@@ -52,25 +52,25 @@ fn wrong_row(scope: &mut Scope, calls: &[Call]) -> Result<Option<usize>, Fail> {
 #[test]
 fn names_are_bound_where_they_are_declared_or_mentioned(rt: HostRuntime) -> Result<(), Fail> {
     let calls = [
-        Call::Declare("a", Declared::Auto(3), Ok(())),
-        Call::Declare("n", Declared::External, Ok(())),
-        Call::Declare("a", Declared::External, Err(DeclareFault::Redeclared)),
-        Call::Mention("a", true, Ok(Binding::Automatic(3))),
-        Call::Mention("n", false, Ok(Binding::External)),
-        Call::Mention("f", true, Ok(Binding::External)),
-        Call::Mention("L", false, Ok(Binding::Internal(3))),
-        Call::Mention("M", false, Ok(Binding::Internal(4))),
-        Call::Label("M", 7, Ok(0)),
-        Call::Finish(Some("L")),
-        Call::Label("M", 8, Err(DeclareFault::Redeclared)),
-        Call::Label("f", 8, Err(DeclareFault::Redeclared)),
-        Call::Label("N", 9, Ok(1)),
-        Call::Label("L", 4, Ok(2)),
-        Call::Mention("L", true, Ok(Binding::Internal(3))),
-        Call::Finish(None),
-        Call::Clear,
-        Call::Finish(None),
-        Call::Mention("a", true, Ok(Binding::External)),
+        ScopeCall::Declare("a", Declared::Auto(3), Ok(())),
+        ScopeCall::Declare("n", Declared::External, Ok(())),
+        ScopeCall::Declare("a", Declared::External, Err(DeclareFault::Redeclared)),
+        ScopeCall::Mention("a", true, Ok(Binding::Automatic(3))),
+        ScopeCall::Mention("n", false, Ok(Binding::External)),
+        ScopeCall::Mention("f", true, Ok(Binding::External)),
+        ScopeCall::Mention("L", false, Ok(Binding::Internal(3))),
+        ScopeCall::Mention("M", false, Ok(Binding::Internal(4))),
+        ScopeCall::Label("M", 7, Ok(0)),
+        ScopeCall::Finish(Some("L")),
+        ScopeCall::Label("M", 8, Err(DeclareFault::Redeclared)),
+        ScopeCall::Label("f", 8, Err(DeclareFault::Redeclared)),
+        ScopeCall::Label("N", 9, Ok(1)),
+        ScopeCall::Label("L", 4, Ok(2)),
+        ScopeCall::Mention("L", true, Ok(Binding::Internal(3))),
+        ScopeCall::Finish(None),
+        ScopeCall::Clear,
+        ScopeCall::Finish(None),
+        ScopeCall::Mention("a", true, Ok(Binding::External)),
     ];
     assert_eq!(rt; wrong_row(&mut Scope::new(), &calls)?, None);
     Ok(())
@@ -92,11 +92,11 @@ fn full_scope() -> Result<Scope, Fail> {
 #[test]
 fn a_function_has_128_names(rt: HostRuntime) -> Result<(), Fail> {
     let calls = [
-        Call::Declare("x", Declared::External, Err(DeclareFault::TooManyNames)),
-        Call::Mention("x", false, Err(MentionFault::TooManyNames)),
-        Call::Label("x", 0, Err(DeclareFault::TooManyNames)),
-        Call::Declare("Hp", Declared::External, Err(DeclareFault::Redeclared)),
-        Call::Mention("Aa", false, Ok(Binding::External)),
+        ScopeCall::Declare("x", Declared::External, Err(DeclareFault::TooManyNames)),
+        ScopeCall::Mention("x", false, Err(MentionFault::TooManyNames)),
+        ScopeCall::Label("x", 0, Err(DeclareFault::TooManyNames)),
+        ScopeCall::Declare("Hp", Declared::External, Err(DeclareFault::Redeclared)),
+        ScopeCall::Mention("Aa", false, Ok(Binding::External)),
     ];
     assert_eq!(rt; wrong_row(&mut full_scope()?, &calls)?, None);
     Ok(())
@@ -135,9 +135,9 @@ fn code_has_a_room(rt: HostRuntime) {
 #[test]
 fn each_label_instruction_is_resolved(rt: HostRuntime) -> Result<(), Fail> {
     let calls = [
-        Call::Mention("L", false, Ok(Binding::Internal(0))),
-        Call::Label("M", 7, Ok(0)),
-        Call::Label("L", 9, Ok(1)),
+        ScopeCall::Mention("L", false, Ok(Binding::Internal(0))),
+        ScopeCall::Label("M", 7, Ok(0)),
+        ScopeCall::Label("L", 9, Ok(1)),
     ];
     let mut scope = Scope::new();
     assert_eq!(rt; wrong_row(&mut scope, &calls)?, None);

@@ -14,13 +14,13 @@ const COPY: &str =
 
 // A store that refuses one `set`, counted from 0.
 #[derive(Drop)]
-struct Refusing {
+struct RefusingStore {
     store: FlatStore,
     sets: u64,
     refused: u64,
 }
 
-impl Store for Refusing {
+impl Store for RefusingStore {
     ghost words = { λ r. flat_words r.store };
 
     ghost may_refuse = { true };
@@ -47,7 +47,7 @@ impl Store for Refusing {
 fn each_set_is_refused(rt: HostRuntime) -> Result<(), Fail> {
     let image = load(rt.alloc(), read_code(rt.alloc(), COPY.as_bytes())?)?;
     for refused in 0..100 {
-        let mut store = Refusing {
+        let mut store = RefusingStore {
             store: FlatStore::new(rt.alloc())?,
             sets: 0,
             refused,

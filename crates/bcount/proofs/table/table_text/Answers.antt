@@ -4,7 +4,7 @@ use Rattle.bsources.specs.Files.{files_shown}
 use Rattle.bcount.specs.Marks.{no_code}
 use Rattle.btools.specs.SourceLines.{source_lines}
 use Rattle.bcount.specs.Tables.{heading_of, hint_of, row_after, row_text, total_of}
-use Rattle.bcount.specs.declared.marks.Mark.{Mark}
+use Rattle.bcount.specs.declared.marks.MarkedLine.{MarkedLine}
 use Rattle.bcount.proofs.Rows.{one_row, rest_first, rest_next}
 use Rattle.bcount.proofs.table.table_text.Goals as goal
 
@@ -25,7 +25,7 @@ loop-index-preserved c =
     let source = t.source.now in
     let index = c.loop-index.index in
     let rest = c.loop-index.rest.now in
-    let marked = c.is_marked-is_marked.ensures ∙ ap (λ (ms : List Mark). list_any (λ m. m.index == index) ms) (c.as_slice.ensures.value ∙ c.in_ok-marks.ensures) in
+    let marked = c.is_marked-is_marked.ensures ∙ ap (λ (ms : List MarkedLine). list_any (λ m. m.index == index) ms) (c.as_slice.ensures.value ∙ c.in_ok-marks.ensures) in
     let bytes = c.split_line.ensures.line ∙ sym (rest_first source rest index c.loop-index.invariant.rest) in
     record {
       rows = one_row (row_after t.style files source lines) (heading_of t.style) c.loop-index.text c.push_row.new.text index c.loop-index.invariant.rows

@@ -1,7 +1,7 @@
 use Rattle.std.proofs.Common.{◌∙◌, ◌≡◌, ◌++◌, ◌∷◌, [], ap, subst, sym}
 use Rattle.std.proofs.lemmas.List.{map-append}
 use Rattle.std.specs.Prelude.{slice_range}
-use Rattle.bformat.specs.declared.reading.Piece.{Piece}
+use Rattle.bformat.specs.declared.reading.SourceItem.{SourceItem}
 use Rattle.bformat.specs.Readings.{texts}
 use Rattle.bformat.proofs.Upcoming.{Reads, found_in, reads_end, reads_more, reads_wrong}
 use Rattle.bformat.proofs.reading.read.Goals as goal
@@ -25,7 +25,7 @@ loop-scanner-preserved c =
     let found = found_in _ _ _ c.args.edition c.args.source.now c.next-found.ensures.finds i.edition i.source in
     let more = reads_more c.args.edition c.args.source.now _ _ c.next-found.result found i.reads (sym c.is_end.ensures ∙ c.if-is_end.false) (sym c.is_bad.ensures ∙ c.if-is_bad.false) in
     let pushed : texts c.push.new.self.items ≡ texts c.loop-scanner.pieces.items ++ slice_range c.args.source.now c.next-found.result.first c.next-found.result.end ∷ [] =
-    ap texts c.in_ok-push.ensures.items ∙ map-append (λ (p : Piece). p.text.now) c.loop-scanner.pieces.items (c.piece_after.result ∷ [])
+    ap texts c.in_ok-push.ensures.items ∙ map-append (λ (p : SourceItem). p.text.now) c.loop-scanner.pieces.items (c.piece_after.result ∷ [])
     ∙ ap (λ t. texts c.loop-scanner.pieces.items ++ t ∷ []) c.piece_after.ensures in
     record {
       reads = subst (λ at. Reads c.args.edition c.args.source.now (texts c.push.new.self.items) at) (sym c.next-found.ensures.finds.at)

@@ -1,6 +1,6 @@
 //! The order of what a process reads and writes, in a log of its streams.
 use crate::command_tests::words_of;
-use bcli::{Streams, serve_in_order};
+use bcli::{Streams, serve_process};
 use bparse::Status;
 use std::cell::RefCell;
 use std::fs;
@@ -90,7 +90,7 @@ fn logs(
 ) -> Result<(), Fail> {
     fs::write(rt, "x.b", source.as_bytes())?;
     let log = streams.diag.log;
-    let answer = serve_in_order(rt, Some(words_of(rt.alloc(), "b go x.b")?), streams).status;
+    let answer = serve_process(rt, Some(words_of(rt.alloc(), "b go x.b")?), streams).status;
     fs::remove_file(rt, "x.b")?;
     let is_right = match log.try_borrow() {
         Ok(log) => answer == status && log.as_slice() == expected.as_bytes(),
@@ -148,7 +148,7 @@ fn closed_streams(rt: HostRuntime) -> Result<(), Fail> {
 #[test]
 fn no_words(rt: HostRuntime) -> Result<(), Fail> {
     let log = RefCell::new(Vec::new(rt.alloc()));
-    assert_eq!(rt; serve_in_order(&rt, None, streams(&log, "")).status, 135);
+    assert_eq!(rt; serve_process(&rt, None, streams(&log, "")).status, 135);
     let wrong = "!error: a word of the command line is not UTF-8\n";
     let starts = match log.try_borrow() {
         Ok(log) => log.starts_with(wrong.as_bytes()),

@@ -6,7 +6,7 @@ ghost use Rattle.std.specs.Io.KnownBytes.{Keeps, ReadConsumes, WriteAppends};
 ghost use Rattle.blang.specs.Reports.{RunEnds, run_ends};
 ghost use Rattle.bcli.specs.Blocks.{WasShown, WasTaken};
 ghost use Rattle.bcli.specs.ShellExcluded.{ProcessExcluded};
-ghost use Rattle.bcli.specs.Processes.{AnswersWords, PerformsInOrder, ServesProcess};
+ghost use Rattle.bcli.specs.Processes.{AnswersWords, PerformsTask, ServesProcess};
 ghost use Rattle.bcli.specs.Shelves.{opened};
 
 use crate::block::{Block, Buffered};
@@ -39,7 +39,7 @@ pub struct Served<D: Write + Drop> {
 
 /// Does what the words of a command line ask for. Without words it refuses the command line. When it returns, all of
 /// the output was shown, or the status is that of a failed write.
-pub fn serve_in_order<R, I, O, D>(
+pub fn serve_process<R, I, O, D>(
     rt: &R,
     words: Option<Vec<String>>,
     streams: Streams<I, O, D>,
@@ -65,7 +65,7 @@ where
     match Block::new(alloc, output, at_once) {
         Ok(block) => {
             let task = Answering { rt, words };
-            perform_in_order(alloc, task, Output::new(block), input, diag)
+            perform_task(alloc, task, Output::new(block), input, diag)
         }
         Err(_) => Served {
             status: status::MEMORY,
@@ -115,7 +115,7 @@ impl<R: AllocGlobal + Files> Task for Answering<'_, R> {
 }
 
 // Performs a task over the streams of a process, and then shows what is held of the output.
-fn perform_in_order<T, B, I, D>(
+fn perform_task<T, B, I, D>(
     alloc: Global,
     task: T,
     output: Output<B>,
@@ -127,13 +127,13 @@ where
     B: Buffered + Drop,
     I: Read + Drop,
     D: Write + Drop,
-    ensures performs { PerformsInOrder (T.does task) (WasShown B.shows) (record {
+    ensures performs { PerformsTask (T.does task) (WasShown B.shows) (record {
       input = I.remaining input;
       line = D.contents diag;
       line_after = D.contents result.diag;
     }) result.status }
 {
-    let asking = Asking {
+    let asking = ReadAfterOutput {
         reader: input,
         output: &output,
     };
@@ -143,7 +143,7 @@ where
             diag,
         };
     };
-    let mut lines = Writing::new(Beside {
+    let mut lines = Writing::new(WriteAfterOutput {
         writer: diag,
         output: &output,
     });
@@ -156,7 +156,7 @@ where
         Ok(()) => told,
         Err(_) => status::DEVICE,
     };
-    let Beside {
+    let WriteAfterOutput {
         writer: diag,
         output: _,
     } = lines.into_writer();
@@ -219,12 +219,12 @@ impl<B: Buffered + Drop> Write for &Output<B> {
 
 // A reader before whose reads the output is shown.
 #[derive(Drop)]
-struct Asking<'a, R: Read + Drop, B: Buffered + Drop> {
+struct ReadAfterOutput<'a, R: Read + Drop, B: Buffered + Drop> {
     reader: R,
     output: &'a Output<B>,
 }
 
-impl<R: Read + Drop, B: Buffered + Drop> Read for Asking<'_, R, B> {
+impl<R: Read + Drop, B: Buffered + Drop> Read for ReadAfterOutput<'_, R, B> {
     ghost remaining = { λ a. R.remaining a.reader };
 
     fn read(&mut self, buf: &mut [u8]) -> io::Result<usize>
@@ -239,12 +239,12 @@ impl<R: Read + Drop, B: Buffered + Drop> Read for Asking<'_, R, B> {
 
 // A writer before whose writes the output is shown.
 #[derive(Drop)]
-struct Beside<'a, D: Write + Drop, B: Buffered + Drop> {
+struct WriteAfterOutput<'a, D: Write + Drop, B: Buffered + Drop> {
     writer: D,
     output: &'a Output<B>,
 }
 
-impl<D: Write + Drop, B: Buffered + Drop> Write for Beside<'_, D, B> {
+impl<D: Write + Drop, B: Buffered + Drop> Write for WriteAfterOutput<'_, D, B> {
     ghost contents = { λ b. D.contents b.writer };
 
     fn write(&mut self, buf: &[u8]) -> io::Result<usize>
