@@ -1,7 +1,7 @@
 main() {
     auto s, i, c;
 
-    s = "r2-d2";
+    s = "x2-y2";
     i = 0;
     while((c = char(s, i++)) != '*e')
         printf("%c%d%d ", upper(c), isalpha(c), isdigit(c));
