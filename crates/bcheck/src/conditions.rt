@@ -1,7 +1,7 @@
 //! Conditions that are probably mistakes, and what they decide about.
 use crate::brackets::Brackets;
 use crate::effects::has_effect;
-use crate::kinds::TokenTest;
+use crate::kinds::Like;
 use crate::patterns::Found;
 use crate::spans::{Spans, is_joined, lexeme_at};
 use crate::warnings::Warning;
@@ -68,7 +68,7 @@ fn is_closed_after(spans: &Spans, token: usize) -> bool {
 fn is_constant_after(spans: &Spans, token: usize) -> bool {
     is_closed_after(spans, token)
         && !is_joined(spans, token)
-        && TokenTest::Constant.fits(&lexeme_at(spans, token.wrapping_add(1)))
+        && Like::Constant.fits(&lexeme_at(spans, token.wrapping_add(1)))
 }
 
 // A `;` after a condition, where nothing else is done.
@@ -79,7 +79,7 @@ fn empty(spans: &Spans, keyword: usize, opener: usize, end: usize) -> Option<Fou
     }
     let has_else = lexeme_at(spans, body.saturating_add(1)) == Lexeme::Keyword(Keyword::Else);
     let is_constant = end <= opener.saturating_add(2)
-        && TokenTest::Constant.fits(&lexeme_at(spans, opener.saturating_add(1)));
+        && Like::Constant.fits(&lexeme_at(spans, opener.saturating_add(1)));
     if lexeme_at(spans, keyword) == Lexeme::Keyword(Keyword::If) {
         return if has_else {
             None

@@ -1,7 +1,7 @@
 //! Statements that do nothing.
 use crate::around::ends_statement;
 use crate::brackets::Brackets;
-use crate::kinds::{TokenTest, is_ended, is_operand};
+use crate::kinds::{Like, is_ended, is_operand};
 use crate::patterns::Found;
 use crate::spans::{Spans, lexeme_at};
 use crate::warnings::Warning;
@@ -21,7 +21,7 @@ pub(crate) fn statement(spans: &Spans, brackets: &Brackets, first: usize) -> Opt
     let end = end_of(spans, brackets, first);
     let compared = compared_in(spans, brackets, first, end);
     let is_idle = !has_effect(spans, first, end);
-    if is_idle && end == first.saturating_add(1) && TokenTest::Name.fits(&lexeme_at(spans, first)) {
+    if is_idle && end == first.saturating_add(1) && Like::Name.fits(&lexeme_at(spans, first)) {
         return Found::new(first, Warning::NameAlone);
     }
     match compared {
@@ -77,7 +77,7 @@ fn compared_in(spans: &Spans, brackets: &Brackets, first: usize, end: usize) -> 
         if matches!(lexeme, Lexeme::Assign(_) | Lexeme::Question) {
             return None;
         }
-        if TokenTest::Compares.fits(&lexeme) || TokenTest::Relates.fits(&lexeme) {
+        if Like::Compares.fits(&lexeme) || Like::Relates.fits(&lexeme) {
             compared = Some(token);
         }
         token = brackets.mate(token).max(token).saturating_add(1);

@@ -1,6 +1,6 @@
 //! Comparisons with what isn't the end of a string or of the input.
 use crate::brackets::Brackets;
-use crate::kinds::TokenTest;
+use crate::kinds::Like;
 use crate::patterns::Found;
 use crate::spans::{Spans, lexeme_at, name_at};
 use crate::warnings::Warning;
@@ -22,7 +22,7 @@ pub(crate) fn end_compared(spans: &Spans, brackets: &Brackets, closer: usize) ->
     }
     let operator = operator_after(spans, callee, closer);
     let wanted = operator.wrapping_add(1);
-    if !TokenTest::Compares.fits(&lexeme_at(spans, operator)) {
+    if !Like::Compares.fits(&lexeme_at(spans, operator)) {
         return None;
     }
     match (

@@ -5,7 +5,7 @@ use bword::{BinOp, Name};
 
 /// Which tokens fit a place of a pattern.
 #[derive(Clone, Copy)]
-pub(crate) enum TokenTest {
+pub(crate) enum Like {
     Any,
     /// This one alone.
     Is(Lexeme),
@@ -42,34 +42,34 @@ const TYPES: [&str; 13] = [
     "const", "static", "struct",
 ];
 
-impl TokenTest {
+impl Like {
     /// Whether a token fits.
     pub(crate) fn fits(&self, lexeme: &Lexeme) -> bool {
         match self {
-            TokenTest::Any => true,
-            TokenTest::Is(one) => *lexeme == *one,
-            TokenTest::Word(word) => is_word(lexeme, word),
-            TokenTest::Type => is_type(lexeme),
-            TokenTest::Name => matches!(lexeme, Lexeme::Name(_)),
-            TokenTest::Constant => matches!(lexeme, Lexeme::Number(_) | Lexeme::Character(_)),
-            TokenTest::Operand => is_operand(lexeme),
-            TokenTest::Ended => is_ended(lexeme),
-            TokenTest::Keyword => matches!(lexeme, Lexeme::Keyword(_)),
-            TokenTest::Operator => matches!(lexeme, Lexeme::Operator(_)),
-            TokenTest::Assigns => matches!(lexeme, Lexeme::Assign(_)),
-            TokenTest::Waits => waits(lexeme),
-            TokenTest::Compares => matches!(lexeme, Lexeme::Operator(BinOp::Eq | BinOp::Ne)),
-            TokenTest::Relates => matches!(
+            Like::Any => true,
+            Like::Is(one) => *lexeme == *one,
+            Like::Word(word) => is_word(lexeme, word),
+            Like::Type => is_type(lexeme),
+            Like::Name => matches!(lexeme, Lexeme::Name(_)),
+            Like::Constant => matches!(lexeme, Lexeme::Number(_) | Lexeme::Character(_)),
+            Like::Operand => is_operand(lexeme),
+            Like::Ended => is_ended(lexeme),
+            Like::Keyword => matches!(lexeme, Lexeme::Keyword(_)),
+            Like::Operator => matches!(lexeme, Lexeme::Operator(_)),
+            Like::Assigns => matches!(lexeme, Lexeme::Assign(_)),
+            Like::Waits => waits(lexeme),
+            Like::Compares => matches!(lexeme, Lexeme::Operator(BinOp::Eq | BinOp::Ne)),
+            Like::Relates => matches!(
                 lexeme,
                 Lexeme::Operator(BinOp::Lt | BinOp::Le | BinOp::Gt | BinOp::Ge)
             ),
-            TokenTest::Bits => matches!(lexeme, Lexeme::Operator(BinOp::And | BinOp::Or)),
-            TokenTest::Closes => closes(lexeme),
+            Like::Bits => matches!(lexeme, Lexeme::Operator(BinOp::And | BinOp::Or)),
+            Like::Closes => closes(lexeme),
         }
     }
 
     /// Whether each token is of its kind.
-    pub(crate) fn fit(kinds: &[TokenTest; 5], tokens: &[Lexeme; 5]) -> bool {
+    pub(crate) fn fit(kinds: &[Like; 5], tokens: &[Lexeme; 5]) -> bool {
         for index in 0..5 {
             if !kinds[index].fits(&tokens[index]) {
                 return false;

@@ -1,7 +1,7 @@
 //! The names that a function declares.
 use crate::compiled::Extent;
 use crate::flow::{is_address, is_target};
-use crate::kinds::{TokenTest, is_word};
+use crate::kinds::{Like, is_word};
 use crate::spans::{Spans, lexeme_at, name_at};
 use blang::Keyword;
 use blex::Lexeme;
@@ -64,13 +64,13 @@ fn is_read(spans: &Spans, token: usize) -> bool {
 fn is_as_word(spans: &Spans, token: usize) -> bool {
     let before = lexeme_at(spans, token.wrapping_sub(1));
     let next = lexeme_at(spans, token.wrapping_add(1));
-    let is_compared = TokenTest::Compares.fits(&next) || TokenTest::Relates.fits(&next);
+    let is_compared = Like::Compares.fits(&next) || Like::Relates.fits(&next);
     matches!(before, Lexeme::Increment | Lexeme::Decrement)
         || matches!(
             next,
             Lexeme::Assign(_) | Lexeme::Increment | Lexeme::Decrement
         )
-        || (is_compared && TokenTest::Constant.fits(&lexeme_at(spans, token.wrapping_add(2))))
+        || (is_compared && Like::Constant.fits(&lexeme_at(spans, token.wrapping_add(2))))
 }
 
 /// The names that a function declares, at most 128.

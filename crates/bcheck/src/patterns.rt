@@ -9,7 +9,7 @@ use crate::effects::statement;
 use crate::ends::end_compared;
 use crate::finding::{Finding, Place};
 use crate::flow::Judgement;
-use crate::kinds::TokenTest;
+use crate::kinds::Like;
 use crate::locals::{Locals, NameRole};
 use crate::near::library_arguments;
 use crate::outside::outside;
@@ -211,62 +211,62 @@ enum If {
 
 /// The two tokens before, a token and the two after it; what else is so, and what is said, if anything.
 #[derive(Clone, Copy)]
-struct PatternRow([TokenTest; 5], If, Option<Warning>);
+struct Row([Like; 5], If, Option<Warning>);
 
-const ANY: TokenTest = TokenTest::Any;
+const ANY: Like = Like::Any;
 
-const AND: TokenTest = TokenTest::Is(Lexeme::Operator(BinOp::And));
+const AND: Like = Like::Is(Lexeme::Operator(BinOp::And));
 
-const MUL: TokenTest = TokenTest::Is(Lexeme::Operator(BinOp::Mul));
+const MUL: Like = Like::Is(Lexeme::Operator(BinOp::Mul));
 
-const NOT: TokenTest = TokenTest::Is(Lexeme::Not);
+const NOT: Like = Like::Is(Lexeme::Not);
 
-const STRING: TokenTest = TokenTest::Is(Lexeme::String);
+const STRING: Like = Like::Is(Lexeme::String);
 
-const OPEN_PAREN: TokenTest = TokenTest::Is(Lexeme::OpenParen);
+const OPEN_PAREN: Like = Like::Is(Lexeme::OpenParen);
 
-const CLOSE_PAREN: TokenTest = TokenTest::Is(Lexeme::CloseParen);
+const CLOSE_PAREN: Like = Like::Is(Lexeme::CloseParen);
 
-const COMMA: TokenTest = TokenTest::Is(Lexeme::Comma);
+const COMMA: Like = Like::Is(Lexeme::Comma);
 
-const EIGHT: TokenTest = TokenTest::Is(Lexeme::Number(8));
+const EIGHT: Like = Like::Is(Lexeme::Number(8));
 
-const TEN: TokenTest = TokenTest::Is(Lexeme::Number(10));
+const TEN: Like = Like::Is(Lexeme::Number(10));
 
-const CHAR: TokenTest = TokenTest::Word("char");
+const CHAR: Like = Like::Word("char");
 
-const LCHAR: TokenTest = TokenTest::Word("lchar");
+const LCHAR: Like = Like::Word("lchar");
 
-const PRINTN: TokenTest = TokenTest::Word("printn");
+const PRINTN: Like = Like::Word("printn");
 
-const PUTCHAR: TokenTest = TokenTest::Word("putchar");
+const PUTCHAR: Like = Like::Word("putchar");
 
 /// The first row that fits is the one.
 #[rattlefmt::skip]
-const ROWS: [PatternRow; 23] = [
-    PatternRow([ANY, ANY, AND, AND, ANY], If::Joined, Some(Warning::AndAnd)),
-    PatternRow([ANY, TokenTest::Ended, MUL, MUL, ANY], If::Joined, Some(Warning::Power)),
-    PatternRow([ANY, ANY, TokenTest::Is(Lexeme::Assign(Some(BinOp::Sub))), ANY, ANY], If::Joined, Some(Warning::OperatorAssigns)),
-    PatternRow([ANY, ANY, TokenTest::Is(Lexeme::Assign(Some(BinOp::Mul))), ANY, ANY], If::Joined, Some(Warning::OperatorAssigns)),
-    PatternRow([ANY, ANY, TokenTest::Is(Lexeme::Assign(Some(BinOp::And))), ANY, ANY], If::Joined, Some(Warning::OperatorAssigns)),
-    PatternRow([ANY, ANY, TokenTest::Bits, TokenTest::Constant, TokenTest::Compares], If::Always, Some(Warning::BitsCompared)),
-    PatternRow([TokenTest::Relates, TokenTest::Operand, TokenTest::Relates, ANY, ANY], If::Always, Some(Warning::ComparesTwice)),
-    PatternRow([TokenTest::Compares, TokenTest::Operand, TokenTest::Compares, ANY, ANY], If::Always, Some(Warning::ComparesTwice)),
-    PatternRow([NOT, TokenTest::Operand, TokenTest::Compares, NOT, ANY], If::Always, None),
-    PatternRow([NOT, TokenTest::Operand, TokenTest::Compares, ANY, ANY], If::Always, Some(Warning::NotCompared)),
-    PatternRow([NOT, TokenTest::Operand, TokenTest::Relates, ANY, ANY], If::Always, Some(Warning::NotCompared)),
-    PatternRow([ANY, TokenTest::Relates, TokenTest::Constant, ANY, ANY], If::Large, Some(Warning::NegativeNumber)),
-    PatternRow([ANY, ANY, TokenTest::Constant, TokenTest::Relates, ANY], If::Large, Some(Warning::NegativeNumber)),
-    PatternRow([PRINTN, OPEN_PAREN, EIGHT, COMMA, TokenTest::Name], If::Always, Some(Warning::SwappedArguments)),
-    PatternRow([PRINTN, OPEN_PAREN, TEN, COMMA, TokenTest::Name], If::Always, Some(Warning::SwappedArguments)),
-    PatternRow([CHAR, OPEN_PAREN, TokenTest::Constant, COMMA, ANY], If::Always, Some(Warning::SwappedArguments)),
-    PatternRow([LCHAR, OPEN_PAREN, TokenTest::Constant, COMMA, ANY], If::Always, Some(Warning::SwappedArguments)),
-    PatternRow([PRINTN, OPEN_PAREN, STRING, TokenTest::Closes, ANY], If::Always, Some(Warning::StringForNumber)),
-    PatternRow([PUTCHAR, OPEN_PAREN, STRING, CLOSE_PAREN, ANY], If::Short, Some(Warning::StringForCharacter)),
-    PatternRow([PUTCHAR, OPEN_PAREN, STRING, CLOSE_PAREN, ANY], If::Always, Some(Warning::StringPut)),
-    PatternRow([ANY, TokenTest::Compares, STRING, ANY, ANY], If::Short, Some(Warning::StringForCharacter)),
-    PatternRow([ANY, TokenTest::Compares, STRING, ANY, ANY], If::Always, Some(Warning::StringCompared)),
-    PatternRow([ANY, ANY, STRING, TokenTest::Compares, ANY], If::Always, Some(Warning::StringCompared)),
+const ROWS: [Row; 23] = [
+    Row([ANY, ANY, AND, AND, ANY], If::Joined, Some(Warning::AndAnd)),
+    Row([ANY, Like::Ended, MUL, MUL, ANY], If::Joined, Some(Warning::Power)),
+    Row([ANY, ANY, Like::Is(Lexeme::Assign(Some(BinOp::Sub))), ANY, ANY], If::Joined, Some(Warning::OperatorAssigns)),
+    Row([ANY, ANY, Like::Is(Lexeme::Assign(Some(BinOp::Mul))), ANY, ANY], If::Joined, Some(Warning::OperatorAssigns)),
+    Row([ANY, ANY, Like::Is(Lexeme::Assign(Some(BinOp::And))), ANY, ANY], If::Joined, Some(Warning::OperatorAssigns)),
+    Row([ANY, ANY, Like::Bits, Like::Constant, Like::Compares], If::Always, Some(Warning::BitsCompared)),
+    Row([Like::Relates, Like::Operand, Like::Relates, ANY, ANY], If::Always, Some(Warning::ComparesTwice)),
+    Row([Like::Compares, Like::Operand, Like::Compares, ANY, ANY], If::Always, Some(Warning::ComparesTwice)),
+    Row([NOT, Like::Operand, Like::Compares, NOT, ANY], If::Always, None),
+    Row([NOT, Like::Operand, Like::Compares, ANY, ANY], If::Always, Some(Warning::NotCompared)),
+    Row([NOT, Like::Operand, Like::Relates, ANY, ANY], If::Always, Some(Warning::NotCompared)),
+    Row([ANY, Like::Relates, Like::Constant, ANY, ANY], If::Large, Some(Warning::NegativeNumber)),
+    Row([ANY, ANY, Like::Constant, Like::Relates, ANY], If::Large, Some(Warning::NegativeNumber)),
+    Row([PRINTN, OPEN_PAREN, EIGHT, COMMA, Like::Name], If::Always, Some(Warning::SwappedArguments)),
+    Row([PRINTN, OPEN_PAREN, TEN, COMMA, Like::Name], If::Always, Some(Warning::SwappedArguments)),
+    Row([CHAR, OPEN_PAREN, Like::Constant, COMMA, ANY], If::Always, Some(Warning::SwappedArguments)),
+    Row([LCHAR, OPEN_PAREN, Like::Constant, COMMA, ANY], If::Always, Some(Warning::SwappedArguments)),
+    Row([PRINTN, OPEN_PAREN, STRING, Like::Closes, ANY], If::Always, Some(Warning::StringForNumber)),
+    Row([PUTCHAR, OPEN_PAREN, STRING, CLOSE_PAREN, ANY], If::Short, Some(Warning::StringForCharacter)),
+    Row([PUTCHAR, OPEN_PAREN, STRING, CLOSE_PAREN, ANY], If::Always, Some(Warning::StringPut)),
+    Row([ANY, Like::Compares, STRING, ANY, ANY], If::Short, Some(Warning::StringForCharacter)),
+    Row([ANY, Like::Compares, STRING, ANY, ANY], If::Always, Some(Warning::StringCompared)),
+    Row([ANY, ANY, STRING, Like::Compares, ANY], If::Always, Some(Warning::StringCompared)),
 ];
 
 // What is found of a token that declares nothing.
@@ -291,7 +291,7 @@ fn found_at(tokens: &DefinitionTokens<'_>, locals: &Locals, token: usize) -> Opt
 fn by_row(tokens: &DefinitionTokens<'_>, token: usize) -> Option<Warning> {
     let window = window(tokens.spans, token);
     for row in &ROWS {
-        if TokenTest::fit(&row.0, &window) && holds(row.1, tokens, token) {
+        if Like::fit(&row.0, &window) && holds(row.1, tokens, token) {
             return row.2;
         }
     }
@@ -444,7 +444,7 @@ fn whole_vector(
     last_of(tokens, locals, &name)?;
     let before = token.wrapping_sub(1);
     let before_that = lexeme_at(spans, token.wrapping_sub(2));
-    let is_alone = TokenTest::Closes.fits(&lexeme_at(spans, token.wrapping_add(1)));
+    let is_alone = Like::Closes.fits(&lexeme_at(spans, token.wrapping_add(1)));
     match lexeme_at(spans, before) {
         Lexeme::Operator(BinOp::And) if is_alone && begins_value(&before_that) => {
             Found::of_name(before, Warning::VectorAddress, name)

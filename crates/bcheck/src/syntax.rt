@@ -5,7 +5,7 @@ ghost use Rattle.bcheck.specs.Checks.{is_on_line};
 
 use crate::around::{Around, Region, opener_of};
 use crate::foreign::Foreign;
-use crate::kinds::TokenTest;
+use crate::kinds::Like;
 use crate::spans::{Spans, is_joined, is_next_line, lexeme_at};
 use blang::Keyword;
 use blex::Lexeme;
@@ -199,59 +199,59 @@ pub(crate) enum Marking {
 /// In which part of a definition, and what else is so; the first token of the statement, the two tokens before, the
 /// token and the next one; what is said, and which token is marked.
 #[derive(Clone, Copy)]
-struct SyntaxRow(Option<Region>, If, [TokenTest; 5], Syntax, Marking);
+struct Mistake(Option<Region>, If, [Like; 5], Syntax, Marking);
 
-const ANY: TokenTest = TokenTest::Any;
+const ANY: Like = Like::Any;
 
-const END: TokenTest = TokenTest::Is(Lexeme::End);
+const END: Like = Like::Is(Lexeme::End);
 
-const AUTO: TokenTest = TokenTest::Is(Lexeme::Keyword(Keyword::Auto));
+const AUTO: Like = Like::Is(Lexeme::Keyword(Keyword::Auto));
 
-const EXTRN: TokenTest = TokenTest::Is(Lexeme::Keyword(Keyword::Extrn));
+const EXTRN: Like = Like::Is(Lexeme::Keyword(Keyword::Extrn));
 
-const CASE: TokenTest = TokenTest::Is(Lexeme::Keyword(Keyword::Case));
+const CASE: Like = Like::Is(Lexeme::Keyword(Keyword::Case));
 
-const IF: TokenTest = TokenTest::Is(Lexeme::Keyword(Keyword::If));
+const IF: Like = Like::Is(Lexeme::Keyword(Keyword::If));
 
-const WHILE: TokenTest = TokenTest::Is(Lexeme::Keyword(Keyword::While));
+const WHILE: Like = Like::Is(Lexeme::Keyword(Keyword::While));
 
-const SWITCH: TokenTest = TokenTest::Is(Lexeme::Keyword(Keyword::Switch));
+const SWITCH: Like = Like::Is(Lexeme::Keyword(Keyword::Switch));
 
-const RETURN: TokenTest = TokenTest::Is(Lexeme::Keyword(Keyword::Return));
+const RETURN: Like = Like::Is(Lexeme::Keyword(Keyword::Return));
 
-const ELSE: TokenTest = TokenTest::Is(Lexeme::Keyword(Keyword::Else));
+const ELSE: Like = Like::Is(Lexeme::Keyword(Keyword::Else));
 
-const DIV: TokenTest = TokenTest::Is(Lexeme::Operator(BinOp::Div));
+const DIV: Like = Like::Is(Lexeme::Operator(BinOp::Div));
 
-const LT: TokenTest = TokenTest::Is(Lexeme::Operator(BinOp::Lt));
+const LT: Like = Like::Is(Lexeme::Operator(BinOp::Lt));
 
-const SUB: TokenTest = TokenTest::Is(Lexeme::Operator(BinOp::Sub));
+const SUB: Like = Like::Is(Lexeme::Operator(BinOp::Sub));
 
-const GT: TokenTest = TokenTest::Is(Lexeme::Operator(BinOp::Gt));
+const GT: Like = Like::Is(Lexeme::Operator(BinOp::Gt));
 
-const OR: TokenTest = TokenTest::Is(Lexeme::Operator(BinOp::Or));
+const OR: Like = Like::Is(Lexeme::Operator(BinOp::Or));
 
-const EQUALS: TokenTest = TokenTest::Is(Lexeme::Assign(None));
+const EQUALS: Like = Like::Is(Lexeme::Assign(None));
 
-const SEMICOLON: TokenTest = TokenTest::Is(Lexeme::Semicolon);
+const SEMICOLON: Like = Like::Is(Lexeme::Semicolon);
 
-const COLON: TokenTest = TokenTest::Is(Lexeme::Colon);
+const COLON: Like = Like::Is(Lexeme::Colon);
 
-const COMMA: TokenTest = TokenTest::Is(Lexeme::Comma);
+const COMMA: Like = Like::Is(Lexeme::Comma);
 
-const OPEN_PAREN: TokenTest = TokenTest::Is(Lexeme::OpenParen);
+const OPEN_PAREN: Like = Like::Is(Lexeme::OpenParen);
 
-const CLOSE_PAREN: TokenTest = TokenTest::Is(Lexeme::CloseParen);
+const CLOSE_PAREN: Like = Like::Is(Lexeme::CloseParen);
 
-const OPEN_BRACKET: TokenTest = TokenTest::Is(Lexeme::OpenBracket);
+const OPEN_BRACKET: Like = Like::Is(Lexeme::OpenBracket);
 
-const CLOSE_BRACKET: TokenTest = TokenTest::Is(Lexeme::CloseBracket);
+const CLOSE_BRACKET: Like = Like::Is(Lexeme::CloseBracket);
 
-const OPEN_BRACE: TokenTest = TokenTest::Is(Lexeme::OpenBrace);
+const OPEN_BRACE: Like = Like::Is(Lexeme::OpenBrace);
 
-const CLOSE_BRACE: TokenTest = TokenTest::Is(Lexeme::CloseBrace);
+const CLOSE_BRACE: Like = Like::Is(Lexeme::CloseBrace);
 
-const STRING: TokenTest = TokenTest::Is(Lexeme::String);
+const STRING: Like = Like::Is(Lexeme::String);
 
 const START: Option<Region> = Some(Region::Start);
 
@@ -263,121 +263,121 @@ const BODY: Option<Region> = Some(Region::Body);
 
 /// The end of the source, comments, and the first token of a definition.
 #[rattlefmt::skip]
-const BEGINNINGS: [SyntaxRow; 9] = [
-    SyntaxRow(None, If::ParenOpen, [ANY, ANY, ANY, END, ANY], Syntax::ParenOpen, Marking::Here),
-    SyntaxRow(None, If::BraceOpen, [ANY, ANY, ANY, END, ANY], Syntax::BraceOpen, Marking::Here),
-    SyntaxRow(None, If::Always, [ANY, ANY, ANY, END, ANY], Syntax::SourceEnds, Marking::Here),
-    SyntaxRow(None, If::Joined, [ANY, ANY, DIV, DIV, ANY], Syntax::Slashes, Marking::Before),
-    SyntaxRow(None, If::Always, [ANY, ANY, ANY, DIV, DIV], Syntax::Slashes, Marking::Here),
-    SyntaxRow(START, If::Always, [ANY, ANY, CLOSE_BRACE, SEMICOLON, ANY], Syntax::BraceSemicolon, Marking::Here),
-    SyntaxRow(START, If::Always, [ANY, ANY, ANY, CLOSE_BRACE, ANY], Syntax::BraceCloses, Marking::Here),
-    SyntaxRow(START, If::Always, [ANY, ANY, ANY, TokenTest::Keyword, ANY], Syntax::StatementOutside, Marking::Here),
-    SyntaxRow(START, If::Always, [ANY, ANY, ANY, ANY, ANY], Syntax::NameMissing, Marking::Here),
+const BEGINNINGS: [Mistake; 9] = [
+    Mistake(None, If::ParenOpen, [ANY, ANY, ANY, END, ANY], Syntax::ParenOpen, Marking::Here),
+    Mistake(None, If::BraceOpen, [ANY, ANY, ANY, END, ANY], Syntax::BraceOpen, Marking::Here),
+    Mistake(None, If::Always, [ANY, ANY, ANY, END, ANY], Syntax::SourceEnds, Marking::Here),
+    Mistake(None, If::Joined, [ANY, ANY, DIV, DIV, ANY], Syntax::Slashes, Marking::Before),
+    Mistake(None, If::Always, [ANY, ANY, ANY, DIV, DIV], Syntax::Slashes, Marking::Here),
+    Mistake(START, If::Always, [ANY, ANY, CLOSE_BRACE, SEMICOLON, ANY], Syntax::BraceSemicolon, Marking::Here),
+    Mistake(START, If::Always, [ANY, ANY, ANY, CLOSE_BRACE, ANY], Syntax::BraceCloses, Marking::Here),
+    Mistake(START, If::Always, [ANY, ANY, ANY, Like::Keyword, ANY], Syntax::StatementOutside, Marking::Here),
+    Mistake(START, If::Always, [ANY, ANY, ANY, ANY, ANY], Syntax::NameMissing, Marking::Here),
 ];
 
 /// Externals and the parameters of a function.
 #[rattlefmt::skip]
-const OUTSIDE: [SyntaxRow; 13] = [
-    SyntaxRow(EXTERNAL, If::Prototype, [TokenTest::Type, ANY, TokenTest::Name, OPEN_PAREN, ANY], Syntax::Prototype, Marking::First),
-    SyntaxRow(HEADER, If::Prototype, [ANY, ANY, TokenTest::Type, TokenTest::Name, ANY], Syntax::Prototype, Marking::Before),
-    SyntaxRow(EXTERNAL, If::Always, [TokenTest::Type, ANY, ANY, ANY, ANY], Syntax::TypeFirst, Marking::First),
-    SyntaxRow(EXTERNAL, If::NextLine, [ANY, ANY, TokenTest::Ended, TokenTest::Name, ANY], Syntax::SemicolonMissing, Marking::Here),
-    SyntaxRow(EXTERNAL, If::Always, [ANY, ANY, TokenTest::Name, OPEN_PAREN, ANY], Syntax::TypeFirst, Marking::First),
-    SyntaxRow(EXTERNAL, If::Always, [ANY, ANY, ANY, TokenTest::Assigns, ANY], Syntax::EqualsOutside, Marking::Here),
-    SyntaxRow(EXTERNAL, If::Always, [ANY, ANY, ANY, SUB, ANY], Syntax::SignOutside, Marking::Here),
-    SyntaxRow(EXTERNAL, If::Always, [ANY, ANY, ANY, OPEN_BRACE, ANY], Syntax::BracesOutside, Marking::Here),
-    SyntaxRow(HEADER, If::Always, [ANY, ANY, TokenTest::Name, TokenTest::Name, ANY], Syntax::TypeParameter, Marking::Before),
-    SyntaxRow(HEADER, If::Always, [ANY, ANY, TokenTest::Name, OPEN_BRACKET, ANY], Syntax::VectorParameter, Marking::Here),
-    SyntaxRow(HEADER, If::Always, [ANY, ANY, ANY, TokenTest::Constant, ANY], Syntax::CallOutside, Marking::Here),
-    SyntaxRow(HEADER, If::Always, [ANY, ANY, ANY, STRING, ANY], Syntax::CallOutside, Marking::Here),
-    SyntaxRow(HEADER, If::Always, [ANY, ANY, TokenTest::Name, OPEN_PAREN, ANY], Syntax::CallOutside, Marking::Here),
+const OUTSIDE: [Mistake; 13] = [
+    Mistake(EXTERNAL, If::Prototype, [Like::Type, ANY, Like::Name, OPEN_PAREN, ANY], Syntax::Prototype, Marking::First),
+    Mistake(HEADER, If::Prototype, [ANY, ANY, Like::Type, Like::Name, ANY], Syntax::Prototype, Marking::Before),
+    Mistake(EXTERNAL, If::Always, [Like::Type, ANY, ANY, ANY, ANY], Syntax::TypeFirst, Marking::First),
+    Mistake(EXTERNAL, If::NextLine, [ANY, ANY, Like::Ended, Like::Name, ANY], Syntax::SemicolonMissing, Marking::Here),
+    Mistake(EXTERNAL, If::Always, [ANY, ANY, Like::Name, OPEN_PAREN, ANY], Syntax::TypeFirst, Marking::First),
+    Mistake(EXTERNAL, If::Always, [ANY, ANY, ANY, Like::Assigns, ANY], Syntax::EqualsOutside, Marking::Here),
+    Mistake(EXTERNAL, If::Always, [ANY, ANY, ANY, SUB, ANY], Syntax::SignOutside, Marking::Here),
+    Mistake(EXTERNAL, If::Always, [ANY, ANY, ANY, OPEN_BRACE, ANY], Syntax::BracesOutside, Marking::Here),
+    Mistake(HEADER, If::Always, [ANY, ANY, Like::Name, Like::Name, ANY], Syntax::TypeParameter, Marking::Before),
+    Mistake(HEADER, If::Always, [ANY, ANY, Like::Name, OPEN_BRACKET, ANY], Syntax::VectorParameter, Marking::Here),
+    Mistake(HEADER, If::Always, [ANY, ANY, ANY, Like::Constant, ANY], Syntax::CallOutside, Marking::Here),
+    Mistake(HEADER, If::Always, [ANY, ANY, ANY, STRING, ANY], Syntax::CallOutside, Marking::Here),
+    Mistake(HEADER, If::Always, [ANY, ANY, Like::Name, OPEN_PAREN, ANY], Syntax::CallOutside, Marking::Here),
 ];
 
 /// Declarations in a function.
 #[rattlefmt::skip]
-const DECLARATIONS: [SyntaxRow; 6] = [
-    SyntaxRow(BODY, If::Always, [AUTO, ANY, TokenTest::Name, EQUALS, ANY], Syntax::AutoValue, Marking::Here),
-    SyntaxRow(BODY, If::Always, [AUTO, ANY, TokenTest::Name, OPEN_BRACKET, ANY], Syntax::AutoBrackets, Marking::Here),
-    SyntaxRow(BODY, If::NextLine, [AUTO, ANY, TokenTest::Operand, ANY, ANY], Syntax::SemicolonMissing, Marking::Here),
-    SyntaxRow(BODY, If::Always, [AUTO, ANY, ANY, ANY, ANY], Syntax::AutoList, Marking::Here),
-    SyntaxRow(BODY, If::NextLine, [EXTRN, ANY, TokenTest::Name, ANY, ANY], Syntax::SemicolonMissing, Marking::Here),
-    SyntaxRow(BODY, If::Always, [EXTRN, ANY, ANY, ANY, ANY], Syntax::ExtrnList, Marking::Here),
+const DECLARATIONS: [Mistake; 6] = [
+    Mistake(BODY, If::Always, [AUTO, ANY, Like::Name, EQUALS, ANY], Syntax::AutoValue, Marking::Here),
+    Mistake(BODY, If::Always, [AUTO, ANY, Like::Name, OPEN_BRACKET, ANY], Syntax::AutoBrackets, Marking::Here),
+    Mistake(BODY, If::NextLine, [AUTO, ANY, Like::Operand, ANY, ANY], Syntax::SemicolonMissing, Marking::Here),
+    Mistake(BODY, If::Always, [AUTO, ANY, ANY, ANY, ANY], Syntax::AutoList, Marking::Here),
+    Mistake(BODY, If::NextLine, [EXTRN, ANY, Like::Name, ANY, ANY], Syntax::SemicolonMissing, Marking::Here),
+    Mistake(BODY, If::Always, [EXTRN, ANY, ANY, ANY, ANY], Syntax::ExtrnList, Marking::Here),
 ];
 
 /// Words, with what has to come after them.
 #[rattlefmt::skip]
-const WORDS: [SyntaxRow; 14] = [
-    SyntaxRow(BODY, If::For, [ANY, ANY, ANY, ANY, ANY], Syntax::For, Marking::Head),
-    SyntaxRow(BODY, If::Always, [ANY, ANY, TokenTest::Word("do"), ANY, ANY], Syntax::Do, Marking::Before),
-    SyntaxRow(BODY, If::Always, [ANY, ANY, TokenTest::Word("then"), ANY, ANY], Syntax::Then, Marking::Before),
-    SyntaxRow(BODY, If::Always, [TokenTest::Word("elif"), ANY, CLOSE_PAREN, ANY, ANY], Syntax::ElseIf, Marking::First),
-    SyntaxRow(BODY, If::Always, [TokenTest::Word("elsif"), ANY, CLOSE_PAREN, ANY, ANY], Syntax::ElseIf, Marking::First),
-    SyntaxRow(BODY, If::Always, [TokenTest::Word("elseif"), ANY, CLOSE_PAREN, ANY, ANY], Syntax::ElseIf, Marking::First),
-    SyntaxRow(BODY, If::Always, [ANY, ANY, TokenTest::Type, TokenTest::Name, ANY], Syntax::TypeInside, Marking::Before),
-    SyntaxRow(BODY, If::Always, [ANY, ANY, CASE, SUB, ANY], Syntax::CaseSign, Marking::Here),
-    SyntaxRow(BODY, If::Always, [ANY, ANY, CASE, ANY, ANY], Syntax::CaseValue, Marking::Here),
-    SyntaxRow(BODY, If::Always, [ANY, CASE, TokenTest::Constant, COMMA, ANY], Syntax::CaseList, Marking::Here),
-    SyntaxRow(BODY, If::Always, [ANY, CASE, TokenTest::Constant, ANY, ANY], Syntax::CaseColon, Marking::Here),
-    SyntaxRow(BODY, If::Always, [ANY, ANY, IF, ANY, ANY], Syntax::Condition, Marking::Here),
-    SyntaxRow(BODY, If::Always, [ANY, ANY, WHILE, ANY, ANY], Syntax::Condition, Marking::Here),
-    SyntaxRow(BODY, If::Always, [ANY, ANY, RETURN, ANY, ANY], Syntax::ReturnValue, Marking::Here),
+const WORDS: [Mistake; 14] = [
+    Mistake(BODY, If::For, [ANY, ANY, ANY, ANY, ANY], Syntax::For, Marking::Head),
+    Mistake(BODY, If::Always, [ANY, ANY, Like::Word("do"), ANY, ANY], Syntax::Do, Marking::Before),
+    Mistake(BODY, If::Always, [ANY, ANY, Like::Word("then"), ANY, ANY], Syntax::Then, Marking::Before),
+    Mistake(BODY, If::Always, [Like::Word("elif"), ANY, CLOSE_PAREN, ANY, ANY], Syntax::ElseIf, Marking::First),
+    Mistake(BODY, If::Always, [Like::Word("elsif"), ANY, CLOSE_PAREN, ANY, ANY], Syntax::ElseIf, Marking::First),
+    Mistake(BODY, If::Always, [Like::Word("elseif"), ANY, CLOSE_PAREN, ANY, ANY], Syntax::ElseIf, Marking::First),
+    Mistake(BODY, If::Always, [ANY, ANY, Like::Type, Like::Name, ANY], Syntax::TypeInside, Marking::Before),
+    Mistake(BODY, If::Always, [ANY, ANY, CASE, SUB, ANY], Syntax::CaseSign, Marking::Here),
+    Mistake(BODY, If::Always, [ANY, ANY, CASE, ANY, ANY], Syntax::CaseValue, Marking::Here),
+    Mistake(BODY, If::Always, [ANY, CASE, Like::Constant, COMMA, ANY], Syntax::CaseList, Marking::Here),
+    Mistake(BODY, If::Always, [ANY, CASE, Like::Constant, ANY, ANY], Syntax::CaseColon, Marking::Here),
+    Mistake(BODY, If::Always, [ANY, ANY, IF, ANY, ANY], Syntax::Condition, Marking::Here),
+    Mistake(BODY, If::Always, [ANY, ANY, WHILE, ANY, ANY], Syntax::Condition, Marking::Here),
+    Mistake(BODY, If::Always, [ANY, ANY, RETURN, ANY, ANY], Syntax::ReturnValue, Marking::Here),
 ];
 
 /// Operators and operands, and brackets around them.
 #[rattlefmt::skip]
-const OPERANDS: [SyntaxRow; 21] = [
-    SyntaxRow(BODY, If::Always, [ANY, ANY, OR, OR, ANY], Syntax::OrOr, Marking::Here),
-    SyntaxRow(BODY, If::Always, [IF, ANY, CLOSE_PAREN, COLON, ANY], Syntax::HeadColon, Marking::Here),
-    SyntaxRow(BODY, If::Always, [WHILE, ANY, CLOSE_PAREN, COLON, ANY], Syntax::HeadColon, Marking::Here),
-    SyntaxRow(BODY, If::Always, [ELSE, ANY, CLOSE_PAREN, COLON, ANY], Syntax::HeadColon, Marking::Here),
-    SyntaxRow(BODY, If::Always, [ANY, ANY, ELSE, COLON, ANY], Syntax::HeadColon, Marking::Here),
-    SyntaxRow(BODY, If::LineStart, [TokenTest::Name, ANY, CLOSE_PAREN, COLON, ANY], Syntax::HeadColon, Marking::Here),
-    SyntaxRow(BODY, If::Joined, [ANY, ANY, COLON, TokenTest::Assigns, ANY], Syntax::ColonEquals, Marking::Before),
-    SyntaxRow(BODY, If::Joined, [ANY, ANY, LT, GT, ANY], Syntax::LessGreater, Marking::Before),
-    SyntaxRow(BODY, If::Always, [ANY, ANY, TokenTest::Compares, TokenTest::Assigns, ANY], Syntax::CompareSigns, Marking::Before),
-    SyntaxRow(BODY, If::Always, [ANY, ANY, TokenTest::Relates, TokenTest::Assigns, ANY], Syntax::CompareSigns, Marking::Before),
-    SyntaxRow(BODY, If::Always, [ANY, ANY, TokenTest::Operator, TokenTest::Assigns, ANY], Syntax::EqualsAfter, Marking::Here),
-    SyntaxRow(BODY, If::Joined, [ANY, ANY, SUB, GT, ANY], Syntax::Arrow, Marking::Before),
-    SyntaxRow(BODY, If::Backslash, [ANY, ANY, STRING, ANY, ANY], Syntax::QuoteEscaped, Marking::Here),
-    SyntaxRow(BODY, If::Joined, [ANY, ANY, TokenTest::Constant, TokenTest::Name, ANY], Syntax::NumberName, Marking::Here),
-    SyntaxRow(BODY, If::Always, [ANY, ANY, TokenTest::Waits, TokenTest::Closes, ANY], Syntax::OperandMissing, Marking::Here),
-    SyntaxRow(BODY, If::Always, [ANY, ANY, TokenTest::Waits, TokenTest::Operator, ANY], Syntax::OperandMissing, Marking::Here),
-    SyntaxRow(BODY, If::Always, [ANY, ANY, TokenTest::Waits, TokenTest::Assigns, ANY], Syntax::OperandMissing, Marking::Here),
-    SyntaxRow(BODY, If::Always, [ANY, ANY, TokenTest::Waits, TokenTest::Keyword, ANY], Syntax::OperandMissing, Marking::Here),
-    SyntaxRow(BODY, If::ParenOpen, [ANY, ANY, TokenTest::Ended, OPEN_BRACE, ANY], Syntax::ParenOpen, Marking::Here),
-    SyntaxRow(BODY, If::Asked, [ANY, ANY, TokenTest::Ended, TokenTest::Closes, ANY], Syntax::ColonMissing, Marking::Here),
-    SyntaxRow(BODY, If::ParenOpen, [ANY, ANY, TokenTest::Ended, TokenTest::Closes, ANY], Syntax::ParenOpen, Marking::Here),
+const OPERANDS: [Mistake; 21] = [
+    Mistake(BODY, If::Always, [ANY, ANY, OR, OR, ANY], Syntax::OrOr, Marking::Here),
+    Mistake(BODY, If::Always, [IF, ANY, CLOSE_PAREN, COLON, ANY], Syntax::HeadColon, Marking::Here),
+    Mistake(BODY, If::Always, [WHILE, ANY, CLOSE_PAREN, COLON, ANY], Syntax::HeadColon, Marking::Here),
+    Mistake(BODY, If::Always, [ELSE, ANY, CLOSE_PAREN, COLON, ANY], Syntax::HeadColon, Marking::Here),
+    Mistake(BODY, If::Always, [ANY, ANY, ELSE, COLON, ANY], Syntax::HeadColon, Marking::Here),
+    Mistake(BODY, If::LineStart, [Like::Name, ANY, CLOSE_PAREN, COLON, ANY], Syntax::HeadColon, Marking::Here),
+    Mistake(BODY, If::Joined, [ANY, ANY, COLON, Like::Assigns, ANY], Syntax::ColonEquals, Marking::Before),
+    Mistake(BODY, If::Joined, [ANY, ANY, LT, GT, ANY], Syntax::LessGreater, Marking::Before),
+    Mistake(BODY, If::Always, [ANY, ANY, Like::Compares, Like::Assigns, ANY], Syntax::CompareSigns, Marking::Before),
+    Mistake(BODY, If::Always, [ANY, ANY, Like::Relates, Like::Assigns, ANY], Syntax::CompareSigns, Marking::Before),
+    Mistake(BODY, If::Always, [ANY, ANY, Like::Operator, Like::Assigns, ANY], Syntax::EqualsAfter, Marking::Here),
+    Mistake(BODY, If::Joined, [ANY, ANY, SUB, GT, ANY], Syntax::Arrow, Marking::Before),
+    Mistake(BODY, If::Backslash, [ANY, ANY, STRING, ANY, ANY], Syntax::QuoteEscaped, Marking::Here),
+    Mistake(BODY, If::Joined, [ANY, ANY, Like::Constant, Like::Name, ANY], Syntax::NumberName, Marking::Here),
+    Mistake(BODY, If::Always, [ANY, ANY, Like::Waits, Like::Closes, ANY], Syntax::OperandMissing, Marking::Here),
+    Mistake(BODY, If::Always, [ANY, ANY, Like::Waits, Like::Operator, ANY], Syntax::OperandMissing, Marking::Here),
+    Mistake(BODY, If::Always, [ANY, ANY, Like::Waits, Like::Assigns, ANY], Syntax::OperandMissing, Marking::Here),
+    Mistake(BODY, If::Always, [ANY, ANY, Like::Waits, Like::Keyword, ANY], Syntax::OperandMissing, Marking::Here),
+    Mistake(BODY, If::ParenOpen, [ANY, ANY, Like::Ended, OPEN_BRACE, ANY], Syntax::ParenOpen, Marking::Here),
+    Mistake(BODY, If::Asked, [ANY, ANY, Like::Ended, Like::Closes, ANY], Syntax::ColonMissing, Marking::Here),
+    Mistake(BODY, If::ParenOpen, [ANY, ANY, Like::Ended, Like::Closes, ANY], Syntax::ParenOpen, Marking::Here),
 ];
 
 /// Statements that begin or end at the wrong place.
 #[rattlefmt::skip]
-const STATEMENTS: [SyntaxRow; 9] = [
-    SyntaxRow(BODY, If::ParenOpen, [ANY, ANY, TokenTest::Ended, TokenTest::Keyword, ANY], Syntax::ParenOpen, Marking::Here),
-    SyntaxRow(BODY, If::Always, [SWITCH, ANY, TokenTest::Ended, ANY, ANY], Syntax::SwitchBraces, Marking::Here),
-    SyntaxRow(BODY, If::IfBrace, [ANY, ANY, SEMICOLON, ELSE, ANY], Syntax::ElseInBraces, Marking::Here),
-    SyntaxRow(BODY, If::IfBrace, [ANY, ANY, CLOSE_BRACE, ELSE, ANY], Syntax::ElseInBraces, Marking::Here),
-    SyntaxRow(BODY, If::NextLine, [ANY, ANY, TokenTest::Ended, ELSE, ANY], Syntax::SemicolonMissing, Marking::Here),
-    SyntaxRow(BODY, If::Always, [ANY, ANY, SEMICOLON, ELSE, ANY], Syntax::ElseAlone, Marking::Here),
-    SyntaxRow(BODY, If::Always, [ANY, ANY, CLOSE_BRACE, ELSE, ANY], Syntax::ElseAlone, Marking::Here),
-    SyntaxRow(BODY, If::LineStart, [TokenTest::Name, ANY, CLOSE_PAREN, OPEN_BRACE, ANY], Syntax::FunctionInside, Marking::First),
-    SyntaxRow(BODY, If::Always, [TokenTest::Name, ANY, CLOSE_PAREN, OPEN_BRACE, ANY], Syntax::CallBody, Marking::First),
+const STATEMENTS: [Mistake; 9] = [
+    Mistake(BODY, If::ParenOpen, [ANY, ANY, Like::Ended, Like::Keyword, ANY], Syntax::ParenOpen, Marking::Here),
+    Mistake(BODY, If::Always, [SWITCH, ANY, Like::Ended, ANY, ANY], Syntax::SwitchBraces, Marking::Here),
+    Mistake(BODY, If::IfBrace, [ANY, ANY, SEMICOLON, ELSE, ANY], Syntax::ElseInBraces, Marking::Here),
+    Mistake(BODY, If::IfBrace, [ANY, ANY, CLOSE_BRACE, ELSE, ANY], Syntax::ElseInBraces, Marking::Here),
+    Mistake(BODY, If::NextLine, [ANY, ANY, Like::Ended, ELSE, ANY], Syntax::SemicolonMissing, Marking::Here),
+    Mistake(BODY, If::Always, [ANY, ANY, SEMICOLON, ELSE, ANY], Syntax::ElseAlone, Marking::Here),
+    Mistake(BODY, If::Always, [ANY, ANY, CLOSE_BRACE, ELSE, ANY], Syntax::ElseAlone, Marking::Here),
+    Mistake(BODY, If::LineStart, [Like::Name, ANY, CLOSE_PAREN, OPEN_BRACE, ANY], Syntax::FunctionInside, Marking::First),
+    Mistake(BODY, If::Always, [Like::Name, ANY, CLOSE_PAREN, OPEN_BRACE, ANY], Syntax::CallBody, Marking::First),
 ];
 
 /// The rest, where what comes after an operand is no part of its expression.
 #[rattlefmt::skip]
-const REST: [SyntaxRow; 12] = [
-    SyntaxRow(BODY, If::Always, [ANY, ANY, ANY, TokenTest::Assigns, ANY], Syntax::AssignLeft, Marking::Here),
-    SyntaxRow(BODY, If::Always, [ANY, ANY, ANY, COMMA, ANY], Syntax::CommaAlone, Marking::Here),
-    SyntaxRow(BODY, If::Always, [ANY, ANY, ANY, CLOSE_PAREN, ANY], Syntax::Unopened, Marking::Here),
-    SyntaxRow(BODY, If::Always, [ANY, ANY, ANY, CLOSE_BRACKET, ANY], Syntax::Unopened, Marking::Here),
-    SyntaxRow(BODY, If::Always, [ANY, ANY, SEMICOLON, CLOSE_BRACE, ANY], Syntax::NoStatement, Marking::Here),
-    SyntaxRow(BODY, If::Always, [ANY, ANY, COLON, CLOSE_BRACE, ANY], Syntax::NoStatement, Marking::Here),
-    SyntaxRow(BODY, If::NextLine, [ANY, ANY, TokenTest::Ended, ANY, ANY], Syntax::SemicolonMissing, Marking::Here),
-    SyntaxRow(BODY, If::Always, [ANY, ANY, TokenTest::Ended, CLOSE_BRACE, ANY], Syntax::SemicolonBefore, Marking::Here),
-    SyntaxRow(BODY, If::Second, [ANY, ANY, TokenTest::Name, TokenTest::Operand, ANY], Syntax::CallParens, Marking::Here),
-    SyntaxRow(BODY, If::Always, [ANY, ANY, TokenTest::Ended, TokenTest::Operand, ANY], Syntax::TwoOperands, Marking::Here),
-    SyntaxRow(BODY, If::Always, [ANY, ANY, TokenTest::Ended, TokenTest::Keyword, ANY], Syntax::TwoOperands, Marking::Here),
-    SyntaxRow(BODY, If::Always, [ANY, ANY, TokenTest::Ended, OPEN_BRACE, ANY], Syntax::TwoOperands, Marking::Here),
+const REST: [Mistake; 12] = [
+    Mistake(BODY, If::Always, [ANY, ANY, ANY, Like::Assigns, ANY], Syntax::AssignLeft, Marking::Here),
+    Mistake(BODY, If::Always, [ANY, ANY, ANY, COMMA, ANY], Syntax::CommaAlone, Marking::Here),
+    Mistake(BODY, If::Always, [ANY, ANY, ANY, CLOSE_PAREN, ANY], Syntax::Unopened, Marking::Here),
+    Mistake(BODY, If::Always, [ANY, ANY, ANY, CLOSE_BRACKET, ANY], Syntax::Unopened, Marking::Here),
+    Mistake(BODY, If::Always, [ANY, ANY, SEMICOLON, CLOSE_BRACE, ANY], Syntax::NoStatement, Marking::Here),
+    Mistake(BODY, If::Always, [ANY, ANY, COLON, CLOSE_BRACE, ANY], Syntax::NoStatement, Marking::Here),
+    Mistake(BODY, If::NextLine, [ANY, ANY, Like::Ended, ANY, ANY], Syntax::SemicolonMissing, Marking::Here),
+    Mistake(BODY, If::Always, [ANY, ANY, Like::Ended, CLOSE_BRACE, ANY], Syntax::SemicolonBefore, Marking::Here),
+    Mistake(BODY, If::Second, [ANY, ANY, Like::Name, Like::Operand, ANY], Syntax::CallParens, Marking::Here),
+    Mistake(BODY, If::Always, [ANY, ANY, Like::Ended, Like::Operand, ANY], Syntax::TwoOperands, Marking::Here),
+    Mistake(BODY, If::Always, [ANY, ANY, Like::Ended, Like::Keyword, ANY], Syntax::TwoOperands, Marking::Here),
+    Mistake(BODY, If::Always, [ANY, ANY, Like::Ended, OPEN_BRACE, ANY], Syntax::TwoOperands, Marking::Here),
 ];
 
 /// What is said of a token with which no program goes on, and which token is marked: the first row that fits tells it.
@@ -432,7 +432,7 @@ fn rest(tried: &Tried<'_>) -> Option<(Syntax, Marking)> {
 }
 
 // What the first row says that fits.
-fn first_of(tried: &Tried<'_>, rows: &[SyntaxRow]) -> Option<(Syntax, Marking)> {
+fn first_of(tried: &Tried<'_>, rows: &[Fault]) -> Option<(Syntax, Marking)> {
     for row in rows {
         if fits(row, tried) {
             return Some((row.3, row.4));
@@ -451,9 +451,9 @@ fn window(spans: &Spans, around: &Around) -> [Lexeme; 5] {
     ]
 }
 
-fn fits(row: &SyntaxRow, tried: &Tried<'_>) -> bool {
+fn fits(row: &Fault, tried: &Tried<'_>) -> bool {
     is_part(row.0, tried.around.part)
-        && TokenTest::fit(&row.2, &tried.tokens)
+        && Like::fit(&row.2, &tried.tokens)
         && holds(row.1, tried.source, tried.spans, tried.around)
 }
 

@@ -10,7 +10,7 @@ use crate::compiled::{Compiled, Extent};
 use crate::defined::is_function;
 use crate::finding::Finding;
 use crate::foreign::{Foreign, declaring_word, foreign_word};
-use crate::kinds::{TokenTest, is_ended, is_word};
+use crate::kinds::{Like, is_ended, is_word};
 use crate::mention::{first_mention, token_of_mention};
 use crate::near::{Definitions, find_definitions, library_arguments, near};
 use crate::spans::{SourceText, Spans, lexeme_at, place_of};
@@ -280,7 +280,7 @@ fn undefined_at(
         return not_defined(spans, extent.first, Undefined::Foreign(meaning), word, None);
     }
     let alike = like(spans, Extent { first: 0, end: 0 }, &name, &defined);
-    let is_typed = TokenTest::Type.fits(&lexeme_at(spans, extent.first));
+    let is_typed = Like::Type.fits(&lexeme_at(spans, extent.first));
     let (what, other) = match (name.as_str(), in_library(&name), foreign_word(&name)) {
         _ if is_typed && !is_function(spans, extent) => (Undefined::Type, None),
         ("break" | "default", _, _) => (Undefined::OtherEdition, None),
@@ -388,7 +388,7 @@ fn ended_by(spans: &Spans, last: usize) -> Lvalue {
     let callee = lexeme_at(spans, opener.wrapping_sub(1));
     if is_word(&callee, "char") {
         Lvalue::Character
-    } else if TokenTest::Name.fits(&callee) {
+    } else if Like::Name.fits(&callee) {
         Lvalue::Call
     } else {
         Lvalue::Other
