@@ -432,7 +432,7 @@ fn rest(tried: &Tried<'_>) -> Option<(Syntax, Marking)> {
 }
 
 // What the first row says that fits.
-fn first_of(tried: &Tried<'_>, rows: &[Fault]) -> Option<(Syntax, Marking)> {
+fn first_of(tried: &Tried<'_>, rows: &[Mistake]) -> Option<(Syntax, Marking)> {
     for row in rows {
         if fits(row, tried) {
             return Some((row.3, row.4));
@@ -451,7 +451,7 @@ fn window(spans: &Spans, around: &Around) -> [Lexeme; 5] {
     ]
 }
 
-fn fits(row: &Fault, tried: &Tried<'_>) -> bool {
+fn fits(row: &Mistake, tried: &Tried<'_>) -> bool {
     is_part(row.0, tried.around.part)
         && Like::fit(&row.2, &tried.tokens)
         && holds(row.1, tried.source, tried.spans, tried.around)
