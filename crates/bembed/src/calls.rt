@@ -1,24 +1,17 @@
-//! The calls.
+//! Compiling and running.
 ghost use Rattle.std.specs.Prelude.{◌≡◌};
 ghost use Rattle.blang.specs.declared.status.TheConstants.{WRONG_COMMAND};
 ghost use Rattle.bembed.specs.Calls.{edition_of, InEdition, CompilesIn, GoesIn, MigratesIn, RunsIn};
 
-use crate::room::Room;
+use crate::room::{Room, Written};
 use blang::status::{self, Status};
 use bparse::compile_edition;
 use brun::{go_edition, migrate, run_text};
 use bword::{Edition, MemIn};
 use std::alloc::Global;
 
-/// How many bytes a call wrote at the head of each room.
-#[repr(C)]
-pub struct Written {
-    pub out: usize,
-    pub line: usize,
-}
-
-// The edition of this number.
-fn edition_of(number: u8) -> Option<Edition>
+/// The edition of this number.
+pub(crate) fn edition_of(number: u8) -> Option<Edition>
     ensures { result ≡ edition_of number }
 {
     match number {
@@ -28,8 +21,8 @@ fn edition_of(number: u8) -> Option<Edition>
     }
 }
 
-// Nothing is written where there is no such edition.
-fn refuse(written: &mut Written) -> Status
+/// Writes nothing, since there is no such edition.
+pub(crate) fn refuse(written: &mut Written) -> Status
     ensures nothing { (written.new.out ≡ 0) × (written.new.line ≡ 0) }
     ensures answer { result ≡ WRONG_COMMAND }
 {
@@ -62,8 +55,7 @@ pub extern "C" fn b_compile(
     let mut line = Room::new(line);
     let mut source = MemIn::new(source);
     let status = compile_edition(alloc, &mut source, &mut out, &mut line, edition);
-    written.out = out.count;
-    written.line = line.count;
+    *written = Written::of(&out, &line);
     status
 }
 
@@ -86,8 +78,7 @@ pub extern "C" fn b_run(
     let mut line = Room::new(line);
     let mut input = MemIn::new(input);
     let status = run_text(alloc, code, &mut input, &mut out, &mut line, steps);
-    written.out = out.count;
-    written.line = line.count;
+    *written = Written::of(&out, &line);
     status
 }
 
@@ -126,8 +117,7 @@ pub extern "C" fn b_go(
         steps,
         edition,
     );
-    written.out = out.count;
-    written.line = line.count;
+    *written = Written::of(&out, &line);
     status
 }
 
@@ -148,7 +138,6 @@ pub extern "C" fn b_migrate(
     let mut line = Room::new(line);
     let mut code = MemIn::new(code);
     let status = migrate(alloc, &mut code, &mut out, &mut line);
-    written.out = out.count;
-    written.line = line.count;
+    *written = Written::of(&out, &line);
     status
 }

@@ -1,8 +1,29 @@
-//! A stream over the room of a caller.
+//! Streams over the rooms of a caller.
 ghost use Rattle.std.specs.Prelude.{◌≡◌, ◌≤◌, [], ◌∷◌, false, length};
 ghost use Rattle.bembed.specs.Rooms.{room_of, FailsFull};
 
 use bword::{ByteOut, EndFault};
+
+/// How many bytes a call wrote at the head of each room.
+#[repr(C)]
+#[derive(Drop)]
+pub struct Written {
+    pub out: usize,
+    pub line: usize,
+}
+
+impl Written {
+    /// What was written in these rooms.
+    pub(crate) fn of(out: &Room<'_>, line: &Room<'_>) -> Written
+        ensures out { result.out ≡ out.now.count }
+        ensures line { result.line ≡ line.now.count }
+    {
+        Written {
+            out: out.count,
+            line: line.count,
+        }
+    }
+}
 
 /// A stream that writes at the head of a room.
 ///

@@ -15,13 +15,13 @@ returns c = record {
     line_filled = record { size = search rules; within = search rules; full = search rules };
     compiles = into_rooms (λ i o p l m. Compiles (run_over c.in-Some.edition i (incoming_of c.compile_edition-status.new.source) o p l m c.compile_edition-status.result))
         c.new-source.result c.args.source.now
-        c.new-out.result.room.now c.compile_edition-status.new.code.room.now _ c.new-out.result.count c.new-out.result.failures _ _
-        c.new-line.result.room.now c.compile_edition-status.new.diag.room.now _ c.new-line.result.count c.new-line.result.failures _ _
-        c.new-source.ensures c.new-out.ensures.empty c.new-line.ensures.empty (search rules) (search rules) c.compile_edition-status.ensures.compiles;
+        c.new-out.result.room.now c.compile_edition-status.new.code.room.now _ c.new-out.result.count c.new-out.result.failures _ _ _
+        c.new-line.result.room.now c.compile_edition-status.new.diag.room.now _ c.new-line.result.count c.new-line.result.failures _ _ _
+        c.new-source.ensures c.new-out.ensures.empty c.new-line.ensures.empty (search rules) (search rules) c.of.ensures.out c.of.ensures.line c.compile_edition-status.ensures.compiles;
     headline = into_rooms (λ i o p l m. CompileHeadline (run_over c.in-Some.edition i (incoming_of c.compile_edition-status.new.source) o p l m c.compile_edition-status.result))
         c.new-source.result c.args.source.now
-        c.new-out.result.room.now c.compile_edition-status.new.code.room.now _ c.new-out.result.count c.new-out.result.failures _ _
-        c.new-line.result.room.now c.compile_edition-status.new.diag.room.now _ c.new-line.result.count c.new-line.result.failures _ _
-        c.new-source.ensures c.new-out.ensures.empty c.new-line.ensures.empty (search rules) (search rules) c.compile_edition-status.ensures.headline;
+        c.new-out.result.room.now c.compile_edition-status.new.code.room.now _ c.new-out.result.count c.new-out.result.failures _ _ _
+        c.new-line.result.room.now c.compile_edition-status.new.diag.room.now _ c.new-line.result.count c.new-line.result.failures _ _ _
+        c.new-source.ensures c.new-out.ensures.empty c.new-line.ensures.empty (search rules) (search rules) c.of.ensures.out c.of.ensures.line c.compile_edition-status.ensures.headline;
   });
 }

@@ -18,17 +18,17 @@ returns c = record {
     line_filled = record { size = search rules; within = search rules; full = search rules };
     goes = into_rooms (λ i o p l m. GoesOff c.in-Some.edition c.args.steps (all_of c.args.source.now) (incoming_of c.go_edition-status.new.source) (run_ends i (incoming_of c.go_edition-status.new.input) o p l m) c.go_edition-status.result)
         c.new-input.result c.args.input.now
-        c.new-out.result.room.now c.go_edition-status.new.out.room.now _ c.new-out.result.count c.new-out.result.failures _ _
-        c.new-line.result.room.now c.go_edition-status.new.diag.room.now _ c.new-line.result.count c.new-line.result.failures _ _
-        c.new-input.ensures c.new-out.ensures.empty c.new-line.ensures.empty (search rules) (search rules)
+        c.new-out.result.room.now c.go_edition-status.new.out.room.now _ c.new-out.result.count c.new-out.result.failures _ _ _
+        c.new-line.result.room.now c.go_edition-status.new.diag.room.now _ c.new-line.result.count c.new-line.result.failures _ _ _
+        c.new-input.ensures c.new-out.ensures.empty c.new-line.ensures.empty (search rules) (search rules) c.of.ensures.out c.of.ensures.line
         (from_memory (λ s. GoesOff c.in-Some.edition c.args.steps s (incoming_of c.go_edition-status.new.source) (run_ends (incoming_of c.new-input.result) (incoming_of c.go_edition-status.new.input)
         (room_of c.new-out.result.room.now c.new-out.result.count c.new-out.result.failures) (room_of c.go_edition-status.new.out.room.now c.go_edition-status.new.out.count c.go_edition-status.new.out.failures)
         (room_of c.new-line.result.room.now c.new-line.result.count c.new-line.result.failures) (room_of c.go_edition-status.new.diag.room.now c.go_edition-status.new.diag.count c.go_edition-status.new.diag.failures)) c.go_edition-status.result) c.new-source.result c.args.source.now c.new-source.ensures c.go_edition-status.ensures.goes);
     headline = into_rooms (λ i o p l m. Headline c.in-Some.edition c.args.steps (all_of c.args.source.now) (incoming_of c.go_edition-status.new.source) (run_ends i (incoming_of c.go_edition-status.new.input) o p l m) c.go_edition-status.result)
         c.new-input.result c.args.input.now
-        c.new-out.result.room.now c.go_edition-status.new.out.room.now _ c.new-out.result.count c.new-out.result.failures _ _
-        c.new-line.result.room.now c.go_edition-status.new.diag.room.now _ c.new-line.result.count c.new-line.result.failures _ _
-        c.new-input.ensures c.new-out.ensures.empty c.new-line.ensures.empty (search rules) (search rules)
+        c.new-out.result.room.now c.go_edition-status.new.out.room.now _ c.new-out.result.count c.new-out.result.failures _ _ _
+        c.new-line.result.room.now c.go_edition-status.new.diag.room.now _ c.new-line.result.count c.new-line.result.failures _ _ _
+        c.new-input.ensures c.new-out.ensures.empty c.new-line.ensures.empty (search rules) (search rules) c.of.ensures.out c.of.ensures.line
         (from_memory (λ s. Headline c.in-Some.edition c.args.steps s (incoming_of c.go_edition-status.new.source) (run_ends (incoming_of c.new-input.result) (incoming_of c.go_edition-status.new.input)
         (room_of c.new-out.result.room.now c.new-out.result.count c.new-out.result.failures) (room_of c.go_edition-status.new.out.room.now c.go_edition-status.new.out.count c.go_edition-status.new.out.failures)
         (room_of c.new-line.result.room.now c.new-line.result.count c.new-line.result.failures) (room_of c.go_edition-status.new.diag.room.now c.go_edition-status.new.diag.count c.go_edition-status.new.diag.failures)) c.go_edition-status.result) c.new-source.result c.args.source.now c.new-source.ensures c.go_edition-status.ensures.headline);
