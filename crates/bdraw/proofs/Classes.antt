@@ -8,7 +8,7 @@ use Rattle.std.proofs.lemmas.Bool.Decides.{nat_tests}
 use Rattle.std.proofs.lemmas.List.Folds.{list_all-append}
 use Rattle.bdraw.specs.Draws.{drawn}
 use Rattle.bdraw.specs.DrawExcluded.{classes_in, fill_letter, is_no_tag}
-use Rattle.bdraw.specs.Shapes.{attribute, beginning, cell_text, escaped, label_text, picture_text, shape_text, style_name, text_element}
+use Rattle.bdraw.specs.Shapes.{attribute, beginning, cell_text, escaped, label_text, picture_text, shape_text, style_name, text_element, title_text}
 use Rattle.bdraw.specs.declared.shapes.Fill.{Fill}
 use Rattle.bdraw.specs.declared.shapes.Fill.TheVariants as fill
 use Rattle.bdraw.specs.declared.shapes.Shape.{Shape}
@@ -101,7 +101,6 @@ element head x y words h tagless =
     (with_none tag words [] (with_none (placed head x y) (codes ">") [] (opening head [] x y h) (λ rest. refl)) (has_none words tagless)) (λ rest. refl)
 
 label : (s : LabelStyle) (x y : ℕ) (words : List ℕ) → list_all is_no_tag words ≡ true → Has (text_element (style_name s) x y words) []
-label style.Title x y words h = element (codes "<text class='title'") x y words (λ rest. refl) h
 label style.Name x y words h = element (codes "<text class='name'") x y words (λ rest. refl) h
 label style.Note x y words h = element (codes "<text class='note'") x y words (λ rest. refl) h
 label style.Above x y words h = element (codes "<text class='above'") x y words (λ rest. refl) h
@@ -140,10 +139,14 @@ module _ (tags : (text : List ℕ) → list_all is_no_tag (escaped text) ≡ tru
   all_shapes (shape.Label l ∷ shapes) rest =
       has_both (label_text l) (flat_map shape_text shapes) [] (map (λ (b : ℕ × ℕ × Fill). fill_letter b.2) (drawn shapes)) (label l.style l.x l.y (escaped l.words) (tags l.words)) (all_shapes shapes) rest
 
-  pub picture_classes : (height : ℕ) (shapes : List Shape) → classes_in (picture_text height shapes) ≡ codes "p" ++ map (λ (b : ℕ × ℕ × Fill). fill_letter b.2) (drawn shapes)
-  picture_classes height shapes =
+  titled : (title : List ℕ) (height : ℕ) → Has (beginning height ++ title_text title) (codes "p")
+  titled title height = with_none (beginning height) (title_text title) (codes "p") (head_of height) (element (codes "<text class='title'") 16 24 (escaped title) (λ rest. refl) (tags title))
+
+  pub picture_classes : (title : List ℕ) (height : ℕ) (shapes : List Shape) → classes_in (picture_text title height shapes) ≡ codes "p" ++ map (λ (b : ℕ × ℕ × Fill). fill_letter b.2) (drawn shapes)
+  picture_classes title height shapes =
       let letters = map (λ (b : ℕ × ℕ × Fill). fill_letter b.2) (drawn shapes) in
-      let shown = has_both (beginning height) (flat_map shape_text shapes) (codes "p") letters (head_of height) (all_shapes shapes) in
-      ap classes_in (sym (append-nil (picture_text height shapes)))
-      ∙ with_none (beginning height ++ flat_map shape_text shapes) (codes "</svg>\n") (codes "p" ++ letters) shown (λ rest. refl) []
+      let above = beginning height ++ title_text title in
+      let shown = has_both above (flat_map shape_text shapes) (codes "p") letters (titled title height) (all_shapes shapes) in
+      ap classes_in (sym (append-nil (picture_text title height shapes)))
+      ∙ with_none (above ++ flat_map shape_text shapes) (codes "</svg>\n") (codes "p" ++ letters) shown (λ rest. refl) []
       ∙ append-nil (codes "p" ++ letters)

@@ -6,22 +6,27 @@ use Rattle.bword.specs.declared.edition.Edition.{Edition}
 use Rattle.bword.specs.ByteEnds.{Grew, Incoming, Writes}
 use Rattle.bmach.specs.Readings.{LeftBySteps}
 use Rattle.bmach.specs.Resolved.{IsLoadedFrom}
-use Rattle.bmach.specs.Stepping.{BeginsNot, HasEnd}
+use Rattle.bmach.specs.Stepping.{BeginsNot}
 use Rattle.blang.specs.declared.code.Definition.{Definition}
 use Rattle.blang.specs.declared.run.LoadFault.{LoadFault}
 use Rattle.blang.specs.declared.run.Outcome.{Outcome}
+use Rattle.blang.specs.declared.run.Outcome.TheVariants as outcome
+use Rattle.blang.specs.declared.run.Trap.{Trap}
 use Rattle.blang.specs.declared.status.TheConstants.{DEVICE, DONE, FAULT, REFUSED}
 use Rattle.blang.specs.declared.token.Diagnostic.{Diagnostic}
 use Rattle.blang.specs.Compiles.{Compilation, CompilesTo, line_of}
 use Rattle.blang.specs.Cut.{tokens_from}
 use Rattle.blang.specs.Layout.{load_fault}
-use Rattle.blang.specs.Machine.{Image, run, state_world}
+use Rattle.blang.specs.Machine.{Image, machine, state_world}
 use Rattle.blang.specs.Reports.{RunEnds}
 use Rattle.btools.specs.ProgramsExcluded.{code_in}
 use Rattle.btools.specs.Programs.{load_line}
-use Rattle.bdraw.specs.Draws.{Drawn, Draws, IsPicture, drawn, named, row, seen}
+use Rattle.bwatch.specs.Watches.{EndsAfter}
+use Rattle.bdraw.specs.Draws.{Drawn, Draws, IsPicture, drawn, moment_of, named, row, seen}
 use Rattle.bdraw.specs.Shapes.{escaped, fill_name}
 use Rattle.bdraw.specs.declared.picture.TheConstants.{MOST_NAMES}
+use Rattle.bdraw.specs.declared.scene.Moment.{Moment}
+use Rattle.bdraw.specs.declared.scene.Moment.TheVariants as moment
 use Rattle.bdraw.specs.declared.shapes.Fill.{Fill}
 use Rattle.bdraw.specs.declared.shapes.Shape.{Shape}
 
@@ -58,8 +63,8 @@ pub record WrongShapes : Type 0 where
       → Drawn ds image words shapes → (others : List (ℕ × ℕ × Fill))
       × (drawn shapes ≡ map (seen image words) (row 0 7 ++ named image (take MOST_NAMES ds)) ++ others)
   -- a text with a box that is filled though its word is the image's, or isn't though it is another one
-  pub fills : (ds : List Definition) (image : Image) (words text : List ℕ) → IsPicture ds image words text
-      → HasFills ds image words text
+  pub fills : (ds : List Definition) (image : Image) (at : Moment) (words text : List ℕ)
+      → IsPicture ds image at words text → HasFills ds image words text
   -- a text with a tag in it
   pub tags : (text : List ℕ) → IsTrue (list_all is_no_tag (escaped text))
 
@@ -70,18 +75,24 @@ TellsBytes end bytes = (end.left ≡ Some bytes) × (end.is_over ≡ true → by
 module _ (edition : Edition) (source : List ℕ) (r : Compilation) (g : CompilesTo [] (tokens_from edition 1 source) r)
     (ends : RunEnds) where
   -- a picture of these words of the program of the source was written
-  abbrev pub Shows : Image → List ℕ → Type 0
-  Shows image words =
-      (text : List ℕ) × IsPicture (code_in edition source r g) image words text
+  abbrev pub Shows : Image → Moment → List ℕ → Type 0
+  Shows image at words =
+      (text : List ℕ) × IsPicture (code_in edition source r g) image at words text
       × Writes ends.out text ends.out_after
+
+  -- the moment after so many steps on these bytes, or where the run is over before
+  abbrev pub IsMomentOf : ℕ → (bytes : List ℕ) → Moment → Type 0
+  IsMomentOf n bytes at =
+      (result : Outcome) × (made : ℕ) × (left : List ℕ) × (at ≡ moment_of result made)
+      × EndsAfter (machine (code_in edition source r g) bytes) made n result left
 
   -- a picture was drawn of a run of so many steps on these bytes: of the words that the machine has then, and just what
   -- it has read was taken; or of those before a run that doesn't begin
-  abbrev pub IsOfStep : Image → ℕ → List ℕ → List ℕ → Type 0
-  IsOfStep image n bytes words =
-      ((words ≡ (state_world (run image bytes n)).store)
-      × (ends.input_after.left ≡ Some (state_world (run image bytes n)).input))
-      ⊎ ((result : Outcome) × HasEnd result × BeginsNot image result × (words ≡ image.words)
+  abbrev pub IsOfStep : Image → ℕ → (bytes : List ℕ) → Moment → (words : List ℕ) → Type 0
+  IsOfStep image n bytes at words =
+      (IsMomentOf n bytes at × (words ≡ (state_world (machine (code_in edition source r g) bytes n)).store)
+      × (ends.input_after.left ≡ Some (state_world (machine (code_in edition source r g) bytes n)).input))
+      ⊎ ((kind : Trap) × BeginsNot image (outcome.Trap kind) × (at ≡ moment.End 0) × (words ≡ image.words)
       × (ends.input_after ≡ ends.input))
 
   -- What is excluded of a picture.
@@ -91,17 +102,17 @@ module _ (edition : Edition) (source : List ℕ) (r : Compilation) (g : Compiles
         → (r.stop ≡ None) × (load_fault (code_in edition source r g) ≡ None)
     -- a picture before the run that is one of other words, or for which something was read
     pub before : Draws edition source None ends DONE
-        → (image : Image) × IsLoadedFrom (code_in edition source r g) image × Shows image image.words
+        → (image : Image) × IsLoadedFrom (code_in edition source r g) image × Shows image moment.Before image.words
         × (ends.input_after ≡ ends.input)
-    -- a picture of the machine a step earlier or later, or for which it read less or more
+    -- a picture of the machine a step earlier or later, or that says so, or for which it read less or more
     pub after : (n : ℕ) (bytes : List ℕ) → TellsBytes ends.input bytes → Draws edition source (Some n) ends DONE
-        → (image : Image) × (words : List ℕ) × IsLoadedFrom (code_in edition source r g) image × Shows image words
-        × IsOfStep image n bytes words
+        → (image : Image) × (at : Moment) × (words : List ℕ) × IsLoadedFrom (code_in edition source r g) image
+        × Shows image at words × IsOfStep image n bytes at words
     -- a picture filled as that of another step, as of the memory before a run that is over by a trap
     pub filled : (n : ℕ) (bytes text : List ℕ) → TellsBytes ends.input bytes → ends.out.written ≡ Some []
         → ends.out_after.written ≡ Some text → Draws edition source (Some n) ends DONE
-        → (image : Image) × (words : List ℕ) × IsLoadedFrom (code_in edition source r g) image
-        × IsOfStep image n bytes words × HasFills (code_in edition source r g) image words text
+        → (image : Image) × (at : Moment) × (words : List ℕ) × IsLoadedFrom (code_in edition source r g) image
+        × IsOfStep image n bytes at words × HasFills (code_in edition source r g) image words text
     -- a failed read that isn't told by 133, or something written after it
     pub unread : (steps : Option ℕ) (status : ℕ) → Draws edition source steps ends status
         → (ends.input_after.failures ≡ ends.input.failures → ⊥) → (status ≡ DEVICE) × (ends.out_after ≡ ends.out)
@@ -120,9 +131,7 @@ module _ (edition : Edition) (source : List ℕ) (r : Compilation) (g : Compiles
         × (ends.out_after ≡ ends.out) × (ends.input_after ≡ ends.input)
     -- whatever the status, as where memory was refused: a byte taken that no step asked for
     pub unasked : (n status : ℕ) → Draws edition source (Some n) ends status
-        → ((image : Image) × IsLoadedFrom (code_in edition source r g) image
-        × LeftBySteps (run image) n ends.input ends.input_after)
-        ⊎ (ends.input_after ≡ ends.input)
+        → LeftBySteps (machine (code_in edition source r g)) n ends.input ends.input_after
 
 abbrev pub NoPictures : Type 0
 NoPictures =

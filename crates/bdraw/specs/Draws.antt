@@ -1,23 +1,27 @@
 -- Promise: what comes of a source whose memory is drawn.
 use Rattle.std.specs.Prelude.{◌≡◌, refl, ℕ, zero, suc, ◌+◌, ◌%◌, ◌==◌, if◌then◌else◌, min, List, [], ◌∷◌, ◌++◌}
-use Rattle.std.specs.Prelude.{map, take, Option, Some, None, Result, Ok, Err, slice_index}
+use Rattle.std.specs.Prelude.{codes, decimal, map, take, Option, Some, None, slice_index}
 use Rattle.std.specs.List.{flat_map}
 use Rattle.bword.specs.declared.edition.Edition.{Edition}
-use Rattle.bword.specs.ByteEnds.{CanFollow, Incoming, Outgoing, Kept, Took, outgoing_of}
+use Rattle.bword.specs.ByteEnds.{Incoming, Outgoing, Kept, outgoing_of}
 use Rattle.blang.specs.declared.code.Definition.{Definition}
 use Rattle.blang.specs.declared.run.Outcome.{Outcome}
 use Rattle.blang.specs.declared.run.Outcome.TheVariants as outcome
+use Rattle.blang.specs.declared.run.Trap.{Trap}
 use Rattle.blang.specs.declared.status.TheConstants.{DEVICE, DONE, MEMORY}
 use Rattle.blang.specs.Compiles.{line_of}
-use Rattle.blang.specs.Layout.{Shape as Named, World, shape_of, size_of}
-use Rattle.blang.specs.Machine.{Call, Image, Running, State, run, state_world, steps}
+use Rattle.blang.specs.Layout.{Shape as Named, shape_of, size_of}
+use Rattle.blang.specs.Machine.{Image, image_of, machine}
 use Rattle.blang.specs.Reports.{RunGives, RunEnds, Reported}
 use Rattle.bmach.specs.Readings.{ReadBySteps}
-use Rattle.bmach.specs.Stepping.{BeginsNot, HasEnd, Paused, machine_at}
-use Rattle.bmach.specs.Turns.{MovesOn}
+use Rattle.bmach.specs.Stepping.{BeginsNot}
 use Rattle.btools.specs.Programs.{HasProgram, NoProgram, image_address, nothing_written}
+use Rattle.bwatch.specs.Sights.{Sights}
+use Rattle.bwatch.specs.Watches.{Watches}
 use Rattle.bdraw.specs.Shapes.{picture_text}
 use Rattle.bdraw.specs.declared.picture.TheConstants.{MOST_NAMES, MOST_WORDS}
+use Rattle.bdraw.specs.declared.scene.Moment.{Moment}
+use Rattle.bdraw.specs.declared.scene.Moment.TheVariants as moment
 use Rattle.bdraw.specs.declared.shapes.Fill.{Fill}
 use Rattle.bdraw.specs.declared.shapes.Fill.TheVariants as fill
 use Rattle.bdraw.specs.declared.shapes.Shape.{Shape}
@@ -79,70 +83,60 @@ Drawn ds image words shapes =
     (others : List ℕ)
     × (drawn shapes ≡ map (seen image words) (row 0 7 ++ named image (take MOST_NAMES ds) ++ others))
 
--- The text is a picture of memory.
-pub record IsPicture (ds : List Definition) (image : Image) (words : List ℕ) (text : List ℕ) : Type 0 where
-  pub height : ℕ
-  pub shapes : List Shape
-  pub drawn : Drawn ds image words shapes
-  pub text_is : text ≡ picture_text height shapes
+-- so many things: `1 step`, `2 steps`
+abbrev pub count_text : ℕ → (thing : List ℕ) → List ℕ
+count_text n thing = decimal n ++ codes " " ++ thing ++ (if n == 1 then [] else codes "s")
 
--- A picture of memory was written, or a beginning of it; or memory was refused, and nothing was.
-pub data ShowsMemory (ds : List Definition) (image : Image) (words : List ℕ) (old new : Outgoing) (status : ℕ)
-    : Type 0 where
-  shown : (text : List ℕ) → IsPicture ds image words text → Reported text DONE old new status
-      → ShowsMemory ds image words old new status
-  no_memory : new ≡ old → status ≡ MEMORY → ShowsMemory ds image words old new status
+-- the title of a picture, which says when it was drawn
+abbrev pub title_of : Moment → List ℕ
+title_of moment.Before = codes "memory before the run"
+title_of (moment.After made) =
+    codes "memory after " ++ count_text made (codes "step") ++ codes "; filled words have changed"
+title_of (moment.End made) =
+    codes "memory where the run is over, after " ++ count_text made (codes "step")
+    ++ codes "; filled words have changed"
 
--- memory has these words while a call is running, which has read all but this of the input
-abbrev pub Holds : (words left : List ℕ) → State → Type 0
-Holds words left s = (call : Call) × (below : List Call) × (world : World) × (s ≡ Running call below world)
-    × (world.store ≡ words) × (world.input ≡ left)
+-- The text is a picture of memory at a moment, when it has these words.
+pub record IsPicture (ds : List Definition) (image : Image) (at : Moment) (words : List ℕ) (text : List ℕ) : Type 0
+  where
+    pub height : ℕ
+    pub shapes : List Shape
+    pub drawn : Drawn ds image words shapes
+    pub text_is : text ≡ picture_text (title_of at) height shapes
 
--- Memory has these words after so many steps, in which just this was taken of the input and no read failed.
-pub record IsAfter (image : Image) (n : ℕ) (i j : Incoming) (words : List ℕ) : Type 0 where
-  pub taken : List ℕ
-  pub took : Took i taken j
-  pub no_failure : j.failures ≡ i.failures
-  pub holds : (more : List ℕ) → CanFollow j more → Holds words more (run image (taken ++ more) n)
+-- A picture of memory before the run was written, or a beginning of it; or memory was refused, and nothing was.
+pub data ShowsMemory (ds : List Definition) (image : Image) (at : Moment) (old new : Outgoing) (status : ℕ) : Type 0
+  where
+    shown : (text : List ℕ) → IsPicture ds image at image.words text → Reported text DONE old new status
+        → ShowsMemory ds image at old new status
+    no_memory : new ≡ old → status ≡ MEMORY → ShowsMemory ds image at old new status
 
--- so many steps were given to the run, and it is over so
-abbrev pub IsOver : Image → ℕ → (i j : Incoming) → Outcome → Type 0
-IsOver image n i j result = (output : Kept) × RunGives (run image) n i j nothing_written (outgoing_of output) result
+-- the moment after so many steps, with which the run is over, or goes on where all were made
+abbrev pub moment_of : Outcome → (made : ℕ) → Moment
+moment_of outcome.Limit made = moment.After made
+moment_of result made = moment.End made
 
--- Memory has these words where the run is over, which it is within so many steps; in them this was taken of the input.
-pub record IsAtEnd (image : Image) (n : ℕ) (i j : Incoming) (words : List ℕ) : Type 0 where
-  pub taken : List ℕ
-  pub took : Took i taken j
-  pub holds : (more : List ℕ) → CanFollow j more → (state_world (run image (taken ++ more) n)).store ≡ words
+-- A text is a picture of memory after so many steps, the last ones of a run. There is none where a read failed.
+abbrev pub IsDrawn : List Definition → Image → (text : List ℕ) → Sights → (made : ℕ) → Outcome → Type 0
+IsDrawn ds image text sights made outcome.Device = ⊥
+IsDrawn ds image text sights made result = IsPicture ds image (moment_of result made) (sights made).store text
 
--- What is drawn after so many steps: the words that memory has then; or, where the run is over before, those where it
--- is over; or those before a run that doesn't begin. Where the program can't read its input nothing is written, nor
--- where memory is refused; then only its steps have read.
+-- What is drawn after so many steps: memory as it is then, or where the run is over before; or as it is before a run
+-- that doesn't begin. Where the program can't read its input nothing is written, nor where memory is refused; then only
+-- its steps have read.
 pub data DrawsRun (ds : List Definition) (image : Image) (n : ℕ) (i j : Incoming) (old new : Outgoing) (status : ℕ)
     : Type 0 where
-  after : (words : List ℕ) → IsAfter image n i j words → ShowsMemory ds image words old new status
-      → DrawsRun ds image n i j old new status
-  over : (result : Outcome) (words : List ℕ) → IsOver image n i j result → HasEnd result → IsAtEnd image n i j words
-      → ShowsMemory ds image words old new status → DrawsRun ds image n i j old new status
-  not_begun : (result : Outcome) → BeginsNot image result → HasEnd result
-      → ShowsMemory ds image image.words old new status → j ≡ i → DrawsRun ds image n i j old new status
-  unread : IsOver image n i j outcome.Device → new ≡ old → status ≡ DEVICE → DrawsRun ds image n i j old new status
-  no_memory : ReadBySteps (run image) n i j → new ≡ old → status ≡ MEMORY → DrawsRun ds image n i j old new status
-
--- what comes of a run that is over so, with these words
-abbrev pub EndGives : List Definition → Image → List ℕ → Outcome → (old new : Outgoing) → ℕ → Type 0
-EndGives ds image words (outcome.Exit n) old new status = ShowsMemory ds image words old new status
-EndGives ds image words (outcome.Trap kind) old new status = ShowsMemory ds image words old new status
-EndGives ds image words outcome.Limit old new status = ShowsMemory ds image words old new status
-EndGives ds image words outcome.Device old new status = (new ≡ old) × (status ≡ DEVICE)
-EndGives ds image words outcome.Memory old new status = (new ≡ old) × (status ≡ MEMORY)
-
--- what comes of a run that doesn't begin
-abbrev pub Unbegun : List Definition → Image → Outcome → (old new : Outgoing) → ℕ → Type 0
-Unbegun ds image result old new status = (n : ℕ) (i : Incoming) → DrawsRun ds image n i i old new status
+  after : (result : Outcome) (made : ℕ) (text : List ℕ)
+      → Watches (image_of ds).functions (machine ds) n i j result made (IsDrawn ds image text)
+      → Reported text DONE old new status → DrawsRun ds image n i j old new status
+  not_begun : (kind : Trap) → BeginsNot image (outcome.Trap kind)
+      → ShowsMemory ds image (moment.End 0) old new status → j ≡ i → DrawsRun ds image n i j old new status
+  unread : (output : Kept) → RunGives (machine ds) n i j nothing_written (outgoing_of output) outcome.Device
+      → new ≡ old → status ≡ DEVICE → DrawsRun ds image n i j old new status
+  no_memory : ReadBySteps (machine ds) n i j → new ≡ old → status ≡ MEMORY → DrawsRun ds image n i j old new status
 
 abbrev pub DrawsProgram : List Definition → Image → Option ℕ → (i j : Incoming) (old new : Outgoing) → ℕ → Type 0
-DrawsProgram ds image None i j old new status = ShowsMemory ds image image.words old new status × (j ≡ i)
+DrawsProgram ds image None i j old new status = ShowsMemory ds image moment.Before old new status × (j ≡ i)
 DrawsProgram ds image (Some n) i j old new status = DrawsRun ds image n i j old new status
 
 -- The memory of the program of the source was drawn; or there is none, and nothing but why was written.
@@ -152,24 +146,3 @@ pub data Draws (edition : Edition) (source : List ℕ) (steps : Option ℕ) (end
       → Draws edition source steps ends status
   stopped : NoProgram edition source line_of ends.line ends.line_after status → ends.out_after ≡ ends.out
       → ends.input_after ≡ ends.input → Draws edition source steps ends status
-
--- so many steps were made
-abbrev pub IsMade : (first : Paused) (made : ℕ) (now : Paused) (i j : Incoming) (o q : Outgoing) → Type 0
-IsMade first made now i j o q =
-    (now.image ≡ first.image)
-    × MovesOn (λ left before. steps first.image made (machine_at first left before)) (machine_at now) i j o q
-
--- where the run is over by an end of its own within so many steps, these are the words of its store
-abbrev pub LeavesAtEnd : (first : Paused) → ℕ → (i j : Incoming) → Outcome → List ℕ → Type 0
-LeavesAtEnd first n i j result words =
-    HasEnd result → (taken : List ℕ) × Took i taken j
-    × ((more : List ℕ) → CanFollow j more
-    → (state_world (steps first.image n (machine_at first (taken ++ more) []))).store ≡ words)
-
--- what comes of so many steps
-abbrev pub Made : (first now : Paused) → ℕ → (i j : Incoming) (o q : Outgoing) → Result (Unit {0}) (ℕ × Outcome)
-    → Type 0
-Made first now n i j o q (Ok u) = IsMade first n now i j o q
-Made first now n i j o q (Err end) =
-    RunGives (λ input k. steps first.image k (machine_at first input [])) n i j o q end.1 × (end.1 ≡ outcome.Limit → ⊥)
-    × LeavesAtEnd first n i j end.1 now.store

@@ -2,7 +2,10 @@
 use Rattle.std.specs.Prelude.{◌≡◌, [], ◌∷◌, ◌++◌, codes, map, refl, None}
 use Rattle.std.specs.Fmt.{digits}
 use Rattle.blang.specs.Machine.{Image}
-use Rattle.bdraw.specs.Draws.{row, seen}
+use Rattle.blang.specs.declared.run.Outcome.TheVariants as outcome
+use Rattle.blang.specs.declared.run.Trap.TheVariants as trap
+use Rattle.bdraw.specs.Draws.{moment_of, row, seen, title_of}
+use Rattle.bdraw.specs.declared.scene.Moment.TheVariants as moment
 use Rattle.bdraw.specs.Shapes.{cell_text, escape, fill_name, label_text, picture_text, style_name}
 use Rattle.bdraw.specs.declared.shapes.Cell.{Cell}
 use Rattle.bdraw.specs.declared.shapes.Fill.TheVariants as fill
@@ -21,9 +24,20 @@ bytes_at_limits = refl
 fills : map fill_name (fill.Same ∷ fill.Changed ∷ []) ≡ codes "same" ∷ codes "changed" ∷ []
 fills = refl
 
-style_names : map style_name (style.Title ∷ style.Name ∷ style.Note ∷ style.Above ∷ [])
-    ≡ codes "title" ∷ codes "name" ∷ codes "note" ∷ codes "above" ∷ []
+style_names : map style_name (style.Name ∷ style.Note ∷ style.Above ∷ [])
+    ≡ codes "name" ∷ codes "note" ∷ codes "above" ∷ []
 style_names = refl
+
+titles : map title_of (moment.Before ∷ moment.After 0 ∷ moment.After 1 ∷ moment.End 2 ∷ [])
+    ≡ codes "memory before the run" ∷ codes "memory after 0 steps; filled words have changed"
+    ∷ codes "memory after 1 step; filled words have changed"
+    ∷ codes "memory where the run is over, after 2 steps; filled words have changed" ∷ []
+unfolding digits
+titles = refl
+
+moments : map (λ result. moment_of result 3) (outcome.Limit ∷ outcome.Exit 0 ∷ outcome.Trap trap.ZeroDivisor ∷ [])
+    ≡ moment.After 3 ∷ moment.End 3 ∷ moment.End 3 ∷ []
+moments = refl
 
 abbrev a_box : Cell
 a_box = record { x = 160; y = 24; address = 7; word = 65535; fill = fill.Changed }
@@ -42,9 +56,10 @@ a_label_text : label_text a_label ≡ codes "<text class='note' x='16' y='24'>a&
 unfolding digits
 a_label_text = refl
 
-a_picture : picture_text 74 (shape.Label a_label ∷ [])
+a_picture : picture_text (codes "a > b") 74 (shape.Label a_label ∷ [])
     ≡ codes "<svg xmlns='http://www.w3.org/2000/svg' width='760' height='74'>\n<style>" ++ STYLES.now
     ++ codes "</style>\n<rect class='page' width='100%' height='100%'/>\n"
+    ++ codes "<text class='title' x='16' y='24'>a &gt; b</text>\n"
     ++ codes "<text class='note' x='16' y='24'>a&lt;b&amp;c&gt;.</text>\n</svg>\n"
 unfolding digits
 a_picture = refl

@@ -42,7 +42,6 @@ fill_name fill.Same = codes "same"
 fill_name fill.Changed = codes "changed"
 
 abbrev pub style_name : LabelStyle → List ℕ
-style_name style.Title = codes "title"
 style_name style.Name = codes "name"
 style_name style.Note = codes "note"
 style_name style.Above = codes "above"
@@ -71,6 +70,12 @@ beginning height =
     codes "<svg xmlns='http://www.w3.org/2000/svg' width='760'" ++ attribute (codes "height") height
     ++ codes ">\n<style>" ++ STYLES.now ++ codes "</style>\n<rect class='page' width='100%' height='100%'/>\n"
 
--- A picture is one element with a sheet of styles, a page of its size, and an element for each box and each text.
-abbrev pub picture_text : ℕ → List Shape → List ℕ
-picture_text height shapes = beginning height ++ flat_map shape_text shapes ++ codes "</svg>\n"
+-- the title, above all shapes
+abbrev pub title_text : List ℕ → List ℕ
+title_text title = text_element (codes "title") 16 24 (escaped title)
+
+-- A picture is one element with a sheet of styles, a page of its size, its title, and an element for each box and each
+-- text.
+abbrev pub picture_text : (title : List ℕ) → (height : ℕ) → List Shape → List ℕ
+picture_text title height shapes =
+    beginning height ++ title_text title ++ flat_map shape_text shapes ++ codes "</svg>\n"

@@ -1,19 +1,18 @@
 //! Drawing the memory of a program.
 ghost use Rattle.std.specs.Prelude.{◌≡◌, IfOk};
 ghost use Rattle.blang.specs.Reports.{run_ends};
-ghost use Rattle.bmach.specs.Stepping.{BeginsNot, IsUnstarted};
+ghost use Rattle.bmach.specs.Resolved.{IsLoadedFrom};
 ghost use Rattle.bdraw.specs.DrawExcluded.{NoPictures, WrongShapes};
-ghost use Rattle.btools.specs.Programs.{untold};
-ghost use Rattle.bdraw.specs.Draws.{Draws, DrawsRun, EndGives, IsPicture, Made, ShowsMemory, Unbegun};
+ghost use Rattle.bdraw.specs.Draws.{Draws, DrawsRun, IsPicture, ShowsMemory, moment_of};
 
-use crate::picture::picture_of;
+use crate::picture::{picture_of, title_of};
 use crate::scene::{Memory, Moment, Scene, calls_of, no_calls};
 use crate::shapes::picture_text;
 use blang::Outcome;
 use blang::status::{self, Status};
-use bmach::Stepper;
-use bpages::PagedStore;
-use btools::{Program, Sink, Text, read_program, tell, tell_fault};
+use bmach::{Stepper, Stop};
+use btools::{Program, Text, read_program, tell, tell_fault};
+use bwatch::{Onlooker, Watched, watch};
 use bword::{ByteIn, ByteOut, Edition, Store};
 use std::alloc::{AllocError, Global};
 
@@ -55,99 +54,33 @@ fn draw_run<I: ByteIn, O: ByteOut>(
     input: &mut I,
     out: &mut O,
 ) -> Status
+    requires { IsLoadedFrom program.now.definitions.items program.now.image }
     ensures draws { DrawsRun program.now.definitions.items program.now.image steps (I.incoming input.old) (I.incoming input.new)
         (O.outgoing out.old) (O.outgoing out.new) result }
     ensures input_lender { I.lender input.new ≡ I.lender input.old }
     ensures out_lender { O.lender out.new ≡ O.lender out.old }
 {
-    let Ok(store) = PagedStore::new(alloc) else {
-        return status::MEMORY;
+    let mut drawer = Drawer {
+        alloc,
+        program,
+        picture: Text::new(alloc),
     };
-    match Stepper::begin(alloc, &program.image, store) {
-        Ok(stepper) => draw_steps(alloc, program, stepper, steps, input, out),
-        Err(outcome) => draw_unbegun(alloc, program, outcome, out),
+    let stop = match watch(alloc, program, steps, input, &mut drawer) {
+        Ok(Watched::Ended(stop)) => stop,
+        Ok(Watched::Unbegun(_)) => return show_before(alloc, program, Moment::End(0), out),
+        Err(_) => return status::MEMORY,
+    };
+    match stop.outcome {
+        Outcome::Device => return status::DEVICE,
+        _ => {}
     }
-}
-
-// Draws the memory of a program whose run doesn't begin, as where its first frame has no room.
-fn draw_unbegun<O: ByteOut>(
-    alloc: Global,
-    program: &Program,
-    outcome: Outcome,
-    out: &mut O,
-) -> Status
-    requires { BeginsNot program.now.image outcome }
-    ensures draws { Unbegun program.now.definitions.items program.now.image outcome (O.outgoing out.old) (O.outgoing out.new) result }
-    ensures out_lender { O.lender out.new ≡ O.lender out.old }
-{
-    match outcome {
-        Outcome::Trap(_) => show_before(alloc, program, Moment::End(0), out),
-        Outcome::Memory => status::MEMORY,
-        Outcome::Exit(_) | Outcome::Limit | Outcome::Device => unreachable!(),
-    }
-}
-
-// Makes steps of a run that has begun, and draws memory after them.
-fn draw_steps<S: Store + Drop, I: ByteIn, O: ByteOut>(
-    alloc: Global,
-    program: &Program,
-    mut stepper: Stepper<'_, S>,
-    steps: u64,
-    input: &mut I,
-    out: &mut O,
-) -> Status
-    ensures draws { IsUnstarted program.now.image stepper.entry → DrawsRun program.now.definitions.items program.now.image steps
-        (I.incoming input.old) (I.incoming input.new) (O.outgoing out.old) (O.outgoing out.new) result }
-    ensures input_lender { I.lender input.new ≡ I.lender input.old }
-    ensures out_lender { O.lender out.new ≡ O.lender out.old }
-{
-    match make_steps(&mut stepper, steps, input) {
-        Ok(()) => show_run(alloc, program, &stepper, Moment::After(steps), out),
-        Err(end) => draw_end(alloc, program, &stepper, end, out),
-    }
-}
-
-// Draws memory where a run is over, unless the program could not read its input.
-fn draw_end<S: Store + Drop, O: ByteOut>(
-    alloc: Global,
-    program: &Program,
-    stepper: &Stepper<'_, S>,
-    end: (u64, Outcome),
-    out: &mut O,
-) -> Status
-    ensures ends { EndGives program.now.definitions.items program.now.image stepper.now.store end.1 (O.outgoing out.old) (O.outgoing out.new) result }
-    ensures out_lender { O.lender out.new ≡ O.lender out.old }
-{
-    let (made, outcome) = end;
-    match outcome {
-        Outcome::Device => status::DEVICE,
-        Outcome::Memory => status::MEMORY,
-        _ => show_run(alloc, program, stepper, Moment::End(made), out),
-    }
-}
-
-// Makes so many steps, or tells with how many the run is over, and how. What they write is kept nowhere.
-fn make_steps<S: Store + Drop, I: ByteIn>(
-    stepper: &mut Stepper<'_, S>,
-    steps: u64,
-    input: &mut I,
-) -> Result<(), (u64, Outcome)>
-    ensures gives { Made stepper.old stepper.new steps (I.incoming input.old) (I.incoming input.new) untold untold result }
-    ensures same { I.lender input.new ≡ I.lender input.old }
-{
-    for made in 0..steps {
-        match stepper.step(input, &mut Sink) {
-            Ok(()) => {}
-            Err(outcome) => return Err((made + 1, outcome)),
-        }
-    }
-    Ok(())
+    tell(drawer.picture.as_slice(), status::DONE, out)
 }
 
 // Draws memory as it is before the run.
 fn show_before<O: ByteOut>(alloc: Global, program: &Program, moment: Moment, out: &mut O) -> Status
-    ensures shows { ShowsMemory program.now.definitions.items program.now.image program.now.image.words
-        (O.outgoing out.old) (O.outgoing out.new) result }
+    ensures shows { ShowsMemory program.now.definitions.items program.now.image moment (O.outgoing out.old)
+        (O.outgoing out.new) result }
     ensures out_lender { O.lender out.new ≡ O.lender out.old }
 {
     let calls = no_calls(alloc);
@@ -157,49 +90,84 @@ fn show_before<O: ByteOut>(alloc: Global, program: &Program, moment: Moment, out
         moment,
         calls: &calls,
     };
-    show(alloc, &scene, out)
-}
-
-// Draws memory as it is in a run.
-fn show_run<S: Store + Drop, O: ByteOut>(
-    alloc: Global,
-    program: &Program,
-    stepper: &Stepper<'_, S>,
-    moment: Moment,
-    out: &mut O,
-) -> Status
-    ensures shows { ShowsMemory program.now.definitions.items program.now.image stepper.now.store
-        (O.outgoing out.old) (O.outgoing out.new) result }
-    ensures out_lender { O.lender out.new ≡ O.lender out.old }
-{
-    let Ok(calls) = calls_of(alloc, stepper) else {
-        return status::MEMORY;
-    };
-    let scene = Scene {
-        program,
-        memory: stepper,
-        moment,
-        calls: &calls,
-    };
-    show(alloc, &scene, out)
-}
-
-fn show<M: Memory, O: ByteOut>(alloc: Global, scene: &Scene<'_, M>, out: &mut O) -> Status
-    ensures shows { ShowsMemory scene.now.program.now.definitions.items scene.now.program.now.image (M.seen_words scene.now.memory.now)
-        (O.outgoing out.old) (O.outgoing out.new) result }
-    ensures out_lender { O.lender out.new ≡ O.lender out.old }
-{
-    match text_of(alloc, scene) {
+    match text_of(alloc, &scene) {
         Ok(text) => tell(text.as_slice(), status::DONE, out),
         Err(_) => status::MEMORY,
     }
 }
 
 fn text_of<M: Memory>(alloc: Global, scene: &Scene<'_, M>) -> Result<Text, AllocError>
-    ensures { IfOk result (IsPicture scene.now.program.now.definitions.items scene.now.program.now.image (M.seen_words scene.now.memory.now)) }
+    ensures { IfOk result (IsPicture scene.now.program.now.definitions.items scene.now.program.now.image scene.now.moment
+        (M.seen_words scene.now.memory.now)) }
 {
+    let title = title_of(alloc, scene.moment)?;
     let picture = picture_of(alloc, scene)?;
-    picture_text(alloc, picture.height, picture.shapes.as_slice())
+    picture_text(
+        alloc,
+        title.as_slice(),
+        picture.height,
+        picture.shapes.as_slice(),
+    )
+}
+
+/// Draws memory where a run ends.
+#[derive(Drop)]
+struct Drawer<'a> {
+    alloc: Global,
+    program: &'a Program,
+    picture: Text,
+}
+
+impl<'a> Onlooker for Drawer<'a> {
+    ghost has_seen = { λ first now sights made. now.program ≡ first.program };
+
+    ghost awaits = { λ first now sights made. now.program ≡ first.program };
+
+    ghost has_told = { λ first now sights made result. IsPicture first.program.now.definitions.items first.program.now.image
+        (moment_of result made) (sights made).store now.picture };
+
+    fn before<S: Store + Drop>(
+        &mut self,
+        _stepper: &Stepper<'_, S>,
+        _made: u64,
+    ) -> Result<(), AllocError> {
+        Ok(())
+    }
+
+    fn after<S: Store + Drop>(
+        &mut self,
+        _stepper: &Stepper<'_, S>,
+        _made: u64,
+        _written: &[u8],
+    ) -> Result<(), AllocError> {
+        Ok(())
+    }
+
+    fn end<S: Store + Drop>(
+        &mut self,
+        stepper: &Stepper<'_, S>,
+        stop: Stop,
+    ) -> Result<(), AllocError> {
+        let calls = calls_of(self.alloc, stepper)?;
+        let scene = Scene {
+            program: self.program,
+            memory: stepper,
+            moment: moment_of(stop),
+            calls: &calls,
+        };
+        self.picture = text_of(self.alloc, &scene)?;
+        Ok(())
+    }
+}
+
+// The moment where a run ends.
+fn moment_of(stop: Stop) -> Moment
+    ensures { result ≡ moment_of stop.outcome stop.steps }
+{
+    match stop.outcome {
+        Outcome::Limit => Moment::After(stop.steps),
+        _ => Moment::End(stop.steps),
+    }
 }
 
 /// No picture shows the machine at another step, or a word at another address, or has another fill, text or status.

@@ -1,11 +1,11 @@
 //! Where the shapes of a picture stand.
-ghost use Rattle.std.specs.Prelude.{◌≡◌, ℕ, List, ◌++◌, IfOk, OnOk, map as map_each};
+ghost use Rattle.std.specs.Prelude.{◌≡◌, ℕ, List, ◌++◌, IfOk, OnOk, codes, map as map_each};
 ghost use Rattle.blang.specs.Layout.{shape_of};
-ghost use Rattle.bdraw.specs.Draws.{AddsRow, Drawn, addresses_from, drawn, fill_of, named, name_row, row, seen, shown_in};
+ghost use Rattle.bdraw.specs.Draws.{AddsRow, Drawn, addresses_from, count_text, drawn, fill_of, named, name_row, row, seen, shown_in, title_of};
 ghost use Rattle.bdraw.specs.declared.shapes.Shape.TheVariants as shape;
 
 use crate::scene::{Memory, Moment, Scene, function_of};
-use crate::shapes::{Cell, Fill, HALF_BOX, Label, LabelStyle, Shape};
+use crate::shapes::{Cell, Fill, HALF_BOX, Label, LabelStyle, MARGIN, Shape};
 use blang::{Definition, FunctionParts};
 use bmach::{Active, FIRST_ADDRESS, LIBRARY, name_of, size_of};
 use btools::{Frame, Program, Text, push_characters};
@@ -19,14 +19,15 @@ const MOST_NAMES: usize = 48;
 /// The most words of a name or of a frame that are drawn.
 const MOST_WORDS: u16 = 9;
 
-/// Where texts and the boxes of a row begin, and the distance of boxes and of rows.
-const MARGIN: u32 = 16;
-
+/// Where the boxes of a row begin, and the distance of boxes and of rows.
 const FIRST_BOX: u32 = 160;
 
 const BOX_STEP: u32 = 62;
 
 const ROW_STEP: u32 = 50;
+
+/// The height of the first row, below the title.
+const FIRST_ROW: u32 = 56;
 
 /// The shapes of a picture, from above.
 #[derive(Drop)]
@@ -41,9 +42,8 @@ pub fn picture_of<M: Memory>(alloc: Global, scene: &Scene<'_, M>) -> Result<Pict
 {
     let mut picture = Picture {
         shapes: Vec::new(alloc),
-        height: 24,
+        height: FIRST_ROW,
     };
-    picture.add_line(LabelStyle::Title, title_of(alloc, scene.moment)?)?;
     picture.add_library(alloc, scene)?;
     let definitions = scene.program.definitions.as_slice();
     let count = MOST_NAMES.min(definitions.len());
@@ -54,22 +54,27 @@ pub fn picture_of<M: Memory>(alloc: Global, scene: &Scene<'_, M>) -> Result<Pict
     Ok(picture)
 }
 
-fn title_of(alloc: Global, moment: Moment) -> Result<Text, AllocError> {
+/// The title of a picture, which says when it was drawn.
+pub fn title_of(alloc: Global, moment: Moment) -> Result<Text, AllocError>
+    ensures { IfOk result (λ title. title ≡ title_of moment) }
+{
     let mut title = Text::new(alloc);
     match moment {
         Moment::Before => title.push(b"memory before the run")?,
-        Moment::After(steps) => {
-            title.push(b"memory after ")?;
-            push_count(&mut title, steps, b"step")?;
-            title.push(b"; filled words have changed")?;
-        }
+        Moment::After(steps) => push_changes(&mut title, b"memory after ", steps)?,
         Moment::End(steps) => {
-            title.push(b"memory where the run is over, after ")?;
-            push_count(&mut title, steps, b"step")?;
-            title.push(b"; filled words have changed")?;
+            push_changes(&mut title, b"memory where the run is over, after ", steps)?
         }
     }
     Ok(title)
+}
+
+fn push_changes(title: &mut Text, when: &[u8], steps: u64) -> Result<(), AllocError>
+    ensures { OnOk result (title.new ≡ title.old ++ when.now ++ count_text steps (codes "step") ++ codes "; filled words have changed") }
+{
+    title.push(when)?;
+    push_count(title, steps, b"step")?;
+    title.push(b"; filled words have changed")
 }
 
 fn data_end_of(alloc: Global, program: &Program) -> Result<Text, AllocError> {
@@ -80,7 +85,9 @@ fn data_end_of(alloc: Global, program: &Program) -> Result<Text, AllocError> {
 }
 
 // A number of things: `1 step`, `2 steps`.
-fn push_count(text: &mut Text, count: u64, thing: &[u8]) -> Result<(), AllocError> {
+fn push_count(text: &mut Text, count: u64, thing: &[u8]) -> Result<(), AllocError>
+    ensures { OnOk result (text.new ≡ text.old ++ count_text count thing.now) }
+{
     text.push_number(count)?;
     text.push(b" ")?;
     text.push(thing)?;

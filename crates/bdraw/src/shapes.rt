@@ -1,6 +1,6 @@
 //! The shapes of a picture, and the SVG text of each.
 ghost use Rattle.std.specs.Prelude.{◌≡◌, ◌++◌, IfOk, OnOk, decimal};
-ghost use Rattle.bdraw.specs.Shapes.{attribute, cell_text, escape, escaped, fill_name, label_text, svg_opening, picture_text, shape_text, style_name, text_element};
+ghost use Rattle.bdraw.specs.Shapes.{attribute, cell_text, escape, escaped, fill_name, label_text, svg_opening, picture_text, shape_text, style_name, text_element, title_text};
 
 use btools::Text;
 use std::alloc::{AllocError, Global};
@@ -25,7 +25,6 @@ pub struct Cell {
 /// How a label is written.
 #[derive(Clone, Copy)]
 pub enum LabelStyle {
-    Title,
     Name,
     Note,
     /// Above a box, in its middle.
@@ -51,6 +50,11 @@ pub enum Shape {
 /// Half the width of a box.
 pub const HALF_BOX: u32 = 28;
 
+/// Where texts begin, and the height of the title.
+pub const MARGIN: u32 = 16;
+
+const TITLE_HEIGHT: u32 = 24;
+
 /// How the shapes look.
 const STYLES: &[u8] = b"text { font: 12px monospace } .title { font-weight: bold }
 .note { font-size: 10px; fill: #555 } .word { text-anchor: middle }
@@ -58,9 +62,14 @@ const STYLES: &[u8] = b"text { font: 12px monospace } .title { font-weight: bold
 .above { font-size: 10px; fill: #05a; text-anchor: middle }
 rect { fill: white; stroke: #333 } .page { stroke: none } .changed { fill: #fec }";
 
-/// The text of a picture of this height.
-pub fn picture_text(alloc: Global, height: u32, shapes: &[Shape]) -> Result<Text, AllocError>
-    ensures { IfOk result (λ text. text ≡ picture_text height shapes.now) }
+/// The text of a picture of this title and height.
+pub fn picture_text(
+    alloc: Global,
+    title: &[u8],
+    height: u32,
+    shapes: &[Shape],
+) -> Result<Text, AllocError>
+    ensures { IfOk result (λ text. text ≡ picture_text title.now height shapes.now) }
 {
     let mut text = Text::new(alloc);
     text.push(b"<svg xmlns='http://www.w3.org/2000/svg' width='760'")?;
@@ -68,11 +77,21 @@ pub fn picture_text(alloc: Global, height: u32, shapes: &[Shape]) -> Result<Text
     text.push(b">\n<style>")?;
     text.push(STYLES)?;
     text.push(b"</style>\n<rect class='page' width='100%' height='100%'/>\n")?;
+    push_title(&mut text, title)?;
     for shape in shapes {
         push_shape(&mut text, shape)?;
     }
     text.push(b"</svg>\n")?;
     Ok(text)
+}
+
+fn push_title(text: &mut Text, title: &[u8]) -> Result<(), AllocError>
+    ensures { OnOk result (text.new ≡ text.old ++ title_text title.now) }
+{
+    push_opening(text, b"text", b"title", MARGIN, TITLE_HEIGHT)?;
+    text.push(b">")?;
+    push_escaped(text, title)?;
+    text.push(b"</text>\n")
 }
 
 fn push_shape(text: &mut Text, shape: &Shape) -> Result<(), AllocError>
@@ -154,7 +173,6 @@ fn style_name(style: LabelStyle) -> &'static [u8]
     ensures { result.now ≡ style_name style }
 {
     match style {
-        LabelStyle::Title => b"title",
         LabelStyle::Name => b"name",
         LabelStyle::Note => b"note",
         LabelStyle::Above => b"above",

@@ -1,13 +1,35 @@
-use Rattle.std.proofs.Common.{refl}
-use Rattle.bmach.proofs.Readings.{none_at_first}
-use Rattle.bdraw.specs.Draws.{no_memory}
+use Rattle.std.proofs.Common.{◌≡◌, ℕ, List, refl, subst}
+use Rattle.blang.specs.declared.run.Outcome.TheVariants as outcome
+use Rattle.blang.specs.declared.status.TheConstants.{DONE}
+use Rattle.blang.specs.Machine.{image_of, machine}
+use Rattle.blang.specs.Reports.{Reported}
+use Rattle.bwatch.proofs.Seen.{told_so}
+use Rattle.bdraw.specs.Draws.{IsDrawn, after, no_memory, not_begun, unread}
+use Rattle.bdraw.proofs.WatchedPictures.{drawn_so}
 use Rattle.bdraw.proofs.drawing.draw_run.Goals as goal
 
-pub returns-in_default-clause-draws : goal.returns-in_default-clause-draws
-returns-in_default-clause-draws g c = no_memory (none_at_first c.args.program.now.image c.args.steps (g.I.ByteIn.incoming c.args.input.now) (g.I.ByteIn.incoming c.args.input.now) refl) refl refl
+pub watch-requires-clause-begins : goal.watch-requires-clause-begins
+watch-requires-clause-begins g c = λ sights. refl
 
-pub returns-in-Ok-begin-clause-draws : goal.returns-in-Ok-begin-clause-draws
-returns-in-Ok-begin-clause-draws g c = c.draw_steps.ensures.draws c.in-Ok-begin.ensures
+pub returns-in-Ok-Unbegun-clause-draws : goal.returns-in-Ok-Unbegun-clause-draws
+returns-in-Ok-Unbegun-clause-draws g c =
+    let w = rw c.in-Ok-Unbegun.field-0-is at c.in-Ok-Unbegun.ensures.gives in not_begun _ w.0 c.show_before.ensures.shows w.1
 
 pub returns-in-Err-clause-draws : goal.returns-in-Err-clause-draws
-returns-in-Err-clause-draws g c = c.draw_unbegun.ensures.draws c.args.steps _
+returns-in-Err-clause-draws g c = no_memory c.in-Err.ensures.read refl refl
+
+pub returns-in-Device-clause-draws : goal.returns-in-Device-clause-draws
+returns-in-Device-clause-draws g c =
+    let w = rw c.in-Ok-Ended.field-0-is at c.in-Ok-Ended.ensures.gives in unread w.output (rw c.in-Device.is at w.gives) refl refl
+
+pub returns-clause-draws : goal.returns-clause-draws
+returns-clause-draws g c =
+    let w = rw c.in-Ok-Ended.field-0-is at c.in-Ok-Ended.ensures.gives in
+    let ds = c.args.program.now.definitions.items in
+    let image = c.args.program.now.image in
+    let stop = c.in-Ok-Ended.stop in
+    let text = c.watch.new.onlooker.picture in
+    let told = subst (λ (t : List ℕ). Reported t DONE (g.O.ByteOut.outgoing c.args.out.now) (g.O.ByteOut.outgoing c.tell.new.out) c.tell.result) c.as_slice.ensures c.tell.ensures.told in
+    after stop.outcome stop.steps text
+    (told_so (image_of ds).functions (machine ds) c.args.steps _ _ stop.outcome stop.steps _ (IsDrawn ds image text)
+    (drawn_so ds image text (λ s m. c.watch.new.onlooker.program ≡ c.args.program) stop.outcome c.in_default.not-Device stop.steps) w) told

@@ -1,7 +1,7 @@
 use Rattle.std.proofs.Common.{ℕ, List, subst}
 use Rattle.blang.specs.Reports.{Reported}
 use Rattle.bdraw.specs.Draws.{shown}
-use Rattle.bdraw.proofs.drawing.show.Goals as goal
+use Rattle.bdraw.proofs.drawing.show_before.Goals as goal
 
 pub returns-in-Ok-clause-shows : goal.returns-in-Ok-clause-shows
 returns-in-Ok-clause-shows g c =
