@@ -1,6 +1,3 @@
 pub mod AddedRows
-pub mod Beside
 pub mod ListExcluded
-pub mod Printable
-pub mod ShownRows
 pub mod Spots

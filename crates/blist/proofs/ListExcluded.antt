@@ -1,6 +1,6 @@
 -- What no listing and no map is.
 use Rattle.std.proofs.Common.{◌≡◌, ◌∙◌, ◌+◌, ◌%◌, ℕ, zero, suc, List, [], ◌∷◌, ◌++◌, Option, Some, None, ap, ap₂, arith, refl, subst, ◌⊎◌, inl, inr}
-use Rattle.std.specs.Prelude.{codes, decimal, min, slice_index, unwrap_or}
+use Rattle.std.specs.Prelude.{codes, filter, decimal, min, slice_index, unwrap_or}
 use Rattle.std.specs.List.{flat_map}
 use Rattle.bword.specs.declared.edition.Edition.{Edition}
 use Rattle.bword.specs.ByteEnds.{Grew, Writes}
@@ -10,18 +10,21 @@ use Rattle.blang.specs.Compiles.{Compilation, CompilesTo, line_of}
 use Rattle.blang.specs.Cut.{tokens_from}
 use Rattle.blang.specs.declared.run.LoadFault.{LoadFault}
 use Rattle.blang.specs.declared.token.Diagnostic.{Diagnostic}
+use Rattle.blang.specs.Lines.{program_lines}
 use Rattle.blang.specs.Layout.{Shape, load_fault, shape_of, size_of}
 use Rattle.blang.specs.Machine.{Image, image_of}
-use Rattle.blang.specs.Text.{lines_of}
 use Rattle.btools.specs.Columns.{left, right}
 use Rattle.btools.specs.ProgramsExcluded.{Excluded, code_in}
 use Rattle.btools.specs.Programs.{ToldEnds, image_address, load_line}
 use Rattle.btools.proofs.ProgramsExcluded.{device_grew, excluded, no_done, other_answer, was_told}
-use Rattle.blist.specs.ListExcluded.{IsListing, NoListings, NoMaps, WrongStatuses}
-use Rattle.blist.specs.declared.rows.CodeSpot.{CodeSpot}
+use Rattle.blist.specs.ListExcluded.{NoListings, NoMaps, WrongStatuses}
 use Rattle.blist.specs.declared.layout.TheConstants as layout_texts
 use Rattle.blist.specs.declared.listing.TheConstants.{HEADING, UNDEFINED}
-use Rattle.blist.specs.Listings.{AreRows, Lists, spots_at, spots_in, wanted}
+use Rattle.btools.specs.ProgramLines.{token_lines}
+use Rattle.btools.specs.SourceLines.{source_lines}
+use Rattle.btools.specs.declared.names.Frame.{Frame}
+use Rattle.blist.specs.ListingTexts.{definition_rows}
+use Rattle.blist.specs.Listings.{Lists, Told, is_wanted, list_text, told_of, told_rows, wanted}
 use Rattle.blist.specs.Listings as listing
 use Rattle.blist.specs.Maps.{Maps, dots, kind_text, map_row, map_text, words_from}
 use Rattle.blist.specs.Maps as layout
@@ -52,11 +55,14 @@ module _ (image other : Image) (words : image.words ≡ other.words) (addresses 
   rows_same [] = refl
   rows_same (d ∷ ds) = ap₂ (λ a b. a ++ b) (row_same (shape_of d)) (rows_same ds)
 
--- where the lines of these definitions lie follows from the addresses of names
-spots_same : (ds : List Definition) (image : Image) → IsLoadedFrom ds image → (es : List Definition) → flat_map (spots_in image) es ≡ flat_map (spots_in (image_of ds)) es
-spots_same ds image h [] = refl
-spots_same ds image h (d ∷ es) =
-    ap₂ (λ (a b : List CodeSpot). a ++ b) (ap (λ (a : Option ℕ). spots_at (unwrap_or a 0) d) (h.addresses (shape_of d).name)) (spots_same ds image h es)
+-- where these definitions lie follows from the addresses of names
+rows_lie : (ds : List Definition) (image : Image) → IsLoadedFrom ds image → (source : List ℕ) (ts : List Told) → flat_map (told_rows image source) ts ≡ flat_map (told_rows (image_of ds) source) ts
+rows_lie ds image h source [] = refl
+rows_lie ds image h source (t ∷ ts) =
+    ap₂ (λ (a b : List ℕ). a ++ b) (ap (λ (a : Option ℕ). definition_rows (source_lines source) (unwrap_or a 0) t.lines t.frame t.definition) (h.addresses (shape_of t.definition).name)) (rows_lie ds image h source ts)
+
+listing_same : (ds : List Definition) (image : Image) → IsLoadedFrom ds image → (source : List ℕ) (name : Option (List ℕ)) (lines : List ℕ) (frames : List Frame) → list_text image source name ds lines frames ≡ list_text (image_of ds) source name ds lines frames
+listing_same ds image h source name lines frames = ap (λ rows. HEADING.now ++ rows) (rows_lie ds image h source (filter (λ t. is_wanted name t.definition) (told_of ds lines frames)))
 
 map_same : (ds : List Definition) (image : Image) → IsLoadedFrom ds image → map_text image ds ≡ map_text (image_of ds) ds
 map_same ds image h =
@@ -74,17 +80,18 @@ module _ (edition : Edition) (source : List ℕ) (r : Compilation) (g : Compiles
     abbrev Gives : ℕ → Type 0
     Gives status = Lists edition source name ends status
 
-    list_done : Gives 0 → (r.stop ≡ None) × (load_fault code ≡ None) × (wanted name code ≡ [] → ⊥) × ((text : List ℕ) × IsListing name code text × Writes ends.out (HEADING.now ++ text) ends.out_after)
-    list_done (listing.listed ds image text p silent some rows report) =
-        let is = told.program ds image p in (
+    list_done : Gives 0 → (r.stop ≡ None) × (load_fault code ≡ None) × (wanted name code ≡ [] → ⊥) × ((frames : List Frame) × Writes ends.out (list_text (image_of code) source name code (program_lines g.definitions (token_lines edition source)) frames) ends.out_after)
+    list_done (listing.listed ds image lines frames p own silent some report) =
+        let is = told.program ds image p in
+        let text = list_text image source name ds lines frames in (
           is.0,
           is.2,
           subst (λ (x : List Definition). wanted name x ≡ [] → ⊥) is.1 some,
           (
-            text,
-            subst (λ (x : List Definition). IsListing name x text) is.1
-                (subst (λ ss. AreRows ss (flat_map lines_of (wanted name ds)) text) (spots_same ds image p.loaded (wanted name ds)) rows),
-            was_told (HEADING.now ++ text) 0 ends.out ends.out_after (λ e. omega (arith, e)) (λ e. omega (arith, e)) report,
+            frames,
+            subst (λ t. Writes ends.out t ends.out_after)
+                (listing_same ds image p.loaded source name lines frames ∙ ap (λ (x : List Definition). list_text (image_of x) source name x lines frames) is.1 ∙ ap (λ ls. list_text (image_of code) source name code ls frames) (own r g))
+                (was_told text 0 ends.out ends.out_after (λ e. omega (arith, e)) (λ e. omega (arith, e)) report),
           ),
         )
     list_done (listing.unnamed ds image p none report same) =
@@ -92,8 +99,8 @@ module _ (edition : Edition) (source : List ℕ) (r : Compilation) (g : Compiles
     list_done (listing.stopped why same) = absurd (no_done 0 refl (told.status 0 why))
 
     list_unknown : Gives 135 → (wanted name code ≡ []) × Writes ends.line UNDEFINED.now ends.line_after × (ends.out_after ≡ ends.out)
-    list_unknown (listing.listed ds image text p silent some rows report) =
-        absurd (other_answer (HEADING.now ++ text) 0 ends.out ends.out_after 135 (λ e. omega (arith, e)) (λ e. omega (arith, e)) (λ e. omega (arith, e)) report)
+    list_unknown (listing.listed ds image lines frames p own silent some report) =
+        absurd (other_answer (list_text image source name ds lines frames) 0 ends.out ends.out_after 135 (λ e. omega (arith, e)) (λ e. omega (arith, e)) (λ e. omega (arith, e)) report)
     list_unknown (listing.unnamed ds image p none report same) =
         let is = told.program ds image p in (
           subst (λ (x : List Definition). wanted name x ≡ []) is.1 none,
@@ -106,21 +113,21 @@ module _ (edition : Edition) (source : List ℕ) (r : Compilation) (g : Compiles
     list_statuses = record { fault = fault; unloaded = unloaded; device = device }
       where
         fault : Gives 1 → ((d : Diagnostic) × (r.stop ≡ Some d) × Writes ends.line (line_of d) ends.line_after) × (ends.out_after ≡ ends.out)
-        fault (listing.listed ds image text p silent some rows report) =
-            absurd (other_answer (HEADING.now ++ text) 0 ends.out ends.out_after 1 (λ e. omega (arith, e)) (λ e. omega (arith, e)) (λ e. omega (arith, e)) report)
+        fault (listing.listed ds image lines frames p own silent some report) =
+            absurd (other_answer (list_text image source name ds lines frames) 0 ends.out ends.out_after 1 (λ e. omega (arith, e)) (λ e. omega (arith, e)) (λ e. omega (arith, e)) report)
         fault (listing.unnamed ds image p none report same) =
             absurd (other_answer UNDEFINED.now 135 ends.line ends.line_after 1 (λ e. omega (arith, e)) (λ e. omega (arith, e)) (λ e. omega (arith, e)) report)
         fault (listing.stopped why same) = (told.fault why, same)
 
         unloaded : Gives 132 → ((f : LoadFault) × (text : List ℕ) × (load_fault code ≡ Some f) × (load_line f ≡ Some text) × Writes ends.line text ends.line_after) × (ends.out_after ≡ ends.out)
-        unloaded (listing.listed ds image text p silent some rows report) =
-            absurd (other_answer (HEADING.now ++ text) 0 ends.out ends.out_after 132 (λ e. omega (arith, e)) (λ e. omega (arith, e)) (λ e. omega (arith, e)) report)
+        unloaded (listing.listed ds image lines frames p own silent some report) =
+            absurd (other_answer (list_text image source name ds lines frames) 0 ends.out ends.out_after 132 (λ e. omega (arith, e)) (λ e. omega (arith, e)) (λ e. omega (arith, e)) report)
         unloaded (listing.unnamed ds image p none report same) =
             absurd (other_answer UNDEFINED.now 135 ends.line ends.line_after 132 (λ e. omega (arith, e)) (λ e. omega (arith, e)) (λ e. omega (arith, e)) report)
         unloaded (listing.stopped why same) = (told.unloaded why, same)
 
         device : Gives 133 → Grew ends.out.failures ends.out_after.failures ⊎ Grew ends.line.failures ends.line_after.failures
-        device (listing.listed ds image text p silent some rows report) = inl (device_grew (HEADING.now ++ text) 0 ends.out ends.out_after (λ e. omega (arith, e)) report)
+        device (listing.listed ds image lines frames p own silent some report) = inl (device_grew (list_text image source name ds lines frames) 0 ends.out ends.out_after (λ e. omega (arith, e)) report)
         device (listing.unnamed ds image p none report same) =
             inr (device_grew UNDEFINED.now 135 ends.line ends.line_after (λ e. omega (arith, e)) report)
         device (listing.stopped why same) = inr (told.device why)

@@ -1,4 +1,5 @@
 pub mod Maps
+pub mod ListingTexts
 pub mod Listings
 pub mod ListingRows
 pub mod MapRows

@@ -1,68 +1,22 @@
 -- Promise: what no listing and no map is, of each source and whatever its ends do.
-use Rattle.std.specs.Prelude.{◌≡◌, ℕ, ◌<◌, ◌≤◌, ◌==◌, Bool, List, [], ◌∷◌, ◌++◌, codes, decimal, filter, length, nat_lt}
-use Rattle.std.specs.Prelude.{take, if◌then◌else◌, Option, Some, None, ◌⊎◌, IsTrue}
-use Rattle.std.specs.List.{flat_map, list_all}
+use Rattle.std.specs.Prelude.{◌≡◌, ℕ, List, [], Option, Some, None, ◌⊎◌}
 use Rattle.bword.specs.declared.edition.Edition.{Edition}
 use Rattle.bword.specs.ByteEnds.{Grew, Writes}
 use Rattle.blang.specs.declared.run.LoadFault.{LoadFault}
 use Rattle.blang.specs.declared.status.TheConstants.{DEVICE, DONE, FAULT, REFUSED, WRONG_COMMAND}
 use Rattle.blang.specs.declared.token.Diagnostic.{Diagnostic}
-use Rattle.blang.specs.declared.code.Definition.{Definition}
 use Rattle.blang.specs.Compiles.{Compilation, CompilesTo, line_of}
 use Rattle.blang.specs.Cut.{tokens_from}
 use Rattle.blang.specs.Layout.{load_fault}
+use Rattle.blang.specs.Lines.{program_lines}
 use Rattle.blang.specs.Machine.{image_of}
-use Rattle.blang.specs.Text.{lines_of}
-use Rattle.btools.specs.Characters.{IsPrintable}
-use Rattle.btools.specs.Columns.{right, without_newline}
 use Rattle.btools.specs.ProgramsExcluded.{code_in}
+use Rattle.btools.specs.ProgramLines.{token_lines}
 use Rattle.btools.specs.Programs.{ToldEnds, load_line}
-use Rattle.blist.specs.declared.listing.TheConstants.{HEADING, UNDEFINED}
-use Rattle.blist.specs.declared.rows.CodeSpot.{CodeSpot}
-use Rattle.blist.specs.declared.rows.CodeSpot.TheVariants as spot
-use Rattle.blist.specs.Listings.{AreRows, IsApart, Lists, spots_in, wanted}
+use Rattle.btools.specs.declared.names.Frame.{Frame}
+use Rattle.blist.specs.declared.listing.TheConstants.{UNDEFINED}
+use Rattle.blist.specs.Listings.{Lists, list_text, wanted}
 use Rattle.blist.specs.Maps.{Maps, map_text}
-
-abbrev pub newlines : List ℕ → ℕ
-newlines text = length (filter (λ b. b == 10) text)
-
--- a line of code has no newline but its last byte
-abbrev pub is_one_line : List ℕ → Bool
-is_one_line line = newlines (without_newline line) == 0
-
--- a text from its first letter on
-abbrev pub from_letter : List ℕ → List ℕ
-from_letter [] = []
-from_letter (b ∷ bs) = if nat_lt b 65 then from_letter bs else b ∷ bs
-
--- What is excluded of the rows of lines of code.
-pub record WrongRows : Type 0 where
-  -- fewer rows than lines, or more
-  pub as_many : (spots : List CodeSpot) (lines : List (List ℕ)) (text : List ℕ) → AreRows spots lines text
-      → IsTrue (list_all is_one_line lines) → newlines text ≡ length lines
-  -- a row with another code than that of its line, or with something beside it that isn't apart
-  pub code : (s : CodeSpot) (spots : List CodeSpot) (line : List ℕ) (lines : List (List ℕ)) (text : List ℕ)
-      (letter : ℕ) (rest : List ℕ) → AreRows (s ∷ spots) (line ∷ lines) text → without_newline line ≡ letter ∷ rest
-      → 65 ≤ letter
-      → (beside others : List ℕ)
-      × (from_letter text ≡ without_newline line ++ beside ++ codes "\n" ++ others) × IsPrintable beside
-      × IsApart (length (without_newline line)) beside × AreRows spots lines others
-  -- another byte than a blank directly after code
-  pub apart : (used b : ℕ) (rest : List ℕ) → IsApart used (b ∷ rest) → b ≡ 32
-  -- another place before a line of code that lies at one, or none
-  pub place : (n : ℕ) (spots : List CodeSpot) (lines : List (List ℕ)) (text : List ℕ) → n < 65536
-      → AreRows (spot.Place n ∷ spots) lines text → take 6 text ≡ right 6 (decimal n)
-  -- another address, or none
-  pub address : (n : ℕ) (spots : List CodeSpot) (lines : List (List ℕ)) (text : List ℕ) → n < 65536
-      → AreRows (spot.Address n ∷ spots) lines text → take 6 text ≡ right 6 (codes "@" ++ decimal n)
-  -- a place or an address before the target of a label
-  pub nowhere : (spots : List CodeSpot) (lines : List (List ℕ)) (text : List ℕ)
-      → AreRows (spot.Nowhere ∷ spots) lines text → take 6 text ≡ codes "      "
-
--- the text has the rows of what is wanted of these definitions, each where it lies in their image
-abbrev pub IsListing : Option (List ℕ) → List Definition → List ℕ → Type 0
-IsListing name ds text =
-    AreRows (flat_map (spots_in (image_of ds)) (wanted name ds)) (flat_map lines_of (wanted name ds)) text
 
 module _ (edition : Edition) (source : List ℕ) (r : Compilation) (g : CompilesTo [] (tokens_from edition 1 source) r)
     (ends : ToldEnds) where
@@ -83,12 +37,13 @@ module _ (edition : Edition) (source : List ℕ) (r : Compilation) (g : Compiles
 
   -- What is excluded of a listing.
   pub record WrongListings (name : Option (List ℕ)) : Type 0 where
-    -- 0 for a source with a fault, for what doesn't load, for a name that isn't defined, or with other rows
+    -- 0 for a source with a fault, for what doesn't load, for a name that isn't defined, or with other rows, as with
+    -- another line of the source
     pub done : Lists edition source name ends DONE
         → (r.stop ≡ None) × (load_fault (code_in edition source r g) ≡ None)
         × (wanted name (code_in edition source r g) ≡ [] → ⊥)
-        × ((text : List ℕ) × IsListing name (code_in edition source r g) text
-        × Writes ends.out (HEADING.now ++ text) ends.out_after)
+        × ((frames : List Frame) × Writes ends.out (list_text (image_of (code_in edition source r g)) source name
+        (code_in edition source r g) (program_lines g.definitions (token_lines edition source)) frames) ends.out_after)
     -- 135 for a name that is defined, or with another line, or with anything else written
     pub unknown : Lists edition source name ends WRONG_COMMAND
         → (wanted name (code_in edition source r g) ≡ []) × Writes ends.line UNDEFINED.now ends.line_after

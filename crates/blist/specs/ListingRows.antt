@@ -1,6 +1,6 @@
--- Closed facts: what stands before a line of code, a row, where lines of code lie, and which definitions are wanted.
-use Rattle.std.specs.Prelude.{◌≡◌, ℕ, List, [], ◌∷◌, ◌++◌, Some, None, codes, flat_map, map, refl}
-use Rattle.std.proofs.Common.{inr}
+-- Closed facts: rows, their columns, the rows of each kind of definition, a whole listing, and what is wanted.
+use Rattle.std.specs.Prelude.{◌≡◌, ℕ, List, [], ◌∷◌, ◌++◌, Option, Some, None, codes, false, map, refl, replicate}
+use Rattle.std.specs.Prelude.{true}
 use Rattle.std.specs.Fmt.{digits}
 use Rattle.blang.specs.declared.code.Definition.{Definition}
 use Rattle.blang.specs.declared.code.Definition.TheVariants as definition
@@ -8,8 +8,14 @@ use Rattle.blang.specs.declared.code.Instr.TheVariants as instr
 use Rattle.blang.specs.declared.code.Ival.{Ival}
 use Rattle.blang.specs.declared.code.Ival.TheVariants as ival
 use Rattle.blang.specs.Machine.{image_of}
+use Rattle.btools.specs.declared.names.Frame.{Frame}
+use Rattle.btools.specs.declared.names.FrameWord.{FrameWord}
+use Rattle.blist.specs.declared.listing.TheConstants.{HEADING}
 use Rattle.blist.specs.declared.rows.CodeSpot.TheVariants as spot
-use Rattle.blist.specs.Listings.{ListingRow, margin_text, row_text, spots_at, spots_in, wanted, word_spots}
+use Rattle.blist.specs.declared.rows.Named.TheVariants as named
+use Rattle.blist.specs.ListingTexts.{definition_rows, instr_named, label_named, line_text, margin_text, name_at}
+use Rattle.blist.specs.ListingTexts.{row_text, source_beside, source_column, word_spot}
+use Rattle.blist.specs.Listings.{list_text, wanted}
 
 place_and_number : margin_text (spot.Place 7) (Some 3) ≡ codes "     7     3  "
 unfolding digits
@@ -28,34 +34,73 @@ unfolding digits
 number_of_seven_digits = refl
 
 -- a row with its line of the source, where eleven blanks are left of the column of code
-abbrev a_row : ListingRow
-a_row = record {
-  spot = spot.Place 0;
-  number = Some 1;
-  line = codes "c 0\n";
-  beside = codes "           main(){}";
-  beside_is_printable = refl;
-  beside_is_apart = inr (codes "main(){}", refl);
-}
-
-shown_row : row_text a_row ≡ codes "     0     1  c 0           main(){}\n"
+shown_row : row_text (spot.Place 0) (Some 1) (codes "c 0\n") (codes "main(){}") named.Nothing
+    ≡ codes "     0     1  c 0           main(){}\n"
 unfolding digits
 shown_row = refl
 
 -- a row whose code is as wide as its column, where one blank is left
-abbrev a_wide_row : ListingRow
-a_wide_row = record {
-  spot = spot.Address 7;
-  number = None;
-  line = codes "F abcde 0 0 0 0 2\n";
-  beside = codes " x";
-  beside_is_printable = refl;
-  beside_is_apart = inr (codes "x", refl);
-}
-
-shown_wide_row : row_text a_wide_row ≡ codes "    @7        F abcde 0 0 0 0 2 x\n"
+shown_wide_row : row_text (spot.Address 7) None (codes "F abcde 0 0 0 0 2\n") (codes "x") named.Nothing
+    ≡ codes "    @7        F abcde 0 0 0 0 2 x\n"
 unfolding digits
 shown_wide_row = refl
+
+-- a tab, bytes that can't be printed, and a line that is as wide as its column, and one byte wider
+shown_source : source_column (9 ∷ 31 ∷ 32 ∷ 126 ∷ 127 ∷ []) ≡ codes " . ~."
+shown_source = refl
+
+widest_source : source_column (replicate 39 97) ≡ replicate 39 97
+widest_source = refl
+
+wider_source : source_column (replicate 39 97 ++ 98 ∷ []) ≡ replicate 39 97
+wider_source = refl
+
+-- a name after such a line, and the first word of a vector beside code alone
+named_row : row_text (spot.Place 1) (Some 2) (codes "a 1\n") (replicate 40 97) (named.Name (codes "v"))
+    ≡ codes "     1     2  a 1           aaaaaaaaaaaaaaaaaaaaaaaaaaaaaaaaaaaaaaa v\n"
+unfolding digits
+named_row = refl
+
+first_word_row : row_text (spot.Place 1) None (codes "a 2\n") [] (named.First (codes "v"))
+    ≡ codes "     1        a 2                                                   v[0]\n"
+unfolding digits
+first_word_row = refl
+
+-- the words of a frame of `f(a) { auto v[2], b; .. }`
+abbrev frame_words : List FrameWord
+frame_words =
+    record { name = codes "a"; offset = 0; is_vector = false }
+    ∷ record { name = codes "v"; offset = 1; is_vector = true }
+    ∷ record { name = codes "b"; offset = 4; is_vector = false } ∷ []
+
+names_of_words : map (name_at frame_words) (0 ∷ 1 ∷ 2 ∷ 3 ∷ 4 ∷ 5 ∷ [])
+    ≡ named.Name (codes "a") ∷ named.Name (codes "v") ∷ named.First (codes "v") ∷ named.Nothing
+    ∷ named.Name (codes "b") ∷ named.Nothing ∷ []
+names_of_words = refl
+
+-- what instructions speak of
+name_of_local : (frame : Frame) → instr_named (Some frame) (instr.Automatic 3) ≡ name_at frame.words.items 3
+name_of_local frame = refl
+
+name_of_label : (frame : Frame) → instr_named (Some frame) (instr.Label 3) ≡ label_named (Some frame) 3
+name_of_label frame = refl
+
+name_of_none : (frame : Frame) → instr_named (Some frame) (instr.Constant 3) ≡ named.Nothing
+name_of_none frame = refl
+
+-- lines of a source, and the text beside an instruction: not again where the instruction before is of the same line
+abbrev texts : List (List ℕ)
+texts = codes "f(a) {" ∷ codes "\treturn(0); }  " ∷ []
+
+texts_of_lines : map (line_text texts) (1 ∷ 2 ∷ 3 ∷ []) ≡ codes "f(a) {" ∷ codes "return(0); }" ∷ [] ∷ []
+texts_of_lines = refl
+
+first_of_line : map (λ before. source_beside texts before (Some 1)) (None ∷ Some 2 ∷ Some 1 ∷ [])
+    ≡ codes "f(a) {" ∷ codes "f(a) {" ∷ [] ∷ []
+first_of_line = refl
+
+without_line : source_beside texts (Some 1) None ≡ []
+without_line = refl
 
 -- definitions that have a line of each kind
 abbrev a_function : Definition
@@ -68,41 +113,87 @@ a_function = definition.Function (record {
   code = instr.Pop ∷ instr.Constant 0 ∷ instr.Return ∷ [];
 })
 
-abbrev a_simple : List Ival → Definition
-a_simple values = definition.Simple (record { name = codes "x"; values = values; strings = 4 ∷ [] })
-
-abbrev a_vector : ℕ → List Ival → Definition
-a_vector words values =
-    definition.Vector (record { name = codes "v"; words = words; values = values; strings = 4 ∷ 4 ∷ [] })
-
 abbrev two_values : List Ival
 two_values = ival.Text 0 ∷ ival.Number 5 ∷ []
 
--- an instruction stands at its place, and a string word after the word of the function
-in_a_function : spots_at 7 a_function
-    ≡ spot.Address 7 ∷ spot.Nowhere ∷ spot.Address 8 ∷ spot.Address 9 ∷ spot.Place 0 ∷ spot.Place 1 ∷ spot.Place 2 ∷ []
-in_a_function = refl
+abbrev a_simple : Definition
+a_simple = definition.Simple (record { name = codes "x"; values = two_values; strings = 4 ∷ [] })
 
--- the first value lies in the word of its name, which is there without a value, too
-in_a_simple : map (λ values. spots_at 7 (a_simple values)) (two_values ∷ [] ∷ [])
-    ≡ (spot.Address 7 ∷ spot.Address 7 ∷ spot.Address 8 ∷ spot.Address 9 ∷ [])
-    ∷ (spot.Address 7 ∷ spot.Address 8 ∷ []) ∷ []
-in_a_simple = refl
+abbrev a_vector : ℕ → Definition
+a_vector words =
+    definition.Vector (record { name = codes "v"; words = words; values = two_values; strings = 4 ∷ [] })
 
--- the values lie after a vector's own word, and its string words after as many words as it has, or values
-in_a_vector : map (λ words. spots_at 7 (a_vector words two_values)) (3 ∷ 1 ∷ [])
-    ≡ (spot.Address 7 ∷ spot.Address 8 ∷ spot.Address 9 ∷ spot.Address 11 ∷ spot.Address 12 ∷ [])
-    ∷ (spot.Address 7 ∷ spot.Address 8 ∷ spot.Address 9 ∷ spot.Address 10 ∷ spot.Address 11 ∷ []) ∷ []
-in_a_vector = refl
+-- Each instruction has its line, and the text of a line is beside the first one of it. Strings come after the function's
+-- own word.
+rows_of_function : definition_rows texts 7 (1 ∷ 2 ∷ 2 ∷ []) None a_function
+    ≡ codes "    @7        F f 2 2 1 2 3\n"
+    ++ codes "              t 1\n"
+    ++ codes "    @8        w 25185                                               'ab'\n"
+    ++ codes "    @9        w 4                                                   '*e'\n"
+    ++ codes "     0     1  p             f(a) {\n"
+    ++ codes "     1     2  c 0           return(0); }\n"
+    ++ codes "     2     2  r\n"
+unfolding digits
+rows_of_function = refl
+
+-- The first value lies in the word of its name, and each has its line.
+rows_of_simple : definition_rows texts 7 (3 ∷ 4 ∷ []) None a_simple
+    ≡ codes "    @7        X x 2 1\n"
+    ++ codes "    @7     3  s 0\n"
+    ++ codes "    @8     4  c 5\n"
+    ++ codes "    @9        w 4                                                   '*e'\n"
+unfolding digits
+rows_of_simple = refl
+
+-- The values lie after a vector's own word, and its string words after as many words as it has, or values.
+rows_of_vector : definition_rows texts 7 (3 ∷ 4 ∷ []) None (a_vector 3)
+    ≡ codes "    @7        V v 3 2 1\n"
+    ++ codes "    @8     3  s 0\n"
+    ++ codes "    @9     4  c 5\n"
+    ++ codes "   @11        w 4                                                   '*e'\n"
+unfolding digits
+rows_of_vector = refl
+
+rows_of_small_vector : definition_rows texts 7 (3 ∷ 4 ∷ []) None (a_vector 1)
+    ≡ codes "    @7        V v 1 2 1\n"
+    ++ codes "    @8     3  s 0\n"
+    ++ codes "    @9     4  c 5\n"
+    ++ codes "   @10        w 4                                                   '*e'\n"
+unfolding digits
+rows_of_small_vector = refl
 
 -- the last address, and no address after it
-last_address : word_spots 65535 two_values ≡ spot.Address 65535 ∷ spot.Address 0 ∷ []
+last_address : map (word_spot 65535) (0 ∷ 1 ∷ []) ≡ spot.Address 65535 ∷ spot.Address 0 ∷ []
 last_address = refl
 
--- f and x in an image, each at the address of its name
-in_an_image : flat_map (spots_in (image_of (a_simple [] ∷ a_function ∷ []))) (a_function ∷ a_simple [] ∷ [])
-    ≡ spots_at 9 a_function ++ spots_at 7 (a_simple [])
-in_an_image = refl
+-- the listing of a source of two lines, and of one name of it
+abbrev two_definitions : List Definition
+two_definitions =
+    definition.Simple (record { name = codes "x"; values = []; strings = [] })
+    ∷ definition.Function (record {
+      name = codes "main";
+      parameters = 0;
+      frame = 0;
+      targets = [];
+      strings = [];
+      code = instr.Constant 0 ∷ instr.Return ∷ [];
+    }) ∷ []
+
+abbrev listed : Option (List ℕ) → List ℕ
+listed name = list_text (image_of two_definitions) (codes "x;\nmain() { }\n") name two_definitions (2 ∷ 2 ∷ []) []
+
+whole_listing : listed None
+    ≡ HEADING.now
+    ++ codes "    @7        X x 0 0\n"
+    ++ codes "    @8        F main 0 0 0 0 2\n"
+    ++ codes "     0     2  c 0           main() { }\n"
+    ++ codes "     1     2  r\n"
+unfolding digits
+whole_listing = refl
+
+listing_of_name : listed (Some (codes "x")) ≡ HEADING.now ++ codes "    @7        X x 0 0\n"
+unfolding digits
+listing_of_name = refl
 
 abbrev defined : List ℕ → Definition
 defined name = definition.Simple (record { name = name; values = []; strings = [] })

@@ -8,4 +8,3 @@ mod source_lines;
 
 pub use layout::{map, wrong_maps_are_excluded};
 pub use listing::{list, wrong_listings_are_excluded};
-pub use source_lines::SourceLines;

@@ -1,32 +1,35 @@
 //! The code of a source, with what it comes from.
-ghost use Rattle.std.specs.Prelude.{◌≡◌, ◌%◌, [], ◌∷◌, ◌++◌, Decides, IfOk, OnOk, map, option_map};
+ghost use Rattle.std.specs.Prelude.{◌≡◌, ◌<◌, ◌+◌, ◌%◌, [], ◌∷◌, ◌++◌, Decides, IfOk, None, OnOk, filter, map, option_map};
 ghost use Rattle.std.specs.List.{flat_map};
-ghost use Rattle.blang.specs.Text.{header_line, instr_line, ival_line, lines_of, string_line, target_line};
 ghost use Rattle.blang.specs.CodeParts.{function_of, simple_of, vector_of};
 ghost use Rattle.blang.specs.declared.code.Definition.TheVariants as definition;
-ghost use Rattle.blist.specs.ListExcluded.{NoListings, WrongRows};
-ghost use Rattle.blist.specs.Listings.{
-  Adds,
-  AreRows,
-  Lists,
-  instr_spots,
-  is_wanted,
-  spots_at,
-  spots_in,
-  target_spots,
-  wanted,
-  word_spots,
+ghost use Rattle.blist.specs.ListExcluded.{NoListings};
+ghost use Rattle.blist.specs.ListingTexts.{
+  code_rows,
+  definition_rows,
+  instr_named,
+  label_named,
+  name_at,
+  row_text,
+  source_beside,
+  string_rows,
+  target_rows,
+  value_rows,
+  word_named,
 };
+ghost use Rattle.blist.specs.Listings.{Lists, frames_after, is_wanted, list_text, wanted};
 ghost use Rattle.blist.specs.declared.rows.CodeSpot.TheVariants as spot;
+ghost use Rattle.blist.specs.declared.rows.Named.TheVariants as named;
 ghost use Rattle.btools.specs.Programs.{told_ends};
+ghost use Rattle.btools.specs.SourceLines.{source_lines};
 
 use crate::rows::{CodeSpot, Named, RowColumns, push_row};
-use crate::source_lines::SourceLines;
+use crate::source_lines::{line_text, split_source};
 use bcode::{Page, push_header_line, push_instr_line, push_ival_line, push_number_line};
 use blang::status::{self, Status};
 use blang::{Definition, FunctionParts, Instr, Ival, SimpleParts, VectorParts};
 use bmach::name_of;
-use btools::{Frame, Program, Text, read_program, split_lines, tell, tell_fault};
+use btools::{Frame, FrameWord, Program, Text, read_program, split_lines, tell, tell_fault};
 use bword::{ByteOut, Edition};
 use std::alloc::{AllocError, Global};
 
@@ -94,31 +97,39 @@ fn listing(
     source: &[u8],
     name: Option<&str>,
 ) -> Result<Text, AllocError>
-    ensures { IfOk result (Adds HEADING.now
-        (flat_map (spots_in program.now.image)
-        (wanted (option_map (λ n. n.now) name.entry) program.now.definitions.items))
-        (flat_map lines_of (wanted (option_map (λ n. n.now) name.entry) program.now.definitions.items))) }
+    ensures { IfOk result (λ text. text ≡ list_text program.now.image source.now (option_map (λ n. n.now) name.entry)
+        program.now.definitions.items program.now.names.lines.items program.now.names.frames.items) }
 {
-    let sources = SourceLines::new(alloc, source)?;
+    let texts = split_source(alloc, source)?;
     let mut text = Text::new(alloc);
     text.push(HEADING)?;
     let mut frames = program.names.frames.as_slice();
     let mut lines = program.names.lines.as_slice();
     for definition in &program.definitions {
         let (own, later) = split_lines(lines, definition);
-        let told = Sources {
-            lines: own,
-            frame: frames.first(),
-            texts: &sources,
-        };
-        let address = program.image.address(&name_of(definition)).unwrap_or(0);
-        push_wanted(&mut text, definition, name, address, told)?;
-        lines = later;
-        if let Definition::Function(_) = definition {
-            frames = frames.get(1..).unwrap_or(&[]);
+        if is_wanted(definition, name) {
+            let told = Sources {
+                lines: own,
+                frame: frames.first(),
+                texts: texts.as_slice(),
+            };
+            let address = program.image.address(&name_of(definition)).unwrap_or(0);
+            push_definition(&mut text, definition, address, told)?;
         }
+        lines = later;
+        frames = frames_after(definition, frames);
     }
     Ok(text)
+}
+
+// The names of the functions after a definition.
+fn frames_after<'a>(definition: &Definition, frames: &'a [Frame]) -> &'a [Frame]
+    ensures { result.now ≡ frames_after definition.now frames.now }
+{
+    match definition {
+        Definition::Function(_) => frames.get(1..).unwrap_or(&[]),
+        _ => frames,
+    }
 }
 
 // What is known of the source of a definition.
@@ -128,26 +139,8 @@ struct Sources<'a> {
     lines: &'a [u64],
     // The names of a function.
     frame: Option<&'a Frame>,
-    texts: &'a SourceLines<'a>,
-}
-
-// The rows of a definition at an address, if it is wanted.
-fn push_wanted(
-    text: &mut Text,
-    definition: &Definition,
-    name: Option<&str>,
-    address: u16,
-    told: Sources<'_>,
-) -> Result<(), AllocError>
-    ensures { OnOk result (Adds text.old
-        (flat_map (spots_at address) (wanted (option_map (λ n. n.now) name.entry) (definition.now ∷ [])))
-        (flat_map lines_of (wanted (option_map (λ n. n.now) name.entry) (definition.now ∷ []))) text.new) }
-{
-    if is_wanted(definition, name) {
-        push_definition(text, definition, address, told)
-    } else {
-        Ok(())
-    }
+    // The lines of the source.
+    texts: &'a [&'a [u8]],
 }
 
 // The rows of a definition at an address.
@@ -157,7 +150,8 @@ fn push_definition(
     address: u16,
     told: Sources<'_>,
 ) -> Result<(), AllocError>
-    ensures { OnOk result (Adds text.old (spots_at address definition.now) (lines_of definition.now) text.new) }
+    ensures { OnOk result (text.new ≡ text.old ++ definition_rows (map (λ line. line.now) told.entry.texts.now) address
+        told.entry.lines.now (option_map (λ frame. frame.now) told.entry.frame) definition.now) }
 {
     match definition {
         Definition::Function(function) => push_function(text, function.parts(), address, told),
@@ -172,8 +166,9 @@ fn push_function(
     address: u16,
     told: Sources<'_>,
 ) -> Result<(), AllocError>
-    ensures { OnOk result (Adds text.old (spots_at address (definition.Function (function_of parts.now)))
-        (lines_of (definition.Function (function_of parts.now))) text.new) }
+    ensures { OnOk result (text.new ≡ text.old ++ definition_rows (map (λ line. line.now) told.entry.texts.now) address
+        told.entry.lines.now (option_map (λ frame. frame.now) told.entry.frame)
+        (definition.Function (function_of parts.now))) }
 {
     let counts = [
         usize::from(parts.parameters),
@@ -196,8 +191,9 @@ fn push_simple(
     address: u16,
     told: Sources<'_>,
 ) -> Result<(), AllocError>
-    ensures { OnOk result (Adds text.old (spots_at address (definition.Simple (simple_of parts.now)))
-        (lines_of (definition.Simple (simple_of parts.now))) text.new) }
+    ensures { OnOk result (text.new ≡ text.old ++ definition_rows (map (λ line. line.now) told.entry.texts.now) address
+        told.entry.lines.now (option_map (λ frame. frame.now) told.entry.frame)
+        (definition.Simple (simple_of parts.now))) }
 {
     let counts = [parts.values.len(), parts.strings.len()];
     let mut page = Page::new();
@@ -214,8 +210,9 @@ fn push_vector(
     address: u16,
     told: Sources<'_>,
 ) -> Result<(), AllocError>
-    ensures { OnOk result (Adds text.old (spots_at address (definition.Vector (vector_of parts.now)))
-        (lines_of (definition.Vector (vector_of parts.now))) text.new) }
+    ensures { OnOk result (text.new ≡ text.old ++ definition_rows (map (λ line. line.now) told.entry.texts.now) address
+        told.entry.lines.now (option_map (λ frame. frame.now) told.entry.frame)
+        (definition.Vector (vector_of parts.now))) }
 {
     let counts = [
         usize::from(parts.words),
@@ -239,7 +236,7 @@ fn low_word(number: usize) -> u16
 }
 
 fn push_header(text: &mut Text, page: &Page, address: u16) -> Result<(), AllocError>
-    ensures { OnOk result (Adds text.old (spot.Address address ∷ []) (page.now ∷ []) text.new) }
+    ensures { OnOk result (text.new ≡ text.old ++ row_text (spot.Address address) None page.now [] named.Nothing) }
 {
     let told = RowColumns {
         spot: CodeSpot::Address(address),
@@ -252,7 +249,7 @@ fn push_header(text: &mut Text, page: &Page, address: u16) -> Result<(), AllocEr
 
 // The targets of labels.
 fn push_targets(text: &mut Text, targets: &[u16], frame: Option<&Frame>) -> Result<(), AllocError>
-    ensures { OnOk result (Adds text.old (target_spots targets.now) (map target_line targets.now) text.new) }
+    ensures { OnOk result (text.new ≡ text.old ++ target_rows (option_map (λ f. f.now) frame.entry) targets.now) }
 {
     for (index, target) in targets.iter().enumerate() {
         let mut page = Page::new();
@@ -270,7 +267,7 @@ fn push_targets(text: &mut Text, targets: &[u16], frame: Option<&Frame>) -> Resu
 
 // String words, which lie from an address on.
 fn push_strings(text: &mut Text, words: &[u16], address: u16) -> Result<(), AllocError>
-    ensures { OnOk result (Adds text.old (word_spots address words.now) (map string_line words.now) text.new) }
+    ensures { OnOk result (text.new ≡ text.old ++ string_rows address words.now) }
 {
     for (index, word) in words.iter().enumerate() {
         let mut page = Page::new();
@@ -293,7 +290,7 @@ fn push_values(
     address: u16,
     lines: &[u64],
 ) -> Result<(), AllocError>
-    ensures { OnOk result (Adds text.old (word_spots address values.now) (map ival_line values.now) text.new) }
+    ensures { OnOk result (text.new ≡ text.old ++ value_rows address lines.now values.now) }
 {
     for (index, value) in values.iter().enumerate() {
         let mut page = Page::new();
@@ -311,36 +308,41 @@ fn push_values(
 
 // Instructions with their lines, the text of each line beside the first one that comes from it.
 fn push_code(text: &mut Text, code: &[Instr], told: Sources<'_>) -> Result<(), AllocError>
-    ensures { OnOk result (Adds text.old (instr_spots code.now) (map instr_line code.now) text.new) }
+    ensures { OnOk result (text.new ≡ text.old ++ code_rows (map (λ line. line.now) told.entry.texts.now)
+        told.entry.lines.now (option_map (λ frame. frame.now) told.entry.frame) code.now) }
 {
     let mut before = None;
     for (place, instr) in code.iter().enumerate() {
         let line = told.lines.get(place).copied();
-        let source = source_text(told.texts, before, line);
-        before = line;
         let mut page = Page::new();
         push_instr_line(&mut page, instr);
-        let told = RowColumns {
+        let row = RowColumns {
             spot: CodeSpot::Place(place),
             line,
-            source,
+            source: source_beside(told.texts, before, line),
             named: named(told.frame, instr),
         };
-        push_row(text, &page, told)?;
+        push_row(text, &page, row)?;
+        before = line;
     }
     Ok(())
 }
 
 // The text of a line, unless it is the line before.
-fn source_text<'a>(texts: &SourceLines<'a>, before: Option<u64>, line: Option<u64>) -> &'a [u8] {
-    match line {
-        Some(line) if before != Some(line) => texts.text(line),
-        _ => b"",
+fn source_beside<'a>(texts: &[&'a [u8]], before: Option<u64>, line: Option<u64>) -> &'a [u8]
+    ensures { result.now ≡ source_beside (map (λ line. line.now) texts.now) before line }
+{
+    match (before, line) {
+        (_, None) => b"",
+        (Some(before), Some(line)) if before == line => b"",
+        (_, Some(line)) => line_text(texts, line),
     }
 }
 
 // The name of what an instruction speaks of.
-fn named(frame: Option<&Frame>, instr: &Instr) -> Named {
+fn named(frame: Option<&Frame>, instr: &Instr) -> Named
+    ensures { result ≡ instr_named (option_map (λ f. f.now) frame.entry) instr.now }
+{
     match instr {
         Instr::Automatic(offset) => word_in(frame, *offset),
         Instr::Label(number) => label_in(frame, usize::from(*number)),
@@ -348,18 +350,34 @@ fn named(frame: Option<&Frame>, instr: &Instr) -> Named {
     }
 }
 
-fn word_in(frame: Option<&Frame>, offset: u16) -> Named {
-    let Some(frame) = frame else {
-        return Named::Nothing;
-    };
-    match frame.word(u32::from(offset)) {
-        Some((name, false)) => Named::Name(name),
-        Some((name, true)) => Named::First(name),
+fn word_in(frame: Option<&Frame>, offset: u16) -> Named
+    ensures { result ≡ word_named (option_map (λ f. f.now) frame.entry) offset }
+{
+    match frame {
+        Some(frame) => name_at(&frame.words, u32::from(offset)),
         None => Named::Nothing,
     }
 }
 
-fn label_in(frame: Option<&Frame>, number: usize) -> Named {
+// The name of a word of a frame.
+fn name_at(words: &[FrameWord], offset: u32) -> Named
+    requires { offset < 65536 }
+    ensures { result ≡ name_at words.now offset }
+{
+    for word in words {
+        if word.offset == offset {
+            return Named::Name(word.name);
+        }
+        if word.is_vector && word.offset.checked_add(1) == Some(offset) {
+            return Named::First(word.name);
+        }
+    }
+    Named::Nothing
+}
+
+fn label_in(frame: Option<&Frame>, number: usize) -> Named
+    ensures { result ≡ label_named (option_map (λ f. f.now) frame.entry) number }
+{
     let Some(frame) = frame else {
         return Named::Nothing;
     };
@@ -369,8 +387,7 @@ fn label_in(frame: Option<&Frame>, number: usize) -> Named {
     }
 }
 
-/// No listing has other rows than those of the source's code, or another status or line.
+/// No listing has another status than that of its source, or another line.
 pub fn wrong_listings_are_excluded()
-    ensures rows { WrongRows }
-    ensures listings { NoListings }
+    ensures { NoListings }
 {}

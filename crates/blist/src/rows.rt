@@ -1,7 +1,7 @@
 //! The rows of a listing.
-ghost use Rattle.std.specs.Prelude.{◌≡◌, ◌++◌, [], ◌∷◌, OnOk, codes, decimal};
+ghost use Rattle.std.specs.Prelude.{◌≡◌, ◌++◌, OnOk, codes, decimal};
 ghost use Rattle.btools.specs.Columns.{right};
-ghost use Rattle.blist.specs.Listings.{Adds, AddsBeside, Extends, number_text, spot_text};
+ghost use Rattle.blist.specs.ListingTexts.{column_byte, columns_text, named_columns, named_text, number_text, row_text, source_column, spot_text, unnamed_columns};
 
 use bcode::Page;
 use btools::{Text, push_characters};
@@ -9,10 +9,10 @@ use bword::Name;
 use itoa::Buffer;
 use std::alloc::AllocError;
 
-/// How wide the columns of code and of the source are, each with at least one blank at its end.
-const CODE_WIDTH: usize = 14;
+/// How wide the columns of code and of the source are. A blank follows each.
+const CODE_WIDTH: usize = 13;
 
-const SOURCE_WIDTH: usize = 40;
+const SOURCE_WIDTH: usize = 39;
 
 /// The place or the address of a line of code.
 #[derive(Clone, Copy)]
@@ -47,14 +47,14 @@ pub struct RowColumns<'a> {
 
 /// Adds the row of the line of code on a page.
 pub fn push_row(text: &mut Text, page: &Page, told: RowColumns<'_>) -> Result<(), AllocError>
-    ensures { OnOk result (Adds text.old (told.entry.spot ∷ []) (page.now ∷ []) text.new) }
+    ensures { OnOk result (text.new ≡ text.old
+        ++ row_text told.entry.spot told.entry.line page.now told.entry.source.now told.entry.named) }
 {
     push_spot(text, told.spot)?;
     push_line_number(text, told.line)?;
     let line = page.as_slice();
     let code = &line[..line.len().saturating_sub(1)];
-    text.push(code)?;
-    push_beside(text, code.len(), told.source, told.named)?;
+    push_columns(text, code, told.source, told.named)?;
     text.push(b"\n")
 }
 
@@ -91,47 +91,67 @@ fn push_line_number(text: &mut Text, line: Option<u64>) -> Result<(), AllocError
     }
 }
 
-// What stands beside code of this length.
-fn push_beside(text: &mut Text, used: usize, source: &[u8], named: Named) -> Result<(), AllocError>
-    ensures { OnOk result (AddsBeside used text.old text.new) }
+// A line of code, and what stands beside it.
+fn push_columns(text: &mut Text, code: &[u8], source: &[u8], named: Named) -> Result<(), AllocError>
+    ensures { OnOk result (text.new ≡ text.old ++ columns_text code.now source.now named) }
 {
-    if let Named::Nothing = named {
-        if source.is_empty() {
-            return Ok(());
-        }
+    match named {
+        Named::Nothing => push_unnamed(text, code, source),
+        named => push_with_name(text, code, source, named),
     }
-    text.push_blanks(CODE_WIDTH.saturating_sub(used).max(1))?;
+}
+
+fn push_unnamed(text: &mut Text, code: &[u8], source: &[u8]) -> Result<(), AllocError>
+    ensures { OnOk result (text.new ≡ text.old ++ unnamed_columns code.now source.now) }
+{
+    if source.is_empty() {
+        return text.push(code);
+    }
+    text.push_left(CODE_WIDTH, code)?;
+    text.push(b" ")?;
+    push_source(text, source)
+}
+
+fn push_with_name(
+    text: &mut Text,
+    code: &[u8],
+    source: &[u8],
+    named: Named,
+) -> Result<(), AllocError>
+    ensures { OnOk result (text.new ≡ text.old ++ named_columns code.now source.now (named_text named)) }
+{
+    text.push_left(CODE_WIDTH, code)?;
+    text.push(b" ")?;
     push_source(text, source)?;
-    if let Named::Nothing = named {
-        return Ok(());
-    }
-    text.push_blanks(SOURCE_WIDTH.saturating_sub(source.len()).max(1))?;
+    text.push_blanks(SOURCE_WIDTH.saturating_sub(source.len()))?;
+    text.push(b" ")?;
     push_named(text, named)
 }
 
-// So much of a line of the source as leaves a blank, each byte that is no ASCII character as `.`.
+// As much of a line of the source as its column has room for.
 fn push_source(text: &mut Text, source: &[u8]) -> Result<(), AllocError>
-    ensures { OnOk result (Extends text.old text.new) }
+    ensures { OnOk result (text.new ≡ text.old ++ source_column source.now) }
 {
-    let len = source.len().min(SOURCE_WIDTH - 1);
+    let len = source.len().min(SOURCE_WIDTH);
     for byte in &source[..len] {
-        push_source_byte(text, *byte)?;
+        text.push(&[column_byte(*byte)])?;
     }
     Ok(())
 }
 
-fn push_source_byte(text: &mut Text, byte: u8) -> Result<(), AllocError>
-    ensures { OnOk result (Extends text.old text.new) }
+// A byte as it is shown.
+fn column_byte(byte: u8) -> u8
+    ensures { result ≡ column_byte byte }
 {
     match byte {
-        b'\t' => text.push(b" "),
-        32..=126 => text.push(&[byte]),
-        _ => text.push(b"."),
+        b'\t' => b' ',
+        32..=126 => byte,
+        _ => b'.',
     }
 }
 
 fn push_named(text: &mut Text, named: Named) -> Result<(), AllocError>
-    ensures { OnOk result (Extends text.old text.new) }
+    ensures { OnOk result (text.new ≡ text.old ++ named_text named) }
 {
     match named {
         Named::Nothing => text.push(b""),

@@ -1,38 +1,23 @@
 //! The lines of a source.
+ghost use Rattle.std.specs.Prelude.{◌≡◌, IfOk, map};
+ghost use Rattle.blist.specs.ListingTexts.{line_text};
+ghost use Rattle.btools.specs.SourceLines.{source_lines};
+
 use std::alloc::{AllocError, Global};
 
-/// The lines of a source.
-#[derive(Drop)]
-pub struct SourceLines<'a> {
-    source: &'a [u8],
-    // Where each line begins, and where one would begin after the source.
-    starts: Vec<usize>,
+/// The lines of a source, without their newlines.
+pub fn split_source(alloc: Global, source: &[u8]) -> Result<Vec<&[u8]>, AllocError>
+    ensures { IfOk result (λ lines. map (λ line. line.now) lines.items ≡ source_lines source.now) }
+{
+    source.split(|byte| *byte == b'\n').collect(alloc)
 }
 
-impl<'a> SourceLines<'a> {
-    /// The lines of this source; a newline ends each.
-    pub fn new(alloc: Global, source: &'a [u8]) -> Result<Self, AllocError> {
-        let mut starts = Vec::new(alloc);
-        starts.push(0)?;
-        for (index, byte) in source.iter().enumerate() {
-            if *byte == b'\n' {
-                starts.push(index + 1)?;
-            }
-        }
-        starts.push(source.len())?;
-        Ok(SourceLines { source, starts })
-    }
-
-    /// The text of a line, from 1, without the blanks around it; empty where there is no such line.
-    pub fn text(&self, line: u64) -> &'a [u8] {
-        let last = line as usize;
-        if last == 0 || last >= self.starts.len() {
-            return b"";
-        }
-        let source = self.source;
-        match source.get(self.starts[last - 1]..self.starts[last]) {
-            Some(text) => text.trim_ascii(),
-            None => b"",
-        }
+/// The line of this number, from 1 on, without the white space around it; empty where there is no such line.
+pub fn line_text<'a>(lines: &[&'a [u8]], number: u64) -> &'a [u8]
+    ensures { result.now ≡ line_text (map (λ line. line.now) lines.now) number }
+{
+    match lines.get(number.saturating_sub(1) as usize) {
+        Some(line) => line.trim_ascii(),
+        None => b"",
     }
 }

@@ -19,13 +19,13 @@ returns-then-is_none_wanted-clause-lists g c =
 
 pub returns-in-Ok-listing-clause-lists : goal.returns-in-Ok-listing-clause-lists
 returns-in-Ok-listing-clause-lists g c =
-    let rows = c.in-Ok-listing.ensures in
+    let p = c.in-Ok.program in
     let name : Option (List ℕ) = option_map (λ (n : Bor (List ℕ)). n.now) c.args.name in
-    let some : wanted name c.in-Ok.program.definitions.items ≡ [] → ⊥ = λ none.
+    let some : wanted name p.definitions.items ≡ [] → ⊥ = λ none.
     both_ways c.is_none_wanted.result c.if-is_none_wanted.false (c.is_none_wanted.ensures.1 (ap (wanted name) c.deref.ensures.value ∙ none)) in
-    listed c.in-Ok.program.definitions.items c.in-Ok.program.image rows.0 c.in-Ok.ensures.program refl some rows.1
+    listed p.definitions.items p.image p.names.lines.items p.names.frames.items c.in-Ok.ensures.program c.in-Ok.ensures.lines refl some
     (subst (λ (t : List ℕ). Reported t 0 (g.O.ByteOut.outgoing c.args.out.now) (g.O.ByteOut.outgoing c.tell-in-Ok-listing.new.out) c.tell-in-Ok-listing.result)
-    (c.as_slice.ensures ∙ rows.2) c.tell-in-Ok-listing.ensures.told)
+    (c.as_slice.ensures ∙ c.in-Ok-listing.ensures) c.tell-in-Ok-listing.ensures.told)
 
 pub returns-clause-lists : goal.returns-clause-lists
 returns-clause-lists g c = stopped (Memory, tt, (refl, refl)) refl

@@ -1,10 +1,9 @@
-use Rattle.std.proofs.Common.{take, option_map}
-use Rattle.std.specs.List.{flat_map}
-use Rattle.blang.specs.Text.{lines_of}
-use Rattle.blist.specs.Listings.{Adds, spots_in, wanted}
-use Rattle.blist.specs.declared.listing.TheConstants.{HEADING}
+use Rattle.std.proofs.Common.{◌≡◌, ◌++◌, drop, option_map}
+use Rattle.blist.specs.Listings.{list_text}
+use Rattle.blist.proofs.AddedRows.{rest_rows}
 use Rattle.blist.proofs.listing.listing.Given as goal
 
 abbrev pub invariant-loop-definition : goal.invariant-loop-definition
-invariant-loop-definition l = Adds HEADING.now (flat_map (spots_in l.program.image) (wanted (option_map (λ n. n.now) l.name) (take l.definition-index l.program.definitions.items)))
-    (flat_map lines_of (wanted (option_map (λ n. n.now) l.name) (take l.definition-index l.program.definitions.items))) l.text
+invariant-loop-definition l =
+    list_text l.program.image l.source (option_map (λ n. n.now) l.name) l.program.definitions.items l.program.names.lines.items l.program.names.frames.items
+    ≡ l.text ++ rest_rows l.program.image l.source (option_map (λ n. n.now) l.name) (drop l.definition-index l.definition-items) l.lines l.frames

@@ -1,7 +1,9 @@
-use Rattle.std.proofs.Common.{map, take}
-use Rattle.blang.specs.Text.{instr_line}
-use Rattle.blist.specs.Listings.{Adds, instr_spots}
+use Rattle.std.proofs.Common.{◌≡◌, ◌++◌, map, option_map, take}
+use Rattle.blist.specs.ListingTexts.{code_rows, number_before}
 use Rattle.blist.proofs.listing.push_code.Given as goal
 
 abbrev pub invariant-loop-place : goal.invariant-loop-place
-invariant-loop-place l = Adds l.fn.text (instr_spots (take l.place l.code)) (map instr_line (take l.place l.code)) l.text
+invariant-loop-place l = record {
+  before : l.before ≡ number_before l.told.lines.now l.place;
+  text : l.text ≡ l.fn.text ++ code_rows (map (λ line. line.now) l.told.texts.now) l.told.lines.now (option_map (λ f. f.now) l.told.frame) (take l.place l.code);
+}

@@ -1,6 +1,5 @@
 use Rattle.blist.proofs.ListExcluded.{no_listings}
-use Rattle.blist.proofs.ShownRows.{wrong_rows}
 use Rattle.blist.proofs.listing.wrong_listings_are_excluded.Goals as goal
 
 pub returns : goal.returns
-returns c = record { rows = wrong_rows; listings = no_listings }
+returns c = no_listings
