@@ -45,14 +45,14 @@ module _ (edition : Edition) (text : List ℕ) (d : Diagnostic) (faulty : HasFau
       the_same e = cc
 
   by_trace : (files : Files) (steps : ℕ) (shown : TraceRows) (name : Option (List ℕ)) (ends : RunEnds) → Traces edition text steps shown files name ends 1 → Writes ends.line (fault_lines files d) ends.line_after
-  by_trace files steps shown name ends (traces.traced ds image which result t output told has named gives rows reported tells) = absurd (no_program ds image has)
+  by_trace files steps shown name ends (traces.traced ds image lines which result made t told has lined named watched reported tells) = absurd (no_program ds image has)
   by_trace files steps shown name ends (traces.not_begun ds image which result has named never finishes quiet) = absurd (no_program ds image has)
   by_trace files steps shown name ends (traces.unnamed ds image has unknown reported quiet) = absurd (no_program ds image has)
   by_trace files steps shown name ends (traces.stopped why quiet) = why_told files ends.line ends.line_after why
   by_trace files steps shown name ends (traces.no_memory ds image has still same read e) = absurd (no_program ds image has)
 
   by_place : (files : Files) (steps : ℕ) (ends : RunEnds) → Locates edition text files steps ends 1 → Writes ends.line (fault_lines files d) ends.line_after
-  by_place files steps ends (locates.located told ds image result answer active made has gives finishes at over tells) = absurd (no_program ds image has)
+  by_place files steps ends (locates.located told ds image lines result answer active made has lined gives finishes at over tells) = absurd (no_program ds image has)
   by_place files steps ends (locates.unlocated ds image result has gives finishes none) = absurd (no_program ds image has)
   by_place files steps ends (locates.not_begun ds image result has never finishes quiet) = absurd (no_program ds image has)
   by_place files steps ends (locates.stopped why quiet) = why_told files ends.line ends.line_after why

@@ -2,9 +2,7 @@ mod PlaceParts
 mod RowParts
 mod Kept
 mod Telling
-mod Shown
-mod Unresolved
+mod Traced
 mod Located
-mod ReadTexts
 mod Unasked
 mod TraceExcluded

@@ -5,9 +5,10 @@ use Rattle.bword.specs.ByteEnds.{Incoming, Outgoing}
 use Rattle.blang.specs.declared.code.Definition.{Definition}
 use Rattle.blang.specs.declared.run.Outcome.{Outcome}
 use Rattle.blang.specs.declared.run.Outcome.TheVariants as outcome
-use Rattle.blang.specs.Machine.{Image, State, image_of, machine, run}
+use Rattle.blang.specs.Layout.{World}
+use Rattle.blang.specs.Machine.{Call, Halted, Image, Running, State, Stuck, image_of, machine, run}
 use Rattle.blang.specs.Reports.{Finishes, RunEnds, RunGives, state_outcome}
-use Rattle.bmach.specs.Resolved.{IsLoadedFrom, state_resolved}
+use Rattle.bmach.specs.Resolved.{IsLoadedFrom, call_resolved, state_resolved}
 use Rattle.bmach.specs.Stepping.{IsUnstarted, Paused}
 use Rattle.bmach.specs.Stops.{EndsAt, IsOverAt, RunsCall, active_of}
 use Rattle.bmach.specs.declared.machine.Active.{Active}
@@ -15,12 +16,12 @@ use Rattle.bmach.proofs.Beginning.{run_from}
 use Rattle.bmach.proofs.Resolving.{run-resolved}
 use Rattle.bmach.proofs.Running.{same_run}
 use Rattle.brun.proofs.RunSteps.{outcome-resolved, run_loaded, run_of_loaded}
+use Rattle.btools.specs.ProgramLines.{HasLines}
 use Rattle.btools.specs.Programs.{HasProgram}
 use Rattle.bsources.specs.Files.{Files}
 use Rattle.btrace.specs.RowTexts.{Legend, legend_in}
 use Rattle.btrace.specs.Locates.{Locates, TellsSite, located, located_status, unlocated}
 use Rattle.btools.specs.Programs.{steps_from}
-use Rattle.btrace.proofs.Unresolved.{running_from}
 
 pub no_other : (r : Option ℕ) (s t : ℕ) → r ≡ Some s → (s ≡ t → ⊥) → r ≡ Some t → ⊥
 no_other None s t is differs same = cc
@@ -28,6 +29,13 @@ no_other (Some r) s t is differs same = differs cc
 
 pub not_none : (r : Option ℕ) (t : ℕ) → r ≡ None → r ≡ Some t → ⊥
 not_none r t is same = cc
+
+running_from : (I : Image) (s : State) (call : Call) (below : List Call) (w : World) → state_resolved I s ≡ Running call below w → (c : Call) × (b : List Call) × (s ≡ Running c b w) × (call_resolved I c ≡ call)
+running_from I (Running c b v) call below w h =
+    let same : v ≡ w = cc in
+    (c, b, ap (Running c b) same, (cc))
+running_from I (Halted e v) call below w h = cc
+running_from I (Stuck v) call below w h = cc
 
 -- The states of one machine are those of the other, resolved.
 module _ (I : Image) (f g : ℕ → State) (e : (n : ℕ) → g n ≡ state_resolved I (f n)) (active : Active) where
@@ -73,13 +81,13 @@ module _ (edition : Edition) (source : List ℕ) (files : Files) (n : ℕ) (ends
       (same_run (run image) (steps_from p) n ends.input ends.input_after ends.out ends.out_after result (run_from image p begins) gives)
 
   -- a run whose place was told
-  pub located_whole : (told : Outgoing) (legend : Legend) (answer : ℕ) (active : Active) (made : ℕ) → HasProgram edition source ds image → legend ≡ legend_in ds files → IsUnstarted image p
+  pub located_whole : (told : Outgoing) (legend : Legend) (lines : List ℕ) (answer : ℕ) (active : Active) (made : ℕ) → HasProgram edition source ds image → HasLines edition source lines → legend ≡ legend_in ds lines files → IsUnstarted image p
       → RunGives (steps_from p) n ends.input ends.input_after ends.out ends.out_after result → Finishes result ends.line told answer → located_status result ≡ Some answer
-      → IsOverAt (steps_from p) n ends.input ends.input_after result active made → TellsSite legend source result active.strings active.place made answer told ends.line_after status → Locates edition source files n ends status
-  located_whole told legend answer active made is functions begins gives finishes at stops tells =
-      located told ds image result answer active made is (runs_whole is begins gives) finishes at
+      → IsOverAt (steps_from p) n ends.input ends.input_after result active made → TellsSite legend source result active made answer told ends.line_after status → Locates edition source files n ends status
+  located_whole told legend lines answer active made is lined same begins gives finishes at stops tells =
+      located told ds image lines result answer active made is lined (runs_whole is begins gives) finishes at
       (stops_run ds image p is.loaded begins n ends.input ends.input_after result active made stops)
-      (subst (λ (x : Legend). TellsSite x source result active.strings active.place made answer told ends.line_after status) functions tells)
+      (subst (λ (x : Legend). TellsSite x source result active made answer told ends.line_after status) same tells)
 
   -- a run that has no place
   pub unlocated_whole : HasProgram edition source ds image → IsUnstarted image p → RunGives (steps_from p) n ends.input ends.input_after ends.out ends.out_after result

@@ -1,7 +1,6 @@
 -- The places of a run, one after another.
-use Rattle.std.proofs.Common.{◌≡◌, ◌∙◌, ℕ, zero, suc, ◌+◌, ◌-◌, ◌<◌, None, Some, add-one, arith, List, [], ◌∷◌, ◌++◌, ap, append-nil, append_assoc, codes, length, map, min, nat_lt, refl, subst, sym, take, if◌then◌else◌}
+use Rattle.std.proofs.Common.{◌≡◌, ◌∙◌, ℕ, zero, suc, ◌+◌, ◌<◌, None, Some, add-one, arith, List, [], ◌∷◌, ◌++◌, ap, append-nil, append_assoc, codes, length, map, min, nat_lt, refl, sym, take, if◌then◌else◌}
 use Rattle.std.specs.List.{flat_map, range_with_len}
-use Rattle.std.proofs.lemmas.List.Concat.{flat_map-append}
 use Rattle.btools.specs.Columns.{left}
 use Rattle.btools.proofs.AddedTexts.{piece}
 use Rattle.std.specs.Prelude.{option_map, slice_get}
@@ -10,8 +9,7 @@ use Rattle.std.proofs.lemmas.List.FromFn.{length-map-range_with_len, map-range_w
 use Rattle.blang.specs.Machine.{Call}
 use Rattle.bmach.specs.Stops.{active_of}
 use Rattle.bmach.specs.declared.machine.Active.{Active}
-use Rattle.btrace.specs.RowTexts.{Legend, Place, first_words, has_more, parameter_at, place_text, places_text, signed_text, words_text}
-use Rattle.btrace.specs.Traces.{AddsPlaces, waits_at}
+use Rattle.btrace.specs.RowTexts.{Legend, first_words, has_more, parameter_at, place_text, places_text, signed_text, waiting, words_text}
 
 -- the words of the first parameters, where so many are shown
 pub words_shown : (old text new store : List ℕ) (call : Active) (count : ℕ) → count ≡ min call.parameters 6 → text ≡ (old ++ (if nat_lt 0 count then codes "  with" else [])) ++ flat_map (λ w. codes " " ++ signed_text w) (map (parameter_at store call) (range_with_len 0 count))
@@ -37,33 +35,19 @@ one_word start text t1 t2 store call index word is before e1 e2 =
     ∙ flat_map_more f start words word ∙ ap (λ w. start ++ flat_map f (words ++ w ∷ [])) is
     ∙ ap (λ ws. start ++ flat_map f ws) (sym (map-range_with_len_more (parameter_at store call) 0 index index (omega arith)))
 
-pub first_place : (legend : Legend) (store : List ℕ) (call : Active) (line : ℕ) (old t1 t2 : List ℕ) → t1 ≡ old ++ codes "at     " → t2 ≡ t1 ++ place_text legend store (record { call = call; line = line }) → AddsPlaces legend store call [] old t2
-first_place legend store call line old t1 t2 e1 e2 =
-    let shown = place_text legend store (record { call = call; line = line }) in (
-      places_text legend store (record { call = call; line = line }) [],
-      record { line = line; callers = []; text_is = refl; callers_are = refl },
-      e2 ∙ ap (λ x. x ++ shown) e1 ∙ append_assoc old (codes "at     ") shown ∙ ap (λ x. old ++ x) (sym (append-nil (codes "at     " ++ shown))),
-    )
+-- the place alone
+pub first_place : (old t1 t2 shown : List ℕ) → t1 ≡ old ++ codes "at     " → t2 ≡ t1 ++ shown → t2 ≡ old ++ (codes "at     " ++ shown ++ [])
+first_place old t1 t2 shown e1 e2 =
+    e2 ∙ ap (λ x. x ++ shown) e1 ∙ append_assoc old (codes "at     ") shown ∙ ap (λ x. old ++ x) (sym (append-nil (codes "at     " ++ shown)))
 
-one_caller : (legend : Legend) (store : List ℕ) (call : Active) (below : List Call) (c : Call) (p : Place) (old text t1 t2 : List ℕ) → p.call ≡ waits_at c
-    → AddsPlaces legend store call below old text → t1 ≡ text ++ codes "called " → t2 ≡ t1 ++ place_text legend store p → AddsPlaces legend store call (below ++ c ∷ []) old t2
-one_caller legend store call below c p old text t1 t2 is before e1 e2 =
-    let f : Place → List ℕ = λ q. codes "called " ++ place_text legend store q in
-    let site : Place → Active = λ q. q.call in
-    let at : Place = record { call = call; line = before.1.line } in
-    let first = codes "at     " ++ place_text legend store at in
-    let callers = before.1.callers in (
-      places_text legend store at (callers ++ p ∷ []),
-      record {
-        line = before.1.line;
-        callers = callers ++ p ∷ [];
-        text_is = refl;
-        callers_are = map-append site callers (p ∷ []) ∙ (λ i. before.1.callers_are i ++ is i ∷ []) ∙ sym (map-append waits_at below (c ∷ []));
-      },
-      e2 ∙ ap (λ x. x ++ place_text legend store p) e1 ∙ append_assoc text (codes "called ") (place_text legend store p) ∙ ap (λ x. x ++ f p) (before.2 ∙ ap (λ x. old ++ x) before.1.text_is)
-          ∙ append_assoc old (first ++ flat_map f callers) (f p)
-          ∙ ap (λ x. old ++ x) (append_assoc first (flat_map f callers) (f p) ∙ ap (λ x. first ++ x) (ap (λ x. flat_map f callers ++ x) (sym (append-nil (f p))) ∙ sym (flat_map-append f callers (p ∷ [])))),
-    )
+one_caller : (legend : Legend) (store : List ℕ) (call caller : Active) (below : List Active) (old text t1 t2 : List ℕ)
+    → text ≡ old ++ places_text legend store call below → t1 ≡ text ++ codes "called " → t2 ≡ t1 ++ place_text legend store (waiting caller) → t2 ≡ old ++ places_text legend store call (below ++ caller ∷ [])
+one_caller legend store call caller below old text t1 t2 before e1 e2 =
+    let f : Active → List ℕ = λ c. codes "called " ++ place_text legend store (waiting c) in
+    let first = codes "at     " ++ place_text legend store call in
+    e2 ∙ ap (λ x. x ++ place_text legend store (waiting caller)) e1 ∙ append_assoc text (codes "called ") (place_text legend store (waiting caller))
+    ∙ ap (λ x. x ++ f caller) (before ∙ sym (append_assoc old first (flat_map f below))) ∙ flat_map_more f (old ++ first) below caller
+    ∙ append_assoc old first (flat_map f (below ++ caller ∷ []))
 
 -- the call with a number
 next_caller : (below : List Call) (number : ℕ) (active : Active) → Some active ≡ option_map active_of (slice_get below number)
@@ -74,13 +58,16 @@ next_caller (c ∷ below) (suc number) active is =
     let next = next_caller below number active is in
     (next.0, ap (λ rest. c ∷ rest) next.1, next.2)
 
-pub one_more : (legend : Legend) (store : List ℕ) (call : Active) (below : List Call) (number : ℕ) (active : Active) (p : Place) (old text t1 t2 : List ℕ) → Some active ≡ option_map active_of (slice_get below number) → p.call ≡ record active { place = active.place - 1 }
-    → AddsPlaces legend store call (take number below) old text → t1 ≡ text ++ codes "called " → t2 ≡ t1 ++ place_text legend store p → AddsPlaces legend store call (take (number + 1) below) old t2
-one_more legend store call below number active p old text t1 t2 is waits before e1 e2 =
-    let next = next_caller below number active is in
-    let told : take (number + 1) below ≡ take number below ++ next.0 ∷ [] = ap (λ n. take n below) (add-one number) ∙ next.1 in
-    subst (λ (calls : List Call). AddsPlaces legend store call calls old t2) (sym told)
-    (one_caller legend store call (take number below) next.0 p old text t1 t2 (waits ∙ ap (λ (a : Active). record a { place = a.place - 1 }) next.2) before e1 e2)
+pub one_more : (legend : Legend) (store : List ℕ) (call caller waits : Active) (below : List Call) (number : ℕ) (old text t1 t2 : List ℕ) → Some caller ≡ option_map active_of (slice_get below number) → waits ≡ waiting caller
+    → text ≡ old ++ places_text legend store call (map active_of (take number below)) → t1 ≡ text ++ codes "called " → t2 ≡ t1 ++ place_text legend store waits
+    → t2 ≡ old ++ places_text legend store call (map active_of (take (number + 1) below))
+one_more legend store call caller waits below number old text t1 t2 is at before e1 e2 =
+    let next = next_caller below number caller is in
+    let told : map active_of (take (number + 1) below) ≡ map active_of (take number below) ++ caller ∷ [] =
+    ap (λ n. map active_of (take n below)) (add-one number) ∙ ap (map active_of) next.1 ∙ map-append active_of (take number below) (next.0 ∷ [])
+    ∙ ap (λ c. map active_of (take number below) ++ c ∷ []) (sym next.2) in
+    one_caller legend store call caller (map active_of (take number below)) old text t1 t2 before e1 (e2 ∙ ap (λ c. t1 ++ place_text legend store c) at)
+    ∙ ap (λ calls. old ++ places_text legend store call calls) (sym told)
 
 pub some_caller : (below : List Call) (number : ℕ) → number < length below → None ≡ option_map active_of (slice_get below number) → ⊥
 some_caller [] number within is = omega arith

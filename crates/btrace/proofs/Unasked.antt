@@ -20,9 +20,9 @@ use Rattle.btrace.specs.declared.trail.TraceRows.{TraceRows}
 
 module _ (edition : Edition) (source : List ℕ) (r : Compilation) (g : CompilesTo [] (tokens_from edition 1 source) r) (steps : ℕ) (files : Files) (ends : RunEnds) (status : ℕ) where
   pub by_trace : (shown : TraceRows) (name : Option (List ℕ)) → Traces edition source steps shown files name ends status → LeftBySteps (machine (code_in edition source r g)) steps ends.input ends.input_after
-  by_trace shown name (traces.traced ds image which result text output told has named gives rows reported tells) =
+  by_trace shown name (traces.traced ds image lines which result made text told has lined named w reported tells) =
       program_left edition source r g steps ends.input ends.input_after ds image has
-      (run_left (machine ds) steps ends.input ends.input_after nothing_written (outgoing_of output) result gives)
+      (run_left (machine ds) steps ends.input ends.input_after nothing_written (outgoing_of w.output) result w.gives)
   by_trace shown name (traces.not_begun ds image which result has named never finishes quiet) = untaken edition source r g steps ends.input ends.input_after quiet.unread
   by_trace shown name (traces.unnamed ds image has unknown reported quiet) = untaken edition source r g steps ends.input ends.input_after quiet.unread
   by_trace shown name (traces.stopped none quiet) = untaken edition source r g steps ends.input ends.input_after quiet.unread
@@ -30,7 +30,7 @@ module _ (edition : Edition) (source : List ℕ) (r : Compilation) (g : Compiles
       program_left edition source r g steps ends.input ends.input_after ds image has (left_by (machine ds) steps ends.input ends.input_after read)
 
   pub by_place : Locates edition source files steps ends status → LeftBySteps (machine (code_in edition source r g)) steps ends.input ends.input_after
-  by_place (locates.located told ds image result answer active made has gives finishes at over tells) =
+  by_place (locates.located told ds image lines result answer active made has lined gives finishes at over tells) =
       program_left edition source r g steps ends.input ends.input_after ds image has
       (run_left (machine ds) steps ends.input ends.input_after ends.out ends.out_after result gives)
   by_place (locates.unlocated ds image result has gives finishes unplaced) =

@@ -13,10 +13,11 @@ use Rattle.bmach.specs.Stepping.{BeginsNot}
 use Rattle.bmach.specs.Stops.{IsOverAt}
 use Rattle.bmach.specs.declared.machine.Active.{Active}
 use Rattle.btools.specs.FaultPlaces.{fault_lines}
+use Rattle.btools.specs.ProgramLines.{HasLines}
 use Rattle.btools.specs.Programs.{HasProgram, NoProgram}
 use Rattle.btools.specs.SourceLines.{line_at, shown_line}
 use Rattle.bsources.specs.Files.{Files}
-use Rattle.btrace.specs.RowTexts.{Legend, legend_in, site_text}
+use Rattle.btrace.specs.RowTexts.{Legend, legend_in, place_line, site_text}
 
 -- the status of an outcome that is at a place of the program
 abbrev pub located_status : Outcome → Option ℕ
@@ -24,10 +25,10 @@ located_status (outcome.Trap kind) = Some TRAP
 located_status outcome.Limit = Some LIMIT
 located_status result = None
 
--- a place, and the number of the step with which the run came there
-abbrev pub site_line : Legend → (strings place line number : ℕ) → List ℕ
-site_line legend strings place line number =
-    codes "at     " ++ site_text legend strings place line ++ codes "  step " ++ decimal number ++ codes "\n"
+-- the place of a call, and the number of the step with which the run came there
+abbrev pub site_line : Legend → Active → (number : ℕ) → List ℕ
+site_line legend call number =
+    codes "at     " ++ site_text legend call ++ codes "  step " ++ decimal number ++ codes "\n"
 
 -- what a trap or the limit means
 abbrev pub meaning : Outcome → List ℕ
@@ -46,29 +47,28 @@ abbrev pub explanation : (source : List ℕ) → Outcome → (line : ℕ) → Li
 explanation source result line =
     codes "    " ++ shown_line (line_at source line) ++ codes "\n  means: " ++ meaning result ++ codes "\n"
 
-abbrev pub told_site : Legend → (source : List ℕ) → Outcome → (strings place line number : ℕ) → List ℕ
-told_site legend source result strings place line number =
-    site_line legend strings place line number ++ explanation source result line
+abbrev pub told_site : Legend → (source : List ℕ) → Outcome → Active → (number : ℕ) → List ℕ
+told_site legend source result call number =
+    site_line legend call number ++ explanation source result (place_line legend call)
 
 -- A line with this place and this step, the line there and the meaning were written, or memory was refused for it.
-abbrev pub TellsSite : Legend → (source : List ℕ) → Outcome → (strings place number answer : ℕ) → (old new : Outgoing)
+abbrev pub TellsSite : Legend → (source : List ℕ) → Outcome → Active → (number answer : ℕ) → (old new : Outgoing)
     → (status : ℕ) → Type 0
-TellsSite legend source result strings place number answer old new status =
-    ((line : ℕ) × Reported (told_site legend source result strings place line number) answer old new status)
-    ⊎ ((new ≡ old) × (status ≡ MEMORY))
+TellsSite legend source result call number answer old new status =
+    Reported (told_site legend source result call number) answer old new status ⊎ ((new ≡ old) × (status ≡ MEMORY))
 
 -- The program of the source was run for so many steps at most, as the machine runs it, and has its line and status; and
 -- if that is the line of a trap or of the limit, where it was over was told after it, and with which step. Or the
 -- program did not begin, or there is none, and why was told; or memory was refused.
 pub data Locates (edition : Edition) (source : List ℕ) (files : Files) (steps : ℕ) (ends : RunEnds) (status : ℕ)
     : Type 0 where
-  located : (told : Outgoing) (ds : List Definition) (image : Image) (result : Outcome) (answer : ℕ)
+  located : (told : Outgoing) (ds : List Definition) (image : Image) (lines : List ℕ) (result : Outcome) (answer : ℕ)
       (active : Active) (made : ℕ)
-      → HasProgram edition source ds image
+      → HasProgram edition source ds image → HasLines edition source lines
       → RunGives (machine ds) steps ends.input ends.input_after ends.out ends.out_after result
       → Finishes result ends.line told answer → located_status result ≡ Some answer
       → IsOverAt (machine ds) steps ends.input ends.input_after result active made
-      → TellsSite (legend_in ds files) source result active.strings active.place made answer told ends.line_after status
+      → TellsSite (legend_in ds lines files) source result active made answer told ends.line_after status
       → Locates edition source files steps ends status
   unlocated : (ds : List Definition) (image : Image) (result : Outcome)
       → HasProgram edition source ds image

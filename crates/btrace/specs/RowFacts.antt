@@ -8,7 +8,7 @@ use Rattle.bmach.specs.declared.machine.Active.{Active}
 use Rattle.btrace.specs.RowTexts.{first_words, has_more, instr_text, margin, operands_text, signed_text, stored_text}
 use Rattle.btrace.specs.RowTexts.{word_row, words_text, written_byte, written_row}
 use Rattle.bsources.specs.Files.{Files}
-use Rattle.btrace.specs.RowTexts.{line_text}
+use Rattle.btrace.specs.RowTexts.{Legend, line_text}
 use Rattle.btrace.specs.Traces.{is_wanted, which_of}
 use Rattle.btrace.specs.Trails.{chosen}
 use Rattle.btrace.specs.declared.trail.TraceRows.TheVariants as rows
@@ -173,26 +173,37 @@ line_of_next : line_text 4 two_files 3 ≡ codes "   1 of l.b"
 unfolding digits
 line_of_next = refl
 
+-- a function whose instructions are all on one line
+abbrev lined : ℕ → Legend
+lined line = record {
+  functions = [];
+  lines = record { strings = 9; lines = replicate 16 line } ∷ [];
+  files = two_files;
+}
+
+abbrev a_place : ℕ → Active
+a_place place = record (a_call 0 0) { place = place }
+
 -- a place in the second file, and the step after it
-site_with_step : site_line (record { functions = []; files = two_files }) 9 15 7 450016
+site_with_step : site_line (lined 7) (a_place 15) 450016
     ≡ codes "at     in          place   15  line    5 of l.b  step 450016\n"
 unfolding digits
 site_with_step = refl
 
 -- no step, and the greatest number of steps
-site_without_step : site_line (record { functions = []; files = two_files }) 9 0 1 0
+site_without_step : site_line (lined 1) (a_place 0) 0
     ≡ codes "at     in          place    0  line    1  step 0\n"
 unfolding digits
 site_without_step = refl
 
-site_with_most_steps : site_line (record { functions = []; files = two_files }) 9 0 1 18446744073709551615
+site_with_most_steps : site_line (lined 1) (a_place 0) 18446744073709551615
     ≡ codes "at     in          place    0  line    1  step 18446744073709551615\n"
 unfolding digits
 site_with_most_steps = refl
 
 -- after the place the line of the source, and what the outcome means
-told_trap : told_site (record { functions = []; files = two_files }) (codes "main()\n  f(1 / 0); \n") (outcome.Trap trap.ZeroDivisor)
-    9 3 2 7 ≡ codes "at     in          place    3  line    2  step 7\n      f(1 / 0);\n  means: a division by 0\n"
+told_trap : told_site (lined 2) (codes "main()\n  f(1 / 0); \n") (outcome.Trap trap.ZeroDivisor) (a_place 3) 7
+    ≡ codes "at     in          place    3  line    2  step 7\n      f(1 / 0);\n  means: a division by 0\n"
 unfolding digits
 told_trap = refl
 

@@ -5,7 +5,6 @@ use Rattle.std.specs.Prelude.{slice_index, if◌then◌else◌}
 use Rattle.std.specs.Char.{digit_char}
 use Rattle.std.specs.List.{flat_map, range_with_len}
 use Rattle.blang.specs.Layout.{printed, store_words}
-use Rattle.blang.specs.Machine.{Call}
 use Rattle.blang.specs.Text.{instr_line}
 use Rattle.blang.specs.declared.code.Definition.{Definition}
 use Rattle.blang.specs.declared.code.Instr.{Instr}
@@ -14,21 +13,25 @@ use Rattle.btools.specs.Characters.{is_printable, shown_byte}
 use Rattle.btools.specs.Columns.{left, right, without_newline}
 use Rattle.bsources.specs.Files.{Files, Line, beyond_first, files_shown}
 use Rattle.btools.specs.Functions.{Placed, entries_of, function_with, functions_of}
+use Rattle.btools.specs.ProgramLines.{FunctionLines, line_at, lined_functions, lines_shown}
 use Rattle.btools.specs.Quoting.{file_text}
 use Rattle.btrace.specs.declared.legend as told
 use Rattle.btrace.specs.declared.places.TheConstants.{SHOWN_PARAMETERS}
 use Rattle.btrace.specs.declared.rows.TheConstants.{MARGIN, SHOWN_OPERANDS}
 
--- what is told of a program: its functions, and the files of its source
+-- what is told of a program: its functions, the lines of their instructions, and the files of its source
 pub record Legend : Type 0 where
   pub functions : List Placed
+  pub lines : List FunctionLines
   pub files : Files
 
 abbrev pub legend_of : told.Legend.Legend → Legend
-legend_of l = record { functions = entries_of l.tables.now; files = files_shown l.files }
+legend_of l =
+    record { functions = entries_of l.tables.now; lines = lines_shown l.tables.now; files = files_shown l.files }
 
-abbrev pub legend_in : List Definition → Files → Legend
-legend_in ds files = record { functions = functions_of ds; files = files }
+-- that of definitions, whose code has these lines
+abbrev pub legend_in : List Definition → (lines : List ℕ) → Files → Legend
+legend_in ds lines files = record { functions = functions_of ds; lines = lined_functions ds lines; files = files }
 
 -- the number of a line, at the right of a column; after the first file it is its number in its own one
 abbrev pub line_of : (width line : ℕ) → Option Line → List ℕ
@@ -53,12 +56,15 @@ abbrev pub instr_text : Option Instr → List ℕ
 instr_text (Some i) = without_newline (instr_line i)
 instr_text None = []
 
--- the name of the function of a call, and its next instruction
-abbrev pub name_of : Legend → Call → List ℕ
-name_of l call = name_in (function_with l.functions call.function.strings)
+-- the name of the function of a call, its next instruction, and the line of that
+abbrev pub name_of : Legend → Active → List ℕ
+name_of l call = name_in (function_with l.functions call.strings)
 
-abbrev pub code_of : Legend → Call → List ℕ
-code_of l call = instr_text (instr_in (function_with l.functions call.function.strings) call.place)
+abbrev pub code_of : Legend → Active → List ℕ
+code_of l call = instr_text (instr_in (function_with l.functions call.strings) call.place)
+
+abbrev pub place_line : Legend → Active → ℕ
+place_line l call = line_at l.lines call.strings call.place
 
 operands_shown : SHOWN_OPERANDS ≡ 5
 operands_shown = refl
@@ -76,12 +82,12 @@ operands_text words =
     (if nat_lt 0 (length words - SHOWN_OPERANDS) then codes " .." else [])
     ++ flat_map (λ w. codes " " ++ signed_text w) (drop (length words - SHOWN_OPERANDS) words)
 
--- the number of a step, the call before it, and a line of the source
-abbrev pub step_row : Legend → (number : ℕ) → Call → (line : ℕ) → List ℕ
-step_row l number call line =
+-- the number of a step, and the call before it with its operands, the topmost first
+abbrev pub step_row : Legend → (number : ℕ) → Active → (operands : List ℕ) → List ℕ
+step_row l number call operands =
     right 8 (decimal number) ++ codes "  " ++ left 8 (name_of l call) ++ right 6 (decimal call.place)
-    ++ line_text 6 l.files line ++ codes "  " ++ left 12 (code_of l call) ++ operands_text (reverse call.operands)
-    ++ codes "\n"
+    ++ line_text 6 l.files (place_line l call) ++ codes "  " ++ left 12 (code_of l call)
+    ++ operands_text (reverse operands) ++ codes "\n"
 
 -- the columns before what a step has stored or written
 unfoldable pub margin : List ℕ
@@ -113,11 +119,6 @@ written_row [] = []
 written_row (byte ∷ bytes) =
     margin ++ codes "writes '" ++ flat_map written_byte (byte ∷ bytes) ++ codes "'\n"
 
--- a place of a run: a call, and a line of the source
-pub record Place : Type 0 where
-  pub call : Active
-  pub line : ℕ
-
 parameters_shown : SHOWN_PARAMETERS ≡ 6
 parameters_shown = refl
 
@@ -137,18 +138,21 @@ words_text words are_more =
     (if nat_lt 0 (length words) then codes "  with" else []) ++ flat_map (λ w. codes " " ++ signed_text w) words
     ++ (if are_more then codes " .." else [])
 
--- a function, a place in it, and a line of the source
-abbrev pub site_text : Legend → (strings place line : ℕ) → List ℕ
-site_text l strings place line =
-    codes "in " ++ left 8 (name_in (function_with l.functions strings)) ++ codes " place " ++ right 4 (decimal place)
-    ++ codes "  line " ++ line_text 4 l.files line
+-- the function of a call, the place in it, and the line of the source
+abbrev pub site_text : Legend → Active → List ℕ
+site_text l call =
+    codes "in " ++ left 8 (name_of l call) ++ codes " place " ++ right 4 (decimal call.place) ++ codes "  line "
+    ++ line_text 4 l.files (place_line l call)
 
-abbrev pub place_text : Legend → (store : List ℕ) → Place → List ℕ
-place_text l store p =
-    site_text l p.call.strings p.call.place p.line ++ words_text (first_words store p.call) (has_more p.call)
-    ++ codes "\n"
+abbrev pub place_text : Legend → (store : List ℕ) → Active → List ℕ
+place_text l store call = site_text l call ++ words_text (first_words store call) (has_more call) ++ codes "\n"
 
--- where a run was over, and the calls that led there
-abbrev pub places_text : Legend → (store : List ℕ) → Place → List Place → List ℕ
-places_text l store first callers =
-    codes "at     " ++ place_text l store first ++ flat_map (λ p. codes "called " ++ place_text l store p) callers
+-- a call that waits, at its instruction that called: its next one comes after that
+abbrev pub waiting : Active → Active
+waiting call = record call { place = call.place - 1 }
+
+-- where a run was over, and the calls that led there, the nearest first
+abbrev pub places_text : Legend → (store : List ℕ) → Active → (below : List Active) → List ℕ
+places_text l store call below =
+    codes "at     " ++ place_text l store call
+    ++ flat_map (λ caller. codes "called " ++ place_text l store (waiting caller)) below

@@ -23,6 +23,11 @@ chosen (rows.Last count) xs = last_of count xs
 abbrev pub trail_text : Trail → List ℕ
 trail_text t = t.text ++ flat_map (λ row. row) t.last.items ++ t.row
 
+-- what is kept of these rows under a heading
+abbrev pub IsKept : TraceRows → (heading : List ℕ) → List (List ℕ) → Trail → Type 0
+IsKept (rows.From number) heading texts t = (t.text ≡ heading ++ flat_map (λ row. row) texts) × (t.last.items ≡ [])
+IsKept (rows.Last count) heading texts t = (t.text ≡ heading) × (t.last.items ≡ last_of count texts)
+
 -- rows without the first one, if they are more than so many
 abbrev pub without_first : ℕ → List (List ℕ) → List (List ℕ)
 without_first most xs = if nat_lt most (length xs) then drop 1 xs else xs

@@ -5,10 +5,11 @@ mod legend;
 mod locating;
 mod places;
 mod rows;
+mod tracer;
 mod tracing;
 mod trail;
 
 pub use locating::{locate, wrong_places_are_excluded};
 pub use rows::{instr_at, name_of, push_signed};
 pub use tracing::{TraceRequest, trace, wrong_traces_are_excluded};
-pub use trail::TraceRows;
+pub use trail::{TraceRows, Trail};

@@ -1,8 +1,8 @@
 //! Telling where a run was over.
-ghost use Rattle.std.specs.Prelude.{◌≡◌, ℕ, IfOk};
+ghost use Rattle.std.specs.Prelude.{◌≡◌, IfOk};
 ghost use Rattle.blang.specs.Reports.{run_ends};
 ghost use Rattle.btrace.specs.TraceExcluded.{LocatesExcluded};
-ghost use Rattle.bsources.specs.Files.{File, files_shown};
+ghost use Rattle.bsources.specs.Files.{Files, files_shown};
 ghost use Rattle.btrace.specs.RowTexts.{legend_of};
 ghost use Rattle.btrace.specs.Locates.{Locates, TellsSite, located_status, meaning, told_site};
 
@@ -105,7 +105,7 @@ fn tell_site<D: ByteOut>(
     status: Status,
     diag: &mut D,
 ) -> Status
-    ensures tells { TellsSite (legend_of legend.now) source.now stop.outcome stop.call.strings stop.call.place stop.steps
+    ensures tells { TellsSite (legend_of legend.now) source.now stop.outcome stop.call stop.steps
         status (D.outgoing diag.old) (D.outgoing diag.new) result }
     ensures same { D.lender diag.new ≡ D.lender diag.old }
 {
@@ -121,24 +121,22 @@ fn told_site(
     source: &[u8],
     stop: Stop,
 ) -> Result<Text, AllocError>
-    ensures { IfOk result (λ text. (line : ℕ) × (text ≡ told_site (legend_of legend.now) source.now stop.outcome
-        stop.call.strings stop.call.place line stop.steps)) }
+    ensures { IfOk result (λ text. text ≡ told_site (legend_of legend.now) source.now stop.outcome stop.call stop.steps) }
 {
-    let line = line_of(legend, stop.call);
     let mut text = Text::new(alloc);
     text.push(b"at     ")?;
-    push_site(&mut text, legend, stop.call, line)?;
+    push_site(&mut text, legend, stop.call)?;
     text.push(b"  step ")?;
     text.push_number(stop.steps)?;
     text.push(b"\n    ")?;
-    push_source_line(&mut text, line_at(source, line))?;
+    push_source_line(&mut text, line_at(source, line_of(legend, stop.call)))?;
     text.push(b"\n  means: ")?;
     text.push(meaning(stop.outcome).as_bytes())?;
     text.push(b"\n")?;
     Ok(text)
 }
 
-/// No run is answered by its trap or its limit without the place, by another place, or by the status of other steps.
+/// No run is answered by its trap or its limit without the place, or by the status of other steps.
 pub fn wrong_places_are_excluded()
-    ensures { (file : File) → LocatesExcluded file }
+    ensures { (files : Files) → LocatesExcluded files }
 {}

@@ -1,7 +1,8 @@
 //! The places where a run was.
-ghost use Rattle.std.specs.Prelude.{◌≡◌, ◌-◌, ℕ, [], ◌++◌, OnOk, if◌then◌else◌};
-ghost use Rattle.btrace.specs.RowTexts.{first_words, has_more, legend_of, place_text, site_text, words_text};
-ghost use Rattle.btrace.specs.Traces.{AddsPlaces};
+ghost use Rattle.std.specs.Prelude.{◌≡◌, [], ◌++◌, OnOk, map, if◌then◌else◌};
+ghost use Rattle.bmach.specs.Stops.{active_of};
+ghost use Rattle.btrace.specs.RowTexts.{first_words, has_more, legend_of, place_line, place_text, places_text, site_text};
+ghost use Rattle.btrace.specs.RowTexts.{waiting, words_text};
 
 use crate::legend::{Legend, push_line};
 use crate::rows::{frame_address, name_of, push_signed};
@@ -20,22 +21,23 @@ pub fn push_places<S: Store + Drop>(
     stepper: &Stepper<'_, S>,
     call: Active,
 ) -> Result<(), AllocError>
-    ensures { OnOk result (AddsPlaces (legend_of legend.now) stepper.now.store call stepper.now.below text.old text.new) }
+    ensures { OnOk result (text.new ≡ text.old
+        ++ places_text (legend_of legend.now) stepper.now.store call (map active_of stepper.now.below)) }
 {
     text.push(b"at     ")?;
     push_place(text, legend, stepper, call)?;
     for number in 0..stepper.callers() {
         if let Some(caller) = stepper.caller(number) {
             text.push(b"called ")?;
-            push_place(text, legend, stepper, at_its_call(caller))?;
+            push_place(text, legend, stepper, waiting(caller))?;
         }
     }
     Ok(())
 }
 
 // The place of a call that waits is after the instruction that called; this is that instruction.
-fn at_its_call(call: Active) -> Active
-    ensures { result ≡ record call { place = call.place - 1 } }
+fn waiting(call: Active) -> Active
+    ensures { result ≡ waiting call }
 {
     Active {
         strings: call.strings,
@@ -52,16 +54,17 @@ fn push_place<S: Store + Drop>(
     stepper: &Stepper<'_, S>,
     call: Active,
 ) -> Result<(), AllocError>
-    ensures { OnOk result ((line : ℕ) ×
-        (text.new ≡ text.old ++ place_text (legend_of legend.now) stepper.now.store (record { call = call; line = line }))) }
+    ensures { OnOk result (text.new ≡ text.old ++ place_text (legend_of legend.now) stepper.now.store call) }
 {
-    push_site(text, legend, call, line_of(legend, call))?;
+    push_site(text, legend, call)?;
     push_words(text, stepper, call)?;
     text.push(b"\n")
 }
 
 /// The line of the source of the instruction at which a call is.
-pub fn line_of(legend: &Legend<'_, '_, '_>, call: Active) -> u64 {
+pub fn line_of(legend: &Legend<'_, '_, '_>, call: Active) -> u64
+    ensures { result ≡ place_line (legend_of legend.now) call }
+{
     legend
         .tables
         .line(legend.tables.entry(call.strings), call.place)
@@ -72,9 +75,8 @@ pub fn push_site(
     text: &mut Text,
     legend: &Legend<'_, '_, '_>,
     call: Active,
-    line: u64,
 ) -> Result<(), AllocError>
-    ensures { OnOk result (text.new ≡ text.old ++ site_text (legend_of legend.now) call.strings call.place line) }
+    ensures { OnOk result (text.new ≡ text.old ++ site_text (legend_of legend.now) call) }
 {
     let entry = legend.tables.entry(call.strings);
     text.push(b"in ")?;
@@ -82,7 +84,7 @@ pub fn push_site(
     text.push(b" place ")?;
     text.push_right_number(4, call.place as u64)?;
     text.push(b"  line ")?;
-    push_line(text, 4, legend, line)
+    push_line(text, 4, legend, line_of(legend, call))
 }
 
 // The words of the first parameters of a call.

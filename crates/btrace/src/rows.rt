@@ -1,6 +1,7 @@
 //! The rows of a trace.
-ghost use Rattle.std.specs.Prelude.{◌≡◌, ◌≤◌, ℕ, List, [], ◌+◌, ◌-◌, ◌%◌, ◌^◌, ◌<◌, ◌++◌, OnOk, option_map};
+ghost use Rattle.std.specs.Prelude.{◌≡◌, ◌≤◌, List, [], ◌+◌, ◌-◌, ◌%◌, ◌^◌, ◌<◌, ◌++◌, OnOk, option_map};
 ghost use Rattle.std.specs.List.{flat_map, range_with_len};
+ghost use Rattle.bmach.specs.Stops.{active_of};
 ghost use Rattle.btools.specs.Columns.{left};
 ghost use Rattle.btools.specs.Functions.{placed_entry};
 ghost use Rattle.btrace.specs.RowTexts.{hexadecimal, instr_in, instr_text, legend_of, margin, name_in, operands_text, signed_text, step_row};
@@ -29,7 +30,8 @@ pub fn push_step<S: Store + Drop>(
     made: u64,
 ) -> Result<(), AllocError>
     requires { made + 1 < 2 ^ 64 }
-    ensures { OnOk result ((line : ℕ) × (text.new ≡ text.old ++ step_row (legend_of legend.now) (made + 1) stepper.now.call line)) }
+    ensures { OnOk result (text.new ≡ text.old
+        ++ step_row (legend_of legend.now) (made + 1) (active_of stepper.now.call) stepper.now.call.operands) }
 {
     let call = stepper.top();
     let entry = legend.tables.entry(call.strings);
@@ -104,14 +106,13 @@ pub fn push_signed(text: &mut Text, word: u16) -> Result<(), AllocError>
 pub fn push_stored<S: Store + Drop>(
     text: &mut Text,
     stepper: &Stepper<'_, S>,
-    stored: Range<u32>,
+    stored: &Range<u32>,
 ) -> Result<(), AllocError>
-    requires { stored.end ≤ 65536 }
-    ensures { OnOk result (text.new ≡ text.old
-        ++ stored_text stepper.now.store (range_with_len stored.start (stored.end - stored.start))) }
+    ensures { OnOk result (stored.now.end ≤ 65536 → text.new ≡ text.old
+        ++ stored_text stepper.now.store (range_with_len stored.now.start (stored.now.end - stored.now.start))) }
 {
     for address in stored.start..stored.end {
-        push_word(text, stepper, address as u16)?;
+        push_word(text, stepper, (address % 65536) as u16)?;
     }
     Ok(())
 }

@@ -1,6 +1,7 @@
 use Rattle.std.proofs.Common.{◌∙◌, Some, ap, refl, sym}
 use Rattle.bsources.specs.Files.{files_shown}
 use Rattle.btools.specs.Functions.{entries_of}
+use Rattle.btools.specs.ProgramLines.{lines_shown}
 use Rattle.btrace.specs.Locates.{not_begun, stopped}
 use Rattle.btools.specs.declared.program.ProgramFault.TheVariants.{Memory}
 use Rattle.btools.proofs.Functions.{data_fit}
@@ -41,7 +42,9 @@ returns-clause-locates g c =
 
 pub returns-in-Some-clause-locates : goal.returns-in-Some-clause-locates
 returns-in-Some-clause-locates g c =
-    located_whole c.args.edition c.args.source.now (files_shown c.args.files) c.args.steps _ c.tell_site.result c.in-Ok.program.definitions.items c.in-Ok.program.image c.in-Ok-begin.stepper c.run-stop.result.outcome
-    (g.D.ByteOut.outgoing c.finish-told.new.diag) (record { functions = entries_of c.in-Ok-new.tables; files = files_shown c.args.files }) c.finish-told.result c.run-stop.result.call c.run-stop.result.steps
-    c.in-Ok.ensures.program (λ i. record { functions = c.in-Ok-new.ensures.functions i; files = files_shown c.args.files }) c.in-Ok-begin.ensures c.run-stop.ensures.gives c.finish-told.ensures.gives
+    let files = files_shown c.args.files in
+    let tables = c.in-Ok-new.tables in
+    located_whole c.args.edition c.args.source.now files c.args.steps _ c.tell_site.result c.in-Ok.program.definitions.items c.in-Ok.program.image c.in-Ok-begin.stepper c.run-stop.result.outcome
+    (g.D.ByteOut.outgoing c.finish-told.new.diag) (record { functions = entries_of tables; lines = lines_shown tables; files = files }) c.in-Ok.program.names.lines.items c.finish-told.result c.run-stop.result.call c.run-stop.result.steps
+    c.in-Ok.ensures.program c.in-Ok.ensures.lines (λ i. record { functions = c.in-Ok-new.ensures.functions i; lines = c.in-Ok-new.ensures.lines i; files = files }) c.in-Ok-begin.ensures c.run-stop.ensures.gives c.finish-told.ensures.gives
     (sym c.located_status.ensures ∙ c.in-Some.is ∙ ap Some c.if-status-told.true) c.run-stop.ensures.stops c.tell_site.ensures.tells

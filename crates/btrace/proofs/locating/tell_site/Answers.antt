@@ -4,11 +4,8 @@ use Rattle.btrace.proofs.locating.tell_site.Goals as goal
 
 pub returns-in-Ok-clause-tells : goal.returns-in-Ok-clause-tells
 returns-in-Ok-clause-tells g c =
-    let line = c.in-Ok.ensures in
-    inl (
-      line.0,
-      subst (λ (t : List ℕ). Reported t c.args.status (g.D.ByteOut.outgoing c.args.diag.now) (g.D.ByteOut.outgoing c.tell.new.out) c.tell.result) (c.as_slice.ensures ∙ line.1) c.tell.ensures.told,
-    )
+    inl
+    (subst (λ (t : List ℕ). Reported t c.args.status (g.D.ByteOut.outgoing c.args.diag.now) (g.D.ByteOut.outgoing c.tell.new.out) c.tell.result) (c.as_slice.ensures ∙ c.in-Ok.ensures) c.tell.ensures.told)
 
 pub returns-in-Err-clause-tells : goal.returns-in-Err-clause-tells
 returns-in-Err-clause-tells g c = inr (refl, refl)

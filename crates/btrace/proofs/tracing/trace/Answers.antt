@@ -1,18 +1,23 @@
-use Rattle.std.proofs.Common.{◌≡◌, ◌∙◌, List, None, Some, inl, inr, refl, subst, sym}
+use Rattle.std.proofs.Common.{◌≡◌, ◌∙◌, List, None, Some, ap, inl, inr, refl, subst, sym}
 use Rattle.std.specs.Prelude.{option_map}
-use Rattle.blang.specs.Machine.{image_of}
+use Rattle.blang.specs.declared.run.Outcome.TheVariants as outcome
+use Rattle.blang.specs.Machine.{image_of, machine}
 use Rattle.bsources.specs.Files.{files_shown}
-use Rattle.btools.specs.Functions.{Placed, entries_of}
-use Rattle.btrace.specs.Traces.{no_memory, not_begun, stopped, unnamed, which_of}
+use Rattle.btools.specs.Functions.{Placed}
+use Rattle.btools.proofs.Functions.{data_fit}
+use Rattle.btrace.specs.RowTexts.{legend_in, legend_of}
+use Rattle.btrace.specs.Traces.{IsTrace, no_memory, not_begun, stopped, traced, unnamed, which_of}
 use Rattle.btrace.specs.Trails.{trail_text}
 use Rattle.bmach.proofs.Readings.{none_at_first}
-use Rattle.brun.proofs.RunSteps.{read_of_loaded}
-use Rattle.btools.proofs.Functions.{data_fit}
-use Rattle.btrace.proofs.Unresolved.{traced_whole}
+use Rattle.bwatch.proofs.Seen.{told_so}
+use Rattle.btrace.proofs.Traced.{none_traced, traced_so}
 use Rattle.btrace.proofs.tracing.trace.Goals as goal
 
 pub new-requires : goal.new-requires
 new-requires g c = data_fit c.in-Ok.program.definitions.items c.in-Ok.ensures.program.loads
+
+pub watch-requires-clause-begins : goal.watch-requires-clause-begins
+watch-requires-clause-begins g c = none_traced c.in-Ok-new-2.tracer c.in-Ok-new-2.ensures.last c.in-Ok-new-2.ensures.row
 
 pub returns-in-Err-clause-traces : goal.returns-in-Err-clause-traces
 returns-in-Err-clause-traces g c = stopped (c.tell_placed.ensures.tells c.args.edition c.args.source.now c.in-Err.ensures.program) (record { unread = refl; silent = refl })
@@ -32,36 +37,45 @@ returns-in_default-new-clause-traces g c =
     no_memory c.in-Ok.program.definitions.items c.in-Ok.program.image c.in-Ok.ensures.program refl refl
     (none_at_first (image_of c.in-Ok.program.definitions.items) c.args.wanted.steps (g.I.ByteIn.incoming c.args.input.now) (g.I.ByteIn.incoming c.args.input.now) refl) refl
 
-pub returns-in_default-new-2-clause-traces : goal.returns-in_default-new-2-clause-traces
-returns-in_default-new-2-clause-traces g c =
-    no_memory c.in-Ok.program.definitions.items c.in-Ok.program.image c.in-Ok.ensures.program refl refl
-    (none_at_first (image_of c.in-Ok.program.definitions.items) c.args.wanted.steps (g.I.ByteIn.incoming c.args.input.now) (g.I.ByteIn.incoming c.args.input.now) refl) refl
+pub returns-in-Ok-Unbegun-clause-traces : goal.returns-in-Ok-Unbegun-clause-traces
+returns-in-Ok-Unbegun-clause-traces g c =
+    let w = rw c.in-Ok-Unbegun.field-0-is at c.in-Ok-Unbegun.ensures.gives in
+    not_begun c.in-Ok.program.definitions.items c.in-Ok.program.image c.in-Some.which (outcome.Trap c.in-Ok-Unbegun.trap) c.in-Ok.ensures.program
+    (subst (λ (fs : List Placed). which_of fs c.args.wanted.rows (option_map (λ n. n.now) c.args.wanted.function) ≡ Some c.in-Some.which) c.in-Ok-new.ensures.functions (sym c.which_of.ensures ∙ c.in-Some.is)) w.0
+    c.finish.ensures.gives (record { unread = w.1; silent = refl })
 
-pub returns-in-Err-begin-clause-traces : goal.returns-in-Err-begin-clause-traces
-returns-in-Err-begin-clause-traces g c =
-    not_begun c.in-Ok.program.definitions.items c.in-Ok.program.image c.in-Some.which c.in-Err-begin.outcome c.in-Ok.ensures.program
-    (subst (λ (fs : List Placed). which_of fs c.args.wanted.rows (option_map (λ n. n.now) c.args.wanted.function) ≡ Some c.in-Some.which) c.in-Ok-new.ensures.functions (sym c.which_of.ensures ∙ c.in-Some.is)) c.in-Err-begin.ensures
-    c.finish.ensures.gives (record { unread = refl; silent = refl })
-
-pub returns-in-Err-trace_steps-clause-traces : goal.returns-in-Err-trace_steps-clause-traces
-returns-in-Err-trace_steps-clause-traces g c =
-    no_memory c.in-Ok.program.definitions.items c.in-Ok.program.image c.in-Ok.ensures.program refl refl
-    (read_of_loaded c.in-Ok.program.definitions.items c.in-Ok.program.image c.in-Ok-begin.stepper c.in-Ok.ensures.program.loaded c.in-Ok-begin.ensures c.args.wanted.steps _ _ (rw c.in-Err-trace_steps.is at c.trace_steps.ensures.read)) refl
+pub returns-in-Err-watch-clause-traces : goal.returns-in-Err-watch-clause-traces
+returns-in-Err-watch-clause-traces g c =
+    no_memory c.in-Ok.program.definitions.items c.in-Ok.program.image c.in-Ok.ensures.program refl refl c.in-Err-watch.ensures.read refl
 
 pub returns-then-told-ne-DONE-clause-traces : goal.returns-then-told-ne-DONE-clause-traces
 returns-then-told-ne-DONE-clause-traces g c =
+    let w = rw c.in-Ok-Ended.field-0-is at c.in-Ok-Ended.ensures.gives in
+    let ds = c.in-Ok.program.definitions.items in
+    let lines = c.in-Ok.program.names.lines.items in
+    let stop = c.in-Ok-Ended.stop in
     let files = files_shown c.args.wanted.files in
-    let named = (sym c.which_of.ensures) ∙ c.in-Some.is in
-    traced_whole c.args.edition c.args.source.now c.args.wanted.steps c.args.wanted.rows files _ _ c.tell-told.result c.in-Ok.program.definitions.items c.in-Ok.program.image
-    (record { functions = entries_of c.in-Ok-new.tables; files = files }) c.in-Some.which c.in-Ok-begin.stepper c.in-Ok-trace_steps.outcome c.in-Ok-new-3.trail.text (trail_text c.trace_steps.new.trail) c.tell-told.result c.in-Ok.ensures.program
-    (λ i. record { functions = c.in-Ok-new.ensures.functions i; files = files }) named c.in-Ok-begin.ensures c.in-Ok-trace_steps.ensures.gives c.in-Ok-new-3.ensures.text c.in-Ok-trace_steps.ensures.shows
-    c.tell-told.ensures.told (inr (c.if-told-ne-DONE.true, refl, refl))
+    let which = c.in-Some.which in
+    let first = c.in-Ok-new-2.tracer in
+    let last = c.watch.new.onlooker in
+    let legend = ap legend_of c.in-Ok-new-2.ensures.legend ∙ (λ i. record { functions = c.in-Ok-new.ensures.functions i; lines = c.in-Ok-new.ensures.lines i; files = files }) in
+    let named = subst (λ (fs : List Placed). which_of fs c.args.wanted.rows (option_map (λ n. n.now) c.args.wanted.function) ≡ Some which) c.in-Ok-new.ensures.functions (sym c.which_of.ensures ∙ c.in-Some.is) in
+    let watched = told_so (image_of ds).functions (machine ds) c.args.wanted.steps _ _ stop.outcome stop.steps _ (IsTrace (legend_in ds lines files) which (trail_text last.trail))
+    (traced_so first last (legend_in ds lines files) which legend c.in-Ok-new-2.ensures.which c.in-Ok-new-2.ensures.text stop.outcome stop.steps) w in
+    traced ds c.in-Ok.program.image lines which stop.outcome stop.steps (trail_text last.trail) c.tell-told.result c.in-Ok.ensures.program c.in-Ok.ensures.lines named watched c.tell-told.ensures.told (inr (c.if-told-ne-DONE.true, refl, refl))
 
 pub returns-clause-traces : goal.returns-clause-traces
 returns-clause-traces g c =
+    let w = rw c.in-Ok-Ended.field-0-is at c.in-Ok-Ended.ensures.gives in
+    let ds = c.in-Ok.program.definitions.items in
+    let lines = c.in-Ok.program.names.lines.items in
+    let stop = c.in-Ok-Ended.stop in
     let files = files_shown c.args.wanted.files in
-    let named = (sym c.which_of.ensures) ∙ c.in-Some.is in
-    traced_whole c.args.edition c.args.source.now c.args.wanted.steps c.args.wanted.rows files _ _ c.finish-2.result c.in-Ok.program.definitions.items c.in-Ok.program.image
-    (record { functions = entries_of c.in-Ok-new.tables; files = files }) c.in-Some.which c.in-Ok-begin.stepper c.in-Ok-trace_steps.outcome c.in-Ok-new-3.trail.text (trail_text c.trace_steps.new.trail) c.tell-told.result c.in-Ok.ensures.program
-    (λ i. record { functions = c.in-Ok-new.ensures.functions i; files = files }) named c.in-Ok-begin.ensures c.in-Ok-trace_steps.ensures.gives c.in-Ok-new-3.ensures.text c.in-Ok-trace_steps.ensures.shows
-    c.tell-told.ensures.told (inl (c.if-told-ne-DONE.false, c.finish-2.ensures.gives))
+    let which = c.in-Some.which in
+    let first = c.in-Ok-new-2.tracer in
+    let last = c.watch.new.onlooker in
+    let legend = ap legend_of c.in-Ok-new-2.ensures.legend ∙ (λ i. record { functions = c.in-Ok-new.ensures.functions i; lines = c.in-Ok-new.ensures.lines i; files = files }) in
+    let named = subst (λ (fs : List Placed). which_of fs c.args.wanted.rows (option_map (λ n. n.now) c.args.wanted.function) ≡ Some which) c.in-Ok-new.ensures.functions (sym c.which_of.ensures ∙ c.in-Some.is) in
+    let watched = told_so (image_of ds).functions (machine ds) c.args.wanted.steps _ _ stop.outcome stop.steps _ (IsTrace (legend_in ds lines files) which (trail_text last.trail))
+    (traced_so first last (legend_in ds lines files) which legend c.in-Ok-new-2.ensures.which c.in-Ok-new-2.ensures.text stop.outcome stop.steps) w in
+    traced ds c.in-Ok.program.image lines which stop.outcome stop.steps (trail_text last.trail) c.tell-told.result c.in-Ok.ensures.program c.in-Ok.ensures.lines named watched c.tell-told.ensures.told (inl (c.if-told-ne-DONE.false, c.finish-2.ensures.gives))
