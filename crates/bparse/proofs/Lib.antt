@@ -3,6 +3,7 @@ pub mod CompilerSteps
 pub mod CompileSteps
 pub mod CompileHeadlines
 pub mod CompileExcluded
+mod ListSteps
 pub mod MadeSteps
 pub mod ReadingLaws
 pub mod Remaining

@@ -1,11 +1,17 @@
--- Promise: a list of definitions, seen as a stream that their text is written to.
-use Rattle.std.specs.Prelude.{◌≡◌, ℕ, Bool, true, false, List, [], ◌∷◌, ◌++◌, Some, codes, if◌then◌else◌}
+-- Promise: a source that is compiled to a list of definitions, and a list, seen as a stream that their text is written
+-- to.
+use Rattle.std.specs.Prelude.{◌≡◌, ℕ, Bool, true, false, List, [], ◌∷◌, ◌++◌, Some, codes, if◌then◌else◌, map}
 use Rattle.std.specs.List.{flat_map}
 use Rattle.bword.specs.declared.edition.Edition.{Edition}
 use Rattle.bword.specs.declared.edition.Edition.TheVariants as editions
-use Rattle.bword.specs.ByteEnds.{Kept, Outgoing, outgoing_of}
+use Rattle.bword.specs.ByteEnds.{CanFollow, Incoming, Kept, Outgoing, outgoing_of}
 use Rattle.blang.specs.declared.code.Definition.{Definition}
+use Rattle.blang.specs.declared.status.TheConstants.{DONE}
+use Rattle.blang.specs.Code.{code_of}
+use Rattle.blang.specs.Compiles.{Compilation, Compiles, CompilesTo}
+use Rattle.blang.specs.Cut.{tokens_from}
 use Rattle.blang.specs.Text.{definition_text, end_text, opening}
+use Rattle.bparse.specs.Compiles.{run_of}
 
 -- The edition of a text, its definitions, whether its last line is there, and how often memory was refused.
 pub record CodeList : Type 0 where
@@ -33,3 +39,14 @@ pub record ListTexts : Type 0 where
   pub order : (a b : Definition) → list_text (record empty_list { definitions = a ∷ b ∷ []; is_ended = true })
       ≡ definition_text a ++ (definition_text b ++ end_text)
   pub seen : outgoing_list (record empty_list { refusals = 2 }) ≡ record { written = Some []; failures = 0; refusals = 2 }
+
+-- A source was compiled to a list of these definitions. Where it has no fault, they are those of its code.
+pub record CompilesList (edition : Edition) (source source_after : Incoming) (ds : List Definition)
+    (line line_after : Outgoing) (status : ℕ) : Type 0 where
+  pub list : CodeList
+  pub listed : list.definitions ≡ ds
+  pub compiles : Compiles (run_of edition source source_after (outgoing_list empty_list) (outgoing_list list)
+      line line_after status)
+  pub code : status ≡ DONE → (more : List ℕ) → CanFollow source_after more
+      → (r : Compilation) (g : CompilesTo [] (tokens_from edition 1 (compiles.taken ++ more)) r)
+      → ds ≡ map code_of g.definitions

@@ -16,7 +16,7 @@ use std::marker::Model;
 /// It is out of memory for a definition, or where what a text begins with or its last line comes out of turn. It then
 /// keeps nothing of that call.
 #[derive(Drop)]
-pub struct CodeList {
+pub(crate) struct CodeList {
     alloc: Global,
     edition: Edition,
     definitions: Vec<Definition>,
@@ -43,7 +43,7 @@ impl Model for CodeList {
 
 impl CodeList {
     /// A list without definitions; it takes no memory yet.
-    pub fn new(alloc: Global) -> Self
+    pub(crate) fn new(alloc: Global) -> Self
         ensures { result ≡ empty_list }
     {
         CodeList {
@@ -56,7 +56,7 @@ impl CodeList {
     }
 
     /// The definitions in order.
-    pub fn into_definitions(self) -> Vec<Definition>
+    pub(crate) fn into_definitions(self) -> Vec<Definition>
         ensures same { result.items ≡ self.definitions }
         ensures within { All IsWithinRanges result.items }
     {

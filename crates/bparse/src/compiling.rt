@@ -2,7 +2,7 @@
 ghost use Rattle.std.specs.Prelude.{◌≡◌};
 ghost use Rattle.bword.specs.declared.edition.Edition.TheVariants as editions;
 ghost use Rattle.blang.specs.Compiles.{CompileHeadline, Compiles};
-ghost use Rattle.bparse.specs.CodeLists.{ListTexts, empty_list, outgoing_list};
+ghost use Rattle.bparse.specs.CodeLists.{CompilesList, ListTexts};
 ghost use Rattle.bparse.specs.Compilers as compilers;
 ghost use Rattle.bparse.specs.Compiles.{CodeGives, LastGives, run_of};
 ghost use Rattle.bparse.specs.Watches.{KeptAll, Watched};
@@ -15,6 +15,7 @@ use crate::compiler::Compiler;
 use crate::diagnostic::write_diagnostic;
 use crate::step::Step;
 use crate::watcher::{Unwatched, Watcher};
+use blang::Definition;
 use blang::status::{self, Status};
 use bword::{ByteIn, ByteOut, Edition};
 use std::alloc::Global;
@@ -85,20 +86,22 @@ pub fn compile_watched<I: ByteIn, O: ByteOut, D: ByteOut, W: Watcher>(
     status
 }
 
-/// Compiles a source as `compile_edition` does, and keeps its definitions in place of their text.
+/// Compiles a source as `compile_edition` does, and gives the definitions of its code in place of their text. Where the
+/// status isn't 0, they are some of those before its first fault.
 pub fn compile_list<I: ByteIn, D: ByteOut>(
     alloc: Global,
     source: &mut I,
     diag: &mut D,
     edition: Edition,
-) -> (Status, CodeList)
-    ensures compiles { Compiles (run_of edition (I.incoming source.old) (I.incoming source.new)
-        (outgoing_list empty_list) (outgoing_list result.1) (D.outgoing diag.old) (D.outgoing diag.new) result.0) }
+) -> (Status, Vec<Definition>)
+    ensures compiles { CompilesList edition (I.incoming source.old) (I.incoming source.new) result.1.items
+        (D.outgoing diag.old) (D.outgoing diag.new) result.0 }
     ensures source_lender { I.lender source.new ≡ I.lender source.old }
     ensures diag_lender { D.lender diag.new ≡ D.lender diag.old }
 {
     let code = CodeList::new(alloc);
-    compile_and_tell(alloc, source, code, diag, &mut Unwatched, edition)
+    let (status, code) = compile_and_tell(alloc, source, code, diag, &mut Unwatched, edition);
+    (status, code.into_definitions())
 }
 
 // Compiles to what takes the code part by part, and gives that back.

@@ -12,7 +12,6 @@ mod watcher;
 
 pub use bemit::{EntryKind, NameEntry};
 pub use blang::status::{self, Status};
-pub use code_list::CodeList;
 pub use code_out::CodeOut;
 pub use compiler::Compiler;
 pub use compiling::{

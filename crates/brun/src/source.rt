@@ -58,11 +58,11 @@ pub fn go_edition<S: ByteIn, I: ByteIn, O: ByteOut, D: ByteOut>(
     ensures out_lender { O.lender out.new ≡ O.lender out.old }
     ensures diag_lender { D.lender diag.new ≡ D.lender diag.old }
 {
-    let (status, code) = compile_list(alloc, source, diag, edition);
+    let (status, definitions) = compile_list(alloc, source, diag, edition);
     if status != status::DONE {
         return status;
     }
-    run_definitions(alloc, code.into_definitions(), input, out, diag, steps)
+    run_definitions(alloc, definitions, input, out, diag, steps)
 }
 
 /// The headlines say something: by them alone one run and one compilation over streams in memory are known.

@@ -5,11 +5,11 @@ use Rattle.brun.proofs.source.go_edition.Goals as goal
 
 pub returns-then-status-ne-DONE-clause-goes : goal.returns-then-status-ne-DONE-clause-goes
 returns-then-status-ne-DONE-clause-goes g c =
-    goes_stopped c.args.edition c.args.steps _ _ _ c.compile_list-status.result.1 c.compile_list-status.result.0 c.if-status-ne-DONE.true (record { unread = refl; silent = refl }) c.compile_list-status.ensures.compiles
+    goes_stopped c.args.edition c.args.steps _ _ _ _ c.compile_list-status.result.0 c.if-status-ne-DONE.true (record { unread = refl; silent = refl }) c.compile_list-status.ensures.compiles
 
 pub returns-clause-goes : goal.returns-clause-goes
 returns-clause-goes g c =
-    goes_ran c.args.edition c.args.steps _ _ _ c.compile_list-status.result.1 _ c.compile_list-status.result.0 c.run_definitions.result c.into_definitions.result.items c.if-status-ne-DONE.false c.into_definitions.ensures.same c.into_definitions.ensures.within c.compile_list-status.ensures.compiles c.run_definitions.ensures.runs
+    goes_ran c.args.edition c.args.steps _ _ _ _ c.compile_list-status.result.0 c.run_definitions.result c.compile_list-status.result.1.items c.if-status-ne-DONE.false c.compile_list-status.ensures.compiles c.run_definitions.ensures.runs
 
 pub returns-then-status-ne-DONE-clause-headline : goal.returns-then-status-ne-DONE-clause-headline
 returns-then-status-ne-DONE-clause-headline g c =
