@@ -12,10 +12,10 @@ is_bad (Some (lexeme.Bad letters)) = true
 is_bad _ = false
 
 -- the texts of pieces
-abbrev pub texts : List Piece → List (List ℕ)
+abbrev pub texts : List SourceItem → List (List ℕ)
 texts pieces = map (λ p. p.text.now) pieces
 
 -- All pieces of a source were read, and none of them is a wrong token.
-pub record AreRead (edition : Edition) (source : List ℕ) (pieces : List Piece) : Type 0 where
+pub record AreRead (edition : Edition) (source : List ℕ) (pieces : List SourceItem) : Type 0 where
   pub all : texts pieces ≡ pieces_of edition source
   pub fine : has_wrong_token edition source ≡ false
