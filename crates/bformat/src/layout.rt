@@ -79,7 +79,7 @@ impl Layout {
     fn put_token(&mut self, piece: &SourceItem<'_>, spot: &TokenLayout) -> Result<(), AllocError> {
         let first = piece.text.first().copied().unwrap_or(b' ');
         match self.before {
-            Before::Start => self.text.push(b"")?,
+            Before::Start => {}
             Before::Token(last) => self.put_gap(piece, spot, joins(last, first))?,
             Before::Comment { level } => self.put_gap_after_comment(piece, spot, level)?,
         }
