@@ -58,7 +58,7 @@ module _ (edition : Edition) (text : List ℕ) (d : Diagnostic) (faulty : HasFau
   by_place files steps ends (locates.stopped why quiet) = why_told files ends.line ends.line_after why
 
   by_count : (asked : Counting) → asked.edition ≡ edition → (ends : RunEnds) → Counts asked text ends 1 → Writes ends.line (fault_lines asked.files d) ends.line_after
-  by_count asked same ends (counts.counted ds image result made tallies t told has watched table reported tells) = absurd (no_program ds image (subst (λ e. HasProgram e text ds image) same has))
+  by_count asked same ends (counts.counted ds image result made tallies lines told has watched own reported tells) = absurd (no_program ds image (subst (λ e. HasProgram e text ds image) same has))
   by_count asked same ends (counts.unread ds image output has still gives quiet answer) = absurd (omega (arith, answer))
   by_count asked same ends (counts.not_begun ds image result has never finishes quiet) = absurd (no_program ds image (subst (λ e. HasProgram e text ds image) same has))
   by_count asked same ends (counts.stopped why quiet) =

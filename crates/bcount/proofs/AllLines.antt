@@ -6,7 +6,8 @@ use Rattle.std.proofs.lemmas.List.Elements.{All-head, All-tail}
 use Rattle.std.proofs.lemmas.List.Sums.{sum_by-cons, sum_by-le-sum_by}
 use Rattle.bword.specs.ByteEnds.{most}
 use Rattle.btools.proofs.Finding.{other_number, same_number}
-use Rattle.bcount.specs.Counts.{IsOnLines, line_count, line_counts, steps_on}
+use Rattle.bcount.specs.Counts.{line_count, line_counts, steps_on}
+use Rattle.bcount.specs.SourceLines.{IsOnLines}
 use Rattle.bcount.specs.declared.lines.Counted.{Counted}
 use Rattle.bcount.specs.declared.lines.LineCount.{LineCount}
 use Rattle.bcount.proofs.Totals.{one_part, sum_both, sum_of_map, sum_zeros}

@@ -1,6 +1,7 @@
 mod Noting
 mod Counted
 mod LineSums
+mod OnLines
 mod Rows
 mod Costs
 mod Splits

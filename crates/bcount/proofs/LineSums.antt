@@ -1,18 +1,18 @@
 -- What the code of each line did, with an instruction more.
-use Rattle.std.proofs.Common.{◌≡◌, ◌∙◌, ℕ, zero, suc, ◌+◌, ◌-◌, ◌<◌, ◌≤◌, Bool, true, false, cond, List, [], ◌∷◌, ◌++◌, Option, None, Some, ap, append_assoc, arith, get_or, length, map, min, refl, set, sym, take, if◌then◌else◌}
+use Rattle.std.proofs.Common.{◌≡◌, ◌∙◌, ℕ, zero, suc, ◌+◌, ◌-◌, ◌<◌, Bool, true, false, cond, List, [], ◌∷◌, ◌++◌, Option, None, Some, ap, arith, get_or, length, map, min, refl, set, sym, take, if◌then◌else◌}
 use Rattle.std.specs.Prelude.{◌==◌, find, option_map, replicate, unwrap_or}
-use Rattle.std.specs.List.{All, range_with_len, sum_by}
+use Rattle.std.specs.List.{range_with_len, sum_by}
 use Rattle.std.specs.Option.{option_or}
-use Rattle.std.proofs.lemmas.List.{map-append, take_more}
-use Rattle.std.proofs.lemmas.List.Elements.{All-push, All-same}
+use Rattle.std.proofs.lemmas.List.{take_more}
 use Rattle.std.proofs.lemmas.List.Folds.{find-append}
 use Rattle.std.proofs.lemmas.List.FromFn.{get_or-map-range_with_len}
 use Rattle.std.proofs.lemmas.List.Sums.{sum_by_push}
 use Rattle.bword.specs.ByteEnds.{most}
 use Rattle.btools.proofs.Finding.{other_number, same_number}
+use Rattle.bcount.specs.SourceLines.{IsOnLines}
 use Rattle.bcount.specs.declared.lines.Counted.{Counted}
 use Rattle.bcount.specs.declared.lines.LineCount.{LineCount}
-use Rattle.bcount.specs.Counts.{IsOnLines, line_count, steps_on, times_on, with_count}
+use Rattle.bcount.specs.Counts.{line_count, steps_on, times_on, with_count}
 use Rattle.bcount.specs.Marks.{no_code}
 
 -- a list that was set at one index is made by another function
@@ -80,14 +80,3 @@ pub next_line : (counted : List Counted) (i : ℕ) (c d : Counted) (last : ℕ) 
 next_line counted i c d last lines new lt is on before set_is =
     one_more (take i counted) c last lines new on before set_is
     ∙ ap (λ cs. map (line_count cs) (range_with_len 1 last)) (sym (take_more counted i d lt ∙ ap (λ x. take i counted ++ x ∷ []) (sym is)))
-
--- an instruction was counted
-pub count_more : (old counted new : List Counted) (x : Counted) (counts : List ℕ) (place d : ℕ) → place < length counts → x.count ≡ get_or counts place d → map (λ c. c.count) counted ≡ map (λ c. c.count) old ++ take place counts → new ≡ counted ++ x ∷ []
-    → map (λ c. c.count) new ≡ map (λ c. c.count) old ++ take (place + 1) counts
-count_more old counted new x counts place d lt is before pushed =
-    let f : Counted → ℕ = λ c. c.count in
-    ap (map f) pushed ∙ map-append f counted (x ∷ []) ∙ (λ i. before i ++ is i ∷ [])
-    ∙ append_assoc (map f old) (take place counts) (get_or counts place d ∷ []) ∙ ap (λ t. map f old ++ t) (sym (take_more counts place d lt))
-
-pub line_more : (last : ℕ) (counted new : List Counted) (x : Counted) → new ≡ counted ++ x ∷ [] → 0 < x.line → x.line ≤ last → All (IsOnLines last) counted → All (IsOnLines last) new
-line_more last counted new x is low high h = All-same (IsOnLines last) new (counted ++ x ∷ []) is (All-push (IsOnLines last) counted x h (low, high))

@@ -1,8 +1,8 @@
 -- Rows, one after another.
-use Rattle.std.proofs.Common.{◌≡◌, ◌∙◌, ℕ, suc, ◌+◌, ◌<◌, Bool, length, Option, List, [], ◌∷◌, ◌++◌, ap, append-nil, append_assoc, arith, codes, get_or, map, sym, take}
+use Rattle.std.proofs.Common.{◌≡◌, ◌∙◌, ℕ, suc, ◌+◌, Bool, Option, List, [], ◌∷◌, ◌++◌, ap, append-nil, append_assoc, arith, codes, get_or, sym}
 use Rattle.std.specs.List.{flat_map, range_with_len}
 use Rattle.std.proofs.Math.Numerals.{add-one}
-use Rattle.std.proofs.lemmas.List.{map-append, map-id, take_more}
+use Rattle.std.proofs.lemmas.List.{map-id}
 use Rattle.std.proofs.lemmas.List.Concat.{flat_map-append}
 use Rattle.std.proofs.lemmas.List.FromFn.{map-range_with_len_more}
 use Rattle.bsources.specs.Files.{Files, Line, beyond_first, own_line}

@@ -21,12 +21,14 @@ use Rattle.bmach.specs.Stops.{active_of}
 use Rattle.bwatch.specs.Sights.{Sights, sight_of, sights_of}
 use Rattle.bwatch.specs.Watches.{EndsAfter}
 use Rattle.bcount.proofs.Counted.{counts_are, not_unread}
+use Rattle.bcount.specs.Counts.{counted_of}
 use Rattle.bcount.specs.SourceLines.{last_line}
 use Rattle.bcount.specs.Tallies.{counts_of}
 use Rattle.bcount.specs.Together.{StepsAddUp}
 use Rattle.bcount.specs.declared.lines.Counted.{Counted}
 use Rattle.bcount.proofs.Addresses.{ascend, is_placed}
 use Rattle.bcount.proofs.AllLines.{lines_together}
+use Rattle.bcount.proofs.OnLines.{all_on, counts_kept, some_line}
 use Rattle.bcount.proofs.OwnCalls.{AreOurs, ours_at}
 use Rattle.bcount.proofs.Totals.{all_hits, counts_together, one_hit, sum_of_map, totals}
 
@@ -101,13 +103,16 @@ module _ (ds : List Definition) (input : List ℕ) (unstuck : (n : ℕ) (w : Wor
       counts_together sights (functions_of ds) made ∙ totals sights (functions_of ds) made (λ n lt. one_place n (runs_until made steps result left h read n lt))
 
 pub steps_add_up : StepsAddUp
-steps_add_up asked source made text h =
+steps_add_up asked source tallies made h fs =
     let input = h.counts.taken ++ [] in
     let unstuck = never_stuck asked.edition source h.ds h.image h.program in
-    let counted = h.table.counted in
+    let last = last_line source in
+    let counted = counted_of last fs tallies in
     let within = h.counts.within in
     let fits = h.fits in
+    let sights = sights_of (image_of h.ds).functions (machine h.ds) input in
+    let told = h.counts.told [] (λ e. refl) in
     let sum = sym (sum_of_map (λ x. x) (λ (c : Counted). c.count) counted)
-    ∙ ap (sum_by (λ x. x)) (h.table.counts_are ∙ ap (flat_map (λ xs. xs)) (counts_are (functions_of h.ds) h.tallies (sights_of (image_of h.ds).functions (machine h.ds) input) made h.result (h.counts.told [] (λ e. refl))))
-    ∙ all_counted h.ds input (unstuck input) made asked.steps h.result [] (h.counts.ends [] (λ e. refl)) (not_unread (functions_of h.ds) h.tallies (sights_of (image_of h.ds).functions (machine h.ds) input) made h.result (h.counts.told [] (λ e. refl))) in
-    lines_together (last_line source) made counted h.table.on_lines sum (omega (arith, within, fits))
+    ∙ ap (sum_by (λ x. x)) (counts_kept last fs tallies ∙ ap (flat_map (λ xs. xs)) (counts_are (functions_of h.ds) tallies sights made h.result told))
+    ∙ all_counted h.ds input (unstuck input) made asked.steps h.result [] (h.counts.ends [] (λ e. refl)) (not_unread (functions_of h.ds) tallies sights made h.result told) in
+    lines_together last made counted (all_on last fs tallies (some_line source)) sum (omega (arith, within, fits))

@@ -1,6 +1,5 @@
 -- Promise: what the contract of `count` excludes.
-use Rattle.std.specs.Prelude.{◌≡◌, ◌⊎◌, ℕ, List, [], ◌∷◌, ◌++◌, codes}
-use Rattle.bword.specs.declared.edition.Edition.TheVariants as editions
+use Rattle.std.specs.Prelude.{◌≡◌, ℕ, List, [], ◌∷◌, codes}
 use Rattle.bword.specs.ByteEnds.{Incoming}
 use Rattle.blang.specs.declared.code.Definition.{Definition}
 use Rattle.blang.specs.declared.code.Definition.TheVariants as definition
@@ -16,12 +15,7 @@ use Rattle.bmach.specs.Readings.{LeftBySteps}
 use Rattle.btools.specs.ProgramsExcluded.{code_in}
 use Rattle.btools.specs.Functions.{functions_of}
 use Rattle.bwatch.specs.Watches.{Watches}
-use Rattle.bcount.specs.Counts.{AreCounts, Asked, Counts, IsTableOf}
-use Rattle.bcount.specs.SourceLines.{newlines_in}
-use Rattle.bcount.specs.Tables.{hint}
-use Rattle.bcount.specs.declared.table.CountStyle.{CountStyle}
-use Rattle.bcount.specs.declared.table.CountStyle.TheVariants as style
-use Rattle.bcount.specs.declared.table.TheConstants.{HEADING}
+use Rattle.bcount.specs.Counts.{AreCounts, Asked, Counts}
 
 -- the code of `main(){}`, which halts with its second step
 abbrev pub nothing : List Definition
@@ -41,15 +35,6 @@ CountsOnly steps result tallies =
     → Watches (image_of nothing).functions (machine nothing) steps i j result made (AreCounts (functions_of nothing) other)
     → other ≡ tallies
 
--- A text that shows that each of the two instructions of this source was made once.
-abbrev pub ShowsBoth : CountStyle → (source text : List ℕ) → Type 0
-ShowsBoth style source text = IsTableOf (record {
-  edition = editions.One;
-  steps = 2;
-  files = record { first = record { name = codes "p.b"; lines = 1 }; rest = [] };
-  style = style;
-}) source ((1 ∷ 1 ∷ []) ∷ []) 2 text
-
 pub record CountsExcluded : Type 0 where
   -- a step before the first one
   pub no_step : CountsOnly 0 outcome.Limit ((0 ∷ 0 ∷ []) ∷ [])
@@ -57,17 +42,6 @@ pub record CountsExcluded : Type 0 where
   pub one_step : CountsOnly 1 outcome.Limit ((1 ∷ 0 ∷ []) ∷ [])
   -- the step that halts left out, as one that was made after the halt
   pub last_step : CountsOnly 2 (outcome.Exit 0) ((1 ∷ 1 ∷ []) ∷ [])
-  -- of a source of one line: no row or another one, as one with other counts or without its mark, or another last row
-  pub other_table : (text : List ℕ) → ShowsBoth style.Table (codes "main(){}") text
-      → text ≡ HEADING.now ++ codes ">      1             1             2  main(){}\n"
-      ++ codes "   total                           2\n"
-      ++ hint
-  -- no object, another one, or more
-  pub other_object : (text : List ℕ) → ShowsBoth style.Json (codes "main(){}\n") text
-      → text ≡ codes "{\"file\":\"p.b\",\"line\":1,\"times\":1,\"steps\":2}\n"
-  -- of a source of two lines: a row left out or one more, whichever line an instruction is on
-  pub other_rows : (text : List ℕ) → ShowsBoth style.Table (codes "main()\n{}\n") text
-      → (newlines_in text ≡ 4) ⊎ ((rest : List ℕ) × (text ≡ rest ++ hint) × (newlines_in rest ≡ 4))
   -- where a read failed: another status than 133, or something that is written
   pub read_failed : (asked : Asked) (source : List ℕ) (ends : RunEnds) (status : ℕ)
       → (ends.input_after.failures ≡ ends.input.failures → ⊥) → Counts asked source ends status

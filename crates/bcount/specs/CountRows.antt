@@ -3,13 +3,16 @@ use Rattle.std.specs.Prelude.{◌≡◌, ℕ, true, false, List, [], ◌∷◌, 
 use Rattle.std.specs.Fmt.{digits}
 use Rattle.std.specs.List.{range_with_len}
 use Rattle.bsources.specs.Files.{Files, Line}
+use Rattle.bword.specs.declared.edition.Edition.TheVariants as editions
+use Rattle.btools.specs.ProgramLines.{FunctionLines}
 use Rattle.bcount.specs.declared.lines.Counted.{Counted}
 use Rattle.bcount.specs.declared.lines.LineCount.{LineCount}
-use Rattle.bcount.specs.declared.table.CountStyle.TheVariants as style
-use Rattle.bcount.specs.Counts.{line_counts, steps_on, times_on}
+use Rattle.bcount.specs.declared.table.CountStyle.{CountStyle}
+use Rattle.bcount.specs.declared.table.CountStyle.TheVariants as styles
+use Rattle.bcount.specs.Counts.{Asked, count_text, counted_of, line_counts, nearest_line, steps_on, times_on}
 use Rattle.bcount.specs.Marks.{is_marked, no_code}
 use Rattle.bcount.specs.SourceLines.{beside_text, last_line}
-use Rattle.bcount.specs.Tables.{cells_text, file_row, hint_of, object_text, table_text, total_of}
+use Rattle.bcount.specs.Tables.{cells_text, file_row, hint_of, object_text, total_of}
 use Rattle.bcount.specs.Tallies.{bumped}
 use Rattle.bcount.specs.Together.{all_steps}
 
@@ -63,28 +66,28 @@ object_of_line = refl
 object_without_code : object_text (at_line 3) no_code ≡ []
 object_without_code = refl
 
-total : total_of style.Table 78 ≡ codes "   total                          78\n"
+total : total_of styles.Table 78 ≡ codes "   total                          78\n"
 unfolding digits
 total = refl
 
-no_total : total_of style.Json 78 ≡ []
+no_total : total_of styles.Json 78 ≡ []
 no_total = refl
 
 -- the hint: where one line has code, and not where two or none have
 abbrev done_once : LineCount
 done_once = record { times = Some 1; steps = 2 }
 
-hint_of_one_line : hint_of style.Table (no_code ∷ done_once ∷ no_code ∷ [])
+hint_of_one_line : hint_of styles.Table (no_code ∷ done_once ∷ no_code ∷ [])
     ≡ codes "  hint: all code is on one line; b format FILE gives each statement its own\n"
 hint_of_one_line = refl
 
-no_hint_of_two : hint_of style.Table (done_once ∷ no_code ∷ done_once ∷ []) ≡ []
+no_hint_of_two : hint_of styles.Table (done_once ∷ no_code ∷ done_once ∷ []) ≡ []
 no_hint_of_two = refl
 
-no_hint_without_code : hint_of style.Table (no_code ∷ []) ≡ []
+no_hint_without_code : hint_of styles.Table (no_code ∷ []) ≡ []
 no_hint_without_code = refl
 
-no_hint_of_objects : hint_of style.Json (done_once ∷ []) ≡ []
+no_hint_of_objects : hint_of styles.Json (done_once ∷ []) ≡ []
 no_hint_of_objects = refl
 
 -- the number of the last line: without a newline, with one at the end, with one before it, and with newlines alone
@@ -121,11 +124,25 @@ two_files = record {
   rest = record { name = codes "l.b"; lines = 2 } ∷ [];
 }
 
-abbrev in_two : List LineCount
-in_two = line_counts (record { line = 1; count = 2 } ∷ record { line = 1; count = 1 } ∷ record { line = 3; count = 1 }
-    ∷ []) 3
+-- the lines of two functions, and how often each of their instructions was made
+abbrev two_functions : List FunctionLines
+two_functions = record { strings = 8; lines = 1 ∷ 1 ∷ [] } ∷ record { strings = 9; lines = 3 ∷ [] } ∷ []
 
-whole_table : table_text style.Table two_files (codes "main(){f();}\n\nf(){}\n") in_two 4
+abbrev tallies : List (List ℕ)
+tallies = (2 ∷ 1 ∷ []) ∷ (1 ∷ []) ∷ []
+
+each_on_its_line : counted_of 3 two_functions tallies
+    ≡ record { line = 1; count = 2 } ∷ record { line = 1; count = 1 } ∷ record { line = 3; count = 1 } ∷ []
+each_on_its_line = refl
+
+-- the first and the last line of a source of three, and what is before and after them
+nearest_lines : map (nearest_line 3) (0 ∷ 1 ∷ 3 ∷ 4 ∷ []) ≡ 1 ∷ 1 ∷ 3 ∷ 3 ∷ []
+nearest_lines = refl
+
+abbrev asks : CountStyle → Asked
+asks style = record { edition = editions.One; steps = 10; files = two_files; style = style }
+
+whole_table : count_text (asks styles.Table) (codes "main(){f();}\n\nf(){}\n") two_functions tallies 4
     ≡ codes "    line         times         steps  source\n"
     ++ codes ">      1             2             3  main(){f();}\n"
     ++ codes "       2                              \n"
@@ -135,8 +152,18 @@ whole_table : table_text style.Table two_files (codes "main(){f();}\n\nf(){}\n")
 unfolding digits
 whole_table = refl
 
-whole_objects : table_text style.Json two_files (codes "main(){f();}\n\nf(){}\n") in_two 4
+whole_objects : count_text (asks styles.Json) (codes "main(){f();}\n\nf(){}\n") two_functions tallies 4
     ≡ codes "{\"file\":\"p.b\",\"line\":1,\"times\":2,\"steps\":3}\n"
     ++ codes "{\"file\":\"l.b\",\"line\":1,\"times\":1,\"steps\":1}\n"
 unfolding digits
 whole_objects = refl
+
+-- a table with its hint: all code is on one line
+hinted_table : count_text (asks styles.Table) (codes "main(){}") (record { strings = 8; lines = 1 ∷ 1 ∷ [] } ∷ [])
+    ((1 ∷ 1 ∷ []) ∷ []) 2
+    ≡ codes "    line         times         steps  source\n"
+    ++ codes ">      1             1             2  main(){}\n"
+    ++ codes "   total                           2\n"
+    ++ codes "  hint: all code is on one line; b format FILE gives each statement its own\n"
+unfolding digits
+hinted_table = refl

@@ -1,7 +1,7 @@
 -- Promise: what comes of a source whose steps are counted.
-use Rattle.std.specs.Prelude.{◌≡◌, ℕ, ◌+◌, ◌≤◌, ◌<◌, ◌==◌, List, Option, Some, find, map, min, option_map}
+use Rattle.std.specs.Prelude.{◌≡◌, ℕ, ◌+◌, ◌==◌, List, Option, Some, find, map, max, min, option_map}
 use Rattle.std.specs.Prelude.{unwrap_or, if◌then◌else◌}
-use Rattle.std.specs.List.{All, flat_map, range_with_len, sum_by}
+use Rattle.std.specs.List.{enumerate_from, flat_map, range_with_len, slice_get, sum_by}
 use Rattle.bsources.specs.Files.{Files, files_shown}
 use Rattle.bword.specs.declared.edition.Edition.{Edition}
 use Rattle.bword.specs.ByteEnds.{Kept, most, outgoing_of}
@@ -15,6 +15,7 @@ use Rattle.bmach.specs.Readings.{ReadBySteps}
 use Rattle.bmach.specs.Stepping.{BeginsNot}
 use Rattle.btools.specs.Functions.{Placed, functions_of}
 use Rattle.btools.specs.FaultPlaces.{fault_lines}
+use Rattle.btools.specs.ProgramLines.{FunctionLines, HasLines, line_in, lined_functions}
 use Rattle.btools.specs.Programs.{HasProgram, NoProgram, TellsEnd, nothing_written}
 use Rattle.bwatch.specs.Sights.{Sights}
 use Rattle.bwatch.specs.Watches.{Watches}
@@ -36,10 +37,6 @@ pub record Asked : Type 0 where
 abbrev pub asked_of : Counting → Asked
 asked_of c = record { edition = c.edition; steps = c.steps; files = files_shown c.files; style = c.style }
 
--- an instruction is on one of so many lines
-abbrev pub IsOnLines : (last : ℕ) → Counted → Type 0
-IsOnLines last c = (0 < c.line) × (c.line ≤ last)
-
 -- how often the first instruction of a line was made, if it has one
 abbrev pub times_on : List Counted → (line : ℕ) → Option ℕ
 times_on counted line = option_map (λ c. c.count) (find (λ c. c.line == line) counted)
@@ -59,29 +56,44 @@ with_count c count = record { times = Some (unwrap_or c.times count); steps = mi
 abbrev pub line_counts : List Counted → (last : ℕ) → List LineCount
 line_counts counted last = map (line_count counted) (range_with_len 1 last)
 
--- A text shows these counts of the instructions of a program: each instruction is on a line of the source, and each
--- line has its row.
-pub record IsTableOf (asked : Asked) (source : List ℕ) (tallies : List (List ℕ)) (made : ℕ) (text : List ℕ) : Type 0
-  where
-    pub counted : List Counted
-    pub counts_are : map (λ c. c.count) counted ≡ flat_map (λ counts. counts) tallies
-    pub on_lines : All (IsOnLines (last_line source)) counted
-    pub text_is : text ≡ table_text asked.style asked.files source (line_counts counted (last_line source)) made
+-- a line as the nearest of so many
+abbrev pub nearest_line : (last line : ℕ) → ℕ
+nearest_line last line = min (max line 1) last
+
+-- an instruction of a function, on its line, with how often it was made
+abbrev pub counted_at : (last : ℕ) → Option FunctionLines → (place count : ℕ) → Counted
+counted_at last f place count = record { line = nearest_line last (line_in f place); count = count }
+
+abbrev pub counted_in : (last : ℕ) → Option FunctionLines → (counts : List ℕ) → List Counted
+counted_in last f counts = map (λ x. counted_at last f x.0 x.1) (enumerate_from 0 counts)
+
+-- all instructions, function by function
+abbrev pub counted_of : (last : ℕ) → List FunctionLines → (tallies : List (List ℕ)) → List Counted
+counted_of last fs tallies = flat_map (λ x. counted_in last (slice_get fs x.0) x.1) (enumerate_from 0 tallies)
+
+-- what the code of each line of a source did, by the lines of its functions and the counts of their instructions
+abbrev pub counts_by_line : (source : List ℕ) → List FunctionLines → (tallies : List (List ℕ)) → List LineCount
+counts_by_line source fs tallies = line_counts (counted_of (last_line source) fs tallies) (last_line source)
+
+abbrev pub count_text : Asked → (source : List ℕ) → List FunctionLines → (tallies : List (List ℕ)) → (made : ℕ) → List ℕ
+count_text asked source fs tallies made =
+    table_text asked.style asked.files source (counts_by_line source fs tallies) made
 
 -- Each count is how often this instruction was made in so many steps. There are none where a read failed.
 abbrev pub AreCounts : List Placed → (tallies : List (List ℕ)) → Sights → (made : ℕ) → Outcome → Type 0
 AreCounts functions tallies sights made outcome.Device = ⊥
 AreCounts functions tallies sights made result = tallies ≡ map (counts_of sights made) functions
 
--- The program of the source was run for so many steps at most, as the machine runs it, and its counts written; or a read
--- of it failed, and nothing was written; or it did not begin, or there is none, and why was told; or memory was refused,
--- and nothing was written, or read but by some of its steps.
+-- The program of the source was run for so many steps at most, as the machine runs it, and its counts written, each
+-- instruction on its own line; or a read of it failed, and nothing was written; or it did not begin, or there is none,
+-- and why was told; or memory was refused, and nothing was written, or read but by some of its steps.
 pub data Counts (asked : Asked) (source : List ℕ) (ends : RunEnds) (status : ℕ) : Type 0 where
   counted : (ds : List Definition) (image : Image) (result : Outcome) (made : ℕ) (tallies : List (List ℕ))
-      (text : List ℕ) (told : ℕ) → HasProgram asked.edition source ds image
+      (lines : List ℕ) (told : ℕ) → HasProgram asked.edition source ds image
       → Watches (image_of ds).functions (machine ds) asked.steps ends.input ends.input_after result made
       (AreCounts (functions_of ds) tallies)
-      → IsTableOf asked source tallies made text → Reported text DONE ends.out ends.out_after told
+      → HasLines asked.edition source lines
+      → Reported (count_text asked source (lined_functions ds lines) tallies made) DONE ends.out ends.out_after told
       → TellsEnd told result ends.line ends.line_after status → Counts asked source ends status
   unread : (ds : List Definition) (image : Image) (output : Kept)
       → HasProgram asked.edition source ds image → ends.line_after ≡ ends.line

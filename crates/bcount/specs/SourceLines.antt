@@ -1,7 +1,8 @@
 -- Inner words: how many lines a source has, and what stands beside their counts.
-use Rattle.std.specs.Prelude.{ℕ, ◌+◌, ◌==◌, List, ◌++◌, codes, count_by, if◌then◌else◌}
+use Rattle.std.specs.Prelude.{ℕ, ◌+◌, ◌<◌, ◌≤◌, ◌==◌, List, ◌++◌, codes, count_by, if◌then◌else◌}
 use Rattle.std.specs.List.{ends_with}
 use Rattle.btools.specs.SourceLines.{shown_line}
+use Rattle.bcount.specs.declared.lines.Counted.{Counted}
 
 abbrev pub newlines_in : List ℕ → ℕ
 newlines_in source = count_by (λ b. b == 10) source
@@ -14,3 +15,7 @@ last_line source =
 -- what stands beside the counts of a line
 abbrev pub beside_text : (line : List ℕ) → List ℕ
 beside_text line = codes "  " ++ shown_line line
+
+-- an instruction is on one of so many lines
+abbrev pub IsOnLines : (last : ℕ) → Counted → Type 0
+IsOnLines last c = (0 < c.line) × (c.line ≤ last)

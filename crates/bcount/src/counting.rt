@@ -1,7 +1,8 @@
 //! Counting the steps of a program.
 ghost use Rattle.std.specs.Prelude.{◌≡◌, IfOk};
 ghost use Rattle.blang.specs.Reports.{run_ends};
-ghost use Rattle.bcount.specs.Counts.{Counts, IsTableOf, asked_of};
+ghost use Rattle.btools.specs.ProgramLines.{lines_shown};
+ghost use Rattle.bcount.specs.Counts.{Counts, asked_of, count_text};
 ghost use Rattle.bcount.specs.CountExcluded.{CountsExcluded};
 ghost use Rattle.bcount.specs.Tallies.{tallies_of};
 ghost use Rattle.bcount.specs.Together.{StepsAddUp};
@@ -87,7 +88,8 @@ fn text_of(
     tallies: &Tallies<'_, '_>,
     made: u64,
 ) -> Result<Text, AllocError>
-    ensures { IfOk result (λ text. IsTableOf (asked_of counting.entry) source.now (tallies_of tallies.now) made text) }
+    ensures { IfOk result (λ text. text ≡ count_text (asked_of counting.entry) source.now (lines_shown tables.now)
+        (tallies_of tallies.now) made) }
 {
     let last = last_line(source);
     let counted = counted_of(alloc, tables, tallies, last)?;

@@ -1,9 +1,11 @@
 //! What the code of each line did.
-ghost use Rattle.std.specs.Prelude.{◌≡◌, ◌≤◌, ◌<◌, ◌-◌, ◌++◌, IfOk, OnOk, get_or, length, map, replicate, set};
-ghost use Rattle.std.specs.List.{All, flat_map};
-ghost use Rattle.bcount.specs.Counts.{IsOnLines, line_counts, with_count};
+ghost use Rattle.std.specs.Prelude.{◌≡◌, ◌-◌, ◌++◌, IfOk, OnOk, get_or, length, option_map, replicate, set};
+ghost use Rattle.std.specs.List.{All};
+ghost use Rattle.bcount.specs.Counts.{counted_in, counted_of, line_counts, nearest_line, with_count};
 ghost use Rattle.bcount.specs.Marks.{no_code};
+ghost use Rattle.bcount.specs.SourceLines.{IsOnLines};
 ghost use Rattle.bcount.specs.Tallies.{tallies_of};
+ghost use Rattle.btools.specs.ProgramLines.{lined_entry, lines_shown};
 
 use crate::tallies::Tallies;
 use btools::{Entry, Tables};
@@ -32,9 +34,7 @@ pub fn counted_of(
     tallies: &Tallies<'_, '_>,
     last: u64,
 ) -> Result<Vec<Counted>, AllocError>
-    requires { 0 < last }
-    ensures counts { IfOk result (λ v. map (λ c. c.count) v.items ≡ flat_map (λ counts. counts) (tallies_of tallies.now)) }
-    ensures lines { IfOk result (λ v. All (IsOnLines last) v.items) }
+    ensures { IfOk result (λ v. v.items ≡ counted_of last (lines_shown tables.now) (tallies_of tallies.now)) }
 {
     let entries = tables.entries();
     let mut counted = Vec::new(alloc);
@@ -54,14 +54,12 @@ fn push_function<'a>(
     counts: &[u64],
     last: u64,
 ) -> Result<(), AllocError>
-    requires { 0 < last }
-    ensures counts { OnOk result (map (λ c. c.count) counted.new.items ≡ map (λ c. c.count) counted.old.items ++ counts.now) }
-    ensures lines { OnOk result (All (IsOnLines last) counted.old.items → All (IsOnLines last) counted.new.items) }
+    ensures { OnOk result (counted.new.items ≡ counted.old.items
+        ++ counted_in last (option_map lined_entry entry.entry) counts.now) }
 {
     for place in 0..counts.len() {
-        let line = tables.line(entry, place);
         counted.push(Counted {
-            line: on_lines(line, last),
+            line: nearest_line(tables.line(entry, place), last),
             count: counts[place],
         })?;
     }
@@ -69,10 +67,8 @@ fn push_function<'a>(
 }
 
 // A line of the source; one that isn't known is taken for the nearest.
-fn on_lines(line: u64, last: u64) -> u64
-    requires { 0 < last }
-    ensures low { 0 < result }
-    ensures high { result ≤ last }
+fn nearest_line(line: u64, last: u64) -> u64
+    ensures { result ≡ nearest_line last line }
 {
     line.max(1).min(last)
 }

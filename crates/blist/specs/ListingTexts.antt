@@ -1,9 +1,9 @@
 -- Inner words: the rows of a listing.
 use Rattle.std.specs.Prelude.{◌≡◌, ℕ, zero, suc, ◌+◌, ◌-◌, ◌%◌, ◌==◌, ◌&&◌, List, [], ◌∷◌, ◌++◌, codes, decimal, drop, get_or}
-use Rattle.std.specs.Prelude.{map, refl, replicate, take, Option, Some, None, if◌then◌else◌}
+use Rattle.std.specs.Prelude.{map, refl, take, Option, Some, None, if◌then◌else◌}
 use Rattle.std.specs.Char.{is_ascii_whitespace}
 use Rattle.std.specs.List.{enumerate_from, flat_map, prefix_len, slice_get}
-use Rattle.blang.specs.Layout.{Shape, shape_of, words_before_strings}
+use Rattle.blang.specs.Layout.{shape_of, words_before_strings}
 use Rattle.blang.specs.Text.{header_line, instr_line, ival_line, string_line, target_line}
 use Rattle.blang.specs.declared.code.Definition.{Definition}
 use Rattle.blang.specs.declared.code.Definition.TheVariants as definition

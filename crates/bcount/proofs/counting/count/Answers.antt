@@ -1,4 +1,4 @@
-use Rattle.std.proofs.Common.{ℕ, List, inl, inr, refl, subst}
+use Rattle.std.proofs.Common.{◌∙◌, ℕ, List, ap, inl, inr, refl, subst}
 use Rattle.blang.specs.declared.status.TheConstants.{DONE}
 use Rattle.blang.specs.declared.run.Outcome.TheVariants as outcome
 use Rattle.blang.specs.Machine.{image_of, machine}
@@ -6,8 +6,9 @@ use Rattle.blang.specs.Reports.{Reported}
 use Rattle.bmach.proofs.Readings.{none_at_first}
 use Rattle.btools.proofs.Functions.{data_fit}
 use Rattle.btools.specs.Functions.{functions_of}
+use Rattle.btools.specs.ProgramLines.{FunctionLines}
 use Rattle.bwatch.proofs.Seen.{read_watched, told_so}
-use Rattle.bcount.specs.Counts.{AreCounts, counted, no_memory, not_begun, stopped, unread}
+use Rattle.bcount.specs.Counts.{AreCounts, asked_of, count_text, counted, no_memory, not_begun, stopped, unread}
 use Rattle.bcount.specs.Tallies.{tallies_of}
 use Rattle.bcount.proofs.Counted.{counted_so, none_counted}
 use Rattle.bcount.proofs.counting.count.Goals as goal
@@ -59,10 +60,12 @@ returns-then-told-ne-DONE-clause-counts g c =
     let stop = c.in-Ok-Ended.stop in
     let fs = functions_of ds in
     let tallies = c.watch.new.onlooker in
-    let told = subst (λ (t : List ℕ). Reported t DONE (g.O.ByteOut.outgoing c.args.out.now) (g.O.ByteOut.outgoing c.tell-told.new.out) c.tell-told.result) c.as_slice.ensures c.tell-told.ensures.told in
+    let lines = c.in-Ok.program.names.lines.items in
+    let text = c.as_slice.ensures ∙ c.in-Ok-text_of.ensures ∙ ap (λ (ls : List FunctionLines). count_text (asked_of c.args.counting) c.args.source.now ls (tallies_of tallies) stop.steps) c.in-Ok-new.ensures.lines in
+    let told = subst (λ (t : List ℕ). Reported t DONE (g.O.ByteOut.outgoing c.args.out.now) (g.O.ByteOut.outgoing c.tell-told.new.out) c.tell-told.result) text c.tell-told.ensures.told in
     let counts = told_so (image_of ds).functions (machine ds) c.args.counting.steps _ _ stop.outcome stop.steps _ (AreCounts fs (tallies_of tallies))
     (counted_so c.in-Ok-new-2.tallies tallies c.in-Ok-new.tables fs c.in-Ok-new-2.ensures.tables c.in-Ok-new.ensures.functions stop.outcome c.in_default-outcome.not-Device stop.steps) w in
-    counted ds c.in-Ok.program.image stop.outcome stop.steps (tallies_of tallies) c.in-Ok-text_of.text c.tell-told.result c.in-Ok.ensures.program counts c.in-Ok-text_of.ensures told (inr (c.if-told-ne-DONE.true, refl, refl))
+    counted ds c.in-Ok.program.image stop.outcome stop.steps (tallies_of tallies) lines c.tell-told.result c.in-Ok.ensures.program counts c.in-Ok.ensures.lines told (inr (c.if-told-ne-DONE.true, refl, refl))
 
 pub returns-clause-counts : goal.returns-clause-counts
 returns-clause-counts g c =
@@ -71,7 +74,9 @@ returns-clause-counts g c =
     let stop = c.in-Ok-Ended.stop in
     let fs = functions_of ds in
     let tallies = c.watch.new.onlooker in
-    let told = subst (λ (t : List ℕ). Reported t DONE (g.O.ByteOut.outgoing c.args.out.now) (g.O.ByteOut.outgoing c.tell-told.new.out) c.tell-told.result) c.as_slice.ensures c.tell-told.ensures.told in
+    let lines = c.in-Ok.program.names.lines.items in
+    let text = c.as_slice.ensures ∙ c.in-Ok-text_of.ensures ∙ ap (λ (ls : List FunctionLines). count_text (asked_of c.args.counting) c.args.source.now ls (tallies_of tallies) stop.steps) c.in-Ok-new.ensures.lines in
+    let told = subst (λ (t : List ℕ). Reported t DONE (g.O.ByteOut.outgoing c.args.out.now) (g.O.ByteOut.outgoing c.tell-told.new.out) c.tell-told.result) text c.tell-told.ensures.told in
     let counts = told_so (image_of ds).functions (machine ds) c.args.counting.steps _ _ stop.outcome stop.steps _ (AreCounts fs (tallies_of tallies))
     (counted_so c.in-Ok-new-2.tallies tallies c.in-Ok-new.tables fs c.in-Ok-new-2.ensures.tables c.in-Ok-new.ensures.functions stop.outcome c.in_default-outcome.not-Device stop.steps) w in
-    counted ds c.in-Ok.program.image stop.outcome stop.steps (tallies_of tallies) c.in-Ok-text_of.text c.tell-told.result c.in-Ok.ensures.program counts c.in-Ok-text_of.ensures told (inl (c.if-told-ne-DONE.false, c.finish-2.ensures.gives))
+    counted ds c.in-Ok.program.image stop.outcome stop.steps (tallies_of tallies) lines c.tell-told.result c.in-Ok.ensures.program counts c.in-Ok.ensures.lines told (inl (c.if-told-ne-DONE.false, c.finish-2.ensures.gives))

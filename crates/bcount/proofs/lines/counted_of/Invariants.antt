@@ -1,11 +1,12 @@
-use Rattle.std.proofs.Common.{◌≡◌, map, take}
-use Rattle.std.specs.List.{All, flat_map}
-use Rattle.bcount.specs.Counts.{IsOnLines}
+use Rattle.std.proofs.Common.{◌≡◌, ◌++◌, drop}
+use Rattle.btools.specs.ProgramLines.{lines_shown}
+use Rattle.bcount.specs.Counts.{counted_of}
 use Rattle.bcount.specs.Tallies.{tallies_of}
+use Rattle.bcount.proofs.OnLines.{from_function}
 use Rattle.bcount.proofs.lines.counted_of.Given as goal
 
+-- what is still to come
 abbrev pub invariant-loop-number : goal.invariant-loop-number
-invariant-loop-number l = record {
-  counts : map (λ c. c.count) l.counted.items ≡ flat_map (λ counts. counts) (take l.number (tallies_of l.tallies));
-  lines : All (IsOnLines l.last) l.counted.items;
-}
+invariant-loop-number l =
+    counted_of l.last (lines_shown l.tables) (tallies_of l.tallies)
+    ≡ l.counted.items ++ from_function l.last (lines_shown l.tables) l.number (drop l.number (tallies_of l.tallies))

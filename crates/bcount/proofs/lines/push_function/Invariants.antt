@@ -1,10 +1,12 @@
-use Rattle.std.proofs.Common.{◌≡◌, ◌++◌, map, take}
-use Rattle.std.specs.List.{All}
-use Rattle.bcount.specs.Counts.{IsOnLines}
+use Rattle.std.proofs.Common.{◌≡◌, ◌++◌, drop, map}
+use Rattle.std.specs.List.{enumerate_from}
+use Rattle.std.specs.Prelude.{option_map}
+use Rattle.btools.specs.ProgramLines.{lined_entry}
+use Rattle.bcount.specs.Counts.{counted_at, counted_in}
 use Rattle.bcount.proofs.lines.push_function.Given as goal
 
+-- what is still to come
 abbrev pub invariant-loop-place : goal.invariant-loop-place
-invariant-loop-place l = record {
-  counts : map (λ c. c.count) l.counted.items ≡ map (λ c. c.count) l.fn.counted.items ++ take l.place l.counts;
-  lines : All (IsOnLines l.last) l.fn.counted.items → All (IsOnLines l.last) l.counted.items;
-}
+invariant-loop-place l =
+    l.fn.counted.items ++ counted_in l.last (option_map lined_entry l.entry) l.counts
+    ≡ l.counted.items ++ map (λ x. counted_at l.last (option_map lined_entry l.entry) x.0 x.1) (enumerate_from l.place (drop l.place l.counts))

@@ -1,4 +1,4 @@
-use Rattle.std.proofs.Common.{◌≡◌, ◌∙◌, ◌++◌, [], ap, get_or}
+use Rattle.std.proofs.Common.{◌≡◌, ◌∙◌, ◌++◌, []}
 use Rattle.std.specs.List.{slice_get}
 use Rattle.blang.specs.Text.{ival_line}
 use Rattle.blang.specs.declared.code.Ival.{Ival}

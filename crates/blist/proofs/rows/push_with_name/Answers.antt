@@ -1,6 +1,5 @@
-use Rattle.std.proofs.Common.{◌∙◌, ◌++◌, arith, codes}
 use Rattle.std.proofs.lemmas.Result.{on_ok_weaker}
-use Rattle.blist.specs.ListingTexts.{named_text, source_column}
+use Rattle.blist.specs.ListingTexts.{named_text}
 use Rattle.btools.specs.Columns.{left}
 use Rattle.blist.proofs.AddedRows.{columns_added}
 use Rattle.blist.proofs.rows.push_with_name.Goals as goal
