@@ -1,5 +1,5 @@
 //! The two editions: `break` and `default`, and what differs between them.
-use crate::program_tests::{Counted, STEPS, all_write_in, runs_in};
+use crate::program_tests::{CountingEnd, STEPS, all_write_in, runs_in};
 use crate::run_tests;
 use crate::source_tests::{
     BOTH, all_begin_in, all_compile_in, all_have_faults_in, compares, compiles_in, of_pieces,
@@ -212,7 +212,7 @@ fn outputs_that_are_full(rt: HostRuntime) {
     let text = b"B 2\nX a 0 0\nE\n";
     for room in 0..text.len() + 1 {
         let mut taken = [0; 14];
-        let mut source = Counted {
+        let mut source = CountingEnd {
             end: MemIn::new(b"a;"),
             calls: 0,
         };
@@ -237,7 +237,7 @@ fn outputs_that_are_full(rt: HostRuntime) {
 // takes no memory for a source without a definition, and reads nothing where the line `B 2` is refused.
 #[test]
 fn want_of_memory_for_the_empty_source(rt: HostRuntime) {
-    let mut source = Counted {
+    let mut source = CountingEnd {
         end: MemIn::new(b""),
         calls: 0,
     };
