@@ -1,0 +1,4 @@
+pub mod Dues
+pub mod Sites
+pub mod Wheres
+mod WhereRows

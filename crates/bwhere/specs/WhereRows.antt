@@ -1,0 +1,101 @@
+-- Closed facts: what could come in a line of a code text, and what is told of one that went wrong.
+use Rattle.std.specs.Prelude.{◌≡◌, ℕ, List, [], ◌∷◌, codes, map, refl, true, false}
+use Rattle.std.specs.Fmt.{digits}
+use Rattle.blang.specs.declared.code.Definition.{Definition}
+use Rattle.blang.specs.declared.code.Definition.TheVariants as definition
+use Rattle.blang.specs.declared.code.Instr.TheVariants as instr
+use Rattle.bword.specs.declared.operators.BinOp.TheVariants as operator
+use Rattle.blang.specs.declared.run.LoadFault.TheVariants as fault
+use Rattle.blang.specs.declared.run.Outcome.TheVariants as outcome
+use Rattle.blang.specs.declared.run.Trap.TheVariants as trap
+use Rattle.bwhere.specs.Dues.{due_text, opens}
+use Rattle.bwhere.specs.Sites.{Site, nowhere}
+use Rattle.bwhere.specs.Wheres.{code_meaning, code_site_text, opening_lines, site_of, unloaded_text, unread_text}
+
+opening : map opens (codes "E" ∷ codes "F f" ∷ codes "V v" ∷ codes "X n" ∷ codes "B 2" ∷ codes "x n" ∷ [] ∷ [])
+    ≡ (true ∷ true ∷ true ∷ true ∷ false ∷ false ∷ false ∷ [])
+opening = refl
+
+first_line : due_text [] 1 ≡ codes "B 2, the first line of a definition, or E"
+first_line = refl
+
+after_the_edition : due_text (codes "B 2\nQ\n") 2 ≡ codes "the first line of a definition, or E"
+after_the_edition = refl
+
+after_the_end : due_text (codes "E\nE\n") 2 ≡ codes "nothing after E"
+after_the_end = refl
+
+-- a header with one instruction more than there are, at the line of E
+one_too_many : due_text (codes "F main 0 0 0 0 3\nc 1\nr\nE\n") 4 ≡ codes "an instruction, 3 of 3 of main"
+unfolding digits
+one_too_many = refl
+
+a_target : due_text (codes "F f 1 2 2 1 9\nt 0\nq\n") 3 ≡ codes "t n, target 2 of 2 of f"
+unfolding digits
+a_target = refl
+
+a_string_word : due_text (codes "F f 1 2 1 1 9\nt 0\nq\n") 3 ≡ codes "w n, string word 1 of 1 of f"
+unfolding digits
+a_string_word = refl
+
+a_value : due_text (codes "V v 9 2 1\nc 1\nq\n") 3 ≡ codes "c n, x name or s off, initial value 2 of 2 of v"
+unfolding digits
+a_value = refl
+
+next_definition : due_text (codes "X n 1 0\nc 7\nc 8\n") 3 ≡ codes "the first line of a definition, or E"
+next_definition = refl
+
+unread_told : unread_text (codes "X n 1 0\nc 007\nE\n") 2
+    ≡ codes "code 2\nat     line    2\n    c 007\n  wanted: c n, x name or s off, initial value 1 of 1 of n\n"
+unfolding digits
+unread_told = refl
+
+-- a text that ends without a newline
+cut_told : unread_text (codes "F f 0 0 0 0 1\nr") 2
+    ≡ codes "code 2\nat     line    2\n    r\n  wanted: an instruction, 1 of 1 of f; the text ends in this line\n"
+unfolding digits
+cut_told = refl
+
+undefined_told : unloaded_text (codes "F main 0 0 0 0 4\nx prnt\nv\nk 0\nr\nE\n") (fault.Undefined (codes "prnt"))
+    ≡ codes "at     line    2\n    x prnt\n  means: prnt is neither defined nor in the library\n"
+unfolding digits
+undefined_told = refl
+
+twice_told : unloaded_text (codes "X n 0 0\nX n 0 0\nE\n") (fault.Duplicate (codes "n")) ≡ codes "  means: n is defined twice\n"
+twice_told = refl
+
+-- a text with two definitions, of which the second one has its string words at address 9
+abbrev text : List ℕ
+text = codes "B 2\nX n 0 0\nF main 0 0 1 1 3\nt 0\nw 4\nc 1\nc 0\nb /\nE\n"
+
+abbrev definitions : List Definition
+definitions = definition.Simple (record { name = codes "n"; values = []; strings = [] })
+    ∷ definition.Function (record {
+      name = codes "main";
+      parameters = 0;
+      frame = 0;
+      targets = 0 ∷ [];
+      strings = 4 ∷ [];
+      code = instr.Constant 1 ∷ instr.Constant 0 ∷ instr.Binary operator.Div ∷ [];
+    }) ∷ []
+
+editions_told : map opening_lines (text ∷ codes "E\n" ∷ []) ≡ (1 ∷ 0 ∷ [])
+editions_told = refl
+
+-- a function is found by its string words, and its instructions after its targets and string words
+places_by_line : map (site_of text definitions) (9 ∷ 8 ∷ []) ≡ (record {
+  name = codes "main";
+  first = 6;
+  instructions = 3;
+} ∷ nowhere ∷ [])
+places_by_line = refl
+
+division_told : code_site_text text (site_of text definitions 9) (outcome.Trap trap.ZeroDivisor) 2 3
+    ≡ codes "at     in main     place    2  line    8  step 3\n    b /\n  means: the right operand of / or % is 0\n"
+unfolding digits
+division_told = refl
+
+-- at the last instruction, and past it
+stuck_told : map (code_meaning (outcome.Trap trap.Stuck) (record { name = []; first = 2; instructions = 3 })) (2 ∷ 3 ∷ [])
+    ≡ (codes "too few operands" ∷ codes "no instruction of the function is at this place" ∷ [])
+stuck_told = refl
