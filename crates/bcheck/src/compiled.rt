@@ -89,7 +89,7 @@ impl TokenCounter {
 }
 
 impl Watcher for TokenCounter {
-    ghost lines = { λ w. None };
+    ghost kept = { λ w. None };
 
     fn watch<I: ByteIn, O: CodeOut>(&mut self, compiler: &Compiler<I, O>, step: &Step) {
         self.end = place(compiler.tokens_taken());

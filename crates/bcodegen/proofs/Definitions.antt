@@ -25,7 +25,7 @@ use Rattle.bgrammar.proofs.ScanSteps.{scanned-Err}
 use Rattle.bemit.specs.Drafts.{led, Made, Draft, Faulty, Going, no_made, fresh, within_room, with_made, stringed, offset_of, valued, worded, closed, numbered, draft_resolved, fault_in, started}
 use Rattle.bemit.specs.Drafts as drafts
 use Rattle.bemit.specs.Effects.{ival_done, values_done, definition_done, code_with}
-use Rattle.bcodegen.specs.Laws.{pass_over, OnePass}
+use Rattle.bcodegen.specs.Laws.{instructions_in, last_scope, pass_over, OnePass}
 use Rattle.bcodegen.proofs.Names.{names_by, agrees_by}
 use Rattle.bcodegen.proofs.Parts.{Parts, no_parts, joined, added, ending, drafted, kept, Roomy, smaller, kept_within, changed, offset_is, scope_of, scope_kept, Makes, then_, emits}
 use Rattle.bcodegen.proofs.Headings.{parameters_make, worded_scope}
@@ -94,7 +94,8 @@ values_scope (x ∷ xs) d = values_scope xs (ival_done d x) ∙ ival_scope x d
 data Comes (d : Definition) (r : Draft) : Type 0 where
   Refused : (f : Diagnostic) → inner_fault d ≡ Some f → fault_in (identifier_of d).line r ≡ Some f → Comes d r
   Coded : (s : Scope) → (m : Made) → inner_fault d ≡ None → undefined s.names ≡ None → r ≡ Going s (if fits_limits (code_of d) then Some m else None)
-      → code_with d s.frame (record m { code = map (numbered s.names) m.code }) ≡ code_of d → Comes d r
+      → code_with d s.frame (record m { code = map (numbered s.names) m.code }) ≡ code_of d
+      → map (numbered s.names) m.code ≡ instructions_in (code_of d) → s ≡ last_scope d → Comes d r
 
 simple_fits : (m : Made) → m.code ≡ [] → kept 0 m ≡ (if nat_le (length m.values) 1024 && nat_le (length m.strings) 1024 then Some m else None)
 simple_fits m c = go (nat_le (length m.values) 1024) (nat_le (length m.strings) 1024) refl refl
@@ -159,7 +160,7 @@ function_comes w parameters body sits = go (function_scope parameters body) refl
     scope_is = (function_makes (environment_of []) w parameters body sits).scans fresh (le_refl 200)
 
     coded_by : (s : Scope) → function_scope parameters body ≡ Ok s → undefined s.names ≡ None → Comes d (definition_done d fresh)
-    coded_by s h u = Coded s m (ap scope_fault h ∙ u) u draft_is code_is
+    coded_by s h u = Coded s m (ap scope_fault h ∙ u) u draft_is code_is (ap instructions_in code_is) (sym (ap clean h))
       where
         names : Environment
         names = names_by s.names
@@ -238,7 +239,7 @@ comes (Simple w values) formed =
     Coded no_scope m refl refl
     (values_are values [] no_scope no_made (formed_in (Simple w values) formed) refl ∙ ap (λ o. Going no_scope o) (simple_fits m refl)
     ∙ ap (λ strings. Going no_scope (if fits_limits (simple_code w values strings) then Some m else None)) same)
-    (ap (simple_code w values) same)
+    (ap (simple_code w values) same) refl refl
 comes (Vector w size values) formed =
     let m : Made = more no_made (map ival_code values) (flat_map ival_strings values) in
     let same = sym (vector_strings w size values) in
@@ -246,7 +247,7 @@ comes (Vector w size values) formed =
     (ap (worded (vector_words size values)) (values_are values [] no_scope no_made (formed_in (Vector w size values) formed) refl)
     ∙ vector_fits m (vector_words size values) refl
     ∙ ap (λ strings. Going no_scope (if fits_limits (vector_code w size values strings) then Some m else None)) same)
-    (ap (vector_code w size values) same)
+    (ap (vector_code w size values) same) refl refl
 comes (Function w parameters body) formed = function_comes w parameters body (formed_in (Function w parameters body) formed)
 
 -- a first fault stays
@@ -258,13 +259,14 @@ stays (Function w parameters body) f formed = (function_makes (environment_of []
 abbrev Settles : List (List ℕ) → Definition → Draft → Type 0
 Settles defined d r =
     (fault_in (identifier_of d).line r ≡ fault_of defined d)
-    × (fault_of defined d ≡ None → (s : Scope) × (m : Made) × (draft_resolved r ≡ Going s (Some m)) × (code_with d s.frame m ≡ code_of d))
+    × (fault_of defined d ≡ None → (s : Scope) × (m : Made) × (draft_resolved r ≡ Going s (Some m)) × (code_with d s.frame m ≡ code_of d)
+    × (m.code ≡ instructions_in (code_of d)) × (s ≡ last_scope d))
 
 settles : (defined : List (List ℕ)) (d : Definition) (r : Draft) → Comes d r → fault_of defined d ≡ or_too_large (inner_fault d) (identifier_of d).line (code_of d) → Settles defined d r
 settles defined d r (Refused f i h) e =
     let g : fault_of defined d ≡ Some f = e ∙ ap (λ o. or_too_large o (identifier_of d).line (code_of d)) i in
     (h ∙ sym g, λ n. let bad : Some f ≡ None = sym g ∙ n in cc)
-settles defined d r (Coded s m i u h c) e = go (fits_limits (code_of d)) refl
+settles defined d r (Coded s m i u h c b l) e = go (fits_limits (code_of d)) refl
   where
     small : fault_of defined d ≡ (if fits_limits (code_of d) then None else Some (fault letters.TooLarge (identifier_of d).line))
     small = e ∙ ap (λ o. or_too_large o (identifier_of d).line (code_of d)) i
@@ -275,7 +277,7 @@ settles defined d r (Coded s m i u h c) e = go (fits_limits (code_of d)) refl
     go : (b : Bool) → fits_limits (code_of d) ≡ b → Settles defined d r
     go true q = (
       found ∙ ap (λ b. drafts.fault_after None (if b then Some m else None) (identifier_of d).line) q ∙ sym (ap (λ b. if b then None else Some (fault letters.TooLarge (identifier_of d).line)) q) ∙ sym small,
-      λ n. (s, record m { code = map (numbered s.names) m.code }, ap draft_resolved h ∙ ap (λ b. draft_resolved (Going s (if b then Some m else None))) q, c),
+      λ n. (s, record m { code = map (numbered s.names) m.code }, ap draft_resolved h ∙ ap (λ b. draft_resolved (Going s (if b then Some m else None))) q, c, b, l),
     )
     go false q =
         let large : fault_of defined d ≡ Some (fault letters.TooLarge (identifier_of d).line) = small ∙ ap (λ b. if b then None else Some (fault letters.TooLarge (identifier_of d).line)) q in (

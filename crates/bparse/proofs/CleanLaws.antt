@@ -7,7 +7,7 @@ use Rattle.blang.specs.declared.token.Diagnostic.{Diagnostic}
 use Rattle.blang.specs.declared.token.Letters.TheVariants as letters
 use Rattle.blang.specs.declared.code.Definition as coded
 use Rattle.blang.specs.Trees.{Identifier, Definition, Simple, Vector, Function}
-use Rattle.blang.specs.Scan.{Entry, NameKind, Automatic, kind_of, with_declaration, fault, name_fault, Scope, no_scope, scanned, with_names, automatic_words, function_scope, scope_fault, inner_fault, scan}
+use Rattle.blang.specs.Scan.{Entry, NameKind, Automatic, kind_of, with_declaration, fault, name_fault, Scope, no_scope, scanned, with_names, automatic_words, function_scope, scope_fault, identifier_of, inner_fault, scan}
 use Rattle.blang.specs.declared.limits.TheConstants.{MAX_NAMES}
 use Rattle.blang.specs.Walk.{Event, AutoHere}
 use Rattle.bgrammar.specs.Events.{statement_events}
@@ -77,9 +77,15 @@ no_inner : (b : Bool) (d : Diagnostic) (o : Option Diagnostic) → (if b then So
 no_inner true d o e = cc
 no_inner false d o e = e
 
-scope_clean : (r : Result Scope Diagnostic) → scope_fault r ≡ None → (s : Scope) × (r ≡ Ok s)
+pub scope_clean : (r : Result Scope Diagnostic) → scope_fault r ≡ None → (s : Scope) × (r ≡ Ok s)
 scope_clean (Ok s) e = (s, refl)
 scope_clean (Err d) e = cc
+
+-- the scan of a definition without a fault has none
+pub clean_inner : (defined : List (List ℕ)) (d : Definition) → fault_of defined d ≡ None → inner_fault d ≡ None
+clean_inner defined d e =
+    no_inner (list_any (same_name (identifier_of d).text) defined) (name_fault letters.Redeclared (identifier_of d)) (inner_fault d)
+    (no_fault (scan defined d) (identifier_of d).line (code_of d) e).0
 
 pub clean_small : (defined : List (List ℕ)) (d : Definition) → fault_of defined d ≡ None → IsSmall d
 clean_small defined (Simple w values) e = tt
@@ -87,8 +93,6 @@ clean_small defined (Vector w size values) e =
     let f = no_fault (scan defined (Vector w size values)) w.line (code_of (Vector w size values)) e in
     fewer (vector_words size values) (third_true (nat_le (length (map ival_code values)) 1024) (nat_le (length (string_words_of (Vector w size values))) 1024) (nat_le (vector_words size values) 32767) f.1)
 clean_small defined (Function w ps body) e =
-    let f = no_fault (scan defined (Function w ps body)) w.line (code_of (Function w ps body)) e in
-    let inner = no_inner (list_any (same_name w.text) defined) (name_fault letters.Redeclared w) (inner_fault (Function w ps body)) f.0 in
-    let s = scope_clean (function_scope ps body) inner in
+    let s = scope_clean (function_scope ps body) (clean_inner defined (Function w ps body) e) in
     let n = few ps (statement_events body) no_scope s.0 (omega arith) (ap (λ es. scanned es (Ok no_scope)) (sym (function_events_are ps body)) ∙ s.1) in
     omega (arith, n)

@@ -1,5 +1,5 @@
 -- What the steps of the compiler make of what was read.
-use Rattle.std.proofs.Common.{◌≡◌, ℕ, ◌<◌, Bool, true, false, List, [], ◌∷◌, ◌++◌, Some, None, Result, Ok, Err, IsErrAnd, refl, sym, ap, ◌∙◌, subst, append_assoc, arith, inl, inr, if◌then◌else◌}
+use Rattle.std.proofs.Common.{◌≡◌, ℕ, ◌<◌, Bool, true, false, List, [], ◌∷◌, ◌++◌, Option, Some, None, Result, Ok, Err, IsErrAnd, refl, sym, ap, ◌∙◌, subst, append_assoc, arith, inl, inr, if◌then◌else◌}
 use Rattle.bword.specs.declared.edition.Edition.{Edition}
 use Rattle.blang.specs.Text.{end_text, IsWithinRanges}
 use Rattle.bword.specs.ByteEnds.{Outgoing, Writes, Refuses}
@@ -36,6 +36,7 @@ use Rattle.bword.specs.ByteEnds.{CanFollow}
 use Rattle.bread.proofs.TokenSteps.{Reads-append, LooksAt-append, CanFollow-append}
 use Rattle.bread.proofs.Moving.{single_here}
 use Rattle.blex.proofs.Passing.{Grew-after}
+use Rattle.bparse.specs.Locals.{Locals, locals_of}
 use Rattle.bparse.specs.Steps.{AreOfSource, Point, point, HasCode, Writing, Stopping, OutRefuses, PointGives, StandsAt, refused_step}
 use Rattle.bparse.specs.declared.step.Step.{Step}
 use Rattle.bparse.specs.declared.step.Step.TheVariants as step
@@ -88,7 +89,7 @@ pub breaks_after : {a b c : Tokens} {P : List Placed → List Placed → Type 0}
 breaks_after h k = record { taken = h.taken ++ k.taken; reads = Reads-append h.reads k.reads; counted = Grew-after _ _ _ h.failures k.counted }
 
 -- A failed read, before anything is written.
-pub read_fails : (old new : Tokens) (names names' : Defined) (out : Outgoing) → TokensFail old new → PointGives (point old names out) (Err step.Device) (point new names' out)
+pub read_fails : (old new : Tokens) {locals locals' : Option Locals} (names names' : Defined) (out : Outgoing) → TokensFail old new → PointGives (point old locals names out) (Err step.Device) (point new locals' names' out)
 read_fails old new names names' out b = inl (record { taken = b.taken; reads = b.reads; each = λ more c r g. tt }, b.counted, refl)
 
 -- The token that comes is ahead.
@@ -112,8 +113,8 @@ module _ (old mid : Tokens) (names : Defined) (l : Looks old mid) where
     failed_none = m.failures ∙ l.moves.failures
 
   -- a token that can't come
-  pub fault_stops : (new : Tokens) (out : Outgoing) (d : Diagnostic) → Moves mid new (λ u v. definition u ≡ Stop v) → IsSingle new → (first mid.ahead ≡ token.End → ⊥) → d ≡ fault_ahead new
-      → Stopping (point old names out) (Some d) (point new names out)
+  pub fault_stops : {locals locals' : Option Locals} (new : Tokens) (out : Outgoing) (d : Diagnostic) → Moves mid new (λ u v. definition u ≡ Stop v) → IsSingle new → (first mid.ahead ≡ token.End → ⊥) → d ≡ fault_ahead new
+      → Stopping (point old locals names out) (Some d) (point new locals' names out)
   fault_stops new out d m single not_end d_is = record {
     taken = both new m;
     reads = both_read new m;
@@ -144,10 +145,10 @@ module _ (old mid : Tokens) (names : Defined) (l : Looks old mid) where
     ends_there : (more : List ℕ) → CanFollow mid.source.end more → StandsAt mid (tokens_of old (l.moves.taken ++ more)) (tokens_of mid more)
     ends_there more c = (single_here l.loaded (ap is_name at_end), inr (inr (sym (l.moves.come more c), at_end)))
 
-    pub end_stops : Writes out end_text out' → Stopping (point old names out) None (point mid names out')
+    pub end_stops : {locals locals' : Option Locals} → Writes out end_text out' → Stopping (point old locals names out) None (point mid locals' names out')
     end_stops w = record { taken = l.moves.taken; reads = l.moves.reads; looked = l.moves.looked; failures = l.moves.failures; stands = ends_there; written = w; comes = comes_end }
 
-    end_refused : (e : EndFault) → Refuses out end_text e out' → OutRefuses (point old names out) e (point mid names out')
+    end_refused : {locals locals' : Option Locals} (e : EndFault) → Refuses out end_text e out' → OutRefuses (point old locals names out) e (point mid locals' names out')
     end_refused e w = (
       (
         record {
@@ -161,9 +162,9 @@ module _ (old mid : Tokens) (names : Defined) (l : Looks old mid) where
       l.moves.failures,
     )
 
-    pub end_breaks : (e : EndFault) → Refuses out end_text e out' → PointGives (point old names out) (Err (refused_step e)) (point mid names out')
-    end_breaks fault.Device w = inr (end_refused fault.Device w)
-    end_breaks fault.Memory w = inl (end_refused fault.Memory w)
+    pub end_breaks : (locals locals' : Option Locals) (e : EndFault) → Refuses out end_text e out' → PointGives (point old locals names out) (Err (refused_step e)) (point mid locals' names out')
+    end_breaks locals locals' fault.Device w = inr (end_refused fault.Device w)
+    end_breaks locals locals' fault.Memory w = inl (end_refused fault.Memory w)
 
   -- after a definition
   module _ (new : Tokens) (out : Outgoing) (tree : Definition) (name : List ℕ) (name_is : name ≡ (identifier_of tree).text) (m : Moves mid new (λ u v. definition u ≡ Got tree v)) where
@@ -180,10 +181,10 @@ module _ (old mid : Tokens) (names : Defined) (l : Looks old mid) where
         let some = goes_some (names ++ name ∷ []) (tokens_of new more) (tokens_of-ended new more) in
         (some.outcome, goes_once g (comes_first clean more c some.outcome some.goes))
 
-    pub wrote : (names' : Defined) (out' : Outgoing) → fault_of names tree ≡ None → AreNames names' (names ++ name ∷ []) → Writes out (compiled_text tree) out' → IsSingle new → work new < work mid
+    pub wrote : {locals : Option Locals} (locals' : Option Locals) (names' : Defined) (out' : Outgoing) → fault_of names tree ≡ None → AreNames names' (names ++ name ∷ []) → Writes out (compiled_text tree) out' → IsSingle new → work new < work mid
         → ((ls : List ℕ) → trailed_definition tree (started names (identifier_of tree)) (took (trail (m.passed ls) no_lines)) ≡ trail ls new.noted)
-        → Writing (point old names out) (point new names' out')
-    wrote names' out' clean added w single less notes = record {
+        → locals' ≡ Some (locals_of tree) → Writing (point old locals names out) (point new locals' names' out')
+    wrote locals' names' out' clean added w single less notes named = record {
       taken = both new m;
       reads = both_read new m;
       looked = both_looked new m;
@@ -195,6 +196,7 @@ module _ (old mid : Tokens) (names : Defined) (l : Looks old mid) where
       written = w;
       single = single;
       falls = let a = l.moves.falls in omega (arith, a, less);
+      locals = named;
       lines = λ more c.
           let ls = lines_in (tokens_of new more) in
           ap (λ ts. definition_trail tree (lines_in ts)) (come new m more c) ∙ ap (definition_trail tree) (m.spans more c)
@@ -212,7 +214,7 @@ module _ (old mid : Tokens) (names : Defined) (l : Looks old mid) where
         let spelled = subst AreSound read.0 (sound_kept (tokens_of mid (m.taken ++ [])) (subst AreSound comes all)) in
         definition_within names tree clean read.1 (Holds-front (spell_definition tree) _ spelled)
 
-    pub fault_after : (names' : Defined) (fault : Diagnostic) → fault_of names tree ≡ Some fault → IsSingle new → Stopping (point old names out) (Some fault) (point new names' out)
+    pub fault_after : {locals locals' : Option Locals} (names' : Defined) (fault : Diagnostic) → fault_of names tree ≡ Some fault → IsSingle new → Stopping (point old locals names out) (Some fault) (point new locals' names' out)
     fault_after names' fault wrong single = record {
       taken = both new m;
       reads = both_read new m;
@@ -230,10 +232,10 @@ module _ (old mid : Tokens) (names : Defined) (l : Looks old mid) where
     got_whole : IsSingle new → (more : List ℕ) → CanFollow new.source.end more → StandsAt new (tokens_of old (both new m ++ more)) (tokens_of new more)
     got_whole single more c = (single, inr (inl (tree, ap definition (come new m more c) ∙ m.come more c)))
 
-    pub no_memory : fault_of names tree ≡ None → IsSingle new → (names' : Defined) → PointGives (point old names out) (Err step.Memory) (point new names' out)
+    pub no_memory : {locals locals' : Option Locals} → fault_of names tree ≡ None → IsSingle new → (names' : Defined) → PointGives (point old locals names out) (Err step.Memory) (point new locals' names' out)
     no_memory clean single names' = inr ((record { taken = both new m; reads = both_read new m; each = some_text clean }, both_looked new m, got_whole single), failed_none new m, refl)
 
-    text_refused : (e : EndFault) (names' : Defined) (out' : Outgoing) → fault_of names tree ≡ None → IsSingle new → Refuses out (compiled_text tree) e out' → OutRefuses (point old names out) e (point new names' out')
+    text_refused : {locals locals' : Option Locals} (e : EndFault) (names' : Defined) (out' : Outgoing) → fault_of names tree ≡ None → IsSingle new → Refuses out (compiled_text tree) e out' → OutRefuses (point old locals names out) e (point new locals' names' out')
     text_refused e names' out' clean single w = (
       (
         record {
@@ -249,10 +251,10 @@ module _ (old mid : Tokens) (names : Defined) (l : Looks old mid) where
       failed_none new m,
     )
 
-    pub write_breaks : (names' : Defined) (out' : Outgoing) (e : EndFault) → fault_of names tree ≡ None → IsSingle new → Refuses out (compiled_text tree) e out'
-        → PointGives (point old names out) (Err (refused_step e)) (point new names' out')
-    write_breaks names' out' fault.Device clean single w = inr (text_refused fault.Device names' out' clean single w)
-    write_breaks names' out' fault.Memory clean single w = inl (text_refused fault.Memory names' out' clean single w)
+    pub write_breaks : (locals locals' : Option Locals) (names' : Defined) (out' : Outgoing) (e : EndFault) → fault_of names tree ≡ None → IsSingle new → Refuses out (compiled_text tree) e out'
+        → PointGives (point old locals names out) (Err (refused_step e)) (point new locals' names' out')
+    write_breaks locals locals' names' out' fault.Device clean single w = inr (text_refused fault.Device names' out' clean single w)
+    write_breaks locals locals' names' out' fault.Memory clean single w = inl (text_refused fault.Memory names' out' clean single w)
 
 -- the exits of a `?`
 pub gives_stop : (old new : Point) (r : Result (Unit {0}) Step) (e : Step) → IsErrAnd r (λ y. y ≡ e) → PointGives old (Err e) new → PointGives old r new

@@ -4,6 +4,8 @@ pub mod CompileSteps
 pub mod CompileHeadlines
 pub mod CompileExcluded
 mod ListSteps
+pub mod LocalLaws
+pub mod LocalRows
 pub mod MadeSteps
 pub mod ReadingLaws
 pub mod Remaining

@@ -1,5 +1,6 @@
 -- What a pass made of a definition is what its tree has.
-use Rattle.std.proofs.Common.{◌≡◌, Bool, [], ◌++◌, true, false, Option, Some, None, refl, sym, ap, ◌∙◌, subst}
+use Rattle.std.proofs.Common.{◌≡◌, Bool, List, [], ◌∷◌, ◌++◌, length, true, false, Option, Some, None, refl, sym, ap, ◌∙◌, subst, arith, length-append, lt-ltb}
+use Rattle.std.specs.Prelude.{nat_lt, IfSome}
 use Rattle.blang.specs.declared.token.Diagnostic.{Diagnostic}
 use Rattle.blang.specs.declared.token.Token.{Token}
 use Rattle.blang.specs.declared.token.Token.TheVariants as token
@@ -9,16 +10,18 @@ use Rattle.blang.specs.declared.token.Letters.TheVariants as letters
 use Rattle.std.specs.List.{list_any}
 use Rattle.bword.specs.Words.{same_name}
 use Rattle.blang.specs.Compiles.{Defined}
-use Rattle.blang.specs.Trees.{Definition}
+use Rattle.blang.specs.Trees.{Definition, Simple, Vector, Function}
 use Rattle.blang.specs.WellFormed.{IsFormed}
 use Rattle.bgrammar.specs.DefinitionReader.{definition}
 use Rattle.bgrammar.specs.Reading.{Got}
 use Rattle.blang.specs.Scan.{identifier_of, name_fault, scan}
 use Rattle.bgrammar.proofs.LawProofs.{definition_read}
-use Rattle.bemit.specs.Drafts.{Draft, Going, fault_in, draft_resolved, fresh, started}
+use Rattle.bemit.specs.Drafts.{Draft, Faulty, Going, fault_in, draft_resolved, fresh, started}
 use Rattle.bemit.specs.Effects.{code_with, definition_done}
 use Rattle.bemit.specs.Views.{IfMade}
 use Rattle.bcodegen.proofs.Definitions.{one_pass}
+use Rattle.bcodegen.specs.Laws.{instructions_in}
+use Rattle.bparse.specs.Locals.{Locals, is_function, locals_in, locals_of}
 use Rattle.bparse.specs.Steps.{is_end}
 use Rattle.bread.specs.Definitions.{TookDefinition}
 use Rattle.bread.specs.Headers.{Heads}
@@ -45,6 +48,21 @@ end_of _ e = cc
 
 pub not_end : (t : Token) → is_end t ≡ false → t ≡ token.End → ⊥
 not_end t e h = let bad : true ≡ false = sym (ap is_end h) ∙ e in cc
+
+-- what is so of what was made is so of the names that are noted
+pub localed : (d : Draft) (P : Locals → Type 0) → IfMade d (λ s m. P (record { is_function = nat_lt 0 (length m.code); names = s.names; frame = s.frame })) → IfSome (locals_in d) P
+localed (Faulty f) P h = tt
+localed (Going s None) P h = tt
+localed (Going s (Some m)) P h = h
+
+some_more : {A : Type 0} (xs : List A) (y : A) (ys : List A) → nat_lt 0 (length (xs ++ y ∷ ys)) ≡ true
+some_more xs y ys = lt-ltb 0 (length (xs ++ y ∷ ys)) (omega (arith, length-append xs (y ∷ ys)))
+
+-- a function has instructions, and no external has one
+has_code : (d : Definition) → nat_lt 0 (length (instructions_in (code_of d))) ≡ is_function d
+has_code (Simple w values) = refl
+has_code (Vector w size values) = refl
+has_code (Function w parameters body) = some_more _ _ _
 
 -- the definition of a draft, and how it begins
 pub record Drafted (names : Defined) (tree : Definition) (header : DefinitionHead) (draft : Draft) : Type 0 where
@@ -79,3 +97,10 @@ module _ (names : Defined) (tree : Definition) (header : DefinitionHead) (draft 
       let p = (one_pass names tree d.formed).1 clean in
       let going : after ≡ Going p.0 (Some p.1) = same ∙ ap draft_resolved d.made ∙ p.2 in
       subst (λ x. IfMade x (λ s m. (t : Definition) → Heads header t → IsSmall t → view ≡ code_with t s.frame m)) going v tree d.heads (clean_small names tree clean) ∙ p.3
+
+  pub names_kept : (after : Draft) → fault_of names tree ≡ None → after ≡ draft_resolved draft → locals_in after ≡ Some (locals_of tree)
+  names_kept after clean same =
+      let p = (one_pass names tree d.formed).1 clean in
+      let function_is = ap (λ c. nat_lt 0 (length c)) p.4 ∙ has_code tree in
+      ap locals_in (same ∙ ap draft_resolved d.made ∙ p.2)
+      ∙ (λ i. Some (record { is_function = function_is i; names = (p.5 i).names; frame = (p.5 i).frame }))

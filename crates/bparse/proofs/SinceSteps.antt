@@ -88,7 +88,7 @@ grew_since a b c e g = rw e at g
 
 -- a compiler at a point
 abbrev pub compiler_at : CompilerStart → Point → List ℕ → Bool → Bool → Compiler
-compiler_at first p lender is_begun is_closed = compiler_of first p.tokens p.names p.out lender is_begun is_closed
+compiler_at first p lender is_begun is_closed = compiler_of first p.tokens p.locals p.names p.out lender is_begun is_closed
 
 -- what was written, with what the text begins with
 pub written_begun : (first : CompilerStart) (begun : Bool) (before : List Definition) (out mid : Outgoing) → (begun ≡ false → before ≡ [])
@@ -141,9 +141,9 @@ take_front (x ∷ xs) ys = ap (λ l. x ∷ l) (take_front xs ys)
 
 -- a call of a compiler with this output, which writes what the text begins with, and is then at a point
 module _ (first : CompilerStart) (a b : Point) (lender lender' : List ℕ) (out : Outgoing) (begun : Bool) (before : List Definition)
-    (since : HasWrittenSince (compiler_of first a.tokens a.names out lender begun false) before) (opens : OpeningWritten (compiler_of first a.tokens a.names out lender begun false) a.out) where
+    (since : HasWrittenSince (compiler_of first a.tokens a.locals a.names out lender begun false) before) (opens : OpeningWritten (compiler_of first a.tokens a.locals a.names out lender begun false) a.out) where
   abbrev old : Compiler
-  old = compiler_of first a.tokens a.names out lender begun false
+  old = compiler_of first a.tokens a.locals a.names out lender begun false
 
   written_before : Writes first.out (opening first.edition ++ joined (map compiled_text before)) a.out
   written_before = written_begun first begun before out a.out (λ e. (since.unbegun e).0) since.written opens.written opens.nothing
@@ -246,7 +246,7 @@ module _ (first : CompilerStart) (a b : Point) (lender lender' : List ℕ) (out 
 
     pub wrote_more : Wrote since (compiler_at first b lender' true false)
     unfolding since_now
-    wrote_more = record { definition = w.tree; now = since_now; taken = w.taken; took = w.reads.took; all_taken = refl; held = w.single; falls = w.falls; lines = lines_now }
+    wrote_more = record { definition = w.tree; now = since_now; taken = w.taken; took = w.reads.took; all_taken = refl; clean = w.clean; held = w.single; falls = w.falls; locals = w.locals; lines = lines_now }
 
     pub is_open_more : IsReady b.tokens → MoreCanBeWritten (compiler_at first b lender' true false)
     is_open_more ready = record { before = before ++ w.tree ∷ []; since = since_now; ready = ready }
@@ -334,7 +334,7 @@ module _ (first : CompilerStart) (a b : Point) (lender lender' : List ℕ) (begu
   opens h = record { written = h.written; nothing = h.nothing }
 
   abbrev following : {r : Result (Unit {0}) Step} → OpensAndGives start a r b → Point
-  following h = point a.tokens a.names h.out
+  following h = point a.tokens a.locals a.names h.out
 
   abbrev gone_on : (u : Unit {0}) → GivesNext start a (Ok u) b → OpensAndGives start a (Ok u) b
   gone_on u (inl h) = let bad = h.answered in cc

@@ -1,9 +1,12 @@
 -- Promise: what a call of the compiler does, counted from when the compiler was made.
 use Rattle.std.specs.Prelude.{◌≡◌, ◌≢◌, ℕ, ◌≤◌, ◌<◌, Bool, true, false, List, [], ◌∷◌, ◌++◌, length, map, Option, Some}
 use Rattle.std.specs.Prelude.{None, ◌⊎◌, if◌then◌else◌}
+use Rattle.std.specs.Option.{option_map}
 use Rattle.bgrammar.specs.Compiled.{AreNames}
 use Rattle.blang.specs.Lines.{program_lines, lines_after}
 use Rattle.bread.specs.Tokens.{Tokens, lines_in, all_tokens, tokens_of, IsReady, IsSingle, last_ahead, work}
+use Rattle.bemit.specs.Drafts.{fresh}
+use Rattle.bparse.specs.Locals.{Locals, Notes, locals_in, locals_of, table_frame}
 use Rattle.bparse.specs.Steps.{name_of, HasCode, to_begin, StandsAt}
 use Rattle.bparse.specs.declared.step.Step.{Step}
 use Rattle.bparse.specs.declared.step.Step.TheVariants as step
@@ -18,6 +21,7 @@ use Rattle.blang.specs.declared.token.Diagnostic.{Diagnostic}
 use Rattle.blang.specs.declared.token.Placed.{Placed}
 use Rattle.blang.specs.Compiles.{Defined, Compilation, CompilesTo, ending, next_text, compiled_text, Whatever}
 use Rattle.blang.specs.Trees.{Definition, kept}
+use Rattle.blang.specs.Code.{fault_of}
 use Rattle.blang.specs.Walk.{spell_all}
 use Rattle.blang.specs.WellFormed.{AllFormed}
 
@@ -29,21 +33,23 @@ pub record CompilerStart : Type 0 where
   pub out : Outgoing
   pub out_lender : List ℕ
 
--- how a compiler began, the tokens to come, the names defined so far, the output now, whether what its text begins with
--- is written, and whether it has stopped
+-- how a compiler began, the tokens to come, the names of the definition that was read last, those defined so far, the
+-- output now, whether what its text begins with is written, and whether it has stopped
 pub record Compiler : Type 0 where
   pub first : CompilerStart
   pub tokens : Tokens
+  pub locals : Option Locals
   pub names : Defined
   pub out : Outgoing
   pub out_lender : List ℕ
   pub is_begun : Bool
   pub is_closed : Bool
 
-abbrev pub compiler_of : CompilerStart → Tokens → Defined → Outgoing → List ℕ → Bool → Bool → Compiler
-compiler_of start tokens names out out_lender is_begun is_closed = record {
+abbrev pub compiler_of : CompilerStart → Tokens → Option Locals → Defined → Outgoing → List ℕ → Bool → Bool → Compiler
+compiler_of start tokens locals names out out_lender is_begun is_closed = record {
   first = start;
   tokens = tokens;
+  locals = locals;
   names = names;
   out = out;
   out_lender = out_lender;
@@ -58,7 +64,8 @@ compiler_start edition source lender out out_lender =
 -- a compiler that has read and written nothing
 abbrev pub new : CompilerStart → Compiler
 new start =
-    compiler_of start (all_tokens start.edition start.source start.lender) [] start.out start.out_lender false false
+    compiler_of start (all_tokens start.edition start.source start.lender) (locals_in fresh) [] start.out start.out_lender
+    false false
 
 -- what the text begins with, where it is written, and where it is still to be written
 abbrev pub opening_written : Compiler → List ℕ
@@ -116,8 +123,8 @@ pub record MoreCanBeWritten (c : Compiler) : Type 0 where
   pub since : HasWrittenSince c before
   pub ready : IsReady c.tokens
 
--- A definition more was written, and one token is held, the one after it. The lines of its code are noted, by those of
--- all tokens of the source.
+-- A definition more was written, and one token is held, the one after it. Its names are noted, and the lines of its
+-- code, by those of all tokens of the source.
 pub record Wrote {old : Compiler} {before : List Definition} (since : HasWrittenSince old before) (new : Compiler)
     : Type 0 where
   pub definition : Definition
@@ -125,8 +132,10 @@ pub record Wrote {old : Compiler} {before : List Definition} (since : HasWritten
   pub taken : List ℕ
   pub took : Took old.tokens.source.end taken new.tokens.source.end
   pub all_taken : now.taken ≡ since.taken ++ taken
+  pub clean : fault_of old.names definition ≡ None
   pub held : IsSingle new.tokens
   pub falls : work new.tokens < work old.tokens
+  pub locals : new.locals ≡ Some (locals_of definition)
   pub lines : (more : List ℕ) → CanFollow new.tokens.source.end more
       → new.tokens.noted.lines
       ≡ program_lines (definition ∷ []) (lines_after before (lines_in (tokens_from new.first.edition 1 (now.taken ++ more))))
@@ -210,6 +219,10 @@ CompilerGives old step.Closed new = (old.is_closed ≡ true) × (new ≡ old)
 CompilerGives old answer new =
     MoreCanBeWritten old
     × ((before : List Definition) (since : HasWrittenSince old before) → GivesAfter since answer new)
+
+-- what a compiler tells of the definition that was read last
+abbrev pub notes_by : Compiler → Option Notes
+notes_by c = option_map (λ l. record { lines = c.tokens.noted.lines; frames = table_frame l }) c.locals
 
 -- the compiler is over the same ends
 pub record SameCompiler (old new : Compiler) : Type 0 where

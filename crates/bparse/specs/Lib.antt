@@ -1,6 +1,8 @@
 pub mod CodeLists
 pub mod Compilers
 pub mod Compiles
+pub mod LocalRows
+pub mod Locals
 pub mod CompileExcluded
 pub mod Sizes
 pub mod Steps

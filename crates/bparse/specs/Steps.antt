@@ -7,6 +7,7 @@ use Rattle.bgrammar.specs.Reading.{Got, Stop, first}
 use Rattle.blang.specs.declared.token.Placed.{Placed}
 use Rattle.bemit.specs.Trails.{trail, definition_trail}
 use Rattle.bread.specs.Tokens.{Tokens, lines_in, tokens_of, IsSingle, TakesAhead, LooksAt, work}
+use Rattle.bparse.specs.Locals.{Locals, locals_of}
 use Rattle.bparse.specs.declared.step.Step.{Step}
 use Rattle.bparse.specs.declared.step.Step.TheVariants as step
 use Rattle.bword.specs.declared.edition.Edition.{Edition}
@@ -23,14 +24,15 @@ use Rattle.blang.specs.Scan.{identifier_of}
 use Rattle.blang.specs.Code.{fault_of}
 use Rattle.blang.specs.declared.token.Token.TheVariants as token
 
--- the tokens to come, the names defined so far and the output
+-- the tokens to come, the names of the definition that was read last, those defined so far and the output
 pub record Point : Type 0 where
   pub tokens : Tokens
+  pub locals : Option Locals
   pub names : Defined
   pub out : Outgoing
 
-abbrev pub point : Tokens → Defined → Outgoing → Point
-point tokens names out = record { tokens = tokens; names = names; out = out }
+abbrev pub point : Tokens → Option Locals → Defined → Outgoing → Point
+point tokens locals names out = record { tokens = tokens; locals = locals; names = names; out = out }
 
 abbrev pub name_of : Definition → List ℕ
 name_of d = (identifier_of d).text
@@ -55,7 +57,7 @@ EachComing old taken new P =
 abbrev pub HasCode : Compilation → Type 0
 HasCode r = r.code ≡ [] → r.stop ≡ None
 
--- A definition was read, which these tokens spell, and written; the lines of its code are noted.
+-- A definition was read, which these tokens spell, and written; its names and the lines of its code are noted.
 pub record Writing (old new : Point) : Type 0 where
   pub taken : List ℕ
   pub reads : TakesAhead old.tokens.source taken new.tokens.source
@@ -69,6 +71,7 @@ pub record Writing (old new : Point) : Type 0 where
   pub written : Writes old.out (compiled_text tree) new.out
   pub single : IsSingle new.tokens
   pub falls : work new.tokens < work old.tokens
+  pub locals : new.locals ≡ Some (locals_of tree)
   pub lines : (more : List ℕ) → CanFollow new.tokens.source.end more
       → definition_trail tree (lines_in (tokens_of old.tokens (taken ++ more)))
       ≡ trail (lines_in (tokens_of new.tokens more)) new.tokens.noted
@@ -157,7 +160,7 @@ pub record OpensAndGives (start : List ℕ) (old : Point) (r : Result (Unit {0})
   pub out : Outgoing
   pub written : Writes old.out start out
   pub nothing : start ≡ [] → out ≡ old.out
-  pub gives : PointGives (point old.tokens old.names out) r new
+  pub gives : PointGives (point old.tokens old.locals old.names out) r new
 
 -- what a call does for which this is still to be written first
 abbrev pub GivesNext : List ℕ → Point → Result (Unit {0}) Step → Point → Type 0

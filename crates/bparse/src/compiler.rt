@@ -1,5 +1,5 @@
 //! The compiler, which writes one definition a call.
-ghost use Rattle.std.specs.Prelude.{◌≡◌, ◌≤◌, length, OnOk};
+ghost use Rattle.std.specs.Prelude.{◌≡◌, ◌≤◌, length, IfSome, OnOk};
 ghost use Rattle.std.specs.Map.{keys_of};
 ghost use Rattle.bword.specs.declared.edition.Edition.TheVariants as editions;
 ghost use Rattle.bgrammar.specs.Reading.{first};
@@ -7,6 +7,7 @@ ghost use Rattle.blang.specs.declared.limits.TheConstants.{MAX_INSTRUCTIONS, MAX
 ghost use Rattle.bread.specs.Tokens.{IsReady, IsLoaded};
 ghost use Rattle.bparse.specs.Compilers.{SameCompiler, CompilerGives, compiler_start};
 ghost use Rattle.bparse.specs.Compilers as compilers;
+ghost use Rattle.bparse.specs.Locals.{locals_in};
 ghost use Rattle.bparse.specs.Steps.{AreOfSource, point, PointGives, GivesNext, is_end, to_begin};
 
 use crate::code_out::CodeOut;
@@ -41,18 +42,19 @@ impl<I: ByteIn, O: CodeOut> Model for Compiler<I, O> {
     ghost use Rattle.std.specs.Prelude.{◌≡◌, false};
     ghost use Rattle.std.specs.Map.{keys_of};
     ghost use Rattle.bparse.specs.Compilers.{Compiler, MoreCanBeWritten, compiler_of, compiler_start};
+    ghost use Rattle.bparse.specs.Locals.{locals_in};
 
     ghost Value = { Compiler };
 
     ghost view = { λ c. compiler_of
         (compiler_start c.edition (I.incoming c.first_input.value) (I.lender c.first_input.value)
         (O.outgoing c.first_out.value) (O.lender c.first_out.value))
-        c.parser.tokens (keys_of c.names) (O.outgoing c.out) (O.lender c.out) c.is_begun c.is_closed };
+        c.parser.tokens (locals_in c.parser.draft) (keys_of c.names) (O.outgoing c.out) (O.lender c.out) c.is_begun c.is_closed };
 
     ghost invariant = { λ c. c.is_closed ≡ false → MoreCanBeWritten (compiler_of
         (compiler_start c.edition (I.incoming c.first_input.value) (I.lender c.first_input.value)
         (O.outgoing c.first_out.value) (O.lender c.first_out.value))
-        c.parser.tokens (keys_of c.names) (O.outgoing c.out) (O.lender c.out) c.is_begun c.is_closed) };
+        c.parser.tokens (locals_in c.parser.draft) (keys_of c.names) (O.outgoing c.out) (O.lender c.out) c.is_begun c.is_closed) };
 }
 
 impl<I: ByteIn, O: CodeOut> Compiler<I, O> {
@@ -119,21 +121,25 @@ impl<I: ByteIn, O: CodeOut> Compiler<I, O> {
     }
 
     /// Whether the definition that was written last is a function.
-    pub fn is_function(&self) -> bool {
+    pub fn is_function(&self) -> bool
+        ensures { IfSome self.now.locals (λ l. result ≡ l.is_function) }
+    {
         !self.parser.draft.code().is_empty()
     }
 
     /// The names of the function that was written last, in the order in which they were first seen; of an external none.
     /// Each internal name has its label.
     pub fn local_names(&self) -> &[NameEntry]
-        ensures { length result.now ≤ MAX_NAMES }
+        ensures names { IfSome self.now.locals (λ l. result.now ≡ l.names) }
+        ensures few { length result.now ≤ MAX_NAMES }
     {
         self.parser.draft.names()
     }
 
     /// How many words the frame of the function that was written last has.
     pub fn frame_words(&self) -> u16
-        ensures { result ≤ MAX_WORDS }
+        ensures frame { IfSome self.now.locals (λ l. result ≡ l.frame) }
+        ensures few { result ≤ MAX_WORDS }
     {
         self.parser.draft.frame()
     }
@@ -181,8 +187,8 @@ fn compile_next<I: ByteIn, O: CodeOut>(
 ) -> Result<(), Step>
     requires ready { IsReady parser.old.tokens }
     requires source { AreOfSource parser.old.tokens }
-    ensures gives { GivesNext (to_begin is_begun edition) (point parser.old.tokens (keys_of names.old) (O.outgoing out.old)) result
-        (point parser.new.tokens (keys_of names.new) (O.outgoing out.new)) }
+    ensures gives { GivesNext (to_begin is_begun edition) (point parser.old.tokens (locals_in parser.old.draft) (keys_of names.old) (O.outgoing out.old)) result
+        (point parser.new.tokens (locals_in parser.new.draft) (keys_of names.new) (O.outgoing out.new)) }
     ensures ready { OnOk result (IsReady parser.new.tokens) }
     ensures same { O.lender out.new ≡ O.lender out.old }
 {
@@ -200,8 +206,8 @@ fn compile_definition<I: ByteIn, O: CodeOut>(
 ) -> Result<(), Step>
     requires ready { IsReady parser.old.tokens }
     requires source { AreOfSource parser.old.tokens }
-    ensures gives { PointGives (point parser.old.tokens (keys_of names.old) (O.outgoing out.old)) result
-        (point parser.new.tokens (keys_of names.new) (O.outgoing out.new)) }
+    ensures gives { PointGives (point parser.old.tokens (locals_in parser.old.draft) (keys_of names.old) (O.outgoing out.old)) result
+        (point parser.new.tokens (locals_in parser.new.draft) (keys_of names.new) (O.outgoing out.new)) }
     ensures ready { OnOk result (IsReady parser.new.tokens) }
     ensures same { O.lender out.new ≡ O.lender out.old }
 {

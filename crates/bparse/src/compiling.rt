@@ -5,6 +5,7 @@ ghost use Rattle.blang.specs.Compiles.{CompileHeadline, Compiles};
 ghost use Rattle.bparse.specs.CodeLists.{CompilesList, ListTexts};
 ghost use Rattle.bparse.specs.Compilers as compilers;
 ghost use Rattle.bparse.specs.Compiles.{CodeGives, LastGives, run_of};
+ghost use Rattle.bparse.specs.LocalRows.{AllNamed, HasTable, named, named_of_two};
 ghost use Rattle.bparse.specs.Watches.{KeptAll, Watched};
 ghost use Rattle.blang.specs.declared.status.TheConstants.{DONE};
 ghost use Rattle.bparse.specs.CompileExcluded.{Excluded};
@@ -79,7 +80,7 @@ pub fn compile_watched<I: ByteIn, O: ByteOut, D: ByteOut, W: Watcher>(
     ensures code_lender { O.lender code.new ≡ O.lender code.old }
     ensures diag_lender { D.lender diag.new ≡ D.lender diag.old }
     ensures watched { result ≡ DONE → KeptAll edition (I.incoming source.old) (I.incoming source.new)
-        (W.lines watcher.old) (W.lines watcher.new) }
+        (W.kept watcher.old) (W.kept watcher.new) }
 {
     let (status, end) = compile_and_tell(alloc, source, code, diag, watcher, edition);
     let _ = end;
@@ -119,7 +120,7 @@ fn compile_and_tell<I: ByteIn, C: CodeOut, D: ByteOut, W: Watcher>(
     ensures code_lender { C.lender result.1 ≡ C.lender code }
     ensures diag_lender { D.lender diag.new ≡ D.lender diag.old }
     ensures watched { result.0 ≡ DONE → KeptAll edition (I.incoming source.old) (I.incoming source.new)
-        (W.lines watcher.old) (W.lines watcher.new) }
+        (W.kept watcher.old) (W.kept watcher.new) }
 {
     let (last, code) = compile_into(alloc, source, code, watcher, edition);
     match last {
@@ -145,7 +146,7 @@ pub fn compile_code<I: ByteIn, O: ByteOut, W: Watcher>(
 ) -> Step
     ensures gives { CodeGives edition (I.incoming source.old) (O.outgoing code.old) result
         (I.incoming source.new) (O.outgoing code.new) }
-    ensures watched { Watched edition (I.incoming source.old) (W.lines watcher.old) result (I.incoming source.new) (W.lines watcher.new) }
+    ensures watched { Watched edition (I.incoming source.old) (W.kept watcher.old) result (I.incoming source.new) (W.kept watcher.new) }
     ensures source_lender { I.lender source.new ≡ I.lender source.old }
     ensures code_lender { O.lender code.new ≡ O.lender code.old }
 {
@@ -166,7 +167,7 @@ fn compile_into<I: ByteIn, C: CodeOut, W: Watcher>(
 ) -> (Step, C)
     ensures gives { CodeGives edition (I.incoming source.old) (C.outgoing code) result.0
         (I.incoming source.new) (C.outgoing result.1) }
-    ensures watched { Watched edition (I.incoming source.old) (W.lines watcher.old) result.0 (I.incoming source.new) (W.lines watcher.new) }
+    ensures watched { Watched edition (I.incoming source.old) (W.kept watcher.old) result.0 (I.incoming source.new) (W.kept watcher.new) }
     ensures source_lender { I.lender source.new ≡ I.lender source.old }
     ensures code_lender { C.lender result.1 ≡ C.lender code }
 {
@@ -184,8 +185,8 @@ fn compile_all<I: ByteIn, O: CodeOut, W: Watcher>(
 ) -> Step
     requires { compiler.old ≡ compilers.new compiler.old.first }
     ensures gives { LastGives compiler.old result compiler.new }
-    ensures watched { Watched compiler.old.first.edition compiler.old.first.source (W.lines watcher.old) result
-        compiler.new.tokens.source.end (W.lines watcher.new) }
+    ensures watched { Watched compiler.old.first.edition compiler.old.first.source (W.kept watcher.old) result
+        compiler.new.tokens.source.end (W.kept watcher.new) }
 {
     'definitions: loop {
         let step = compiler.next_definition();
@@ -202,4 +203,11 @@ fn compile_all<I: ByteIn, O: CodeOut, W: Watcher>(
 pub fn wrong_compilings_are_excluded()
     ensures excluded { Excluded }
     ensures lists { ListTexts }
+{}
+
+/// The names of the functions of whole sources, and the words of their frames.
+pub fn rows_of_names()
+    ensures one { AllNamed editions.One named }
+    ensures two { AllNamed editions.Two named_of_two }
+    ensures table { HasTable }
 {}

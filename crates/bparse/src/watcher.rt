@@ -1,5 +1,7 @@
 //! Looking on while a whole source is compiled.
-ghost use Rattle.std.specs.Prelude.{ℕ, List, Option, None};
+ghost use Rattle.std.specs.Prelude.{Option, None};
+ghost use Rattle.bparse.specs.Compilers.{notes_by};
+ghost use Rattle.bparse.specs.Locals.{Notes};
 ghost use Rattle.bparse.specs.Watches.{WatchGives};
 
 use crate::code_out::CodeOut;
@@ -9,12 +11,12 @@ use bword::ByteIn;
 
 /// What looks on while a whole source is compiled, and can't change what comes of it.
 pub trait Watcher {
-    // The lines that it has kept of the definitions that were written; none where it keeps no lines.
-    ghost lines: { Self → Option (List ℕ) };
+    // The notes that it has kept of the definitions that were written; none where it keeps nothing.
+    ghost kept: { Self → Option Notes };
 
     /// Looks at the compiler after a call that gave this answer; the last one too.
     fn watch<I: ByteIn, O: CodeOut>(&mut self, compiler: &Compiler<I, O>, step: &Step)
-        ensures { WatchGives (lines self.old) step.now compiler.now.tokens.noted.lines (lines self.new) };
+        ensures { WatchGives (kept self.old) step.now (notes_by compiler.now) (kept self.new) };
 }
 
 /// A watcher that looks at nothing.
@@ -22,7 +24,7 @@ pub trait Watcher {
 pub struct Unwatched;
 
 impl Watcher for Unwatched {
-    ghost lines = { λ w. None };
+    ghost kept = { λ w. None };
 
     #[inline]
     fn watch<I: ByteIn, O: CodeOut>(&mut self, _compiler: &Compiler<I, O>, _step: &Step) {}

@@ -9,4 +9,5 @@ pub mod Functions
 pub mod Searching
 pub mod SourceLines
 pub mod ProgramLines
-pub mod KeptLines
+pub mod FrameNames
+pub mod KeptNames

@@ -8,7 +8,9 @@ pub mod ProgramsExcluded
 pub mod FaultPlaces
 pub mod PlaceRows
 pub mod TextRows
-pub mod KeptLines
+pub mod FrameNames
+pub mod FrameRows
+pub mod KeptNames
 pub mod SourceLines
 pub mod ProgramLines
 pub mod LineRows

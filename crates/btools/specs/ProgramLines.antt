@@ -8,6 +8,7 @@ use Rattle.blang.specs.Layout.{Spot, shape_of, spots}
 use Rattle.blang.specs.Lines.{program_lines, size_of}
 use Rattle.blang.specs.declared.code.Definition.{Definition}
 use Rattle.blang.specs.declared.code.Definition.TheVariants as definition
+use Rattle.bparse.specs.Locals.{Notes, notes_of}
 use Rattle.bparse.specs.Watches.{KeepsMore}
 use Rattle.btools.specs.declared.tables.Entry.{Entry}
 use Rattle.btools.specs.declared.tables.Tables.{Tables}
@@ -23,11 +24,11 @@ HasLines edition source lines =
     (r : Compilation) (g : CompilesTo [] (tokens_from edition 1 source) r)
     → lines ≡ program_lines g.definitions (token_lines edition source)
 
--- A watcher that had kept these lines has kept those of the source, too, or it keeps none.
-abbrev pub KeepsLinesOf : Edition → List ℕ → Option (List ℕ) → Option (List ℕ) → Type 0
-KeepsLinesOf edition source kept now =
+-- A watcher that had kept this has kept what is noted of the source, too, or it keeps nothing.
+abbrev pub KeepsNotesOf : Edition → List ℕ → Option Notes → Option Notes → Type 0
+KeepsNotesOf edition source kept now =
     (r : Compilation) (g : CompilesTo [] (tokens_from edition 1 source) r)
-    → KeepsMore kept (program_lines g.definitions (token_lines edition source)) now
+    → KeepsMore kept (notes_of g.definitions (token_lines edition source)) now
 
 -- each definition with its own lines
 abbrev pub with_lines : List Definition → List ℕ → List (Definition × List ℕ)

@@ -1,6 +1,10 @@
 //! The names and lines beside the code of a program, as the compiler tells them.
-ghost use Rattle.std.specs.Prelude.{◌≡◌, ◌++◌, [], OnOk, IfSome, IfNone, Some, None};
-ghost use Rattle.btools.specs.KeptLines.{lines_kept};
+ghost use Rattle.std.specs.Prelude.{◌≡◌, ◌≤◌, length, map, IfOk, IfSome, IfNone, OnOk, Some, None};
+ghost use Rattle.blang.specs.declared.limits.TheConstants.{MAX_NAMES};
+ghost use Rattle.bparse.specs.Compilers.{notes_by};
+ghost use Rattle.bparse.specs.Locals.{no_notes, table_words, with_notes};
+ghost use Rattle.btools.specs.FrameNames.{is_shown_at, name_shown, word_seen, frame_seen};
+ghost use Rattle.btools.specs.KeptNames.{notes_in, notes_kept};
 
 use bparse::{CodeOut, Compiler, EntryKind, NameEntry, Step, Watcher};
 use bword::{ByteIn, Name};
@@ -25,15 +29,23 @@ pub struct Frame {
     pub labels: Vec<Name>,
 }
 
+impl FrameWord {
+    // Whether this word of the frame is shown by its name: the word itself, or the first one of its vector.
+    fn is_shown_at(&self, offset: u32) -> bool
+        ensures { result ≡ is_shown_at offset (word_seen self.now) }
+    {
+        self.offset == offset || self.is_vector && self.offset.saturating_add(1) == offset
+    }
+}
+
 impl Frame {
     /// The name of a word, and whether it is the first word of a vector of this name.
-    pub fn word(&self, offset: u32) -> Option<(Name, bool)> {
+    pub fn word(&self, offset: u32) -> Option<(Name, bool)>
+        ensures { result ≡ name_shown (frame_seen self.now) offset }
+    {
         for word in self.words.as_slice() {
-            if word.offset == offset {
-                return Some((word.name, false));
-            }
-            if word.is_vector && word.offset.saturating_add(1) == offset {
-                return Some((word.name, true));
+            if word.is_shown_at(offset) {
+                return Some((word.name, word.offset < offset));
             }
         }
         None
@@ -56,7 +68,7 @@ impl Names {
         alloc: Global,
         compiler: &Compiler<I, O>,
     ) -> Result<(), AllocError>
-        ensures { OnOk result (self.new.lines.items ≡ self.old.lines.items ++ compiler.now.tokens.noted.lines) }
+        ensures { IfSome (notes_by compiler.now) (λ notes. OnOk result (notes_in self.new ≡ with_notes (notes_in self.old) notes)) }
     {
         self.lines.extend_from_slice(compiler.lines())?;
         if !compiler.is_function() {
@@ -81,7 +93,7 @@ pub(crate) struct NameKeeper {
 
 impl NameKeeper {
     pub(crate) fn new(alloc: Global) -> Self
-        ensures { lines_kept result ≡ Some [] }
+        ensures { notes_kept result ≡ Some no_notes }
     {
         NameKeeper {
             alloc,
@@ -95,8 +107,8 @@ impl NameKeeper {
 
     /// What was kept, unless memory ran out.
     pub(crate) fn into_names(self) -> Option<Names>
-        ensures some { IfSome result (λ names. lines_kept self ≡ Some names.lines.items) }
-        ensures none { IfNone result (lines_kept self ≡ None) }
+        ensures some { IfSome result (λ names. notes_kept self ≡ Some (notes_in names)) }
+        ensures none { IfNone result (notes_kept self ≡ None) }
     {
         if self.is_refused {
             None
@@ -107,7 +119,7 @@ impl NameKeeper {
 }
 
 impl Watcher for NameKeeper {
-    ghost lines = { λ k. lines_kept k };
+    ghost kept = { λ k. notes_kept k };
 
     fn watch<I: ByteIn, O: CodeOut>(&mut self, compiler: &Compiler<I, O>, step: &Step) {
         if let Step::Written = step {
@@ -117,18 +129,23 @@ impl Watcher for NameKeeper {
 }
 
 // The words of a frame of this size that have a name. The word after a vector's own is the vector's, and has none.
-fn words_of(alloc: Global, names: &[NameEntry], size: u32) -> Result<Vec<FrameWord>, AllocError> {
+fn words_of(alloc: Global, names: &[NameEntry], size: u32) -> Result<Vec<FrameWord>, AllocError>
+    requires { length names.now ≤ MAX_NAMES }
+    ensures { IfOk result (λ words. map word_seen words.items ≡ table_words names.now size) }
+{
     let mut words = Vec::new(alloc);
     let mut end = size;
-    for entry in names.iter().rev() {
+    let mut rest = names;
+    while let [before @ .., entry] = rest {
         if let EntryKind::Automatic(offset) = entry.kind() {
             words.push(FrameWord {
                 name: entry.name(),
                 offset,
-                is_vector: offset.saturating_add(1) < end,
+                is_vector: end.saturating_sub(offset) > 1,
             })?;
             end = offset;
         }
+        rest = before;
     }
     words.reverse();
     Ok(words)

@@ -5,8 +5,9 @@ ghost use Rattle.blang.specs.Lines.{size_of};
 ghost use Rattle.blang.specs.Text.{IsCodeText};
 ghost use Rattle.bparse.specs.declared.step.Step.{Step};
 ghost use Rattle.bparse.specs.declared.step.Step.TheVariants as step;
-ghost use Rattle.btools.specs.KeptLines.{lines_kept};
-ghost use Rattle.btools.specs.ProgramLines.{HasLines, KeepsLinesOf};
+ghost use Rattle.btools.specs.FrameNames.{HasNames};
+ghost use Rattle.btools.specs.KeptNames.{notes_in, notes_kept};
+ghost use Rattle.btools.specs.ProgramLines.{HasLines, KeepsNotesOf};
 ghost use Rattle.btools.specs.Programs.{HasFault, HasNoProgram, IsCodeOf, IsThisProgram, LoadGives, WasAnswered};
 
 use crate::names::{NameKeeper, Names};
@@ -58,6 +59,7 @@ fn lines_in(definition: &Definition) -> usize
 pub fn read_program(alloc: Global, source: &[u8], edition: Edition) -> Result<Program, ProgramFault>
     ensures program { MatchResult result (IsThisProgram edition source.now) (HasNoProgram edition source.now) }
     ensures lines { IfOk result (λ p. HasLines edition source.now p.names.lines.items) }
+    ensures names { IfOk result (λ p. HasNames edition source.now p.names.frames.items) }
 {
     let mut keeper = NameKeeper::new(alloc);
     match compile_source(alloc, source, edition, &mut keeper) {
@@ -74,7 +76,7 @@ fn load(
     keeper: NameKeeper,
 ) -> Result<Program, ProgramFault>
     ensures gives { LoadGives definitions.items result }
-    ensures lines { IfOk result (λ p. lines_kept keeper ≡ Some p.names.lines.items) }
+    ensures notes { IfOk result (λ p. notes_kept keeper ≡ Some (notes_in p.names)) }
 {
     let image = match load_slice(alloc, &definitions) {
         Ok(image) => image,
@@ -99,7 +101,7 @@ pub fn compile_source<W: Watcher>(
     watcher: &mut W,
 ) -> Result<Result<Vec<Definition>, Diagnostic>, AllocError>
     ensures code { IfOk result (λ code. MatchResult code (λ v. IsCodeOf edition source.now v.items) (HasFault edition source.now)) }
-    ensures lines { IfOk result (λ code. IfOk code (λ v. KeepsLinesOf edition source.now (W.lines watcher.old) (W.lines watcher.new))) }
+    ensures notes { IfOk result (λ code. IfOk code (λ v. KeepsNotesOf edition source.now (W.kept watcher.old) (W.kept watcher.new))) }
 {
     let mut input = MemIn::new(source);
     let mut code = MemOut::new(alloc);

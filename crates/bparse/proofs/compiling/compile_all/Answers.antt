@@ -1,5 +1,5 @@
 use Rattle.std.proofs.Common.{subst, ap}
-use Rattle.bparse.specs.Compilers.{CompilerGives}
+use Rattle.bparse.specs.Compilers.{CompilerGives, notes_by}
 use Rattle.bparse.specs.Watches.{WatchGives}
 use Rattle.bparse.proofs.CompileSteps.{keeps_none, keeps_more, written_last}
 use Rattle.bparse.proofs.WatchSteps.{kept_new, kept_more, watched}
@@ -11,7 +11,7 @@ definitions-init g c = (keeps_none c.args.compiler.now, ap (λ x. x.is_closed) c
 pub definitions-preserved : goal.definitions-preserved
 definitions-preserved g c =
     let gives = subst (λ s. CompilerGives c.definitions.compiler s c.next_definition-step.new.self) c.in-Written.is c.next_definition-step.ensures.gives in
-    let seen = subst (λ s. WatchGives (g.W.Watcher.lines c.definitions.watcher) s c.next_definition-step.new.self.tokens.noted.lines (g.W.Watcher.lines c.watch.new.self)) c.in-Written.is c.watch.ensures in
+    let seen = subst (λ s. WatchGives (g.W.Watcher.kept c.definitions.watcher) s (notes_by c.next_definition-step.new.self) (g.W.Watcher.kept c.watch.new.self)) c.in-Written.is c.watch.ensures in
     (keeps_more c.definitions.invariant.0 c.next_definition-step.ensures.keeps, (written_last gives).now.is_open, kept_more _ _ _ _ _ c.definitions.invariant.2 gives seen c.next_definition-step.ensures.keeps)
 
 pub definitions-smaller : goal.definitions-smaller

@@ -5,7 +5,7 @@ use Rattle.bparse.specs.Watches.{KeptSince}
 use Rattle.bparse.proofs.compiling.compile_all.Given as goal
 
 abbrev pub invariant-definitions : goal.invariant-definitions
-invariant-definitions g l = SameCompiler l.fn.compiler l.compiler × (l.compiler.is_closed ≡ false) × KeptSince (g.W.Watcher.lines l.fn.watcher) l.compiler (g.W.Watcher.lines l.watcher)
+invariant-definitions g l = SameCompiler l.fn.compiler l.compiler × (l.compiler.is_closed ≡ false) × KeptSince (g.W.Watcher.kept l.fn.watcher) l.compiler (g.W.Watcher.kept l.watcher)
 
 abbrev pub decreases-definitions : goal.decreases-definitions
 decreases-definitions g l = work l.compiler.tokens

@@ -1,4 +1,4 @@
-use Rattle.btools.proofs.KeptLines.{lines_whole}
+use Rattle.btools.proofs.KeptNames.{lines_whole, names_whole}
 use Rattle.btools.proofs.Reading.{loaded}
 use Rattle.btools.proofs.program.read_program.Goals as goal
 
@@ -8,4 +8,8 @@ returns-in-Ok-Ok-clause-program c =
 
 pub returns-in-Ok-Ok-clause-lines : goal.returns-in-Ok-Ok-clause-lines
 returns-in-Ok-Ok-clause-lines c =
-    lines_whole c.args.edition c.args.source.now c.load.result _ _ c.new-keeper.ensures (rw c.in-Ok-Ok.field-0-is at c.in-Ok-Ok.ensures.lines) c.load.ensures.lines
+    lines_whole c.args.edition c.args.source.now c.load.result _ _ c.new-keeper.ensures (rw c.in-Ok-Ok.field-0-is at c.in-Ok-Ok.ensures.notes) c.load.ensures.notes
+
+pub returns-in-Ok-Ok-clause-names : goal.returns-in-Ok-Ok-clause-names
+returns-in-Ok-Ok-clause-names c =
+    names_whole c.args.edition c.args.source.now c.load.result _ _ c.new-keeper.ensures (rw c.in-Ok-Ok.field-0-is at c.in-Ok-Ok.ensures.notes) c.load.ensures.notes

@@ -1,4 +1,5 @@
 use Rattle.std.specs.Map.{keys_of}
+use Rattle.bparse.specs.Locals.{locals_in}
 use Rattle.bparse.specs.Steps.{point}
 use Rattle.bparse.specs.Compilers.{compiler_start}
 use Rattle.bparse.proofs.SinceSteps.{of_source, goes_on_open, written_now, stopped_now}
@@ -12,7 +13,7 @@ invariant_of-self g c = λ e.
     let i = c.self.inside in
     let n = c.compile_next.new in
     goes_on_open (compiler_start i.edition (g.I.ByteIn.incoming i.first_input.value) (g.I.ByteIn.lender i.first_input.value) (g.O.CodeOut.outgoing i.first_out.value) (g.O.CodeOut.lender i.first_out.value))
-    (point i.parser.tokens (keys_of i.names) (g.O.CodeOut.outgoing i.out)) (point n.parser.tokens (keys_of n.names) (g.O.CodeOut.outgoing n.out)) (g.O.CodeOut.lender i.out) (g.O.CodeOut.lender n.out) i.is_begun i.is_closed c.if-self.false (c.self.invariant c.if-self.false)
+    (point i.parser.tokens (locals_in i.parser.draft) (keys_of i.names) (g.O.CodeOut.outgoing i.out)) (point n.parser.tokens (locals_in n.parser.draft) (keys_of n.names) (g.O.CodeOut.outgoing n.out)) (g.O.CodeOut.lender i.out) (g.O.CodeOut.lender n.out) i.is_begun i.is_closed c.if-self.false (c.self.invariant c.if-self.false)
     _ c.in-Ok.ensures.gives c.in-Ok.ensures.ready
 
 pub returns-in-Ok-clause-gives : goal.returns-in-Ok-clause-gives
@@ -20,7 +21,7 @@ returns-in-Ok-clause-gives g c =
     let i = c.self.inside in
     let n = c.compile_next.new in
     written_now (compiler_start i.edition (g.I.ByteIn.incoming i.first_input.value) (g.I.ByteIn.lender i.first_input.value) (g.O.CodeOut.outgoing i.first_out.value) (g.O.CodeOut.lender i.first_out.value))
-    (point i.parser.tokens (keys_of i.names) (g.O.CodeOut.outgoing i.out)) (point n.parser.tokens (keys_of n.names) (g.O.CodeOut.outgoing n.out)) (g.O.CodeOut.lender i.out) (g.O.CodeOut.lender n.out) i.is_begun i.is_closed c.if-self.false (c.self.invariant c.if-self.false)
+    (point i.parser.tokens (locals_in i.parser.draft) (keys_of i.names) (g.O.CodeOut.outgoing i.out)) (point n.parser.tokens (locals_in n.parser.draft) (keys_of n.names) (g.O.CodeOut.outgoing n.out)) (g.O.CodeOut.lender i.out) (g.O.CodeOut.lender n.out) i.is_begun i.is_closed c.if-self.false (c.self.invariant c.if-self.false)
     c.args.self.now c.self.view_is _ c.in-Ok.ensures.gives
 
 pub returns-in-Err-clause-gives : goal.returns-in-Err-clause-gives
@@ -28,5 +29,5 @@ returns-in-Err-clause-gives g c =
     let i = c.self.inside in
     let n = c.compile_next.new in
     stopped_now (compiler_start i.edition (g.I.ByteIn.incoming i.first_input.value) (g.I.ByteIn.lender i.first_input.value) (g.O.CodeOut.outgoing i.first_out.value) (g.O.CodeOut.lender i.first_out.value))
-    (point i.parser.tokens (keys_of i.names) (g.O.CodeOut.outgoing i.out)) (point n.parser.tokens (keys_of n.names) (g.O.CodeOut.outgoing n.out)) (g.O.CodeOut.lender i.out) (g.O.CodeOut.lender n.out) i.is_begun i.is_closed c.if-self.false (c.self.invariant c.if-self.false)
+    (point i.parser.tokens (locals_in i.parser.draft) (keys_of i.names) (g.O.CodeOut.outgoing i.out)) (point n.parser.tokens (locals_in n.parser.draft) (keys_of n.names) (g.O.CodeOut.outgoing n.out)) (g.O.CodeOut.lender i.out) (g.O.CodeOut.lender n.out) i.is_begun i.is_closed c.if-self.false (c.self.invariant c.if-self.false)
     c.args.self.now c.self.view_is c.in-Err.step c.in-Err.ensures.gives
