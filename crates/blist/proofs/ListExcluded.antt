@@ -20,6 +20,7 @@ use Rattle.btools.proofs.ProgramsExcluded.{device_grew, excluded, no_done, other
 use Rattle.blist.specs.ListExcluded.{NoListings, NoMaps, WrongStatuses}
 use Rattle.blist.specs.declared.layout.TheConstants as layout_texts
 use Rattle.blist.specs.declared.listing.TheConstants.{HEADING, UNDEFINED}
+use Rattle.btools.specs.FrameNames.{HasNames}
 use Rattle.btools.specs.ProgramLines.{token_lines}
 use Rattle.btools.specs.SourceLines.{source_lines}
 use Rattle.btools.specs.declared.names.Frame.{Frame}
@@ -80,8 +81,8 @@ module _ (edition : Edition) (source : List ℕ) (r : Compilation) (g : Compiles
     abbrev Gives : ℕ → Type 0
     Gives status = Lists edition source name ends status
 
-    list_done : Gives 0 → (r.stop ≡ None) × (load_fault code ≡ None) × (wanted name code ≡ [] → ⊥) × ((frames : List Frame) × Writes ends.out (list_text (image_of code) source name code (program_lines g.definitions (token_lines edition source)) frames) ends.out_after)
-    list_done (listing.listed ds image lines frames p own silent some report) =
+    list_done : Gives 0 → (r.stop ≡ None) × (load_fault code ≡ None) × (wanted name code ≡ [] → ⊥) × ((frames : List Frame) × HasNames edition source frames × Writes ends.out (list_text (image_of code) source name code (program_lines g.definitions (token_lines edition source)) frames) ends.out_after)
+    list_done (listing.listed ds image lines frames p own named silent some report) =
         let is = told.program ds image p in
         let text = list_text image source name ds lines frames in (
           is.0,
@@ -89,6 +90,7 @@ module _ (edition : Edition) (source : List ℕ) (r : Compilation) (g : Compiles
           subst (λ (x : List Definition). wanted name x ≡ [] → ⊥) is.1 some,
           (
             frames,
+            named,
             subst (λ t. Writes ends.out t ends.out_after)
                 (listing_same ds image p.loaded source name lines frames ∙ ap (λ (x : List Definition). list_text (image_of x) source name x lines frames) is.1 ∙ ap (λ ls. list_text (image_of code) source name code ls frames) (own r g))
                 (was_told text 0 ends.out ends.out_after (λ e. omega (arith, e)) (λ e. omega (arith, e)) report),
@@ -99,7 +101,7 @@ module _ (edition : Edition) (source : List ℕ) (r : Compilation) (g : Compiles
     list_done (listing.stopped why same) = absurd (no_done 0 refl (told.status 0 why))
 
     list_unknown : Gives 135 → (wanted name code ≡ []) × Writes ends.line UNDEFINED.now ends.line_after × (ends.out_after ≡ ends.out)
-    list_unknown (listing.listed ds image lines frames p own silent some report) =
+    list_unknown (listing.listed ds image lines frames p own named silent some report) =
         absurd (other_answer (list_text image source name ds lines frames) 0 ends.out ends.out_after 135 (λ e. omega (arith, e)) (λ e. omega (arith, e)) (λ e. omega (arith, e)) report)
     list_unknown (listing.unnamed ds image p none report same) =
         let is = told.program ds image p in (
@@ -113,21 +115,21 @@ module _ (edition : Edition) (source : List ℕ) (r : Compilation) (g : Compiles
     list_statuses = record { fault = fault; unloaded = unloaded; device = device }
       where
         fault : Gives 1 → ((d : Diagnostic) × (r.stop ≡ Some d) × Writes ends.line (line_of d) ends.line_after) × (ends.out_after ≡ ends.out)
-        fault (listing.listed ds image lines frames p own silent some report) =
+        fault (listing.listed ds image lines frames p own named silent some report) =
             absurd (other_answer (list_text image source name ds lines frames) 0 ends.out ends.out_after 1 (λ e. omega (arith, e)) (λ e. omega (arith, e)) (λ e. omega (arith, e)) report)
         fault (listing.unnamed ds image p none report same) =
             absurd (other_answer UNDEFINED.now 135 ends.line ends.line_after 1 (λ e. omega (arith, e)) (λ e. omega (arith, e)) (λ e. omega (arith, e)) report)
         fault (listing.stopped why same) = (told.fault why, same)
 
         unloaded : Gives 132 → ((f : LoadFault) × (text : List ℕ) × (load_fault code ≡ Some f) × (load_line f ≡ Some text) × Writes ends.line text ends.line_after) × (ends.out_after ≡ ends.out)
-        unloaded (listing.listed ds image lines frames p own silent some report) =
+        unloaded (listing.listed ds image lines frames p own named silent some report) =
             absurd (other_answer (list_text image source name ds lines frames) 0 ends.out ends.out_after 132 (λ e. omega (arith, e)) (λ e. omega (arith, e)) (λ e. omega (arith, e)) report)
         unloaded (listing.unnamed ds image p none report same) =
             absurd (other_answer UNDEFINED.now 135 ends.line ends.line_after 132 (λ e. omega (arith, e)) (λ e. omega (arith, e)) (λ e. omega (arith, e)) report)
         unloaded (listing.stopped why same) = (told.unloaded why, same)
 
         device : Gives 133 → Grew ends.out.failures ends.out_after.failures ⊎ Grew ends.line.failures ends.line_after.failures
-        device (listing.listed ds image lines frames p own silent some report) = inl (device_grew (list_text image source name ds lines frames) 0 ends.out ends.out_after (λ e. omega (arith, e)) report)
+        device (listing.listed ds image lines frames p own named silent some report) = inl (device_grew (list_text image source name ds lines frames) 0 ends.out ends.out_after (λ e. omega (arith, e)) report)
         device (listing.unnamed ds image p none report same) =
             inr (device_grew UNDEFINED.now 135 ends.line ends.line_after (λ e. omega (arith, e)) report)
         device (listing.stopped why same) = inr (told.device why)

@@ -13,6 +13,7 @@ use Rattle.blang.specs.Machine.{Image}
 use Rattle.blang.specs.Reports.{Reported}
 use Rattle.blist.specs.declared.listing.TheConstants.{HEADING, UNDEFINED}
 use Rattle.blist.specs.ListingTexts.{definition_rows}
+use Rattle.btools.specs.FrameNames.{HasNames}
 use Rattle.btools.specs.ProgramLines.{HasLines}
 use Rattle.btools.specs.Programs.{HasProgram, NoProgram, ToldEnds, image_address}
 use Rattle.btools.specs.SourceLines.{source_lines}
@@ -64,12 +65,12 @@ list_text image source name ds lines frames =
     ++ flat_map (told_rows image source) (filter (λ t. is_wanted name t.definition) (told_of ds lines frames))
 
 -- What is written for a source: the lines of the code of what is wanted, each in its row, where it lies and beside the
--- line of the source that it comes from; or nothing but why there are none, or that none has the name. Which names
+-- line of the source that it comes from; or nothing but why there are none, or that none has the name. Which labels
 -- stand beside them is not said.
 pub data Lists (edition : Edition) (source : List ℕ) (name : Option (List ℕ)) (ends : ToldEnds) (status : ℕ) : Type 0
   where
     listed : (ds : List Definition) (image : Image) (lines : List ℕ) (frames : List Frame)
-        → HasProgram edition source ds image → HasLines edition source lines
+        → HasProgram edition source ds image → HasLines edition source lines → HasNames edition source frames
         → ends.line_after ≡ ends.line → (wanted name ds ≡ [] → ⊥)
         → Reported (list_text image source name ds lines frames) DONE ends.out ends.out_after status
         → Lists edition source name ends status

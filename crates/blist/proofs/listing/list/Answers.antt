@@ -23,7 +23,7 @@ returns-in-Ok-listing-clause-lists g c =
     let name : Option (List ℕ) = option_map (λ (n : Bor (List ℕ)). n.now) c.args.name in
     let some : wanted name p.definitions.items ≡ [] → ⊥ = λ none.
     both_ways c.is_none_wanted.result c.if-is_none_wanted.false (c.is_none_wanted.ensures.1 (ap (wanted name) c.deref.ensures.value ∙ none)) in
-    listed p.definitions.items p.image p.names.lines.items p.names.frames.items c.in-Ok.ensures.program c.in-Ok.ensures.lines refl some
+    listed p.definitions.items p.image p.names.lines.items p.names.frames.items c.in-Ok.ensures.program c.in-Ok.ensures.lines c.in-Ok.ensures.names refl some
     (subst (λ (t : List ℕ). Reported t 0 (g.O.ByteOut.outgoing c.args.out.now) (g.O.ByteOut.outgoing c.tell-in-Ok-listing.new.out) c.tell-in-Ok-listing.result)
     (c.as_slice.ensures ∙ c.in-Ok-listing.ensures) c.tell-in-Ok-listing.ensures.told)
 
