@@ -21,7 +21,7 @@ use Rattle.bcli.specs.declared.sources.Unread.TheVariants as read_faults
 use Rattle.bcli.specs.Reading.{HasReadLibs, HasReadSource, IsUnread, LibIsUnread}
 use Rattle.bshow.specs.Shows.{Shows}
 use Rattle.bshow.specs.Shows.{Asked as PageAsked}
-use Rattle.bshow.specs.declared.showing.PageRows.{PageRows as Paged}
+use Rattle.btrace.specs.declared.trail.TraceRows.{TraceRows as Traced}
 use Rattle.std.specs.Prelude.{◌==◌, None, Option, Some, option_map}
 use Rattle.bcli.specs.Serves.{ShowsRun, CompilesJoined, NamesLib, NamesLibOf, compiling, files_read, whole, Answers, Does, HasNoFile, IsHelp, NamesFile, SaysNothing, RefusesWords}
 use Rattle.bcli.specs.declared.shelf.FileFault.{FileFault}
@@ -127,18 +127,18 @@ shown_some [] some e = cc
 shown_some (lib ∷ libs) some e = cc
 
 -- what is asked of a page
-abbrev page_asked : ℕ → Paged → Files → List ℕ → PageAsked
+abbrev page_asked : ℕ → Traced → Files → List ℕ → PageAsked
 page_asked steps rows files given = record { steps = steps; which = rows; files = files; given = given }
 
 -- a page of a run that reads the program's input
-pub shown_alone : (edition : Edition) (files : Files) (text : List ℕ) (steps : ℕ) (rows : Paged) (input : Option (Bor Text)) (asked : PageAsked) (ends : RunEnds) (status : ℕ)
+pub shown_alone : (edition : Edition) (files : Files) (text : List ℕ) (steps : ℕ) (rows : Traced) (input : Option (Bor Text)) (asked : PageAsked) (ends : RunEnds) (status : ℕ)
     → input ≡ None → asked ≡ page_asked steps rows files [] → Shows edition text asked ends status
     → ShowsRun edition files text steps rows (option_map (λ t. t.now) input) ends status
 shown_alone edition files text steps rows None asked ends status none is shows = subst (λ (q : PageAsked). Shows edition text q ends status) is shows
 shown_alone edition files text steps rows (Some given) asked ends status none is shows = cc
 
 -- a page of a run whose input is given
-pub shown_given : (edition : Edition) (files : Files) (text : List ℕ) (steps : ℕ) (rows : Paged) (input : Option (Bor Text)) (given : Bor Text) (asked : PageAsked) (first after : Unread) (told read : List ℕ) (ends : RunEnds) (status : ℕ)
+pub shown_given : (edition : Edition) (files : Files) (text : List ℕ) (steps : ℕ) (rows : Traced) (input : Option (Bor Text)) (given : Bor Text) (asked : PageAsked) (first after : Unread) (told read : List ℕ) (ends : RunEnds) (status : ℕ)
     → input ≡ Some given → told ≡ given.now → read ≡ given.now → asked ≡ page_asked steps rows files told → first ≡ record { left = read; is_over = false }
     → ends.input_after ≡ ends.input → Shows edition text asked (record ends { input = incoming_of first; input_after = incoming_of after }) status
     → ShowsRun edition files text steps rows (option_map (λ t. t.now) input) ends status

@@ -3,10 +3,9 @@ use Rattle.std.specs.Prelude.{◌≡◌, true, false, List, [], ◌∷◌, codes
 use Rattle.bcheck.specs.declared.form.FindingForm.TheVariants as forms
 use Rattle.bcount.specs.declared.table.CountStyle.TheVariants as styles
 use Rattle.btrace.specs.declared.trail.TraceRows.TheVariants as traced
-use Rattle.bshow.specs.declared.showing.PageRows.TheVariants as paged
 use Rattle.bcommand.specs.declared.job.Rows.TheVariants as which
 use Rattle.bsources.specs.Files.{NamedText, followed}
-use Rattle.bcli.specs.Serves.{form_of, no_file_line, page_rows, style_of, traced_rows}
+use Rattle.bcli.specs.Serves.{form_of, no_file_line, style_of, traced_rows}
 
 -- findings and counts for an editor, and for people
 forms_asked : map form_of (true ∷ false ∷ []) ≡ forms.Json ∷ forms.Text ∷ []
@@ -18,9 +17,6 @@ styles_asked = refl
 -- the steps from a number on, and the last ones
 traced_asked : map traced_rows (which.From 3 ∷ which.Last 3 ∷ []) ≡ traced.From 3 ∷ traced.Last 3 ∷ []
 traced_asked = refl
-
-paged_asked : map page_rows (which.From 3 ∷ which.Last 3 ∷ []) ≡ paged.From 3 ∷ paged.Last 3 ∷ []
-paged_asked = refl
 
 -- a file that can't be read is told by its own name
 no_file_told : no_file_line (codes "l.b") ≡ codes "error: the file 'l.b' can't be read\n"

@@ -30,8 +30,6 @@ use Rattle.bcount.specs.Counts.{Counts}
 use Rattle.bcount.specs.declared.table.CountStyle.{CountStyle}
 use Rattle.bcount.specs.declared.table.CountStyle.TheVariants as styles
 use Rattle.bshow.specs.Shows.{Shows}
-use Rattle.bshow.specs.declared.showing.PageRows.{PageRows as Paged}
-use Rattle.bshow.specs.declared.showing.PageRows.TheVariants as paged
 use Rattle.bformat.specs.Formats.{Formats}
 use Rattle.bcommand.specs.CommandLine.{Asked, Question, SourceAsked, asked, clash_line, command_line}
 use Rattle.bcommand.specs.CommandLine.{compile, run, go, migrate, ask, contradiction}
@@ -74,16 +72,12 @@ abbrev pub traced_rows : Rows → Traced
 traced_rows (which.From number) = traced.From number
 traced_rows (which.Last most) = traced.Last most
 
-abbrev pub page_rows : Rows → Paged
-page_rows (which.From number) = paged.From number
-page_rows (which.Last most) = paged.Last most
-
 -- how counts are told
 abbrev pub style_of : (for_editor : Bool) → CountStyle
 style_of for_editor = if for_editor then styles.Json else styles.Table
 
 -- a page of a run whose input is given, or that reads the program's own
-abbrev pub ShowsRun : Edition → Files → (text : List ℕ) → (steps : ℕ) → Paged → (input : Option Text) → RunEnds → ℕ
+abbrev pub ShowsRun : Edition → Files → (text : List ℕ) → (steps : ℕ) → Traced → (input : Option Text) → RunEnds → ℕ
     → Type 0
 ShowsRun edition files text steps rows None ends status =
     Shows edition text (record { steps = steps; which = rows; files = files; given = [] }) ends status
@@ -187,7 +181,7 @@ Answers edition files text (locate steps) ends status = Locates edition text fil
 Answers edition files text (count steps for_editor) ends status =
     Counts (record { edition = edition; steps = steps; files = files; style = style_of for_editor }) text ends status
 Answers edition files text (show steps shown input) ends status =
-    ShowsRun edition files text steps (page_rows shown) input ends status
+    ShowsRun edition files text steps (traced_rows shown) input ends status
 Answers edition files text (format is_check) ends status = (ends.input_after ≡ ends.input) × Formats (record {
   edition = edition;
   source = text;

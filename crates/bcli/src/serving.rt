@@ -8,7 +8,7 @@ ghost use Rattle.bcommand.specs.CommandLine.{ask, asked, asked_of, compile, go, 
 ghost use Rattle.bcli.specs.ShellExcluded.{Excluded, FileIsRead};
 ghost use Rattle.bshow.specs.Shows.{asked_of as page_of};
 ghost use Rattle.bsources.specs.Files.{file_shown, files_shown};
-ghost use Rattle.bcli.specs.Serves.{Answers, CompilesJoined, Does, NamesFile, RefusesWords, SaysNothing, Serves, ShowsRun, form_of, page_rows, style_of, traced_rows, no_file_line, unread_line};
+ghost use Rattle.bcli.specs.Serves.{Answers, CompilesJoined, Does, NamesFile, RefusesWords, SaysNothing, Serves, ShowsRun, form_of, style_of, traced_rows, no_file_line, unread_line};
 ghost use Rattle.bcli.specs.Shelves.{opened};
 
 use crate::shelf::{FileFault, MemFile, Shelf, SystemFiles};
@@ -354,7 +354,7 @@ fn show_run<I: ByteIn, O: ByteOut, D: ByteOut>(
     out: &mut O,
     diag: &mut D,
 ) -> Status
-    ensures shows { ShowsRun edition (files_shown files.entry) text.now display.entry.steps (page_rows display.entry.rows) (option_map (λ t. t.now) display.entry.input) (run_ends
+    ensures shows { ShowsRun edition (files_shown files.entry) text.now display.entry.steps (traced_rows display.entry.rows) (option_map (λ t. t.now) display.entry.input) (run_ends
         (I.incoming input.old) (I.incoming input.new) (O.outgoing out.old) (O.outgoing out.new)
         (D.outgoing diag.old) (D.outgoing diag.new)) result }
     ensures input_lender { I.lender input.new ≡ I.lender input.old }
@@ -379,11 +379,11 @@ fn page_of<'a>(
     display: Display<'_>,
     given: &'a [u8],
 ) -> bshow::PageRequest<'a>
-    ensures { page_of result ≡ record { steps = display.entry.steps; which = page_rows display.entry.rows; files = files_shown files.entry; given = given.now } }
+    ensures { page_of result ≡ record { steps = display.entry.steps; which = traced_rows display.entry.rows; files = files_shown files.entry; given = given.now } }
 {
     bshow::PageRequest {
         steps: display.steps,
-        rows: page_rows(display.rows),
+        rows: traced_rows(display.rows),
         files,
         given,
     }
@@ -395,15 +395,6 @@ fn traced_rows(rows: Rows) -> btrace::TraceRows
     match rows {
         Rows::From(number) => btrace::TraceRows::From(number),
         Rows::Last(count) => btrace::TraceRows::Last(count),
-    }
-}
-
-fn page_rows(rows: Rows) -> bshow::PageRows
-    ensures { result ≡ page_rows rows }
-{
-    match rows {
-        Rows::From(number) => bshow::PageRows::From(number),
-        Rows::Last(count) => bshow::PageRows::Last(count),
     }
 }
 

@@ -10,7 +10,6 @@ use Rattle.blang.specs.declared.code.Definition.{Definition}
 use Rattle.blang.specs.Layout.{data_end, first_some, label_count, load_fault, shape_of, size_of, some_if, spot_after, spots, store_words}
 use Rattle.bmach.proofs.Spots.{data_end-push, length-spots_after, spots_after-push, zip-push}
 use Rattle.bmach.specs.declared.machine.Active.{Active}
-use Rattle.bshow.specs.Shows.{rows_text}
 use Rattle.bshow.specs.Facts.{all_addresses, call_text, definition_text, spot_text}
 
 -- the texts of definitions, with one more
@@ -77,5 +76,5 @@ unfolding all_addresses
 all_are n e = ap (range_with_len 0) e
 
 -- one row more
-pub one_row : (start text new row : List ℕ) (rest : List (List ℕ)) → text ++ rows_text (row ∷ rest) ≡ start → new ≡ text ++ row → new ++ rows_text rest ≡ start
-one_row start text new row rest before one = ap (λ t. t ++ rows_text rest) one ∙ append_assoc text row (rows_text rest) ∙ before
+pub one_row : (start text new row : List ℕ) (rest : List (List ℕ)) → text ++ flat_map (λ r. r) (row ∷ rest) ≡ start → new ≡ text ++ row → new ++ flat_map (λ r. r) rest ≡ start
+one_row start text new row rest before one = ap (λ t. t ++ flat_map (λ (r : List ℕ). r) rest) one ∙ append_assoc text row (flat_map (λ (r : List ℕ). r) rest) ∙ before

@@ -1,9 +1,7 @@
 pub mod Ranges
 pub mod FactParts
 pub mod Calls
-pub mod Kept
-pub mod Told
-pub mod Whole
+pub mod Recorded
 pub mod Escaping
 pub mod OwnTexts
 pub mod ShowExcluded

@@ -13,19 +13,21 @@ use Rattle.blang.specs.declared.run.Report.TheVariants as report
 use Rattle.blang.specs.declared.run.Trap.{Trap}
 use Rattle.blang.specs.declared.run.Trap.TheVariants as trap
 use Rattle.blang.specs.Layout.{OfLibrary, callee_of}
-use Rattle.blang.specs.Machine.{Call, Loaded}
+use Rattle.blang.specs.Machine.{Loaded, image_of, machine}
 use Rattle.blang.specs.Reports.{report_text}
-use Rattle.bmach.specs.Stops.{active_of}
+use Rattle.bmach.specs.declared.machine.Active.{Active}
 use Rattle.bsources.specs.Files.{File, Files, file_of}
+use Rattle.btrace.specs.TraceExcluded.{calling, nothing, passing, reading, storing, trapping, writing}
+use Rattle.btrace.specs.declared.trail.TraceRows.{TraceRows}
+use Rattle.btrace.specs.declared.trail.TraceRows.TheVariants as rows
+use Rattle.bwatch.specs.Sights.{Sights, sights_of}
 use Rattle.bshow.specs.Escapes.{escaped, is_safe, unescaped}
 use Rattle.bshow.specs.Facts.{calls_text, definitions_text, files_text, no_run_text, sentence, sizes_text, some_word}
 use Rattle.bshow.specs.Facts.{trap_words}
 use Rattle.bshow.specs.Facts.{unbegun_sentence}
 use Rattle.bshow.specs.OwnTexts.{own_texts}
-use Rattle.bshow.specs.Rows.{call_cells, done_cells, is_getchar, words_cell}
-use Rattle.bshow.specs.Shows.{shown_of}
-use Rattle.bshow.specs.Steps.{broken_status}
-use Rattle.bshow.specs.declared.showing.PageRows.TheVariants as rows
+use Rattle.bshow.specs.Rows.{call_cells, done_cells, is_getchar, lined_code, words_cell}
+use Rattle.bshow.specs.Shows.{calls_at, heard_text, next_text, rows_text, shown_of}
 
 -- what ends a string, a tag or a comment, and what is no printable character of ASCII
 marks_escaped : escaped (codes "\"\\<>&") ≡ codes "\\u0022\\u005c\\u003c\\u003e\\u0026"
@@ -95,23 +97,12 @@ word_told : some_word 9 65535 ≡ codes "9,-1,"
 unfolding digits
 word_told = refl
 
--- a call, and what a step did
-abbrev a_call : (strings start : ℕ) → Call
-a_call strings start = record {
-  function = record {
-    parameters = 0;
-    frame = 0;
-    targets = [];
-    code = [];
-    strings = strings;
-    first_label = 0;
-  };
-  start = start;
-  place = 7;
-  operands = 3 ∷ 65535 ∷ [];
-}
+-- a call of a function that isn't there, and what a step did
+abbrev pub a_call : (strings start : ℕ) → Active
+a_call strings start = record { strings = strings; parameters = 0; place = 7; start = start }
 
-call_told : call_cells [] 8 (a_call 9 10) 2 65 ≡ codes "<tr><td>8<td><td>7<td>65<td><td>[-1,3]<td>2<td>10"
+call_told : call_cells (lined_code [] []) 8 (a_call 9 10) (3 ∷ 65535 ∷ []) 2
+    ≡ codes "<tr><td>8<td><td>7<td>0<td><td>[-1,3]<td>2<td>10"
 unfolding digits
 call_told = refl
 
@@ -128,7 +119,7 @@ nothing_done = refl
 no_calls : calls_text [] ≡ codes "[0]"
 no_calls = refl
 
-calls_told : calls_text (map active_of (a_call 9 10 ∷ a_call 8 12 ∷ [])) ≡ codes "[[9,10],[8,12],0]"
+calls_told : calls_text (a_call 9 10 ∷ a_call 8 12 ∷ []) ≡ codes "[[9,10],[8,12],0]"
 unfolding digits
 calls_told = refl
 
@@ -206,7 +197,7 @@ last_of_fewer = refl
 last_none : shown_of (rows.Last 0) 5 ≡ []
 last_none = refl
 
--- the sentences, and the outcomes without a page
+-- the sentences
 trap_told : sentence (outcome.Trap trap.ZeroDivisor) 3
     ≡ codes "The run was stopped by trap dz, a division by 0, in step 3."
 unfolding digits
@@ -233,8 +224,74 @@ exit_told : sentence (outcome.Exit 0) 7 ≡ codes "The run ended with status 0, 
 unfolding digits
 exit_told = refl
 
-read_failed : broken_status outcome.Device ≡ Some 133
-read_failed = refl
+-- a run of a program whose code has these lines, and what is told of it
+abbrev lines : List ℕ
+lines = 21 ∷ 22 ∷ 23 ∷ 24 ∷ 25 ∷ 26 ∷ 27 ∷ 28 ∷ 29 ∷ 30 ∷ []
 
-memory_refused : broken_status outcome.Memory ≡ Some 134
-memory_refused = refl
+abbrev run_of : List Definition → (input : List ℕ) → Sights
+run_of ds input = sights_of (image_of ds).functions (machine ds) input
+
+abbrev rows_of : List Definition → TraceRows → (made : ℕ) → List ℕ
+rows_of ds which made = rows_text (lined_code ds lines) which (run_of ds (codes "<")) made
+
+-- a row for each step, with the line of its instruction
+all_rows : rows_of calling (rows.From 1) 4
+    ≡ codes "<tr><td>1<td>main<td>0<td>21<td>x f<td>[]<td>0<td>9<td>0<td>[]<td>[]<td><td></tr>\n"
+    ++ codes "<tr><td>2<td>main<td>1<td>22<td>v<td>[8]<td>0<td>9<td>0<td>[]<td>[]<td><td></tr>\n"
+    ++ codes "<tr><td>3<td>main<td>2<td>23<td>k 0<td>[8]<td>0<td>9<td>0<td>[]<td>[]<td><td></tr>\n"
+    ++ codes "<tr><td>4<td>f<td>0<td>27<td>x f<td>[]<td>1<td>9<td>0<td>[]<td>[]<td><td></tr>\n"
+unfolding digits
+all_rows = refl
+
+-- words that a step stored, and the word that was there before
+word_stored : rows_of storing (rows.From 3) 3
+    ≡ codes "<tr><td>3<td>main<td>2<td>23<td>w<td>[3,5]<td>0<td>8<td>3<td>[3]<td>[5]<td><td></tr>\n"
+unfolding digits
+word_stored = refl
+
+words_passed : rows_of passing (rows.Last 1) 10
+    ≡ codes "<tr><td>10<td>main<td>9<td>30<td>k 7<td>[8,1,2,3,4,5,6,7]<td>0<td>9"
+    ++ codes "<td>9<td>[0,0,0,0,0,0,0]<td>[1,2,3,4,5,6,7]<td><td></tr>\n"
+unfolding digits
+words_passed = refl
+
+-- what was read, and what was written
+byte_read : rows_of reading (rows.Last 1) 3
+    ≡ codes "<tr><td>3<td>main<td>2<td>23<td>k 0<td>[3]<td>0<td>8<td>0<td>[]<td>[]<td>\\u003c<td></tr>\n"
+unfolding digits
+byte_read = refl
+
+byte_written : rows_of writing (rows.Last 1) 4
+    ≡ codes "<tr><td>4<td>main<td>3<td>24<td>k 1<td>[4,97]<td>0<td>8<td>0<td>[]<td>[]<td><td>a</tr>\n"
+unfolding digits
+byte_written = refl
+
+-- the step of a trap, and that of the end of a run, which did nothing
+trap_row : rows_of trapping (rows.Last 1) 2
+    ≡ codes "<tr><td>2<td>main<td>1<td>22<td>k 0<td>[0]<td>0<td>8<td>0<td>[]<td>[]<td><td></tr>\n"
+unfolding digits
+trap_row = refl
+
+end_row : rows_of nothing (rows.Last 1) 2
+    ≡ codes "<tr><td>2<td>main<td>1<td>22<td>r<td>[0]<td>0<td>8<td>0<td>[]<td>[]<td><td></tr>\n"
+unfolding digits
+end_row = refl
+
+-- the next step, where there is one, and the calls before it, or before the last one
+next_told : next_text (lined_code calling lines) (run_of calling []) 3 outcome.Limit
+    ≡ codes "<tr><td>4<td>f<td>0<td>27<td>x f<td>[]<td>1<td>9</tr>\n"
+unfolding digits
+next_told = refl
+
+none_next : next_text (lined_code trapping lines) (run_of trapping []) 2 (outcome.Trap trap.NotAFunction) ≡ []
+none_next = refl
+
+next_calls : calls_text (run_of calling [] (calls_at 4 outcome.Limit)).below ≡ codes "[[8,9],0]"
+unfolding digits
+next_calls = refl
+
+calls_when : map (calls_at 4) (outcome.Limit ∷ outcome.Exit 0 ∷ outcome.Trap trap.NoRoom ∷ []) ≡ 4 ∷ 3 ∷ 3 ∷ []
+calls_when = refl
+
+heard_told : heard_text (lined_code reading lines) (run_of reading (codes "<")) 4 ≡ codes "<"
+heard_told = refl

@@ -1,9 +1,9 @@
 //! The rows of a page: the machine before a step, and what the step did.
-ghost use Rattle.std.specs.Prelude.{◌≡◌, ◌≤◌, ◌<◌, ◌+◌, ◌-◌, ◌^◌, ◌++◌, ℕ, IfOk, OnOk, length, reverse, slice_index};
+ghost use Rattle.std.specs.Prelude.{◌≡◌, ◌≤◌, ◌+◌, ◌-◌, ◌++◌, IfOk, OnOk, length, slice_index};
 ghost use Rattle.std.specs.List.{range_with_len};
-ghost use Rattle.btools.specs.Functions.{entries_of};
+ghost use Rattle.bmach.specs.Stops.{active_of};
 ghost use Rattle.btrace.specs.RowTexts.{instr_text};
-ghost use Rattle.bshow.specs.Rows.{call_cells, calls_getchar, done_cells, number_cell, other_text, others_text, text_cell, words_cell, words_in};
+ghost use Rattle.bshow.specs.Rows.{call_cells, done_cells, instr_of, is_getchar, number_cell, other_text, others_text, table_code, text_cell, words_cell, words_in};
 
 use crate::escapes::push_escaped;
 use bcode::{Page, push_instr_line};
@@ -25,8 +25,8 @@ pub fn push_call<S: Store + Drop>(
     stepper: &Stepper<'_, S>,
     made: u64,
 ) -> Result<(), AllocError>
-    ensures { OnOk result ((line : ℕ) × (text.new ≡ text.old
-        ++ call_cells (entries_of tables.now) (made + 1) stepper.now.call (length stepper.now.below) line)) }
+    ensures { OnOk result (text.new ≡ text.old ++ call_cells (table_code tables.now) (made + 1)
+        (active_of stepper.now.call) stepper.now.call.operands (length stepper.now.below)) }
 {
     let call = stepper.top();
     let entry = tables.entry(call.strings);
@@ -113,14 +113,14 @@ fn push_other(text: &mut Text, word: u16) -> Result<(), AllocError>
 pub fn words_in<S: Store + Drop>(
     alloc: Global,
     stepper: &Stepper<'_, S>,
-    addresses: Range<u32>,
+    addresses: &Range<u32>,
 ) -> Result<Vec<u16>, AllocError>
-    requires { addresses.end ≤ 65536 }
-    ensures { IfOk result (λ words. words.items ≡ words_in stepper.now.store (range_with_len addresses.start (addresses.end - addresses.start))) }
+    ensures { IfOk result (λ words. addresses.now.end ≤ 65536
+        → words.items ≡ words_in stepper.now.store (range_with_len addresses.now.start (addresses.now.end - addresses.now.start))) }
 {
     let mut words = Vec::new(alloc);
     for address in addresses.start..addresses.end {
-        words.push(stepper.word(address as u16))?;
+        words.push(stepper.word((address % 65536) as u16))?;
     }
     Ok(words)
 }
@@ -146,7 +146,7 @@ pub fn push_done(
 
 /// Whether the next step calls `getchar`.
 pub fn calls_getchar<S: Store + Drop>(tables: &Tables<'_>, stepper: &Stepper<'_, S>) -> bool
-    ensures { result ≡ calls_getchar (entries_of tables.now) stepper.now.call }
+    ensures { result ≡ is_getchar stepper.now.call.operands (instr_of (table_code tables.now) (active_of stepper.now.call)) }
 {
     let call = stepper.top();
     match instr_at(tables.entry(call.strings), call.place) {

@@ -1,6 +1,6 @@
 mod PlaceParts
 mod RowParts
-mod Kept
+pub mod Kept
 mod Telling
 mod Traced
 mod Located

@@ -5,6 +5,7 @@ use Rattle.std.proofs.lemmas.Result.{on_ok_weaker}
 use Rattle.btools.proofs.AddedTexts.{piece}
 use Rattle.bmach.specs.declared.machine.Active.{Active}
 use Rattle.btools.specs.Functions.{entries_of, function_with, placed_entry}
+use Rattle.btools.specs.ProgramLines.{line_in, lines_shown, lines_with}
 use Rattle.btrace.specs.RowTexts.{instr_in, instr_text, name_in}
 use Rattle.bshow.specs.Rows.{number_cell, text_cell, words_cell}
 use Rattle.bshow.proofs.rows.push_call.Goals as goal
@@ -15,6 +16,7 @@ returns g c =
     let call = c.args.stepper.now.call in
     let entry : option_map placed_entry c.entry-entry.result ≡ function_with fs call.function.strings = c.entry-entry.ensures.function ∙ ap (λ (a : Active). function_with fs a.strings) c.top-call.ensures in
     let name = c.name_of.ensures ∙ ap name_in entry in
+    let line = c.line-line.ensures ∙ (λ j. line_in ((c.entry-entry.ensures.lines ∙ ap (λ (a : Active). lines_with (lines_shown c.args.tables.now) a.strings) c.top-call.ensures) j) (c.top-call.ensures j).place) in
     let operands : c.operands.result.now ≡ reverse call.operands = sym (reverse-reverse c.operands.result.now) ∙ ap reverse c.operands.ensures in
     let t0 = c.args.text.now in
     let a0 : List ℕ = codes "<tr>" in
@@ -33,9 +35,7 @@ returns g c =
     let p5 = piece t0 c.push_number_cell-2.new.text c.push_code_cell.new.text (a0 ++ a1 ++ a2 ++ a3 ++ a4) a5 p4 c.in_ok-push_code_cell.ensures in
     let p6 = piece t0 c.push_code_cell.new.text c.push_words_cell.new.text (a0 ++ a1 ++ a2 ++ a3 ++ a4 ++ a5) a6 p5 c.in_ok-push_words_cell.ensures in
     let p7 = piece t0 c.push_words_cell.new.text c.push_number_cell-3.new.text (a0 ++ a1 ++ a2 ++ a3 ++ a4 ++ a5 ++ a6) a7 p6 c.in_ok-push_number_cell-3.ensures in
-    on_ok_weaker c.push_number_cell-4.result (λ end. (
-      c.line-line.result,
-      piece t0 c.push_number_cell-3.new.text c.push_number_cell-4.new.text (a0 ++ a1 ++ a2 ++ a3 ++ a4 ++ a5 ++ a6 ++ a7) a8 p7 end
-          ∙ (λ i. t0 ++ (a0 ++ a1 ++ text_cell (name i) ++ number_cell (c.top-call.ensures i).place ++ a4
-          ++ text_cell (instr_text ((c.instr_at.ensures ∙ (λ j. instr_in (entry j) (c.top-call.ensures j).place)) i)) ++ words_cell (operands i) ++ number_cell (c.callers.ensures i) ++ number_cell ((c.from.ensures ∙ ap (λ (a : Active). a.start) c.top-call.ensures) i))),
-    )) c.push_number_cell-4.ensures
+    on_ok_weaker c.push_number_cell-4.result (λ end.
+    piece t0 c.push_number_cell-3.new.text c.push_number_cell-4.new.text (a0 ++ a1 ++ a2 ++ a3 ++ a4 ++ a5 ++ a6 ++ a7) a8 p7 end
+    ∙ (λ i. t0 ++ (a0 ++ a1 ++ text_cell (name i) ++ number_cell (c.top-call.ensures i).place ++ number_cell (line i)
+    ++ text_cell (instr_text ((c.instr_at.ensures ∙ (λ j. instr_in (entry j) (c.top-call.ensures j).place)) i)) ++ words_cell (operands i) ++ number_cell (c.callers.ensures i) ++ number_cell ((c.from.ensures ∙ ap (λ (a : Active). a.start) c.top-call.ensures) i)))) c.push_number_cell-4.ensures

@@ -1,4 +1,4 @@
-use Rattle.std.proofs.Common.{◌≡◌, ◌∙◌, ◌-◌, ◌<◌, ◌≤◌, ◌∷◌, ◌++◌, [], ⊎_elim, ap, arith, refl, sym}
+use Rattle.std.proofs.Common.{◌≡◌, ◌∙◌, ◌-◌, ◌%◌, ◌<◌, ◌≤◌, ◌∷◌, ◌++◌, [], ⊎_elim, ap, arith, refl, sym}
 use Rattle.std.specs.Prelude.{slice_index}
 use Rattle.std.specs.List.{range_with_len}
 use Rattle.std.proofs.lemmas.Bool.{cases_lt}
@@ -9,26 +9,28 @@ use Rattle.bshow.proofs.rows.words_in.Goals as goal
 
 pub loop-address-init : goal.loop-address-init
 loop-address-init g c =
-    let start = c.args.addresses.start in
+    let start = c.args.addresses.now.start in
     let none : 0 ≡ start - start = omega arith in
-    (c.new-words.ensures.items ∙ ap (λ n. words_in c.args.stepper.now.store (range_with_len start n)) none, λ h. refl)
+    (λ within. c.new-words.ensures.items ∙ ap (λ n. words_in c.args.stepper.now.store (range_with_len start n)) none, λ h. refl)
 
 pub loop-address-preserved : goal.loop-address-preserved
 loop-address-preserved g c =
-    let start = c.args.addresses.start in
+    let start = c.args.addresses.now.start in
     let address = c.loop-address.address in
     let from : start ≤ address = c.loop-address.auto.address in
     let store = c.args.stepper.now.store in (
-      c.in_ok-push.ensures.items ∙ (λ j. c.loop-address.invariant.0 j ++ c.word.ensures j ∷ [])
+      λ within.
+          let small : address % 65536 ≡ address = omega (arith, within, c.loop-address-test.true) in
+          c.in_ok-push.ensures.items ∙ (λ j. c.loop-address.invariant.0 within j ++ (c.word.ensures ∙ ap (slice_index store) small) j ∷ [])
           ∙ sym (map-append (slice_index store) (range_with_len start (address - start)) (address ∷ []))
           ∙ ap (words_in store) (sym (one_further start address from)),
       λ h. absurd (omega (arith, h, from, c.loop-address-test.true)),
     )
 
 pub returns : goal.returns
-returns g c =
-    let start = c.args.addresses.start in
-    let end = c.args.addresses.end in
+returns g c within =
+    let start = c.args.addresses.now.start in
+    let end = c.args.addresses.now.end in
     let address = c.loop-address.address in
     let all : address - start ≡ end - start =
     ⊎_elim
@@ -40,4 +42,4 @@ returns g c =
     let same : address ≡ start = c.loop-address.invariant.1 le in
     omega (arith, same, le))
     (cases_lt start end) in
-    c.loop-address.invariant.0 ∙ ap (λ n. words_in c.args.stepper.now.store (range_with_len start n)) all
+    c.loop-address.invariant.0 within ∙ ap (λ n. words_in c.args.stepper.now.store (range_with_len start n)) all

@@ -5,5 +5,6 @@ use Rattle.bshow.proofs.rows.words_in.Given as goal
 
 abbrev pub invariant-loop-address : goal.invariant-loop-address
 invariant-loop-address g l =
-    (l.words.items ≡ words_in l.stepper.store (range_with_len l.fn.addresses.start (l.address - l.fn.addresses.start)))
-    × (l.fn.addresses.end ≤ l.fn.addresses.start → l.address ≡ l.fn.addresses.start)
+    (l.addresses.end ≤ 65536
+    → l.words.items ≡ words_in l.stepper.store (range_with_len l.addresses.start (l.address - l.addresses.start)))
+    × (l.addresses.end ≤ l.addresses.start → l.address ≡ l.addresses.start)

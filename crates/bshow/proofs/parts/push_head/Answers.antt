@@ -1,5 +1,5 @@
 use Rattle.bshow.specs.Shows.{head}
-use Rattle.bshow.proofs.showing.push_head.Goals as goal
+use Rattle.bshow.proofs.parts.push_head.Goals as goal
 
 pub returns : goal.returns
 unfolding head

@@ -1,5 +1,5 @@
 use Rattle.bshow.specs.Shows.{tail}
-use Rattle.bshow.proofs.showing.push_tail.Goals as goal
+use Rattle.bshow.proofs.parts.push_tail.Goals as goal
 
 pub returns : goal.returns
 unfolding tail
