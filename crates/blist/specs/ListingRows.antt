@@ -123,8 +123,8 @@ abbrev a_vector : ℕ → Definition
 a_vector words =
     definition.Vector (record { name = codes "v"; words = words; values = two_values; strings = 4 ∷ [] })
 
--- Each instruction has its line, and the text of a line is beside the first one of it. Strings come after the function's
--- own word.
+-- Each instruction has its line, and the text of a line is beside the first one of it. Strings come after the word of
+-- the function.
 rows_of_function : definition_rows texts 7 (1 ∷ 2 ∷ 2 ∷ []) None a_function
     ≡ codes "    @7        F f 2 2 1 2 3\n"
     ++ codes "              t 1\n"

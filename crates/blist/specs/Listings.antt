@@ -1,5 +1,6 @@
 -- Promise: the code of a source, as it is listed.
-use Rattle.std.specs.Prelude.{◌≡◌, ℕ, Bool, true, List, [], ◌∷◌, ◌++◌, codes, drop, filter, take, refl, Option, Some, None}
+use Rattle.std.specs.Prelude.{◌≡◌, ℕ, Bool, true, List, [], ◌∷◌, ◌++◌, codes, drop, filter, take, refl}
+use Rattle.std.specs.Prelude.{Option, Some, None}
 use Rattle.std.specs.List.{flat_map, slice_get}
 use Rattle.std.specs.Str.{bytes_eq}
 use Rattle.bword.specs.declared.edition.Edition.{Edition}
@@ -55,7 +56,8 @@ told_of (d ∷ ds) lines frames =
 -- the rows of a definition, where it lies in an image
 abbrev pub told_rows : Image → (source : List ℕ) → Told → List ℕ
 told_rows image source t =
-    definition_rows (source_lines source) (image_address image (shape_of t.definition).name) t.lines t.frame t.definition
+    definition_rows (source_lines source) (image_address image (shape_of t.definition).name) t.lines t.frame
+    t.definition
 
 -- the rows of what is wanted
 abbrev pub list_text : Image → (source : List ℕ) → Option (List ℕ) → List Definition → (lines : List ℕ) → List Frame
