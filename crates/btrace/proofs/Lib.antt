@@ -6,3 +6,4 @@ mod Traced
 mod Located
 mod Unasked
 mod TraceExcluded
+mod PlacesTold

@@ -23,11 +23,13 @@ use Rattle.blang.specs.Text.{IsCodeText}
 use Rattle.bcode.proofs.FaultLaws.{unique_code}
 use Rattle.bmach.specs.Resolved.{IsLoadedFrom}
 use Rattle.bmach.specs.Stepping.{BeginsNot, HasEnd}
+use Rattle.bmach.specs.Stops.{EndsAt}
 use Rattle.bmach.specs.declared.machine.Active.{Active}
 use Rattle.bmach.proofs.Resolving.{run-resolved}
 use Rattle.bmach.proofs.Running.{memory_unfailed}
 use Rattle.brun.proofs.RunSteps.{outcome-resolved, run_loaded}
 use Rattle.bsources.specs.Files.{Files}
+use Rattle.btools.specs.ProgramLines.{HasLines}
 use Rattle.btools.specs.Programs.{HasProgram, NoProgram, TellsEnd, nothing_written}
 use Rattle.btools.proofs.Compiled.{text_in}
 use Rattle.btools.proofs.ProgramsExcluded as programs
@@ -187,19 +189,22 @@ module _ (files : Files) where
     unasked = λ edition source r g steps shown name ends status h. by_trace edition source r g steps files ends status shown name h;
   }
 
-  abbrev line_in : Outcome → List ℕ
+  abbrev pub line_in : Outcome → List ℕ
   line_in (outcome.Trap kind) = report_text (report.Trap kind)
   line_in outcome.Limit = report_text report.Limit
   line_in result = []
 
   -- a run that is told with its place: the line of its outcome, and where the machine was
-  record Stops (source : List ℕ) (text : List ℕ) (status : ℕ) : Type 0 where
-    result : Outcome
-    located : located_status result ≡ Some status
-    active : Active
-    made : ℕ
-    legend : Legend
-    text_is : text ≡ line_in result ++ told_site legend source result active made
+  pub record Stops (edition : Edition) (source : List ℕ) (ds : List Definition) (steps : ℕ) (text : List ℕ) (status : ℕ) : Type 0 where
+    pub result : Outcome
+    pub located : located_status result ≡ Some status
+    pub active : Active
+    pub made : ℕ
+    pub input : List ℕ
+    pub stops : EndsAt (machine ds input) steps result active made
+    pub lines : List ℕ
+    pub lined : HasLines edition source lines
+    pub text_is : text ≡ line_in result ++ told_site (legend_in ds lines files) source result active made
 
   line_told : (result : Outcome) (answer : ℕ) (mid following : Outgoing) → located_status result ≡ Some answer → Finishes result mid following answer → Writes mid (line_in result) following
   line_told (outcome.Exit n) answer mid following e f = cc
@@ -226,19 +231,23 @@ module _ (files : Files) where
         begins ds image result ends.line ends.line_after status less starts (subst (λ x. IsLoadedFrom x image) (only edition source ds is other image program) program.loaded) never f
 
     -- the place is told
-    stops_so : (text : List ℕ) → ends.line.written ≡ Some [] → ends.line_after.written ≡ Some text → (text ≡ [] → ⊥) → Locates edition source files steps ends status → Stops source text status
+    pub stops_so : (text : List ℕ) → ends.line.written ≡ Some [] → ends.line_after.written ≡ Some text → (text ≡ [] → ⊥) → Locates edition source files steps ends status → Stops edition source ds steps text status
     stops_so text before following some (locates.located out other image lines result answer active made program lined gives f located stops tells) =
-        let legend = legend_in other lines files in
-        let site = site_told legend source result active made answer out ends.line_after status less tells in
+        let same = only edition source ds is other image program in
+        let site = site_told (legend_in other lines files) source result active made answer out ends.line_after status less tells in
         let whole = Writes-append (line_told result answer ends.line out located f) site.0 in
-        record {
+        let here : Stops edition source other steps text status = record {
           result = result;
           located = located ∙ ap Some (sym site.1);
           active = active;
           made = made;
-          legend = legend;
+          input = stops.taken ++ [];
+          stops = stops.ends [] (λ e. refl);
+          lines = lines;
+          lined = lined;
           text_is = wrote ends.line ends.line_after [] _ text before following whole;
-        }
+        } in
+        subst (λ x. Stops edition source x steps text status) same here
     stops_so text before following some (locates.unlocated other image result program gives f unplaced) =
         absurd (not_alone result ends.line ends.line_after status text less f unplaced before following some)
     stops_so text before following some (locates.not_begun other image result program never f quiet) = absurd (never_begun other image result program never f)
@@ -260,7 +269,7 @@ module _ (files : Files) where
     came_to result comes (locates.not_begun other image r program never f quiet) = absurd (never_begun other image r program never f)
     came_to result comes (locates.stopped none quiet) = absurd (has_program edition source ds is _ ends.line ends.line_after status less none)
 
-  limit_is : (result : Outcome) → located_status result ≡ Some 131 → result ≡ outcome.Limit
+  pub limit_is : (result : Outcome) → located_status result ≡ Some 131 → result ≡ outcome.Limit
   limit_is (outcome.Exit n) e = cc
   limit_is (outcome.Trap kind) e = let bad : 130 ≡ 131 = some_same 130 131 e in absurd (omega (arith, bad))
   limit_is outcome.Limit e = refl
@@ -311,12 +320,12 @@ module _ (files : Files) where
   places_excluded = record {
     limit_alone = λ ds steps starts edition source ends is before following h.
         let s = stops_so edition source ds is steps ends LIMIT (omega arith) starts (codes "limit\n") before following (λ e. cc) h in
-        let limit = s.text_is ∙ ap (λ x. line_in x ++ told_site s.legend source x s.active s.made) (limit_is s.result s.located) in
+        let limit = s.text_is ∙ ap (λ x. line_in x ++ told_site (legend_in ds s.lines files) source x s.active s.made) (limit_is s.result s.located) in
         let bad : 0 ≡ 97 = ap (at 6) limit in
         omega (arith, bad);
     trap_alone = λ ds steps kind starts edition source ends is before following h.
         let s = stops_so edition source ds is steps ends TRAP (omega arith) starts (report_text (report.Trap kind)) before following (λ e. cc) h in
-        trap_alone s.result kind s.legend source s.active s.made s.located s.text_is;
+        trap_alone s.result kind (legend_in ds s.lines files) source s.active s.made s.located s.text_is;
     other_status = λ ds steps result status starts comes wrong less edition source ends is h.
         wrong (came_to edition source ds is steps ends status less starts result comes h);
     read_failed = λ edition source steps ends failed h. place_read edition source steps ends failed h;

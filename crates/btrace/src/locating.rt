@@ -3,6 +3,7 @@ ghost use Rattle.std.specs.Prelude.{◌≡◌, IfOk};
 ghost use Rattle.blang.specs.Reports.{run_ends};
 ghost use Rattle.btrace.specs.TraceExcluded.{LocatesExcluded};
 ghost use Rattle.bsources.specs.Files.{Files, files_shown};
+ghost use Rattle.btrace.specs.PlacesTold.{PlacesTold};
 ghost use Rattle.btrace.specs.RowTexts.{legend_of};
 ghost use Rattle.btrace.specs.Locates.{Locates, TellsSite, located_status, meaning, told_site};
 
@@ -139,4 +140,10 @@ fn told_site(
 /// No run is answered by its trap or its limit without the place, or by the status of other steps.
 pub fn wrong_places_are_excluded()
     ensures { (files : Files) → LocatesExcluded files }
+{}
+
+/// The place that is told is the one where the machine was, for each program, with the line by which its instruction was
+/// made.
+pub fn the_place_is_told()
+    ensures { PlacesTold }
 {}

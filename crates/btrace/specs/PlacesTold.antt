@@ -1,0 +1,50 @@
+-- Promise: which place is told where a run was over, for each program.
+use Rattle.std.specs.Prelude.{◌≡◌, ℕ, ◌+◌, ◌<◌, List, [], ◌++◌, Some}
+use Rattle.bword.specs.declared.edition.Edition.{Edition}
+use Rattle.blang.specs.declared.code.Definition.{Definition}
+use Rattle.blang.specs.declared.run.Outcome.{Outcome}
+use Rattle.blang.specs.declared.run.Outcome.TheVariants as outcome
+use Rattle.blang.specs.declared.run.Report.TheVariants as report
+use Rattle.blang.specs.declared.run.Trap.{Trap}
+use Rattle.blang.specs.declared.status.TheConstants.{LIMIT, TRAP}
+use Rattle.blang.specs.Machine.{machine}
+use Rattle.blang.specs.Reports.{RunEnds, report_text, state_outcome}
+use Rattle.bmach.specs.Stops.{RunsCall}
+use Rattle.bmach.specs.declared.machine.Active.{Active}
+use Rattle.bsources.specs.Files.{Files}
+use Rattle.btools.specs.ProgramLines.{HasLines}
+use Rattle.btrace.specs.Locates.{Locates, told_site}
+use Rattle.btrace.specs.RowTexts.{legend_in}
+use Rattle.btrace.specs.TraceExcluded.{ComesAlways, IsSourceOf}
+
+module _ (edition : Edition) (source : List ℕ) (files : Files) (ds : List Definition) (steps : ℕ) (ends : RunEnds)
+    (text : List ℕ) where
+  -- The source has these definitions, whose run begins, and this text was written of it, with this status.
+  pub record IsLocated (status : ℕ) : Type 0 where
+    pub compiles : IsSourceOf edition source ds
+    pub begins : ComesAlways ds 0 outcome.Limit
+    pub before : ends.line.written ≡ Some []
+    pub after : ends.line_after.written ≡ Some text
+    pub some : text ≡ [] → ⊥
+    pub locates : Locates edition source files steps ends status
+
+  -- It is this line, and then the place of this call, with the line of the source, after so many steps.
+  abbrev pub TellsPlaceOf : (line : List ℕ) → Outcome → Active → (number : ℕ) → Type 0
+  TellsPlaceOf line result call number =
+      (lines : List ℕ) × HasLines edition source lines
+      × (text ≡ line ++ told_site (legend_in ds lines files) source result call number)
+
+  -- At the limit the call that runs after all steps is told, and after a trap the one that ran before its step.
+  pub record PlaceIsTold : Type 0 where
+    pub at_limit : (call : Active) → ((input : List ℕ) → RunsCall (machine ds input steps) call)
+        → IsLocated LIMIT → TellsPlaceOf (report_text report.Limit) outcome.Limit call steps
+    pub at_trap : (call : Active) (last : ℕ) (kind : Trap) → last < steps
+        → ((input : List ℕ) → RunsCall (machine ds input last) call)
+        → ((input : List ℕ) → state_outcome (machine ds input (last + 1)) ≡ outcome.Trap kind)
+        → IsLocated TRAP → TellsPlaceOf (report_text (report.Trap kind)) (outcome.Trap kind) call (last + 1)
+
+-- for each source, each program and each run
+abbrev pub PlacesTold : Type 0
+PlacesTold =
+    (edition : Edition) (source : List ℕ) (files : Files) (ds : List Definition) (steps : ℕ) (ends : RunEnds)
+    (text : List ℕ) → PlaceIsTold edition source files ds steps ends text
