@@ -4,14 +4,12 @@ use Rattle.std.specs.Prelude.{codes, drop, filter, length, nat_le, option_map, r
 use Rattle.std.specs.List.{flat_map, range_with_len}
 use Rattle.std.specs.Option.{option_map_or}
 use Rattle.bword.specs.declared.edition.Edition.{Edition}
-use Rattle.bword.specs.ByteEnds.{Incoming, Outgoing}
 use Rattle.blang.specs.declared.code.Definition.{Definition}
 use Rattle.blang.specs.declared.status.TheConstants.{DONE, MEMORY, WRONG_COMMAND}
-use Rattle.blang.specs.Layout.{World}
-use Rattle.blang.specs.Machine.{Call, Image, Loaded, Running, State, image_of, machine, state_world}
-use Rattle.blang.specs.Reports.{Finishes, HasNotRun, Reported, RunEnds, RunGives}
+use Rattle.blang.specs.Machine.{Image, image_of, machine}
+use Rattle.blang.specs.Reports.{Finishes, HasNotRun, Reported, RunEnds}
 use Rattle.bmach.specs.Readings.{ReadBySteps}
-use Rattle.bmach.specs.Stepping.{BeginsNot, Paused}
+use Rattle.bmach.specs.Stepping.{BeginsNot}
 use Rattle.bmach.specs.Stored.{stored}
 use Rattle.blang.specs.declared.run.Outcome.{Outcome}
 use Rattle.blang.specs.declared.run.Outcome.TheVariants as outcome
@@ -19,7 +17,7 @@ use Rattle.bmach.specs.declared.machine.Active.{Active}
 use Rattle.btools.specs.FaultPlaces.{fault_lines}
 use Rattle.btools.specs.Functions.{Placed, function_named, functions_of}
 use Rattle.btools.specs.ProgramLines.{HasLines}
-use Rattle.btools.specs.Programs.{HasProgram, NoProgram, TellsEnd, steps_from}
+use Rattle.btools.specs.Programs.{HasProgram, NoProgram, TellsEnd}
 use Rattle.bsources.specs.Files.{Files}
 use Rattle.bwatch.specs.Sights.{Sight, Sights}
 use Rattle.bwatch.specs.Watches.{Watches}
@@ -134,22 +132,3 @@ pub data Traces (edition : Edition) (source : List ℕ) (steps : ℕ) (shown : T
       → ends.line_after ≡ ends.line → ends.out_after ≡ ends.out
       → ReadBySteps (machine ds) steps ends.input ends.input_after → status ≡ MEMORY
       → Traces edition source steps shown files name ends status
-
--- a machine that is to make a step: its call, those below it, and its world
-pub record Tries (states : ℕ → State) (made : ℕ) : Type 0 where
-  pub call : Call
-  pub below : List Call
-  pub world : World
-  pub state_is : states made ≡ Running call below world
-
--- the words of the store after so many steps
-abbrev pub store_after : (ℕ → State) → (made : ℕ) → List ℕ
-store_after states made = (state_world (states made)).store
-
--- the addresses at which the step after so many stores words
-abbrev pub stored_after : List Loaded → (ℕ → State) → (made : ℕ) → List ℕ
-stored_after functions states made = stored functions (states made) (states (made + 1))
-
--- what comes of so many steps from a state on
-abbrev pub StepsGive : Paused → ℕ → (i j : Incoming) (o p : Outgoing) → Outcome → Type 0
-StepsGive first n i j o p result = RunGives (steps_from first) n i j o p result
