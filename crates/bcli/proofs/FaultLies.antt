@@ -66,8 +66,8 @@ module _ (edition : Edition) (text : List ℕ) (d : Diagnostic) (faulty : HasFau
   by_count asked same ends (counts.no_memory ds image has still quiet read answer) = absurd (omega (arith, answer))
 
   by_page : (asked : Asked) (ends : RunEnds) → Shows edition text asked ends 1 → Writes ends.line (fault_lines asked.files d) ends.line_after
-  by_page asked ends (pages.shown ds image frames lines result made page has lined still watched w) = absurd (no_program ds image has)
-  by_page asked ends (pages.not_begun ds image frames kind has still never w same) = absurd (no_program ds image has)
+  by_page asked ends (pages.shown ds image frames lines result made page has lined known still watched w) = absurd (no_program ds image has)
+  by_page asked ends (pages.not_begun ds image frames kind has known still never w same) = absurd (no_program ds image has)
   by_page asked ends (pages.unread ds image output has still gives silent at) = absurd (no_program ds image has)
   by_page asked ends (pages.stopped why quiet) = why_told asked.files ends.line ends.line_after why
   by_page asked ends (pages.no_memory ds image has still silent read at) = absurd (no_program ds image has)

@@ -56,11 +56,11 @@ module _ (edition : Edition) (source : List ℕ) (r : Compilation) (g : Compiles
 
   done : Shows edition source asked ends 0
       → (r.stop ≡ None) × (load_fault code ≡ None) × ((rows sentence program facts : List ℕ) × Writes ends.out (page_text rows sentence program facts) ends.out_after)
-  done (pages.shown ds image frames lines result made page is lined still p w) =
+  done (pages.shown ds image frames lines result made page is lined known still p w) =
       let t = told.program ds image is in
       let sights = sights_of (image_of ds).functions (machine ds) (p.taken ++ []) in
       (t.0, t.2, (_, _, _, _, subst (λ (x : List ℕ). Writes ends.out x ends.out_after) (page_is (lined_code ds lines) asked.which (program_text asked.files source asked.given ds frames) page sights made result (p.told [] (λ e. refl))) (wrote page w)))
-  done (pages.not_begun ds image frames kind is still never w same) =
+  done (pages.not_begun ds image frames kind is known still never w same) =
       let t = told.program ds image is in
       (t.0, t.2, ([], unbegun_sentence kind, program_text asked.files source asked.given ds frames, no_run_text, wrote _ w))
   done (pages.unread ds image output is still gives silent status) = absurd (omega (arith, status))
@@ -68,16 +68,16 @@ module _ (edition : Edition) (source : List ℕ) (r : Compilation) (g : Compiles
   done (pages.no_memory ds image is still silent same status) = absurd (omega (arith, status))
 
   unread : (status : ℕ) → Shows edition source asked ends status → (ends.input_after.failures ≡ ends.input.failures → ⊥) → (status ≡ 133) × (ends.out_after ≡ ends.out)
-  unread status (pages.shown ds image frames lines result made page is lined still p w) failed =
+  unread status (pages.shown ds image frames lines result made page is lined known still p w) failed =
       absurd (failed (unfailed ds asked.steps ends.input ends.input_after (lined_code ds lines) asked.which (program_text asked.files source asked.given ds frames) page made result p))
-  unread status (pages.not_begun ds image frames kind is still never w same) failed = absurd (failed (ap (λ (x : Incoming). x.failures) same))
+  unread status (pages.not_begun ds image frames kind is known still never w same) failed = absurd (failed (ap (λ (x : Incoming). x.failures) same))
   unread status (pages.unread ds image output is still gives silent at) failed = (at, silent)
   unread status (pages.stopped why quiet) failed = absurd (failed (ap (λ (x : Incoming). x.failures) quiet.unread))
   unread status (pages.no_memory ds image is still silent read at) failed = absurd (failed read.no_failure)
 
   device : Shows edition source asked ends 133 → Grew ends.input.failures ends.input_after.failures ⊎ Grew ends.out.failures ends.out_after.failures ⊎ Grew ends.line.failures ends.line_after.failures
-  device (pages.shown ds image frames lines result made page is lined still p w) = inr (inl (device_grew page 0 ends.out ends.out_after (λ e. omega (arith, e)) w))
-  device (pages.not_begun ds image frames kind is still never w same) = inr (inl (device_grew _ 0 ends.out ends.out_after (λ e. omega (arith, e)) w))
+  device (pages.shown ds image frames lines result made page is lined known still p w) = inr (inl (device_grew page 0 ends.out ends.out_after (λ e. omega (arith, e)) w))
+  device (pages.not_begun ds image frames kind is known still never w same) = inr (inl (device_grew _ 0 ends.out ends.out_after (λ e. omega (arith, e)) w))
   device (pages.unread ds image output is still gives silent at) =
       elim (device_failed (machine ds) asked.steps ends.input ends.input_after nothing_written (outgoing_of output) gives) [ inl read ↦ inl read | inr written ↦ absurd (not_grown 0 0 refl refl written) ]
   device (pages.stopped why quiet) = inr (inr (told.device why))
@@ -85,25 +85,25 @@ module _ (edition : Edition) (source : List ℕ) (r : Compilation) (g : Compiles
 
   fault : Shows edition source asked ends 1
       → ((d : Diagnostic) × (r.stop ≡ Some d) × Writes ends.line (fault_lines asked.files d) ends.line_after) × (ends.out_after ≡ ends.out) × (ends.input_after ≡ ends.input)
-  fault (pages.shown ds image frames lines result made page is lined still p w) = absurd (other_answer page 0 ends.out ends.out_after 1 (λ e. omega (arith, e)) (λ e. omega (arith, e)) (λ e. omega (arith, e)) w)
-  fault (pages.not_begun ds image frames kind is still never w same) = absurd (other_answer _ 0 ends.out ends.out_after 1 (λ e. omega (arith, e)) (λ e. omega (arith, e)) (λ e. omega (arith, e)) w)
+  fault (pages.shown ds image frames lines result made page is lined known still p w) = absurd (other_answer page 0 ends.out ends.out_after 1 (λ e. omega (arith, e)) (λ e. omega (arith, e)) (λ e. omega (arith, e)) w)
+  fault (pages.not_begun ds image frames kind is known still never w same) = absurd (other_answer _ 0 ends.out ends.out_after 1 (λ e. omega (arith, e)) (λ e. omega (arith, e)) (λ e. omega (arith, e)) w)
   fault (pages.unread ds image output is still gives silent at) = absurd (omega (arith, at))
   fault (pages.stopped why quiet) = (told.fault why, quiet.silent, quiet.unread)
   fault (pages.no_memory ds image is still silent same at) = absurd (omega (arith, at))
 
   unloaded : Shows edition source asked ends 132
       → ((f : LoadFault) × (text : List ℕ) × (load_fault code ≡ Some f) × (load_line f ≡ Some text) × Writes ends.line text ends.line_after) × (ends.out_after ≡ ends.out) × (ends.input_after ≡ ends.input)
-  unloaded (pages.shown ds image frames lines result made page is lined still p w) = absurd (other_answer page 0 ends.out ends.out_after 132 (λ e. omega (arith, e)) (λ e. omega (arith, e)) (λ e. omega (arith, e)) w)
-  unloaded (pages.not_begun ds image frames kind is still never w same) = absurd (other_answer _ 0 ends.out ends.out_after 132 (λ e. omega (arith, e)) (λ e. omega (arith, e)) (λ e. omega (arith, e)) w)
+  unloaded (pages.shown ds image frames lines result made page is lined known still p w) = absurd (other_answer page 0 ends.out ends.out_after 132 (λ e. omega (arith, e)) (λ e. omega (arith, e)) (λ e. omega (arith, e)) w)
+  unloaded (pages.not_begun ds image frames kind is known still never w same) = absurd (other_answer _ 0 ends.out ends.out_after 132 (λ e. omega (arith, e)) (λ e. omega (arith, e)) (λ e. omega (arith, e)) w)
   unloaded (pages.unread ds image output is still gives silent at) = absurd (omega (arith, at))
   unloaded (pages.stopped why quiet) = (told.unloaded why, quiet.silent, quiet.unread)
   unloaded (pages.no_memory ds image is still silent same at) = absurd (omega (arith, at))
 
   unasked : (status : ℕ) → Shows edition source asked ends status → LeftBySteps (machine code) asked.steps ends.input ends.input_after
-  unasked status (pages.shown ds image frames lines result made page is lined still p w) =
+  unasked status (pages.shown ds image frames lines result made page is lined known still p w) =
       program_left edition source r g asked.steps ends.input ends.input_after ds image is
       (run_left (machine ds) asked.steps ends.input ends.input_after nothing_written (outgoing_of p.output) result p.gives)
-  unasked status (pages.not_begun ds image frames kind is still never w same) = untaken edition source r g asked.steps ends.input ends.input_after same
+  unasked status (pages.not_begun ds image frames kind is known still never w same) = untaken edition source r g asked.steps ends.input ends.input_after same
   unasked status (pages.unread ds image output is still gives silent at) =
       program_left edition source r g asked.steps ends.input ends.input_after ds image is
       (run_left (machine ds) asked.steps ends.input ends.input_after nothing_written (outgoing_of output) outcome.Device gives)

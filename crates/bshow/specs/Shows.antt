@@ -15,6 +15,7 @@ use Rattle.bmach.specs.Stepping.{BeginsNot}
 use Rattle.bsources.specs.Files.{Files, files_shown}
 use Rattle.btools.specs.declared.names.Frame.{Frame}
 use Rattle.btools.specs.FaultPlaces.{fault_lines}
+use Rattle.btools.specs.FrameNames.{HasNames}
 use Rattle.btools.specs.ProgramLines.{HasLines}
 use Rattle.btools.specs.Programs.{HasProgram, NoProgram, nothing_written}
 use Rattle.btrace.specs.Trails.{chosen, first_of}
@@ -106,12 +107,13 @@ IsWritten page ends status = Reported page DONE ends.out ends.out_after status
 pub data Shows (edition : Edition) (source : List ℕ) (asked : Asked) (ends : RunEnds) (status : ℕ) : Type 0 where
   shown : (ds : List Definition) (image : Image) (frames : List Frame) (lines : List ℕ) (result : Outcome) (made : ℕ)
       (page : List ℕ) → HasProgram edition source ds image → HasLines edition source lines
-      → ends.line_after ≡ ends.line
+      → HasNames edition source frames → ends.line_after ≡ ends.line
       → Watches (image_of ds).functions (machine ds) asked.steps ends.input ends.input_after result made
       (IsPageOf (lined_code ds lines) asked.which (program_text asked.files source asked.given ds frames) page)
       → IsWritten page ends status → Shows edition source asked ends status
   not_begun : (ds : List Definition) (image : Image) (frames : List Frame) (kind : Trap)
-      → HasProgram edition source ds image → ends.line_after ≡ ends.line → BeginsNot image (outcome.Trap kind)
+      → HasProgram edition source ds image → HasNames edition source frames → ends.line_after ≡ ends.line
+      → BeginsNot image (outcome.Trap kind)
       → IsWritten (unbegun_page (program_text asked.files source asked.given ds frames) kind) ends status
       → ends.input_after ≡ ends.input → Shows edition source asked ends status
   unread : (ds : List Definition) (image : Image) (output : Kept)

@@ -47,7 +47,7 @@ pub returns-in-Ok-Unbegun-clause-shows : goal.returns-in-Ok-Unbegun-clause-shows
 returns-in-Ok-Unbegun-clause-shows g c =
     let w = rw c.in-Ok-Unbegun.field-0-is at c.in-Ok-Unbegun.ensures.gives in
     let ds = c.in-Ok.program.definitions.items in
-    ⊎_elim (λ page. not_begun ds c.in-Ok.program.image c.in-Ok.program.names.frames.items c.in-Ok-Unbegun.trap c.in-Ok.ensures.program refl w.0 page w.1)
+    ⊎_elim (λ page. not_begun ds c.in-Ok.program.image c.in-Ok.program.names.frames.items c.in-Ok-Unbegun.trap c.in-Ok.ensures.program c.in-Ok.ensures.names refl w.0 page w.1)
     (λ m. no_memory ds c.in-Ok.program.image c.in-Ok.ensures.program refl m.1 (none_at_first (image_of ds) c.args.wanted.steps _ _ w.1) m.0) c.show_unbegun.ensures.shows
 
 pub returns-in-Err-watch-clause-shows : goal.returns-in-Err-watch-clause-shows
@@ -68,7 +68,7 @@ returns-clause-shows g c =
     let code = lined_code ds program.names.lines.items in
     let first = c.in-Ok-new-2.recorder in
     let told = subst (λ (t : List ℕ). Reported t DONE (g.O.ByteOut.outgoing c.args.out.now) (g.O.ByteOut.outgoing c.tell.new.out) c.tell.result) c.as_slice.ensures c.tell.ensures.told in
-    shown ds program.image program.names.frames.items program.names.lines.items stop.outcome stop.steps page c.in-Ok.ensures.program c.in-Ok.ensures.lines refl
+    shown ds program.image program.names.frames.items program.names.lines.items stop.outcome stop.steps page c.in-Ok.ensures.program c.in-Ok.ensures.lines c.in-Ok.ensures.names refl
     (paged ds c.args.wanted.steps _ _ stop.outcome c.in_default-outcome.not-Device stop.steps first c.watch.new.onlooker code c.args.wanted.rows
     (program_text (files_shown c.args.wanted.files) c.args.source.now c.args.wanted.given.now ds program.names.frames.items)
     (ap table_code c.in-Ok-new-2.ensures.tables ∙ (λ i. record { functions = c.in-Ok-new.ensures.functions i; lines = c.in-Ok-new.ensures.lines i })) c.in-Ok-new-2.ensures.which
