@@ -51,6 +51,12 @@ uint8_t b_compile(const uint8_t *source, size_t source_size, uint8_t edition, ui
 uint8_t b_run(const uint8_t *code, size_t code_size, const uint8_t *input, size_t input_size, uint64_t steps,
               uint8_t *out, size_t out_size, uint8_t *line, size_t line_size, struct b_written *written);
 
+/* The same. After the line comes where the code text went wrong: after a trap or at the limit the function, the place,
+ * the line of the code text, and what it means; after `code n` what could come in line n; after `load n` the name. It takes
+ * 300 bytes of room, and as many as that line of the code text has. */
+uint8_t b_run_where(const uint8_t *code, size_t code_size, const uint8_t *input, size_t input_size, uint64_t steps,
+                    uint8_t *out, size_t out_size, uint8_t *line, size_t line_size, struct b_written *written);
+
 /* Compiles a source and runs its program, as `b go` does. */
 uint8_t b_go(const uint8_t *source, size_t source_size, const uint8_t *input, size_t input_size, uint8_t edition,
              uint64_t steps, uint8_t *out, size_t out_size, uint8_t *line, size_t line_size,
@@ -59,6 +65,19 @@ uint8_t b_go(const uint8_t *source, size_t source_size, const uint8_t *input, si
 /* Writes a code text of edition 1 as one of edition 2, as `b migrate` does. */
 uint8_t b_migrate(const uint8_t *code, size_t code_size, uint8_t *out, size_t out_size, uint8_t *line, size_t line_size,
                   struct b_written *written);
+
+/* Tells what is wrong in a source, as `b check --json -` does: an object on each line, and nothing where all is well.
+ * The status is B_DONE also where there are warnings alone; B_FAULT for a fault of the source; B_REFUSED for code that
+ * doesn't load. There is no line. */
+uint8_t b_check(const uint8_t *source, size_t source_size, uint8_t edition, uint8_t *out, size_t out_size,
+                struct b_written *written);
+
+/* Lays a source out in one style, as `b format` does. */
+uint8_t b_format(const uint8_t *source, size_t source_size, uint8_t edition, uint8_t *out, size_t out_size,
+                 uint8_t *line, size_t line_size, struct b_written *written);
+
+/* Writes the version of the library, as `b --version` tells it of the program. There is no line. */
+uint8_t b_version(uint8_t *out, size_t out_size, struct b_written *written);
 
 #ifdef __cplusplus
 }

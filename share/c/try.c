@@ -1,14 +1,16 @@
-/* Tries the calls of the library: worked rows, rooms that are too small, and many calls. */
+/* Tries the calls of the library: worked rows, rooms that are too small, and many calls. VERSION is that of the program
+ * `b`. An argument is the number of calls after which memory has to be as it was. */
 #include "b.h"
 
 #include <malloc.h>
 #include <pthread.h>
 #include <stdio.h>
+#include <stdlib.h>
 #include <string.h>
 
 static uint8_t out[1 << 16], line[256];
 static struct b_written written;
-static int wrong;
+static int wrong, calls = 100000;
 
 static void expect(const char *what, int status, int wanted, const char *text, const char *told) {
     if (status == wanted && written.out == strlen(text) && memcmp(out, text, written.out) == 0 &&
@@ -33,12 +35,47 @@ static int run(const char *code, const char *input, uint64_t steps, size_t room,
                  line_room, &written);
 }
 
+static int check(const char *source, size_t room) {
+    return b_check((const uint8_t *)source, strlen(source), 1, out, room, &written);
+}
+
+static int format(const char *source, size_t room, size_t line_room) {
+    return b_format((const uint8_t *)source, strlen(source), 1, out, room, line, line_room, &written);
+}
+
+/* Where a code text went wrong. */
+static void try_where(void) {
+    const char *code = "F main 0 0 0 0 8\nx putchar\nv\nc 97\nk 1\np\nc 1\nc 0\nb /\nE\n";
+    int status = b_run_where((const uint8_t *)code, strlen(code), (const uint8_t *)"", 0, 100, out, sizeof out, line,
+                             sizeof line, &written);
+    expect("where a trap came", status, 130, "a",
+           "trap dz\nat     in main     place    7  line    9  step 8\n    b /\n"
+           "  means: the right operand of / or % is 0\n");
+}
+
+/* What is asked of a source, and of the library. */
+static void try_asking(void) {
+    const char *faulty = "main() { return(x); }", *wide = "main(){return(1);}";
+    const char *start = "{\"file\":\"-\",\"line\":1,\"column\":17,\"severity\":\"error\",\"code\":\"un\"";
+    expect("nothing to find", check("main() { return(1); }", sizeof out), 0, "", "");
+    expect("findings without a room", check(faulty, 0), 133, "", "");
+    if (check(faulty, sizeof out) != 1 || written.out < strlen(start) || memcmp(out, start, strlen(start)) != 0) {
+        puts("a finding: not the object that was expected");
+        wrong = 1;
+    }
+    expect("a layout", format(wide, sizeof out, 0), 0, "main() {\n    return(1);\n}\n", "");
+    expect("a layout that doesn't fit", format(wide, 4, 0), 133, "main", "");
+    expect("no layout", format("main() { 'abc'; }", sizeof out, sizeof line), 1, "", "ct 1\n");
+    expect("the version", b_version(out, sizeof out, &written), 0, VERSION, "");
+    expect("a version that doesn't fit", b_version(out, 1, &written), 133, "1", "");
+}
+
 /* Many calls in a thread, with rooms of its own: it gives its argument back where one was answered otherwise. */
 static void *call_often(void *name) {
     const char *source = "main() { auto i; i = 0; while(i < 50) { printn(i, 10); i =+ 1; } }";
     uint8_t own[128], own_line[16];
     struct b_written so_much;
-    for (int i = 0; i < 2000; i++)
+    for (int i = 0; i < calls / 50; i++)
         if (b_go((const uint8_t *)source, strlen(source), (const uint8_t *)"", 0, 1, 1000000, own, sizeof own, own_line,
                  sizeof own_line, &so_much) != 0 ||
             so_much.out != 90 || memcmp(own + 86, "4849", 4) != 0)
@@ -59,7 +96,9 @@ static void try_threads(void) {
         }
 }
 
-int main(void) {
+int main(int count, char **words) {
+    if (count > 1)
+        calls = atoi(words[1]);
     const char *answer = "main() { printn(6*7, 10); }";
     const char *echo = "main() { auto c; while((c = getchar()) != '*e') putchar(c); exit(3); }";
     expect("a number", go(answer, "", 1, 1000000, sizeof out, sizeof line), 0, "42", "");
@@ -94,12 +133,14 @@ int main(void) {
     for (int i = 0; i < 1000; i++)
         go(answer, "", 1, 1000000, sizeof out, sizeof line);
     size_t before = mallinfo2().uordblks;
-    for (int i = 0; i < 100000; i++)
+    for (int i = 0; i < calls; i++)
         go(answer, "", 1, 1000000, sizeof out, sizeof line);
     if (mallinfo2().uordblks != before) {
-        puts("100000 calls: memory isn't as it was");
+        printf("%d calls: memory isn't as it was\n", calls);
         wrong = 1;
     }
+    try_where();
+    try_asking();
     try_threads();
     return wrong;
 }

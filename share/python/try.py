@@ -1,14 +1,18 @@
-"""Tries b.py with the library: worked rows, errors and rooms, and each case of `go`, `run` and `compile` that is kept.
+"""Tries b.py with the library: worked rows, errors and rooms, and each kept case of the commands that have a call.
 
-  B_LIBRARY=LIBRARY PYTHONPATH=FOLDER python3 try.py CASES
+  B_LIBRARY=LIBRARY PYTHONPATH=FOLDER python3 try.py CASES VERSION
 
-CASES is the folder of kept cases, whose README.md tells their files."""
+CASES is the folder of kept cases, whose README.md tells their files, and VERSION what the program `b` says of its own."""
 import pathlib
 import sys
 
 import b
 
 ECHO = b"main() { auto c; while((c = getchar()) != '*e') putchar(c); exit(3); }"
+STUCK = b"trap sk\nat     in main     place    0  line    2  step 1\n    p\n  means: too few operands\n"
+ONE_TOO_MANY = b"code 4\nat     line    4\n    E\n  wanted: an instruction, 3 of 3 of main\n"
+UNDEFINED = b"load 3\nat     line    3\n    x prnt\n  means: prnt is neither defined nor in the library\n"
+COMMANDS = ("go", "run", "compile", "check", "format")
 MOST = 2**64 - 1
 ROOM = 1 << 20
 
@@ -35,7 +39,24 @@ def rows():
     yield error_of(b.go, b"main() { while(1); }", steps=1000), (b.LIMIT, b"limit\n", b"")
     yield error_of(b.run, b"F"), (b.REFUSED, b"code 1\n", b"")
     yield error_of(b.go, b"main() { printn(42, 10); }", room=1), (b.FAILED, b"", b"4")
+    yield b.run(b.compile(ECHO), b"some text", where=True), (b"some text", 3)
+    yield error_of(b.run, b"F main 0 0 0 0 1\np\nE\n", where=True), (b.TRAP, STUCK, b"")
+    yield error_of(b.run, b"F main 0 0 0 0 3\nc 1\nr\nE\n", where=True), (b.REFUSED, ONE_TOO_MANY, b"")
+    yield error_of(b.run, b"B 2\nF main 0 0 0 0 4\nx prnt\nv\nk 0\nr\nE\n", where=True), (b.REFUSED, UNDEFINED, b"")
     yield error_of(b.compile, b"main() { }", edition=3), (b.WRONG_EDITION, b"", b"")
+    yield b.check(b"main() { printn(6*7, 10); }"), []
+    yield places(b"main() {\n  return(x);\n}"), [(2, 10, "error", "un")]
+    yield places(b"main() { foo(1); }", room=1), [(1, 10, "error", "load 3")]
+    yield error_of(b.check, b"main() { }", edition=3), (b.WRONG_EDITION, b"", b"")
+    yield b.format(b"main(){return(1);}", room=1), b"main() {\n    return(1);\n}\n"
+    yield error_of(b.format, b"main() { 'abc'; }"), (b.FAULT, b"ct 1\n", b"")
+    yield b.version(), sys.argv[2]
+
+
+def places(source, **named):
+    """Line, column, severity and code of each finding."""
+    names = ("line", "column", "severity", "code")
+    return [tuple(finding[name] for name in names) for finding in b.check(source, **named)]
 
 
 def contents(path):
@@ -55,10 +76,12 @@ def asked(path):
             editions = [1, 2] if said == "both" else [int(said)]
         elif word == "--steps":
             steps = int(next(rest))
-        elif word != source.name:
+        elif word != source.name and (command, word) != ("check", "--json"):
             return None
+    if command == "check" and "--json" not in words:
+        return None
     has_text = source.exists() and (command == "compile" or source.name in words)
-    return (command, editions, steps, source) if command in ("go", "run", "compile") and has_text else None
+    return (command, editions, steps, source) if command in COMMANDS and has_text else None
 
 
 def answer(command, text, given, edition, steps):
@@ -66,7 +89,8 @@ def answer(command, text, given, edition, steps):
         return b._call(b._library.b_go, text, len(text), given, len(given), edition, steps, room=ROOM)
     if command == "run":
         return b._call(b._library.b_run, text, len(text), given, len(given), steps, room=ROOM)
-    return b._call(b._library.b_compile, text, len(text), edition, room=ROOM)
+    call = getattr(b._library, f"b_{command}")
+    return b._call(call, text, len(text), edition, room=ROOM, has_line=command != "check")
 
 
 def cases(folder):
@@ -79,6 +103,8 @@ def cases(folder):
             command, editions, steps, source = ask
             for edition in editions:
                 wanted = out if command != "compile" or edition == 1 or len(editions) == 1 else b"B 2\n" + out
+                if command == "check":
+                    wanted = wanted.replace(b'{"file":"%s"' % source.name.encode(), b'{"file":"-"')
                 found = answer(command, source.read_bytes(), given, edition, steps)
                 yield found, (int(status or 0), wanted, line), f"{path.relative_to(folder)}, edition {edition}"
 

@@ -5,10 +5,15 @@ use Rattle.bword.specs.ByteEnds.{Outgoing, Unread, incoming_of}
 use Rattle.bword.specs.declared.edition.Edition.TheVariants as editions
 use Rattle.blang.specs.Compiles.{Compiles, CompileHeadline}
 use Rattle.blang.specs.Headline.{GoesOff, Headline}
-use Rattle.blang.specs.Reports.{run_ends}
+use Rattle.blang.specs.Reports.{Reported, run_ends}
+use Rattle.bcheck.specs.Checks.{Checks}
+use Rattle.bcheck.specs.declared.form.FindingForm.TheVariants as form
+use Rattle.bformat.specs.Formats.{Format, Formats}
 use Rattle.brun.specs.Migrates.{Migrates}
 use Rattle.brun.specs.Runs.{RunsText}
-use Rattle.bembed.specs.Calls.{CompilesIn, GoesIn, MigratesIn, RunsIn, compile_run, edition_of, ends_of}
+use Rattle.bwhere.specs.Wheres.{LocatesCode}
+use Rattle.bembed.specs.Asks.{ChecksIn, FormatsIn, SaysIn, check_of, format_of}
+use Rattle.bembed.specs.Calls.{CompilesIn, GoesIn, LocatesIn, MigratesIn, RunsIn, compile_run, edition_of, ends_of}
 use Rattle.bembed.specs.Rooms.{Filled, FailsFull, Room, Untouched, room_of}
 
 numbers : map edition_of (0 ∷ 1 ∷ 2 ∷ 3 ∷ 255 ∷ []) ≡ (None ∷ Some editions.One ∷ Some editions.Two ∷ None ∷ None ∷ [])
@@ -86,6 +91,39 @@ gone g = (g.goes, g.headline)
 ran : (r : RunsIn 5 (97 ∷ []) (98 ∷ []) (two 1) (one 1) 3)
     → RunsText 5 (97 ∷ []) (ends_of (98 ∷ []) r.input_after (two 1) (one 1) r.out_failures r.line_failures) 3
 ran r = r.runs
+
+checked : (c : ChecksIn (97 ∷ []) (two 1) (record { before = []; after = []; count = 0 }) 1 editions.Two)
+    → Checks (check_of editions.Two (97 ∷ []) (stream [] 0) (stream (7 ∷ []) c.out_failures) 1)
+checked c = c.checks
+
+-- a check is one for an editor, of a source by itself
+check_given : check_of editions.Two (97 ∷ 10 ∷ []) (stream [] 0) (stream (7 ∷ []) 0) 1 ≡ record {
+  edition = editions.Two;
+  form = form.Json;
+  files = record { first = record { name = 45 ∷ []; lines = 2 }; rest = [] };
+  source = 97 ∷ 10 ∷ [];
+  out = stream [] 0;
+  out_after = stream (7 ∷ []) 0;
+  status = 1;
+}
+check_given = refl
+
+formatted : (f : FormatsIn (97 ∷ []) (two 1) (one 1) 0 editions.Two) → Formats (format_of editions.Two (97 ∷ [])
+    (stream [] 0) (stream (7 ∷ []) f.out_failures) (stream [] 0) (stream (9 ∷ []) f.line_failures) 0)
+formatted f = f.formats
+
+-- what is laid out is written, and not only looked at
+format_given : Format.is_check (format_of editions.Two (97 ∷ []) (stream [] 0) (stream [] 0) (stream [] 0) (stream [] 0) 0)
+    ≡ false
+format_given = refl
+
+said : (s : SaysIn (97 ∷ []) (two 1) (record { before = []; after = []; count = 0 }) 0)
+    → Reported (97 ∷ []) 0 (stream [] 0) (stream (7 ∷ []) s.out_failures) 0
+said s = s.says
+
+located : (l : LocatesIn 5 (97 ∷ []) (98 ∷ []) (two 1) (one 1) 3)
+    → LocatesCode 5 (97 ∷ []) (ends_of (98 ∷ []) l.input_after (two 1) (one 1) l.out_failures l.line_failures) 3
+located l = l.locates
 
 migrated : (m : MigratesIn (97 ∷ []) (two 1) (one 1) 132) → Migrates (record {
   input = incoming_of (text_ahead (97 ∷ []));

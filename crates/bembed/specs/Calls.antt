@@ -9,6 +9,7 @@ use Rattle.blang.specs.Reports.{RunEnds, run_ends}
 use Rattle.blang.specs.declared.status.TheConstants.{WRONG_COMMAND}
 use Rattle.brun.specs.Migrates.{Migrates, rewriting}
 use Rattle.brun.specs.Runs.{RunsText}
+use Rattle.bwhere.specs.Wheres.{LocatesCode}
 use Rattle.bembed.specs.Rooms.{Room, Filled, Untouched, fresh, stream_of}
 
 -- the editions by their numbers
@@ -81,6 +82,15 @@ pub record RunsIn (steps : ℕ) (code input : List ℕ) (out line : Room) (statu
   pub out_filled : Filled out out_failures
   pub line_filled : Filled line line_failures
   pub runs : RunsText steps code (ends_of input input_after out line out_failures line_failures) status
+
+-- The same, and where it went wrong is told.
+pub record LocatesIn (steps : ℕ) (code input : List ℕ) (out line : Room) (status : ℕ) : Type 0 where
+  pub input_after : Unread
+  pub out_failures : ℕ
+  pub line_failures : ℕ
+  pub out_filled : Filled out out_failures
+  pub line_filled : Filled line line_failures
+  pub locates : LocatesCode steps code (ends_of input input_after out line out_failures line_failures) status
 
 -- A code text in memory is migrated into two rooms.
 pub record MigratesIn (code : List ℕ) (out line : Room) (status : ℕ) : Type 0 where

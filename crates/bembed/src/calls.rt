@@ -1,12 +1,13 @@
 //! Compiling and running.
 ghost use Rattle.std.specs.Prelude.{◌≡◌};
 ghost use Rattle.blang.specs.declared.status.TheConstants.{WRONG_COMMAND};
-ghost use Rattle.bembed.specs.Calls.{edition_of, InEdition, CompilesIn, GoesIn, MigratesIn, RunsIn};
+ghost use Rattle.bembed.specs.Calls.{edition_of, InEdition, CompilesIn, GoesIn, LocatesIn, MigratesIn, RunsIn};
 
 use crate::room::{Room, Written};
 use blang::status::{self, Status};
 use bparse::compile_edition;
 use brun::{go_edition, migrate, run_text};
+use bwhere::locate_code;
 use bword::{Edition, MemIn};
 use std::alloc::Global;
 
@@ -78,6 +79,29 @@ pub extern "C" fn b_run(
     let mut line = Room::new(line);
     let mut input = MemIn::new(input);
     let status = run_text(alloc, code, &mut input, &mut out, &mut line, steps);
+    *written = Written::of(&out, &line);
+    status
+}
+
+/// Runs a code text, as `b_run` does, and tells where it went wrong, as `locate_code` does.
+#[unsafe(no_mangle)]
+pub extern "C" fn b_run_where(
+    alloc: Global,
+    code: &[u8],
+    input: &[u8],
+    steps: u64,
+    out: &mut [u8],
+    line: &mut [u8],
+    written: &mut Written,
+) -> u8
+    ensures locates { LocatesIn steps code.now input.now
+        (record { before = out.old; after = out.new; count = written.new.out })
+        (record { before = line.old; after = line.new; count = written.new.line }) result }
+{
+    let mut out = Room::new(out);
+    let mut line = Room::new(line);
+    let mut input = MemIn::new(input);
+    let status = locate_code(alloc, code, &mut input, &mut out, &mut line, steps);
     *written = Written::of(&out, &line);
     status
 }

@@ -3,5 +3,6 @@
 //! Each call writes in the rooms of its caller. A room too small is a write that failed.
 #![tactic(auto)]
 
+mod asking;
 mod calls;
 mod room;
