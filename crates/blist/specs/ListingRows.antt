@@ -8,12 +8,12 @@ use Rattle.blang.specs.declared.code.Instr.TheVariants as instr
 use Rattle.blang.specs.declared.code.Ival.{Ival}
 use Rattle.blang.specs.declared.code.Ival.TheVariants as ival
 use Rattle.blang.specs.Machine.{image_of}
+use Rattle.btools.specs.FrameNames.{frame_seen, name_shown}
 use Rattle.btools.specs.declared.names.Frame.{Frame}
-use Rattle.btools.specs.declared.names.FrameWord.{FrameWord}
 use Rattle.blist.specs.declared.listing.TheConstants.{HEADING}
 use Rattle.blist.specs.declared.rows.CodeSpot.TheVariants as spot
 use Rattle.blist.specs.declared.rows.Named.TheVariants as named
-use Rattle.blist.specs.ListingTexts.{definition_rows, instr_named, label_named, line_text, margin_text, name_at}
+use Rattle.blist.specs.ListingTexts.{a_word, definition_rows, instr_named, label_named, line_text, margin_text}
 use Rattle.blist.specs.ListingTexts.{row_text, source_beside, source_column, word_spot}
 use Rattle.blist.specs.Listings.{list_text, wanted}
 
@@ -66,20 +66,13 @@ first_word_row : row_text (spot.Place 1) None (codes "a 2\n") [] (named.First (c
 unfolding digits
 first_word_row = refl
 
--- the words of a frame of `f(a) { auto v[2], b; .. }`
-abbrev frame_words : List FrameWord
-frame_words =
-    record { name = codes "a"; offset = 0; is_vector = false }
-    ∷ record { name = codes "v"; offset = 1; is_vector = true }
-    ∷ record { name = codes "b"; offset = 4; is_vector = false } ∷ []
-
-names_of_words : map (name_at frame_words) (0 ∷ 1 ∷ 2 ∷ 3 ∷ 4 ∷ 5 ∷ [])
-    ≡ named.Name (codes "a") ∷ named.Name (codes "v") ∷ named.First (codes "v") ∷ named.Nothing
-    ∷ named.Name (codes "b") ∷ named.Nothing ∷ []
+-- what a word of a frame is named by, and what instructions speak of
+names_of_words : map a_word (Some (codes "a", false) ∷ Some (codes "v", true) ∷ None ∷ [])
+    ≡ named.Name (codes "a") ∷ named.First (codes "v") ∷ named.Nothing ∷ []
 names_of_words = refl
 
--- what instructions speak of
-name_of_local : (frame : Frame) → instr_named (Some frame) (instr.Automatic 3) ≡ name_at frame.words.items 3
+name_of_local : (frame : Frame)
+    → instr_named (Some frame) (instr.Automatic 3) ≡ a_word (name_shown (frame_seen frame) 3)
 name_of_local frame = refl
 
 name_of_label : (frame : Frame) → instr_named (Some frame) (instr.Label 3) ≡ label_named (Some frame) 3

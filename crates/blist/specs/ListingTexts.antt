@@ -1,5 +1,5 @@
 -- Inner words: the rows of a listing.
-use Rattle.std.specs.Prelude.{◌≡◌, ℕ, zero, suc, ◌+◌, ◌-◌, ◌%◌, ◌==◌, ◌&&◌, List, [], ◌∷◌, ◌++◌, codes}
+use Rattle.std.specs.Prelude.{◌≡◌, ℕ, zero, suc, ◌+◌, ◌-◌, ◌%◌, ◌==◌, Bool, false, true, List, [], ◌∷◌, ◌++◌, codes}
 use Rattle.std.specs.Prelude.{decimal, drop, get_or}
 use Rattle.std.specs.Prelude.{map, refl, take, Option, Some, None, if◌then◌else◌}
 use Rattle.std.specs.Char.{is_ascii_whitespace}
@@ -18,9 +18,9 @@ use Rattle.blist.specs.declared.rows.Named.TheVariants as named
 use Rattle.blist.specs.declared.rows.TheConstants.{CODE_WIDTH, SOURCE_WIDTH}
 use Rattle.btools.specs.Characters.{is_printable, shown_word}
 use Rattle.btools.specs.Columns.{left, right, without_newline}
+use Rattle.btools.specs.FrameNames.{frame_seen, name_shown}
 use Rattle.btools.specs.SourceLines.{trimmed}
 use Rattle.btools.specs.declared.names.Frame.{Frame}
-use Rattle.btools.specs.declared.names.FrameWord.{FrameWord}
 
 -- how wide the columns of code and of the source are
 column_widths : CODE_WIDTH ∷ SOURCE_WIDTH ∷ [] ≡ 13 ∷ 39 ∷ []
@@ -89,16 +89,15 @@ abbrev pub string_rows : (first : ℕ) → List ℕ → List ℕ
 string_rows first words =
     rows_of (λ i word. row_text (word_spot first i) None (string_line word) [] (named.Characters word)) words
 
--- the name of a word of a frame; the word after a vector's own is its first one
-abbrev pub name_at : List FrameWord → (offset : ℕ) → Named
-name_at [] offset = named.Nothing
-name_at (w ∷ ws) offset =
-    if w.offset == offset then named.Name w.name
-    else (if w.is_vector && (w.offset + 1 == offset) then named.First w.name else name_at ws offset)
+-- the name of a word of a frame
+abbrev pub a_word : Option (List ℕ × Bool) → Named
+a_word None = named.Nothing
+a_word (Some (name, false)) = named.Name name
+a_word (Some (name, true)) = named.First name
 
 abbrev pub word_named : Option Frame → (offset : ℕ) → Named
 word_named None offset = named.Nothing
-word_named (Some frame) offset = name_at frame.words.items offset
+word_named (Some frame) offset = a_word (name_shown (frame_seen frame) offset)
 
 abbrev pub a_name : Option (List ℕ) → Named
 a_name None = named.Nothing

@@ -9,7 +9,6 @@ ghost use Rattle.blist.specs.ListingTexts.{
   definition_rows,
   instr_named,
   label_named,
-  name_at,
   row_text,
   source_beside,
   string_rows,
@@ -29,7 +28,7 @@ use bcode::{Page, push_header_line, push_instr_line, push_ival_line, push_number
 use blang::status::{self, Status};
 use blang::{Definition, FunctionParts, Instr, Ival, SimpleParts, VectorParts};
 use bmach::name_of;
-use btools::{Frame, FrameWord, Program, Text, read_program, split_lines, tell, tell_fault};
+use btools::{Frame, Program, Text, read_program, split_lines, tell, tell_fault};
 use bword::{ByteOut, Edition};
 use std::alloc::{AllocError, Global};
 
@@ -353,26 +352,14 @@ fn named(frame: Option<&Frame>, instr: &Instr) -> Named
 fn word_in(frame: Option<&Frame>, offset: u16) -> Named
     ensures { result ≡ word_named (option_map (λ f. f.now) frame.entry) offset }
 {
-    match frame {
-        Some(frame) => name_at(&frame.words, u32::from(offset)),
+    let Some(frame) = frame else {
+        return Named::Nothing;
+    };
+    match frame.word(u32::from(offset)) {
+        Some((name, false)) => Named::Name(name),
+        Some((name, true)) => Named::First(name),
         None => Named::Nothing,
     }
-}
-
-// The name of a word of a frame.
-fn name_at(words: &[FrameWord], offset: u32) -> Named
-    requires { offset < 65536 }
-    ensures { result ≡ name_at words.now offset }
-{
-    for word in words {
-        if word.offset == offset {
-            return Named::Name(word.name);
-        }
-        if word.is_vector && word.offset.checked_add(1) == Some(offset) {
-            return Named::First(word.name);
-        }
-    }
-    Named::Nothing
 }
 
 fn label_in(frame: Option<&Frame>, number: usize) -> Named
