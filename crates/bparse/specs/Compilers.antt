@@ -64,8 +64,8 @@ compiler_start edition source lender out out_lender =
 -- a compiler that has read and written nothing
 abbrev pub new : CompilerStart → Compiler
 new start =
-    compiler_of start (all_tokens start.edition start.source start.lender) (locals_in fresh) [] start.out start.out_lender
-    false false
+    compiler_of start (all_tokens start.edition start.source start.lender) (locals_in fresh) []
+    start.out start.out_lender false false
 
 -- what the text begins with, where it is written, and where it is still to be written
 abbrev pub opening_written : Compiler → List ℕ

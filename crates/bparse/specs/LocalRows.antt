@@ -56,7 +56,10 @@ named =
 abbrev pub named_of_two : List Row
 named_of_two =
     (codes "f(break);", [])
-    ∷ (codes "f(a) { auto v 1, i; while(a) break; }", (plain (codes "a") 0 ∷ vector (codes "v") 1 ∷ plain (codes "i") 4 ∷ []) ∷ [])
+    ∷ (
+      codes "f(a) { auto v 1, i; while(a) break; }",
+      (plain (codes "a") 0 ∷ vector (codes "v") 1 ∷ plain (codes "i") 4 ∷ []) ∷ [],
+    )
     ∷ (codes "f(a) switch a { default: ; }", (plain (codes "a") 0 ∷ []) ∷ [])
     ∷ []
 

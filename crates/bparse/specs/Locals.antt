@@ -1,6 +1,6 @@
 -- Promise: what the compiler tells of a definition beside its code: its lines, its names, and the words of its frame.
-use Rattle.std.specs.Prelude.{ℕ, ◌+◌, ◌-◌, List, [], ◌∷◌, ◌++◌, length, flat_map, is_some, Bool, true, false, nat_lt, Option, Some}
-use Rattle.std.specs.Prelude.{None, if◌then◌else◌}
+use Rattle.std.specs.Prelude.{ℕ, ◌+◌, ◌-◌, List, [], ◌∷◌, ◌++◌, length, flat_map, is_some, Bool, true, false, nat_lt}
+use Rattle.std.specs.Prelude.{Option, Some, None, if◌then◌else◌}
 use Rattle.blang.specs.Trees.{Definition, Function}
 use Rattle.blang.specs.Walk.{Event, AutoHere}
 use Rattle.blang.specs.Scan.{Entry, NameKind, Automatic, automatic_words, function_events}
