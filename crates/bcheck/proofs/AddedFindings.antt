@@ -16,7 +16,7 @@ use Rattle.blang.specs.Cut.{line_number_after, tokens_from}
 use Rattle.bsources.specs.Files.{Files, Line, line_shown, own_line}
 use Rattle.bsources.specs.declared.files.FileLine.{FileLine}
 use Rattle.blang.specs.Layout.{load_fault}
-use Rattle.bcheck.specs.Checks.{AreFindings, EachOutcome, FindingParts, IsReason, Reason, Second, column_after, finding_at, finding_column, finding_end, finding_line, finding_text, findings_text, is_on_line, outcome_of, second_text, severity_of, severity_word, shown_text, is_of_several, spot_words}
+use Rattle.bcheck.specs.Checks.{AreFindings, EachOutcome, FindingParts, IsCount, IsReason, Reason, Second, column_after, finding_at, finding_column, finding_end, finding_line, finding_text, findings_text, is_on_line, outcome_of, second_text, severity_of, severity_word, shown_text, is_of_several, spot_words}
 use Rattle.btools.specs.Quoting.{file_text, json_text}
 use Rattle.bcheck.specs.Findings.{AddsFinding, IsExcerpt, IsSecond, ReasonAt}
 use Rattle.bcheck.specs.Pieces.{piece_text, spot_text}
@@ -155,7 +155,8 @@ module _ (form f : FindingForm) (edition : Edition) (status : ℕ) (s : Severity
 reasons_at : (edition : Edition) (source : List ℕ) (r : Compilation) (g : CompilesTo [] (tokens_from edition 1 source) r) (ps : List (FindingParts source)) → All (Reasoned edition source) ps → All (IsReason (outcome_of edition source r.stop (load_fault (map code_of g.definitions)))) ps
 reasons_at edition source r g ps h = All-weaker (Reasoned edition source) (IsReason (outcome_of edition source r.stop (load_fault (map code_of g.definitions)))) (λ p is. is r g) ps h
 
--- all of them, of which there is one where the source has a fault
-pub all_findings : (form : FindingForm) (edition : Edition) (status : ℕ) (files : Files) (source said : List ℕ) (count all : ℕ) → (status ≢ DONE → all ≡ 1) → count ≡ all → FindingsSoFar form edition status files source count said
+-- all of them
+pub all_findings : (form : FindingForm) (edition : Edition) (status : ℕ) (files : Files) (source said : List ℕ) (count all : ℕ) → EachOutcome edition source (λ o. IsCount o.stop o.fault all) → count ≡ all → FindingsSoFar form edition status files source count said
     → EachOutcome edition source (λ o. AreFindings form o status files said)
-all_findings form edition status files source said count all one is a = λ r g. (a.0, (λ fault. a.1 ∙ is ∙ one fault), reasons_at edition source r g a.0 a.2, a.3)
+all_findings form edition status files source said count all counted is a =
+    λ r g. (a.0, subst (λ n. IsCount r.stop (load_fault (map code_of g.definitions)) n) (sym (a.1 ∙ is)) (counted r g), reasons_at edition source r g a.0 a.2, a.3)

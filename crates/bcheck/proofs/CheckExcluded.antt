@@ -3,7 +3,7 @@ use Rattle.std.proofs.Common.{◌≡◌, ◌≢◌, ◌∙◌, ◌<◌, ◌≤�
 use Rattle.std.specs.Io.{StartsWith}
 use Rattle.std.specs.Io.KnownBytes.{Appends}
 use Rattle.std.specs.List.{All, flat_map}
-use Rattle.std.proofs.Math.Nat.{one-mul, zero-add}
+use Rattle.std.proofs.Math.Nat.{one-mul}
 use Rattle.std.proofs.Math.Seq.{take-append_seam}
 use Rattle.std.proofs.lemmas.Bool.{both_ways}
 use Rattle.std.proofs.lemmas.List.{append_cancel_left}
@@ -28,7 +28,7 @@ use Rattle.bcheck.specs.Checks as checks
 use Rattle.bsources.specs.Files.{File, Files, Line, own_line, own_line_among}
 use Rattle.bcheck.specs.Checks.{IsAtToken, IsOver, Reason, StandsOn, code_keyword, column_after, diagnostic_code, finding_at}
 use Rattle.btools.specs.Quoting.{file_text, json_text}
-use Rattle.bcheck.specs.Checks.{AreFindings, Check, Checks, FindingParts, Outcome, TellsFirst, finding_column, fix_and_places, finding_head, finding_line, finding_start, finding_text, outcome_of, findings_text, severity_of, shown_in_form, told_first}
+use Rattle.bcheck.specs.Checks.{AreFindings, Check, Checks, FindingParts, Outcome, TellsFirst, finding_column, fix_and_places, finding_head, finding_line, finding_start, finding_text, IsCount, outcome_of, findings_text, severity_of, shown_in_form, told_first}
 use Rattle.bcheck.specs.CheckExcluded.{BeginsWith, ComesTo, Excluded, IsTold, Never, NeverOf, file_at, file_of, finding_lines, has_no_colon, is_printed, newlines}
 use Rattle.bcheck.specs.Tokens.{has_token_on, is_in_token}
 use Rattle.bcheck.specs.declared.finding.Severity.{Severity}
@@ -97,9 +97,31 @@ after_line form status files first text more (p ∷ ps) some e is =
     let start = finding_start form (finding_at files p).file in
     (finding_line p, begins text (first ++ start) f.0 (e ∙ ap (λ t. first ++ t) (is ∙ f.1) ∙ sym (append_assoc first start f.0)))
 
-none_of_one : {source : List ℕ} (ps : List (FindingParts source)) → length ps ≡ 1 → ps ≡ [] → ⊥
-none_of_one [] one e = let no : ◌≡◌ {A = ℕ} 0 1 = one in absurd (omega (arith, no))
-none_of_one (p ∷ ps) one e = cc
+none_of_some : {source : List ℕ} (ps : List (FindingParts source)) → 0 < length ps → ps ≡ [] → ⊥
+none_of_some [] some e = let no : ◌<◌ 0 0 = some in absurd (omega (arith, no))
+none_of_some (p ∷ ps) some e = cc
+
+-- there is a finding where there is a fault, and one of each but of names that nothing defines
+some_of : (stop : Option Diagnostic) (f : Option LoadFault) (line : List ℕ) (status n : ℕ) → told_first stop f ≡ (line, status) → status ≢ DONE → IsCount stop f n → 0 < n
+some_of (Some d) f line status n told wrong is = omega (arith, is)
+some_of None None line status n told wrong is = absurd (wrong (sym (ap (λ (p : List ℕ × ℕ). p.1) told)))
+some_of None (Some (fault.Duplicate name)) line status n told wrong is = omega (arith, is)
+some_of None (Some fault.TooLarge) line status n told wrong is = omega (arith, is)
+some_of None (Some (fault.Undefined name)) line status n told wrong is = is
+some_of None (Some fault.NoMain) line status n told wrong is = absurd (wrong (sym (ap (λ (p : List ℕ × ℕ). p.1) told)))
+some_of None (Some fault.Memory) line status n told wrong is = omega (arith, is)
+
+one_of : (stop : Option Diagnostic) (f : Option LoadFault) (line : List ℕ) (status n : ℕ) → told_first stop f ≡ (line, status) → status ≢ DONE → line ≢ codes "load 3\n" → IsCount stop f n → n ≡ 1
+one_of (Some d) f line status n told wrong other is = is
+one_of None None line status n told wrong other is = absurd (wrong (sym (ap (λ (p : List ℕ × ℕ). p.1) told)))
+one_of None (Some (fault.Duplicate name)) line status n told wrong other is = is
+one_of None (Some fault.TooLarge) line status n told wrong other is = is
+one_of None (Some (fault.Undefined name)) line status n told wrong other is = absurd (other (sym (ap (λ (p : List ℕ × ℕ). p.0) told)))
+one_of None (Some fault.NoMain) line status n told wrong other is = absurd (wrong (sym (ap (λ (p : List ℕ × ℕ). p.1) told)))
+one_of None (Some fault.Memory) line status n told wrong other is = is
+
+some_told : (c : Check) (line : List ℕ) (status : ℕ) (text : List ℕ) (to : ComesTo c line status) (w : WasTold c.form (comes_to c line status to) c.files (shown_in_form c.form line) status c.status text) → status ≢ DONE → w.are.0 ≡ [] → ⊥
+some_told c line status text to w wrong = none_of_some w.are.0 (some_of to.outcome.stop (load_fault (map code_of to.goes.definitions)) line status (length w.are.0) to.told wrong w.are.1)
 
 no_line : Never (λ c line status text. StartsWith text (shown_in_form c.form line) → ⊥)
 no_line c line status text to t wrong h = let w = told_in c line status text to t h in wrong (begins text (shown_in_form c.form line) w.more w.text_is)
@@ -107,7 +129,7 @@ no_line c line status text to t wrong h = let w = told_in c line status text to 
 no_finding : Never (λ c line status text. (status ≢ DONE) × ((n : ℕ) → StartsWith text (shown_in_form c.form line ++ finding_start c.form (file_at c n)) → ⊥))
 no_finding c line status text to t wrong h =
     let w = told_in c line status text to t h in
-    let begun = after_line c.form status c.files (shown_in_form c.form line) text w.more w.are.0 (none_of_one w.are.0 (w.are.1 wrong.0)) w.text_is w.are.3 in
+    let begun = after_line c.form status c.files (shown_in_form c.form line) text w.more w.are.0 (some_told c line status text to w wrong.0) w.text_is w.are.3 in
     wrong.1 begun.0 begun.1
 
 -- what has no fault has no line
@@ -217,7 +239,7 @@ begun_told c line status text to d stop t file row column rest b h =
     let more : w.more ≡ finding_head c.form b.severity file row column ++ rest = append_cancel_left (shown_in_form c.form line) _ _ (sym w.text_is ∙ b.is) in
     let texts : w.more ≡ findings_text c.form 1 c.files w.are.0 = w.are.3 ∙ ap (λ n. findings_text c.form n c.files w.are.0) (sym one) in
     begun_in c (comes_to c line status to) b.severity d file row column rest w.more w.are.0 (ap (λ s. outcome_of c.edition c.source s (load_fault (map code_of to.goes.definitions))) stop)
-    (none_of_one w.are.0 (w.are.1 (λ done. let no : ◌≡◌ {A = ℕ} 1 0 = one ∙ done in absurd (omega (arith, no))))) w.are.2 texts more
+    (some_told c line status text to w (λ done. let no : ◌≡◌ {A = ℕ} 1 0 = one ∙ done in absurd (omega (arith, no)))) w.are.2 texts more
 
 first_told : (c : Check) (line : List ℕ) (status : ℕ) (text : List ℕ) (to : ComesTo c line status) (d : Diagnostic) → to.outcome.stop ≡ Some d → IsTold c text → c.files.rest ≡ [] → (row column : ℕ) (rest : List ℕ) → BeginsWith c line text (file_of c) row column rest → Checks c
     → First c d row column rest
@@ -300,17 +322,17 @@ lines_told c o line status text w =
     ap newlines w.text_is ∙ newlines_in (shown_in_form c.form line) w.more
     ∙ ap (λ n. newlines (shown_in_form c.form line) + n) (ap newlines w.are.3 ∙ lines_of_all c.form (severity_of status) c.files w.are.0)
 
-other_lines : Never (λ c line status text. (status ≢ DONE) × (newlines text ≢ newlines (shown_in_form c.form line) + finding_lines c.form))
+other_lines : Never (λ c line status text. (status ≢ DONE) × (line ≢ codes "load 3\n") × (newlines text ≢ newlines (shown_in_form c.form line) + finding_lines c.form))
 other_lines c line status text to t wrong h =
     let w = told_in c line status text to t h in
-    let one : length w.are.0 * finding_lines c.form ≡ finding_lines c.form = ap (λ n. n * finding_lines c.form) (w.are.1 wrong.0) ∙ one-mul (finding_lines c.form) in
-    wrong.1 (lines_told c (comes_to c line status to) line status text w ∙ ap (λ n. newlines (shown_in_form c.form line) + n) one)
+    let count = one_of to.outcome.stop (load_fault (map code_of to.goes.definitions)) line status (length w.are.0) to.told wrong.0 wrong.1 w.are.1 in
+    let one : length w.are.0 * finding_lines c.form ≡ finding_lines c.form = ap (λ n. n * finding_lines c.form) count ∙ one-mul (finding_lines c.form) in
+    wrong.2 (lines_told c (comes_to c line status to) line status text w ∙ ap (λ n. newlines (shown_in_form c.form line) + n) one)
 
-odd_lines : Never (λ c line status text. (status ≡ DONE) × ((count : ℕ) → newlines text ≢ count * finding_lines c.form))
+odd_lines : Never (λ c line status text. (count : ℕ) → newlines text ≢ newlines (shown_in_form c.form line) + count * finding_lines c.form)
 odd_lines c line status text to t wrong h =
     let w = told_in c line status text to t h in
-    let none : newlines (shown_in_form c.form line) ≡ 0 = ap newlines (nothing_shown c line status to wrong.0) in
-    wrong.1 (length w.are.0) (lines_told c (comes_to c line status to) line status text w ∙ ap (λ n. n + length w.are.0 * finding_lines c.form) none ∙ zero-add (length w.are.0 * finding_lines c.form))
+    wrong (length w.are.0) (lines_told c (comes_to c line status to) line status text w)
 
 other_bytes : Never (λ c line status text. IsTrue (is_printed (shown_in_form c.form line)) × ((n : ℕ) → IsTrue (is_printed (finding_start c.form (file_at c n)))) × (is_printed text ≡ false))
 other_bytes c line status text to t wrong h =

@@ -1,8 +1,9 @@
 -- Why an error is told: it is one of what the source comes to.
-use Rattle.std.proofs.Common.{◌≡◌, ◌<◌, ℕ, List, [], ◌∷◌, Option, Some, None, Result, Ok, Err, IfOk, ap, arith, codes, drop, get_or, length, map, refl, subst, sym, take}
+use Rattle.std.proofs.Common.{◌≡◌, ◌∙◌, ◌<◌, ◌+◌, ◌++◌, ℕ, List, [], ◌∷◌, Option, Some, None, Result, Ok, Err, IfOk, ap, arith, codes, drop, get_or, length, map, refl, subst, sym, take}
 use Rattle.std.specs.List.{All}
 use Rattle.std.specs.Prelude.{unwrap_or}
-use Rattle.std.proofs.lemmas.List.Elements.{All-cons, All-get_or, All-nil}
+use Rattle.std.proofs.lemmas.List.{length_push}
+use Rattle.std.proofs.lemmas.List.Elements.{All-cons, All-get_or, All-nil, All-push, All-weaker}
 use Rattle.blang.specs.Code.{code_of}
 use Rattle.blang.specs.Compiles.{Compilation, CompilesTo}
 use Rattle.blang.specs.Cut.{tokens_from}
@@ -13,8 +14,8 @@ use Rattle.blang.specs.declared.run.LoadFault.{LoadFault}
 use Rattle.blang.specs.declared.run.LoadFault.TheVariants as fault
 use Rattle.blang.specs.declared.token.Diagnostic.{Diagnostic}
 use Rattle.btools.specs.Programs.{load_line}
-use Rattle.bcheck.specs.Checks.{EachOutcome, Judged, Reason, told_first, told_of, verdict_line, status_told}
-use Rattle.bcheck.specs.Findings.{IsReasoned, IsStopOf, ReasonAt, TellsFault, matter_code}
+use Rattle.bcheck.specs.Checks.{EachOutcome, IsCount, Judged, Reason, told_first, told_of, verdict_line, status_told}
+use Rattle.bcheck.specs.Findings.{IsCountOf, IsReasoned, IsStopOf, ReasonAt, TellsFault, matter_code}
 use Rattle.bcheck.specs.declared.finding.Finding.{Finding}
 use Rattle.bcheck.specs.declared.verdict.Verdict.{Verdict}
 use Rattle.bcheck.specs.declared.verdict.Verdict.TheVariants as verdict
@@ -74,6 +75,44 @@ module _ (edition : Edition) (before rest : List ℕ) where
   of_other g other None (Some fault.NoMain) e = tt
   of_other g other None (Some fault.Memory) e = tt
 
+-- how many findings there are, by the line and the status of the verdict
+one_counts : (stop : Option Diagnostic) (f : Option LoadFault) (n : ℕ) → n ≡ 1 → IsCount stop f n
+one_counts (Some d) f n e = e
+one_counts None None n e = tt
+one_counts None (Some (fault.Duplicate name)) n e = e
+one_counts None (Some fault.TooLarge) n e = e
+one_counts None (Some (fault.Undefined name)) n e = omega (arith, e)
+one_counts None (Some fault.NoMain) n e = tt
+one_counts None (Some fault.Memory) n e = e
+
+none_counts : (stop : Option Diagnostic) (f : Option LoadFault) (n : ℕ) → ◌≡◌ {A = List ℕ × ℕ} ([], 0) (told_first stop f) → IsCount stop f n
+none_counts (Some d) f n e = let no : ◌≡◌ {A = ℕ} 0 1 = status_in e in absurd (omega (arith, no))
+none_counts None None n e = tt
+none_counts None (Some (fault.Duplicate name)) n e = let no : ◌≡◌ {A = ℕ} 0 132 = status_in e in absurd (omega (arith, no))
+none_counts None (Some fault.TooLarge) n e = let no : ◌≡◌ {A = ℕ} 0 132 = status_in e in absurd (omega (arith, no))
+none_counts None (Some (fault.Undefined name)) n e = let no : ◌≡◌ {A = ℕ} 0 132 = status_in e in absurd (omega (arith, no))
+none_counts None (Some fault.NoMain) n e = tt
+none_counts None (Some fault.Memory) n e = let no : ◌≡◌ {A = ℕ} 0 132 = status_in e in absurd (omega (arith, no))
+
+some_count : (stop : Option Diagnostic) (f : Option LoadFault) (n : ℕ) → ◌≡◌ {A = List ℕ × ℕ} (codes "load 3\n", 132) (told_first stop f) → 0 < n → IsCount stop f n
+some_count (Some d) f n e some = let no : ◌≡◌ {A = ℕ} 132 1 = status_in e in absurd (omega (arith, no))
+some_count None None n e some = tt
+some_count None (Some (fault.Duplicate name)) n e some = let no : ◌≡◌ {A = ℕ} 51 49 = ap (λ l. get_or l 5 0) (line_in e) in absurd (omega (arith, no))
+some_count None (Some fault.TooLarge) n e some = let no : ◌≡◌ {A = ℕ} 51 50 = ap (λ l. get_or l 5 0) (line_in e) in absurd (omega (arith, no))
+some_count None (Some (fault.Undefined name)) n e some = some
+some_count None (Some fault.NoMain) n e some = tt
+some_count None (Some fault.Memory) n e some = let no : ◌≡◌ {A = ℕ} 51 0 = ap (λ l. get_or l 5 0) (line_in e) in absurd (omega (arith, no))
+
+module _ (edition : Edition) (source : List ℕ) where
+  pub counts : (v : Verdict) (n : ℕ) → Judged edition source v → IsCountOf v n → EachOutcome edition source (λ o. IsCount o.stop o.fault n)
+  counts verdict.Clean n j is = λ r g. none_counts r.stop (load_fault (map code_of g.definitions)) n (j r g)
+  counts (verdict.Faulty line d) n j is = λ r g. one_counts r.stop (load_fault (map code_of g.definitions)) n is
+  counts (verdict.Unloaded (fault.Duplicate name)) n j is = λ r g. one_counts r.stop (load_fault (map code_of g.definitions)) n is
+  counts (verdict.Unloaded fault.TooLarge) n j is = λ r g. one_counts r.stop (load_fault (map code_of g.definitions)) n is
+  counts (verdict.Unloaded (fault.Undefined name)) n j is = λ r g. some_count r.stop (load_fault (map code_of g.definitions)) n (j r g) is
+  counts (verdict.Unloaded fault.NoMain) n j is = λ r g. one_counts r.stop (load_fault (map code_of g.definitions)) n is
+  counts (verdict.Unloaded fault.Memory) n j is = λ r g. one_counts r.stop (load_fault (map code_of g.definitions)) n is
+
 pub every_ok : {X E : Type 0} (r : Result X E) (P : X → Type 0) → ((x : X) → P x) → IfOk r P
 every_ok (Ok x) P f = f x
 every_ok (Err e) P f = tt
@@ -101,6 +140,9 @@ module _ (edition : Edition) (source : List ℕ) where
       λ r g. subst (λ k. Reason edition r.stop (found r g) k (take f.place.start source) (drop f.place.start source)) (sym e)
       (of_undefined edition (take f.place.start source) (drop f.place.start source) r.stop (found r g) (subst (λ x. ◌≡◌ {A = List ℕ × ℕ} (unwrap_or (load_line x) [], 132) (told_first r.stop (found r g))) is (j r g)))
 
+  pub undefined_reasons : (name : List ℕ) (v : LoadFault) (fs : List Finding) → v ≡ fault.Undefined name → Judged edition source (verdict.Unloaded v) → All (λ f. matter_code f.matter ≡ codes "load 3") fs → All (IsReasoned edition source) fs
+  undefined_reasons name v fs is j all = All-weaker (λ f. matter_code f.matter ≡ codes "load 3") (IsReasoned edition source) (λ f e. undefined_reason name v f is j e) fs all
+
   pub other_reason : (v : LoadFault) (start : ℕ) → ((name : List ℕ) → v ≡ fault.Undefined name → ⊥) → Judged edition source (verdict.Unloaded v) → EachOutcome edition source (ReasonAt (codes "load 2") start)
   other_reason v start other j = λ r g. of_other edition (take start source) (drop start source) v other r.stop (found r g) (j r g)
 
@@ -113,3 +155,15 @@ module _ (edition : Edition) (source : List ℕ) where
   item_reason fs xs i f code same lt is all e =
       subst (λ k. EachOutcome edition source (ReasonAt k f.place.start)) (sym e)
       (subst (λ x. IsReasoned edition source x) (sym is) (All-get_or (IsReasoned edition source) xs i f lt (subst (λ x. All (IsReasoned edition source) x) (sym same) all)))
+
+pub one_counted : (v : LoadFault) (n : ℕ) → n ≡ 1 → IsCountOf (verdict.Unloaded v) n
+one_counted (fault.Duplicate name) n e = e
+one_counted fault.TooLarge n e = e
+one_counted (fault.Undefined name) n e = omega (arith, e)
+one_counted fault.NoMain n e = e
+one_counted fault.Memory n e = e
+
+-- one finding more of names that nothing defines
+pub told_more : (P : Finding → Type 0) (old new : List Finding) (f : Finding) → new ≡ old ++ f ∷ [] → P f → ((0 < length old) × All P old) → ((0 < length new) × All P new)
+told_more P old new f e is all =
+    (let n : length new ≡ length old + 1 = ap length e ∙ length_push old f in let some = all.0 in omega (arith, n, some), subst (λ x. All P x) (sym e) (All-push P old f all.1 is))

@@ -119,12 +119,13 @@ pub record Excluded : Type 0 where
   -- of a fault, for an editor, other letters than the diagnostic's
   pub other_letters : NeverOf (λ c d row column rest. (c.form ≡ form.Json) × (first : ℕ) × (second : ℕ)
       × (more : List ℕ) × (rest ≡ 34 ∷ first ∷ second ∷ more) × (first ∷ second ∷ [] ≢ letters_text d.letters))
-  -- of a fault no finding or two, or a newline in its words, its piece of the source or the name of its file
-  pub other_lines : Never (λ c line status text.
-      (status ≢ DONE) × (newlines text ≢ newlines (shown_in_form c.form line) + finding_lines c.form))
-  -- without a fault, lines that are no whole findings
+  -- of a fault, but for names that nothing defines, no finding or two, or a newline in its words, its piece of the
+  -- source or the name of its file
+  pub other_lines : Never (λ c line status text. (status ≢ DONE) × (line ≢ codes "load 3\n")
+      × (newlines text ≢ newlines (shown_in_form c.form line) + finding_lines c.form))
+  -- lines after the first one that are no whole findings
   pub odd_lines : Never (λ c line status text.
-      (status ≡ DONE) × ((count : ℕ) → newlines text ≢ count * finding_lines c.form))
+      (count : ℕ) → newlines text ≢ newlines (shown_in_form c.form line) + count * finding_lines c.form)
   -- a byte that can't be printed, where the line and the name of the file have none
   pub other_bytes : Never (λ c line status text.
       IsTrue (is_printed (shown_in_form c.form line)) × ((n : ℕ) → IsTrue (is_printed (finding_start c.form (file_at c n))))

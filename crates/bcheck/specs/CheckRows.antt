@@ -1,5 +1,5 @@
 -- Closed facts: what is told of a source, each at its limits and one past them.
-use Rattle.std.specs.Prelude.{◌≡◌, ℕ, List, [], ◌∷◌, ◌++◌, codes, map, Option, None, Some, refl, true, false}
+use Rattle.std.specs.Prelude.{◌≡◌, ◌<◌, ℕ, List, [], ◌∷◌, ◌++◌, codes, map, Option, None, Some, refl, true, false}
 use Rattle.std.specs.Fmt.{digits}
 use Rattle.bword.specs.declared.edition.Edition.TheVariants as editions
 use Rattle.blang.specs.declared.token.Diagnostic.{Diagnostic}
@@ -8,7 +8,7 @@ use Rattle.blang.specs.declared.token.About.TheVariants as about
 use Rattle.blang.specs.declared.token.Letters.TheVariants as letters
 use Rattle.blang.specs.declared.run.LoadFault.{LoadFault}
 use Rattle.blang.specs.declared.run.LoadFault.TheVariants as fault
-use Rattle.bcheck.specs.Checks.{FindingParts, Reason, finding_text, findings_text, is_in_line, is_on_line, second_text}
+use Rattle.bcheck.specs.Checks.{FindingParts, IsCount, Reason, finding_text, findings_text, is_in_line, is_on_line, second_text}
 use Rattle.bcheck.specs.Checks.{column_after, diagnostic_code, next_column, severity_of, severity_word, shown_byte}
 use Rattle.bcheck.specs.Checks.{shown_in_form, told_first}
 use Rattle.bcheck.specs.CheckExcluded.{has_no_colon, is_printed, newlines}
@@ -67,24 +67,32 @@ load_codes : (code : List ℕ) → (Reason editions.Two None (Some fault.TooLarg
     × (Reason editions.Two None (Some (fault.Undefined (codes "n"))) code [] [] → code ≡ codes "load 3")
 load_codes code = (λ reason. reason, λ reason. reason)
 
+-- one finding of a diagnostic and of data that are too many, and no fewer of names that nothing defines
+counts_of_faults : (d : Diagnostic) (f : Option LoadFault) (n : ℕ)
+    → (IsCount (Some d) f n → n ≡ 1) × (IsCount None (Some fault.TooLarge) n → n ≡ 1)
+counts_of_faults d f n = (λ is. is, λ is. is)
+
+some_of_names : (name : List ℕ) (n : ℕ) → IsCount None (Some (fault.Undefined name)) n → 0 < n
+some_of_names name n = λ is. is
+
 -- the code of each warning
 warning_codes : map warning_code (
-    warning.CommentGoesOn ∷ warning.AndAnd ∷ warning.Power ∷ warning.OperatorAssigns ∷ warning.ConditionAssigns
-    ∷ warning.AssignsComparison ∷ warning.AssignsCompared ∷ warning.EmptyIf ∷ warning.EmptyLoop
-    ∷ warning.PastVector ∷ warning.VectorForWord ∷ warning.WordForVector ∷ warning.VectorAddress
-    ∷ warning.ReturnsVector ∷ warning.NegativeNumber ∷ warning.StringEnd ∷ warning.InputEnd
-    ∷ warning.StringForNumber ∷ warning.StringForCharacter ∷ warning.StringPut ∷ warning.StringCompared
-    ∷ warning.NameAlone ∷ warning.ComparesAlone ∷ warning.NoEffect ∷ warning.Backslash ∷ warning.BitsCompared
-    ∷ warning.ComparesTwice ∷ warning.NotCompared ∷ warning.ManyArguments ∷ warning.FewArguments
-    ∷ warning.LibraryArguments ∷ warning.SwappedArguments ∷ warning.NoReturn ∷ warning.NeverUsed ∷ warning.Unset
-    ∷ warning.UnsetVector ∷ warning.HidesExternal ∷ warning.HidesLibrary ∷ warning.NearMain
-    ∷ warning.DefaultLabel ∷ warning.WordOutside ∷ []
-    ) ≡ codes "*/" ∷ codes "and" ∷ codes "and" ∷ codes "op" ∷ codes "if" ∷ codes "if" ∷ codes "if" ∷ codes "em"
-    ∷ codes "em" ∷ codes "ix" ∷ codes "ix" ∷ codes "ix" ∷ codes "ix" ∷ codes "ix" ∷ codes "sg" ∷ codes "en"
-    ∷ codes "en" ∷ codes "st" ∷ codes "st" ∷ codes "st" ∷ codes "st" ∷ codes "no" ∷ codes "no" ∷ codes "no"
-    ∷ codes "bs" ∷ codes "pr" ∷ codes "pr" ∷ codes "pr" ∷ codes "ar" ∷ codes "ar" ∷ codes "ar" ∷ codes "ar"
-    ∷ codes "rt" ∷ codes "us" ∷ codes "in" ∷ codes "in" ∷ codes "hi" ∷ codes "hi" ∷ codes "ma" ∷ codes "ed"
-    ∷ codes "ed" ∷ []
+    warning.CommentGoesOn ∷ warning.AndAnd ∷ warning.Power ∷ warning.OperatorAssigns ∷ warning.ConditionAssigns ∷
+    warning.AssignsComparison ∷ warning.AssignsCompared ∷ warning.EmptyIf ∷ warning.EmptyLoop ∷ warning.PastVector ∷
+    warning.VectorForWord ∷ warning.WordForVector ∷ warning.VectorAddress ∷ warning.ReturnsVector ∷
+    warning.ReturnsAddress ∷ warning.NegativeNumber ∷ warning.StringEnd ∷ warning.InputEnd ∷ warning.InputZero ∷
+    warning.StringForNumber ∷ warning.StringForCharacter ∷ warning.StringPut ∷ warning.StringCompared ∷
+    warning.NameAlone ∷ warning.ComparesAlone ∷ warning.NoEffect ∷ warning.Backslash ∷ warning.BitsCompared ∷
+    warning.ComparesTwice ∷ warning.NotCompared ∷ warning.ManyArguments ∷ warning.FewArguments ∷
+    warning.LibraryArguments ∷ warning.SwappedArguments ∷ warning.WrongBase ∷ warning.NoReturn ∷ warning.NeverUsed ∷
+    warning.Unset ∷ warning.UnsetVector ∷ warning.HidesExternal ∷ warning.HidesLibrary ∷ warning.NearMain ∷
+    warning.DefaultLabel ∷ warning.WordOutside ∷ []
+    ) ≡ codes "*/" ∷ codes "and" ∷ codes "and" ∷ codes "op" ∷ codes "if" ∷ codes "if" ∷ codes "if" ∷ codes "em" ∷
+    codes "em" ∷ codes "ix" ∷ codes "ix" ∷ codes "ix" ∷ codes "ix" ∷ codes "ix" ∷ codes "ix" ∷ codes "sg" ∷
+    codes "en" ∷ codes "en" ∷ codes "en" ∷ codes "st" ∷ codes "st" ∷ codes "st" ∷ codes "st" ∷ codes "no" ∷
+    codes "no" ∷ codes "no" ∷ codes "bs" ∷ codes "pr" ∷ codes "pr" ∷ codes "pr" ∷ codes "ar" ∷ codes "ar" ∷
+    codes "ar" ∷ codes "ar" ∷ codes "ar" ∷ codes "rt" ∷ codes "us" ∷ codes "in" ∷ codes "in" ∷ codes "hi" ∷
+    codes "hi" ∷ codes "ma" ∷ codes "ed" ∷ codes "ed" ∷ []
 warning_codes = refl
 
 -- the line and the column of a place after a text

@@ -1,5 +1,5 @@
 -- Promise: what is written of a source that is checked.
-use Rattle.std.specs.Prelude.{◌≡◌, ◌≢◌, ℕ, ◌+◌, ◌<◌, ◌==◌, nat_lt, not, Bool, true, false, IsTrue, if◌then◌else◌}
+use Rattle.std.specs.Prelude.{◌≡◌, ℕ, ◌+◌, ◌<◌, ◌==◌, nat_lt, not, Bool, true, false, IsTrue, if◌then◌else◌}
 use Rattle.std.specs.Prelude.{List, [], ◌∷◌, ◌++◌, ◌⊎◌, codes, decimal, length, map, min, replicate, Option, Some, None}
 use Rattle.std.specs.Prelude.{unwrap_or}
 use Rattle.std.specs.Int.{is_in_range}
@@ -249,10 +249,19 @@ Reason edition None f code before rest = Unit {0}
 abbrev pub IsReason : (o : Outcome) → FindingParts o.source → Type 0
 IsReason o p = Reason o.edition o.stop o.fault p.code (p.before ++ p.left) (p.right ++ p.after)
 
--- The text of some findings of a source with this status, or of none: where it isn't 0 there is one.
+-- How many findings there are: one of a diagnostic and of data that are too many, and at least one of names that nothing
+-- defines.
+abbrev pub IsCount : Option Diagnostic → Option LoadFault → (count : ℕ) → Type 0
+IsCount (Some d) f count = count ≡ 1
+IsCount None (Some (fault.Undefined name)) count = 0 < count
+IsCount None (Some fault.NoMain) count = Unit {0}
+IsCount None (Some f) count = count ≡ 1
+IsCount None None count = Unit {0}
+
+-- The text of such findings of a source with this status.
 abbrev pub AreFindings : FindingForm → Outcome → (status : ℕ) → Files → (text : List ℕ) → Type 0
 AreFindings form o status files text =
-    (findings : List (FindingParts o.source)) × (status ≢ DONE → length findings ≡ 1) × All (IsReason o) findings
+    (findings : List (FindingParts o.source)) × IsCount o.stop o.fault (length findings) × All (IsReason o) findings
     × (text ≡ findings_text form status files findings)
 
 -- A text and then findings were told with this status; or memory was refused, and nothing was written.

@@ -4,6 +4,7 @@ use Rattle.std.specs.Prelude.{Option, Some, None, IfSome, MatchResult, ◌≤◌
 use Rattle.bword.specs.declared.edition.Edition.{Edition}
 use Rattle.blang.specs.Cut.{line_number_after}
 use Rattle.blang.specs.declared.token.Diagnostic.{Diagnostic}
+use Rattle.blang.specs.declared.run.LoadFault.TheVariants as fault
 use Rattle.bsources.specs.Files.{Files, line_shown, own_line}
 use Rattle.bcheck.specs.Checks.{EachOutcome, FindingParts, IsAtToken, Outcome, Reason, StandsOn, column_after, diagnostic_code}
 use Rattle.bcheck.specs.Checks.{finding_text, is_in_line, is_of_several}
@@ -41,9 +42,11 @@ warning_code warning.VectorForWord = codes "ix"
 warning_code warning.WordForVector = codes "ix"
 warning_code warning.VectorAddress = codes "ix"
 warning_code warning.ReturnsVector = codes "ix"
+warning_code warning.ReturnsAddress = codes "ix"
 warning_code warning.NegativeNumber = codes "sg"
 warning_code warning.StringEnd = codes "en"
 warning_code warning.InputEnd = codes "en"
+warning_code warning.InputZero = codes "en"
 warning_code warning.StringForNumber = codes "st"
 warning_code warning.StringForCharacter = codes "st"
 warning_code warning.StringPut = codes "st"
@@ -59,6 +62,7 @@ warning_code warning.ManyArguments = codes "ar"
 warning_code warning.FewArguments = codes "ar"
 warning_code warning.LibraryArguments = codes "ar"
 warning_code warning.SwappedArguments = codes "ar"
+warning_code warning.WrongBase = codes "ar"
 warning_code warning.NoReturn = codes "rt"
 warning_code warning.NeverUsed = codes "us"
 warning_code warning.Unset = codes "in"
@@ -80,6 +84,7 @@ matter_code matter.CaseOutside = codes "sx case"
 matter_code matter.DefaultOutside = codes "sx default"
 matter_code matter.BreakOutside = codes "sx break"
 matter_code matter.NameAgain = codes "rd"
+matter_code matter.PrototypeBefore = codes "rd"
 matter_code matter.CaseAgain = codes "rd case"
 matter_code matter.DefaultAgain = codes "rd default"
 matter_code (matter.NotLvalue lvalue) = codes "lv"
@@ -100,6 +105,13 @@ IsCompiled edition source c =
 abbrev pub IsStopOf : Edition → List ℕ → Verdict → Type 0
 IsStopOf edition source (verdict.Faulty line d) = HasFault edition source d
 IsStopOf edition source v = Unit {0}
+
+-- so many findings belong to this verdict
+abbrev pub IsCountOf : Verdict → (count : ℕ) → Type 0
+IsCountOf verdict.Clean count = Unit {0}
+IsCountOf (verdict.Faulty line d) count = count ≡ 1
+IsCountOf (verdict.Unloaded (fault.Undefined name)) count = 0 < count
+IsCountOf (verdict.Unloaded f) count = count ≡ 1
 
 -- the matter is that of the diagnostic, and the place is one for it
 abbrev pub TellsFault : Edition → List ℕ → Diagnostic → Finding → Type 0

@@ -7,7 +7,8 @@ ghost use Rattle.bcheck.specs.Findings.{matter_code};
 use crate::bytes::{Byte, Constant};
 use crate::limits::Limit;
 use crate::syntax::Syntax;
-use crate::unknown::{Lvalue, Undefined, Unknown};
+use crate::undefined::Undefined;
+use crate::unknown::{Lvalue, Unknown};
 use crate::warnings::Warning;
 
 /// What a finding is about.
@@ -22,6 +23,7 @@ pub(crate) enum Matter {
     DefaultOutside,
     BreakOutside,
     NameAgain,
+    PrototypeBefore,
     CaseAgain,
     DefaultAgain,
     NotLvalue(Lvalue),
@@ -56,6 +58,8 @@ impl Matter {
                 ("sx break", "no loop and no switch is around this break", "return; leaves the function"),
             Matter::NameAgain =>
                 ("rd", "@ is defined or declared already, in line %", "rename one of the two, or take it out"),
+            Matter::PrototypeBefore =>
+                ("rd", "line % defines @ already: there are no prototypes", "take that line out: a call needs none"),
             Matter::CaseAgain => ("rd case", "the switch has a case of this value already", "take another value"),
             Matter::DefaultAgain => ("rd default", "the switch has a default already", "take one of the two out"),
             Matter::NotLvalue(lvalue) => with_code("lv", lvalue.advice()),

@@ -1,10 +1,9 @@
 //! What is said of a source after the line of the compiler.
 ghost use Rattle.std.specs.List.{All};
-ghost use Rattle.std.specs.Prelude.{◌≡◌, ◌≢◌, ◌<◌, IfOk, IfSome, None, length, vec_items};
-ghost use Rattle.blang.specs.declared.status.TheConstants.{DONE};
+ghost use Rattle.std.specs.Prelude.{◌≡◌, ◌<◌, ◌∷◌, [], IfOk, length, vec_items};
 ghost use Rattle.bsources.specs.Files.{files_shown};
 ghost use Rattle.bcheck.specs.Checks.{AreFindings, EachOutcome, Judged, status_told};
-ghost use Rattle.bcheck.specs.Findings.{IsReasoned, IsStopOf, TellsFault};
+ghost use Rattle.bcheck.specs.Findings.{IsCountOf, IsReasoned, IsStopOf, TellsFault};
 ghost use Rattle.bcheck.specs.declared.verdict.Verdict.TheVariants as verdict;
 
 use crate::across::comments_across;
@@ -18,7 +17,7 @@ use crate::form::{FindingForm, Request};
 use crate::patterns::{DefinitionTokens, add_comments, find};
 use crate::places::{milestones, place_on, spot_of};
 use crate::spans::{SourceText, SpanReader, Spans, place_of};
-use crate::unknown::undefined_name;
+use crate::undefined::undefined_names;
 use crate::verdict::{Judgement, Verdict};
 use crate::words::Words;
 use crate::{faults, json, text};
@@ -76,48 +75,36 @@ fn findings(
 ) -> Result<Vec<Finding>, AllocError>
     requires judged { Judged source.edition source.text.now judgement.now.verdict }
     requires stop { IsStopOf source.edition source.text.now judgement.now.verdict }
-    ensures one { IfOk result (λ found. status_told judgement.now.verdict ≢ DONE → length (vec_items found) ≡ 1) }
-    ensures reasons { IfOk result (λ found. All (IsReasoned source.entry.edition source.entry.text.now) (vec_items found)) }
-{
-    match error_of(alloc, source, judgement)? {
-        Some(error) => {
-            let mut findings = Vec::new(alloc);
-            findings.push(Finding {
-                matter: error.matter,
-                name: error.name,
-                other: error.other,
-                place: error.place,
-                related: error.related,
-            })?;
-            Ok(findings)
-        }
-        None => warnings(alloc, source, files, judgement.compiled.ends.as_slice()),
-    }
-}
-
-// What is said of the error that a source has, if it has one.
-fn error_of(
-    alloc: Global,
-    source: SourceText<'_>,
-    judgement: &Judgement,
-) -> Result<Option<Finding>, AllocError>
-    requires judged { Judged source.edition source.text.now judgement.now.verdict }
-    requires stop { IsStopOf source.edition source.text.now judgement.now.verdict }
-    ensures none { IfOk result (λ error. error ≡ None → judgement.now.verdict ≡ verdict.Clean) }
-    ensures reason { IfOk result (λ error. IfSome error (IsReasoned source.entry.edition source.entry.text.now)) }
+    ensures count { IfOk result (λ found. IsCountOf judgement.now.verdict (length (vec_items found))) }
+    ensures reasons { IfOk result (λ found.
+        All (IsReasoned source.entry.edition source.entry.text.now) (vec_items found)) }
 {
     let compiled = &judgement.compiled;
     match &judgement.verdict {
-        Verdict::Clean => Ok(None),
+        Verdict::Clean => warnings(alloc, source, files, compiled.ends.as_slice()),
         Verdict::Faulty(_, diagnostic) => {
-            let error = fault_of(alloc, source, compiled, diagnostic)?;
-            Ok(Some(error))
+            let Ok(error) = fault_of(alloc, source, compiled, diagnostic) else {
+                return Err(AllocError);
+            };
+            alone(alloc, &error)
         }
-        Verdict::Unloaded(fault) => {
-            let refused = unloaded(alloc, source, compiled, fault)?;
-            Ok(Some(refused))
-        }
+        Verdict::Unloaded(fault) => unloaded(alloc, source, compiled, fault),
     }
+}
+
+// One finding.
+fn alone(alloc: Global, finding: &Finding) -> Result<Vec<Finding>, AllocError>
+    ensures { IfOk result (λ found. vec_items found ≡ finding.now ∷ []) }
+{
+    let mut findings = Vec::new(alloc);
+    findings.push(Finding {
+        matter: finding.matter,
+        name: finding.name,
+        other: finding.other,
+        place: finding.place,
+        related: finding.related,
+    })?;
+    Ok(findings)
 }
 
 // What is said of the fault that a source has, on its line.
@@ -147,16 +134,19 @@ fn unloaded(
     source: SourceText<'_>,
     compiled: &Compiled,
     fault: &LoadFault,
-) -> Result<Finding, AllocError>
+) -> Result<Vec<Finding>, AllocError>
     requires { Judged source.edition source.text.now (verdict.Unloaded fault.now) }
-    ensures { IfOk result (IsReasoned source.entry.edition source.entry.text.now) }
+    ensures count { IfOk result (λ found. IsCountOf (verdict.Unloaded fault.now) (length (vec_items found))) }
+    ensures reasons { IfOk result (λ found.
+        All (IsReasoned source.entry.edition source.entry.text.now) (vec_items found)) }
 {
     if let LoadFault::Undefined(name) = fault {
-        return undefined_name(alloc, source, compiled, *name);
+        return undefined_names(alloc, source, compiled, *name);
     }
     let first = Extent { first: 0, end: 1 };
     let place = place_of(&Spans::between(alloc, source, first)?, 0);
-    Ok(Finding::new(Matter::DataTooLarge, place))
+    let finding = Finding::new(Matter::DataTooLarge, place);
+    alone(alloc, &finding)
 }
 
 // What compiles and is probably a mistake.

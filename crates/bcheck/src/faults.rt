@@ -111,33 +111,72 @@ fn again(
     ensures { matter_code result.matter ≡ codes "rd" }
 {
     let token = token_of(spans, fault);
-    let related = if token == fault.extent.first {
-        definition_of(source, compiled, name)
-    } else {
-        first_place(spans, fault.extent.first.saturating_add(1), token, name)
-    };
+    let place = place_of(spans, token);
+    if token == fault.extent.first {
+        let found = definition_of(source, compiled, name);
+        return named_again(name, place, found.place, found.is_prototype);
+    }
+    let related = first_place(spans, fault.extent.first.saturating_add(1), token, name);
+    named_again(name, place, related, false)
+}
+
+fn named_again(name: Name, place: Place, related: Option<Place>, is_prototype: bool) -> Finding
+    ensures { matter_code result.matter ≡ codes "rd" }
+{
     Finding {
-        matter: Matter::NameAgain,
+        matter: if is_prototype {
+            Matter::PrototypeBefore
+        } else {
+            Matter::NameAgain
+        },
         name: Some(name),
         other: None,
-        place: place_of(spans, token),
+        place,
         related,
     }
 }
 
-// Where one of the definitions that were written begins with this name.
-fn definition_of(source: SourceText<'_>, compiled: &Compiled, name: Name) -> Option<Place> {
+/// A definition of a name.
+#[derive(Clone, Copy)]
+struct Earlier {
+    place: Option<Place>,
+    /// Whether nothing but a `;` comes after its parameters.
+    is_prototype: bool,
+}
+
+// The definition of this name among those that were written.
+fn definition_of(source: SourceText<'_>, compiled: &Compiled, name: Name) -> Earlier {
     let mut reader = SpanReader::new(source);
     let mut token = 0;
     for end in compiled.ends.as_slice() {
         let span = reader.next();
+        let others = end.saturating_sub(token).saturating_sub(1);
         if span.lexeme == Lexeme::Name(name) {
-            return Some(span.place);
+            return Earlier {
+                place: Some(span.place),
+                is_prototype: is_prototype(&mut reader, others),
+            };
         }
-        reader.pass(end.saturating_sub(token).saturating_sub(1));
+        reader.pass(others);
         token = *end;
     }
-    None
+    Earlier {
+        place: None,
+        is_prototype: false,
+    }
+}
+
+// Whether so many tokens are the parameters of a function and a `;`.
+fn is_prototype(reader: &mut SpanReader<'_>, count: usize) -> bool {
+    if reader.next().lexeme != Lexeme::OpenParen {
+        return false;
+    }
+    for passed in 2..count {
+        if reader.next().lexeme == Lexeme::CloseParen {
+            return passed.saturating_add(1) == count;
+        }
+    }
+    false
 }
 
 // The first place of a name between two tokens.
@@ -225,12 +264,13 @@ fn syntax_at(alloc: Global, source: &[u8], spans: &Spans, fault: &Fault, token: 
 fn foreign(spans: &Spans, around: &Around, word: usize, meaning: Foreign, line: u64) -> Finding
     ensures { matter_code result.matter ≡ codes "sx" }
 {
+    let own = place_of(spans, word);
     Finding {
         matter: Matter::Syntax(Syntax::Foreign(meaning)),
         name: name_at(spans, word),
         other: None,
         place: on_line(spans, word, around.token, line),
-        related: None,
+        related: if own.line == line { None } else { Some(own) },
     }
 }
 

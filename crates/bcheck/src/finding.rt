@@ -8,6 +8,9 @@ use crate::words::Words;
 use bsources::FileLine;
 use bword::Name;
 
+/// The most findings that are told of a source, which is as many as a person reads.
+pub(crate) const MOST_FINDINGS: usize = 100;
+
 /// A piece of the source.
 #[derive(Clone, Copy)]
 pub(crate) struct Place {

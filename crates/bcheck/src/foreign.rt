@@ -26,10 +26,17 @@ pub(crate) enum Foreign {
     InputEnd,
     Writes,
     Reads,
+    ElseIf,
+    Loop,
+    Arguments,
+    Count,
+    Unit,
+    Process,
+    Clock,
 }
 
-/// Words of C, JavaScript, Pascal and Python.
-const WORDS: [(&str, Foreign); 31] = [
+/// Words of C, JavaScript, Pascal and Python, and what old programs in B call.
+const WORDS: [(&str, Foreign); 57] = [
     ("const", Foreign::Declares),
     ("let", Foreign::Declares),
     ("var", Foreign::Declares),
@@ -61,6 +68,32 @@ const WORDS: [(&str, Foreign); 31] = [
     ("writeln", Foreign::Writes),
     ("input", Foreign::Reads),
     ("prompt", Foreign::Reads),
+    ("elif", Foreign::ElseIf),
+    ("elseif", Foreign::ElseIf),
+    ("elsif", Foreign::ElseIf),
+    ("foreach", Foreign::Loop),
+    ("repeat", Foreign::Loop),
+    ("until", Foreign::Loop),
+    ("argc", Foreign::Arguments),
+    ("argv", Foreign::Arguments),
+    ("nargs", Foreign::Count),
+    ("close", Foreign::Unit),
+    ("creat", Foreign::Unit),
+    ("fclose", Foreign::Unit),
+    ("fopen", Foreign::Unit),
+    ("open", Foreign::Unit),
+    ("read", Foreign::Unit),
+    ("seek", Foreign::Unit),
+    ("stdin", Foreign::Unit),
+    ("stdout", Foreign::Unit),
+    ("write", Foreign::Unit),
+    ("execl", Foreign::Process),
+    ("execv", Foreign::Process),
+    ("fork", Foreign::Process),
+    ("system", Foreign::Process),
+    ("wait", Foreign::Process),
+    ("ctime", Foreign::Clock),
+    ("time", Foreign::Clock),
 ];
 
 impl Foreign {
@@ -86,6 +119,17 @@ impl Foreign {
                 ("there is no @: printn writes a number", "printn(n, 10); and putstr(s); with b go FILE --with print"),
             Foreign::Reads =>
                 ("there is no @: getchar reads a character", "getstr(s); and getnum(&n); with b go FILE --with input"),
+            Foreign::ElseIf => ("there is no @: write else and then if", "else if(x > 3) .."),
+            Foreign::Loop => ("there is no @: while is the one loop", "while(x < 3) { .. }"),
+            Foreign::Arguments =>
+                ("there is no @: a program gets no words", "getstr(s); reads a line: b go FILE --with input"),
+            Foreign::Count => ("there is no @: a missing argument is 0", "end the arguments with 0"),
+            Foreign::Unit =>
+                ("there is no @: a program has one input and one output",
+                 "getchar(), putchar(c), and b go FILE < from > to"),
+            Foreign::Process =>
+                ("there is no @: a program can start no other one", "let the shell call one after the other"),
+            Foreign::Clock => ("there is no @: a program has no clock", "read the time from the input"),
         }
     }
 
@@ -103,7 +147,14 @@ impl Foreign {
                 | Foreign::Function
                 | Foreign::Block
                 | Foreign::Writes
+                | Foreign::ElseIf
+                | Foreign::Loop
         )
+    }
+
+    // Whether it has a condition and then a statement.
+    fn has_statement(self) -> bool {
+        matches!(self, Foreign::ElseIf | Foreign::Loop)
     }
 }
 
@@ -134,8 +185,12 @@ pub(crate) fn word_at_fault(spans: &Spans, around: &Around) -> Option<(usize, Fo
             return Some(found);
         }
     }
-    name_at(spans, first.wrapping_add(1))?;
-    head_word(spans, first)
+    let (word, meaning) = head_word(spans, first)?;
+    let is_headed = meaning.has_statement() && lexeme_at(spans, before) == Lexeme::CloseParen;
+    if is_headed || name_at(spans, first.wrapping_add(1)).is_some() {
+        return Some((word, meaning));
+    }
+    None
 }
 
 // The first token between two that is the word of an operator.
@@ -165,7 +220,11 @@ fn word_at(spans: &Spans, token: usize) -> Option<Foreign> {
 
 // Whether what another language has after such a word may begin with this token.
 fn may_follow_word(lexeme: &Lexeme) -> bool {
-    is_operand(lexeme) || matches!(lexeme, Lexeme::Keyword(_) | Lexeme::CloseBrace)
+    is_operand(lexeme)
+        || matches!(
+            lexeme,
+            Lexeme::Keyword(_) | Lexeme::OpenBrace | Lexeme::CloseBrace
+        )
 }
 
 /// The word that an external begins with, if it is one that declares names in another language.

@@ -37,9 +37,10 @@ pub(crate) enum Like {
 }
 
 /// What C calls its types and their parts, and some words that come before them.
-const TYPES: [&str; 13] = [
+const TYPES: [&str; 20] = [
     "int", "char", "void", "long", "short", "unsigned", "signed", "float", "double", "bool",
-    "const", "static", "struct",
+    "const", "static", "struct", "boolean", "byte", "enum", "integer", "register", "string",
+    "typedef",
 ];
 
 impl Like {

@@ -32,6 +32,7 @@ mod places;
 mod spans;
 mod syntax;
 mod text;
+mod undefined;
 mod unknown;
 mod verdict;
 mod warnings;

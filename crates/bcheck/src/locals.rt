@@ -31,8 +31,10 @@ pub(crate) struct Local {
     pub as_word: u64,
     /// How often a value is assigned to it, or its address is taken.
     pub sets: u64,
-    /// Whether a character of the input is assigned to it.
-    pub is_input: bool,
+    /// How often a character of the input is assigned to it, one of a string, and a string.
+    pub inputs: u64,
+    pub characters: u64,
+    pub strings: u64,
     /// Whether a statement that came before has set it.
     pub is_set: bool,
 }
@@ -50,14 +52,38 @@ impl Local {
         if is_target(spans, token) || is_address(spans, token) {
             self.sets = self.sets.saturating_add(1);
         }
-        self.is_input = self.is_input || is_read(spans, token);
+        self.count_given(spans, token);
     }
-}
 
-// Whether a character of the input is assigned to the name at this token.
-fn is_read(spans: &Spans, token: usize) -> bool {
-    lexeme_at(spans, token.wrapping_add(1)) == Lexeme::Assign(None)
-        && is_word(&lexeme_at(spans, token.wrapping_add(2)), "getchar")
+    // Counts what is assigned at this token.
+    fn count_given(&mut self, spans: &Spans, token: usize) {
+        if lexeme_at(spans, token.wrapping_add(1)) != Lexeme::Assign(None) {
+            return;
+        }
+        let given = lexeme_at(spans, token.wrapping_add(2));
+        if given == Lexeme::String {
+            self.strings = self.strings.saturating_add(1);
+        } else if is_word(&given, "getchar") {
+            self.inputs = self.inputs.saturating_add(1);
+        } else if is_word(&given, "char") {
+            self.characters = self.characters.saturating_add(1);
+        }
+    }
+
+    /// Whether nothing but strings is assigned to it.
+    pub(crate) fn is_string(&self) -> bool {
+        self.strings > 0 && self.strings == self.sets
+    }
+
+    /// Whether nothing but characters of strings is assigned to it.
+    pub(crate) fn is_character(&self) -> bool {
+        self.characters > 0 && self.characters == self.sets
+    }
+
+    /// Whether nothing but characters of the input is assigned to it.
+    pub(crate) fn is_input(&self) -> bool {
+        self.inputs > 0 && self.inputs == self.sets
+    }
 }
 
 // Whether something is stored in the name at this token, or it is compared with a constant.
@@ -137,7 +163,9 @@ impl Locals {
             indexed: 0,
             as_word: 0,
             sets: 0,
-            is_input: false,
+            inputs: 0,
+            characters: 0,
+            strings: 0,
             is_set: role != NameRole::Auto,
         })?;
         Ok(())

@@ -6,8 +6,8 @@ use crate::compiled::Extent;
 use crate::conditions::condition;
 use crate::defined::{Defined, What, is_function};
 use crate::effects::statement;
-use crate::ends::end_compared;
-use crate::finding::{Finding, Place};
+use crate::ends::{end_compared, loop_end};
+use crate::finding::{Finding, MOST_FINDINGS, Place};
 use crate::flow::Judgement;
 use crate::kinds::Like;
 use crate::locals::{Locals, NameRole};
@@ -19,9 +19,6 @@ use blang::Keyword;
 use blex::Lexeme;
 use bword::{BinOp, Name};
 use std::alloc::{AllocError, Global};
-
-/// The most warnings that are told of a source, which is as many as a person reads.
-const MOST_WARNINGS: usize = 100;
 
 /// The tokens of a definition of a source that compiles, with all that it defines.
 #[derive(Clone, Copy)]
@@ -69,7 +66,7 @@ impl Found {
         let Some(found) = found else {
             return Ok(());
         };
-        if findings.len() >= MOST_WARNINGS {
+        if findings.len() >= MOST_FINDINGS {
             return Ok(());
         }
         findings.push(Finding {
@@ -99,7 +96,7 @@ pub(crate) fn add_comments(
 }
 
 fn add_comment(place: Place, findings: &mut Vec<Finding>) -> Result<(), AllocError> {
-    if findings.len() >= MOST_WARNINGS {
+    if findings.len() >= MOST_FINDINGS {
         return Ok(());
     }
     findings.push(Finding {
@@ -281,7 +278,11 @@ fn found_at(tokens: &DefinitionTokens<'_>, locals: &Locals, token: usize) -> Opt
         }
     }
     match lexeme_at(spans, token) {
-        Lexeme::Keyword(Keyword::If | Keyword::While) => condition(spans, brackets, token),
+        Lexeme::Keyword(Keyword::While) => loop_end(spans, brackets, locals, token).or(condition(
+            spans, brackets, token,
+        )),
+        Lexeme::Keyword(Keyword::If) => condition(spans, brackets, token),
+        Lexeme::Keyword(Keyword::Return) => returned(spans, locals, token),
         Lexeme::String | Lexeme::Character(_) => backslash(tokens, token),
         Lexeme::CloseParen => end_compared(spans, brackets, token),
         _ => statement(spans, brackets, token),
@@ -410,7 +411,7 @@ fn input_compared(
     let wanted = token.wrapping_add(2);
     let is_minus_one = lexeme_at(spans, wanted) == Lexeme::Operator(BinOp::Sub)
         && lexeme_at(spans, wanted.wrapping_add(1)) == Lexeme::Number(1);
-    if is_minus_one && locals.find(&name)?.is_input {
+    if is_minus_one && locals.find(&name)?.inputs > 0 {
         return Found::new(wanted, Warning::InputEnd);
     }
     None
@@ -459,6 +460,26 @@ fn whole_vector(
     }
 }
 
+// What is found of a return of an address.
+fn returned(spans: &Spans, locals: &Locals, keyword: usize) -> Option<Found> {
+    let operator = keyword.wrapping_add(2);
+    let operand = operator.wrapping_add(1);
+    if lexeme_at(spans, operator) != Lexeme::Operator(BinOp::And) {
+        return None;
+    }
+    let name = name_at(spans, operand)?;
+    match (
+        locals.find(&name)?.role,
+        lexeme_at(spans, operand.wrapping_add(1)),
+    ) {
+        (NameRole::Vector(_), _) => Found::of_name(operand, Warning::ReturnsVector, name),
+        (NameRole::Auto, Lexeme::CloseParen) => {
+            Found::of_name(operand, Warning::ReturnsAddress, name)
+        }
+        _ => None,
+    }
+}
+
 // The last index of the vector of this name.
 fn last_of(tokens: &DefinitionTokens<'_>, locals: &Locals, name: &Name) -> Option<u64> {
     match locals.find(name)?.role {
@@ -486,11 +507,37 @@ fn called(
     let given = tokens.brackets.items(token.wrapping_add(1));
     let warning = match tokens.defined.find(&name) {
         Some(definition) => by_definition(tokens.spans, token, given, definition.what)?,
-        None if given == library_arguments(&name)? => return None,
+        None if given == library_arguments(&name)? => return arguments(tokens, token, &name),
         None if name.as_str() == "exit" && given == 0 => return None,
         None => Warning::LibraryArguments,
     };
     Found::of_name(token, warning, name)
+}
+
+// What is found of the arguments of a call of the library.
+fn arguments(tokens: &DefinitionTokens<'_>, callee: usize, name: &Name) -> Option<Found> {
+    let spans = tokens.spans;
+    let last = tokens.brackets.mate(callee.wrapping_add(1)).wrapping_sub(1);
+    match (name.as_str(), lexeme_at(spans, last)) {
+        ("printn", Lexeme::Number(0 | 1 | 11..))
+            if lexeme_at(spans, last.wrapping_sub(1)) == Lexeme::Comma => {
+            Found::new(last, Warning::WrongBase)
+        }
+        ("lchar", Lexeme::Character(_)) => None,
+        ("lchar", _) => character_second(spans, callee),
+        _ => None,
+    }
+}
+
+// The second argument of a call, if it is a character, and the first one is one token.
+fn character_second(spans: &Spans, callee: usize) -> Option<Found> {
+    let second = callee.wrapping_add(4);
+    let is_second = lexeme_at(spans, second.wrapping_sub(1)) == Lexeme::Comma
+        && lexeme_at(spans, second.wrapping_add(1)) == Lexeme::Comma;
+    match lexeme_at(spans, second) {
+        Lexeme::Character(_) if is_second => Found::new(second, Warning::SwappedArguments),
+        _ => None,
+    }
 }
 
 // What is found of a call of what the source defines.

@@ -22,6 +22,8 @@ pub(crate) enum Syntax {
     BraceSemicolon,
     BraceCloses,
     StatementOutside,
+    LabelOutside,
+    FileNamed,
     NameMissing,
     TypeFirst,
     TypeParameter,
@@ -36,12 +38,13 @@ pub(crate) enum Syntax {
     ExtrnList,
     For,
     Do,
+    ForEach,
     Then,
-    ElseIf,
     TypeInside,
     CaseSign,
     CaseValue,
     CaseList,
+    CaseRange,
     CaseColon,
     Condition,
     ReturnValue,
@@ -93,6 +96,10 @@ impl Syntax {
                 ("no { is open that this } closes", "take it out, or look before it for a } too many"),
             Syntax::StatementOutside =>
                 ("this statement is outside of every function", "look before it for a } too many, or put it in main"),
+            Syntax::LabelOutside =>
+                ("this label is outside of every function", "put it before a statement of the function"),
+            Syntax::FileNamed =>
+                ("no line names another file: files come with the command", "take it out: b go FILE --with print"),
             Syntax::NameMissing => ("a definition begins with its name", "n 5; or v[3]; or f(x) { .. }"),
             Syntax::TypeFirst =>
                 ("there are no types: a definition begins with its name",
@@ -110,13 +117,15 @@ impl Syntax {
             Syntax::AutoList => ("auto has names with commas between them", "auto a, b, v 10;"),
             Syntax::ExtrnList => ("extrn has names alone, with commas between them", "extrn n, v;"),
             Syntax::For => ("there is no for: this is taken for a call", "i = 0; while(i < 3) { .. i++; }"),
+            Syntax::ForEach => ("there is no for: a while counts", "i = 0; while(i < 3) { .. i++; }"),
             Syntax::Do => ("there is no do", "a label and a goto: L: { .. } if(i < 3) goto L;"),
             Syntax::Then => ("there is no then", "if(x) f(); else g();"),
-            Syntax::ElseIf => ("there is no such word", "else if(x) .."),
             Syntax::TypeInside => ("there are no types", "auto i;"),
             Syntax::CaseSign => ("a case has a number without a sign", "case 65535: is the case of -1"),
             Syntax::CaseValue => ("a case has a number or a character", "case 1: or case 'a':"),
             Syntax::CaseList => ("a case has one value", "case 1: case 2: .."),
+            Syntax::CaseRange =>
+                ("a case has one value, and no range", "before the switch: if(c >= 'a' & c <= 'z') .."),
             Syntax::CaseColon => ("a : comes after the value of a case", "case 1: .."),
             Syntax::Condition => ("a condition is in parentheses", "if(x > 3) or while(x > 3)"),
             Syntax::ReturnValue => ("the value of a return is in parentheses", "return(x);"),
@@ -223,6 +232,8 @@ const ELSE: Like = Like::Is(Lexeme::Keyword(Keyword::Else));
 
 const DIV: Like = Like::Is(Lexeme::Operator(BinOp::Div));
 
+const REM: Like = Like::Is(Lexeme::Operator(BinOp::Rem));
+
 const LT: Like = Like::Is(Lexeme::Operator(BinOp::Lt));
 
 const SUB: Like = Like::Is(Lexeme::Operator(BinOp::Sub));
@@ -263,7 +274,7 @@ const BODY: Option<Region> = Some(Region::Body);
 
 /// The end of the source, comments, and the first token of a definition.
 #[rattlefmt::skip]
-const BEGINNINGS: [Mistake; 9] = [
+const BEGINNINGS: [Mistake; 10] = [
     Mistake(None, If::ParenOpen, [ANY, ANY, ANY, END, ANY], Syntax::ParenOpen, Marking::Here),
     Mistake(None, If::BraceOpen, [ANY, ANY, ANY, END, ANY], Syntax::BraceOpen, Marking::Here),
     Mistake(None, If::Always, [ANY, ANY, ANY, END, ANY], Syntax::SourceEnds, Marking::Here),
@@ -272,15 +283,17 @@ const BEGINNINGS: [Mistake; 9] = [
     Mistake(START, If::Always, [ANY, ANY, CLOSE_BRACE, SEMICOLON, ANY], Syntax::BraceSemicolon, Marking::Here),
     Mistake(START, If::Always, [ANY, ANY, ANY, CLOSE_BRACE, ANY], Syntax::BraceCloses, Marking::Here),
     Mistake(START, If::Always, [ANY, ANY, ANY, Like::Keyword, ANY], Syntax::StatementOutside, Marking::Here),
+    Mistake(START, If::Always, [ANY, ANY, ANY, REM, Like::Name], Syntax::FileNamed, Marking::Here),
     Mistake(START, If::Always, [ANY, ANY, ANY, ANY, ANY], Syntax::NameMissing, Marking::Here),
 ];
 
 /// Externals and the parameters of a function.
 #[rattlefmt::skip]
-const OUTSIDE: [Mistake; 13] = [
+const OUTSIDE: [Mistake; 14] = [
     Mistake(EXTERNAL, If::Prototype, [Like::Type, ANY, Like::Name, OPEN_PAREN, ANY], Syntax::Prototype, Marking::First),
     Mistake(HEADER, If::Prototype, [ANY, ANY, Like::Type, Like::Name, ANY], Syntax::Prototype, Marking::Before),
     Mistake(EXTERNAL, If::Always, [Like::Type, ANY, ANY, ANY, ANY], Syntax::TypeFirst, Marking::First),
+    Mistake(EXTERNAL, If::Second, [ANY, ANY, Like::Name, COLON, ANY], Syntax::LabelOutside, Marking::First),
     Mistake(EXTERNAL, If::NextLine, [ANY, ANY, Like::Ended, Like::Name, ANY], Syntax::SemicolonMissing, Marking::Here),
     Mistake(EXTERNAL, If::Always, [ANY, ANY, Like::Name, OPEN_PAREN, ANY], Syntax::TypeFirst, Marking::First),
     Mistake(EXTERNAL, If::Always, [ANY, ANY, ANY, Like::Assigns, ANY], Syntax::EqualsOutside, Marking::Here),
@@ -295,7 +308,8 @@ const OUTSIDE: [Mistake; 13] = [
 
 /// Declarations in a function.
 #[rattlefmt::skip]
-const DECLARATIONS: [Mistake; 6] = [
+const DECLARATIONS: [Mistake; 7] = [
+    Mistake(BODY, If::Always, [AUTO, ANY, Like::Type, Like::Name, ANY], Syntax::TypeInside, Marking::Before),
     Mistake(BODY, If::Always, [AUTO, ANY, Like::Name, EQUALS, ANY], Syntax::AutoValue, Marking::Here),
     Mistake(BODY, If::Always, [AUTO, ANY, Like::Name, OPEN_BRACKET, ANY], Syntax::AutoBrackets, Marking::Here),
     Mistake(BODY, If::NextLine, [AUTO, ANY, Like::Operand, ANY, ANY], Syntax::SemicolonMissing, Marking::Here),
@@ -306,18 +320,21 @@ const DECLARATIONS: [Mistake; 6] = [
 
 /// Words, with what has to come after them.
 #[rattlefmt::skip]
-const WORDS: [Mistake; 14] = [
+const WORDS: [Mistake; 16] = [
     Mistake(BODY, If::For, [ANY, ANY, ANY, ANY, ANY], Syntax::For, Marking::Head),
+    Mistake(BODY, If::Always, [ANY, ANY, Like::Word("for"), Like::Name, ANY], Syntax::ForEach, Marking::Before),
     Mistake(BODY, If::Always, [ANY, ANY, Like::Word("do"), ANY, ANY], Syntax::Do, Marking::Before),
     Mistake(BODY, If::Always, [ANY, ANY, Like::Word("then"), ANY, ANY], Syntax::Then, Marking::Before),
-    Mistake(BODY, If::Always, [Like::Word("elif"), ANY, CLOSE_PAREN, ANY, ANY], Syntax::ElseIf, Marking::First),
-    Mistake(BODY, If::Always, [Like::Word("elsif"), ANY, CLOSE_PAREN, ANY, ANY], Syntax::ElseIf, Marking::First),
-    Mistake(BODY, If::Always, [Like::Word("elseif"), ANY, CLOSE_PAREN, ANY, ANY], Syntax::ElseIf, Marking::First),
+    Mistake(BODY, If::Prototype, [ANY, ANY, Like::Type, Like::Name, OPEN_PAREN], Syntax::Prototype,
+        Marking::Before),
     Mistake(BODY, If::Always, [ANY, ANY, Like::Type, Like::Name, ANY], Syntax::TypeInside, Marking::Before),
     Mistake(BODY, If::Always, [ANY, ANY, CASE, SUB, ANY], Syntax::CaseSign, Marking::Here),
     Mistake(BODY, If::Always, [ANY, ANY, CASE, ANY, ANY], Syntax::CaseValue, Marking::Here),
     Mistake(BODY, If::Always, [ANY, CASE, Like::Constant, COMMA, ANY], Syntax::CaseList, Marking::Here),
+    Mistake(BODY, If::Always, [ANY, CASE, Like::Constant, SUB, Like::Constant], Syntax::CaseRange, Marking::Here),
     Mistake(BODY, If::Always, [ANY, CASE, Like::Constant, ANY, ANY], Syntax::CaseColon, Marking::Here),
+    Mistake(BODY, If::Joined, [ANY, Like::Constant, COLON, COLON, ANY], Syntax::CaseRange, Marking::Before),
+    Mistake(BODY, If::Second, [ANY, COLON, Like::Constant, COLON, ANY], Syntax::CaseRange, Marking::Here),
     Mistake(BODY, If::Always, [ANY, ANY, IF, ANY, ANY], Syntax::Condition, Marking::Here),
     Mistake(BODY, If::Always, [ANY, ANY, WHILE, ANY, ANY], Syntax::Condition, Marking::Here),
     Mistake(BODY, If::Always, [ANY, ANY, RETURN, ANY, ANY], Syntax::ReturnValue, Marking::Here),

@@ -21,9 +21,11 @@ pub(crate) enum Warning {
     WordForVector,
     VectorAddress,
     ReturnsVector,
+    ReturnsAddress,
     NegativeNumber,
     StringEnd,
     InputEnd,
+    InputZero,
     StringForNumber,
     StringForCharacter,
     StringPut,
@@ -39,6 +41,7 @@ pub(crate) enum Warning {
     FewArguments,
     LibraryArguments,
     SwappedArguments,
+    WrongBase,
     NoReturn,
     NeverUsed,
     Unset,
@@ -60,7 +63,8 @@ impl Warning {
         match self {
             Warning::CommentGoesOn => ("*/", "this comment goes on into another file", "write */ where it ends"),
             Warning::AndAnd => ("and", "&& is the operator & and then an address", "a ? b : 0"),
-            Warning::Power => ("and", "** is the operator * and then the word at an address", "a loop multiplies: p =* x;"),
+            Warning::Power =>
+                ("and", "** is the operator * and then the word at an address", "a loop multiplies: p =* x;"),
             Warning::OperatorAssigns =>
                 ("op", "this operator changes what stands before it", "a blank after the = sets it: x = -1;"),
             Warning::ConditionAssigns =>
@@ -83,11 +87,15 @@ impl Warning {
                 ("ix", "@ is an address itself: & gives where that is kept", "@ is the address of @[0]"),
             Warning::ReturnsVector =>
                 ("ix", "the words of @ are gone after the return", "@[10]; outside of functions, and extrn @; here"),
+            Warning::ReturnsAddress =>
+                ("ix", "@ is gone after the return", "@; outside of functions, and extrn @; here"),
             Warning::NegativeNumber =>
                 ("sg", "this number is below 0 where it is compared", "words go from -32768 to 32767"),
             Warning::StringEnd => ("en", "a string ends with '*e', 4, and not with 0", "char(s, i) != '*e'"),
             Warning::InputEnd =>
                 ("en", "the input ends with '*e', 4, and not with -1", "(c = getchar()) != '*e'"),
+            Warning::InputZero =>
+                ("en", "the input ends with '*e', 4, and not with 0", "(c = getchar()) != '*e'"),
             Warning::StringForNumber =>
                 ("st", "a string is an address, and printn writes numbers",
                  "putstr(s); of lib/print.b writes it: b go FILE --with print"),
@@ -119,6 +127,7 @@ impl Warning {
                  "char(s, i) lchar(s, i, c) getchar() putchar(c) printn(n, b) exit(n)"),
             Warning::SwappedArguments =>
                 ("ar", "the arguments have another order", "printn(n, 10) char(s, i) lchar(s, i, c)"),
+            Warning::WrongBase => ("ar", "printn writes to a base from 2 to 10", "printn(n, 10)"),
             Warning::NoReturn =>
                 ("rt", "the value of @ is used, and @ returns none",
                  "return(x); in @ gives the value x; without it the value is 0"),
@@ -127,7 +136,8 @@ impl Warning {
             Warning::Unset =>
                 ("in", "@ is used here, and nothing has set it before",
                  "@ = 0; before this, or the value that it begins with"),
-            Warning::UnsetVector => ("in", "@ is used as a vector here, and has no words", "auto @ 10; has @[0] to @[10]"),
+            Warning::UnsetVector =>
+                ("in", "@ is used as a vector here, and has no words", "auto @ 10; has @[0] to @[10]"),
             Warning::HidesExternal =>
                 ("hi", "this @ hides the external of line %", "extrn @; is the external; or take another name"),
             Warning::HidesLibrary =>

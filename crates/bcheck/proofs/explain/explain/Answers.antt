@@ -3,7 +3,7 @@ use Rattle.bsources.specs.Files.{files_shown}
 use Rattle.bcheck.specs.Checks.{status_told}
 use Rattle.bcheck.specs.declared.form.FindingForm.TheVariants as form
 use Rattle.bcheck.proofs.AddedFindings.{all_findings, finding_more}
-use Rattle.bcheck.proofs.Reasons.{item_reason}
+use Rattle.bcheck.proofs.Reasons.{counts, item_reason}
 use Rattle.bcheck.proofs.explain.explain.Goals as goal
 use Rattle.bcheck.proofs.explain.explain.Goals.{in-Text+in_ok-write-in-Text, in-Json+in_ok-write-in-Json}
 
@@ -12,7 +12,8 @@ returns c =
     let found = vec_items c.in_ok-findings.findings in
     let all : c.loop-finding.finding-index ≡ length found =
     omega (arith, ap length c.as_slice-finding-items.ensures.value, c.loop-finding-test.false, c.loop-finding.auto.finding-index-end) in
-    all_findings c.args.asked.form c.args.source.edition (status_told c.args.judgement.now.verdict) (files_shown c.args.asked.files) c.args.source.text.now _ _ _ c.in_ok-findings.ensures.one all c.loop-finding.invariant
+    all_findings c.args.asked.form c.args.source.edition (status_told c.args.judgement.now.verdict) (files_shown c.args.asked.files) c.args.source.text.now _ _ (length found)
+    (counts c.args.source.edition c.args.source.text.now c.args.judgement.now.verdict (length found) c.requires.judged c.in_ok-findings.ensures.count) all c.loop-finding.invariant
 
 pub loop-finding-preserved : goal.loop-finding-preserved
 loop-finding-preserved c =

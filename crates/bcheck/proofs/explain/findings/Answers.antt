@@ -1,14 +1,23 @@
-use Rattle.std.proofs.Common.{ap, subst, vec_items}
-use Rattle.bcheck.specs.Checks.{Judged, status_told}
-use Rattle.bcheck.proofs.Reasons.{clean_reasons, every_ok}
+use Rattle.std.proofs.Common.{subst, vec_items}
+use Rattle.bcheck.specs.Checks.{Judged}
+use Rattle.btools.proofs.Reading.{if_ok}
+use Rattle.bcheck.proofs.CheckSteps.{fault_line}
+use Rattle.bcheck.proofs.Reasons.{clean_reasons, every_ok, faulty_reason, one_reasoned}
 use Rattle.bcheck.proofs.explain.findings.Goals as goal
 
-pub returns-in-None-clause-one : goal.returns-in-None-clause-one
-returns-in-None-clause-one c = every_ok c.warnings.result _ (λ found other. absurd (other (ap status_told (c.in_ok-error.ensures.none c.in-None.is))))
+pub fault_of-requires : goal.fault_of-requires
+fault_of-requires c = fault_line c.args.source.edition c.args.source.text.now _ c.args.judgement.now.verdict _ c.in-Faulty.is c.requires.stop
 
-pub returns-in-None-clause-reasons : goal.returns-in-None-clause-reasons
-returns-in-None-clause-reasons c =
+pub returns-in-Clean-clause-reasons : goal.returns-in-Clean-clause-reasons
+returns-in-Clean-clause-reasons c =
     let edition = c.args.source.edition in
     let source = c.args.source.text.now in
-    let clean = c.in_ok-error.ensures.none c.in-None.is in
-    every_ok c.warnings.result _ (λ found. clean_reasons edition source (subst (λ v. Judged edition source v) clean c.requires.judged) (vec_items found))
+    every_ok c.warnings.result _ (λ found. clean_reasons edition source (subst (λ v. Judged edition source v) c.in-Clean.is c.requires.judged) (vec_items found))
+
+pub returns-in-Ok-clause-reasons : goal.returns-in-Ok-clause-reasons
+returns-in-Ok-clause-reasons c =
+    let edition = c.args.source.edition in
+    let source = c.args.source.text.now in
+    let error = c.in-Ok.error in
+    let reason = faulty_reason edition source c.args.judgement.now.verdict _ _ error c.in-Faulty.is c.requires.judged c.requires.stop c.in-Ok.ensures in
+    if_ok c.alone.result _ _ (λ found e. one_reasoned edition source (vec_items found) error e reason) c.alone.ensures

@@ -1,1 +1,1 @@
-main() { repeat { putchar('r'); exit(); } }
+main() { auto c; c = 'k'; switch c { case 'a' :: 'z': putchar('l'); } }

@@ -1,1 +1,1 @@
-main() while(1) { putchar('r'); exit(); }
+main() { auto c; c = 'k'; if(c >= 'a' & c <= 'z') putchar('l'); }

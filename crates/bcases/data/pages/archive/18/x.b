@@ -1,1 +1,1 @@
-n -5; main() { extrn n; printn(n, 10); }
+start: main() { putchar('m'); }

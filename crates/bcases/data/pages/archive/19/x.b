@@ -1,1 +1,1 @@
-n 65531; main() { extrn n; printn(n, 10); }
+main() { start: putchar('m'); }

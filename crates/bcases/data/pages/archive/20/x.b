@@ -1,1 +1,1 @@
-main() printn(09 + 010, 10);
+main() { repeat { putchar('r'); exit(); } }

@@ -1,1 +1,1 @@
-main() printn(9 + 010, 10);
+main() while(1) { putchar('r'); exit(); }

@@ -1,1 +1,1 @@
-main() printn((6 | 3) - (6 & 3), 10);
+n 65531; main() { extrn n; printn(n, 10); }

@@ -1,1 +1,1 @@
-main() { auto linecount; linecount = 7; printn(linecount, 10); }
+main() printn(09 + 010, 10);

@@ -1,1 +1,1 @@
-main() { auto lines; lines = 7; printn(lines, 10); }
+main() printn(9 + 010, 10);

@@ -1,1 +1,1 @@
-main() { extrn wr.unit; wr.unit = 1; putchar('w'); }
+main() printn(6 ^ 3, 10);

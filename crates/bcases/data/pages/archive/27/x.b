@@ -1,1 +1,1 @@
-main() putchar('w');
+main() printn((6 | 3) - (6 & 3), 10);

@@ -1,7 +1,6 @@
 main() {
-    auto i;
-    /* count from 1 to 3
-    i = 1;
-    while(i <= 3)
-        printn(i++, 10);
+    auto age;
+    putstr("Your age?*n");
+    getnum(&age);
+    printn(age + 1, 10);
 }

@@ -1,5 +1,7 @@
 main() {
     auto i;
-    i=-1;
-    printn(i, 10);
+    /* count from 1 to 3
+    i = 1;
+    while(i <= 3)
+        printn(i++, 10);
 }

@@ -1,6 +1,5 @@
-sum(a, b) {
-    auto c;
-    c = a + b;
+main() {
+    auto i;
+    i=-1;
+    printn(i, 10);
 }
-main()
-    printn(sum(2, 3), 10);

@@ -1,5 +1,6 @@
-greet(n)
-    while(n-- > 0)
-        putchar('!');
+sum(a, b) {
+    auto c;
+    c = a + b;
+}
 main()
-    greet(3, '?');
+    printn(sum(2, 3), 10);

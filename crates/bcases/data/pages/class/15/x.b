@@ -1,6 +1,5 @@
-main() {
-    auto x;
-    x = getchar();
-    if(x == 'a') {
-        putchar('b');
-}
+greet(n)
+    while(n-- > 0)
+        putchar('!');
+main()
+    greet(3, '?');

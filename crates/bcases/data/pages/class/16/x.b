@@ -1,5 +1,6 @@
 main() {
-    auto i;
-    for(i = 0; i < 3; i++)
-        printn(i, 10);
+    auto x;
+    x = getchar();
+    if(x == 'a') {
+        putchar('b');
 }

@@ -1,5 +1,5 @@
 main() {
     auto i;
-    while(i < 3)
-        printn(i++, 10);
+    for(i = 0; i < 3; i++)
+        printn(i, 10);
 }

@@ -1,6 +1,6 @@
 main() {
-    auto i;
-    i = 0;
-    while(i < 3);
-        printn(i++, 10);
+    auto c;
+    c = getchar();
+    if(c == 'y') putchar('1');
+    elif(c == 'n') putchar('0');
 }

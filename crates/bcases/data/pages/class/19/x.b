@@ -1,6 +1,7 @@
 main() {
-    auto i;
-    i = 3;
-    if(i & 1 == 1)
-        putchar('o');
+    auto s, i, c;
+    s = "abc";
+    i = 0;
+    while(c = char(s, i++))
+        putchar(c);
 }

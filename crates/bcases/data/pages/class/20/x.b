@@ -1,3 +1,5 @@
 main() {
-    putchar('\n');
+    auto i;
+    while(i < 3)
+        printn(i++, 10);
 }

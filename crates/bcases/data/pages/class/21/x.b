@@ -1,6 +1,6 @@
 main() {
-    auto s;
-    s = "abc";
-    if(s == "abc")
-        putchar('y');
+    auto i;
+    i = 0;
+    while(i < 3);
+        printn(i++, 10);
 }

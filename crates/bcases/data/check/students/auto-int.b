@@ -1,0 +1,5 @@
+main() {
+    auto int i;
+    i = 5;
+    printn(i, 10);
+}

@@ -1,0 +1,5 @@
+main() {
+    auto n;
+    n = 255;
+    printn(n, 16);
+}

@@ -1,0 +1,7 @@
+main() {
+    auto c;
+    c = getchar();
+    switch c {
+        case 1 - 5: putchar('L');
+    }
+}

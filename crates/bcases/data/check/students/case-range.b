@@ -1,0 +1,6 @@
+main() {
+    auto c;
+    switch c = getchar() {
+        case 'A' :: 'Z': putchar('L');
+    }
+}

@@ -1,0 +1,3 @@
+enum { RED, GREEN };
+
+main() printn(RED, 10);

@@ -1,0 +1,3 @@
+%print
+
+main() printf("hi*n");

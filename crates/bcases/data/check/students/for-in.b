@@ -1,0 +1,5 @@
+main() {
+    for i in range(10) {
+        printn(i, 10);
+    }
+}

@@ -1,0 +1,3 @@
+main() {
+    foreach(x in "abc") putchar(x);
+}

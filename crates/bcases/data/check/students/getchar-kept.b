@@ -1,0 +1,8 @@
+main() {
+    auto c;
+    c = getchar();
+    while(c) {
+        putchar(c);
+        c = getchar();
+    }
+}

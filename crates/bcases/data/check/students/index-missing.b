@@ -1,0 +1,6 @@
+main() {
+    auto s;
+    s = "cat";
+    putchar(char(s));
+    putchar();
+}

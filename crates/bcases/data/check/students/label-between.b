@@ -1,0 +1,5 @@
+again:
+main() {
+    putchar('a');
+    goto again;
+}

@@ -1,0 +1,3 @@
+start: main() {
+    putchar('a');
+}

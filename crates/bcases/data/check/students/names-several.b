@@ -1,0 +1,7 @@
+count 5;
+
+main() {
+    extrn cuont;
+    show(cuont);
+    pritn(cuont, 10);
+}

@@ -1,0 +1,4 @@
+main() {
+    extrn argv;
+    printn(argv[0], 10);
+}

@@ -1,0 +1,3 @@
+main() {
+    printn(argv[1], 10);
+}

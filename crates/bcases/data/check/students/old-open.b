@@ -1,0 +1,5 @@
+main() {
+    auto f;
+    f = open("data", 0);
+    printn(f, 10);
+}

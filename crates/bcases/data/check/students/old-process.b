@@ -1,0 +1,6 @@
+main() {
+    auto n;
+    n = fork();
+    if(n == 0) execl("ls");
+    wait();
+}

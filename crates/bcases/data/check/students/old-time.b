@@ -1,0 +1,5 @@
+main() {
+    auto now 1;
+    time(now);
+    printn(now[0], 10);
+}

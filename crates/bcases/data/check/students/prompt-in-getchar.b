@@ -1,0 +1,5 @@
+main() {
+    auto c;
+    c = getchar("A letter: ");
+    putchar(c, '*n');
+}

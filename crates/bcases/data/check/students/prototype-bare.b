@@ -1,0 +1,6 @@
+main() {
+    hello();
+}
+bye();
+hello() putchar('h');
+bye() putchar('b');

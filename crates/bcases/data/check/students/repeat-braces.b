@@ -1,0 +1,8 @@
+main() {
+    auto i;
+    i = 0;
+    repeat {
+        putchar('a');
+        i++;
+    } until(i == 3);
+}

@@ -1,0 +1,5 @@
+main() {
+    char *s;
+    s = "abc";
+    putchar(char(s, 0));
+}

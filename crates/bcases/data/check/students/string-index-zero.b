@@ -1,0 +1,6 @@
+main() {
+    auto s, i;
+    s = "abc";
+    i = 0;
+    while(s[i] != 0) putchar(s[i++]);
+}

@@ -1,0 +1,8 @@
+main() {
+    auto s;
+    s = "abc";
+    while(*s) {
+        putchar(*s);
+        s++;
+    }
+}

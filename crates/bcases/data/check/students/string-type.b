@@ -1,0 +1,5 @@
+main() {
+    string s;
+    s = "abc";
+    putchar(char(s, 0));
+}

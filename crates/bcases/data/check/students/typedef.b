@@ -1,0 +1,3 @@
+typedef int word;
+
+main() putchar('a');

@@ -1,0 +1,1 @@
+main() { auto linecount; linecount = 7; printn(linecount, 10); }

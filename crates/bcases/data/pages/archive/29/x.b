@@ -1,0 +1,1 @@
+main() { auto lines; lines = 7; printn(lines, 10); }

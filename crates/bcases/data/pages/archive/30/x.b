@@ -1,0 +1,1 @@
+main() { extrn wr.unit; wr.unit = 1; putchar('w'); }
