@@ -64,7 +64,7 @@ fn push_heading(text: &mut Text, style: CountStyle) -> Result<(), AllocError>
 {
     match style {
         CountStyle::Table => text.push(HEADING),
-        CountStyle::Json => text.push(b""),
+        CountStyle::Json => Ok(()),
     }
 }
 
@@ -103,7 +103,7 @@ fn push_file_row(text: &mut Text, beyond: Option<FileLine<'_>>) -> Result<(), Al
             push_file(text, at.file.as_bytes())?;
             text.push(b"\n")
         }
-        _ => text.push(b""),
+        _ => Ok(()),
     }
 }
 
@@ -140,7 +140,7 @@ fn push_object(text: &mut Text, at: FileLine<'_>, count: LineCount) -> Result<()
     ensures { OnOk result (text.new ≡ text.old ++ object_text (line_shown at.entry) count) }
 {
     let Some(times) = count.times else {
-        return text.push(b"");
+        return Ok(());
     };
     text.push(b"{\"file\":")?;
     push_quoted(text, at.file.as_bytes())?;
@@ -162,7 +162,7 @@ fn push_total(text: &mut Text, style: CountStyle, made: u64) -> Result<(), Alloc
             text.push_right_number(28, made)?;
             text.push(b"\n")
         }
-        CountStyle::Json => text.push(b""),
+        CountStyle::Json => Ok(()),
     }
 }
 
@@ -172,7 +172,7 @@ fn push_hint(text: &mut Text, style: CountStyle, lines: &[LineCount]) -> Result<
 {
     match style {
         CountStyle::Table if lines_with_code(lines) == 1 => text.push(HINT),
-        CountStyle::Table | CountStyle::Json => text.push(b""),
+        CountStyle::Table | CountStyle::Json => Ok(()),
     }
 }
 

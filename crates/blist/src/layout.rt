@@ -89,7 +89,7 @@ fn push_dots(text: &mut Text, words: u16) -> Result<(), AllocError>
     if words > SHOWN {
         text.push(b" ..")
     } else {
-        text.push(b"")
+        Ok(())
     }
 }
 

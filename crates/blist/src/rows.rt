@@ -154,7 +154,7 @@ fn push_named(text: &mut Text, named: Named) -> Result<(), AllocError>
     ensures { OnOk result (text.new ≡ text.old ++ named_text named) }
 {
     match named {
-        Named::Nothing => text.push(b""),
+        Named::Nothing => Ok(()),
         Named::Name(name) => text.push(name.as_bytes()),
         Named::First(name) => {
             text.push(name.as_bytes())?;

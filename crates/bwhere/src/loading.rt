@@ -22,7 +22,7 @@ pub(crate) fn push_unloaded(
             b"  means: the data end would be above 65536, or there are more than 65535 labels\n",
         ),
         LoadFault::NoMain => text.push(b"  means: there is no function main\n"),
-        LoadFault::Memory => text.push(b""),
+        LoadFault::Memory => Ok(()),
     }
 }
 
