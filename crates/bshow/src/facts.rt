@@ -208,7 +208,7 @@ fn push_word(text: &mut Text, address: u32, word: u16) -> Result<(), AllocError>
     ensures { OnOk result (text.new ≡ text.old ++ some_word address word) }
 {
     if word == 0 {
-        return text.push(b"");
+        return Ok(());
     }
     text.push_number(u64::from(address))?;
     text.push(b",")?;

@@ -193,7 +193,7 @@ fn push_heard(heard: &mut Text, hears: bool, word: u16) -> Result<(), AllocError
     if hears {
         heard.push(&[(word % 256) as u8])
     } else {
-        heard.push(b"")
+        Ok(())
     }
 }
 
