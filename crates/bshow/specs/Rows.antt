@@ -11,6 +11,7 @@ use Rattle.btools.specs.Functions.{Placed, entries_of, function_with, functions_
 use Rattle.btools.specs.ProgramLines.{FunctionLines, line_at, lined_functions, lines_shown}
 use Rattle.btools.specs.declared.tables.Tables.{Tables}
 use Rattle.btrace.specs.RowTexts.{instr_in, instr_text, name_in, signed_text}
+use Rattle.btrace.specs.Traces.{stored_between}
 use Rattle.bwatch.specs.Sights.{Sight, Sights}
 use Rattle.bshow.specs.Escapes.{escaped}
 use Rattle.bshow.specs.declared.rows.TheConstants.{GETCHAR}
@@ -85,12 +86,10 @@ hears_next code s = option_map_or (λ call. is_getchar s.operands (instr_of code
 abbrev pub heard_byte : (hears : Bool) → (operands : List ℕ) → List ℕ
 heard_byte hears operands = if hears then slice_index operands 0 % 256 ∷ [] else []
 
--- what a step did is told where the run goes on after it
-abbrev pub if_on : {A : Type 0} → Sight → List A → List A
-if_on after xs = option_map_or (λ call. xs) after.call []
-
+-- what a step heard; one that ends the run heard nothing
 abbrev pub heard_between : LinedCode → (before after : Sight) → List ℕ
-heard_between code before after = if_on after (heard_byte (hears_next code before) after.operands)
+heard_between code before after =
+    option_map_or (λ call. heard_byte (hears_next code before) after.operands) after.call []
 
 -- the cells of a step, before it and after it
 abbrev pub sight_cells : LinedCode → (number : ℕ) → Sight → List ℕ
@@ -103,7 +102,7 @@ stored_cells addresses before after read written =
 
 abbrev pub step_cells : LinedCode → (before after : Sight) → List ℕ
 step_cells code before after =
-    stored_cells (if_on after before.storing) before.store after.store (heard_between code before after)
+    stored_cells (stored_between before after) before.store after.store (heard_between code before after)
     (drop (length before.output) after.output)
 
 -- the row of a step, by the number of those before it
