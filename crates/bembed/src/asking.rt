@@ -40,13 +40,9 @@ pub extern "C" fn b_check(
     let Some(edition) = edition_of(edition) else {
         return refuse(written);
     };
-    let mut out = Room::new(out);
-    let status = check_alone(alloc, source, edition, &mut out);
-    *written = Written {
-        out: out.count,
-        line: 0,
-    };
-    status
+    written.line = 0;
+    let mut out = Room::new(out, &mut written.out);
+    check_alone(alloc, source, edition, &mut out)
 }
 
 // Checks a source without files that follow it.
@@ -98,11 +94,9 @@ pub extern "C" fn b_format(
     let Some(edition) = edition_of(edition) else {
         return refuse(written);
     };
-    let mut out = Room::new(out);
-    let mut line = Room::new(line);
-    let status = format(&House, alloc, source, edition, false, &mut out, &mut line);
-    *written = Written::of(&out, &line);
-    status
+    let mut out = Room::new(out, &mut written.out);
+    let mut line = Room::new(line, &mut written.line);
+    format(&House, alloc, source, edition, false, &mut out, &mut line)
 }
 
 /// Writes the version of the library, that of the program `b`.
@@ -112,11 +106,7 @@ pub extern "C" fn b_version(out: &mut [u8], written: &mut Written) -> u8
         (record { before = out.old; after = out.new; count = written.new.out })
         (record { before = []; after = []; count = written.new.line }) result }
 {
-    let mut out = Room::new(out);
-    let status = tell(VERSION.as_bytes(), status::DONE, &mut out);
-    *written = Written {
-        out: out.count,
-        line: 0,
-    };
-    status
+    written.line = 0;
+    let mut out = Room::new(out, &mut written.out);
+    tell(VERSION.as_bytes(), status::DONE, &mut out)
 }

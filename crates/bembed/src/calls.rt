@@ -52,12 +52,10 @@ pub extern "C" fn b_compile(
     let Some(edition) = edition_of(edition) else {
         return refuse(written);
     };
-    let mut out = Room::new(out);
-    let mut line = Room::new(line);
+    let mut out = Room::new(out, &mut written.out);
+    let mut line = Room::new(line, &mut written.line);
     let mut source = MemIn::new(source);
-    let status = compile_edition(alloc, &mut source, &mut out, &mut line, edition);
-    *written = Written::of(&out, &line);
-    status
+    compile_edition(alloc, &mut source, &mut out, &mut line, edition)
 }
 
 /// Runs a code text, as `run_text` does.
@@ -75,12 +73,10 @@ pub extern "C" fn b_run(
         (record { before = out.old; after = out.new; count = written.new.out })
         (record { before = line.old; after = line.new; count = written.new.line }) result }
 {
-    let mut out = Room::new(out);
-    let mut line = Room::new(line);
+    let mut out = Room::new(out, &mut written.out);
+    let mut line = Room::new(line, &mut written.line);
     let mut input = MemIn::new(input);
-    let status = run_text(alloc, code, &mut input, &mut out, &mut line, steps);
-    *written = Written::of(&out, &line);
-    status
+    run_text(alloc, code, &mut input, &mut out, &mut line, steps)
 }
 
 /// Runs a code text, as `b_run` does, and tells where it went wrong, as `locate_code` does.
@@ -98,12 +94,10 @@ pub extern "C" fn b_run_where(
         (record { before = out.old; after = out.new; count = written.new.out })
         (record { before = line.old; after = line.new; count = written.new.line }) result }
 {
-    let mut out = Room::new(out);
-    let mut line = Room::new(line);
+    let mut out = Room::new(out, &mut written.out);
+    let mut line = Room::new(line, &mut written.line);
     let mut input = MemIn::new(input);
-    let status = locate_code(alloc, code, &mut input, &mut out, &mut line, steps);
-    *written = Written::of(&out, &line);
-    status
+    locate_code(alloc, code, &mut input, &mut out, &mut line, steps)
 }
 
 /// Compiles a source and runs its program, as `go_edition` does.
@@ -128,11 +122,11 @@ pub extern "C" fn b_go(
     let Some(edition) = edition_of(edition) else {
         return refuse(written);
     };
-    let mut out = Room::new(out);
-    let mut line = Room::new(line);
+    let mut out = Room::new(out, &mut written.out);
+    let mut line = Room::new(line, &mut written.line);
     let mut source = MemIn::new(source);
     let mut input = MemIn::new(input);
-    let status = go_edition(
+    go_edition(
         alloc,
         &mut source,
         &mut input,
@@ -140,9 +134,7 @@ pub extern "C" fn b_go(
         &mut line,
         steps,
         edition,
-    );
-    *written = Written::of(&out, &line);
-    status
+    )
 }
 
 /// Writes a code text of edition 1 as one of edition 2, as `migrate` does.
@@ -158,10 +150,8 @@ pub extern "C" fn b_migrate(
         (record { before = out.old; after = out.new; count = written.new.out })
         (record { before = line.old; after = line.new; count = written.new.line }) result }
 {
-    let mut out = Room::new(out);
-    let mut line = Room::new(line);
+    let mut out = Room::new(out, &mut written.out);
+    let mut line = Room::new(line, &mut written.line);
     let mut code = MemIn::new(code);
-    let status = migrate(alloc, &mut code, &mut out, &mut line);
-    *written = Written::of(&out, &line);
-    status
+    migrate(alloc, &mut code, &mut out, &mut line)
 }

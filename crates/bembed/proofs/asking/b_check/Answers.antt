@@ -7,11 +7,11 @@ use Rattle.bembed.proofs.asking.b_check.Goals as goal
 pub returns : goal.returns
 returns c = record {
   checks = in_edition _ _ _ _ c.args.edition c.edition_of.result c.in-Some.edition c.edition_of.ensures (search rules) (record {
-    out_failures = c.check_alone-status.new.out.failures;
+    out_failures = c.check_alone.new.out.failures;
     out_filled = record { size = search rules; within = search rules; full = search rules };
-    no_line = record { same = refl; none = refl };
-    checks = into_room (λ o p. Checks (check_of c.in-Some.edition c.args.source.now o p c.check_alone-status.result))
-        c.new-out.result.room.now c.check_alone-status.new.out.room.now _ c.new-out.result.count c.new-out.result.failures _ _ _
-        c.new-out.ensures.empty (search rules) refl c.check_alone-status.ensures.checks;
+    no_line = record { same = refl; none = search rules };
+    checks = into_room (λ o p. Checks (check_of c.in-Some.edition c.args.source.now o p c.check_alone.result))
+        c.new-out.result.room.now c.check_alone.new.out.room.now _ c.new-out.result.count.now c.new-out.result.failures _ _ _
+        c.new-out.ensures.empty (search rules) (search rules) c.check_alone.ensures.checks;
   });
 }

@@ -7,13 +7,13 @@ use Rattle.bembed.proofs.asking.b_format.Goals as goal
 pub returns : goal.returns
 returns c = record {
   formats = in_edition _ _ _ _ c.args.edition c.edition_of.result c.in-Some.edition c.edition_of.ensures (search rules) (record {
-    out_failures = c.format-status.new.out.failures;
-    line_failures = c.format-status.new.diag.failures;
+    out_failures = c.format.new.out.failures;
+    line_failures = c.format.new.diag.failures;
     out_filled = record { size = search rules; within = search rules; full = search rules };
     line_filled = record { size = search rules; within = search rules; full = search rules };
-    formats = into_both (λ o p l m. Formats (format_of c.in-Some.edition c.args.source.now o p l m c.format-status.result))
-        c.new-out.result.room.now c.format-status.new.out.room.now _ c.new-out.result.count c.new-out.result.failures _ _ _
-        c.new-line.result.room.now c.format-status.new.diag.room.now _ c.new-line.result.count c.new-line.result.failures _ _ _
-        c.new-out.ensures.empty c.new-line.ensures.empty (search rules) (search rules) c.of.ensures.out c.of.ensures.line c.format-status.ensures.formats;
+    formats = into_both (λ o p l m. Formats (format_of c.in-Some.edition c.args.source.now o p l m c.format.result))
+        c.new-out.result.room.now c.format.new.out.room.now _ c.new-out.result.count.now c.new-out.result.failures _ _ _
+        c.new-line.result.room.now c.format.new.diag.room.now _ c.new-line.result.count.now c.new-line.result.failures _ _ _
+        c.new-out.ensures.empty c.new-line.ensures.empty (search rules) (search rules) (search rules) (search rules) c.format.ensures.formats;
   });
 }

@@ -8,20 +8,20 @@ use Rattle.bembed.proofs.calls.b_compile.Goals as goal
 pub returns : goal.returns
 returns c = record {
   compiles = in_edition _ _ _ _ c.args.edition c.edition_of.result c.in-Some.edition c.edition_of.ensures (search rules) (record {
-    source_after = c.compile_edition-status.new.source;
-    out_failures = c.compile_edition-status.new.code.failures;
-    line_failures = c.compile_edition-status.new.diag.failures;
+    source_after = c.compile_edition.new.source;
+    out_failures = c.compile_edition.new.code.failures;
+    line_failures = c.compile_edition.new.diag.failures;
     out_filled = record { size = search rules; within = search rules; full = search rules };
     line_filled = record { size = search rules; within = search rules; full = search rules };
-    compiles = into_rooms (λ i o p l m. Compiles (run_over c.in-Some.edition i (incoming_of c.compile_edition-status.new.source) o p l m c.compile_edition-status.result))
+    compiles = into_rooms (λ i o p l m. Compiles (run_over c.in-Some.edition i (incoming_of c.compile_edition.new.source) o p l m c.compile_edition.result))
         c.new-source.result c.args.source.now
-        c.new-out.result.room.now c.compile_edition-status.new.code.room.now _ c.new-out.result.count c.new-out.result.failures _ _ _
-        c.new-line.result.room.now c.compile_edition-status.new.diag.room.now _ c.new-line.result.count c.new-line.result.failures _ _ _
-        c.new-source.ensures c.new-out.ensures.empty c.new-line.ensures.empty (search rules) (search rules) c.of.ensures.out c.of.ensures.line c.compile_edition-status.ensures.compiles;
-    headline = into_rooms (λ i o p l m. CompileHeadline (run_over c.in-Some.edition i (incoming_of c.compile_edition-status.new.source) o p l m c.compile_edition-status.result))
+        c.new-out.result.room.now c.compile_edition.new.code.room.now _ c.new-out.result.count.now c.new-out.result.failures _ _ _
+        c.new-line.result.room.now c.compile_edition.new.diag.room.now _ c.new-line.result.count.now c.new-line.result.failures _ _ _
+        c.new-source.ensures c.new-out.ensures.empty c.new-line.ensures.empty (search rules) (search rules) (search rules) (search rules) c.compile_edition.ensures.compiles;
+    headline = into_rooms (λ i o p l m. CompileHeadline (run_over c.in-Some.edition i (incoming_of c.compile_edition.new.source) o p l m c.compile_edition.result))
         c.new-source.result c.args.source.now
-        c.new-out.result.room.now c.compile_edition-status.new.code.room.now _ c.new-out.result.count c.new-out.result.failures _ _ _
-        c.new-line.result.room.now c.compile_edition-status.new.diag.room.now _ c.new-line.result.count c.new-line.result.failures _ _ _
-        c.new-source.ensures c.new-out.ensures.empty c.new-line.ensures.empty (search rules) (search rules) c.of.ensures.out c.of.ensures.line c.compile_edition-status.ensures.headline;
+        c.new-out.result.room.now c.compile_edition.new.code.room.now _ c.new-out.result.count.now c.new-out.result.failures _ _ _
+        c.new-line.result.room.now c.compile_edition.new.diag.room.now _ c.new-line.result.count.now c.new-line.result.failures _ _ _
+        c.new-source.ensures c.new-out.ensures.empty c.new-line.ensures.empty (search rules) (search rules) (search rules) (search rules) c.compile_edition.ensures.headline;
   });
 }

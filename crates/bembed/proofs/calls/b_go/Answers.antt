@@ -10,27 +10,27 @@ use Rattle.bembed.proofs.calls.b_go.Goals as goal
 pub returns : goal.returns
 returns c = record {
   goes = in_edition _ _ _ _ c.args.edition c.edition_of.result c.in-Some.edition c.edition_of.ensures (search rules) (record {
-    source_after = c.go_edition-status.new.source;
-    input_after = c.go_edition-status.new.input;
-    out_failures = c.go_edition-status.new.out.failures;
-    line_failures = c.go_edition-status.new.diag.failures;
+    source_after = c.go_edition.new.source;
+    input_after = c.go_edition.new.input;
+    out_failures = c.go_edition.new.out.failures;
+    line_failures = c.go_edition.new.diag.failures;
     out_filled = record { size = search rules; within = search rules; full = search rules };
     line_filled = record { size = search rules; within = search rules; full = search rules };
-    goes = into_rooms (λ i o p l m. GoesOff c.in-Some.edition c.args.steps (all_of c.args.source.now) (incoming_of c.go_edition-status.new.source) (run_ends i (incoming_of c.go_edition-status.new.input) o p l m) c.go_edition-status.result)
+    goes = into_rooms (λ i o p l m. GoesOff c.in-Some.edition c.args.steps (all_of c.args.source.now) (incoming_of c.go_edition.new.source) (run_ends i (incoming_of c.go_edition.new.input) o p l m) c.go_edition.result)
         c.new-input.result c.args.input.now
-        c.new-out.result.room.now c.go_edition-status.new.out.room.now _ c.new-out.result.count c.new-out.result.failures _ _ _
-        c.new-line.result.room.now c.go_edition-status.new.diag.room.now _ c.new-line.result.count c.new-line.result.failures _ _ _
-        c.new-input.ensures c.new-out.ensures.empty c.new-line.ensures.empty (search rules) (search rules) c.of.ensures.out c.of.ensures.line
-        (from_memory (λ s. GoesOff c.in-Some.edition c.args.steps s (incoming_of c.go_edition-status.new.source) (run_ends (incoming_of c.new-input.result) (incoming_of c.go_edition-status.new.input)
-        (room_of c.new-out.result.room.now c.new-out.result.count c.new-out.result.failures) (room_of c.go_edition-status.new.out.room.now c.go_edition-status.new.out.count c.go_edition-status.new.out.failures)
-        (room_of c.new-line.result.room.now c.new-line.result.count c.new-line.result.failures) (room_of c.go_edition-status.new.diag.room.now c.go_edition-status.new.diag.count c.go_edition-status.new.diag.failures)) c.go_edition-status.result) c.new-source.result c.args.source.now c.new-source.ensures c.go_edition-status.ensures.goes);
-    headline = into_rooms (λ i o p l m. Headline c.in-Some.edition c.args.steps (all_of c.args.source.now) (incoming_of c.go_edition-status.new.source) (run_ends i (incoming_of c.go_edition-status.new.input) o p l m) c.go_edition-status.result)
+        c.new-out.result.room.now c.go_edition.new.out.room.now _ c.new-out.result.count.now c.new-out.result.failures _ _ _
+        c.new-line.result.room.now c.go_edition.new.diag.room.now _ c.new-line.result.count.now c.new-line.result.failures _ _ _
+        c.new-input.ensures c.new-out.ensures.empty c.new-line.ensures.empty (search rules) (search rules) (search rules) (search rules)
+        (from_memory (λ s. GoesOff c.in-Some.edition c.args.steps s (incoming_of c.go_edition.new.source) (run_ends (incoming_of c.new-input.result) (incoming_of c.go_edition.new.input)
+        (room_of c.new-out.result.room.now c.new-out.result.count.now c.new-out.result.failures) (room_of c.go_edition.new.out.room.now c.go_edition.new.out.count.now c.go_edition.new.out.failures)
+        (room_of c.new-line.result.room.now c.new-line.result.count.now c.new-line.result.failures) (room_of c.go_edition.new.diag.room.now c.go_edition.new.diag.count.now c.go_edition.new.diag.failures)) c.go_edition.result) c.new-source.result c.args.source.now c.new-source.ensures c.go_edition.ensures.goes);
+    headline = into_rooms (λ i o p l m. Headline c.in-Some.edition c.args.steps (all_of c.args.source.now) (incoming_of c.go_edition.new.source) (run_ends i (incoming_of c.go_edition.new.input) o p l m) c.go_edition.result)
         c.new-input.result c.args.input.now
-        c.new-out.result.room.now c.go_edition-status.new.out.room.now _ c.new-out.result.count c.new-out.result.failures _ _ _
-        c.new-line.result.room.now c.go_edition-status.new.diag.room.now _ c.new-line.result.count c.new-line.result.failures _ _ _
-        c.new-input.ensures c.new-out.ensures.empty c.new-line.ensures.empty (search rules) (search rules) c.of.ensures.out c.of.ensures.line
-        (from_memory (λ s. Headline c.in-Some.edition c.args.steps s (incoming_of c.go_edition-status.new.source) (run_ends (incoming_of c.new-input.result) (incoming_of c.go_edition-status.new.input)
-        (room_of c.new-out.result.room.now c.new-out.result.count c.new-out.result.failures) (room_of c.go_edition-status.new.out.room.now c.go_edition-status.new.out.count c.go_edition-status.new.out.failures)
-        (room_of c.new-line.result.room.now c.new-line.result.count c.new-line.result.failures) (room_of c.go_edition-status.new.diag.room.now c.go_edition-status.new.diag.count c.go_edition-status.new.diag.failures)) c.go_edition-status.result) c.new-source.result c.args.source.now c.new-source.ensures c.go_edition-status.ensures.headline);
+        c.new-out.result.room.now c.go_edition.new.out.room.now _ c.new-out.result.count.now c.new-out.result.failures _ _ _
+        c.new-line.result.room.now c.go_edition.new.diag.room.now _ c.new-line.result.count.now c.new-line.result.failures _ _ _
+        c.new-input.ensures c.new-out.ensures.empty c.new-line.ensures.empty (search rules) (search rules) (search rules) (search rules)
+        (from_memory (λ s. Headline c.in-Some.edition c.args.steps s (incoming_of c.go_edition.new.source) (run_ends (incoming_of c.new-input.result) (incoming_of c.go_edition.new.input)
+        (room_of c.new-out.result.room.now c.new-out.result.count.now c.new-out.result.failures) (room_of c.go_edition.new.out.room.now c.go_edition.new.out.count.now c.go_edition.new.out.failures)
+        (room_of c.new-line.result.room.now c.new-line.result.count.now c.new-line.result.failures) (room_of c.go_edition.new.diag.room.now c.go_edition.new.diag.count.now c.go_edition.new.diag.failures)) c.go_edition.result) c.new-source.result c.args.source.now c.new-source.ensures c.go_edition.ensures.headline);
   });
 }

@@ -8,15 +8,15 @@ use Rattle.bembed.proofs.calls.b_run.Goals as goal
 pub returns : goal.returns
 returns c = record {
   runs = record {
-    input_after = c.run_text-status.new.input;
-    out_failures = c.run_text-status.new.out.failures;
-    line_failures = c.run_text-status.new.diag.failures;
+    input_after = c.run_text.new.input;
+    out_failures = c.run_text.new.out.failures;
+    line_failures = c.run_text.new.diag.failures;
     out_filled = record { size = search rules; within = search rules; full = search rules };
     line_filled = record { size = search rules; within = search rules; full = search rules };
-    runs = into_rooms (λ i o p l m. RunsText c.args.steps c.args.code.now (run_ends i (incoming_of c.run_text-status.new.input) o p l m) c.run_text-status.result)
+    runs = into_rooms (λ i o p l m. RunsText c.args.steps c.args.code.now (run_ends i (incoming_of c.run_text.new.input) o p l m) c.run_text.result)
         c.new-input.result c.args.input.now
-        c.new-out.result.room.now c.run_text-status.new.out.room.now _ c.new-out.result.count c.new-out.result.failures _ _ _
-        c.new-line.result.room.now c.run_text-status.new.diag.room.now _ c.new-line.result.count c.new-line.result.failures _ _ _
-        c.new-input.ensures c.new-out.ensures.empty c.new-line.ensures.empty (search rules) (search rules) c.of.ensures.out c.of.ensures.line c.run_text-status.ensures.runs;
+        c.new-out.result.room.now c.run_text.new.out.room.now _ c.new-out.result.count.now c.new-out.result.failures _ _ _
+        c.new-line.result.room.now c.run_text.new.diag.room.now _ c.new-line.result.count.now c.new-line.result.failures _ _ _
+        c.new-input.ensures c.new-out.ensures.empty c.new-line.ensures.empty (search rules) (search rules) (search rules) (search rules) c.run_text.ensures.runs;
   };
 }

@@ -8,15 +8,15 @@ use Rattle.bembed.proofs.calls.b_run_where.Goals as goal
 pub returns : goal.returns
 returns c = record {
   locates = record {
-    input_after = c.locate_code-status.new.input;
-    out_failures = c.locate_code-status.new.out.failures;
-    line_failures = c.locate_code-status.new.diag.failures;
+    input_after = c.locate_code.new.input;
+    out_failures = c.locate_code.new.out.failures;
+    line_failures = c.locate_code.new.diag.failures;
     out_filled = record { size = search rules; within = search rules; full = search rules };
     line_filled = record { size = search rules; within = search rules; full = search rules };
-    locates = into_rooms (λ i o p l m. LocatesCode c.args.steps c.args.code.now (run_ends i (incoming_of c.locate_code-status.new.input) o p l m) c.locate_code-status.result)
+    locates = into_rooms (λ i o p l m. LocatesCode c.args.steps c.args.code.now (run_ends i (incoming_of c.locate_code.new.input) o p l m) c.locate_code.result)
         c.new-input.result c.args.input.now
-        c.new-out.result.room.now c.locate_code-status.new.out.room.now _ c.new-out.result.count c.new-out.result.failures _ _ _
-        c.new-line.result.room.now c.locate_code-status.new.diag.room.now _ c.new-line.result.count c.new-line.result.failures _ _ _
-        c.new-input.ensures c.new-out.ensures.empty c.new-line.ensures.empty (search rules) (search rules) c.of.ensures.out c.of.ensures.line c.locate_code-status.ensures.locates;
+        c.new-out.result.room.now c.locate_code.new.out.room.now _ c.new-out.result.count.now c.new-out.result.failures _ _ _
+        c.new-line.result.room.now c.locate_code.new.diag.room.now _ c.new-line.result.count.now c.new-line.result.failures _ _ _
+        c.new-input.ensures c.new-out.ensures.empty c.new-line.ensures.empty (search rules) (search rules) (search rules) (search rules) c.locate_code.ensures.locates;
   };
 }
