@@ -30,7 +30,7 @@ _b() {
     fi
     case ${COMP_WORDS[1]} in
     compile) words='--edition --with --help' ;;
-    run) words='--steps --no-limit --help' ;;
+    run) words='--steps --no-limit --where --help' ;;
     go) words='--edition --steps --no-limit --where --with --help' ;;
     migrate) words='--help' ;;
     list) words='--edition --with --help' ;;

@@ -30,6 +30,7 @@ complete -c b -n '__fish_seen_subcommand_from compile' -l edition -x -a '1 2' -d
 complete -c b -n '__fish_seen_subcommand_from compile' -l with -r -a 'input numbers print strings test vectors' -d 'Puts the source in LIB after FILE; as often as wanted'
 complete -c b -n '__fish_seen_subcommand_from run' -l steps -x -d 'At most N steps, 1 to 4000000000; 10000000 if not given'
 complete -c b -n '__fish_seen_subcommand_from run' -l no-limit -d 'Makes as many steps as the run takes'
+complete -c b -n '__fish_seen_subcommand_from run' -l where -d 'Tells where the text or its run went wrong, and why'
 complete -c b -n '__fish_seen_subcommand_from go' -l edition -x -a '1 2' -d 'The edition of the source, 1 or 2; 1 if not given'
 complete -c b -n '__fish_seen_subcommand_from go' -l steps -x -d 'At most N steps, 1 to 4000000000; 10000000 if not given'
 complete -c b -n '__fish_seen_subcommand_from go' -l no-limit -d 'Makes as many steps as the run takes'

@@ -12,7 +12,7 @@ ECHO = b"main() { auto c; while((c = getchar()) != '*e') putchar(c); exit(3); }"
 STUCK = b"trap sk\nat     in main     place    0  line    2  step 1\n    p\n  means: too few operands\n"
 ONE_TOO_MANY = b"code 4\nat     line    4\n    E\n  wanted: an instruction, 3 of 3 of main\n"
 UNDEFINED = b"load 3\nat     line    3\n    x prnt\n  means: prnt is neither defined nor in the library\n"
-COMMANDS = ("go", "run", "compile", "check", "format")
+COMMANDS = ("go", "run", "run_where", "compile", "check", "format")
 MOST = 2**64 - 1
 ROOM = 1 << 20
 
@@ -69,6 +69,9 @@ def asked(path):
     words = words[:-1] if words[-1] == "" else words
     command, editions, steps = words[0], [1], MOST
     source = path.with_suffix(".code" if command == "run" else ".b")
+    if command == "run" and "--where" in words:
+        command = "run_where"
+        words.remove("--where")
     rest = iter(words[1:])
     for word in rest:
         if word.startswith("--edition="):
@@ -87,9 +90,9 @@ def asked(path):
 def answer(command, text, given, edition, steps):
     if command == "go":
         return b._call(b._library.b_go, text, len(text), given, len(given), edition, steps, room=ROOM)
-    if command == "run":
-        return b._call(b._library.b_run, text, len(text), given, len(given), steps, room=ROOM)
     call = getattr(b._library, f"b_{command}")
+    if command in ("run", "run_where"):
+        return b._call(call, text, len(text), given, len(given), steps, room=ROOM, line_room=ROOM)
     return b._call(call, text, len(text), edition, room=ROOM, has_line=command != "check")
 
 

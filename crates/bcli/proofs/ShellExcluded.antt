@@ -16,7 +16,8 @@ use Rattle.blang.specs.Reports.{HasNotRun, Reported, RunEnds}
 use Rattle.brun.specs.OneRun.{nothing_written, one_run_ends, unread}
 use Rattle.brun.specs.Runs.{RunsText}
 use Rattle.brun.proofs.OneRun.{one_run}
-use Rattle.bcommand.specs.CommandLine.{Question, ask, asked, command_line, compile, go, run}
+use Rattle.bcommand.specs.CommandLine.{Question, ask, asked, command_line, compile, go, locate_code, run}
+use Rattle.bwhere.specs.Wheres.{LocatesCode}
 use Rattle.bcli.specs.declared.shelf.MemFile.{MemFile}
 use Rattle.bcli.specs.Shelves.{Holdings, holding}
 use Rattle.std.proofs.lemmas.List.Elements.{All-cons, All-head, All-nil, All-tail}
@@ -306,6 +307,10 @@ module _ (file : MemFile) where
   run_alone steps ends status (inl none) = inr (no_file ends status none)
   run_alone steps ends status (inr runs) = inl (subst (λ t. RunsText steps t ends status) runs.1.1 runs.2)
 
+  located_alone : (steps : ℕ) (ends : RunEnds) (status : ℕ) → Does (holding file) (locate_code file.name.now steps) ends status → LocatesCode steps file.text.now ends status ⊎ SaysNothing ends status 134
+  located_alone steps ends status (inl told) = inr (named ends status told)
+  located_alone steps ends status (inr locates) = inl (subst (λ t. LocatesCode steps t ends status) locates.1.1 locates.2)
+
   -- no file follows
   none_follow : (texts : List NamedText) → map (λ (it : NamedText). it.name) texts ≡ [] → texts ≡ []
   none_follow [] e = refl
@@ -350,6 +355,7 @@ module _ (file : MemFile) where
     named = λ ends told. not_device ends (named ends 133 told);
     lib_named = lib_named;
     run_alone = run_alone;
+    located_alone = located_alone;
     go_alone = go_alone;
     ask_alone = ask_alone;
     one_go = one_go;

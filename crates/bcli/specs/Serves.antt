@@ -31,8 +31,9 @@ use Rattle.bcount.specs.declared.table.CountStyle.{CountStyle}
 use Rattle.bcount.specs.declared.table.CountStyle.TheVariants as styles
 use Rattle.bshow.specs.Shows.{Shows}
 use Rattle.bformat.specs.Formats.{Formats}
+use Rattle.bwhere.specs.Wheres.{LocatesCode}
 use Rattle.bcommand.specs.CommandLine.{Asked, Question, SourceAsked, asked, clash_line, command_line}
-use Rattle.bcommand.specs.CommandLine.{compile, run, go, migrate, ask, contradiction}
+use Rattle.bcommand.specs.CommandLine.{compile, run, locate_code, go, migrate, ask, contradiction}
 use Rattle.bcommand.specs.CommandLine.{list, map, draw, check, trace, locate, count, show, format}
 use Rattle.bcommand.specs.declared.job.Rows.{Rows}
 use Rattle.bcommand.specs.declared.job.Rows.TheVariants as which
@@ -198,6 +199,8 @@ abbrev pub Does : Holdings → Asked → RunEnds → ℕ → Type 0
 Does shelf (compile edition libs) ends status = CompilesInput shelf edition libs ends status
 Does shelf (run file steps) ends status = HasNoFile (shelf.lacks file) ends status
     ⊎ ((text : List ℕ) × shelf.holds file text × RunsText steps text ends status)
+Does shelf (locate_code file steps) ends status = NamesFile (shelf.lacks file) file ends status
+    ⊎ ((text : List ℕ) × shelf.holds file text × LocatesCode steps text ends status)
 Does shelf (go source steps) ends status = HasNoFile (shelf.lacks source.file) ends status
     ⊎ NamesLibOf shelf source ends status
     ⊎ ((r : Reads shelf source) × (following : Unread)

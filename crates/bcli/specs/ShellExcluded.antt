@@ -18,12 +18,13 @@ use Rattle.blang.specs.Reports.{HasNotRun, Reported, RunEnds}
 use Rattle.brun.specs.OneRun.{nothing_written, one_run_ends, unread}
 use Rattle.brun.specs.Runs.{RunsText}
 use Rattle.bcommand.specs.CommandLine.{Question, SourceAsked, ask, asked, command_line, compile, contradiction, go, run}
-use Rattle.bcommand.specs.CommandLine.{count, locate, show, trace}
+use Rattle.bcommand.specs.CommandLine.{count, locate, locate_code, show, trace}
 use Rattle.bsources.specs.Files.{Files, file_of}
 use Rattle.bsources.specs.JoinedEnds.{joined_in}
 use Rattle.btools.specs.FaultPlaces.{fault_lines}
 use Rattle.btools.specs.Programs.{HasFault}
 use Rattle.bcommand.specs.declared.job.Clash.{Clash}
+use Rattle.bwhere.specs.Wheres.{LocatesCode}
 use Rattle.bcli.specs.declared.shelf.MemFile.{MemFile}
 use Rattle.bcli.specs.Serves.{Answers, CompilesJoined, Does, HasNoFile, IsHelp, NamesFile, NamesLib, NamesLibOf}
 use Rattle.bcli.specs.Serves.{SaysNothing, Serves, compiling, unread_line}
@@ -154,6 +155,9 @@ pub record FileIsRead (file : MemFile) : Type 0 where
   -- another code text is run
   pub run_alone : (steps : ℕ) (ends : RunEnds) (status : ℕ) → Does (holding file) (run file.name.now steps) ends status
       → RunsText steps file.text.now ends status ⊎ SaysNothing ends status MEMORY
+  pub located_alone : (steps : ℕ) (ends : RunEnds) (status : ℕ)
+      → Does (holding file) (locate_code file.name.now steps) ends status
+      → LocatesCode steps file.text.now ends status ⊎ SaysNothing ends status MEMORY
   -- another source is compiled and run, or this one as of another edition
   pub go_alone : (edition : Edition) (steps : ℕ) (ends : RunEnds) (status : ℕ)
       → Does (holding file) (go (alone file edition) steps) ends status

@@ -4,7 +4,7 @@ ghost use Rattle.clap.specs.Words.{kind_of, subcommand_rows_of};
 ghost use Rattle.bword.specs.ByteEnds.{Incoming, Outgoing};
 ghost use Rattle.blang.specs.declared.status.TheConstants.{DEVICE, MEMORY, WRONG_COMMAND};
 ghost use Rattle.blang.specs.Reports.{Reported, run_ends};
-ghost use Rattle.bcommand.specs.CommandLine.{ask, asked, asked_of, compile, go, question_of, run, source_shown};
+ghost use Rattle.bcommand.specs.CommandLine.{ask, asked, asked_of, compile, go, locate_code, question_of, run, source_shown};
 ghost use Rattle.bcli.specs.ShellExcluded.{Excluded, FileIsRead};
 ghost use Rattle.bshow.specs.Shows.{asked_of as page_of};
 ghost use Rattle.bsources.specs.Files.{file_shown, files_shown};
@@ -26,6 +26,7 @@ use bshow::show;
 use bsources::{Following, JoinedIn, SourceFile, SourceFiles};
 use btools::tell;
 use btrace::{TraceRequest, locate, trace};
+use bwhere::locate_code;
 use bword::{ByteIn, ByteOut, Edition, MemIn};
 use clap::error::ErrorKind;
 use clap::{ArgMatches, Error};
@@ -120,6 +121,7 @@ fn perform<S: Shelf, I: ByteIn, O: ByteOut, D: ByteOut>(
             compile_input(alloc, shelf, edition, libs, input, out, diag)
         }
         Job::Run(file, steps) => run_file(alloc, shelf, file, steps, input, out, diag),
+        Job::LocateCode(file, steps) => locate_file(alloc, shelf, file, steps, input, out, diag),
         Job::Go(source, steps) => go_file(alloc, shelf, source, steps, input, out, diag),
         Job::Migrate => migrate(alloc, input, out, diag),
         Job::Ask(source, question) => ask_file(alloc, shelf, source, question, input, out, diag),
@@ -195,6 +197,29 @@ fn run_file<S: Shelf, I: ByteIn, O: ByteOut, D: ByteOut>(
     match shelf.read(alloc, file) {
         Ok(code) => run_text(alloc, code.as_slice(), input, out, diag, steps),
         Err(fault) => status_of(fault),
+    }
+}
+
+// Runs the code text in a file, and tells where it went wrong.
+fn locate_file<S: Shelf, I: ByteIn, O: ByteOut, D: ByteOut>(
+    alloc: Global,
+    shelf: &S,
+    file: &str,
+    steps: u64,
+    input: &mut I,
+    out: &mut O,
+    diag: &mut D,
+) -> Status
+    ensures does { Does (S.holdings shelf.now) (locate_code file.now steps) (run_ends
+        (I.incoming input.old) (I.incoming input.new) (O.outgoing out.old) (O.outgoing out.new)
+        (D.outgoing diag.old) (D.outgoing diag.new)) result }
+    ensures input_lender { I.lender input.new ≡ I.lender input.old }
+    ensures out_lender { O.lender out.new ≡ O.lender out.old }
+    ensures diag_lender { D.lender diag.new ≡ D.lender diag.old }
+{
+    match shelf.read(alloc, file) {
+        Ok(code) => locate_code(alloc, code.as_slice(), input, out, diag, steps),
+        Err(fault) => name_file(alloc, file, fault, diag),
     }
 }
 

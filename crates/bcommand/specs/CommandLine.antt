@@ -104,7 +104,7 @@ abbrev pub compile_command : App
 compile_command = with_rule (with_rule (new_app (codes "compile")) edition_rule) with_lib_rule
 
 abbrev pub run_command : App
-run_command = with_run_options (new_app (codes "run"))
+run_command = with_rule (with_run_options (new_app (codes "run"))) where_rule
 
 abbrev pub go_command : App
 go_command =
@@ -249,21 +249,23 @@ pub data Question : Type 0 where
   format : (is_check : Bool) → Question
 
 -- What is asked for: that a source is compiled, with the files that come after it; that the code text in a file is run
--- for so many steps; that a source is compiled and run for so many; that a code text is migrated; something of a
--- source; or two options that contradict each other.
+-- for so many steps; the same, and where it went wrong; that a source is compiled and run for so many; that a code text
+-- is migrated; something of a source; or two options that contradict each other.
 pub data Asked : Type 0 where
   compile : (edition : Edition) (libs : List Text) → Asked
   run : (file : Text) (steps : ℕ) → Asked
+  locate_code : (file : Text) (steps : ℕ) → Asked
   go : SourceAsked → (steps : ℕ) → Asked
   migrate : Asked
   ask : SourceAsked → Question → Asked
   contradiction : Clash → Asked
 
-abbrev pub run_asked : Text → Option ℕ → Asked
-run_asked file (Some steps) = run file steps
-run_asked file None = contradiction clash.Limits
+-- where a run was over is asked for by a flag
+abbrev pub run_asked : Text → (is_located : Bool) → Option ℕ → Asked
+run_asked file false (Some steps) = run file steps
+run_asked file true (Some steps) = locate_code file steps
+run_asked file is_located None = contradiction clash.Limits
 
--- where the run was over is asked for by a flag
 abbrev pub go_asked : SourceAsked → (is_located : Bool) → Option ℕ → Asked
 go_asked source false (Some steps) = go source steps
 go_asked source true (Some steps) = ask source (locate steps)
@@ -290,7 +292,7 @@ count_asked source for_editor None = contradiction clash.Limits
 
 -- what these commands ask for, by what was found of their options
 abbrev pub run_in : List Row → Asked
-run_in rows = run_asked (file_in rows) (steps_in rows)
+run_in rows = run_asked (file_in rows) (is_set_in (codes "where") rows) (steps_in rows)
 
 abbrev pub go_in : List Row → Asked
 go_in rows = go_asked (source_in rows) (is_set_in (codes "where") rows) (steps_in rows)
@@ -351,6 +353,7 @@ question_of (questioned.Format is_check) = format is_check
 abbrev pub asked_of : Job → Asked
 asked_of (job.Compile edition libs) = compile edition (map_each (λ lib. lib.now) libs.now)
 asked_of (job.Run file steps) = run file.now steps
+asked_of (job.LocateCode file steps) = locate_code file.now steps
 asked_of (job.Go source steps) = go (source_shown source) steps
 asked_of job.Migrate = migrate
 asked_of (job.Ask source question) = ask (source_shown source) (question_of question)

@@ -6,7 +6,7 @@ use Rattle.clap.proofs.OnLiterals.{clap_on_literals}
 use Rattle.bword.specs.declared.edition.Edition.TheVariants as editions
 use Rattle.bword.specs.declared.edition.Edition.{Edition}
 use Rattle.bcommand.specs.CommandLine.{Asked, SourceAsked, asked, command_line}
-use Rattle.bcommand.specs.CommandLine.{compile, run, go, migrate, ask, contradiction}
+use Rattle.bcommand.specs.CommandLine.{compile, run, locate_code, go, migrate, ask, contradiction}
 use Rattle.bcommand.specs.CommandLine.{list, map, draw, check, trace, locate, count, show, format}
 use Rattle.bcommand.specs.declared.job.Clash.TheVariants as clash
 use Rattle.bcommand.specs.declared.job.Rows.TheVariants as which
@@ -69,10 +69,19 @@ locates_within_limits : Asks (codes "b" ∷ codes "go" ∷ codes "--where" ∷ c
 unfolding clap_on_literals
 locates_within_limits = (refl, refl)
 
-no_place_of_code : fault_of command_line (codes "b" ∷ codes "run" ∷ codes "--where" ∷ codes "x" ∷ [])
-    ≡ kind.UnknownArgument ∷ []
+locates_in_code : Asks (codes "b" ∷ codes "run" ∷ codes "--where" ∷ codes "x" ∷ []) (locate_code (codes "x") 10000000)
 unfolding clap_on_literals
-no_place_of_code = refl
+locates_in_code = (refl, refl)
+
+locates_in_code_so_long : Asks (codes "b" ∷ codes "run" ∷ codes "x" ∷ codes "--steps=50" ∷ codes "--where" ∷ [])
+    (locate_code (codes "x") 50)
+unfolding clap_on_literals
+locates_in_code_so_long = (refl, refl)
+
+locates_in_code_within_limits : Asks (codes "b" ∷ codes "run" ∷ codes "--where" ∷ codes "--no-limit" ∷ codes "--steps=5"
+    ∷ codes "x" ∷ []) (contradiction clash.Limits)
+unfolding clap_on_literals
+locates_in_code_within_limits = (refl, refl)
 
 contradicts : Asks (codes "b" ∷ codes "go" ∷ codes "--no-limit" ∷ codes "--steps=5" ∷ codes "x" ∷ []) (contradiction clash.Limits)
 unfolding clap_on_literals

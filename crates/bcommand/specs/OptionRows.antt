@@ -4,7 +4,7 @@ use Rattle.clap.specs.Words.{Text, fault_of, subcommand_of}
 use Rattle.clap.proofs.OnLiterals.{clap_on_literals}
 use Rattle.bword.specs.declared.edition.Edition.TheVariants as editions
 use Rattle.bcommand.specs.CommandLine.{Asked, SourceAsked, asked, command_line}
-use Rattle.bcommand.specs.CommandLine.{compile, run, go, ask, contradiction}
+use Rattle.bcommand.specs.CommandLine.{compile, run, locate_code, go, ask, contradiction}
 use Rattle.bcommand.specs.CommandLine.{list, map as layout, draw, check, trace, locate, count, show, format}
 use Rattle.bcommand.specs.declared.job.Clash.TheVariants as clash
 use Rattle.bcommand.specs.declared.job.Rows.TheVariants as which
@@ -27,7 +27,7 @@ compile_takes : taken (codes "compile") [] ≡ codes "--edition=2" ∷ codes "--
 unfolding clap_on_literals
 compile_takes = refl
 
-run_takes : taken (codes "run") x ≡ codes "--steps=5" ∷ codes "--no-limit" ∷ []
+run_takes : taken (codes "run") x ≡ codes "--steps=5" ∷ codes "--no-limit" ∷ codes "--where" ∷ []
 unfolding clap_on_literals
 run_takes = refl
 
@@ -145,12 +145,14 @@ alone = record { file = codes "x"; libs = []; edition = editions.One }
 -- a number of steps, none, and both
 steps_of_each :
     of_x (codes "run" ∷ codes "--no-limit" ∷ []) ∷ of_x (codes "run" ∷ codes "--no-limit" ∷ codes "--steps=5" ∷ [])
+    ∷ of_x (codes "run" ∷ codes "--where" ∷ codes "--no-limit" ∷ [])
     ∷ of_x (codes "go" ∷ codes "--steps=5" ∷ []) ∷ of_x (codes "go" ∷ codes "--where" ∷ codes "--no-limit" ∷ [])
     ∷ of_x (codes "trace" ∷ codes "--steps=5" ∷ []) ∷ of_x (codes "trace" ∷ codes "--from=5" ∷ [])
     ∷ of_x (codes "count" ∷ codes "--steps=5" ∷ []) ∷ of_x (codes "count" ∷ codes "--json" ∷ [])
     ∷ of_x (codes "show" ∷ codes "--steps=5" ∷ []) ∷ of_x (codes "show" ∷ codes "--steps=5" ∷ codes "--from=7" ∷ [])
     ∷ of_x (codes "show" ∷ codes "--steps=5" ∷ codes "--last=7" ∷ []) ∷ []
     ≡ run (codes "x") 18446744073709551615 ∷ contradiction clash.Limits
+    ∷ locate_code (codes "x") 18446744073709551615
     ∷ go alone 5 ∷ ask alone (locate 18446744073709551615)
     ∷ ask alone (trace 5 (which.From 1) None) ∷ ask alone (trace 1000 (which.From 5) None)
     ∷ ask alone (count 5 false) ∷ ask alone (count 10000000 true)

@@ -118,6 +118,12 @@ const WHERE: ArgumentRow = ArgumentRow {
     help: "Tells where a trap or the limit came, and what it means",
 };
 
+const CODE_WHERE: ArgumentRow = ArgumentRow {
+    id: "where",
+    kind: GivenAs::Flag,
+    help: "Tells where the text or its run went wrong, and why",
+};
+
 const JSON: ArgumentRow = ArgumentRow {
     id: "json",
     kind: GivenAs::Flag,
@@ -167,7 +173,7 @@ const COMMANDS: [CommandRow; 11] = [
         about: "Runs the code text in FILE",
         usage: None,
         help: RUN_HELP,
-        arguments: &[STEPS, NO_LIMIT, FILE],
+        arguments: &[STEPS, NO_LIMIT, FILE, CODE_WHERE],
     },
     CommandRow {
         name: "go",

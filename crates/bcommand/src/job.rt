@@ -8,6 +8,8 @@ pub enum Job<'a> {
     Compile(Edition, &'a [&'a str]),
     /// A run of the code text in a file, of so many steps at most.
     Run(&'a str, u64),
+    /// The same, and where it went wrong.
+    LocateCode(&'a str, u64),
     /// A run of a source, of so many steps at most.
     Go(SourceNames<'a>, u64),
     Migrate,

@@ -55,9 +55,11 @@ pub fn job_of<'m, 'a: 'm>(matches: &'m ArgMatches<'a>) -> Job<'m>
 fn run_of<'m, 'a: 'm>(given: &'m ArgMatches<'a>) -> Job<'m>
     ensures { asked_of result ≡ run_in (rows_of (found_of given.now)) }
 {
-    match steps_of(given) {
-        Some(steps) => Job::Run(file_of(given), steps),
-        None => Job::Contradiction(Clash::Limits),
+    let file = file_of(given);
+    match (steps_of(given), is_set(given, "where")) {
+        (Some(steps), true) => Job::LocateCode(file, steps),
+        (Some(steps), false) => Job::Run(file, steps),
+        (None, _) => Job::Contradiction(Clash::Limits),
     }
 }
 

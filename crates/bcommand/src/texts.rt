@@ -48,6 +48,7 @@ Examples:
   b go --with print sum.b             puts a second source after the first one
   b compile < hello.b > hello.code    writes its code text into a file
   b run hello.code                    runs the code text
+  b run --where hello.code            tells where it went wrong
   b migrate < hello.code > new.code   writes it as a code text of edition 2
   b list hello.b                      lists its code beside the source
   b map hello.b                       shows where its names lie in memory
@@ -106,7 +107,7 @@ program. These are the other statuses, with their line on standard error:
          3   a name isn't defined
          4   there is no function main
   133  a read or a write failed, or a file can't be read. There is no line where
-       run or go can't read FILE; else the line names the file
+       run or go, without --where, can't read FILE; else the line names the file
   134  out of memory. There is no line
   135  a wrong command line. The lines tell what is wrong with it";
 
@@ -220,9 +221,14 @@ begins with the line B 2 if it is of edition 2, so there is no --edition.
 
 The program reads standard input and writes standard output. A step is one
 instruction. If the line is limit, give more steps by --steps N or --no-limit.
+With --where, a second line tells where a trap or the limit came: the function,
+the place in it, the number of the line in FILE, and how many steps were made.
+Then come this line of FILE, and what the trap means. After code n come line n
+and what could come there; after load n comes what it means, with the name.
 
-Example:
+Examples:
   b run --steps 1000 hello.code
+  b run --where hello.code
 
 Statuses: 0 to 127 the program's own, 130 a trap, 131 the limit of steps,
 132 no code text or one that doesn't load, 133 a failed read or write,

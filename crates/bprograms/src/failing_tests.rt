@@ -409,7 +409,19 @@ f(a) {
 }
 ";
 
-// Commands on it, each with `~` and its status.
+// Code that reads and traps.
+const READING_CODE: &str = "\
+F main 0 0 0 0 6
+x putchar
+v
+x getchar
+v
+k 0
+k 1
+E
+";
+
+// Commands on them, each with `~` and its status.
 const COMMANDS: &str = "\
 b list x.b~0
 b map x.b~0
@@ -419,7 +431,21 @@ b check x.b~0
 b check --json x.b~0
 b trace x.b~130
 b trace --steps 6 x.b~131
-b go --where x.b~130";
+b go --where x.b~130
+b run --where x.code~130";
+
+// Writes both into files.
+fn keep_readings(rt: &impl Files) -> Result<(), Fail> {
+    fs::write(rt, "x.b", READING.as_bytes())?;
+    fs::write(rt, "x.code", READING_CODE.as_bytes())?;
+    Ok(())
+}
+
+fn remove_readings(rt: &impl Files) -> Result<(), Fail> {
+    fs::remove_file(rt, "x.b")?;
+    fs::remove_file(rt, "x.code")?;
+    Ok(())
+}
 
 // What comes of a command whose output and line are written into so much room.
 fn served(
@@ -456,13 +482,12 @@ fn is_cut_off(
 
 #[test]
 fn each_write_of_a_command_fails(rt: HostRuntime) -> Result<(), Fail> {
-    fs::write(&rt, "x.b", READING.as_bytes())?;
+    keep_readings(&rt)?;
     for row in COMMANDS.lines() {
         let (words, status) = row.split_once('~').unwrap_or((row, ""));
         is_cut_off(&rt, words, status.parse::<Status>().unwrap_or(0))?;
     }
-    fs::remove_file(&rt, "x.b")?;
-    Ok(())
+    remove_readings(&rt)
 }
 
 // Commands that tell the place of a fault in a second file, on a line of its own.
@@ -503,7 +528,7 @@ fn each_write_of_a_check_fails(rt: HostRuntime) -> Result<(), Fail> {
 // A command writes its output once: where that is refused memory nothing was written, and there is no line.
 #[test]
 fn each_command_is_refused_memory(rt: HostRuntime) -> Result<(), Fail> {
-    fs::write(&rt, "x.b", READING.as_bytes())?;
+    keep_readings(&rt)?;
     for row in COMMANDS.lines() {
         let (words, _) = row.split_once('~').unwrap_or((row, ""));
         let mut out = end_refusing(rt.alloc(), 0);
@@ -512,8 +537,7 @@ fn each_command_is_refused_memory(rt: HostRuntime) -> Result<(), Fail> {
         let is_right = status == 134 && out.bytes.bytes().is_empty() && line.calls == 0;
         assert!(rt; is_right, "the output of {words}");
     }
-    fs::remove_file(&rt, "x.b")?;
-    Ok(())
+    remove_readings(&rt)
 }
 
 // The line of a trap is refused memory after the whole trace.
@@ -541,6 +565,7 @@ fn the_line_of_a_trace_is_refused_memory(rt: HostRuntime) -> Result<(), Fail> {
 const UNREAD: &str = "\
 b map --steps 9 x.b~@
 b go --where x.b~@
+b run --where x.code~@
 b trace --from 5 x.b~    step  function place  line  code         operands, signed
        5  main         4     4  x getchar    10
        6  main         5     4  v            10 3
@@ -549,7 +574,7 @@ b trace --from 5 x.b~    step  function place  line  code         operands, sign
 
 #[test]
 fn each_command_can_not_read(rt: HostRuntime) -> Result<(), Fail> {
-    fs::write(&rt, "x.b", READING.as_bytes())?;
+    keep_readings(&rt)?;
     for row in UNREAD.split("@\n") {
         let (words, output) = row.split_once('~').unwrap_or((row, ""));
         let mut out = MemOut::new(rt.alloc());
@@ -558,8 +583,7 @@ fn each_command_can_not_read(rt: HostRuntime) -> Result<(), Fail> {
         assert_eq!(rt; status, 133, "the status of {words}");
         compares(&rt, words, &out, output, &line, "");
     }
-    fs::remove_file(&rt, "x.b")?;
-    Ok(())
+    remove_readings(&rt)
 }
 
 // What no text begins with, and code that lacks an operand or an instruction.
