@@ -1,14 +1,14 @@
 -- Findings one after another, and what stands in each.
-use Rattle.std.proofs.Common.{◌≡◌, ◌≢◌, ◌∙◌, ◌+◌, ◌<◌, List, [], ℕ, ◌∷◌, ◌++◌, IsTrue, OnOk, Result, Ok, Err, ap, arith, append-nil, append_assoc, codes, decimal, get_or, length, map, None, Option, replicate, Some, refl, subst, sym, take}
+use Rattle.std.proofs.Common.{◌≡◌, ◌∙◌, ◌+◌, ◌<◌, List, [], ℕ, ◌∷◌, ◌++◌, IsTrue, OnOk, Result, Ok, Err, ap, arith, append-nil, append_assoc, codes, decimal, get_or, length, map, None, Option, replicate, Some, refl, subst, sym, take}
 use Rattle.std.specs.Prelude.{min, nat_lt}
 use Rattle.bword.specs.ByteEnds.{most}
 use Rattle.std.proofs.lemmas.Bool.Decides.{nat_tests}
-use Rattle.std.specs.List.{All, flat_map, list_all}
-use Rattle.std.proofs.lemmas.List.{get_or_default, length_push, take-append-drop}
+use Rattle.std.specs.List.{All, AllZip, flat_map, list_all}
+use Rattle.std.proofs.lemmas.List.{get_or_default, take-append-drop, take_all, take_more}
+use Rattle.std.proofs.lemmas.Slice.Zip.{AllZip-long}
 use Rattle.std.proofs.lemmas.List.Concat.{flat_map-append}
 use Rattle.std.proofs.lemmas.List.Elements.{All-push, All-weaker}
 use Rattle.btools.proofs.AddedTexts.{each_more}
-use Rattle.blang.specs.declared.status.TheConstants.{DONE}
 use Rattle.bword.specs.declared.edition.Edition.{Edition}
 use Rattle.blang.specs.Code.{code_of}
 use Rattle.blang.specs.Compiles.{Compilation, CompilesTo}
@@ -16,9 +16,16 @@ use Rattle.blang.specs.Cut.{line_number_after, tokens_from}
 use Rattle.bsources.specs.Files.{Files, Line, line_shown, own_line}
 use Rattle.bsources.specs.declared.files.FileLine.{FileLine}
 use Rattle.blang.specs.Layout.{load_fault}
-use Rattle.bcheck.specs.Checks.{AreFindings, EachOutcome, FindingParts, IsCount, IsReason, Reason, Second, column_after, finding_at, finding_column, finding_end, finding_line, finding_text, findings_text, is_on_line, outcome_of, second_text, severity_of, severity_word, shown_text, is_of_several, spot_words}
+use Rattle.blang.specs.declared.code.Definition.{Definition}
+use Rattle.blang.specs.declared.run.LoadFault.{LoadFault}
+use Rattle.blang.specs.declared.run.LoadFault.TheVariants as fault
+use Rattle.blang.specs.declared.token.Diagnostic.{Diagnostic}
+use Rattle.bcheck.specs.Checks.{AreFindings, EachOutcome, FindingParts, IsReason, IsWhole, Reason, Says, Second, column_after, fault_in, finding_at, finding_column, finding_end, finding_line, finding_text, findings_text, is_on_line, outcome_of, second_text, severity_of, severity_word, shown_text, is_of_several, spot_words}
 use Rattle.btools.specs.Quoting.{file_text, json_text}
-use Rattle.bcheck.specs.Findings.{AddsFinding, IsExcerpt, IsSecond, ReasonAt}
+use Rattle.bcheck.specs.Findings.{AddsFinding, AreWhole, IsExcerpt, IsOn, IsSecond, ReasonAt}
+use Rattle.bcheck.specs.UndefinedNames.{Tells, told_subjects}
+use Rattle.bcheck.specs.declared.mention.Subject.{Subject}
+use Rattle.bcheck.specs.declared.finding.Finding.{Finding}
 use Rattle.bcheck.specs.Pieces.{piece_text, spot_text}
 use Rattle.bcheck.specs.declared.excerpt.Excerpt.{Excerpt}
 use Rattle.bcheck.specs.declared.pieces.Fragment.{Fragment}
@@ -111,52 +118,85 @@ module _ (source : List ℕ) (start : ℕ) (e : Excerpt) (x : IsExcerpt source s
 
   pub adds_text : (s : Severity) (files : Files) (at : FileLine) (f w t m old new : List ℕ) (blanks : ℕ) → line_shown at ≡ own_line files e.line → f ≡ at.file.now → w ≡ severity_word s → t ≡ sentence → m ≡ fix → blanks ≡ length e.left.now
       → new ≡ old ++ (file_text f ++ (codes ":" ++ (decimal at.line ++ (codes ":" ++ (decimal e.column ++ (codes ": " ++ (w ++ (codes ": " ++ (t ++ (codes "\n    " ++ (flat_map shown_text e.left.now ++ (flat_map shown_text e.right.now ++ (codes "\n    " ++ (replicate blanks 32 ++ (replicate e.marks 94 ++ (codes "\n  fix: " ++ (m ++ codes "\n")))))))))))))))))
-      → AddsFinding form.Text s files source start code old new
+      → AddsFinding form.Text s files source start code sentence old new
   adds_text s files at f w t m old new blanks is ef ew et em eb e1 =
       let here = in_its_file files (line_shown at) is in
-      (this_finding, refl, x.first, x.rest, text_finding this_finding s files f w t m old new at.line e.column blanks (ef ∙ ap (λ (l : Line). l.file) here) ew et em (ap (λ (l : Line). l.line) here) at_its_column eb e1)
+      (this_finding, refl, x.first, x.rest, text_finding this_finding s files f w t m old new at.line e.column blanks (ef ∙ ap (λ (l : Line). l.file) here) ew et em (ap (λ (l : Line). l.line) here) at_its_column eb e1, refl)
 
   pub adds_json : (s : Severity) (files : Files) (at : FileLine) (f w k t m n old first both new : List ℕ) (stop : ℕ) → stop ≡ min (e.column + e.marks) most → line_shown at ≡ own_line files e.line → f ≡ at.file.now → w ≡ severity_word s → k ≡ code → t ≡ sentence → m ≡ fix → n ≡ second_text files second
       → first ≡ old ++ (codes "{\"file\":" ++ (json_text f ++ (codes ",\"line\":" ++ (decimal at.line ++ (codes ",\"column\":" ++ (decimal e.column ++ (codes ",\"severity\":\"" ++ (w ++ (codes "\",\"code\":" ++ (json_text k ++ (codes ",\"message\":" ++ (json_text t ++ (codes ",\"fix\":" ++ (json_text m ++ (codes ",\"end\":" ++ (decimal stop ++ []))))))))))))))))
       → both ≡ first ++ n → new ≡ both ++ codes "}\n"
-      → AddsFinding form.Json s files source start code old new
+      → AddsFinding form.Json s files source start code sentence old new
   adds_json s files at f w k t m n old first both new stop ends is ef ew ek et em en e0 e1 e2 =
       let here = in_its_file files (line_shown at) is in
-      (this_finding, refl, x.first, x.rest, json_finding this_finding s files f w k t m n old first both new at.line e.column stop (ef ∙ ap (λ (l : Line). l.file) here) ew ek et em en (ap (λ (l : Line). l.line) here) at_its_column (at_its_end stop ends) e0 e1 e2)
+      (this_finding, refl, x.first, x.rest, json_finding this_finding s files f w k t m n old first both new at.line e.column stop (ef ∙ ap (λ (l : Line). l.file) here) ew ek et em en (ap (λ (l : Line). l.line) here) at_its_column (at_its_end stop ends) e0 e1 e2, refl)
 
 -- the finding is one of whatever the source comes to
 abbrev pub Reasoned : Edition → (source : List ℕ) → FindingParts source → Type 0
-Reasoned edition source p = EachOutcome edition source (λ o. Reason o.edition o.stop o.fault p.code (p.before ++ p.left) (p.right ++ p.after))
+Reasoned edition source p = EachOutcome edition source (λ o. Reason o.edition o.stop (fault_in o) p.code (p.before ++ p.left) (p.right ++ p.after))
 
--- the text of so many findings
-abbrev pub FindingsSoFar : FindingForm → Edition → (status : ℕ) → Files → (source : List ℕ) → (count : ℕ) → (text : List ℕ) → Type 0
-FindingsSoFar form edition status files source count text =
-    (findings : List (FindingParts source)) × (length findings ≡ count) × All (Reasoned edition source) findings × (text ≡ findings_text form status files findings)
+-- what the finding is on is told
+abbrev pub SaysIts : {source : List ℕ} → Finding → FindingParts source → Type 0
+SaysIts f p = (subject : Subject) → IsOn subject f → Says subject p
+
+-- the text of the first findings
+abbrev pub FindingsSoFar : FindingForm → Edition → (status : ℕ) → Files → (source : List ℕ) → (found : List Finding) → (count : ℕ) → (text : List ℕ) → Type 0
+FindingsSoFar form edition status files source found count text =
+    (findings : List (FindingParts source)) × AllZip SaysIts (take count found) findings × All (Reasoned edition source) findings × (text ≡ findings_text form status files findings)
+
+-- one pair more
+pub zip_more : {A B : Type 0} (R : A → B → Type 0) (xs : List A) (ys : List B) (x : A) (y : B) → AllZip R xs ys → R x y → AllZip R (xs ++ x ∷ []) (ys ++ y ∷ [])
+zip_more R [] [] x y h r = (r, h)
+zip_more R [] (b ∷ ys) x y h r = absurd h
+zip_more R (a ∷ xs) [] x y h r = absurd h
+zip_more R (a ∷ xs) (b ∷ ys) x y h r = (h.0, zip_more R xs ys x y h.1 r)
 
 -- one finding more
-module _ (form f : FindingForm) (edition : Edition) (status : ℕ) (s : Severity) (files : Files) (source : List ℕ) (start : ℕ) (code old new said : List ℕ) (count : ℕ) where
-  pub finding_more : form ≡ f → s ≡ severity_of status → said ≡ new → EachOutcome edition source (ReasonAt code start)
-      → FindingsSoFar form edition status files source count old → AddsFinding f s files source start code old new → FindingsSoFar form edition status files source (count + 1) said
-  finding_more same also is reason a more =
+module _ (form f : FindingForm) (edition : Edition) (status : ℕ) (s : Severity) (files : Files) (source : List ℕ) (found : List Finding) (it : Finding) (start : ℕ) (code sentence old new said : List ℕ) (count : ℕ) where
+  pub finding_more : form ≡ f → s ≡ severity_of status → said ≡ new → count < length found → it ≡ get_or found count it → EachOutcome edition source (ReasonAt code start)
+      → ((subject : Subject) → IsOn subject it → Tells subject sentence)
+      → FindingsSoFar form edition status files source found count old → AddsFinding f s files source start code sentence old new → FindingsSoFar form edition status files source found (count + 1) said
+  finding_more same also is lt here reason tells a more =
       let severity = severity_of status in
       let text = finding_text form severity files in
-      let b : AddsFinding form severity files source start code old said =
-      subst (λ x. AddsFinding x severity files source start code old said) (sym same) (subst (λ y. AddsFinding f y files source start code old said) also (subst (λ t. AddsFinding f s files source start code old t) (sym is) more)) in
+      let b : AddsFinding form severity files source start code sentence old said =
+      subst (λ x. AddsFinding x severity files source start code sentence old said) (sym same) (subst (λ y. AddsFinding f y files source start code sentence old said) also (subst (λ t. AddsFinding f s files source start code sentence old t) (sym is) more)) in
       let reasoned : Reasoned edition source b.0 =
       λ r g. subst (λ c. Reason edition r.stop (load_fault (map code_of g.definitions)) c (b.0.before ++ b.0.left) (b.0.right ++ b.0.after)) (sym b.1)
       (subst (λ x. Reason edition r.stop (load_fault (map code_of g.definitions)) code x (b.0.right ++ b.0.after)) (sym b.2)
-      (subst (λ x. Reason edition r.stop (load_fault (map code_of g.definitions)) code (take start source) x) (sym b.3) (reason r g))) in (
+      (subst (λ x. Reason edition r.stop (load_fault (map code_of g.definitions)) code (take start source) x) (sym b.3) (reason r g))) in
+      let says : SaysIts it b.0 = λ subject on. subst (λ t. Tells subject t) (sym b.5) (tells subject on) in
+      let items : take (count + 1) found ≡ take count found ++ it ∷ [] = take_more found count it lt ∙ ap (λ y. take count found ++ y ∷ []) (sym here) in (
         a.0 ++ b.0 ∷ [],
-        length_push a.0 b.0 ∙ ap (λ n. n + 1) a.1,
+        subst (λ fs. AllZip SaysIts fs (a.0 ++ b.0 ∷ [])) (sym items) (zip_more SaysIts (take count found) a.0 it b.0 a.1 says),
         All-push (Reasoned edition source) a.0 b.0 a.2 reasoned,
         b.4 ∙ ap (λ t. t ++ text b.0) a.3 ∙ sym (flat_map-append text a.0 (b.0 ∷ []) ∙ ap (λ t. flat_map text a.0 ++ t) (append-nil (text b.0))),
       )
 
-reasons_at : (edition : Edition) (source : List ℕ) (r : Compilation) (g : CompilesTo [] (tokens_from edition 1 source) r) (ps : List (FindingParts source)) → All (Reasoned edition source) ps → All (IsReason (outcome_of edition source r.stop (load_fault (map code_of g.definitions)))) ps
-reasons_at edition source r g ps h = All-weaker (Reasoned edition source) (IsReason (outcome_of edition source r.stop (load_fault (map code_of g.definitions)))) (λ p is. is r g) ps h
+reasons_at : (edition : Edition) (source : List ℕ) (r : Compilation) (g : CompilesTo [] (tokens_from edition 1 source) r) (ps : List (FindingParts source)) → All (Reasoned edition source) ps → All (IsReason (outcome_of edition source r.stop (map code_of g.definitions))) ps
+reasons_at edition source r g ps h = All-weaker (Reasoned edition source) (IsReason (outcome_of edition source r.stop (map code_of g.definitions))) (λ p is. is r g) ps h
+
+-- what the findings are on is told
+says_each : {source : List ℕ} (subjects : List Subject) (fs : List Finding) (ps : List (FindingParts source)) → AllZip IsOn subjects fs → AllZip SaysIts fs ps → AllZip Says subjects ps
+says_each [] [] [] on says = says
+says_each [] [] (p ∷ ps) on says = absurd says
+says_each [] (f ∷ fs) ps on says = absurd on
+says_each (s ∷ ss) [] ps on says = absurd on
+says_each (s ∷ ss) (f ∷ fs) [] on says = absurd says
+says_each (s ∷ ss) (f ∷ fs) (p ∷ ps) on says = (says.0 s on.0, says_each ss fs ps on.1 says.1)
+
+whole_said : {source : List ℕ} (stop : Option Diagnostic) (f : Option LoadFault) (ds : List Definition) (fs : List Finding) (ps : List (FindingParts source)) → AllZip SaysIts fs ps → IsWhole IsOn stop f ds fs → IsWhole Says stop f ds ps
+whole_said (Some d) f ds fs ps says whole = AllZip-long SaysIts fs ps says ∙ whole
+whole_said None None ds fs ps says whole = tt
+whole_said None (Some (fault.Duplicate name)) ds fs ps says whole = AllZip-long SaysIts fs ps says ∙ whole
+whole_said None (Some fault.TooLarge) ds fs ps says whole = AllZip-long SaysIts fs ps says ∙ whole
+whole_said None (Some (fault.Undefined name)) ds fs ps says whole = says_each (told_subjects ds) fs ps whole says
+whole_said None (Some fault.NoMain) ds fs ps says whole = tt
+whole_said None (Some fault.Memory) ds fs ps says whole = AllZip-long SaysIts fs ps says ∙ whole
 
 -- all of them
-pub all_findings : (form : FindingForm) (edition : Edition) (status : ℕ) (files : Files) (source said : List ℕ) (count all : ℕ) → EachOutcome edition source (λ o. IsCount o.stop o.fault all) → count ≡ all → FindingsSoFar form edition status files source count said
+pub all_findings : (form : FindingForm) (edition : Edition) (status : ℕ) (files : Files) (source said : List ℕ) (found : List Finding) (count : ℕ) → AreWhole edition source found → count ≡ length found → FindingsSoFar form edition status files source found count said
     → EachOutcome edition source (λ o. AreFindings form o status files said)
-all_findings form edition status files source said count all counted is a =
-    λ r g. (a.0, subst (λ n. IsCount r.stop (load_fault (map code_of g.definitions)) n) (sym (a.1 ∙ is)) (counted r g), reasons_at edition source r g a.0 a.2, a.3)
+all_findings form edition status files source said found count whole is a =
+    let says : AllZip SaysIts found a.0 = subst (λ fs. AllZip SaysIts fs a.0) (take_all count found (omega (arith, is))) a.1 in
+    λ r g. (a.0, whole_said r.stop (load_fault (map code_of g.definitions)) (map code_of g.definitions) found a.0 says (whole r g), reasons_at edition source r g a.0 a.2, a.3)

@@ -3,7 +3,6 @@ use Rattle.std.proofs.Common.{◌≡◌, ◌≢◌, ◌∙◌, ◌<◌, ◌≤�
 use Rattle.std.specs.Io.{StartsWith}
 use Rattle.std.specs.Io.KnownBytes.{Appends}
 use Rattle.std.specs.List.{All, flat_map}
-use Rattle.std.proofs.Math.Nat.{one-mul}
 use Rattle.std.proofs.Math.Seq.{take-append_seam}
 use Rattle.std.proofs.lemmas.Bool.{both_ways}
 use Rattle.std.proofs.lemmas.List.{append_cancel_left}
@@ -12,7 +11,9 @@ use Rattle.bword.specs.declared.edition.Edition.{Edition}
 use Rattle.bword.specs.declared.edition.Edition.TheVariants as editions
 use Rattle.bword.specs.declared.ends.EndFault.{EndFault}
 use Rattle.bword.specs.declared.ends.EndFault.TheVariants as end_fault
+use Rattle.std.proofs.lemmas.Slice.Zip.{AllZip-long}
 use Rattle.blang.specs.Code.{code_of}
+use Rattle.blang.specs.declared.code.Definition.{Definition}
 use Rattle.blang.specs.Compiles.{CompilesTo, fault_text, letters_text, line_of, status_of}
 use Rattle.blang.specs.Cut.{line_number_after, tokens_from}
 use Rattle.blang.specs.declared.token.Letters.{Letters}
@@ -28,9 +29,11 @@ use Rattle.bcheck.specs.Checks as checks
 use Rattle.bsources.specs.Files.{File, Files, Line, own_line, own_line_among}
 use Rattle.bcheck.specs.Checks.{IsAtToken, IsOver, Reason, StandsOn, code_keyword, column_after, diagnostic_code, finding_at}
 use Rattle.btools.specs.Quoting.{file_text, json_text}
-use Rattle.bcheck.specs.Checks.{AreFindings, Check, Checks, FindingParts, Outcome, TellsFirst, finding_column, fix_and_places, finding_head, finding_line, finding_start, finding_text, IsCount, outcome_of, findings_text, severity_of, shown_in_form, told_first}
-use Rattle.bcheck.specs.CheckExcluded.{BeginsWith, ComesTo, Excluded, IsTold, Never, NeverOf, file_at, file_of, finding_lines, has_no_colon, is_printed, newlines}
+use Rattle.bcheck.specs.Checks.{AreFindings, Check, Checks, FindingParts, Outcome, TellsFirst, finding_column, fix_and_places, finding_head, finding_line, finding_start, finding_text, IsWhole, Says, fault_in, outcome_of, findings_text, severity_of, shown_in_form, told_first}
+use Rattle.bcheck.specs.CheckExcluded.{BeginsWith, ComesTo, Excluded, IsTold, Never, NeverOf, file_at, file_of, finding_count, finding_lines, findings_of, has_no_colon, is_printed, newlines}
 use Rattle.bcheck.specs.Tokens.{has_token_on, is_in_token}
+use Rattle.bcheck.specs.UndefinedNames.{told_subjects}
+use Rattle.bcheck.proofs.ToldNames.{names_told}
 use Rattle.bcheck.specs.declared.finding.Severity.{Severity}
 use Rattle.bcheck.specs.declared.finding.Severity.TheVariants as severity
 use Rattle.bcheck.specs.declared.form.FindingForm.{FindingForm}
@@ -39,7 +42,7 @@ use Rattle.bcheck.proofs.FindingTexts.{both_printed, findings_printed, first_byt
 
 -- a check of a source that comes to this tells it
 abbrev comes_to : (c : Check) (line : List ℕ) (status : ℕ) → ComesTo c line status → Outcome
-comes_to c line status to = outcome_of c.edition c.source to.outcome.stop (load_fault (map code_of to.goes.definitions))
+comes_to c line status to = outcome_of c.edition c.source to.outcome.stop (map code_of to.goes.definitions)
 
 abbrev tells : (c : Check) (line : List ℕ) (status : ℕ) (to : ComesTo c line status) → Checks c → TellsFirst c.form (comes_to c line status to) c.files (shown_in_form c.form line) status c.out c.out_after c.status
 tells c line status to h =
@@ -101,27 +104,33 @@ none_of_some : {source : List ℕ} (ps : List (FindingParts source)) → 0 < len
 none_of_some [] some e = let no : ◌<◌ 0 0 = some in absurd (omega (arith, no))
 none_of_some (p ∷ ps) some e = cc
 
--- there is a finding where there is a fault, and one of each but of names that nothing defines
-some_of : (stop : Option Diagnostic) (f : Option LoadFault) (line : List ℕ) (status n : ℕ) → told_first stop f ≡ (line, status) → status ≢ DONE → IsCount stop f n → 0 < n
-some_of (Some d) f line status n told wrong is = omega (arith, is)
-some_of None None line status n told wrong is = absurd (wrong (sym (ap (λ (p : List ℕ × ℕ). p.1) told)))
-some_of None (Some (fault.Duplicate name)) line status n told wrong is = omega (arith, is)
-some_of None (Some fault.TooLarge) line status n told wrong is = omega (arith, is)
-some_of None (Some (fault.Undefined name)) line status n told wrong is = is
-some_of None (Some fault.NoMain) line status n told wrong is = absurd (wrong (sym (ap (λ (p : List ℕ × ℕ). p.1) told)))
-some_of None (Some fault.Memory) line status n told wrong is = omega (arith, is)
+-- how many findings there are of a fault
+counted : {source : List ℕ} (stop : Option Diagnostic) (f : Option LoadFault) (ds : List Definition) (line : List ℕ) (status : ℕ) (ps : List (FindingParts source)) → told_first stop f ≡ (line, status) → status ≢ DONE → IsWhole Says stop f ds ps → length ps ≡ finding_count stop f ds
+counted (Some d) f ds line status ps told wrong is = is
+counted None None ds line status ps told wrong is = absurd (wrong (sym (ap (λ (p : List ℕ × ℕ). p.1) told)))
+counted None (Some (fault.Duplicate name)) ds line status ps told wrong is = is
+counted None (Some fault.TooLarge) ds line status ps told wrong is = is
+counted None (Some (fault.Undefined name)) ds line status ps told wrong is = AllZip-long Says (told_subjects ds) ps is
+counted None (Some fault.NoMain) ds line status ps told wrong is = absurd (wrong (sym (ap (λ (p : List ℕ × ℕ). p.1) told)))
+counted None (Some fault.Memory) ds line status ps told wrong is = is
 
-one_of : (stop : Option Diagnostic) (f : Option LoadFault) (line : List ℕ) (status n : ℕ) → told_first stop f ≡ (line, status) → status ≢ DONE → line ≢ codes "load 3\n" → IsCount stop f n → n ≡ 1
-one_of (Some d) f line status n told wrong other is = is
-one_of None None line status n told wrong other is = absurd (wrong (sym (ap (λ (p : List ℕ × ℕ). p.1) told)))
-one_of None (Some (fault.Duplicate name)) line status n told wrong other is = is
-one_of None (Some fault.TooLarge) line status n told wrong other is = is
-one_of None (Some (fault.Undefined name)) line status n told wrong other is = absurd (other (sym (ap (λ (p : List ℕ × ℕ). p.0) told)))
-one_of None (Some fault.NoMain) line status n told wrong other is = absurd (wrong (sym (ap (λ (p : List ℕ × ℕ). p.1) told)))
-one_of None (Some fault.Memory) line status n told wrong other is = is
+-- there is one
+some_counted : (stop : Option Diagnostic) (f : Option LoadFault) (ds : List Definition) → load_fault ds ≡ f → 0 < finding_count stop f ds
+some_counted (Some d) f ds is = omega arith
+some_counted None None ds is = omega arith
+some_counted None (Some (fault.Duplicate name)) ds is = omega arith
+some_counted None (Some fault.TooLarge) ds is = omega arith
+some_counted None (Some (fault.Undefined name)) ds is = names_told ds name is
+some_counted None (Some fault.NoMain) ds is = omega arith
+some_counted None (Some fault.Memory) ds is = omega arith
+
+count_told : (c : Check) (line : List ℕ) (status : ℕ) (text : List ℕ) (to : ComesTo c line status) (w : WasTold c.form (comes_to c line status to) c.files (shown_in_form c.form line) status c.status text) → status ≢ DONE → length w.are.0 ≡ findings_of to
+count_told c line status text to w wrong =
+    counted to.outcome.stop (load_fault (map code_of to.goes.definitions)) (map code_of to.goes.definitions) line status w.are.0 to.told wrong w.are.1
 
 some_told : (c : Check) (line : List ℕ) (status : ℕ) (text : List ℕ) (to : ComesTo c line status) (w : WasTold c.form (comes_to c line status to) c.files (shown_in_form c.form line) status c.status text) → status ≢ DONE → w.are.0 ≡ [] → ⊥
-some_told c line status text to w wrong = none_of_some w.are.0 (some_of to.outcome.stop (load_fault (map code_of to.goes.definitions)) line status (length w.are.0) to.told wrong w.are.1)
+some_told c line status text to w wrong =
+    none_of_some w.are.0 (subst (λ n. 0 < n) (sym (count_told c line status text to w wrong)) (some_counted to.outcome.stop (load_fault (map code_of to.goes.definitions)) (map code_of to.goes.definitions) refl))
 
 no_line : Never (λ c line status text. StartsWith text (shown_in_form c.form line) → ⊥)
 no_line c line status text to t wrong h = let w = told_in c line status text to t h in wrong (begins text (shown_in_form c.form line) w.more w.text_is)
@@ -188,15 +197,15 @@ record Begun (c : Check) (d : Diagnostic) (s : Severity) (file : List ℕ) (row 
   stands : StandsOn c.edition d.line (parts.before ++ parts.left) (parts.right ++ parts.after)
   token : IsAtToken c.edition d.line (parts.before ++ parts.left) (parts.right ++ parts.after)
 
-begun_in : (c : Check) (o : Outcome) (s : Severity) (d : Diagnostic) (file : List ℕ) (row column : ℕ) (rest more : List ℕ) (ps : List (FindingParts c.source)) → o ≡ outcome_of c.edition c.source (Some d) o.fault → (ps ≡ [] → ⊥)
-    → All (λ p. Reason o.edition o.stop o.fault p.code (p.before ++ p.left) (p.right ++ p.after)) ps → more ≡ flat_map (finding_text c.form severity.Error c.files) ps → more ≡ finding_head c.form s file row column ++ rest → Begun c d s file row column rest
+begun_in : (c : Check) (o : Outcome) (s : Severity) (d : Diagnostic) (file : List ℕ) (row column : ℕ) (rest more : List ℕ) (ps : List (FindingParts c.source)) → o ≡ outcome_of c.edition c.source (Some d) o.definitions → (ps ≡ [] → ⊥)
+    → All (λ p. Reason o.edition o.stop (fault_in o) p.code (p.before ++ p.left) (p.right ++ p.after)) ps → more ≡ flat_map (finding_text c.form severity.Error c.files) ps → more ≡ finding_head c.form s file row column ++ rest → Begun c d s file row column rest
 begun_in c o s d file row column rest more [] is some all e f = absurd (some refl)
 begun_in c o s d file row column rest more (p ∷ ps) is some all e f =
     let text = text_placed c.form severity.Error c.files p in
     let at = finding_at c.files p in
     let later = flat_map (finding_text c.form severity.Error c.files) ps in
-    let reason : Reason c.edition (Some d) o.fault p.code (p.before ++ p.left) (p.right ++ p.after) =
-    subst (λ (x : Outcome). Reason x.edition x.stop x.fault p.code (p.before ++ p.left) (p.right ++ p.after)) is (all 0 p (omega arith)) in
+    let reason : Reason c.edition (Some d) (fault_in o) p.code (p.before ++ p.left) (p.right ++ p.after) =
+    subst (λ (x : Outcome). Reason x.edition x.stop (fault_in x) p.code (p.before ++ p.left) (p.right ++ p.after)) is (all 0 p (omega arith)) in
     record {
       parts = p;
       after = later;
@@ -238,7 +247,7 @@ begun_told c line status text to d stop t file row column rest b h =
     let one : 1 ≡ status = status_one to.outcome.stop (load_fault (map code_of to.goes.definitions)) d line status stop to.told in
     let more : w.more ≡ finding_head c.form b.severity file row column ++ rest = append_cancel_left (shown_in_form c.form line) _ _ (sym w.text_is ∙ b.is) in
     let texts : w.more ≡ findings_text c.form 1 c.files w.are.0 = w.are.3 ∙ ap (λ n. findings_text c.form n c.files w.are.0) (sym one) in
-    begun_in c (comes_to c line status to) b.severity d file row column rest w.more w.are.0 (ap (λ s. outcome_of c.edition c.source s (load_fault (map code_of to.goes.definitions))) stop)
+    begun_in c (comes_to c line status to) b.severity d file row column rest w.more w.are.0 (ap (λ s. outcome_of c.edition c.source s (map code_of to.goes.definitions)) stop)
     (some_told c line status text to w (λ done. let no : ◌≡◌ {A = ℕ} 1 0 = one ∙ done in absurd (omega (arith, no)))) w.are.2 texts more
 
 first_told : (c : Check) (line : List ℕ) (status : ℕ) (text : List ℕ) (to : ComesTo c line status) (d : Diagnostic) → to.outcome.stop ≡ Some d → IsTold c text → c.files.rest ≡ [] → (row column : ℕ) (rest : List ℕ) → BeginsWith c line text (file_of c) row column rest → Checks c
@@ -322,12 +331,11 @@ lines_told c o line status text w =
     ap newlines w.text_is ∙ newlines_in (shown_in_form c.form line) w.more
     ∙ ap (λ n. newlines (shown_in_form c.form line) + n) (ap newlines w.are.3 ∙ lines_of_all c.form (severity_of status) c.files w.are.0)
 
-other_lines : Never (λ c line status text. (status ≢ DONE) × (line ≢ codes "load 3\n") × (newlines text ≢ newlines (shown_in_form c.form line) + finding_lines c.form))
-other_lines c line status text to t wrong h =
+other_lines : (c : Check) (line : List ℕ) (status : ℕ) (text : List ℕ) (to : ComesTo c line status) → IsTold c text → status ≢ DONE
+    → newlines text ≢ newlines (shown_in_form c.form line) + findings_of to * finding_lines c.form → Checks c → ⊥
+other_lines c line status text to t wrong other h =
     let w = told_in c line status text to t h in
-    let count = one_of to.outcome.stop (load_fault (map code_of to.goes.definitions)) line status (length w.are.0) to.told wrong.0 wrong.1 w.are.1 in
-    let one : length w.are.0 * finding_lines c.form ≡ finding_lines c.form = ap (λ n. n * finding_lines c.form) count ∙ one-mul (finding_lines c.form) in
-    wrong.2 (lines_told c (comes_to c line status to) line status text w ∙ ap (λ n. newlines (shown_in_form c.form line) + n) one)
+    other (lines_told c (comes_to c line status to) line status text w ∙ ap (λ n. newlines (shown_in_form c.form line) + n * finding_lines c.form) (count_told c line status text to w wrong))
 
 odd_lines : Never (λ c line status text. (count : ℕ) → newlines text ≢ newlines (shown_in_form c.form line) + count * finding_lines c.form)
 odd_lines c line status text to t wrong h =

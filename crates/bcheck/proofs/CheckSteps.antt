@@ -13,7 +13,7 @@ use Rattle.blang.specs.declared.token.Diagnostic.{Diagnostic}
 use Rattle.bsources.specs.Files.{Files}
 use Rattle.btools.specs.Programs.{HasFault, IsCodeOf}
 use Rattle.bcheck.specs.Findings.{IsStopOf}
-use Rattle.bcheck.specs.Checks.{AreFindings, Judged, EachOutcome, Outcome, outcome_of, TellsFirst, told, shown_in_form, verdict_line, status_told, told_first}
+use Rattle.bcheck.specs.Checks.{AreFindings, Judged, EachOutcome, Outcome, fault_in, outcome_of, TellsFirst, told, shown_in_form, verdict_line, status_told, told_first}
 use Rattle.bcheck.proofs.FaultLines.{on_a_line}
 use Rattle.blang.specs.Reports.{Reported}
 use Rattle.bcheck.specs.declared.form.FindingForm.{FindingForm}
@@ -51,10 +51,10 @@ pub checked : (form : FindingForm) (files : Files) (v : Verdict) (edition : Edit
     → Judged edition source v → first ≡ shown_in_form form (verdict_line v) → status ≡ status_told v
     → EachOutcome edition source (λ o. AreFindings form o (status_told v) files more)
     → ((o : Outcome) → AreFindings form o status files more → TellsFirst form o files first status old new result)
-    → EachOutcome edition source (λ o. TellsFirst form o files (shown_in_form form (told_first o.stop o.fault).0) (told_first o.stop o.fault).1 old new result)
+    → EachOutcome edition source (λ o. TellsFirst form o files (shown_in_form form (told_first o.stop (fault_in o)).0) (told_first o.stop (fault_in o)).1 old new result)
 checked form files v edition source first more status old new result j f s are t =
     λ r g.
-    let o = outcome_of edition source r.stop (load_fault (map code_of g.definitions)) in
+    let o = outcome_of edition source r.stop (map code_of g.definitions) in
     let here : TellsFirst form o files first status old new result = t o (subst (λ n. AreFindings form o n files more) (sym s) (are r g)) in
     subst (λ (p : List ℕ × ℕ). TellsFirst form o files (shown_in_form form p.0) p.1 old new result) (j r g)
     (subst (λ n. TellsFirst form o files (shown_in_form form (verdict_line v)) n old new result) s (subst (λ x. TellsFirst form o files x status old new result) f here))

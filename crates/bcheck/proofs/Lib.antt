@@ -1,9 +1,13 @@
 pub mod AddedFindings
 pub mod CheckSteps
 pub mod CheckExcluded
+pub mod FilledWords
 pub mod FindingTexts
+pub mod MentionLoops
+pub mod MentionSteps
 pub mod OnLine
 pub mod TokenPlaces
+pub mod ToldNames
 pub mod PlaceSteps
 pub mod FaultLines
 pub mod Reasons

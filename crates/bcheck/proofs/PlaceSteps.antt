@@ -1,8 +1,8 @@
 -- Lines and columns along a text, and what stands where a source comes to a fault.
-use Rattle.std.proofs.Common.{◌≡◌, ◌∙◌, ◌+◌, ◌<◌, ◌⊎◌, ℕ, zero, suc, List, [], ◌∷◌, ◌++◌, Bool, true, false, Some, Ok, ap, arith, drop, get_or, inl, inr, length, refl, subst, sym, take, if◌then◌else◌}
+use Rattle.std.proofs.Common.{◌≡◌, ◌∙◌, ◌+◌, ◌<◌, ◌⊎◌, ℕ, zero, suc, List, [], ◌∷◌, Bool, true, false, Some, Ok, ap, arith, drop, get_or, inl, inr, length, refl, subst, sym, take, if◌then◌else◌}
 use Rattle.std.proofs.lemmas.List.{drop_all, take_all}
 use Rattle.std.proofs.Math.Nat.{min-le_right}
-use Rattle.std.specs.Prelude.{nat_lt, not, ◌==◌, ◌≤◌, map, min}
+use Rattle.std.specs.Prelude.{nat_lt, not, ◌==◌, ◌≤◌, min}
 use Rattle.bsources.specs.Files.{File}
 use Rattle.std.proofs.lemmas.Bool.Decides.{nat_tests}
 use Rattle.bword.specs.declared.edition.Edition.{Edition}

@@ -1,9 +1,10 @@
 -- Why an error is told: it is one of what the source comes to.
-use Rattle.std.proofs.Common.{◌≡◌, ◌∙◌, ◌<◌, ◌+◌, ◌++◌, ℕ, List, [], ◌∷◌, Option, Some, None, Result, Ok, Err, IfOk, ap, arith, codes, drop, get_or, length, map, refl, subst, sym, take}
-use Rattle.std.specs.List.{All}
-use Rattle.std.specs.Prelude.{unwrap_or}
-use Rattle.std.proofs.lemmas.List.{length_push}
-use Rattle.std.proofs.lemmas.List.Elements.{All-cons, All-get_or, All-nil, All-push, All-weaker}
+use Rattle.std.proofs.Common.{◌≡◌, ◌<◌, ℕ, List, [], ◌∷◌, Option, Some, None, Result, Ok, Err, IfOk, ap, arith, codes, drop, get_or, length, map, refl, subst, sym, take}
+use Rattle.std.specs.Global.{Vec}
+use Rattle.std.specs.List.{All, AllZip}
+use Rattle.std.specs.Prelude.{MatchResult, unwrap_or}
+use Rattle.std.proofs.lemmas.List.Elements.{All-cons, All-get_or, All-nil, All-weaker}
+use Rattle.blang.specs.declared.code.Definition.{Definition}
 use Rattle.blang.specs.Code.{code_of}
 use Rattle.blang.specs.Compiles.{Compilation, CompilesTo}
 use Rattle.blang.specs.Cut.{tokens_from}
@@ -13,9 +14,13 @@ use Rattle.bword.specs.declared.edition.Edition.{Edition}
 use Rattle.blang.specs.declared.run.LoadFault.{LoadFault}
 use Rattle.blang.specs.declared.run.LoadFault.TheVariants as fault
 use Rattle.blang.specs.declared.token.Diagnostic.{Diagnostic}
-use Rattle.btools.specs.Programs.{load_line}
-use Rattle.bcheck.specs.Checks.{EachOutcome, IsCount, Judged, Reason, told_first, told_of, verdict_line, status_told}
-use Rattle.bcheck.specs.Findings.{IsCountOf, IsReasoned, IsStopOf, ReasonAt, TellsFault, matter_code}
+use Rattle.btools.specs.Programs.{HasFault, IsCodeOf, load_line}
+use Rattle.bcheck.specs.Checks.{EachOutcome, IsWhole, Judged, Reason, fault_in, told_first, told_of, verdict_line, status_told}
+use Rattle.bcheck.specs.Findings.{AreWhole, IsCompiled, IsOn, IsReasoned, IsStopOf, ReasonAt, TellsFault, definitions_in, definitions_of, matter_code}
+use Rattle.bcheck.specs.UndefinedNames.{told_subjects}
+use Rattle.bcheck.specs.declared.compiled.Compiled.{Compiled}
+use Rattle.bcheck.specs.declared.mention.Subject.{Subject}
+use Rattle.bcheck.specs.declared.mention.Subject.TheVariants as subject
 use Rattle.bcheck.specs.declared.finding.Finding.{Finding}
 use Rattle.bcheck.specs.declared.verdict.Verdict.{Verdict}
 use Rattle.bcheck.specs.declared.verdict.Verdict.TheVariants as verdict
@@ -32,6 +37,13 @@ not_of_load fault.TooLarge line e = let no : ◌≡◌ {A = ℕ} 1 132 = status_
 not_of_load (fault.Undefined name) line e = let no : ◌≡◌ {A = ℕ} 1 132 = status_in e in absurd (omega (arith, no))
 not_of_load fault.NoMain line e = let no : ◌≡◌ {A = ℕ} 1 0 = status_in e in absurd (omega (arith, no))
 not_of_load fault.Memory line e = let no : ◌≡◌ {A = ℕ} 1 132 = status_in e in absurd (omega (arith, no))
+
+not_third : (g : LoadFault) → ((name : List ℕ) → g ≡ fault.Undefined name → ⊥) → unwrap_or (load_line g) [] ≡ codes "load 3\n" → ⊥
+not_third (fault.Duplicate name) other e = let no : ◌≡◌ {A = ℕ} 49 51 = ap (λ l. get_or l 5 0) e in absurd (omega (arith, no))
+not_third fault.TooLarge other e = let no : ◌≡◌ {A = ℕ} 50 51 = ap (λ l. get_or l 5 0) e in absurd (omega (arith, no))
+not_third (fault.Undefined name) other e = other name refl
+not_third fault.NoMain other e = let no : ◌≡◌ {A = ℕ} 52 51 = ap (λ l. get_or l 5 0) e in absurd (omega (arith, no))
+not_third fault.Memory other e = let no : ◌≡◌ {A = ℕ} 0 51 = ap (λ l. get_or l 5 0) e in absurd (omega (arith, no))
 
 module _ (edition : Edition) (before rest : List ℕ) where
   of_fault : (code : List ℕ) (line : List ℕ) (stop : Option Diagnostic) (f : Option LoadFault) → ((d : Diagnostic) → stop ≡ Some d → Reason edition (Some d) f code before rest)
@@ -58,13 +70,6 @@ module _ (edition : Edition) (before rest : List ℕ) where
   of_undefined None (Some fault.NoMain) e = tt
   of_undefined None (Some fault.Memory) e = tt
 
-  not_third : (g : LoadFault) → ((name : List ℕ) → g ≡ fault.Undefined name → ⊥) → unwrap_or (load_line g) [] ≡ codes "load 3\n" → ⊥
-  not_third (fault.Duplicate name) other e = let no : ◌≡◌ {A = ℕ} 49 51 = ap (λ l. get_or l 5 0) e in absurd (omega (arith, no))
-  not_third fault.TooLarge other e = let no : ◌≡◌ {A = ℕ} 50 51 = ap (λ l. get_or l 5 0) e in absurd (omega (arith, no))
-  not_third (fault.Undefined name) other e = other name refl
-  not_third fault.NoMain other e = let no : ◌≡◌ {A = ℕ} 52 51 = ap (λ l. get_or l 5 0) e in absurd (omega (arith, no))
-  not_third fault.Memory other e = let no : ◌≡◌ {A = ℕ} 0 51 = ap (λ l. get_or l 5 0) e in absurd (omega (arith, no))
-
   of_other : (g : LoadFault) → ((name : List ℕ) → g ≡ fault.Undefined name → ⊥) → (stop : Option Diagnostic) (f : Option LoadFault) → ◌≡◌ {A = List ℕ × ℕ} (unwrap_or (load_line g) [], 132) (told_first stop f)
       → Reason edition stop f (codes "load 2") before rest
   of_other g other (Some d) f e = let no : ◌≡◌ {A = ℕ} 132 1 = status_in e in absurd (omega (arith, no))
@@ -75,43 +80,60 @@ module _ (edition : Edition) (before rest : List ℕ) where
   of_other g other None (Some fault.NoMain) e = tt
   of_other g other None (Some fault.Memory) e = tt
 
--- how many findings there are, by the line and the status of the verdict
-one_counts : (stop : Option Diagnostic) (f : Option LoadFault) (n : ℕ) → n ≡ 1 → IsCount stop f n
-one_counts (Some d) f n e = e
-one_counts None None n e = tt
-one_counts None (Some (fault.Duplicate name)) n e = e
-one_counts None (Some fault.TooLarge) n e = e
-one_counts None (Some (fault.Undefined name)) n e = omega (arith, e)
-one_counts None (Some fault.NoMain) n e = tt
-one_counts None (Some fault.Memory) n e = e
+-- all is told, by the line and the status of the verdict
+module _ (ds : List Definition) (found : List Finding) where
+  whole_of_none : (stop : Option Diagnostic) (f : Option LoadFault) → ◌≡◌ {A = List ℕ × ℕ} ([], 0) (told_first stop f) → IsWhole IsOn stop f ds found
+  whole_of_none (Some d) f e = let no : ◌≡◌ {A = ℕ} 0 1 = status_in e in absurd (omega (arith, no))
+  whole_of_none None None e = tt
+  whole_of_none None (Some (fault.Duplicate name)) e = let no : ◌≡◌ {A = ℕ} 0 132 = status_in e in absurd (omega (arith, no))
+  whole_of_none None (Some fault.TooLarge) e = let no : ◌≡◌ {A = ℕ} 0 132 = status_in e in absurd (omega (arith, no))
+  whole_of_none None (Some (fault.Undefined name)) e = let no : ◌≡◌ {A = ℕ} 0 132 = status_in e in absurd (omega (arith, no))
+  whole_of_none None (Some fault.NoMain) e = tt
+  whole_of_none None (Some fault.Memory) e = let no : ◌≡◌ {A = ℕ} 0 132 = status_in e in absurd (omega (arith, no))
 
-none_counts : (stop : Option Diagnostic) (f : Option LoadFault) (n : ℕ) → ◌≡◌ {A = List ℕ × ℕ} ([], 0) (told_first stop f) → IsCount stop f n
-none_counts (Some d) f n e = let no : ◌≡◌ {A = ℕ} 0 1 = status_in e in absurd (omega (arith, no))
-none_counts None None n e = tt
-none_counts None (Some (fault.Duplicate name)) n e = let no : ◌≡◌ {A = ℕ} 0 132 = status_in e in absurd (omega (arith, no))
-none_counts None (Some fault.TooLarge) n e = let no : ◌≡◌ {A = ℕ} 0 132 = status_in e in absurd (omega (arith, no))
-none_counts None (Some (fault.Undefined name)) n e = let no : ◌≡◌ {A = ℕ} 0 132 = status_in e in absurd (omega (arith, no))
-none_counts None (Some fault.NoMain) n e = tt
-none_counts None (Some fault.Memory) n e = let no : ◌≡◌ {A = ℕ} 0 132 = status_in e in absurd (omega (arith, no))
+  whole_of_names : (stop : Option Diagnostic) (f : Option LoadFault) → ◌≡◌ {A = List ℕ × ℕ} (codes "load 3\n", 132) (told_first stop f) → AllZip IsOn (told_subjects ds) found → IsWhole IsOn stop f ds found
+  whole_of_names (Some d) f e each = let no : ◌≡◌ {A = ℕ} 132 1 = status_in e in absurd (omega (arith, no))
+  whole_of_names None None e each = tt
+  whole_of_names None (Some (fault.Duplicate name)) e each = let no : ◌≡◌ {A = ℕ} 51 49 = ap (λ l. get_or l 5 0) (line_in e) in absurd (omega (arith, no))
+  whole_of_names None (Some fault.TooLarge) e each = let no : ◌≡◌ {A = ℕ} 51 50 = ap (λ l. get_or l 5 0) (line_in e) in absurd (omega (arith, no))
+  whole_of_names None (Some (fault.Undefined name)) e each = each
+  whole_of_names None (Some fault.NoMain) e each = tt
+  whole_of_names None (Some fault.Memory) e each = let no : ◌≡◌ {A = ℕ} 51 0 = ap (λ l. get_or l 5 0) (line_in e) in absurd (omega (arith, no))
 
-some_count : (stop : Option Diagnostic) (f : Option LoadFault) (n : ℕ) → ◌≡◌ {A = List ℕ × ℕ} (codes "load 3\n", 132) (told_first stop f) → 0 < n → IsCount stop f n
-some_count (Some d) f n e some = let no : ◌≡◌ {A = ℕ} 132 1 = status_in e in absurd (omega (arith, no))
-some_count None None n e some = tt
-some_count None (Some (fault.Duplicate name)) n e some = let no : ◌≡◌ {A = ℕ} 51 49 = ap (λ l. get_or l 5 0) (line_in e) in absurd (omega (arith, no))
-some_count None (Some fault.TooLarge) n e some = let no : ◌≡◌ {A = ℕ} 51 50 = ap (λ l. get_or l 5 0) (line_in e) in absurd (omega (arith, no))
-some_count None (Some (fault.Undefined name)) n e some = some
-some_count None (Some fault.NoMain) n e some = tt
-some_count None (Some fault.Memory) n e some = let no : ◌≡◌ {A = ℕ} 51 0 = ap (λ l. get_or l 5 0) (line_in e) in absurd (omega (arith, no))
+  whole_of_one : (g : LoadFault) → ((name : List ℕ) → g ≡ fault.Undefined name → ⊥) → (stop : Option Diagnostic) (f : Option LoadFault) → ◌≡◌ {A = List ℕ × ℕ} (unwrap_or (load_line g) [], 132) (told_first stop f)
+      → length found ≡ 1 → IsWhole IsOn stop f ds found
+  whole_of_one g other (Some d) f e one = one
+  whole_of_one g other None None e one = tt
+  whole_of_one g other None (Some (fault.Duplicate name)) e one = one
+  whole_of_one g other None (Some fault.TooLarge) e one = one
+  whole_of_one g other None (Some (fault.Undefined name)) e one = absurd (not_third g other (line_in e))
+  whole_of_one g other None (Some fault.NoMain) e one = tt
+  whole_of_one g other None (Some fault.Memory) e one = one
 
-module _ (edition : Edition) (source : List ℕ) where
-  pub counts : (v : Verdict) (n : ℕ) → Judged edition source v → IsCountOf v n → EachOutcome edition source (λ o. IsCount o.stop o.fault n)
-  counts verdict.Clean n j is = λ r g. none_counts r.stop (load_fault (map code_of g.definitions)) n (j r g)
-  counts (verdict.Faulty line d) n j is = λ r g. one_counts r.stop (load_fault (map code_of g.definitions)) n is
-  counts (verdict.Unloaded (fault.Duplicate name)) n j is = λ r g. one_counts r.stop (load_fault (map code_of g.definitions)) n is
-  counts (verdict.Unloaded fault.TooLarge) n j is = λ r g. one_counts r.stop (load_fault (map code_of g.definitions)) n is
-  counts (verdict.Unloaded (fault.Undefined name)) n j is = λ r g. some_count r.stop (load_fault (map code_of g.definitions)) n (j r g) is
-  counts (verdict.Unloaded fault.NoMain) n j is = λ r g. one_counts r.stop (load_fault (map code_of g.definitions)) n is
-  counts (verdict.Unloaded fault.Memory) n j is = λ r g. one_counts r.stop (load_fault (map code_of g.definitions)) n is
+no_stop_of_load : (d : Diagnostic) (f : Option LoadFault) (line : List ℕ) → ◌≡◌ {A = List ℕ × ℕ} (line, 132) (told_first (Some d) f) → ⊥
+no_stop_of_load d f line e = let no : ◌≡◌ {A = ℕ} 132 1 = status_in e in absurd (omega (arith, no))
+
+module _ (edition : Edition) (source : List ℕ) (found : List Finding) where
+  pub clean_whole : Judged edition source verdict.Clean → AreWhole edition source found
+  clean_whole j = λ r g. whole_of_none (map code_of g.definitions) found r.stop (load_fault (map code_of g.definitions)) (j r g)
+
+  pub faulty_whole : (v : Verdict) (line : Kept) (d : Diagnostic) → v ≡ verdict.Faulty line d → IsStopOf edition source v → length found ≡ 1 → AreWhole edition source found
+  faulty_whole v line d is stop one =
+      λ r g. subst (λ s. IsWhole IsOn s (load_fault (map code_of g.definitions)) (map code_of g.definitions) found) (sym ((subst (λ x. IsStopOf edition source x) is stop) r g)) one
+
+  pub other_whole : (v : LoadFault) → ((name : List ℕ) → v ≡ fault.Undefined name → ⊥) → Judged edition source (verdict.Unloaded v) → length found ≡ 1 → AreWhole edition source found
+  other_whole v other j one = λ r g. whole_of_one (map code_of g.definitions) found v other r.stop (load_fault (map code_of g.definitions)) (j r g) one
+
+  names_whole : (code : Result (Vec Definition) Diagnostic) → MatchResult code (λ v. IsCodeOf edition source v.items) (HasFault edition source)
+      → EachOutcome edition source (λ o. ◌≡◌ {A = List ℕ × ℕ} (codes "load 3\n", 132) (told_first o.stop (fault_in o))) → AllZip IsOn (told_subjects (definitions_of code)) found → AreWhole edition source found
+  names_whole (Ok v) is j each =
+      λ r g. whole_of_names (map code_of g.definitions) found r.stop (load_fault (map code_of g.definitions)) (j r g) (subst (λ ds. AllZip IsOn (told_subjects ds) found) (sym (is r g).1) each)
+  names_whole (Err d) is j each =
+      λ r g. absurd (no_stop_of_load d (load_fault (map code_of g.definitions)) (codes "load 3\n") (subst (λ s. ◌≡◌ {A = List ℕ × ℕ} (codes "load 3\n", 132) (told_first s (load_fault (map code_of g.definitions)))) (is r g) (j r g)))
+
+  pub undefined_whole : (name : List ℕ) (v : LoadFault) (c : Compiled) → v ≡ fault.Undefined name → Judged edition source (verdict.Unloaded v) → IsCompiled edition source c → AllZip IsOn (told_subjects (definitions_in c)) found → AreWhole edition source found
+  undefined_whole name v c is j compiled each =
+      names_whole c.code compiled (λ r g. subst (λ x. ◌≡◌ {A = List ℕ × ℕ} (unwrap_or (load_line x) [], 132) (told_first r.stop (load_fault (map code_of g.definitions)))) is (j r g)) each
 
 pub every_ok : {X E : Type 0} (r : Result X E) (P : X → Type 0) → ((x : X) → P x) → IfOk r P
 every_ok (Ok x) P f = f x
@@ -140,8 +162,19 @@ module _ (edition : Edition) (source : List ℕ) where
       λ r g. subst (λ k. Reason edition r.stop (found r g) k (take f.place.start source) (drop f.place.start source)) (sym e)
       (of_undefined edition (take f.place.start source) (drop f.place.start source) r.stop (found r g) (subst (λ x. ◌≡◌ {A = List ℕ × ℕ} (unwrap_or (load_line x) [], 132) (told_first r.stop (found r g))) is (j r g)))
 
-  pub undefined_reasons : (name : List ℕ) (v : LoadFault) (fs : List Finding) → v ≡ fault.Undefined name → Judged edition source (verdict.Unloaded v) → All (λ f. matter_code f.matter ≡ codes "load 3") fs → All (IsReasoned edition source) fs
-  undefined_reasons name v fs is j all = All-weaker (λ f. matter_code f.matter ≡ codes "load 3") (IsReasoned edition source) (λ f e. undefined_reason name v f is j e) fs all
+  on_code : (subject : Subject) (f : Finding) → IsOn subject f → matter_code f.matter ≡ codes "load 3"
+  on_code (subject.Name x) f on = ap matter_code on.2
+  on_code (subject.Word x) f on = ap matter_code on.2
+  on_code (subject.Typed x) f on = ap matter_code on.1
+
+  all_codes : (subjects : List Subject) (fs : List Finding) → AllZip IsOn subjects fs → All (λ f. matter_code f.matter ≡ codes "load 3") fs
+  all_codes [] [] on = All-nil (λ f. matter_code f.matter ≡ codes "load 3")
+  all_codes [] (f ∷ fs) on = absurd on
+  all_codes (s ∷ ss) [] on = absurd on
+  all_codes (s ∷ ss) (f ∷ fs) on = All-cons (λ f. matter_code f.matter ≡ codes "load 3") f fs (on_code s f on.0) (all_codes ss fs on.1)
+
+  pub undefined_reasons : (name : List ℕ) (v : LoadFault) (subjects : List Subject) (fs : List Finding) → v ≡ fault.Undefined name → Judged edition source (verdict.Unloaded v) → AllZip IsOn subjects fs → All (IsReasoned edition source) fs
+  undefined_reasons name v subjects fs is j each = All-weaker (λ f. matter_code f.matter ≡ codes "load 3") (IsReasoned edition source) (λ f e. undefined_reason name v f is j e) fs (all_codes subjects fs each)
 
   pub other_reason : (v : LoadFault) (start : ℕ) → ((name : List ℕ) → v ≡ fault.Undefined name → ⊥) → Judged edition source (verdict.Unloaded v) → EachOutcome edition source (ReasonAt (codes "load 2") start)
   other_reason v start other j = λ r g. of_other edition (take start source) (drop start source) v other r.stop (found r g) (j r g)
@@ -155,15 +188,3 @@ module _ (edition : Edition) (source : List ℕ) where
   item_reason fs xs i f code same lt is all e =
       subst (λ k. EachOutcome edition source (ReasonAt k f.place.start)) (sym e)
       (subst (λ x. IsReasoned edition source x) (sym is) (All-get_or (IsReasoned edition source) xs i f lt (subst (λ x. All (IsReasoned edition source) x) (sym same) all)))
-
-pub one_counted : (v : LoadFault) (n : ℕ) → n ≡ 1 → IsCountOf (verdict.Unloaded v) n
-one_counted (fault.Duplicate name) n e = e
-one_counted fault.TooLarge n e = e
-one_counted (fault.Undefined name) n e = omega (arith, e)
-one_counted fault.NoMain n e = e
-one_counted fault.Memory n e = e
-
--- one finding more of names that nothing defines
-pub told_more : (P : Finding → Type 0) (old new : List Finding) (f : Finding) → new ≡ old ++ f ∷ [] → P f → ((0 < length old) × All P old) → ((0 < length new) × All P new)
-told_more P old new f e is all =
-    (let n : length new ≡ length old + 1 = ap length e ∙ length_push old f in let some = all.0 in omega (arith, n, some), subst (λ x. All P x) (sym e) (All-push P old f all.1 is))

@@ -1,21 +1,24 @@
 -- Promise: what the contract of a check excludes, whatever its source, its file and its output are.
 use Rattle.std.specs.Prelude.{◌≡◌, ◌≢◌, ℕ, ◌+◌, ◌*◌, ◌<◌, ◌≤◌, ◌==◌, Bool, ◌||◌, false, true, not, IsTrue}
-use Rattle.std.specs.Prelude.{List, [], ◌∷◌, ◌++◌, Some, codes, decimal, map, Option}
+use Rattle.std.specs.Prelude.{List, [], ◌∷◌, ◌++◌, None, Some, codes, decimal, length, map, Option}
 use Rattle.std.specs.Int.{is_in_range}
 use Rattle.std.specs.Io.{StartsWith}
 use Rattle.std.specs.List.{count_by, list_all}
 use Rattle.bword.specs.ByteEnds.{Grew}
-use Rattle.bword.specs.declared.edition.Edition.{Edition}
 use Rattle.bword.specs.declared.edition.Edition.TheVariants as editions
 use Rattle.blang.specs.Code.{code_of}
 use Rattle.blang.specs.Compiles.{Compilation, CompilesTo, letters_text}
 use Rattle.blang.specs.Cut.{line_number_after, tokens_from}
 use Rattle.blang.specs.declared.token.Diagnostic.{Diagnostic}
+use Rattle.blang.specs.declared.code.Definition.{Definition}
+use Rattle.blang.specs.declared.run.LoadFault.{LoadFault}
+use Rattle.blang.specs.declared.run.LoadFault.TheVariants as fault
 use Rattle.blang.specs.Layout.{load_fault}
 use Rattle.blang.specs.declared.status.TheConstants.{DONE, DEVICE, MEMORY}
 use Rattle.bsources.specs.Files.{own_line}
 use Rattle.bcheck.specs.Checks.{Check, Checks, FindingParts, IsOver, column_after, finding_head}
 use Rattle.bcheck.specs.Tokens.{has_token_on, is_in_token}
+use Rattle.bcheck.specs.UndefinedNames.{told_subjects}
 use Rattle.btools.specs.Quoting.{file_text}
 use Rattle.bcheck.specs.Checks.{finding_start}
 use Rattle.bcheck.specs.Checks.{findings_text}
@@ -68,6 +71,17 @@ has_no_colon text = list_all (λ b. not (b == 58)) text
 abbrev pub newlines : List ℕ → ℕ
 newlines text = count_by (λ b. b == 10) text
 
+-- how many findings a diagnostic or a fault of loading has
+abbrev pub finding_count : Option Diagnostic → Option LoadFault → List Definition → ℕ
+finding_count None (Some (fault.Undefined name)) ds = length (told_subjects ds)
+finding_count stop f ds = 1
+
+-- how many are told of a source
+abbrev pub findings_of : {c : Check} → {line : List ℕ} → {status : ℕ} → ComesTo c line status → ℕ
+findings_of to =
+    let ds = map code_of to.goes.definitions in
+    finding_count to.outcome.stop (load_fault ds) ds
+
 -- how many newlines the text of a finding has
 abbrev pub finding_lines : FindingForm → ℕ
 finding_lines form.Text = 4
@@ -119,10 +133,11 @@ pub record Excluded : Type 0 where
   -- of a fault, for an editor, other letters than the diagnostic's
   pub other_letters : NeverOf (λ c d row column rest. (c.form ≡ form.Json) × (first : ℕ) × (second : ℕ)
       × (more : List ℕ) × (rest ≡ 34 ∷ first ∷ second ∷ more) × (first ∷ second ∷ [] ≢ letters_text d.letters))
-  -- of a fault, but for names that nothing defines, no finding or two, or a newline in its words, its piece of the
-  -- source or the name of its file
-  pub other_lines : Never (λ c line status text. (status ≢ DONE) × (line ≢ codes "load 3\n")
-      × (newlines text ≢ newlines (shown_in_form c.form line) + finding_lines c.form))
+  -- of a fault another number of findings than one, or of names that nothing defines than one for each; or a newline in
+  -- its words, its piece of the source or the name of its file
+  pub other_lines : (c : Check) (line : List ℕ) (status : ℕ) (text : List ℕ) (to : ComesTo c line status)
+      → IsTold c text → status ≢ DONE
+      → newlines text ≢ newlines (shown_in_form c.form line) + findings_of to * finding_lines c.form → Checks c → ⊥
   -- lines after the first one that are no whole findings
   pub odd_lines : Never (λ c line status text.
       (count : ℕ) → newlines text ≢ newlines (shown_in_form c.form line) + count * finding_lines c.form)

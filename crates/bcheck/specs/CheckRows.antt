@@ -1,5 +1,5 @@
 -- Closed facts: what is told of a source, each at its limits and one past them.
-use Rattle.std.specs.Prelude.{◌≡◌, ◌<◌, ℕ, List, [], ◌∷◌, ◌++◌, codes, map, Option, None, Some, refl, true, false}
+use Rattle.std.specs.Prelude.{◌≡◌, ℕ, List, [], ◌∷◌, ◌++◌, codes, length, map, Option, None, Some, refl, true, false}
 use Rattle.std.specs.Fmt.{digits}
 use Rattle.bword.specs.declared.edition.Edition.TheVariants as editions
 use Rattle.blang.specs.declared.token.Diagnostic.{Diagnostic}
@@ -8,7 +8,11 @@ use Rattle.blang.specs.declared.token.About.TheVariants as about
 use Rattle.blang.specs.declared.token.Letters.TheVariants as letters
 use Rattle.blang.specs.declared.run.LoadFault.{LoadFault}
 use Rattle.blang.specs.declared.run.LoadFault.TheVariants as fault
-use Rattle.bcheck.specs.Checks.{FindingParts, IsCount, Reason, finding_text, findings_text, is_in_line, is_on_line, second_text}
+use Rattle.std.specs.List.{AllZip}
+use Rattle.blang.specs.declared.code.Definition.{Definition}
+use Rattle.bcheck.specs.UndefinedNames.{told_subjects}
+use Rattle.bcheck.specs.declared.mention.Subject.{Subject}
+use Rattle.bcheck.specs.Checks.{FindingParts, IsWhole, Reason, finding_text, findings_text, is_in_line, is_on_line, second_text}
 use Rattle.bcheck.specs.Checks.{column_after, diagnostic_code, next_column, severity_of, severity_word, shown_byte}
 use Rattle.bcheck.specs.Checks.{shown_in_form, told_first}
 use Rattle.bcheck.specs.CheckExcluded.{has_no_colon, is_printed, newlines}
@@ -67,13 +71,14 @@ load_codes : (code : List ℕ) → (Reason editions.Two None (Some fault.TooLarg
     × (Reason editions.Two None (Some (fault.Undefined (codes "n"))) code [] [] → code ≡ codes "load 3")
 load_codes code = (λ reason. reason, λ reason. reason)
 
--- one finding of a diagnostic and of data that are too many, and no fewer of names that nothing defines
-counts_of_faults : (d : Diagnostic) (f : Option LoadFault) (n : ℕ)
-    → (IsCount (Some d) f n → n ≡ 1) × (IsCount None (Some fault.TooLarge) n → n ≡ 1)
-counts_of_faults d f n = (λ is. is, λ is. is)
+-- one finding of a diagnostic and of data that are too many; and of names that nothing defines one for each
+whole_of_faults : (On : Subject → ℕ → Type 0) (d : Diagnostic) (f : Option LoadFault) (ds : List Definition) (told : List ℕ)
+    → (IsWhole On (Some d) f ds told → length told ≡ 1) × (IsWhole On None (Some fault.TooLarge) ds told → length told ≡ 1)
+whole_of_faults On d f ds told = (λ is. is, λ is. is)
 
-some_of_names : (name : List ℕ) (n : ℕ) → IsCount None (Some (fault.Undefined name)) n → 0 < n
-some_of_names name n = λ is. is
+whole_of_names : (On : Subject → ℕ → Type 0) (name : List ℕ) (ds : List Definition) (told : List ℕ)
+    → IsWhole On None (Some (fault.Undefined name)) ds told → AllZip On (told_subjects ds) told
+whole_of_names On name ds told = λ is. is
 
 -- the code of each warning
 warning_codes : map warning_code (

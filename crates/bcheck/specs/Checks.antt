@@ -3,7 +3,7 @@ use Rattle.std.specs.Prelude.{◌≡◌, ℕ, ◌+◌, ◌<◌, ◌==◌, nat_lt
 use Rattle.std.specs.Prelude.{List, [], ◌∷◌, ◌++◌, ◌⊎◌, codes, decimal, length, map, min, replicate, Option, Some, None}
 use Rattle.std.specs.Prelude.{unwrap_or}
 use Rattle.std.specs.Int.{is_in_range}
-use Rattle.std.specs.List.{All, flat_map, list_all}
+use Rattle.std.specs.List.{All, AllZip, flat_map, list_all}
 use Rattle.bword.specs.declared.edition.Edition.{Edition}
 use Rattle.bword.specs.ByteEnds.{Outgoing, most}
 use Rattle.blang.specs.Cut.{tokens_from, placed, line_number_after}
@@ -15,6 +15,7 @@ use Rattle.blang.specs.declared.token.Placed.{Placed}
 use Rattle.blang.specs.declared.token.Token.TheVariants as token
 use Rattle.blang.specs.declared.token.Diagnostic.{Diagnostic}
 use Rattle.blang.specs.Code.{code_of}
+use Rattle.blang.specs.declared.code.Definition.{Definition}
 use Rattle.blang.specs.Compiles.{Compilation, CompilesTo, letters_text, line_of}
 use Rattle.blang.specs.Layout.{load_fault}
 use Rattle.blang.specs.declared.run.LoadFault.{LoadFault}
@@ -25,6 +26,8 @@ use Rattle.btools.specs.Quoting.{file_text, json_text}
 use Rattle.blang.specs.Reports.{Reported}
 use Rattle.bsources.specs.Files.{Files, Line, own_line}
 use Rattle.bcheck.specs.Tokens.{has_token_on, is_in_token}
+use Rattle.bcheck.specs.UndefinedNames.{Tells, told_subjects}
+use Rattle.bcheck.specs.declared.mention.Subject.{Subject}
 use Rattle.bcheck.specs.declared.finding.Severity.{Severity}
 use Rattle.bcheck.specs.declared.finding.Severity.TheVariants as severity
 use Rattle.bcheck.specs.declared.form.FindingForm.{FindingForm}
@@ -53,25 +56,29 @@ status_told verdict.Clean = DONE
 status_told (verdict.Faulty line d) = FAULT
 status_told (verdict.Unloaded f) = REFUSED
 
--- a source in an edition, and its outcome: a diagnostic, and the first fault of loading its code
+-- a source in an edition, and its outcome: a diagnostic, and the definitions of its code
 pub record Outcome : Type 0 where
   pub edition : Edition
   pub source : List ℕ
   pub stop : Option Diagnostic
-  pub fault : Option LoadFault
+  pub definitions : List Definition
 
-abbrev pub outcome_of : Edition → List ℕ → Option Diagnostic → Option LoadFault → Outcome
-outcome_of edition source stop f = record { edition = edition; source = source; stop = stop; fault = f }
+abbrev pub outcome_of : Edition → List ℕ → Option Diagnostic → List Definition → Outcome
+outcome_of edition source stop ds = record { edition = edition; source = source; stop = stop; definitions = ds }
+
+-- the first fault of loading the code
+abbrev pub fault_in : Outcome → Option LoadFault
+fault_in o = load_fault o.definitions
 
 -- for each outcome of a source in an edition
 abbrev pub EachOutcome : Edition → List ℕ → (Outcome → Type 0) → Type 0
 EachOutcome edition source P =
     (r : Compilation) (g : CompilesTo [] (tokens_from edition 1 source) r)
-    → P (outcome_of edition source r.stop (load_fault (map code_of g.definitions)))
+    → P (outcome_of edition source r.stop (map code_of g.definitions))
 
 abbrev pub Judged : Edition → List ℕ → Verdict → Type 0
 Judged edition source v =
-    EachOutcome edition source (λ o. (verdict_line v, status_told v) ≡ told_first o.stop o.fault)
+    EachOutcome edition source (λ o. (verdict_line v, status_told v) ≡ told_first o.stop (fault_in o))
 
 -- what is found of a source that compiles and whose code loads is a warning, and of any other an error
 abbrev pub severity_of : (status : ℕ) → Severity
@@ -247,21 +254,29 @@ Reason edition None (Some (fault.Undefined name)) code before rest = code ≡ co
 Reason edition None f code before rest = Unit {0}
 
 abbrev pub IsReason : (o : Outcome) → FindingParts o.source → Type 0
-IsReason o p = Reason o.edition o.stop o.fault p.code (p.before ++ p.left) (p.right ++ p.after)
+IsReason o p = Reason o.edition o.stop (fault_in o) p.code (p.before ++ p.left) (p.right ++ p.after)
 
--- How many findings there are: one of a diagnostic and of data that are too many, and at least one of names that nothing
--- defines.
-abbrev pub IsCount : Option Diagnostic → Option LoadFault → (count : ℕ) → Type 0
-IsCount (Some d) f count = count ≡ 1
-IsCount None (Some (fault.Undefined name)) count = 0 < count
-IsCount None (Some fault.NoMain) count = Unit {0}
-IsCount None (Some f) count = count ≡ 1
-IsCount None None count = Unit {0}
+-- All is told: one thing of a diagnostic and of data that are too many, and each name that nothing defines.
+abbrev pub IsWhole : {A : Type 0} → (Subject → A → Type 0) → Option Diagnostic → Option LoadFault → List Definition
+    → (told : List A) → Type 0
+IsWhole On (Some d) f ds told = length told ≡ 1
+IsWhole On None (Some (fault.Undefined name)) ds told = AllZip On (told_subjects ds) told
+IsWhole On None (Some fault.NoMain) ds told = Unit {0}
+IsWhole On None (Some f) ds told = length told ≡ 1
+IsWhole On None None ds told = Unit {0}
+
+-- What is told of an outcome is all.
+abbrev pub TellsAll : {A : Type 0} → (Subject → A → Type 0) → Outcome → (told : List A) → Type 0
+TellsAll On o told = IsWhole On o.stop (fault_in o) o.definitions told
+
+-- The sentence of a finding tells this.
+abbrev pub Says : {source : List ℕ} → Subject → FindingParts source → Type 0
+Says subject p = Tells subject p.sentence
 
 -- The text of such findings of a source with this status.
 abbrev pub AreFindings : FindingForm → Outcome → (status : ℕ) → Files → (text : List ℕ) → Type 0
 AreFindings form o status files text =
-    (findings : List (FindingParts o.source)) × IsCount o.stop o.fault (length findings) × All (IsReason o) findings
+    (findings : List (FindingParts o.source)) × TellsAll Says o findings × All (IsReason o) findings
     × (text ≡ findings_text form status files findings)
 
 -- A text and then findings were told with this status; or memory was refused, and nothing was written.
@@ -293,4 +308,4 @@ TellsOutcome c o (line, status) =
 
 -- What is written is the line of the source and then findings, and the status is the source's.
 abbrev pub Checks : Check → Type 0
-Checks c = EachOutcome c.edition c.source (λ o. TellsOutcome c o (told_first o.stop o.fault))
+Checks c = EachOutcome c.edition c.source (λ o. TellsOutcome c o (told_first o.stop (fault_in o)))

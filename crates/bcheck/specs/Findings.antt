@@ -1,13 +1,18 @@
 -- Promise: what is known of a finding before it is told.
-use Rattle.std.specs.Prelude.{◌≡◌, ℕ, ◌<◌, ◌⊎◌, Bool, IsTrue, true, false, List, [], ◌++◌, codes, drop, length, take}
-use Rattle.std.specs.Prelude.{Option, Some, None, IfSome, MatchResult, ◌≤◌, map}
+use Rattle.std.specs.Prelude.{◌≡◌, ℕ, ◌+◌, ◌<◌, ◌⊎◌, ◌&&◌, Bool, IsTrue, true, false, List, [], ◌∷◌, ◌++◌, codes, drop}
+use Rattle.std.specs.Prelude.{Option, Some, None, IfSome, Result, Ok, Err, MatchResult, ◌≤◌, length, take}
 use Rattle.bword.specs.declared.edition.Edition.{Edition}
 use Rattle.blang.specs.Cut.{line_number_after}
 use Rattle.blang.specs.declared.token.Diagnostic.{Diagnostic}
-use Rattle.blang.specs.declared.run.LoadFault.TheVariants as fault
 use Rattle.bsources.specs.Files.{Files, line_shown, own_line}
-use Rattle.bcheck.specs.Checks.{EachOutcome, FindingParts, IsAtToken, Outcome, Reason, StandsOn, column_after, diagnostic_code}
-use Rattle.bcheck.specs.Checks.{finding_text, is_in_line, is_of_several}
+use Rattle.bcheck.specs.Checks.{EachOutcome, FindingParts, IsAtToken, Outcome, Reason, StandsOn, TellsAll, column_after}
+use Rattle.bcheck.specs.Checks.{diagnostic_code, fault_in, finding_text, is_in_line, is_of_several}
+use Rattle.bcheck.specs.UndefinedNames.{beginnings, ends_name}
+use Rattle.bcheck.specs.declared.mention.Subject.{Subject}
+use Rattle.bcheck.specs.declared.mention.Subject.TheVariants as subject
+use Rattle.blang.specs.declared.code.Definition.{Definition}
+use Rattle.bword.specs.Words.{same_name}
+use Rattle.std.specs.Global.{Vec}
 use Rattle.std.specs.List.{list_any}
 use Rattle.blex.specs.declared.scanner.PlacedPiece.{PlacedPiece}
 use Rattle.bcheck.specs.Tokens.{has_token_on, is_on, pieces_of}
@@ -23,6 +28,7 @@ use Rattle.bcheck.specs.declared.finding.SecondPlace.{SecondPlace}
 use Rattle.bcheck.specs.declared.finding.Severity.{Severity}
 use Rattle.bcheck.specs.declared.form.FindingForm.{FindingForm}
 use Rattle.bcheck.specs.declared.places.Milestone.{Milestone}
+use Rattle.bcheck.specs.declared.undefined.UndefinedName.{UndefinedName}
 use Rattle.bcheck.specs.declared.verdict.Verdict.{Verdict}
 use Rattle.bcheck.specs.declared.verdict.Verdict.TheVariants as verdict
 
@@ -93,6 +99,7 @@ matter_code matter.TooManyNames = codes ">s"
 matter_code matter.TooManyCases = codes ">c"
 matter_code (matter.TooLarge limit) = codes ">e"
 matter_code matter.DataTooLarge = codes "load 2"
+matter_code matter.NoTypes = codes "load 3"
 matter_code (matter.NotDefined undefined) = codes "load 3"
 matter_code (matter.Warning warning) = warning_code warning
 
@@ -106,12 +113,41 @@ abbrev pub IsStopOf : Edition → List ℕ → Verdict → Type 0
 IsStopOf edition source (verdict.Faulty line d) = HasFault edition source d
 IsStopOf edition source v = Unit {0}
 
--- so many findings belong to this verdict
-abbrev pub IsCountOf : Verdict → (count : ℕ) → Type 0
-IsCountOf verdict.Clean count = Unit {0}
-IsCountOf (verdict.Faulty line d) count = count ≡ 1
-IsCountOf (verdict.Unloaded (fault.Undefined name)) count = 0 < count
-IsCountOf (verdict.Unloaded f) count = count ≡ 1
+-- the definitions of the code; none, if there is a fault
+abbrev pub definitions_of : Result (Vec Definition) Diagnostic → List Definition
+definitions_of (Ok definitions) = definitions.items
+definitions_of (Err d) = []
+
+abbrev pub definitions_in : Compiled → List Definition
+definitions_in c = definitions_of c.code
+
+-- The finding is on this name, which isn't defined.
+abbrev pub IsOnName : List ℕ → Finding → Type 0
+IsOnName x f = (u : UndefinedName) × (f.name ≡ Some x) × (f.matter ≡ matter.NotDefined u)
+
+-- The finding is on this.
+abbrev pub IsOn : Subject → Finding → Type 0
+IsOn (subject.Name x) f = IsOnName x f
+IsOn (subject.Word x) f = IsOnName x f
+IsOn (subject.Typed x) f = (f.name ≡ Some x) × (f.matter ≡ matter.NoTypes)
+
+-- The findings are all that is told of the source.
+abbrev pub AreWhole : Edition → List ℕ → List Finding → Type 0
+AreWhole edition source found = EachOutcome edition source (λ o. TellsAll IsOn o found)
+
+-- the sentence has `@` after this beginning, and then nothing or a colon
+abbrev pub begins_name : (begin sentence : List ℕ) → Bool
+begins_name begin sentence =
+    same_name (take (length begin + 1) sentence) (begin ++ 64 ∷ []) && ends_name (drop (length begin + 1) sentence)
+
+abbrev pub is_with_name : List ℕ → Bool
+is_with_name sentence = list_any (λ begin. begins_name begin sentence) beginnings
+
+-- the sentence is one on this matter
+abbrev pub is_sentence : Matter → List ℕ → Bool
+is_sentence (matter.NotDefined undefined) sentence = is_with_name sentence
+is_sentence matter.NoTypes sentence = same_name sentence (codes "there are no types: the name before @ is defined")
+is_sentence m sentence = true
 
 -- the matter is that of the diagnostic, and the place is one for it
 abbrev pub TellsFault : Edition → List ℕ → Diagnostic → Finding → Type 0
@@ -122,7 +158,7 @@ TellsFault edition source d f =
 
 -- an error of this code at this place is one of what the source comes to
 abbrev pub ReasonAt : (code : List ℕ) → (start : ℕ) → Outcome → Type 0
-ReasonAt code start o = Reason o.edition o.stop o.fault code (take start o.source) (drop start o.source)
+ReasonAt code start o = Reason o.edition o.stop (fault_in o) code (take start o.source) (drop start o.source)
 
 abbrev pub IsReasoned : Edition → List ℕ → Finding → Type 0
 IsReasoned edition source f = EachOutcome edition source (ReasonAt (matter_code f.matter) f.place.start)
@@ -168,8 +204,9 @@ IsSpot files source s =
 abbrev pub IsSecond : Files → (source : List ℕ) → Option SecondPlace → Type 0
 IsSecond files source s = IfSome s (IsSpot files source)
 
--- the text has a finding of this code at this place more
-abbrev pub AddsFinding : FindingForm → Severity → Files → (source : List ℕ) → (start : ℕ) → (code old new : List ℕ) → Type 0
-AddsFinding form s files source start code old new =
+-- the text has a finding of this code and this sentence at this place more
+abbrev pub AddsFinding : FindingForm → Severity → Files → (source : List ℕ) → (start : ℕ)
+    → (code sentence old new : List ℕ) → Type 0
+AddsFinding form s files source start code sentence old new =
     (p : FindingParts source) × (p.code ≡ code) × (p.before ++ p.left ≡ take start source)
-    × (p.right ++ p.after ≡ drop start source) × (new ≡ old ++ finding_text form s files p)
+    × (p.right ++ p.after ≡ drop start source) × (new ≡ old ++ finding_text form s files p) × (p.sentence ≡ sentence)

@@ -3,4 +3,7 @@ pub mod CheckRows
 pub mod Checks
 pub mod CheckExcluded
 pub mod Findings
+pub mod Mentions
 pub mod Pieces
+pub mod UndefinedNames
+pub mod UndefinedRows

@@ -1,10 +1,11 @@
 -- Inner words: the text of each piece.
-use Rattle.std.specs.Prelude.{ℕ, List, [], Option, Some, None, decimal, replicate}
+use Rattle.std.specs.Prelude.{ℕ, ◌==◌, List, [], ◌∷◌, Option, Some, None, decimal, if◌then◌else◌, replicate}
 use Rattle.std.specs.List.{flat_map}
 use Rattle.bsources.specs.Files.{line_shown}
 use Rattle.bcheck.specs.Checks.{shown_text, spot_words}
 use Rattle.btools.specs.Quoting.{file_text, json_text}
 use Rattle.bcheck.specs.declared.finding.SecondPlace.{SecondPlace}
+use Rattle.bcheck.specs.declared.words.Given.{Given}
 use Rattle.bcheck.specs.declared.pieces.Fragment.{Fragment}
 use Rattle.bcheck.specs.declared.pieces.Fragment.TheVariants as piece
 
@@ -21,3 +22,9 @@ piece_text (piece.File name) = file_text name.now
 piece_text (piece.Shown bytes) = flat_map shown_text bytes.now
 piece_text (piece.Blanks n) = replicate n 32
 piece_text (piece.Marks n) = replicate n 94
+
+-- what stands for a byte of a sentence, of which `@`, `#` and `%` are places for what is given
+abbrev pub filled_byte : Given → ℕ → List ℕ
+filled_byte given b =
+    if b == 64 then given.name.now
+    else (if b == 35 then given.other.now else (if b == 37 then given.line.now else b ∷ []))

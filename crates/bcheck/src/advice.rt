@@ -2,12 +2,12 @@
 ghost use Rattle.std.specs.List.{list_all};
 ghost use Rattle.std.specs.Prelude.{◌≡◌, ◌∷◌, [], IsTrue};
 ghost use Rattle.bcheck.specs.Checks.{is_on_line};
-ghost use Rattle.bcheck.specs.Findings.{matter_code};
+ghost use Rattle.bcheck.specs.Findings.{is_sentence, matter_code};
 
 use crate::bytes::{Byte, Constant};
 use crate::limits::Limit;
 use crate::syntax::Syntax;
-use crate::undefined::Undefined;
+use crate::undefined::UndefinedName;
 use crate::unknown::{Lvalue, Unknown};
 use crate::warnings::Warning;
 
@@ -32,7 +32,8 @@ pub(crate) enum Matter {
     TooManyCases,
     TooLarge(Limit),
     DataTooLarge,
-    NotDefined(Undefined),
+    NoTypes,
+    NotDefined(UndefinedName),
     Warning(Warning),
 }
 
@@ -43,6 +44,7 @@ impl Matter {
     pub(crate) fn advice(self) -> (&'static str, &'static str, &'static str)
         ensures on_lines { IsTrue (list_all is_on_line (result.0.now ∷ result.1.now ∷ result.2.now ∷ [])) }
         ensures code { result.0.now ≡ matter_code self }
+        ensures sentence { IsTrue (is_sentence self result.1.now) }
     {
         match self {
             Matter::OpenComment => ("*/", "this comment has no end", "write */ where it ends"),
@@ -69,6 +71,8 @@ impl Matter {
             Matter::TooLarge(limit) => with_code(">e", limit.advice()),
             Matter::DataTooLarge =>
                 ("load 2", "the data or the labels of the program are too many", "make the vectors smaller"),
+            Matter::NoTypes =>
+                ("load 3", "there are no types: the name before @ is defined", "@; defines @"),
             Matter::NotDefined(undefined) => with_code("load 3", undefined.advice()),
             Matter::Warning(warning) => warning.advice(),
         }

@@ -1,6 +1,6 @@
 //! What compiling a source gives, with what the line of the compiler doesn't tell.
-ghost use Rattle.std.specs.Prelude.{IfOk, None};
-ghost use Rattle.bcheck.specs.Findings.{IsCompiled};
+ghost use Rattle.std.specs.Prelude.{◌≡◌, IfOk, None};
+ghost use Rattle.bcheck.specs.Findings.{IsCompiled, definitions_in};
 
 use crate::spans::SourceText;
 use blang::{Definition, Diagnostic};
@@ -31,7 +31,9 @@ pub(crate) struct Compiled {
 
 impl Compiled {
     /// The definitions of its code; none, if there is a fault.
-    pub(crate) fn definitions(&self) -> &[Definition] {
+    pub(crate) fn definitions(&self) -> &[Definition]
+        ensures { result.now ≡ definitions_in self.now }
+    {
         match &self.code {
             Ok(definitions) => definitions.as_slice(),
             Err(_) => &[],

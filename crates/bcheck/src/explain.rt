@@ -1,9 +1,9 @@
 //! What is said of a source after the line of the compiler.
 ghost use Rattle.std.specs.List.{All};
-ghost use Rattle.std.specs.Prelude.{◌≡◌, ◌<◌, ◌∷◌, [], IfOk, length, vec_items};
+ghost use Rattle.std.specs.Prelude.{◌≡◌, ◌<◌, ◌∷◌, [], IfOk, vec_items};
 ghost use Rattle.bsources.specs.Files.{files_shown};
 ghost use Rattle.bcheck.specs.Checks.{AreFindings, EachOutcome, Judged, status_told};
-ghost use Rattle.bcheck.specs.Findings.{IsCountOf, IsReasoned, IsStopOf, TellsFault};
+ghost use Rattle.bcheck.specs.Findings.{AreWhole, IsCompiled, IsReasoned, IsStopOf, TellsFault};
 ghost use Rattle.bcheck.specs.declared.verdict.Verdict.TheVariants as verdict;
 
 use crate::across::comments_across;
@@ -35,6 +35,7 @@ pub(crate) fn explain(
 ) -> Result<Text, AllocError>
     requires judged { Judged source.edition source.text.now judgement.now.verdict }
     requires stop { IsStopOf source.edition source.text.now judgement.now.verdict }
+    requires compiled { IsCompiled source.edition source.text.now judgement.now.compiled }
     ensures { IfOk result (λ said. EachOutcome source.entry.edition source.entry.text.now
         (λ o. AreFindings asked.entry.form o (status_told judgement.now.verdict) (files_shown asked.entry.files) said)) }
 {
@@ -75,7 +76,8 @@ fn findings(
 ) -> Result<Vec<Finding>, AllocError>
     requires judged { Judged source.edition source.text.now judgement.now.verdict }
     requires stop { IsStopOf source.edition source.text.now judgement.now.verdict }
-    ensures count { IfOk result (λ found. IsCountOf judgement.now.verdict (length (vec_items found))) }
+    requires compiled { IsCompiled source.edition source.text.now judgement.now.compiled }
+    ensures whole { IfOk result (λ found. AreWhole source.entry.edition source.entry.text.now (vec_items found)) }
     ensures reasons { IfOk result (λ found.
         All (IsReasoned source.entry.edition source.entry.text.now) (vec_items found)) }
 {
@@ -135,13 +137,14 @@ fn unloaded(
     compiled: &Compiled,
     fault: &LoadFault,
 ) -> Result<Vec<Finding>, AllocError>
-    requires { Judged source.edition source.text.now (verdict.Unloaded fault.now) }
-    ensures count { IfOk result (λ found. IsCountOf (verdict.Unloaded fault.now) (length (vec_items found))) }
+    requires judged { Judged source.edition source.text.now (verdict.Unloaded fault.now) }
+    requires compiled { IsCompiled source.edition source.text.now compiled.now }
+    ensures whole { IfOk result (λ found. AreWhole source.entry.edition source.entry.text.now (vec_items found)) }
     ensures reasons { IfOk result (λ found.
         All (IsReasoned source.entry.edition source.entry.text.now) (vec_items found)) }
 {
-    if let LoadFault::Undefined(name) = fault {
-        return undefined_names(alloc, source, compiled, *name);
+    if let LoadFault::Undefined(_) = fault {
+        return undefined_names(alloc, source, compiled);
     }
     let first = Extent { first: 0, end: 1 };
     let place = place_of(&Spans::between(alloc, source, first)?, 0);

@@ -1,11 +1,12 @@
 //! Words that other languages have, and what stands for them here.
-ghost use Rattle.std.specs.List.{list_all};
-ghost use Rattle.std.specs.Prelude.{◌∷◌, [], IsTrue};
+ghost use Rattle.std.specs.List.{list_all, list_any};
+ghost use Rattle.std.specs.Prelude.{◌≡◌, ◌∷◌, [], IsTrue, is_some};
+ghost use Rattle.bword.specs.Words.{same_name};
 ghost use Rattle.bcheck.specs.Checks.{is_on_line};
+ghost use Rattle.bcheck.specs.Findings.{is_with_name};
+ghost use Rattle.bcheck.specs.UndefinedNames.{heading_words};
 
 use crate::around::Around;
-use crate::compiled::Extent;
-use crate::defined::is_function;
 use crate::kinds::{is_ended, is_operand};
 use crate::spans::{Spans, lexeme_at, name_at};
 use blex::Lexeme;
@@ -35,8 +36,8 @@ pub(crate) enum Foreign {
     Clock,
 }
 
-/// Words of C, JavaScript, Pascal and Python, and what old programs in B call.
-const WORDS: [(&str, Foreign); 57] = [
+/// Words of C, JavaScript, Pascal and Python with which a statement or a definition begins or ends.
+const HEADINGS: [(&str, Foreign); 21] = [
     ("const", Foreign::Declares),
     ("let", Foreign::Declares),
     ("var", Foreign::Declares),
@@ -45,12 +46,26 @@ const WORDS: [(&str, Foreign); 57] = [
     ("fn", Foreign::Function),
     ("func", Foreign::Function),
     ("function", Foreign::Function),
-    ("and", Foreign::And),
-    ("or", Foreign::Or),
-    ("not", Foreign::Not),
     ("begin", Foreign::Block),
     ("end", Foreign::Block),
     ("endif", Foreign::Block),
+    ("echo", Foreign::Writes),
+    ("print", Foreign::Writes),
+    ("println", Foreign::Writes),
+    ("writeln", Foreign::Writes),
+    ("elif", Foreign::ElseIf),
+    ("elseif", Foreign::ElseIf),
+    ("elsif", Foreign::ElseIf),
+    ("foreach", Foreign::Loop),
+    ("repeat", Foreign::Loop),
+    ("until", Foreign::Loop),
+];
+
+/// Other words of these languages, and what old programs in B call.
+const WORDS: [(&str, Foreign); 36] = [
+    ("and", Foreign::And),
+    ("or", Foreign::Or),
+    ("not", Foreign::Not),
     ("True", Foreign::Truth),
     ("true", Foreign::Truth),
     ("TRUE", Foreign::Truth),
@@ -62,18 +77,8 @@ const WORDS: [(&str, Foreign); 57] = [
     ("nil", Foreign::Nothing),
     ("null", Foreign::Nothing),
     ("EOF", Foreign::InputEnd),
-    ("echo", Foreign::Writes),
-    ("print", Foreign::Writes),
-    ("println", Foreign::Writes),
-    ("writeln", Foreign::Writes),
     ("input", Foreign::Reads),
     ("prompt", Foreign::Reads),
-    ("elif", Foreign::ElseIf),
-    ("elseif", Foreign::ElseIf),
-    ("elsif", Foreign::ElseIf),
-    ("foreach", Foreign::Loop),
-    ("repeat", Foreign::Loop),
-    ("until", Foreign::Loop),
     ("argc", Foreign::Arguments),
     ("argv", Foreign::Arguments),
     ("nargs", Foreign::Count),
@@ -100,7 +105,8 @@ impl Foreign {
     /// One sentence on it, and how to fix it.
     #[rattlefmt::skip]
     pub(crate) fn advice(self) -> (&'static str, &'static str)
-        ensures { IsTrue (list_all is_on_line (result.0.now ∷ result.1.now ∷ [])) }
+        ensures on_lines { IsTrue (list_all is_on_line (result.0.now ∷ result.1.now ∷ [])) }
+        ensures name { IsTrue (is_with_name result.0.now) }
     {
         match self {
             Foreign::Declares =>
@@ -138,20 +144,6 @@ impl Foreign {
         matches!(self, Foreign::And | Foreign::Or | Foreign::Not)
     }
 
-    // Whether a statement or a definition begins or ends with it.
-    fn is_head(self) -> bool {
-        matches!(
-            self,
-            Foreign::Declares
-                | Foreign::External
-                | Foreign::Function
-                | Foreign::Block
-                | Foreign::Writes
-                | Foreign::ElseIf
-                | Foreign::Loop
-        )
-    }
-
     // Whether it has a condition and then a statement.
     fn has_statement(self) -> bool {
         matches!(self, Foreign::ElseIf | Foreign::Loop)
@@ -160,7 +152,20 @@ impl Foreign {
 
 /// What a name is for in another language.
 pub(crate) fn foreign_word(name: &Name) -> Option<Foreign> {
-    for (word, meaning) in &WORDS {
+    heading_word(name).or(meaning_in(name, &WORDS))
+}
+
+/// What a name is for with which a statement or a definition of another language begins or ends.
+pub(crate) fn heading_word(name: &Name) -> Option<Foreign>
+    ensures { is_some result ≡ list_any (same_name name.now) heading_words }
+{
+    meaning_in(name, &HEADINGS)
+}
+
+fn meaning_in(name: &Name, words: &[(&str, Foreign)]) -> Option<Foreign>
+    ensures { is_some result ≡ list_any (λ row. same_name name.now row.0.now) words.now }
+{
+    for (word, meaning) in words {
         if name.as_str() == *word {
             return Some(*meaning);
         }
@@ -206,12 +211,8 @@ fn operator_word(spans: &Spans, first: usize, last: usize) -> Option<(usize, For
 }
 
 fn head_word(spans: &Spans, token: usize) -> Option<(usize, Foreign)> {
-    let word = word_at(spans, token)?;
-    if word.is_head() {
-        Some((token, word))
-    } else {
-        None
-    }
+    let word = heading_word(&name_at(spans, token)?)?;
+    Some((token, word))
 }
 
 fn word_at(spans: &Spans, token: usize) -> Option<Foreign> {
@@ -225,18 +226,4 @@ fn may_follow_word(lexeme: &Lexeme) -> bool {
             lexeme,
             Lexeme::Keyword(_) | Lexeme::OpenBrace | Lexeme::CloseBrace
         )
-}
-
-/// The word that an external begins with, if it is one that declares names in another language.
-pub(crate) fn declaring_word(spans: &Spans, extent: Extent) -> Option<(Name, Foreign)> {
-    if is_function(spans, extent) {
-        return None;
-    }
-    let name = name_at(spans, extent.first)?;
-    let word = foreign_word(&name)?;
-    if word.is_head() {
-        Some((name, word))
-    } else {
-        None
-    }
 }

@@ -1,4 +1,9 @@
 //! Kinds of tokens, of which patterns consist.
+ghost use Rattle.std.specs.List.{list_any};
+ghost use Rattle.std.specs.Prelude.{◌≡◌};
+ghost use Rattle.bword.specs.Words.{same_name};
+ghost use Rattle.bcheck.specs.UndefinedNames.{type_words};
+
 use blang::Keyword;
 use blex::Lexeme;
 use bword::{BinOp, Name};
@@ -89,8 +94,16 @@ pub(crate) fn is_word(lexeme: &Lexeme, word: &str) -> bool {
 }
 
 /// Whether C has a type of this name.
-pub(crate) fn is_type_name(name: &Name) -> bool {
-    for word in &TYPES {
+pub(crate) fn is_type_name(name: &Name) -> bool
+    ensures { result ≡ list_any (same_name name.now) type_words }
+{
+    is_among(name, &TYPES)
+}
+
+fn is_among(name: &Name, words: &[&str]) -> bool
+    ensures { result ≡ list_any (λ word. same_name name.now word.now) words.now }
+{
+    for word in words {
         if name.as_str() == *word {
             return true;
         }

@@ -18,7 +18,7 @@ pub(crate) fn write(text: &mut Text, told: &Told<'_>) -> Result<(), AllocError>
     ensures { (files : Files) (source : List ℕ) (start : ℕ) → IsExcerpt source start told.now.excerpt
         → line_shown told.now.at ≡ own_line files told.now.excerpt.line
         → OnOk result (AddsFinding form.Text told.now.severity files source start told.now.words.now.code.now
-        text.old text.new) }
+        told.now.words.now.sentence text.old text.new) }
 {
     let excerpt = &told.excerpt;
     push_all(

@@ -1,30 +1,31 @@
 //! What is said of the names that nothing defines.
-ghost use Rattle.std.specs.List.{All, list_all};
-ghost use Rattle.std.specs.Prelude.{◌≡◌, ◌<◌, ◌∷◌, [], IfOk, IsTrue, codes, length, vec_items};
+ghost use Rattle.std.specs.List.{AllZip, list_all};
+ghost use Rattle.std.specs.Prelude.{◌∷◌, [], IfOk, IsTrue, vec_items};
 ghost use Rattle.bcheck.specs.Checks.{is_on_line};
-ghost use Rattle.bcheck.specs.Findings.{matter_code};
+ghost use Rattle.bcheck.specs.Findings.{IsOn, definitions_in, is_with_name};
+ghost use Rattle.bcheck.specs.Mentions.{subjects};
+ghost use Rattle.bcheck.specs.UndefinedNames.{told_subjects};
+ghost use Rattle.bcheck.specs.declared.mention.Subject.TheVariants as subject;
 
 use crate::advice::Matter;
 use crate::compiled::{Compiled, Extent};
-use crate::defined::is_function;
 use crate::finding::Finding;
-use crate::foreign::{Foreign, declaring_word, foreign_word};
-use crate::kinds::Like;
-use crate::mention::{first_mention, name_of, token_of_mention, undefined_mentions};
+use crate::foreign::{Foreign, foreign_word, heading_word};
+use crate::mention::{Mention, Subject, token_of_mention, undefined_mentions};
 use crate::near::{is_near, near_library};
-use crate::spans::{SourceText, SpanReader, Spans, lexeme_at, place_of};
+use crate::spans::{SourceText, SpanReader, Spans, place_of};
 use blang::Definition;
+use bmach::name_of;
 use bword::Name;
 use std::alloc::{AllocError, Global};
 
 /// A name that nothing defines. Of one that a file of the folder `lib` defines, in these letters or under another name
 /// than C's, it is which file.
 #[derive(Clone, Copy)]
-pub(crate) enum Undefined {
+pub(crate) enum UndefinedName {
     Foreign(Foreign),
     Near,
     OtherEdition,
-    Type,
     InInput,
     InNumbers,
     InPrint,
@@ -40,107 +41,107 @@ pub(crate) enum Undefined {
 }
 
 /// What the files of the folder `lib` define.
-const IN_LIBRARY: [(&str, Undefined); 47] = [
-    ("abs", Undefined::InNumbers),
-    ("assert", Undefined::InPrint),
-    ("compare", Undefined::InStrings),
-    ("concat", Undefined::InStrings),
-    ("copy", Undefined::InStrings),
-    ("dump", Undefined::InPrint),
-    ("fill", Undefined::InVectors),
-    ("flush", Undefined::InPrint),
-    ("getline", Undefined::InInput),
-    ("getnum", Undefined::InInput),
-    ("getstr", Undefined::InInput),
-    ("getvec", Undefined::InVectors),
-    ("givevec", Undefined::InVectors),
-    ("index", Undefined::InStrings),
-    ("isalpha", Undefined::InStrings),
-    ("isdigit", Undefined::InStrings),
-    ("length", Undefined::InStrings),
-    ("lower", Undefined::InStrings),
-    ("max", Undefined::InNumbers),
-    ("min", Undefined::InNumbers),
-    ("number", Undefined::InNumbers),
-    ("printf", Undefined::InPrint),
-    ("prsize", Undefined::InPrint),
-    ("prvalue", Undefined::InPrint),
-    ("putnumb", Undefined::InPrint),
-    ("putoct", Undefined::InPrint),
-    ("putstr", Undefined::InPrint),
-    ("putuns", Undefined::InPrint),
-    ("rand", Undefined::InNumbers),
-    ("random", Undefined::InNumbers),
-    ("randseed", Undefined::InNumbers),
-    ("rlsevec", Undefined::InVectors),
-    ("sort", Undefined::InVectors),
-    ("sortby", Undefined::InVectors),
-    ("test", Undefined::InTest),
-    ("testbad", Undefined::InTest),
-    ("testnums", Undefined::InTest),
-    ("testok", Undefined::InTest),
-    ("testput", Undefined::InTest),
-    ("testquot", Undefined::InTest),
-    ("tests", Undefined::InTest),
-    ("testsay", Undefined::InTest),
-    ("teststr", Undefined::InTest),
-    ("testvec", Undefined::InTest),
-    ("upper", Undefined::InStrings),
-    ("vecleft", Undefined::InVectors),
-    ("vecnext", Undefined::InVectors),
+const IN_LIBRARY: [(&str, UndefinedName); 47] = [
+    ("abs", UndefinedName::InNumbers),
+    ("assert", UndefinedName::InPrint),
+    ("compare", UndefinedName::InStrings),
+    ("concat", UndefinedName::InStrings),
+    ("copy", UndefinedName::InStrings),
+    ("dump", UndefinedName::InPrint),
+    ("fill", UndefinedName::InVectors),
+    ("flush", UndefinedName::InPrint),
+    ("getline", UndefinedName::InInput),
+    ("getnum", UndefinedName::InInput),
+    ("getstr", UndefinedName::InInput),
+    ("getvec", UndefinedName::InVectors),
+    ("givevec", UndefinedName::InVectors),
+    ("index", UndefinedName::InStrings),
+    ("isalpha", UndefinedName::InStrings),
+    ("isdigit", UndefinedName::InStrings),
+    ("length", UndefinedName::InStrings),
+    ("lower", UndefinedName::InStrings),
+    ("max", UndefinedName::InNumbers),
+    ("min", UndefinedName::InNumbers),
+    ("number", UndefinedName::InNumbers),
+    ("printf", UndefinedName::InPrint),
+    ("prsize", UndefinedName::InPrint),
+    ("prvalue", UndefinedName::InPrint),
+    ("putnumb", UndefinedName::InPrint),
+    ("putoct", UndefinedName::InPrint),
+    ("putstr", UndefinedName::InPrint),
+    ("putuns", UndefinedName::InPrint),
+    ("rand", UndefinedName::InNumbers),
+    ("random", UndefinedName::InNumbers),
+    ("randseed", UndefinedName::InNumbers),
+    ("rlsevec", UndefinedName::InVectors),
+    ("sort", UndefinedName::InVectors),
+    ("sortby", UndefinedName::InVectors),
+    ("test", UndefinedName::InTest),
+    ("testbad", UndefinedName::InTest),
+    ("testnums", UndefinedName::InTest),
+    ("testok", UndefinedName::InTest),
+    ("testput", UndefinedName::InTest),
+    ("testquot", UndefinedName::InTest),
+    ("tests", UndefinedName::InTest),
+    ("testsay", UndefinedName::InTest),
+    ("teststr", UndefinedName::InTest),
+    ("testvec", UndefinedName::InTest),
+    ("upper", UndefinedName::InStrings),
+    ("vecleft", UndefinedName::InVectors),
+    ("vecnext", UndefinedName::InVectors),
 ];
 
 /// What other languages name otherwise than the files of the folder `lib`.
-const IN_C: [(&str, &str, Undefined); 18] = [
-    ("atoi", "number", Undefined::LikeNumbers),
-    ("calloc", "getvec", Undefined::LikeVectors),
-    ("fgets", "getline", Undefined::LikeInput),
-    ("gets", "getstr", Undefined::LikeInput),
-    ("len", "length", Undefined::LikeStrings),
-    ("malloc", "getvec", Undefined::LikeVectors),
-    ("memset", "fill", Undefined::LikeVectors),
-    ("parseInt", "number", Undefined::LikeNumbers),
-    ("puts", "putstr", Undefined::LikePrint),
-    ("qsort", "sortby", Undefined::LikeVectors),
-    ("scanf", "getnum", Undefined::LikeInput),
-    ("strcat", "concat", Undefined::LikeStrings),
-    ("strcmp", "compare", Undefined::LikeStrings),
-    ("strcpy", "copy", Undefined::LikeStrings),
-    ("strlen", "length", Undefined::LikeStrings),
-    ("strstr", "index", Undefined::LikeStrings),
-    ("tolower", "lower", Undefined::LikeStrings),
-    ("toupper", "upper", Undefined::LikeStrings),
+const IN_C: [(&str, &str, UndefinedName); 18] = [
+    ("atoi", "number", UndefinedName::LikeNumbers),
+    ("calloc", "getvec", UndefinedName::LikeVectors),
+    ("fgets", "getline", UndefinedName::LikeInput),
+    ("gets", "getstr", UndefinedName::LikeInput),
+    ("len", "length", UndefinedName::LikeStrings),
+    ("malloc", "getvec", UndefinedName::LikeVectors),
+    ("memset", "fill", UndefinedName::LikeVectors),
+    ("parseInt", "number", UndefinedName::LikeNumbers),
+    ("puts", "putstr", UndefinedName::LikePrint),
+    ("qsort", "sortby", UndefinedName::LikeVectors),
+    ("scanf", "getnum", UndefinedName::LikeInput),
+    ("strcat", "concat", UndefinedName::LikeStrings),
+    ("strcmp", "compare", UndefinedName::LikeStrings),
+    ("strcpy", "copy", UndefinedName::LikeStrings),
+    ("strlen", "length", UndefinedName::LikeStrings),
+    ("strstr", "index", UndefinedName::LikeStrings),
+    ("tolower", "lower", UndefinedName::LikeStrings),
+    ("toupper", "upper", UndefinedName::LikeStrings),
 ];
 
-impl Undefined {
+impl UndefinedName {
     /// One sentence on it, and how to fix it.
     #[rattlefmt::skip]
     pub(crate) fn advice(self) -> (&'static str, &'static str)
-        ensures { IsTrue (list_all is_on_line (result.0.now ∷ result.1.now ∷ [])) }
+        ensures on_lines { IsTrue (list_all is_on_line (result.0.now ∷ result.1.now ∷ [])) }
+        ensures name { IsTrue (is_with_name result.0.now) }
     {
         match self {
-            Undefined::Foreign(word) => word.advice(),
-            Undefined::Near => ("nothing defines @: did you mean #?", "write #, or define @"),
-            Undefined::OtherEdition =>
+            UndefinedName::Foreign(word) => word.advice(),
+            UndefinedName::Near => ("nothing defines @: did you mean #?", "write #, or define @"),
+            UndefinedName::OtherEdition =>
                 ("nothing defines @: in edition 1 it is a name", "--edition 2 makes it a keyword"),
-            Undefined::Type => ("there are no types: the name before @ is defined", "@; defines @"),
-            Undefined::InInput => ("nothing defines @", "lib/input.b has it: b go FILE --with input"),
-            Undefined::InNumbers => ("nothing defines @", "lib/numbers.b has it: b go FILE --with numbers"),
-            Undefined::InPrint => ("nothing defines @", "lib/print.b has it: b go FILE --with print"),
-            Undefined::InStrings => ("nothing defines @", "lib/strings.b has it: b go FILE --with strings"),
-            Undefined::InTest => ("nothing defines @", "lib/test.b has it: b go FILE --with test"),
-            Undefined::InVectors => ("nothing defines @", "lib/vectors.b has it: b go FILE --with vectors"),
-            Undefined::LikeInput =>
+            UndefinedName::InInput => ("nothing defines @", "lib/input.b has it: b go FILE --with input"),
+            UndefinedName::InNumbers => ("nothing defines @", "lib/numbers.b has it: b go FILE --with numbers"),
+            UndefinedName::InPrint => ("nothing defines @", "lib/print.b has it: b go FILE --with print"),
+            UndefinedName::InStrings => ("nothing defines @", "lib/strings.b has it: b go FILE --with strings"),
+            UndefinedName::InTest => ("nothing defines @", "lib/test.b has it: b go FILE --with test"),
+            UndefinedName::InVectors => ("nothing defines @", "lib/vectors.b has it: b go FILE --with vectors"),
+            UndefinedName::LikeInput =>
                 ("nothing defines @: here it is #", "lib/input.b has #: b go FILE --with input"),
-            Undefined::LikeNumbers =>
+            UndefinedName::LikeNumbers =>
                 ("nothing defines @: here it is #", "lib/numbers.b has #: b go FILE --with numbers"),
-            Undefined::LikePrint =>
+            UndefinedName::LikePrint =>
                 ("nothing defines @: here it is #", "lib/print.b has #: b go FILE --with print"),
-            Undefined::LikeStrings =>
+            UndefinedName::LikeStrings =>
                 ("nothing defines @: here it is #", "lib/strings.b has #: b go FILE --with strings"),
-            Undefined::LikeVectors =>
+            UndefinedName::LikeVectors =>
                 ("nothing defines @: here it is #", "lib/vectors.b has #: b go FILE --with vectors"),
-            Undefined::Other => ("nothing defines @", "define it, or take one of the six library calls"),
+            UndefinedName::Other => ("nothing defines @", "define it, or take one of the six library calls"),
         }
     }
 }
@@ -175,62 +176,67 @@ impl<'a> DefinitionReader<'a> {
     }
 }
 
-/// What is said of the names that nothing defines, each where it is mentioned first: of this one, and then of others.
+/// What is said of the names that nothing defines, each where it is mentioned first.
 pub(crate) fn undefined_names(
     alloc: Global,
     source: SourceText<'_>,
     compiled: &Compiled,
-    name: Name,
 ) -> Result<Vec<Finding>, AllocError>
-    ensures some { IfOk result (λ found. 0 < length (vec_items found)) }
-    ensures code { IfOk result (λ found. All (λ f. matter_code f.matter ≡ codes "load 3") (vec_items found)) }
+    ensures { IfOk result (λ found. AllZip IsOn (told_subjects (definitions_in compiled.now)) (vec_items found)) }
 {
-    let definitions = compiled.definitions();
-    let mentions = undefined_mentions(alloc, definitions)?;
-    let mut definition = first_mention(definitions, name).unwrap_or(0);
+    let mentions = undefined_mentions(alloc, compiled.definitions())?;
+    findings_on(alloc, source, compiled, mentions.as_slice())
+}
+
+fn findings_on(
+    alloc: Global,
+    source: SourceText<'_>,
+    compiled: &Compiled,
+    mentions: &[Mention],
+) -> Result<Vec<Finding>, AllocError>
+    ensures { IfOk result (λ found. AllZip IsOn (subjects mentions.now) (vec_items found)) }
+{
     let mut reader = DefinitionReader::new(alloc, source);
-    reader.go_to(compiled.extent(definition))?;
     let mut found = Vec::new(alloc);
-    found.push(undefined_in(&reader, definitions, name))?;
-    for mention in mentions.as_slice() {
-        let is_next = mention.definition != definition;
-        definition = mention.definition;
-        reader.go_to(compiled.extent(definition))?;
-        if mention.name != name && (is_next || !is_declared(&reader)) {
-            found.push(undefined_in(&reader, definitions, mention.name))?;
-        }
+    for mention in mentions {
+        reader.go_to(compiled.extent(mention.definition))?;
+        found.push(finding_on(&reader, compiled.definitions(), mention.subject))?;
     }
     Ok(found)
 }
 
-// Whether a definition begins with a word that declares names in another language, so that all of it is one mistake.
-fn is_declared(reader: &DefinitionReader<'_>) -> bool {
-    let (spans, extent) = (&reader.spans, reader.extent);
-    declaring_word(spans, extent).is_some() || is_typed(spans, extent)
-}
-
-fn is_typed(spans: &Spans, extent: Extent) -> bool {
-    Like::Type.fits(&lexeme_at(spans, extent.first)) && !is_function(spans, extent)
-}
-
-// What is said of a name that nothing defines, which a definition mentions.
-fn undefined_in(reader: &DefinitionReader<'_>, definitions: &[Definition], name: Name) -> Finding
-    ensures { matter_code result.matter ≡ codes "load 3" }
+fn finding_on(
+    reader: &DefinitionReader<'_>,
+    definitions: &[Definition],
+    subject: Subject,
+) -> Finding
+    ensures { IsOn subject result }
 {
     let (spans, extent) = (&reader.spans, reader.extent);
-    if let Some((word, meaning)) = declaring_word(spans, extent) {
-        return not_defined(spans, extent.first, Undefined::Foreign(meaning), word, None);
+    match subject {
+        Subject::Name(name) => on_name(spans, extent, definitions, name),
+        Subject::Word(word) => {
+            let meaning = heading_word(&word).unwrap_or(Foreign::Declares);
+            let what = UndefinedName::Foreign(meaning);
+            not_defined(spans, extent.first, what, word, None)
+        }
+        Subject::Typed(name) => on_types(spans, token_of_mention(spans, extent, name), name),
     }
+}
+
+// What is said of a name that a definition is the first to mention.
+fn on_name(spans: &Spans, extent: Extent, definitions: &[Definition], name: Name) -> Finding
+    ensures { IsOn (subject.Name name) result }
+{
     let token = token_of_mention(spans, extent, name);
     let defined = near_definition(definitions, &name);
     let alike = near_library(&name).or(defined);
     let (what, other) = match (name.as_str(), in_library(&name), foreign_word(&name)) {
-        _ if is_typed(spans, extent) => (Undefined::Type, None),
-        ("break" | "default", _, _) => (Undefined::OtherEdition, None),
+        ("break" | "default", _, _) => (UndefinedName::OtherEdition, None),
         (_, Some(found), _) => found,
-        (_, None, Some(word)) if defined.is_none() => (Undefined::Foreign(word), None),
-        _ if alike.is_some() => (Undefined::Near, alike),
-        _ => (Undefined::Other, None),
+        (_, None, Some(word)) if defined.is_none() => (UndefinedName::Foreign(word), None),
+        _ if alike.is_some() => (UndefinedName::Near, alike),
+        _ => (UndefinedName::Other, None),
     };
     not_defined(spans, token, what, name, other)
 }
@@ -250,11 +256,11 @@ fn near_definition(definitions: &[Definition], name: &Name) -> Option<Name> {
 fn not_defined(
     spans: &Spans,
     token: usize,
-    what: Undefined,
+    what: UndefinedName,
     name: Name,
     other: Option<Name>,
 ) -> Finding
-    ensures { matter_code result.matter ≡ codes "load 3" }
+    ensures { IsOn (subject.Name name) result }
 {
     Finding {
         matter: Matter::NotDefined(what),
@@ -265,8 +271,20 @@ fn not_defined(
     }
 }
 
+fn on_types(spans: &Spans, token: usize, name: Name) -> Finding
+    ensures { IsOn (subject.Typed name) result }
+{
+    Finding {
+        matter: Matter::NoTypes,
+        name: Some(name),
+        other: None,
+        place: place_of(spans, token),
+        related: None,
+    }
+}
+
 // Of a name that a file of the folder `lib` defines, which file; of one that C has, the name that it has there, too.
-fn in_library(name: &Name) -> Option<(Undefined, Option<Name>)> {
+fn in_library(name: &Name) -> Option<(UndefinedName, Option<Name>)> {
     for (word, file) in &IN_LIBRARY {
         if name.as_str() == *word {
             return Some((*file, None));
@@ -275,7 +293,7 @@ fn in_library(name: &Name) -> Option<(Undefined, Option<Name>)> {
     in_c(name)
 }
 
-fn in_c(name: &Name) -> Option<(Undefined, Option<Name>)> {
+fn in_c(name: &Name) -> Option<(UndefinedName, Option<Name>)> {
     for (word, here, file) in &IN_C {
         if name.as_str() == *word {
             return Some((*file, Name::new(here)));

@@ -72,6 +72,7 @@ impl Verdict {
 pub(crate) fn judge(alloc: Global, source: SourceText<'_>) -> Result<Judgement, AllocError>
     ensures judged { IfOk result (λ j. Judged source.entry.edition source.entry.text.now j.verdict) }
     ensures stop { IfOk result (λ j. IsStopOf source.entry.edition source.entry.text.now j.verdict) }
+    ensures compiled { IfOk result (λ j. IsCompiled source.entry.edition source.entry.text.now j.compiled) }
 {
     let compiled = compile(alloc, source)?;
     let verdict = verdict_of(alloc, &compiled)?;

@@ -1,9 +1,11 @@
 //! What is said of a finding, with the name in its places.
-ghost use Rattle.std.specs.Prelude.{◌≡◌, ◌∷◌, [], IfOk, IsTrue, OnOk};
-ghost use Rattle.std.specs.Int.{is_in_range};
-ghost use Rattle.std.specs.List.{list_all};
+ghost use Rattle.std.specs.Prelude.{◌≡◌, ◌++◌, ◌∷◌, [], IfOk, IsTrue, OnOk, unwrap_or};
+ghost use Rattle.std.specs.List.{flat_map, list_all};
 ghost use Rattle.bcheck.specs.Checks.{is_on_line};
-ghost use Rattle.bcheck.specs.Findings.{matter_code};
+ghost use Rattle.bcheck.specs.Findings.{IsOn, matter_code};
+ghost use Rattle.bcheck.specs.Pieces.{filled_byte};
+ghost use Rattle.bcheck.specs.UndefinedNames.{Tells};
+ghost use Rattle.bcheck.specs.declared.mention.Subject.{Subject};
 
 use crate::finding::{Finding, SecondPlace};
 use crate::pieces::{Fragment, push_all};
@@ -31,13 +33,15 @@ impl Words {
         ensures code { IfOk result (λ words. words.code.now ≡ matter_code finding.now.matter) }
         ensures on_lines { IfOk result (λ words.
             IsTrue (list_all is_on_line (words.code.now ∷ words.sentence ∷ words.fix ∷ []))) }
+        ensures subject { IfOk result (λ words. (subject : Subject) → IsOn subject finding.now
+            → Tells subject words.sentence) }
     {
         let (code, sentence, fix) = finding.matter.advice();
+        let line = line_words(alloc, file, second)?;
         let given = Given {
-            name: finding.name,
-            other: finding.other,
-            file,
-            second: *second,
+            name: name_or(&finding.name, b"@"),
+            other: name_or(&finding.other, b"#"),
+            line: line.as_slice(),
         };
         let sentence = filled(alloc, sentence, &given)?;
         let fix = filled(alloc, fix, &given)?;
@@ -49,19 +53,29 @@ impl Words {
     }
 }
 
-/// What a sentence speaks of.
+/// What stands in the places of `@`, `#` and `%`: two names, and the line of a second place, or their signs.
 #[derive(Clone, Copy)]
 struct Given<'a> {
-    name: Option<Name>,
-    other: Option<Name>,
-    file: &'a str,
-    second: Option<SecondPlace<'a>>,
+    name: &'a [u8],
+    other: &'a [u8],
+    line: &'a [u8],
 }
 
-// A sentence with the names and the line in the places of `@`, `#` and `%`.
+// A name, or a sign where there is none.
+fn name_or<'a>(name: &'a Option<Name>, sign: &'a [u8]) -> &'a [u8]
+    requires { IsTrue (is_on_line sign.now) }
+    ensures value { result.now ≡ unwrap_or name.now sign.now }
+    ensures on_line { IsTrue (is_on_line result.now) }
+{
+    match name {
+        Some(name) => name.as_bytes(),
+        None => sign,
+    }
+}
+
+// A sentence with what is given in its places.
 fn filled(alloc: Global, sentence: &str, given: &Given<'_>) -> Result<Text, AllocError>
-    requires { IsTrue (is_on_line sentence.now) }
-    ensures { IfOk result (λ text. IsTrue (is_on_line text)) }
+    ensures { IfOk result (λ text. text ≡ flat_map (filled_byte given.now) sentence.now) }
 {
     let mut text = Text::new(alloc);
     let bytes = sentence.as_bytes();
@@ -72,44 +86,30 @@ fn filled(alloc: Global, sentence: &str, given: &Given<'_>) -> Result<Text, Allo
 }
 
 fn push_filled(text: &mut Text, byte: u8, given: &Given<'_>) -> Result<(), AllocError>
-    requires { IsTrue (is_in_range 32 126 byte) }
-    ensures { IsTrue (is_on_line text.old) → OnOk result (IsTrue (is_on_line text.new)) }
+    ensures { OnOk result (text.new ≡ text.old ++ filled_byte given.now byte) }
 {
     match byte {
-        b'@' => push_name(text, byte, &given.name),
-        b'#' => push_name(text, byte, &given.other),
-        b'%' => push_line(text, byte, given),
-        _ => push_byte(text, byte),
+        b'@' => text.push(given.name),
+        b'#' => text.push(given.other),
+        b'%' => text.push(given.line),
+        _ => text.push(&[byte]),
     }
 }
 
-fn push_byte(text: &mut Text, byte: u8) -> Result<(), AllocError>
-    requires { IsTrue (is_in_range 32 126 byte) }
-    ensures { IsTrue (is_on_line text.old) → OnOk result (IsTrue (is_on_line text.new)) }
+// The line of a second place as a finding of this file tells it, or its sign where there is none.
+fn line_words(
+    alloc: Global,
+    file: &str,
+    second: &Option<SecondPlace<'_>>,
+) -> Result<Text, AllocError>
+    ensures { IfOk result (λ text. IsTrue (is_on_line text)) }
 {
-    text.push(&[byte])
-}
-
-// Adds a name, or the byte where there is none.
-fn push_name(text: &mut Text, byte: u8, name: &Option<Name>) -> Result<(), AllocError>
-    requires { IsTrue (is_in_range 32 126 byte) }
-    ensures { IsTrue (is_on_line text.old) → OnOk result (IsTrue (is_on_line text.new)) }
-{
-    match name {
-        Some(name) => text.push(name.as_bytes()),
-        None => push_byte(text, byte),
+    let mut text = Text::new(alloc);
+    match second {
+        Some(second) => push_line_at(&mut text, file, second.at)?,
+        None => text.push(b"%")?,
     }
-}
-
-// Adds the line of the second place, or the byte where there is none.
-fn push_line(text: &mut Text, byte: u8, given: &Given<'_>) -> Result<(), AllocError>
-    requires { IsTrue (is_in_range 32 126 byte) }
-    ensures { IsTrue (is_on_line text.old) → OnOk result (IsTrue (is_on_line text.new)) }
-{
-    match given.second {
-        Some(second) => push_line_at(text, given.file, second.at),
-        None => push_byte(text, byte),
-    }
+    Ok(text)
 }
 
 // Adds a line, of this file or of another one.

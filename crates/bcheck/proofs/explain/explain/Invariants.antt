@@ -5,4 +5,4 @@ use Rattle.bcheck.proofs.explain.explain.Given as goal
 
 abbrev pub invariant-loop-finding : goal.invariant-loop-finding
 invariant-loop-finding l =
-    FindingsSoFar l.fn.asked.form l.fn.source.edition (status_told l.fn.judgement.verdict) (files_shown l.fn.asked.files) l.fn.source.text.now l.finding-index l.said
+    FindingsSoFar l.fn.asked.form l.fn.source.edition (status_told l.fn.judgement.verdict) (files_shown l.fn.asked.files) l.fn.source.text.now l.finding-items l.finding-index l.said

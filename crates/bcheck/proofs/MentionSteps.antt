@@ -1,0 +1,160 @@
+-- The search for names that nothing defines, one name after another.
+use Rattle.std.proofs.Common.{◌≡◌, ◌∙◌, ◌+◌, ◌<◌, ℕ, List, [], ◌∷◌, ◌++◌, Bool, true, false, cond, if◌then◌else◌, Option, Some, None, ap, append-nil, append_assoc, drop, get_or, length, map, refl, sym, take}
+use Rattle.std.specs.Prelude.{filter, is_none, is_some, not, zip, ◌&&◌, ◌||◌}
+use Rattle.std.specs.Bool.{OnTrue}
+use Rattle.std.specs.Cmp.Lexicographic.{bytes_decides}
+use Rattle.std.specs.List.{list_any}
+use Rattle.std.specs.Option.{option_or}
+use Rattle.std.proofs.lemmas.List.{length-map, map-append}
+use Rattle.std.proofs.lemmas.List.Folds.{list_any-append}
+use Rattle.bword.specs.Words.{same_name}
+use Rattle.bnames.specs.NameTables.{KnowsOneMore, value_in, with_name}
+use Rattle.bnames.proofs.NameMembers.{is_some-value_of, members_more}
+use Rattle.blang.specs.declared.code.Definition.{Definition}
+use Rattle.blang.specs.Layout.{Shape, Spot, address_in, defined_names, library_addresses, shape_of, spots}
+use Rattle.bmach.proofs.Lookups.{is_some-lookup-zip, lookup-append}
+use Rattle.bmach.proofs.Naming.{shapes_more}
+use Rattle.bmach.proofs.Spots.{length-spots_after}
+use Rattle.bcheck.specs.Mentions.{IsOneMore, Knows, Meets, is_in}
+use Rattle.bcheck.specs.UndefinedNames.{first_mentions, is_undefined}
+
+or_false : (b : Bool) → (b || false) ≡ b
+or_false true = refl
+or_false false = refl
+
+or_true : (b : Bool) → (b || true) ≡ true
+or_true true = refl
+or_true false = refl
+
+or_assoc : (a b c : Bool) → ((a || b) || c) ≡ (a || (b || c))
+or_assoc true b c = refl
+or_assoc false b c = refl
+
+none_is_not : {A : Type 0} (o : Option A) → is_none o ≡ not (is_some o)
+none_is_not None = refl
+none_is_not (Some a) = refl
+
+not_not : (a b : Bool) → a ≡ not b → b ≡ not a
+not_not true true e = cc
+not_not true false e = refl
+not_not false true e = refl
+not_not false false e = cc
+
+-- a name that is put in is new where the table hasn't it
+pub put_new : (b : Bool) (old : List (List ℕ × ℕ)) (x : List ℕ) → b ≡ is_none (value_in x old) → b ≡ not (is_in old x)
+put_new b old x is = is ∙ none_is_not (value_in x old) ∙ ap not (is_some-value_of x old)
+
+-- the table has a name, and those that it had
+again : (table : List (List ℕ × ℕ)) (x y : List ℕ) → is_in table x ≡ true → (b : Bool) → same_name y x ≡ b → is_in table y ≡ (is_in table y || b)
+again table x y has true e =
+    let there : is_in table y ≡ true = ap (is_in table) ((bytes_decides y x).0 e) ∙ has in
+    there ∙ sym (or_true (is_in table y))
+again table x y has false e = sym (or_false (is_in table y))
+
+pub put_more : (b : Bool) (old new : List (List ℕ × ℕ)) (x : List ℕ) → b ≡ is_none (value_in x old) → new ≡ (if b then with_name old x 0 else old) → OnTrue b (KnowsOneMore old x 0 new) → IsOneMore old x new
+put_more true old new x there is more = λ y. members_more old new x 0 more y ∙ ap (λ b. is_in old y || b) (or_false (same_name y x))
+put_more false old new x there is more =
+    λ y. ap (λ t. is_in t y) is ∙ again old x y (not_not false (is_in old x) (put_new false old x there)) (same_name y x) refl
+
+-- the names of one definition more
+names_more : (ds : List Definition) (i : ℕ) (d : Definition) → i < length ds → d ≡ get_or ds i d → defined_names (map shape_of (take (i + 1) ds)) ≡ defined_names (map shape_of (take i ds)) ++ (shape_of d).name ∷ []
+names_more ds i d lt is = ap defined_names (shapes_more ds i d lt is) ∙ map-append (λ (s : Shape). s.name) (map shape_of (take i ds)) (shape_of d ∷ [])
+
+abbrev pub HasDefined : List Definition → (table : List (List ℕ × ℕ)) → Type 0
+HasDefined ds table = (x : List ℕ) → is_in table x ≡ list_any (same_name x) (defined_names (map shape_of ds))
+
+pub defined_more : (ds : List Definition) (i : ℕ) (d : Definition) (old new : List (List ℕ × ℕ)) → i < length ds → d ≡ get_or ds i d → HasDefined (take i ds) old → IsOneMore old (shape_of d).name new → HasDefined (take (i + 1) ds) new
+defined_more ds i d old new lt is has more =
+    λ x. more x ∙ ap (λ b. b || same_name x (shape_of d).name) (has x)
+    ∙ ap (λ b. list_any (same_name x) (defined_names (map shape_of (take i ds))) || b) (sym (or_false (same_name x (shape_of d).name)))
+    ∙ sym (ap (list_any (same_name x)) (names_more ds i d lt is) ∙ list_any-append (same_name x) (defined_names (map shape_of (take i ds))) ((shape_of d).name ∷ []))
+
+pub knows_defined : (ds : List Definition) (table : List (List ℕ × ℕ)) → HasDefined ds table → Knows ds [] table
+knows_defined ds table has = λ x. has x ∙ sym (or_false (list_any (same_name x) (defined_names (map shape_of ds))))
+
+-- a name is undefined that is neither of the definitions nor of the library
+none_of_two : (a b : Option ℕ) → is_none (option_or a b) ≡ (not (is_some a) && not (is_some b))
+none_of_two (Some x) b = refl
+none_of_two None b = none_is_not b
+
+undefined_is : (ds : List Definition) (x : List ℕ) → is_undefined ds x ≡ (not (list_any (same_name x) (defined_names (map shape_of ds))) && not (is_some (address_in library_addresses x)))
+undefined_is ds x =
+    let shapes = map shape_of ds in
+    let places = map (λ (s : Spot). s.address) (spots shapes) in
+    let long : length (defined_names shapes) ≡ length places =
+    length-map shapes (λ (s : Shape). s.name) ∙ sym (length-spots_after [] shapes) ∙ sym (length-map (spots shapes) (λ (s : Spot). s.address)) in
+    ap is_none (lookup-append (same_name x) (zip (defined_names shapes) places) library_addresses)
+    ∙ none_of_two (address_in (zip (defined_names shapes) places) x) (address_in library_addresses x)
+    ∙ ap (λ b. not b && not (is_some (address_in library_addresses x))) (is_some-lookup-zip (same_name x) (defined_names shapes) places long)
+
+-- the names of a search after the first ones
+module _ (ds : List Definition) (before : List (List ℕ)) where
+  abbrev pub later : (names mentioned : List (List ℕ)) → List (List ℕ)
+  later names mentioned = first_mentions (before ++ names) (filter (is_undefined ds) mentioned)
+
+  abbrev pub MeetsSoFar : (mentioned : List (List ℕ)) → (i : ℕ) → (names : List (List ℕ)) → (table : List (List ℕ × ℕ)) → Type 0
+  MeetsSoFar mentioned i names table =
+      (first_mentions before (filter (is_undefined ds) mentioned) ≡ names ++ later names (drop i mentioned)) × Knows ds (before ++ names) table
+
+  passed_defined : (b : Bool) (known : List (List ℕ)) (x : List ℕ) (rest : List (List ℕ)) → b ≡ false → first_mentions known (cond b (x ∷ rest) rest) ≡ first_mentions known rest
+  passed_defined true known x rest e = cc
+  passed_defined false known x rest e = refl
+
+  passed_known : (b : Bool) (known : List (List ℕ)) (x : List ℕ) (rest : List (List ℕ)) → list_any (same_name x) known ≡ true → first_mentions known (cond b (x ∷ rest) rest) ≡ first_mentions known rest
+  passed_known true known x rest e = ap (λ b. cond b (first_mentions known rest) (x ∷ first_mentions (known ++ x ∷ []) rest)) e
+  passed_known false known x rest e = refl
+
+  met : (b : Bool) (known : List (List ℕ)) (x : List ℕ) (rest : List (List ℕ)) → b ≡ true → list_any (same_name x) known ≡ false → first_mentions known (cond b (x ∷ rest) rest) ≡ x ∷ first_mentions (known ++ x ∷ []) rest
+  met true known x rest e new = ap (λ b. cond b (first_mentions known rest) (x ∷ first_mentions (known ++ x ∷ []) rest)) new
+  met false known x rest e new = cc
+
+  -- a name of the library
+  pub passes_library : (mentioned : List (List ℕ)) (i : ℕ) (x : List ℕ) (rest names : List (List ℕ)) (table : List (List ℕ × ℕ)) → drop i mentioned ≡ x ∷ rest → drop (i + 1) mentioned ≡ rest → is_some (address_in library_addresses x) ≡ true
+      → MeetsSoFar mentioned i names table → MeetsSoFar mentioned (i + 1) names table
+  passes_library mentioned i x rest names table here next known so =
+      let fine : is_undefined ds x ≡ false = undefined_is ds x ∙ ap (λ b. not (list_any (same_name x) (defined_names (map shape_of ds))) && not b) known ∙ and_false (not (list_any (same_name x) (defined_names (map shape_of ds)))) in
+      (so.0 ∙ ap (λ ms. names ++ later names ms) here ∙ ap (λ ns. names ++ ns) (passed_defined (is_undefined ds x) (before ++ names) x (filter (is_undefined ds) rest) fine) ∙ ap (λ ms. names ++ later names ms) (sym next), so.1)
+    where
+      and_false : (b : Bool) → (b && false) ≡ false
+      and_false true = refl
+      and_false false = refl
+
+  -- a name that is known
+  pub passes_known : (mentioned : List (List ℕ)) (i : ℕ) (x : List ℕ) (rest names : List (List ℕ)) (old new : List (List ℕ × ℕ)) → drop i mentioned ≡ x ∷ rest → drop (i + 1) mentioned ≡ rest → false ≡ not (is_in old x) → IsOneMore old x new
+      → MeetsSoFar mentioned i names old → MeetsSoFar mentioned (i + 1) names new
+  passes_known mentioned i x rest names old new here next there more so =
+      let has : is_in old x ≡ true = not_not false (is_in old x) there in
+      (so.0 ∙ ap (λ ms. names ++ later names ms) here ∙ ap (λ ns. names ++ ns) (go (list_any (same_name x) (defined_names (map shape_of ds))) refl (sym has ∙ so.1 x)) ∙ ap (λ ms. names ++ later names ms) (sym next), λ y. more y ∙ sym (again old x y has (same_name y x) refl) ∙ so.1 y)
+    where
+      go : (b : Bool) → list_any (same_name x) (defined_names (map shape_of ds)) ≡ b → true ≡ (list_any (same_name x) (defined_names (map shape_of ds)) || list_any (same_name x) (before ++ names)) → later names (x ∷ rest) ≡ later names rest
+      go true is e = passed_defined (is_undefined ds x) (before ++ names) x (filter (is_undefined ds) rest) (undefined_is ds x ∙ ap (λ b. not b && not (is_some (address_in library_addresses x))) is)
+      go false is e = passed_known (is_undefined ds x) (before ++ names) x (filter (is_undefined ds) rest) (sym (e ∙ ap (λ b. b || list_any (same_name x) (before ++ names)) is))
+
+  -- a new one
+  pub meets_new : (mentioned : List (List ℕ)) (i : ℕ) (x : List ℕ) (rest names : List (List ℕ)) (old new : List (List ℕ × ℕ)) → drop i mentioned ≡ x ∷ rest → drop (i + 1) mentioned ≡ rest → is_some (address_in library_addresses x) ≡ false → true ≡ not (is_in old x) → IsOneMore old x new
+      → MeetsSoFar mentioned i names old → MeetsSoFar mentioned (i + 1) (names ++ x ∷ []) new
+  meets_new mentioned i x rest names old new here next known there more so =
+      let has : is_in old x ≡ false = not_not true (is_in old x) there in
+      let neither : false ≡ (list_any (same_name x) (defined_names (map shape_of ds)) || list_any (same_name x) (before ++ names)) = sym has ∙ so.1 x in
+      let either = none_of_both _ _ neither in
+      let wrong : is_undefined ds x ≡ true = undefined_is ds x ∙ ap (λ b. not b && not (is_some (address_in library_addresses x))) either.0 ∙ ap not known in
+      let found : later names (x ∷ rest) ≡ x ∷ first_mentions ((before ++ names) ++ x ∷ []) (filter (is_undefined ds) rest) =
+      met (is_undefined ds x) (before ++ names) x (filter (is_undefined ds) rest) wrong either.1 in (
+        so.0 ∙ ap (λ ms. names ++ later names ms) here ∙ ap (λ ns. names ++ ns) (found ∙ ap (λ ns. x ∷ first_mentions ns (filter (is_undefined ds) rest)) (append_assoc before names (x ∷ [])))
+            ∙ sym (append_assoc names (x ∷ []) (later (names ++ x ∷ []) rest)) ∙ ap (λ ms. (names ++ x ∷ []) ++ later (names ++ x ∷ []) ms) (sym next),
+        λ y. more y ∙ ap (λ b. b || same_name y x) (so.1 y) ∙ or_assoc (list_any (same_name y) (defined_names (map shape_of ds))) (list_any (same_name y) (before ++ names)) (same_name y x)
+            ∙ ap (λ b. list_any (same_name y) (defined_names (map shape_of ds)) || b) (ap (λ b. list_any (same_name y) (before ++ names) || b) (sym (or_false (same_name y x))) ∙ sym (list_any-append (same_name y) (before ++ names) (x ∷ [])) ∙ ap (list_any (same_name y)) (append_assoc before names (x ∷ []))),
+      )
+    where
+      none_of_both : (a b : Bool) → false ≡ (a || b) → (a ≡ false) × (b ≡ false)
+      none_of_both true b e = cc
+      none_of_both false b e = (refl, sym e)
+
+  -- all of them
+  pub all_met : (mentioned : List (List ℕ)) (i : ℕ) (names : List (List ℕ)) (table : List (List ℕ × ℕ)) → drop i mentioned ≡ [] → MeetsSoFar mentioned i names table → Meets ds before mentioned names table
+  all_met mentioned i names table over so =
+      (sym (so.0 ∙ ap (λ ms. names ++ later names ms) over ∙ append-nil names), so.1)
+
+  pub none_met : (mentioned : List (List ℕ)) (table : List (List ℕ × ℕ)) → Knows ds before table → MeetsSoFar mentioned 0 [] table
+  none_met mentioned table knows =
+      (ap (λ ns. first_mentions ns (filter (is_undefined ds) mentioned)) (sym (append-nil before)), λ y. knows y ∙ ap (λ ns. list_any (same_name y) (defined_names (map shape_of ds)) || list_any (same_name y) ns) (sym (append-nil before)))

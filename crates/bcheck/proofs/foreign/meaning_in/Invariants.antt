@@ -1,0 +1,7 @@
+use Rattle.std.proofs.Common.{◌≡◌, false, take}
+use Rattle.std.specs.List.{list_any}
+use Rattle.bword.specs.Words.{same_name}
+use Rattle.bcheck.proofs.foreign.meaning_in.Given as goal
+
+abbrev pub invariant-loop-word : goal.invariant-loop-word
+invariant-loop-word l = list_any (λ row. same_name l.name row.0.now) (take l.word-index l.words) ≡ false
