@@ -1,10 +1,8 @@
 -- What no picture of memory is.
-use Rattle.std.proofs.Common.{◌≡◌, ◌∙◌, ℕ, true, List, [], ◌∷◌, ◌++◌, Option, Some, None, map, take, ap, arith, refl, subst, sym, ◌⊎◌, inl, inr}
+use Rattle.std.proofs.Common.{◌≡◌, ◌∙◌, ℕ, true, List, [], ◌∷◌, ◌++◌, Option, Some, None, ap, arith, refl, subst, ◌⊎◌, inl, inr, sym}
 use Rattle.std.specs.Prelude.{codes, nat_lt, not, ◌==◌}
-use Rattle.std.specs.Io.KnownBytes.{Appends}
 use Rattle.std.specs.List.{list_all}
 use Rattle.std.proofs.lemmas.Bool.{and_from, cond_both}
-use Rattle.std.proofs.lemmas.List.{map-append}
 use Rattle.std.proofs.lemmas.List.Folds.{list_all-append}
 use Rattle.bword.specs.declared.edition.Edition.{Edition}
 use Rattle.bword.proofs.Remaining.{rest_after}
@@ -23,39 +21,22 @@ use Rattle.blang.specs.Cut.{tokens_from}
 use Rattle.blang.specs.Layout.{load_fault}
 use Rattle.blang.specs.Machine.{Image, State, image_of, machine, state_world}
 use Rattle.blang.specs.Reports.{ComesTo, Reported, RunEnds, RunGives}
+use Rattle.btools.specs.FrameNames.{HasNames}
 use Rattle.btools.specs.ProgramsExcluded.{Excluded, code_in}
 use Rattle.btools.specs.Programs.{load_line, nothing_written}
+use Rattle.btools.specs.declared.names.Frame.{Frame}
 use Rattle.btools.proofs.ProgramsExcluded.{device_grew, excluded, no_done, not_grown, other_answer, was_told}
 use Rattle.btools.proofs.Unasked.{program_left, untaken}
 use Rattle.bwatch.specs.Sights.{Sights, sights_of}
 use Rattle.bwatch.specs.Watches.{EndsAfter, Watches}
-use Rattle.bdraw.specs.Draws.{Drawn, Draws, DrawsProgram, DrawsRun, IsDrawn, IsPicture, ShowsMemory, drawn, moment_of, named, row, seen, title_of}
+use Rattle.bdraw.specs.Draws.{Draws, DrawsProgram, DrawsRun, IsDrawn, ShowsMemory, moment_of, picture_at}
 use Rattle.bdraw.specs.Draws as draws
+use Rattle.bdraw.specs.Pictures.{DrawnProgram, drawn_of}
 use Rattle.bdraw.specs.Shapes.{escape, escaped}
-use Rattle.bdraw.specs.DrawExcluded.{HasFills, IsOfStep, NoPictures, Shows, TellsBytes, WrongShapes, classes_in, fill_letter, is_no_tag}
-use Rattle.bdraw.proofs.Classes.{picture_classes}
+use Rattle.bdraw.specs.DrawExcluded.{IsOfStep, NoPictures, NoTags, Shows, TellsBytes, is_no_tag}
 use Rattle.bdraw.proofs.WatchedPictures.{is_picture, same_end, seen_store}
-use Rattle.bdraw.specs.declared.picture.TheConstants.{MOST_NAMES}
 use Rattle.bdraw.specs.declared.scene.Moment.{Moment}
 use Rattle.bdraw.specs.declared.scene.Moment.TheVariants as moment
-use Rattle.bdraw.specs.declared.shapes.Fill.{Fill}
-use Rattle.bdraw.specs.declared.shapes.Shape.{Shape}
-
--- what is drawn at addresses is what is seen there
-seen_there : (image : Image) (words addresses : List ℕ) → map (λ (box : ℕ × ℕ × Fill). seen image words box.0) (map (seen image words) addresses) ≡ map (seen image words) addresses
-seen_there image words [] = refl
-seen_there image words (a ∷ addresses) = ap (λ boxes. seen image words a ∷ boxes) (seen_there image words addresses)
-
-boxes : (ds : List Definition) (image : Image) (words : List ℕ) (shapes : List Shape) → Drawn ds image words shapes → map (λ (box : ℕ × ℕ × Fill). seen image words box.0) (drawn shapes) ≡ drawn shapes
-boxes ds image words shapes h =
-    ap (λ all. map (λ (box : ℕ × ℕ × Fill). seen image words box.0) all) h.1 ∙ seen_there image words (row 0 7 ++ named image (take MOST_NAMES ds) ++ h.0) ∙ sym h.1
-
-names : (ds : List Definition) (image : Image) (words : List ℕ) (shapes : List Shape) → Drawn ds image words shapes
-    → (others : List (ℕ × ℕ × Fill)) × (drawn shapes ≡ map (seen image words) (row 0 7 ++ named image (take MOST_NAMES ds)) ++ others)
-names ds image words shapes h =
-    let library = row 0 7 in
-    let defined = named image (take MOST_NAMES ds) in
-    (map (seen image words) h.0, h.1 ∙ map-append (seen image words) (library ++ defined) h.0)
 
 a_byte : (b : ℕ) → list_all is_no_tag (escape b) ≡ true
 a_byte b =
@@ -66,20 +47,11 @@ a_byte b =
     cond_both (nat_lt 126 b) (codes ".") (b ∷ []) (λ t. list_all is_no_tag t ≡ true) (λ e. refl) (λ e.
     and_from (is_no_tag b) true (and_from _ _ (ap not less) (ap not greater)) refl)))))
 
-tags : (text : List ℕ) → list_all is_no_tag (escaped text) ≡ true
-tags [] = refl
-tags (b ∷ text) = list_all-append is_no_tag (escape b) (escaped text) ∙ and_from _ _ (a_byte b) (tags text)
+pub no_tags : NoTags
+no_tags [] = refl
+no_tags (b ∷ text) = list_all-append is_no_tag (escape b) (escaped text) ∙ and_from _ _ (a_byte b) (no_tags text)
 
-fills : (ds : List Definition) (image : Image) (at : Moment) (words text : List ℕ) → IsPicture ds image at words text → HasFills ds image words text
-fills ds image at words text h = (
-  h.drawn.0,
-  ap classes_in h.text_is ∙ picture_classes tags (title_of at) h.height h.shapes ∙ ap (λ boxes. codes "p" ++ map (λ (box : ℕ × ℕ × Fill). fill_letter box.2) boxes) h.drawn.1,
-)
-
-pub wrong_shapes : WrongShapes
-wrong_shapes = record { boxes = boxes; names = names; fills = fills; tags = tags }
-
-module _ (ds : List Definition) (image : Image) where
+module _ (p : DrawnProgram) where
   module _ (text : List ℕ) (o q : Outgoing) where
     told_fault : Reported text 0 o q 1 → ⊥
     told_fault report = other_answer text 0 o q 1 (λ e. omega (arith, e)) (λ e. omega (arith, e)) (λ e. omega (arith, e)) report
@@ -94,72 +66,75 @@ module _ (ds : List Definition) (image : Image) where
     told_done report = was_told text 0 o q (λ e. omega (arith, e)) (λ e. omega (arith, e)) report
 
   module _ (at : Moment) (o q : Outgoing) where
-    shown : ShowsMemory ds image at o q 0 → (text : List ℕ) × IsPicture ds image at image.words text × Writes o text q
-    shown (draws.shown text picture report) = (text, picture, told_done text o q report)
+    abbrev unmade : List ℕ
+    unmade = picture_at p at p.image.words []
+
+    shown : ShowsMemory p at o q 0 → Writes o unmade q
+    shown (draws.shown report) = told_done unmade o q report
     shown (draws.no_memory same is) = absurd (omega (arith, is))
 
-    show_device : ShowsMemory ds image at o q 133 → Grew o.failures q.failures
-    show_device (draws.shown text picture report) = told_device text o q report
+    show_device : ShowsMemory p at o q 133 → Grew o.failures q.failures
+    show_device (draws.shown report) = told_device unmade o q report
     show_device (draws.no_memory same is) = absurd (omega (arith, is))
 
-    show_fault : ShowsMemory ds image at o q 1 → ⊥
-    show_fault (draws.shown text picture report) = told_fault text o q report
+    show_fault : ShowsMemory p at o q 1 → ⊥
+    show_fault (draws.shown report) = told_fault unmade o q report
     show_fault (draws.no_memory same is) = omega (arith, is)
 
-    show_refused : ShowsMemory ds image at o q 132 → ⊥
-    show_refused (draws.shown text picture report) = told_refused text o q report
+    show_refused : ShowsMemory p at o q 132 → ⊥
+    show_refused (draws.shown report) = told_refused unmade o q report
     show_refused (draws.no_memory same is) = omega (arith, is)
 
   module _ (i j : Incoming) (o q : Outgoing) where
-    fault_run : (n : ℕ) → DrawsRun ds image n i j o q 1 → ⊥
+    fault_run : (n : ℕ) → DrawsRun p n i j o q 1 → ⊥
     fault_run n (draws.after result made text w report) = told_fault text o q report
     fault_run n (draws.not_begun kind b s same) = show_fault (moment.End 0) o q s
     fault_run n (draws.unread output gives same is) = omega (arith, is)
     fault_run n (draws.no_memory read quiet is) = omega (arith, is)
 
-    refused_run : (n : ℕ) → DrawsRun ds image n i j o q 132 → ⊥
+    refused_run : (n : ℕ) → DrawsRun p n i j o q 132 → ⊥
     refused_run n (draws.after result made text w report) = told_refused text o q report
     refused_run n (draws.not_begun kind b s same) = show_refused (moment.End 0) o q s
     refused_run n (draws.unread output gives same is) = omega (arith, is)
     refused_run n (draws.no_memory read quiet is) = omega (arith, is)
 
-    no_fault : (steps : Option ℕ) → DrawsProgram ds image steps i j o q 1 → ⊥
+    no_fault : (steps : Option ℕ) → DrawsProgram p steps i j o q 1 → ⊥
     no_fault None h = show_fault moment.Before o q h.0
     no_fault (Some n) h = fault_run n h
 
-    no_refusal : (steps : Option ℕ) → DrawsProgram ds image steps i j o q 132 → ⊥
+    no_refusal : (steps : Option ℕ) → DrawsProgram p steps i j o q 132 → ⊥
     no_refusal None h = show_refused moment.Before o q h.0
     no_refusal (Some n) h = refused_run n h
 
-    device_run : (n : ℕ) → DrawsRun ds image n i j o q 133 → Grew i.failures j.failures ⊎ Grew o.failures q.failures
+    device_run : (n : ℕ) → DrawsRun p n i j o q 133 → Grew i.failures j.failures ⊎ Grew o.failures q.failures
     device_run n (draws.after result made text w report) = inr (told_device text o q report)
     device_run n (draws.not_begun kind b s same) = inr (show_device (moment.End 0) o q s)
-    device_run n (draws.unread output gives same is) = elim (device_failed (machine ds) n i j nothing_written (outgoing_of output) gives) [ inl read ↦ inl read | inr written ↦ absurd (not_grown 0 0 refl refl written) ]
+    device_run n (draws.unread output gives same is) = elim (device_failed (machine p.definitions) n i j nothing_written (outgoing_of output) gives) [ inl read ↦ inl read | inr written ↦ absurd (not_grown 0 0 refl refl written) ]
     device_run n (draws.no_memory read quiet is) = absurd (omega (arith, is))
 
-    device_in : (steps : Option ℕ) → DrawsProgram ds image steps i j o q 133 → Grew i.failures j.failures ⊎ Grew o.failures q.failures
+    device_in : (steps : Option ℕ) → DrawsProgram p steps i j o q 133 → Grew i.failures j.failures ⊎ Grew o.failures q.failures
     device_in None h = inr (show_device moment.Before o q h.0)
     device_in (Some n) h = device_run n h
 
     -- a run that was drawn has an outcome to which it came
-    comes : (n made : ℕ) (result : Outcome) (text left : List ℕ) (sights : Sights) (p : Outgoing) → IsDrawn ds image text sights made result → (bytes : List ℕ) → EndsAfter (machine ds bytes) made n result left
-        → RunGives (machine ds) n i j nothing_written p result → ComesTo (machine ds) n i j nothing_written p result
-    comes n made (outcome.Exit status) text left sights p d bytes e h = h
-    comes n made (outcome.Trap kind) text left sights p d bytes e h = h
-    comes n made outcome.Limit text left sights p d bytes e h = h
-    comes n made outcome.Device text left sights p d bytes e h = absurd d
-    comes n made outcome.Memory text left sights p d bytes e h = absurd e
+    comes : (n made : ℕ) (result : Outcome) (text left : List ℕ) (sights : Sights) (w : Outgoing) → IsDrawn p text sights made result → (bytes : List ℕ) → EndsAfter (machine p.definitions bytes) made n result left
+        → RunGives (machine p.definitions) n i j nothing_written w result → ComesTo (machine p.definitions) n i j nothing_written w result
+    comes n made (outcome.Exit status) text left sights w d bytes e h = h
+    comes n made (outcome.Trap kind) text left sights w d bytes e h = h
+    comes n made outcome.Limit text left sights w d bytes e h = h
+    comes n made outcome.Device text left sights w d bytes e h = absurd d
+    comes n made outcome.Memory text left sights w d bytes e h = absurd d
 
-    come : (n made : ℕ) (result : Outcome) (text : List ℕ) (w : Watches (image_of ds).functions (machine ds) n i j result made (IsDrawn ds image text)) → ComesTo (machine ds) n i j nothing_written (outgoing_of w.output) result
-    come n made result text w = comes n made result text [] (sights_of (image_of ds).functions (machine ds) (w.taken ++ [])) (outgoing_of w.output) (w.told [] (λ e. refl)) (w.taken ++ []) (w.ends [] (λ e. refl)) w.gives
+    come : (n made : ℕ) (result : Outcome) (text : List ℕ) (w : Watches (image_of p.definitions).functions (machine p.definitions) n i j result made (IsDrawn p text)) → ComesTo (machine p.definitions) n i j nothing_written (outgoing_of w.output) result
+    come n made result text w = comes n made result text [] (sights_of (image_of p.definitions).functions (machine p.definitions) (w.taken ++ [])) (outgoing_of w.output) (w.told [] (λ e. refl)) (w.taken ++ []) (w.ends [] (λ e. refl)) w.gives
 
-    unread_run : (n status : ℕ) → DrawsRun ds image n i j o q status → (j.failures ≡ i.failures → ⊥) → (status ≡ 133) × (q ≡ o)
+    unread_run : (n status : ℕ) → DrawsRun p n i j o q status → (j.failures ≡ i.failures → ⊥) → (status ≡ 133) × (q ≡ o)
     unread_run n status (draws.after result made text w report) failed = absurd (failed (come n made result text w).no_failure)
     unread_run n status (draws.not_begun kind b s same) failed = absurd (failed (ap (λ (x : Incoming). x.failures) same))
     unread_run n status (draws.unread output gives same is) failed = (is, same)
     unread_run n status (draws.no_memory read quiet is) failed = absurd (failed read.no_failure)
 
-    unread_in : (steps : Option ℕ) (status : ℕ) → DrawsProgram ds image steps i j o q status → (j.failures ≡ i.failures → ⊥) → (status ≡ 133) × (q ≡ o)
+    unread_in : (steps : Option ℕ) (status : ℕ) → DrawsProgram p steps i j o q status → (j.failures ≡ i.failures → ⊥) → (status ≡ 133) × (q ≡ o)
     unread_in None status h failed = absurd (failed (ap (λ (x : Incoming). x.failures) h.1))
     unread_in (Some n) status h failed = unread_run n status h failed
 
@@ -171,19 +146,19 @@ module _ (edition : Edition) (source : List ℕ) (r : Compilation) (g : Compiles
   told = excluded edition source r g line_of ends.line ends.line_after
 
   done : (steps : Option ℕ) → Draws edition source steps ends 0 → (r.stop ≡ None) × (load_fault code ≡ None)
-  done steps (draws.drew ds image p silent h) = let is = told.program ds image p in (is.0, is.2)
+  done steps (draws.drew ds frames image p named silent h) = let is = told.program ds image p in (is.0, is.2)
   done steps (draws.stopped why quiet unread) = absurd (no_done 0 refl (told.status 0 why))
 
   -- a picture of the program of the source
-  shows_code : (ds : List Definition) (image : Image) (at : Moment) → ds ≡ code → ShowsMemory ds image at ends.out ends.out_after 0 → Shows edition source r g ends image at image.words
-  shows_code ds image at same h =
-      let s = shown ds image at ends.out ends.out_after h in
-      (s.0, subst (λ (x : List Definition). IsPicture x image at image.words s.0) same s.1, s.2)
+  shows_code : (ds : List Definition) (frames : List Frame) (image : Image) (at : Moment) → HasNames edition source frames → ds ≡ code → ShowsMemory (drawn_of ds frames image) at ends.out ends.out_after 0
+      → Shows edition source r g ends image at image.words
+  shows_code ds frames image at named same h =
+      (frames, [], named, subst (λ (x : List Definition). Writes ends.out (picture_at (drawn_of x frames image) at image.words []) ends.out_after) same (shown (drawn_of ds frames image) at ends.out ends.out_after h))
 
   before : Draws edition source None ends 0 → (image : Image) × IsLoadedFrom code image × Shows edition source r g ends image moment.Before image.words × (ends.input_after ≡ ends.input)
-  before (draws.drew ds image p silent h) =
+  before (draws.drew ds frames image p named silent h) =
       let same = (told.program ds image p).1 in
-      (image, subst (λ (x : List Definition). IsLoadedFrom x image) same p.loaded, shows_code ds image moment.Before same h.0, h.1)
+      (image, subst (λ (x : List Definition). IsLoadedFrom x image) same p.loaded, shows_code ds frames image moment.Before named same h.0, h.1)
   before (draws.stopped why quiet unread) = absurd (no_done 0 refl (told.status 0 why))
 
   module _ (n : ℕ) (bytes : List ℕ) (tells : TellsBytes ends.input bytes) where
@@ -191,19 +166,22 @@ module _ (edition : Edition) (source : List ℕ) (r : Compilation) (g : Compiles
     Found image = (at : Moment) × (words : List ℕ) × Shows edition source r g ends image at words × IsOfStep edition source r g ends image n bytes at words
 
     -- a run has the words that were drawn, and has read what was taken
-    of_run : (image : Image) (result : Outcome) (made : ℕ) (text : List ℕ) → Watches (image_of code).functions (machine code) n ends.input ends.input_after result made (IsDrawn code image text) → Writes ends.out text ends.out_after → Found image
-    of_run image result made text w written =
+    of_run : (frames : List Frame) (image : Image) → HasNames edition source frames → (result : Outcome) (made : ℕ) (text : List ℕ)
+        → Watches (image_of code).functions (machine code) n ends.input ends.input_after result made (IsDrawn (drawn_of code frames image) text) → Writes ends.out text ends.out_after → Found image
+    of_run frames image named result made text w written =
         let fs = (image_of code).functions in
+        let q = drawn_of code frames image in
         let rest = rest_after ends.input ends.input_after w.taken bytes w.took tells.0 tells.1 in
         let end = subst (λ t. EndsAfter (machine code t) made n result rest.more) rest.whole (w.ends rest.more rest.follows) in
-        let picture = is_picture code image text result made (sights_of fs (machine code) bytes) (subst (λ t. IsDrawn code image text (sights_of fs (machine code) t) made result) rest.whole (w.told rest.more rest.follows)) in
-        let c = come code image ends.input ends.input_after ends.out ends.out_after n made result text w in
+        let picture = is_picture q text result made (sights_of fs (machine code) bytes) (subst (λ t. IsDrawn q text (sights_of fs (machine code) t) made result) rest.whole (w.told rest.more rest.follows)) in
+        let c = come q ends.input ends.input_after ends.out ends.out_after n made result text w in
         let other = rest_after ends.input ends.input_after c.taken bytes c.took tells.0 tells.1 in
         let same : (state_world (machine code bytes made)).store ≡ (state_world (machine code bytes n)).store =
-        ap (λ (s : State). (state_world s).store) (sym (same_end code bytes made n w.within result rest.more picture.0 end)) in (
+        ap (λ (s : State). (state_world s).store) (sym (same_end code bytes made n w.within result rest.more picture.0 end)) in
+        let drawn = picture.1.1 ∙ ap (λ words. picture_at q (moment_of result made) words picture.1.0) (seen_store fs (machine code bytes made) ∙ same) in (
           moment_of result made,
           (state_world (machine code bytes n)).store,
-          (text, subst (λ words. IsPicture code image (moment_of result made) words text) (seen_store fs (machine code bytes made) ∙ same) picture.1, written),
+          (frames, picture.1.0, named, subst (λ t. Writes ends.out t ends.out_after) drawn written),
           inl (
             (result, made, rest.more, refl, end),
             refl,
@@ -211,52 +189,47 @@ module _ (edition : Edition) (source : List ℕ) (r : Compilation) (g : Compiles
           ),
         )
 
-    after_run : (ds : List Definition) (image : Image) → ds ≡ code → DrawsRun ds image n ends.input ends.input_after ends.out ends.out_after 0 → Found image
-    after_run ds image same (draws.after result made text w report) =
-        of_run image result made text (subst (λ (x : List Definition). Watches (image_of x).functions (machine x) n ends.input ends.input_after result made (IsDrawn x image text)) same w)
-        (told_done ds image text ends.out ends.out_after report)
-    after_run ds image same (draws.not_begun kind b s unread) = (moment.End 0, image.words, shows_code ds image (moment.End 0) same s, inr (kind, b, refl, refl, unread))
-    after_run ds image same (draws.unread output gives quiet is) = absurd (omega (arith, is))
-    after_run ds image same (draws.no_memory read quiet is) = absurd (omega (arith, is))
+    after_run : (ds : List Definition) (frames : List Frame) (image : Image) → HasNames edition source frames → ds ≡ code → DrawsRun (drawn_of ds frames image) n ends.input ends.input_after ends.out ends.out_after 0 → Found image
+    after_run ds frames image named same (draws.after result made text w report) =
+        of_run frames image named result made text
+        (subst (λ (x : List Definition). Watches (image_of x).functions (machine x) n ends.input ends.input_after result made (IsDrawn (drawn_of x frames image) text)) same w)
+        (told_done (drawn_of ds frames image) text ends.out ends.out_after report)
+    after_run ds frames image named same (draws.not_begun kind b s unread) =
+        (moment.End 0, image.words, shows_code ds frames image (moment.End 0) named same s, inr (kind, b, refl, refl, unread))
+    after_run ds frames image named same (draws.unread output gives quiet is) = absurd (omega (arith, is))
+    after_run ds frames image named same (draws.no_memory read quiet is) = absurd (omega (arith, is))
 
     after : Draws edition source (Some n) ends 0 → (image : Image) × (at : Moment) × (words : List ℕ) × IsLoadedFrom code image × Shows edition source r g ends image at words × IsOfStep edition source r g ends image n bytes at words
-    after (draws.drew ds image p silent h) =
+    after (draws.drew ds frames image p named silent h) =
         let same = (told.program ds image p).1 in
-        let a = after_run ds image same h in
+        let a = after_run ds frames image named same h in
         (image, a.0, a.1, subst (λ (x : List Definition). IsLoadedFrom x image) same p.loaded, a.2, a.3)
     after (draws.stopped why quiet unread) = absurd (no_done 0 refl (told.status 0 why))
 
-  filled : (n : ℕ) (bytes text : List ℕ) → TellsBytes ends.input bytes → ends.out.written ≡ Some [] → ends.out_after.written ≡ Some text → Draws edition source (Some n) ends 0
-      → (image : Image) × (at : Moment) × (words : List ℕ) × IsLoadedFrom code image × IsOfStep edition source r g ends image n bytes at words × HasFills code image words text
-  filled n bytes text tells empty written h =
-      let a = after n bytes tells h in
-      let is : text ≡ a.4.0 = subst (λ t. Appends (Some []) t a.4.0) written (subst (λ t. Appends t ends.out_after.written a.4.0) empty a.4.2.appended) in
-      (a.0, a.1, a.2, a.3, a.5, subst (λ t. HasFills code a.0 a.2 t) (sym is) (fills code a.0 a.1 a.2 a.4.0 a.4.1))
-
   unread : (steps : Option ℕ) (status : ℕ) → Draws edition source steps ends status → (ends.input_after.failures ≡ ends.input.failures → ⊥) → (status ≡ 133) × (ends.out_after ≡ ends.out)
-  unread steps status (draws.drew ds image p silent h) failed = unread_in ds image ends.input ends.input_after ends.out ends.out_after steps status h failed
+  unread steps status (draws.drew ds frames image p named silent h) failed = unread_in (drawn_of ds frames image) ends.input ends.input_after ends.out ends.out_after steps status h failed
   unread steps status (draws.stopped why quiet same) failed = absurd (failed (ap (λ (x : Incoming). x.failures) same))
 
   device : (steps : Option ℕ) → Draws edition source steps ends 133 → Grew ends.input.failures ends.input_after.failures ⊎ Grew ends.out.failures ends.out_after.failures ⊎ Grew ends.line.failures ends.line_after.failures
-  device steps (draws.drew ds image p silent h) =
-      elim (device_in ds image ends.input ends.input_after ends.out ends.out_after steps h) [ inl read ↦ inl read | inr written ↦ inr (inl written) ]
+  device steps (draws.drew ds frames image p named silent h) =
+      elim (device_in (drawn_of ds frames image) ends.input ends.input_after ends.out ends.out_after steps h) [ inl read ↦ inl read | inr written ↦ inr (inl written) ]
   device steps (draws.stopped why quiet same) = inr (inr (told.device why))
 
   fault : (steps : Option ℕ) → Draws edition source steps ends 1
       → ((d : Diagnostic) × (r.stop ≡ Some d) × Writes ends.line (line_of d) ends.line_after) × (ends.out_after ≡ ends.out) × (ends.input_after ≡ ends.input)
-  fault steps (draws.drew ds image p silent h) = absurd (no_fault ds image ends.input ends.input_after ends.out ends.out_after steps h)
+  fault steps (draws.drew ds frames image p named silent h) = absurd (no_fault (drawn_of ds frames image) ends.input ends.input_after ends.out ends.out_after steps h)
   fault steps (draws.stopped why quiet same) = (told.fault why, quiet, same)
 
   unloaded : (steps : Option ℕ) → Draws edition source steps ends 132
       → ((f : LoadFault) × (text : List ℕ) × (load_fault code ≡ Some f) × (load_line f ≡ Some text) × Writes ends.line text ends.line_after) × (ends.out_after ≡ ends.out) × (ends.input_after ≡ ends.input)
-  unloaded steps (draws.drew ds image p silent h) = absurd (no_refusal ds image ends.input ends.input_after ends.out ends.out_after steps h)
+  unloaded steps (draws.drew ds frames image p named silent h) = absurd (no_refusal (drawn_of ds frames image) ends.input ends.input_after ends.out ends.out_after steps h)
   unloaded steps (draws.stopped why quiet same) = (told.unloaded why, quiet, same)
 
   -- what was read of the input was asked for
   unasked : (n status : ℕ) → Draws edition source (Some n) ends status → LeftBySteps (machine code) n ends.input ends.input_after
-  unasked n status (draws.drew ds image p silent h) = by h
+  unasked n status (draws.drew ds frames image p named silent h) = by h
     where
-      by : DrawsRun ds image n ends.input ends.input_after ends.out ends.out_after status → LeftBySteps (machine code) n ends.input ends.input_after
+      by : DrawsRun (drawn_of ds frames image) n ends.input ends.input_after ends.out ends.out_after status → LeftBySteps (machine code) n ends.input ends.input_after
       by (draws.after result made text w report) =
           program_left edition source r g n ends.input ends.input_after ds image p
           (run_left (machine ds) n ends.input ends.input_after nothing_written (outgoing_of w.output) result w.gives)
@@ -272,7 +245,6 @@ no_pictures edition source r g ends = record {
   done = done edition source r g ends;
   before = before edition source r g ends;
   after = after edition source r g ends;
-  filled = filled edition source r g ends;
   unread = unread edition source r g ends;
   device = device edition source r g ends;
   fault = fault edition source r g ends;

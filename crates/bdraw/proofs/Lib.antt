@@ -1,4 +1,4 @@
-pub mod Classes
-pub mod DrawnWords
-pub mod DrawExcluded
+pub mod Stacking
+pub mod CallsDrawn
 pub mod WatchedPictures
+pub mod DrawExcluded

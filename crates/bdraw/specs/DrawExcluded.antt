@@ -1,13 +1,11 @@
 -- Promise: what no picture of memory is, of each source and whatever its ends do.
-use Rattle.std.specs.Prelude.{◌≡◌, ℕ, ◌==◌, ◌&&◌, not, true, Bool, List, [], ◌∷◌, ◌++◌, map, take, Option, Some, None}
-use Rattle.std.specs.Prelude.{◌⊎◌, IsTrue, codes, if◌then◌else◌, refl, slice_index}
+use Rattle.std.specs.Prelude.{◌≡◌, ◌⊎◌, ℕ, ◌==◌, ◌&&◌, not, true, Bool, IsTrue, List, [], Option, Some, None}
 use Rattle.std.specs.List.{list_all}
 use Rattle.bword.specs.declared.edition.Edition.{Edition}
 use Rattle.bword.specs.ByteEnds.{Grew, Incoming, Writes}
 use Rattle.bmach.specs.Readings.{LeftBySteps}
 use Rattle.bmach.specs.Resolved.{IsLoadedFrom}
 use Rattle.bmach.specs.Stepping.{BeginsNot}
-use Rattle.blang.specs.declared.code.Definition.{Definition}
 use Rattle.blang.specs.declared.run.LoadFault.{LoadFault}
 use Rattle.blang.specs.declared.run.Outcome.{Outcome}
 use Rattle.blang.specs.declared.run.Outcome.TheVariants as outcome
@@ -19,54 +17,25 @@ use Rattle.blang.specs.Cut.{tokens_from}
 use Rattle.blang.specs.Layout.{load_fault}
 use Rattle.blang.specs.Machine.{Image, machine, state_world}
 use Rattle.blang.specs.Reports.{RunEnds}
+use Rattle.bmach.specs.declared.machine.Active.{Active}
+use Rattle.btools.specs.FrameNames.{HasNames}
 use Rattle.btools.specs.ProgramsExcluded.{code_in}
 use Rattle.btools.specs.Programs.{load_line}
+use Rattle.btools.specs.declared.names.Frame.{Frame}
 use Rattle.bwatch.specs.Watches.{EndsAfter}
-use Rattle.bdraw.specs.Draws.{Drawn, Draws, IsPicture, drawn, moment_of, named, row, seen}
-use Rattle.bdraw.specs.Shapes.{escaped, fill_name}
-use Rattle.bdraw.specs.declared.picture.TheConstants.{MOST_NAMES}
+use Rattle.bdraw.specs.Draws.{Draws, moment_of, picture_at}
+use Rattle.bdraw.specs.Pictures.{drawn_of}
+use Rattle.bdraw.specs.Shapes.{escaped}
 use Rattle.bdraw.specs.declared.scene.Moment.{Moment}
 use Rattle.bdraw.specs.declared.scene.Moment.TheVariants as moment
-use Rattle.bdraw.specs.declared.shapes.Fill.{Fill}
-use Rattle.bdraw.specs.declared.shapes.Shape.{Shape}
 
 -- a byte that begins or ends no tag
 abbrev pub is_no_tag : ℕ → Bool
 is_no_tag b = not (b == 60) && not (b == 62)
 
--- the first letters of the classes of boxes in a text: what stands there in each `<rect class='`
-abbrev pub classes_in : List ℕ → List ℕ
-classes_in [] = []
-classes_in (b ∷ rest) =
-    (if b == 60 && slice_index rest 0 == 114 then slice_index rest 12 ∷ [] else []) ++ classes_in rest
-
-a_class : classes_in (codes "<rect class='same'/>r<text class='word'>") ≡ codes "s"
-a_class = refl
-
-abbrev pub fill_letter : Fill → ℕ
-fill_letter f = slice_index (fill_name f) 0
-
--- The text has the page, and then boxes for the words of the library, of the first 48 names and of others, filled as
--- these words are the image's or not.
-abbrev pub HasFills : List Definition → Image → List ℕ → List ℕ → Type 0
-HasFills ds image words text =
-    (others : List ℕ) × (classes_in text ≡ codes "p" ++ map (λ (box : ℕ × ℕ × Fill). fill_letter box.2)
-    (map (seen image words) (row 0 7 ++ named image (take MOST_NAMES ds) ++ others)))
-
--- What is excluded of the boxes and texts of a picture.
-pub record WrongShapes : Type 0 where
-  -- a box with another word than that of its address, or filled though it is the image's, or not though it isn't
-  pub boxes : (ds : List Definition) (image : Image) (words : List ℕ) (shapes : List Shape)
-      → Drawn ds image words shapes → map (λ (box : ℕ × ℕ × Fill). seen image words box.0) (drawn shapes) ≡ drawn shapes
-  -- a word of the library, or a name of the first 48, that is left out
-  pub names : (ds : List Definition) (image : Image) (words : List ℕ) (shapes : List Shape)
-      → Drawn ds image words shapes → (others : List (ℕ × ℕ × Fill))
-      × (drawn shapes ≡ map (seen image words) (row 0 7 ++ named image (take MOST_NAMES ds)) ++ others)
-  -- a text with a box that is filled though its word is the image's, or isn't though it is another one
-  pub fills : (ds : List Definition) (image : Image) (at : Moment) (words text : List ℕ)
-      → IsPicture ds image at words text → HasFills ds image words text
-  -- a text with a tag in it
-  pub tags : (text : List ℕ) → IsTrue (list_all is_no_tag (escaped text))
+-- What is excluded of the texts of a picture: a tag in one.
+abbrev pub NoTags : Type 0
+NoTags = (text : List ℕ) → IsTrue (list_all is_no_tag (escaped text))
 
 -- the end tells its bytes, which are these
 abbrev pub TellsBytes : Incoming → List ℕ → Type 0
@@ -74,11 +43,11 @@ TellsBytes end bytes = (end.left ≡ Some bytes) × (end.is_over ≡ true → by
 
 module _ (edition : Edition) (source : List ℕ) (r : Compilation) (g : CompilesTo [] (tokens_from edition 1 source) r)
     (ends : RunEnds) where
-  -- a picture of these words of the program of the source was written
+  -- a picture of the program of the source was written, of these words
   abbrev pub Shows : Image → Moment → List ℕ → Type 0
   Shows image at words =
-      (text : List ℕ) × IsPicture (code_in edition source r g) image at words text
-      × Writes ends.out text ends.out_after
+      (frames : List Frame) × (calls : List Active) × HasNames edition source frames
+      × Writes ends.out (picture_at (drawn_of (code_in edition source r g) frames image) at words calls) ends.out_after
 
   -- the moment after so many steps on these bytes, or where the run is over before
   abbrev pub IsMomentOf : ℕ → (bytes : List ℕ) → Moment → Type 0
@@ -108,11 +77,6 @@ module _ (edition : Edition) (source : List ℕ) (r : Compilation) (g : Compiles
     pub after : (n : ℕ) (bytes : List ℕ) → TellsBytes ends.input bytes → Draws edition source (Some n) ends DONE
         → (image : Image) × (at : Moment) × (words : List ℕ) × IsLoadedFrom (code_in edition source r g) image
         × Shows image at words × IsOfStep image n bytes at words
-    -- a picture filled as that of another step, as of the memory before a run that is over by a trap
-    pub filled : (n : ℕ) (bytes text : List ℕ) → TellsBytes ends.input bytes → ends.out.written ≡ Some []
-        → ends.out_after.written ≡ Some text → Draws edition source (Some n) ends DONE
-        → (image : Image) × (at : Moment) × (words : List ℕ) × IsLoadedFrom (code_in edition source r g) image
-        × IsOfStep image n bytes at words × HasFills (code_in edition source r g) image words text
     -- a failed read that isn't told by 133, or something written after it
     pub unread : (steps : Option ℕ) (status : ℕ) → Draws edition source steps ends status
         → (ends.input_after.failures ≡ ends.input.failures → ⊥) → (status ≡ DEVICE) × (ends.out_after ≡ ends.out)

@@ -2,8 +2,10 @@
 ghost use Rattle.std.specs.Prelude.{◌≡◌, IfOk};
 ghost use Rattle.blang.specs.Reports.{run_ends};
 ghost use Rattle.bmach.specs.Resolved.{IsLoadedFrom};
-ghost use Rattle.bdraw.specs.DrawExcluded.{NoPictures, WrongShapes};
-ghost use Rattle.bdraw.specs.Draws.{Draws, DrawsRun, IsPicture, ShowsMemory, moment_of};
+ghost use Rattle.bdraw.specs.DrawExcluded.{NoPictures, NoTags};
+ghost use Rattle.bdraw.specs.Draws.{Draws, DrawsRun, IsDrawn, ShowsMemory, moment_of, title_of};
+ghost use Rattle.bdraw.specs.Pictures.{rows_of, stacked_text};
+ghost use Rattle.bdraw.specs.Stacks.{IsOf, drawn_in};
 
 use crate::picture::{picture_of, title_of};
 use crate::scene::{Memory, Moment, Scene, calls_of, no_calls};
@@ -11,7 +13,7 @@ use crate::shapes::picture_text;
 use blang::Outcome;
 use blang::status::{self, Status};
 use bmach::{Stepper, Stop};
-use btools::{Program, Text, read_program, tell, tell_fault};
+use btools::{Program, Tables, Text, read_program, tell, tell_fault};
 use bwatch::{Onlooker, Watched, watch};
 use bword::{ByteIn, ByteOut, Edition, Store};
 use std::alloc::{AllocError, Global};
@@ -40,9 +42,12 @@ pub fn draw<I: ByteIn, O: ByteOut, D: ByteOut>(
         Ok(program) => program,
         Err(fault) => return tell_fault(&fault, diag),
     };
+    let Ok(tables) = Tables::new(alloc, &program) else {
+        return status::MEMORY;
+    };
     match steps {
-        None => show_before(alloc, &program, Moment::Before, out),
-        Some(steps) => draw_run(alloc, &program, steps, input, out),
+        None => show_before(alloc, &program, &tables, Moment::Before, out),
+        Some(steps) => draw_run(alloc, &program, &tables, steps, input, out),
     }
 }
 
@@ -50,12 +55,13 @@ pub fn draw<I: ByteIn, O: ByteOut, D: ByteOut>(
 fn draw_run<I: ByteIn, O: ByteOut>(
     alloc: Global,
     program: &Program,
+    tables: &Tables<'_>,
     steps: u64,
     input: &mut I,
     out: &mut O,
 ) -> Status
     requires { IsLoadedFrom program.now.definitions.items program.now.image }
-    ensures draws { DrawsRun program.now.definitions.items program.now.image steps (I.incoming input.old) (I.incoming input.new)
+    ensures draws { DrawsRun (drawn_in program.now tables.now) steps (I.incoming input.old) (I.incoming input.new)
         (O.outgoing out.old) (O.outgoing out.new) result }
     ensures input_lender { I.lender input.new ≡ I.lender input.old }
     ensures out_lender { O.lender out.new ≡ O.lender out.old }
@@ -63,11 +69,14 @@ fn draw_run<I: ByteIn, O: ByteOut>(
     let mut drawer = Drawer {
         alloc,
         program,
+        tables,
         picture: Text::new(alloc),
     };
     let stop = match watch(alloc, program, steps, input, &mut drawer) {
         Ok(Watched::Ended(stop)) => stop,
-        Ok(Watched::Unbegun(_)) => return show_before(alloc, program, Moment::End(0), out),
+        Ok(Watched::Unbegun(_)) => {
+            return show_before(alloc, program, tables, Moment::End(0), out);
+        }
         Err(_) => return status::MEMORY,
     };
     match stop.outcome {
@@ -78,14 +87,20 @@ fn draw_run<I: ByteIn, O: ByteOut>(
 }
 
 // Draws memory as it is before the run.
-fn show_before<O: ByteOut>(alloc: Global, program: &Program, moment: Moment, out: &mut O) -> Status
-    ensures shows { ShowsMemory program.now.definitions.items program.now.image moment (O.outgoing out.old)
-        (O.outgoing out.new) result }
+fn show_before<O: ByteOut>(
+    alloc: Global,
+    program: &Program,
+    tables: &Tables<'_>,
+    moment: Moment,
+    out: &mut O,
+) -> Status
+    ensures shows { ShowsMemory (drawn_in program.now tables.now) moment (O.outgoing out.old) (O.outgoing out.new) result }
     ensures out_lender { O.lender out.new ≡ O.lender out.old }
 {
     let calls = no_calls(alloc);
     let scene = Scene {
         program,
+        tables,
         memory: &program.image,
         moment,
         calls: &calls,
@@ -97,8 +112,8 @@ fn show_before<O: ByteOut>(alloc: Global, program: &Program, moment: Moment, out
 }
 
 fn text_of<M: Memory>(alloc: Global, scene: &Scene<'_, M>) -> Result<Text, AllocError>
-    ensures { IfOk result (IsPicture scene.now.program.now.definitions.items scene.now.program.now.image scene.now.moment
-        (M.seen_words scene.now.memory.now)) }
+    ensures { IfOk result (λ text. text ≡ stacked_text (title_of scene.now.moment) (rows_of (drawn_in scene.now.program.now
+        scene.now.tables.now) (M.seen_words scene.now.memory.now) scene.now.calls.now.drawn.items scene.now.calls.now.others)) }
 {
     let title = title_of(alloc, scene.moment)?;
     let picture = picture_of(alloc, scene)?;
@@ -115,16 +130,16 @@ fn text_of<M: Memory>(alloc: Global, scene: &Scene<'_, M>) -> Result<Text, Alloc
 struct Drawer<'a> {
     alloc: Global,
     program: &'a Program,
+    tables: &'a Tables<'a>,
     picture: Text,
 }
 
 impl<'a> Onlooker for Drawer<'a> {
-    ghost has_seen = { λ first now sights made. now.program ≡ first.program };
+    ghost has_seen = { λ first now sights made. IsOf first now };
 
-    ghost awaits = { λ first now sights made. now.program ≡ first.program };
+    ghost awaits = { λ first now sights made. IsOf first now };
 
-    ghost has_told = { λ first now sights made result. IsPicture first.program.now.definitions.items first.program.now.image
-        (moment_of result made) (sights made).store now.picture };
+    ghost has_told = { λ first now sights made result. IsDrawn (drawn_in first.program.now first.tables.now) now.picture sights made result };
 
     fn before<S: Store + Drop>(
         &mut self,
@@ -148,9 +163,10 @@ impl<'a> Onlooker for Drawer<'a> {
         stepper: &Stepper<'_, S>,
         stop: Stop,
     ) -> Result<(), AllocError> {
-        let calls = calls_of(self.alloc, stepper)?;
+        let calls = calls_of(self.alloc, stepper, stop.call)?;
         let scene = Scene {
             program: self.program,
+            tables: self.tables,
             memory: stepper,
             moment: moment_of(stop),
             calls: &calls,
@@ -170,8 +186,8 @@ fn moment_of(stop: Stop) -> Moment
     }
 }
 
-/// No picture shows the machine at another step, or a word at another address, or has another fill, text or status.
+/// No picture shows the machine at another step, or has a tag in a text, or another status.
 pub fn wrong_pictures_are_excluded()
-    ensures shapes { WrongShapes }
+    ensures tags { NoTags }
     ensures pictures { NoPictures }
 {}

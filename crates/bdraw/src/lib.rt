@@ -3,6 +3,7 @@
 
 mod drawing;
 mod picture;
+mod rows;
 mod scene;
 mod shapes;
 

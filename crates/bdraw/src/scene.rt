@@ -1,9 +1,11 @@
 //! What is drawn: memory at a moment, and the calls that are active.
-ghost use Rattle.std.specs.Prelude.{◌≡◌, ℕ, List, slice_index};
+ghost use Rattle.std.specs.Prelude.{◌≡◌, ◌-◌, ◌==◌, ℕ, List, [], ◌∷◌, IfOk, find, length, map, option_map, reverse, slice_index, take, zip};
+ghost use Rattle.bmach.specs.Stops.{active_of};
+ghost use Rattle.btools.specs.FrameNames.{frame_seen};
+ghost use Rattle.btools.specs.Functions.{entries_of, placed_entry};
 
-use blang::{Definition, FunctionParts, MAX_CALLS};
-use bmach::{Active, FIRST_ADDRESS, Image, Stepper, size_of};
-use btools::Program;
+use bmach::{Active, Image, Stepper};
+use btools::{Entry, Frame, Program, Tables};
 use bword::Store;
 use std::alloc::{AllocError, Global};
 
@@ -59,49 +61,61 @@ pub struct DrawnCalls {
 #[derive(Drop)]
 pub struct Scene<'a, M: Memory> {
     pub program: &'a Program,
+    pub tables: &'a Tables<'a>,
     pub memory: &'a M,
     pub moment: Moment,
     pub calls: &'a DrawnCalls,
 }
 
 /// No calls, as before a run.
-pub fn no_calls(alloc: Global) -> DrawnCalls {
+pub fn no_calls(alloc: Global) -> DrawnCalls
+    ensures drawn { result.drawn.items ≡ [] }
+    ensures others { result.others ≡ 0 }
+{
     DrawnCalls {
         drawn: Vec::new(alloc),
         others: 0,
     }
 }
 
-/// The active calls of a run.
+/// The active calls of a run: this one, and those below the running one.
 pub fn calls_of<S: Store + Drop>(
     alloc: Global,
     stepper: &Stepper<'_, S>,
-) -> Result<DrawnCalls, AllocError> {
-    let mut calls = no_calls(alloc);
-    for number in (0..MAX_CALLS).rev() {
-        match stepper.caller(number) {
-            Some(call) if number < MOST_CALLS - 1 => calls.drawn.push(call)?,
-            Some(_) => calls.others = calls.others.saturating_add(1),
-            None => {}
+    running: Active,
+) -> Result<DrawnCalls, AllocError>
+    ensures drawn { IfOk result (λ calls. calls.drawn.items ≡ reverse (take 16 (running ∷ map active_of stepper.now.below))) }
+    ensures others { IfOk result (λ calls. calls.others ≡ length (running ∷ map active_of stepper.now.below) - 16) }
+{
+    let callers = stepper.callers().min(MOST_CALLS - 1);
+    let mut drawn = Vec::new(alloc);
+    drawn.push(running)?;
+    for number in 0..callers {
+        if let Some(call) = stepper.caller(number) {
+            drawn.push(call)?;
         }
     }
-    calls.drawn.push(stepper.top())?;
-    Ok(calls)
+    drawn.reverse();
+    Ok(DrawnCalls {
+        drawn,
+        others: (stepper.callers() - callers) as u64,
+    })
 }
 
-/// The function of a call, and its number among those of the program.
-pub fn function_of<'a>(program: &'a Program, call: Active) -> Option<(usize, &'a FunctionParts)> {
-    let mut address = u32::from(FIRST_ADDRESS);
-    let mut number: usize = 0;
-    for definition in &program.definitions {
-        if let Definition::Function(function) = definition {
-            // Its string words stand after its own word.
-            if call.strings == address.saturating_add(1) {
-                return Some((number, function.parts()));
-            }
-            number = number.saturating_add(1);
+/// The function that has its string words there, and the names of its frame.
+pub fn function_of<'a>(
+    tables: &'a Tables<'a>,
+    frames: &'a [Frame],
+    strings: u32,
+) -> Option<(Entry<'a>, &'a Frame)>
+    ensures { option_map (λ f. (placed_entry f.0, frame_seen f.1.now)) result
+        ≡ find (λ f. f.0.strings == strings) (zip (entries_of tables.now) (map frame_seen frames.now)) }
+{
+    let entries = tables.entries();
+    for number in 0..entries.len().min(frames.len()) {
+        if entries[number].strings == strings {
+            return Some((entries[number], &frames[number]));
         }
-        address = address.saturating_add(u32::from(size_of(definition)));
     }
     None
 }
