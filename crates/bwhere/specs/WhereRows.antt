@@ -8,9 +8,9 @@ use Rattle.bword.specs.declared.operators.BinOp.TheVariants as operator
 use Rattle.blang.specs.declared.run.LoadFault.TheVariants as fault
 use Rattle.blang.specs.declared.run.Outcome.TheVariants as outcome
 use Rattle.blang.specs.declared.run.Trap.TheVariants as trap
-use Rattle.bwhere.specs.Dues.{due_text, opens}
+use Rattle.bwhere.specs.Dues.{due_text, number_in, opens}
 use Rattle.bwhere.specs.Sites.{Site, nowhere}
-use Rattle.bwhere.specs.Wheres.{code_meaning, code_site_text, opening_lines, site_of, unloaded_text, unread_text}
+use Rattle.bwhere.specs.Wheres.{code_meaning, code_site_text, opening_lines, site_of, unloaded_text, unread_text, uses}
 
 opening : map opens (codes "E" ∷ codes "F f" ∷ codes "V v" ∷ codes "X n" ∷ codes "B 2" ∷ codes "x n" ∷ [] ∷ [])
     ≡ (true ∷ true ∷ true ∷ true ∷ false ∷ false ∷ false ∷ [])
@@ -18,6 +18,10 @@ opening = refl
 
 first_line : due_text [] 1 ≡ codes "B 2, the first line of a definition, or E"
 first_line = refl
+
+numbers : map number_in (codes "0" ∷ codes "12" ∷ codes "18446744073709551615" ∷ codes "18446744073709551616" ∷ [])
+    ≡ (0 ∷ 12 ∷ 18446744073709551615 ∷ 18446744073709551615 ∷ [])
+numbers = refl
 
 after_the_edition : due_text (codes "B 2\nQ\n") 2 ≡ codes "the first line of a definition, or E"
 after_the_edition = refl
@@ -42,6 +46,19 @@ a_value : due_text (codes "V v 9 2 1\nc 1\nq\n") 3 ≡ codes "c n, x name or s o
 unfolding digits
 a_value = refl
 
+a_value_of_a_simple : due_text (codes "X n 2 0\nc 7\nq\n") 3 ≡ codes "c n, x name or s off, initial value 2 of 2 of n"
+unfolding digits
+a_value_of_a_simple = refl
+
+-- after one value
+a_string_word_of_a_simple : due_text (codes "X n 1 1\nc 7\nq\n") 3 ≡ codes "w n, string word 1 of 1 of n"
+unfolding digits
+a_string_word_of_a_simple = refl
+
+a_string_word_of_a_vector : due_text (codes "V v 9 1 2\nc 7\nw 4\nq\n") 4 ≡ codes "w n, string word 2 of 2 of v"
+unfolding digits
+a_string_word_of_a_vector = refl
+
 next_definition : due_text (codes "X n 1 0\nc 7\nc 8\n") 3 ≡ codes "the first line of a definition, or E"
 next_definition = refl
 
@@ -56,12 +73,19 @@ cut_told : unread_text (codes "F f 0 0 0 0 1\nr") 2
 unfolding digits
 cut_told = refl
 
-undefined_told : unloaded_text (codes "F main 0 0 0 0 4\nx prnt\nv\nk 0\nr\nE\n") (fault.Undefined (codes "prnt"))
+-- a line that uses the name, with another name, another instruction, and the header of its definition
+lines_with_it : map (λ line. uses line (codes "a")) (codes "x a" ∷ codes "x ab" ∷ codes "c a" ∷ codes "V a 1 0 0" ∷ [])
+    ≡ (true ∷ false ∷ false ∷ false ∷ [])
+lines_with_it = refl
+
+-- the first of two lines with the name
+undefined_told : unloaded_text (codes "F main 0 0 0 0 4\nx prnt\nx prnt\nk 0\nr\nE\n") (fault.Undefined (codes "prnt"))
     ≡ codes "at     line    2\n    x prnt\n  means: prnt is neither defined nor in the library\n"
 unfolding digits
 undefined_told = refl
 
-twice_told : unloaded_text (codes "X n 0 0\nX n 0 0\nE\n") (fault.Duplicate (codes "n")) ≡ codes "  means: n is defined twice\n"
+twice_told : unloaded_text (codes "X n 0 0\nX n 0 0\nE\n") (fault.Duplicate (codes "n"))
+    ≡ codes "  means: n is defined twice\n"
 twice_told = refl
 
 -- a text with two definitions, of which the second one has its string words at address 9
@@ -95,7 +119,11 @@ division_told : code_site_text text (site_of text definitions 9) (outcome.Trap t
 unfolding digits
 division_told = refl
 
+-- a function of three instructions
+abbrev of_three : Site
+of_three = record { name = []; first = 2; instructions = 3 }
+
 -- at the last instruction, and past it
-stuck_told : map (code_meaning (outcome.Trap trap.Stuck) (record { name = []; first = 2; instructions = 3 })) (2 ∷ 3 ∷ [])
+stuck_told : map (code_meaning (outcome.Trap trap.Stuck) of_three) (2 ∷ 3 ∷ [])
     ≡ (codes "too few operands" ∷ codes "no instruction of the function is at this place" ∷ [])
 stuck_told = refl

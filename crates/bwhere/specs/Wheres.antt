@@ -1,5 +1,5 @@
 -- Promise: what comes of a code text that is run, where what went wrong is told.
-use Rattle.std.specs.Prelude.{◌≡◌, ◌⊎◌, ℕ, ◌+◌, ◌<◌, ◌&&◌, nat_lt, Bool, if◌then◌else◌, List, [], ◌++◌, codes, decimal}
+use Rattle.std.specs.Prelude.{◌≡◌, ◌⊎◌, ℕ, ◌+◌, ◌&&◌, nat_lt, Bool, if◌then◌else◌, List, [], ◌++◌, codes, decimal}
 use Rattle.std.specs.Prelude.{Option, Some, None, count_by, min, ◌==◌}
 use Rattle.std.specs.List.{position}
 use Rattle.std.specs.Str.{bytes_eq}
@@ -9,7 +9,7 @@ use Rattle.bcode.specs.declared.fault.CodeFault.TheVariants as code_fault
 use Rattle.bword.specs.ByteEnds.{Outgoing, most}
 use Rattle.blang.specs.Layout.{load_fault}
 use Rattle.blang.specs.Machine.{Image, machine}
-use Rattle.blang.specs.Reports.{Finishes, HasNotRun, RunEnds, RunGives, Reported, report_text, load_number}
+use Rattle.blang.specs.Reports.{Finishes, HasNotRun, RunEnds, RunGives, Reported, report_text}
 use Rattle.blang.specs.Text.{IsCodeText}
 use Rattle.blang.specs.declared.code.Definition.{Definition}
 use Rattle.blang.specs.declared.run.LoadFault.{LoadFault}
