@@ -22,8 +22,8 @@ use Rattle.blang.specs.declared.run.LoadFault.TheVariants as fault
 use Rattle.blang.specs.declared.token.Diagnostic.{Diagnostic}
 use Rattle.bcheck.specs.Checks.{AreFindings, EachOutcome, FindingParts, IsReason, IsWhole, Reason, Says, Second, column_after, fault_in, finding_at, finding_column, finding_end, finding_line, finding_text, findings_text, is_on_line, outcome_of, second_text, severity_of, severity_word, shown_text, is_of_several, spot_words}
 use Rattle.btools.specs.Quoting.{file_text, json_text}
-use Rattle.bcheck.specs.Findings.{AddsFinding, AreWhole, IsExcerpt, IsOn, IsSecond, ReasonAt}
-use Rattle.bcheck.specs.UndefinedNames.{Tells, told_subjects}
+use Rattle.bcheck.specs.Findings.{AddsFinding, AreWhole, IsExcerpt, IsOn, IsSecond, ReasonAt, TellsOf}
+use Rattle.bcheck.specs.UndefinedNames.{IsAtName, Tells, name_in, told_subjects}
 use Rattle.bcheck.specs.declared.mention.Subject.{Subject}
 use Rattle.bcheck.specs.declared.finding.Finding.{Finding}
 use Rattle.bcheck.specs.Pieces.{piece_text, spot_text}
@@ -137,7 +137,7 @@ Reasoned edition source p = EachOutcome edition source (λ o. Reason o.edition o
 
 -- what the finding is on is told
 abbrev pub SaysIts : {source : List ℕ} → Finding → FindingParts source → Type 0
-SaysIts f p = (subject : Subject) → IsOn subject f → Says subject p
+SaysIts {source} f p = (subject : Subject) → TellsOf source subject f → Says subject p
 
 -- the text of the first findings
 abbrev pub FindingsSoFar : FindingForm → Edition → (status : ℕ) → Files → (source : List ℕ) → (found : List Finding) → (count : ℕ) → (text : List ℕ) → Type 0
@@ -152,20 +152,21 @@ zip_more R (a ∷ xs) [] x y h r = absurd h
 zip_more R (a ∷ xs) (b ∷ ys) x y h r = (h.0, zip_more R xs ys x y h.1 r)
 
 -- one finding more
-module _ (form f : FindingForm) (edition : Edition) (status : ℕ) (s : Severity) (files : Files) (source : List ℕ) (found : List Finding) (it : Finding) (start : ℕ) (code sentence old new said : List ℕ) (count : ℕ) where
-  pub finding_more : form ≡ f → s ≡ severity_of status → said ≡ new → count < length found → it ≡ get_or found count it → EachOutcome edition source (ReasonAt code start)
+module _ (form f : FindingForm) (edition : Edition) (status : ℕ) (s : Severity) (files : Files) (source : List ℕ) (found : List Finding) (it : Finding) (code sentence old new said : List ℕ) (count : ℕ) where
+  pub finding_more : form ≡ f → s ≡ severity_of status → said ≡ new → count < length found → it ≡ get_or found count it → EachOutcome edition source (ReasonAt code it.place.start)
       → ((subject : Subject) → IsOn subject it → Tells subject sentence)
-      → FindingsSoFar form edition status files source found count old → AddsFinding f s files source start code sentence old new → FindingsSoFar form edition status files source found (count + 1) said
+      → FindingsSoFar form edition status files source found count old → AddsFinding f s files source it.place.start code sentence old new → FindingsSoFar form edition status files source found (count + 1) said
   finding_more same also is lt here reason tells a more =
       let severity = severity_of status in
       let text = finding_text form severity files in
-      let b : AddsFinding form severity files source start code sentence old said =
-      subst (λ x. AddsFinding x severity files source start code sentence old said) (sym same) (subst (λ y. AddsFinding f y files source start code sentence old said) also (subst (λ t. AddsFinding f s files source start code sentence old t) (sym is) more)) in
+      let b : AddsFinding form severity files source it.place.start code sentence old said =
+      subst (λ x. AddsFinding x severity files source it.place.start code sentence old said) (sym same) (subst (λ y. AddsFinding f y files source it.place.start code sentence old said) also (subst (λ t. AddsFinding f s files source it.place.start code sentence old t) (sym is) more)) in
       let reasoned : Reasoned edition source b.0 =
       λ r g. subst (λ c. Reason edition r.stop (load_fault (map code_of g.definitions)) c (b.0.before ++ b.0.left) (b.0.right ++ b.0.after)) (sym b.1)
       (subst (λ x. Reason edition r.stop (load_fault (map code_of g.definitions)) code x (b.0.right ++ b.0.after)) (sym b.2)
-      (subst (λ x. Reason edition r.stop (load_fault (map code_of g.definitions)) code (take start source) x) (sym b.3) (reason r g))) in
-      let says : SaysIts it b.0 = λ subject on. subst (λ t. Tells subject t) (sym b.5) (tells subject on) in
+      (subst (λ x. Reason edition r.stop (load_fault (map code_of g.definitions)) code (take it.place.start source) x) (sym b.3) (reason r g))) in
+      let says : SaysIts it b.0 =
+      λ subject on. (subst (λ t. Tells subject t) (sym b.5) (tells subject on.0), subst (λ x. IsAtName (name_in subject) x (b.0.right ++ b.0.after)) (sym b.2) (subst (λ x. IsAtName (name_in subject) (take it.place.start source) x) (sym b.3) on.1)) in
       let items : take (count + 1) found ≡ take count found ++ it ∷ [] = take_more found count it lt ∙ ap (λ y. take count found ++ y ∷ []) (sym here) in (
         a.0 ++ b.0 ∷ [],
         subst (λ fs. AllZip SaysIts fs (a.0 ++ b.0 ∷ [])) (sym items) (zip_more SaysIts (take count found) a.0 it b.0 a.1 says),
@@ -177,7 +178,7 @@ reasons_at : (edition : Edition) (source : List ℕ) (r : Compilation) (g : Comp
 reasons_at edition source r g ps h = All-weaker (Reasoned edition source) (IsReason (outcome_of edition source r.stop (map code_of g.definitions))) (λ p is. is r g) ps h
 
 -- what the findings are on is told
-says_each : {source : List ℕ} (subjects : List Subject) (fs : List Finding) (ps : List (FindingParts source)) → AllZip IsOn subjects fs → AllZip SaysIts fs ps → AllZip Says subjects ps
+says_each : {source : List ℕ} (subjects : List Subject) (fs : List Finding) (ps : List (FindingParts source)) → AllZip (TellsOf source) subjects fs → AllZip SaysIts fs ps → AllZip Says subjects ps
 says_each [] [] [] on says = says
 says_each [] [] (p ∷ ps) on says = absurd says
 says_each [] (f ∷ fs) ps on says = absurd on
@@ -185,7 +186,7 @@ says_each (s ∷ ss) [] ps on says = absurd on
 says_each (s ∷ ss) (f ∷ fs) [] on says = absurd says
 says_each (s ∷ ss) (f ∷ fs) (p ∷ ps) on says = (says.0 s on.0, says_each ss fs ps on.1 says.1)
 
-whole_said : {source : List ℕ} (stop : Option Diagnostic) (f : Option LoadFault) (ds : List Definition) (fs : List Finding) (ps : List (FindingParts source)) → AllZip SaysIts fs ps → IsWhole IsOn stop f ds fs → IsWhole Says stop f ds ps
+whole_said : {source : List ℕ} (stop : Option Diagnostic) (f : Option LoadFault) (ds : List Definition) (fs : List Finding) (ps : List (FindingParts source)) → AllZip SaysIts fs ps → IsWhole (TellsOf source) stop f ds fs → IsWhole Says stop f ds ps
 whole_said (Some d) f ds fs ps says whole = AllZip-long SaysIts fs ps says ∙ whole
 whole_said None None ds fs ps says whole = tt
 whole_said None (Some (fault.Duplicate name)) ds fs ps says whole = AllZip-long SaysIts fs ps says ∙ whole

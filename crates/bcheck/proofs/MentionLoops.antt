@@ -13,7 +13,7 @@ use Rattle.blang.specs.declared.code.Ival.{Ival}
 use Rattle.blang.specs.declared.code.Ival.TheVariants as ival
 use Rattle.blang.specs.Layout.{name_in_instr, name_in_value, names_in, shape_of}
 use Rattle.bmach.proofs.Undefined.{map_more}
-use Rattle.bcheck.specs.Findings.{IsOn}
+use Rattle.bcheck.specs.Findings.{TellsOf}
 use Rattle.bcheck.specs.Mentions.{Knows, Meets, subjects}
 use Rattle.bcheck.specs.UndefinedNames.{heading_of, is_undefined, subject_of, told_after, told_of, told_subjects}
 use Rattle.bcheck.specs.declared.finding.Finding.{Finding}
@@ -98,7 +98,7 @@ module _ (ds : List Definition) where
       ap subjects is ∙ sym (take-map (λ (m : Mention). m.subject) 100 found) ∙ ap (take 100) (sym all)
 
 -- one finding more
-pub on_more : (mentions : List Mention) (i : ℕ) (m : Mention) (old new : List Finding) (f : Finding) → i < length mentions → m ≡ get_or mentions i m → new ≡ old ++ f ∷ [] → IsOn m.subject f → AllZip IsOn (subjects (take i mentions)) old → AllZip IsOn (subjects (take (i + 1) mentions)) new
-on_more mentions i m old new f lt is pushed on so =
-    subst (λ fs. AllZip IsOn (subjects (take (i + 1) mentions)) fs) (sym pushed)
-    (subst (λ ss. AllZip IsOn ss (old ++ f ∷ [])) (sym (map_more (λ (n : Mention). n.subject) mentions i m lt is)) (zip_more IsOn (subjects (take i mentions)) old m.subject f so on))
+pub told_more : (source : List ℕ) (mentions : List Mention) (i : ℕ) (m : Mention) (old new : List Finding) (f : Finding) → i < length mentions → m ≡ get_or mentions i m → new ≡ old ++ f ∷ [] → TellsOf source m.subject f → AllZip (TellsOf source) (subjects (take i mentions)) old → AllZip (TellsOf source) (subjects (take (i + 1) mentions)) new
+told_more source mentions i m old new f lt is pushed on so =
+    subst (λ fs. AllZip (TellsOf source) (subjects (take (i + 1) mentions)) fs) (sym pushed)
+    (subst (λ ss. AllZip (TellsOf source) ss (old ++ f ∷ [])) (sym (map_more (λ (n : Mention). n.subject) mentions i m lt is)) (zip_more (TellsOf source) (subjects (take i mentions)) old m.subject f so on))

@@ -16,7 +16,7 @@ use Rattle.blang.specs.declared.run.LoadFault.TheVariants as fault
 use Rattle.blang.specs.declared.token.Diagnostic.{Diagnostic}
 use Rattle.btools.specs.Programs.{HasFault, IsCodeOf, load_line}
 use Rattle.bcheck.specs.Checks.{EachOutcome, IsWhole, Judged, Reason, fault_in, told_first, told_of, verdict_line, status_told}
-use Rattle.bcheck.specs.Findings.{AreWhole, IsCompiled, IsOn, IsReasoned, IsStopOf, ReasonAt, TellsFault, definitions_in, definitions_of, matter_code}
+use Rattle.bcheck.specs.Findings.{AreWhole, IsCompiled, IsReasoned, IsStopOf, ReasonAt, TellsFault, TellsOf, definitions_in, definitions_of, matter_code}
 use Rattle.bcheck.specs.UndefinedNames.{told_subjects}
 use Rattle.bcheck.specs.declared.compiled.Compiled.{Compiled}
 use Rattle.bcheck.specs.declared.mention.Subject.{Subject}
@@ -81,8 +81,8 @@ module _ (edition : Edition) (before rest : List ℕ) where
   of_other g other None (Some fault.Memory) e = tt
 
 -- all is told, by the line and the status of the verdict
-module _ (ds : List Definition) (found : List Finding) where
-  whole_of_none : (stop : Option Diagnostic) (f : Option LoadFault) → ◌≡◌ {A = List ℕ × ℕ} ([], 0) (told_first stop f) → IsWhole IsOn stop f ds found
+module _ (source : List ℕ) (ds : List Definition) (found : List Finding) where
+  whole_of_none : (stop : Option Diagnostic) (f : Option LoadFault) → ◌≡◌ {A = List ℕ × ℕ} ([], 0) (told_first stop f) → IsWhole (TellsOf source) stop f ds found
   whole_of_none (Some d) f e = let no : ◌≡◌ {A = ℕ} 0 1 = status_in e in absurd (omega (arith, no))
   whole_of_none None None e = tt
   whole_of_none None (Some (fault.Duplicate name)) e = let no : ◌≡◌ {A = ℕ} 0 132 = status_in e in absurd (omega (arith, no))
@@ -91,7 +91,7 @@ module _ (ds : List Definition) (found : List Finding) where
   whole_of_none None (Some fault.NoMain) e = tt
   whole_of_none None (Some fault.Memory) e = let no : ◌≡◌ {A = ℕ} 0 132 = status_in e in absurd (omega (arith, no))
 
-  whole_of_names : (stop : Option Diagnostic) (f : Option LoadFault) → ◌≡◌ {A = List ℕ × ℕ} (codes "load 3\n", 132) (told_first stop f) → AllZip IsOn (told_subjects ds) found → IsWhole IsOn stop f ds found
+  whole_of_names : (stop : Option Diagnostic) (f : Option LoadFault) → ◌≡◌ {A = List ℕ × ℕ} (codes "load 3\n", 132) (told_first stop f) → AllZip (TellsOf source) (told_subjects ds) found → IsWhole (TellsOf source) stop f ds found
   whole_of_names (Some d) f e each = let no : ◌≡◌ {A = ℕ} 132 1 = status_in e in absurd (omega (arith, no))
   whole_of_names None None e each = tt
   whole_of_names None (Some (fault.Duplicate name)) e each = let no : ◌≡◌ {A = ℕ} 51 49 = ap (λ l. get_or l 5 0) (line_in e) in absurd (omega (arith, no))
@@ -101,7 +101,7 @@ module _ (ds : List Definition) (found : List Finding) where
   whole_of_names None (Some fault.Memory) e each = let no : ◌≡◌ {A = ℕ} 51 0 = ap (λ l. get_or l 5 0) (line_in e) in absurd (omega (arith, no))
 
   whole_of_one : (g : LoadFault) → ((name : List ℕ) → g ≡ fault.Undefined name → ⊥) → (stop : Option Diagnostic) (f : Option LoadFault) → ◌≡◌ {A = List ℕ × ℕ} (unwrap_or (load_line g) [], 132) (told_first stop f)
-      → length found ≡ 1 → IsWhole IsOn stop f ds found
+      → length found ≡ 1 → IsWhole (TellsOf source) stop f ds found
   whole_of_one g other (Some d) f e one = one
   whole_of_one g other None None e one = tt
   whole_of_one g other None (Some (fault.Duplicate name)) e one = one
@@ -115,23 +115,23 @@ no_stop_of_load d f line e = let no : ◌≡◌ {A = ℕ} 132 1 = status_in e in
 
 module _ (edition : Edition) (source : List ℕ) (found : List Finding) where
   pub clean_whole : Judged edition source verdict.Clean → AreWhole edition source found
-  clean_whole j = λ r g. whole_of_none (map code_of g.definitions) found r.stop (load_fault (map code_of g.definitions)) (j r g)
+  clean_whole j = λ r g. whole_of_none source (map code_of g.definitions) found r.stop (load_fault (map code_of g.definitions)) (j r g)
 
   pub faulty_whole : (v : Verdict) (line : Kept) (d : Diagnostic) → v ≡ verdict.Faulty line d → IsStopOf edition source v → length found ≡ 1 → AreWhole edition source found
   faulty_whole v line d is stop one =
-      λ r g. subst (λ s. IsWhole IsOn s (load_fault (map code_of g.definitions)) (map code_of g.definitions) found) (sym ((subst (λ x. IsStopOf edition source x) is stop) r g)) one
+      λ r g. subst (λ s. IsWhole (TellsOf source) s (load_fault (map code_of g.definitions)) (map code_of g.definitions) found) (sym ((subst (λ x. IsStopOf edition source x) is stop) r g)) one
 
   pub other_whole : (v : LoadFault) → ((name : List ℕ) → v ≡ fault.Undefined name → ⊥) → Judged edition source (verdict.Unloaded v) → length found ≡ 1 → AreWhole edition source found
-  other_whole v other j one = λ r g. whole_of_one (map code_of g.definitions) found v other r.stop (load_fault (map code_of g.definitions)) (j r g) one
+  other_whole v other j one = λ r g. whole_of_one source (map code_of g.definitions) found v other r.stop (load_fault (map code_of g.definitions)) (j r g) one
 
   names_whole : (code : Result (Vec Definition) Diagnostic) → MatchResult code (λ v. IsCodeOf edition source v.items) (HasFault edition source)
-      → EachOutcome edition source (λ o. ◌≡◌ {A = List ℕ × ℕ} (codes "load 3\n", 132) (told_first o.stop (fault_in o))) → AllZip IsOn (told_subjects (definitions_of code)) found → AreWhole edition source found
+      → EachOutcome edition source (λ o. ◌≡◌ {A = List ℕ × ℕ} (codes "load 3\n", 132) (told_first o.stop (fault_in o))) → AllZip (TellsOf source) (told_subjects (definitions_of code)) found → AreWhole edition source found
   names_whole (Ok v) is j each =
-      λ r g. whole_of_names (map code_of g.definitions) found r.stop (load_fault (map code_of g.definitions)) (j r g) (subst (λ ds. AllZip IsOn (told_subjects ds) found) (sym (is r g).1) each)
+      λ r g. whole_of_names source (map code_of g.definitions) found r.stop (load_fault (map code_of g.definitions)) (j r g) (subst (λ ds. AllZip (TellsOf source) (told_subjects ds) found) (sym (is r g).1) each)
   names_whole (Err d) is j each =
       λ r g. absurd (no_stop_of_load d (load_fault (map code_of g.definitions)) (codes "load 3\n") (subst (λ s. ◌≡◌ {A = List ℕ × ℕ} (codes "load 3\n", 132) (told_first s (load_fault (map code_of g.definitions)))) (is r g) (j r g)))
 
-  pub undefined_whole : (name : List ℕ) (v : LoadFault) (c : Compiled) → v ≡ fault.Undefined name → Judged edition source (verdict.Unloaded v) → IsCompiled edition source c → AllZip IsOn (told_subjects (definitions_in c)) found → AreWhole edition source found
+  pub undefined_whole : (name : List ℕ) (v : LoadFault) (c : Compiled) → v ≡ fault.Undefined name → Judged edition source (verdict.Unloaded v) → IsCompiled edition source c → AllZip (TellsOf source) (told_subjects (definitions_in c)) found → AreWhole edition source found
   undefined_whole name v c is j compiled each =
       names_whole c.code compiled (λ r g. subst (λ x. ◌≡◌ {A = List ℕ × ℕ} (unwrap_or (load_line x) [], 132) (told_first r.stop (load_fault (map code_of g.definitions)))) is (j r g)) each
 
@@ -162,18 +162,18 @@ module _ (edition : Edition) (source : List ℕ) where
       λ r g. subst (λ k. Reason edition r.stop (found r g) k (take f.place.start source) (drop f.place.start source)) (sym e)
       (of_undefined edition (take f.place.start source) (drop f.place.start source) r.stop (found r g) (subst (λ x. ◌≡◌ {A = List ℕ × ℕ} (unwrap_or (load_line x) [], 132) (told_first r.stop (found r g))) is (j r g)))
 
-  on_code : (subject : Subject) (f : Finding) → IsOn subject f → matter_code f.matter ≡ codes "load 3"
-  on_code (subject.Name x) f on = ap matter_code on.2
-  on_code (subject.Word x) f on = ap matter_code on.2
-  on_code (subject.Typed x) f on = ap matter_code on.1
+  on_code : (subject : Subject) (f : Finding) → TellsOf source subject f → matter_code f.matter ≡ codes "load 3"
+  on_code (subject.Name x) f on = ap matter_code on.0.2
+  on_code (subject.Word x) f on = ap matter_code on.0.2
+  on_code (subject.Typed x) f on = ap matter_code on.0.1
 
-  all_codes : (subjects : List Subject) (fs : List Finding) → AllZip IsOn subjects fs → All (λ f. matter_code f.matter ≡ codes "load 3") fs
+  all_codes : (subjects : List Subject) (fs : List Finding) → AllZip (TellsOf source) subjects fs → All (λ f. matter_code f.matter ≡ codes "load 3") fs
   all_codes [] [] on = All-nil (λ f. matter_code f.matter ≡ codes "load 3")
   all_codes [] (f ∷ fs) on = absurd on
   all_codes (s ∷ ss) [] on = absurd on
   all_codes (s ∷ ss) (f ∷ fs) on = All-cons (λ f. matter_code f.matter ≡ codes "load 3") f fs (on_code s f on.0) (all_codes ss fs on.1)
 
-  pub undefined_reasons : (name : List ℕ) (v : LoadFault) (subjects : List Subject) (fs : List Finding) → v ≡ fault.Undefined name → Judged edition source (verdict.Unloaded v) → AllZip IsOn subjects fs → All (IsReasoned edition source) fs
+  pub undefined_reasons : (name : List ℕ) (v : LoadFault) (subjects : List Subject) (fs : List Finding) → v ≡ fault.Undefined name → Judged edition source (verdict.Unloaded v) → AllZip (TellsOf source) subjects fs → All (IsReasoned edition source) fs
   undefined_reasons name v subjects fs is j each = All-weaker (λ f. matter_code f.matter ≡ codes "load 3") (IsReasoned edition source) (λ f e. undefined_reason name v f is j e) fs (all_codes subjects fs each)
 
   pub other_reason : (v : LoadFault) (start : ℕ) → ((name : List ℕ) → v ≡ fault.Undefined name → ⊥) → Judged edition source (verdict.Unloaded v) → EachOutcome edition source (ReasonAt (codes "load 2") start)

@@ -26,7 +26,7 @@ use Rattle.btools.specs.Quoting.{file_text, json_text}
 use Rattle.blang.specs.Reports.{Reported}
 use Rattle.bsources.specs.Files.{Files, Line, own_line}
 use Rattle.bcheck.specs.Tokens.{has_token_on, is_in_token}
-use Rattle.bcheck.specs.UndefinedNames.{Tells, told_subjects}
+use Rattle.bcheck.specs.UndefinedNames.{IsAtName, Tells, name_in, told_subjects}
 use Rattle.bcheck.specs.declared.mention.Subject.{Subject}
 use Rattle.bcheck.specs.declared.finding.Severity.{Severity}
 use Rattle.bcheck.specs.declared.finding.Severity.TheVariants as severity
@@ -269,9 +269,9 @@ IsWhole On None None ds told = Unit {0}
 abbrev pub TellsAll : {A : Type 0} → (Subject → A → Type 0) → Outcome → (told : List A) → Type 0
 TellsAll On o told = IsWhole On o.stop (fault_in o) o.definitions told
 
--- The sentence of a finding tells this.
+-- The sentence of a finding tells this, and the finding stands at the name in it.
 abbrev pub Says : {source : List ℕ} → Subject → FindingParts source → Type 0
-Says subject p = Tells subject p.sentence
+Says subject p = Tells subject p.sentence × IsAtName (name_in subject) (p.before ++ p.left) (p.right ++ p.after)
 
 -- The text of such findings of a source with this status.
 abbrev pub AreFindings : FindingForm → Outcome → (status : ℕ) → Files → (text : List ℕ) → Type 0

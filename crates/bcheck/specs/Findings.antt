@@ -7,7 +7,7 @@ use Rattle.blang.specs.declared.token.Diagnostic.{Diagnostic}
 use Rattle.bsources.specs.Files.{Files, line_shown, own_line}
 use Rattle.bcheck.specs.Checks.{EachOutcome, FindingParts, IsAtToken, Outcome, Reason, StandsOn, TellsAll, column_after}
 use Rattle.bcheck.specs.Checks.{diagnostic_code, fault_in, finding_text, is_in_line, is_of_several}
-use Rattle.bcheck.specs.UndefinedNames.{beginnings, ends_name}
+use Rattle.bcheck.specs.UndefinedNames.{IsAtName, beginnings, ends_name, name_in}
 use Rattle.bcheck.specs.declared.mention.Subject.{Subject}
 use Rattle.bcheck.specs.declared.mention.Subject.TheVariants as subject
 use Rattle.blang.specs.declared.code.Definition.{Definition}
@@ -131,9 +131,14 @@ IsOn (subject.Name x) f = IsOnName x f
 IsOn (subject.Word x) f = IsOnName x f
 IsOn (subject.Typed x) f = (f.name ≡ Some x) × (f.matter ≡ matter.NoTypes)
 
+-- It stands at the name in it, too.
+abbrev pub TellsOf : (source : List ℕ) → Subject → Finding → Type 0
+TellsOf source subject f =
+    IsOn subject f × IsAtName (name_in subject) (take f.place.start source) (drop f.place.start source)
+
 -- The findings are all that is told of the source.
 abbrev pub AreWhole : Edition → List ℕ → List Finding → Type 0
-AreWhole edition source found = EachOutcome edition source (λ o. TellsAll IsOn o found)
+AreWhole edition source found = EachOutcome edition source (λ o. TellsAll (TellsOf source) o found)
 
 -- the sentence has `@` after this beginning, and then nothing or a colon
 abbrev pub begins_name : (begin sentence : List ℕ) → Bool

@@ -24,6 +24,7 @@ mod kinds;
 mod limits;
 mod locals;
 mod mention;
+mod named;
 mod near;
 mod outside;
 mod patterns;

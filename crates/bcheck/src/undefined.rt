@@ -1,10 +1,10 @@
 //! What is said of the names that nothing defines.
 ghost use Rattle.std.specs.List.{AllZip, list_all};
-ghost use Rattle.std.specs.Prelude.{◌∷◌, [], IfOk, IsTrue, vec_items};
+ghost use Rattle.std.specs.Prelude.{◌≡◌, ◌∷◌, [], IfOk, IsTrue, vec_items};
 ghost use Rattle.bcheck.specs.Checks.{is_on_line};
-ghost use Rattle.bcheck.specs.Findings.{IsOn, definitions_in, is_with_name};
+ghost use Rattle.bcheck.specs.Findings.{IsOn, TellsOf, definitions_in, is_with_name};
 ghost use Rattle.bcheck.specs.Mentions.{subjects};
-ghost use Rattle.bcheck.specs.UndefinedNames.{told_subjects};
+ghost use Rattle.bcheck.specs.UndefinedNames.{name_in, told_subjects};
 ghost use Rattle.bcheck.specs.declared.mention.Subject.TheVariants as subject;
 
 use crate::advice::Matter;
@@ -12,6 +12,7 @@ use crate::compiled::{Compiled, Extent};
 use crate::finding::Finding;
 use crate::foreign::{Foreign, foreign_word, heading_word};
 use crate::mention::{Mention, Subject, token_of_mention, undefined_mentions};
+use crate::named::place_named;
 use crate::near::{is_near, near_library};
 use crate::spans::{SourceText, SpanReader, Spans, place_of};
 use blang::Definition;
@@ -182,7 +183,8 @@ pub(crate) fn undefined_names(
     source: SourceText<'_>,
     compiled: &Compiled,
 ) -> Result<Vec<Finding>, AllocError>
-    ensures { IfOk result (λ found. AllZip IsOn (told_subjects (definitions_in compiled.now)) (vec_items found)) }
+    ensures { IfOk result (λ found.
+        AllZip (TellsOf source.entry.text.now) (told_subjects (definitions_in compiled.now)) (vec_items found)) }
 {
     let mentions = undefined_mentions(alloc, compiled.definitions())?;
     findings_on(alloc, source, compiled, mentions.as_slice())
@@ -194,13 +196,15 @@ fn findings_on(
     compiled: &Compiled,
     mentions: &[Mention],
 ) -> Result<Vec<Finding>, AllocError>
-    ensures { IfOk result (λ found. AllZip IsOn (subjects mentions.now) (vec_items found)) }
+    ensures { IfOk result (λ found.
+        AllZip (TellsOf source.entry.text.now) (subjects mentions.now) (vec_items found)) }
 {
     let mut reader = DefinitionReader::new(alloc, source);
     let mut found = Vec::new(alloc);
     for mention in mentions {
         reader.go_to(compiled.extent(mention.definition))?;
-        found.push(finding_on(&reader, compiled.definitions(), mention.subject))?;
+        let finding = finding_on(&reader, compiled.definitions(), mention.subject);
+        found.push(placed(source.text, &finding, mention.subject))?;
     }
     Ok(found)
 }
@@ -221,6 +225,29 @@ fn finding_on(
             not_defined(spans, extent.first, what, word, None)
         }
         Subject::Typed(name) => on_types(spans, token_of_mention(spans, extent, name), name),
+    }
+}
+
+// The same at the place of what it is on.
+fn placed(source: &[u8], finding: &Finding, subject: Subject) -> Finding
+    requires { IsOn subject finding.now }
+    ensures { TellsOf source.now subject result }
+{
+    let name = name_in(subject);
+    Finding {
+        matter: finding.matter,
+        name: finding.name,
+        other: finding.other,
+        place: place_named(source, finding.place, &name),
+        related: finding.related,
+    }
+}
+
+fn name_in(subject: Subject) -> Name
+    ensures { result ≡ name_in subject }
+{
+    match subject {
+        Subject::Name(name) | Subject::Word(name) | Subject::Typed(name) => name,
     }
 }
 

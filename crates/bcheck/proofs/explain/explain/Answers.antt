@@ -32,7 +32,7 @@ loop-finding-preserved c =
     let reason = item_reason edition source _ found i f code c.as_slice-finding-items.ensures.value lt here c.in_ok-findings.ensures.reasons c.in_ok-words.ensures.code in
     elim c.match-asked.branch [
       | in-Text+in_ok-write-in-Text w ↦
-          finding_more c.args.asked.form form.Text edition _ c.severity-severity.result files source found f f.place.start code words.sentence _ _ _ i w.in-Text.is c.severity-severity.ensures w.said-is lt here reason c.in_ok-words.ensures.subject c.loop-finding.invariant (w.in_ok-write-in-Text.ensures files source f.place.start c.excerpt_at-excerpt.ensures c.own_line-at.ensures)
+          finding_more c.args.asked.form form.Text edition _ c.severity-severity.result files source found f code words.sentence _ _ _ i w.in-Text.is c.severity-severity.ensures w.said-is lt here reason c.in_ok-words.ensures.subject c.loop-finding.invariant (w.in_ok-write-in-Text.ensures files source f.place.start c.excerpt_at-excerpt.ensures c.own_line-at.ensures)
       | in-Json+in_ok-write-in-Json w ↦
-          finding_more c.args.asked.form form.Json edition _ c.severity-severity.result files source found f f.place.start code words.sentence _ _ _ i w.in-Json.is c.severity-severity.ensures w.said-is lt here reason c.in_ok-words.ensures.subject c.loop-finding.invariant (w.in_ok-write-in-Json.ensures files source f.place.start c.excerpt_at-excerpt.ensures c.own_line-at.ensures c.spot_of-second.ensures)
+          finding_more c.args.asked.form form.Json edition _ c.severity-severity.result files source found f code words.sentence _ _ _ i w.in-Json.is c.severity-severity.ensures w.said-is lt here reason c.in_ok-words.ensures.subject c.loop-finding.invariant (w.in_ok-write-in-Json.ensures files source f.place.start c.excerpt_at-excerpt.ensures c.own_line-at.ensures c.spot_of-second.ensures)
     ]
