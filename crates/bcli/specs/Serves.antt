@@ -19,6 +19,7 @@ use Rattle.bcheck.specs.Checks.{Checks}
 use Rattle.bcheck.specs.declared.form.FindingForm.{FindingForm}
 use Rattle.bcheck.specs.declared.form.FindingForm.TheVariants as forms
 use Rattle.blist.specs.Listings.{Lists}
+use Rattle.btools.specs.Origins.{Source}
 use Rattle.blist.specs.Maps.{Maps}
 use Rattle.btools.specs.Programs.{ToldEnds}
 use Rattle.bdraw.specs.Draws.{Draws}
@@ -161,7 +162,7 @@ CompilesInput shelf edition (lib ∷ libs) ends status = NamesLib shelf (lib ∷
 -- what is asked of a source of these files and of this text is answered
 abbrev pub Answers : Edition → Files → (text : List ℕ) → Question → RunEnds → ℕ → Type 0
 Answers edition files text (list name) ends status =
-    (ends.input_after ≡ ends.input) × Lists edition text name (telling_ends ends) status
+    (ends.input_after ≡ ends.input) × Lists (Source edition) text name (telling_ends ends) status
 Answers edition files text map ends status =
     (ends.input_after ≡ ends.input) × Maps edition text (telling_ends ends) status
 Answers edition files text (draw steps) ends status = Draws edition text steps ends status

@@ -24,7 +24,7 @@ use bparse::compile_edition;
 use brun::{go_edition, migrate, run_text};
 use bshow::show;
 use bsources::{Following, JoinedIn, SourceFile, SourceFiles};
-use btools::tell;
+use btools::{Origin, tell};
 use btrace::{TraceRequest, locate, trace};
 use bwhere::locate_code;
 use bword::{ByteIn, ByteOut, Edition, MemIn};
@@ -331,7 +331,7 @@ fn answer<I: ByteIn, O: ByteOut, D: ByteOut>(
     ensures diag_lender { D.lender diag.new ≡ D.lender diag.old }
 {
     match question {
-        Question::List(name) => list(alloc, text, edition, name, out, diag),
+        Question::List(name) => list(alloc, text, Origin::Source(edition), name, out, diag),
         Question::Map => map(alloc, text, edition, out, diag),
         Question::Draw(steps) => draw(alloc, text, edition, steps, input, out, diag),
         Question::Check(for_editor) => {

@@ -8,7 +8,7 @@ use Rattle.bmach.specs.Stepping.{Paused}
 use Rattle.bmach.specs.Stops.{active_of}
 use Rattle.bmach.specs.declared.machine.Stop.{Stop}
 use Rattle.btools.specs.Functions.{Placed, placed_entry}
-use Rattle.btools.specs.declared.tables.Entry.{Entry}
+use Rattle.btools.specs.declared.tables.FunctionEntry.{FunctionEntry}
 use Rattle.btools.specs.declared.tables.Tables.{Tables}
 use Rattle.bwatch.specs.Sights.{Sight, Sights, sight_at}
 use Rattle.bwatch.specs.Watches.{Ending, Leaves}
@@ -20,7 +20,7 @@ use Rattle.bcount.proofs.Noting.{noted_more, noted_none}
 -- no step was noted
 pub none_counted : (t : Tallies) (tables : Tables) → tallies_of t ≡ map blank tables.entries.items → t.tables.now ≡ tables → (sights : Sights) → HasCounted t t sights 0
 none_counted t tables is same sights =
-    (refl, is ∙ noted_none sights tables.entries.items ∙ ap (λ (x : Tables). map (λ (e : Entry). counts_of sights 0 (placed_entry e)) x.entries.items) (sym same))
+    (refl, is ∙ noted_none sights tables.entries.items ∙ ap (λ (x : Tables). map (λ (e : FunctionEntry). counts_of sights 0 (placed_entry e)) x.entries.items) (sym same))
 
 -- there is a count for each function
 pub as_many : (first t : Tallies) (sights : Sights) (made : ℕ) → HasCounted first t sights made → length t.counts.items ≡ length t.tables.now.entries.items

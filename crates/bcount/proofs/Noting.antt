@@ -9,7 +9,7 @@ use Rattle.std.proofs.lemmas.List.Sums.{sum_by-le}
 use Rattle.bword.specs.ByteEnds.{most}
 use Rattle.bmach.specs.declared.machine.Active.{Active}
 use Rattle.btools.specs.Functions.{LiesAt, Placed, placed_entry}
-use Rattle.btools.specs.declared.tables.Entry.{Entry}
+use Rattle.btools.specs.declared.tables.FunctionEntry.{FunctionEntry}
 use Rattle.btools.proofs.Finding.{other_number, same_number}
 use Rattle.bwatch.specs.Sights.{Sights}
 use Rattle.bcount.specs.Tallies.{blank, bumped, counts_of, is_at, noted, times}
@@ -69,7 +69,7 @@ module _ (sights : Sights) (made : ℕ) (call : Active) (there : (sights made).c
   function_more f false not = sym (other_function f not)
 
   -- what was noted is what was made
-  pub noted_more : (es : List Entry) → noted call.strings call.place es (map (λ e. counts_of sights made (placed_entry e)) es) ≡ map (λ e. counts_of sights (made + 1) (placed_entry e)) es
+  pub noted_more : (es : List FunctionEntry) → noted call.strings call.place es (map (λ e. counts_of sights made (placed_entry e)) es) ≡ map (λ e. counts_of sights (made + 1) (placed_entry e)) es
   noted_more [] = refl
   noted_more (e ∷ es) = λ i. function_more (placed_entry e) (e.strings == call.strings) refl i ∷ noted_more es i
 
@@ -78,25 +78,25 @@ zeros : (sights : Sights) (strings n first : ℕ) → map (times sights 0 string
 zeros sights strings zero first = refl
 zeros sights strings (suc n) first = ap (λ xs. 0 ∷ xs) (zeros sights strings n (first + 1))
 
-pub noted_none : (sights : Sights) (es : List Entry) → map blank es ≡ map (λ e. counts_of sights 0 (placed_entry e)) es
+pub noted_none : (sights : Sights) (es : List FunctionEntry) → map blank es ≡ map (λ e. counts_of sights 0 (placed_entry e)) es
 noted_none sights [] = refl
 noted_none sights (e ∷ es) = λ i. sym (zeros sights e.strings (length (placed_entry e).function.code) 0) i ∷ noted_none sights es i
 
 -- A function is found by its number.
-abbrev Ascend : List Entry → Type 0
+abbrev Ascend : List FunctionEntry → Type 0
 Ascend es = AllPairs (λ e f. e.strings < f.strings) es
 
-not_listed : (strings place : ℕ) (es : List Entry) (cs : List (List ℕ)) → length cs ≡ length es → LiesAt es strings None → noted strings place es cs ≡ cs
+not_listed : (strings place : ℕ) (es : List FunctionEntry) (cs : List (List ℕ)) → length cs ≡ length es → LiesAt es strings None → noted strings place es cs ≡ cs
 not_listed strings place [] cs long none = refl
 not_listed strings place (e ∷ es) [] long none = refl
 not_listed strings place (e ∷ es) (c ∷ cs) long none =
     let other = other_number e.strings strings (none 0 e (omega arith)) in
     (λ i. (ap (λ b. if b then bumped place c else c) other) i ∷ not_listed strings place es cs (omega (arith, long)) (λ k d lt. none (suc k) d (omega (arith, lt))) i)
 
-pub noted_nowhere : (strings place : ℕ) (es : List Entry) (cs : List (List ℕ)) → length cs ≡ length es → LiesAt es strings None → cs ≡ noted strings place es cs
+pub noted_nowhere : (strings place : ℕ) (es : List FunctionEntry) (cs : List (List ℕ)) → length cs ≡ length es → LiesAt es strings None → cs ≡ noted strings place es cs
 noted_nowhere strings place es cs long none = sym (not_listed strings place es cs long none)
 
-pub noted_at : (strings place i : ℕ) (es : List Entry) (cs : List (List ℕ)) (c : List ℕ) → length cs ≡ length es → Ascend es → LiesAt es strings (Some i) → c ≡ bumped place (get_or cs i []) → set cs i c ≡ noted strings place es cs
+pub noted_at : (strings place i : ℕ) (es : List FunctionEntry) (cs : List (List ℕ)) (c : List ℕ) → length cs ≡ length es → Ascend es → LiesAt es strings (Some i) → c ≡ bumped place (get_or cs i []) → set cs i c ≡ noted strings place es cs
 noted_at strings place i [] cs c long ascend lies is = let lt = lies.0 in absurd (omega (arith, lt))
 noted_at strings place i (e ∷ es) [] c long ascend lies is = absurd (omega (arith, long))
 noted_at strings place zero (e ∷ es) (x ∷ xs) c long ascend lies is =
@@ -109,6 +109,6 @@ noted_at strings place (suc i) (e ∷ es) (x ∷ xs) c long ascend lies is =
     (λ j. (ap (λ b. if b then bumped place x else x) (sym other)) j ∷ noted_at strings place i es xs c (omega (arith, long)) (λ k l d less within. ascend (suc k) (suc l) d (omega (arith, less)) (omega (arith, within))) (omega (arith, lt), λ d. lies.1 d) is j)
 
 -- the counts of one function more
-pub one_blank : (es : List Entry) (i : ℕ) (e : Entry) (cs new : List (List ℕ)) (c : List ℕ) → i < length es → e ≡ get_or es i e → cs ≡ map blank (take i es) → c ≡ blank e → new ≡ cs ++ c ∷ [] → new ≡ map blank (take (i + 1) es)
+pub one_blank : (es : List FunctionEntry) (i : ℕ) (e : FunctionEntry) (cs new : List (List ℕ)) (c : List ℕ) → i < length es → e ≡ get_or es i e → cs ≡ map blank (take i es) → c ≡ blank e → new ≡ cs ++ c ∷ [] → new ≡ map blank (take (i + 1) es)
 one_blank es i e cs new c lt is before blanks pushed =
     pushed ∙ (λ j. before j ++ (blanks ∙ ap blank is) j ∷ []) ∙ sym (map_more blank es i e lt)

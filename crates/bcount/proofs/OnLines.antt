@@ -9,16 +9,16 @@ use Rattle.std.proofs.lemmas.List.{map-append}
 use Rattle.std.proofs.lemmas.List.Elements.{All-append, All-cons, All-nil}
 use Rattle.std.proofs.lemmas.Option.{slice_get-get_or, slice_get-map, slice_get_past}
 use Rattle.btools.specs.ProgramLines.{FunctionLines, lined_entry}
-use Rattle.btools.specs.declared.tables.Entry.{Entry}
+use Rattle.btools.specs.declared.tables.FunctionEntry.{FunctionEntry}
 use Rattle.bcount.specs.Counts.{counted_at, counted_in, counted_of}
 use Rattle.bcount.specs.SourceLines.{IsOnLines, last_line, newlines_in}
 use Rattle.bcount.specs.declared.lines.Counted.{Counted}
 use Rattle.bcount.proofs.Splits.{ended}
 
 -- the lines of a function of a table
-pub entry_lines : (o : Option (Bor Entry)) (es : List Entry) (i : ℕ) → MatchOption o (length es ≤ i) (λ x. (i < length es) × ((d : Entry) → x.now ≡ get_or es i d)) → option_map lined_entry (option_copied o) ≡ slice_get (map lined_entry es) i
+pub entry_lines : (o : Option (Bor FunctionEntry)) (es : List FunctionEntry) (i : ℕ) → MatchOption o (length es ≤ i) (λ x. (i < length es) × ((d : FunctionEntry) → x.now ≡ get_or es i d)) → option_map lined_entry (option_copied o) ≡ slice_get (map lined_entry es) i
 entry_lines None es i h = sym (slice_get-map lined_entry es i ∙ ap (option_map lined_entry) (slice_get_past es i h))
-entry_lines (Some x) es i h = ap (λ (e : Entry). Some (lined_entry e)) (h.1 x.now) ∙ sym (slice_get-map lined_entry es i ∙ ap (option_map lined_entry) (slice_get-get_or es i x.now h.0))
+entry_lines (Some x) es i h = ap (λ (e : FunctionEntry). Some (lined_entry e)) (h.1 x.now) ∙ sym (slice_get-map lined_entry es i ∙ ap (option_map lined_entry) (slice_get-get_or es i x.now h.0))
 
 -- one place of a function more, and one function more
 pub place_more : (last : ℕ) (f : Option FunctionLines) (counts : List ℕ) (i : ℕ) (all items new : List Counted) → i < length counts → all ≡ items ++ map (λ x. counted_at last f x.0 x.1) (enumerate_from i (drop i counts)) → new ≡ items ++ counted_at last f i (get_or counts i 0) ∷ []

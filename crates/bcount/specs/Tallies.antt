@@ -5,7 +5,7 @@ use Rattle.std.specs.List.{count_by, range_with_len}
 use Rattle.bword.specs.ByteEnds.{most}
 use Rattle.bmach.specs.declared.machine.Active.{Active}
 use Rattle.btools.specs.Functions.{Placed, placed_entry}
-use Rattle.btools.specs.declared.tables.Entry.{Entry}
+use Rattle.btools.specs.declared.tables.FunctionEntry.{FunctionEntry}
 use Rattle.bwatch.specs.Sights.{Sights}
 use Rattle.bcount.specs.declared.tallies.Tallies.{Tallies}
 
@@ -14,7 +14,7 @@ abbrev pub tallies_of : Tallies → List (List ℕ)
 tallies_of t = map (λ counts. counts.items) t.counts.items
 
 -- no instruction of a function was made
-abbrev pub blank : Entry → List ℕ
+abbrev pub blank : FunctionEntry → List ℕ
 blank e = replicate (length (placed_entry e).function.code) 0
 
 -- the instruction at a place was made once more
@@ -22,7 +22,7 @@ abbrev pub bumped : (place : ℕ) → List ℕ → List ℕ
 bumped place counts = set counts place (min (get_or counts place 0 + 1) most)
 
 -- a step was made at a place of the function that has its string words there
-abbrev pub noted : (strings place : ℕ) → List Entry → List (List ℕ) → List (List ℕ)
+abbrev pub noted : (strings place : ℕ) → List FunctionEntry → List (List ℕ) → List (List ℕ)
 noted strings place [] counts = counts
 noted strings place (e ∷ es) [] = []
 noted strings place (e ∷ es) (c ∷ cs) =

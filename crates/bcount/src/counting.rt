@@ -15,7 +15,7 @@ use blang::Outcome;
 use blang::status::{self, Status};
 use brun::finish;
 use bsources::SourceFiles;
-use btools::{Tables, Text, read_program, tell, tell_placed};
+use btools::{Origin, Tables, Text, read_program, tell, tell_placed};
 use bwatch::{Watched, watch};
 use bword::{ByteIn, ByteOut, Edition};
 use std::alloc::{AllocError, Global};
@@ -50,7 +50,7 @@ pub fn count<I: ByteIn, O: ByteOut, D: ByteOut>(
     ensures out_lender { O.lender out.new ≡ O.lender out.old }
     ensures diag_lender { D.lender diag.new ≡ D.lender diag.old }
 {
-    let program = match read_program(alloc, source, counting.edition) {
+    let program = match read_program(alloc, source, Origin::Source(counting.edition)) {
         Ok(program) => program,
         Err(fault) => return tell_placed(alloc, &fault, counting.files, diag),
     };

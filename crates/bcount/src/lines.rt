@@ -8,7 +8,7 @@ ghost use Rattle.bcount.specs.Tallies.{tallies_of};
 ghost use Rattle.btools.specs.ProgramLines.{lined_entry, lines_shown};
 
 use crate::tallies::Tallies;
-use btools::{Entry, Tables};
+use btools::{FunctionEntry, Tables};
 use std::alloc::{AllocError, Global};
 
 /// An instruction with the line of the source that it comes from, and how often it was made.
@@ -50,7 +50,7 @@ pub fn counted_of(
 fn push_function<'a>(
     counted: &mut Vec<Counted>,
     tables: &Tables<'a>,
-    entry: Option<Entry<'a>>,
+    entry: Option<FunctionEntry<'a>>,
     counts: &[u64],
     last: u64,
 ) -> Result<(), AllocError>

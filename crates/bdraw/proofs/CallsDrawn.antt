@@ -11,7 +11,7 @@ use Rattle.btools.proofs.Finding.{same_number}
 use Rattle.btools.specs.FrameNames.{frame_seen}
 use Rattle.btools.specs.Functions.{placed_entry}
 use Rattle.btools.specs.declared.names.Frame.{Frame}
-use Rattle.btools.specs.declared.tables.Entry.{Entry}
+use Rattle.btools.specs.declared.tables.FunctionEntry.{FunctionEntry}
 use Rattle.bdraw.specs.Pictures.{Framed}
 
 taken : (xs : List Active) (n : ℕ) (x : Active) → slice_get xs n ≡ Some x → take (n + 1) xs ≡ take n xs ++ x ∷ []
@@ -42,7 +42,7 @@ abbrev is_with : (strings : ℕ) → Framed → Bool
 is_with strings f = f.0.strings == strings
 
 -- the first of these functions that has its string words there
-abbrev pub first_with : (strings : ℕ) → List Entry → List Frame → Option Framed
+abbrev pub first_with : (strings : ℕ) → List FunctionEntry → List Frame → Option Framed
 first_with strings es fs = find (is_with strings) (zip (map placed_entry es) (map frame_seen fs))
 
 past : (b : Bool) (x : Framed) (rest : Option Framed) → cond b (Some x) rest ≡ None → (b ≡ false) × (rest ≡ None)
@@ -50,7 +50,7 @@ past true x rest h = cc
 past false x rest h = (refl, h)
 
 module _ (strings : ℕ) where
-  pub found : (es : List Entry) (fs : List Frame) (i : ℕ) (e : Entry) (f : Frame) → i < length es → i < length fs → first_with strings (take i es) (take i fs) ≡ None → (get_or es i e).strings ≡ strings
+  pub found : (es : List FunctionEntry) (fs : List Frame) (i : ℕ) (e : FunctionEntry) (f : Frame) → i < length es → i < length fs → first_with strings (take i es) (take i fs) ≡ None → (get_or es i e).strings ≡ strings
       → first_with strings es fs ≡ Some (placed_entry (get_or es i e), frame_seen (get_or fs i f))
   found [] fs i e f lt within none is = absurd (omega (arith, lt))
   found (x ∷ es) [] i e f lt within none is = absurd (omega (arith, within))
@@ -59,7 +59,7 @@ module _ (strings : ℕ) where
       let h = past (x.strings == strings) (placed_entry x, frame_seen y) (first_with strings (take i es) (take i fs)) none in
       rw h.0 (found es fs i e f (omega (arith, lt)) (omega (arith, within)) h.1 is)
 
-  missed_at : (es : List Entry) (fs : List Frame) (i : ℕ) (e : Entry) → i < length es → i < length fs → first_with strings (take i es) (take i fs) ≡ None → ((get_or es i e).strings == strings) ≡ false
+  missed_at : (es : List FunctionEntry) (fs : List Frame) (i : ℕ) (e : FunctionEntry) → i < length es → i < length fs → first_with strings (take i es) (take i fs) ≡ None → ((get_or es i e).strings == strings) ≡ false
       → first_with strings (take (suc i) es) (take (suc i) fs) ≡ None
   missed_at [] fs i e lt within none not = absurd (omega (arith, lt))
   missed_at (x ∷ es) [] i e lt within none not = absurd (omega (arith, within))
@@ -68,13 +68,13 @@ module _ (strings : ℕ) where
       let h = past (x.strings == strings) (placed_entry x, frame_seen y) (first_with strings (take i es) (take i fs)) none in
       rw h.0 (missed_at es fs i e (omega (arith, lt)) (omega (arith, within)) h.1 not)
 
-  pub missed : (es : List Entry) (fs : List Frame) (i : ℕ) (e : Entry) → i < length es → i < length fs → first_with strings (take i es) (take i fs) ≡ None → ((get_or es i e).strings == strings) ≡ false
+  pub missed : (es : List FunctionEntry) (fs : List Frame) (i : ℕ) (e : FunctionEntry) → i < length es → i < length fs → first_with strings (take i es) (take i fs) ≡ None → ((get_or es i e).strings == strings) ≡ false
       → first_with strings (take (i + 1) es) (take (i + 1) fs) ≡ None
   missed es fs i e lt within none not =
       let next : i + 1 ≡ suc i = omega arith in
       ap (λ n. first_with strings (take n es) (take n fs)) next ∙ missed_at es fs i e lt within none not
 
-  pub all_missed : (es : List Entry) (fs : List Frame) (n : ℕ) → min (length es) (length fs) ≤ n → first_with strings (take n es) (take n fs) ≡ first_with strings es fs
+  pub all_missed : (es : List FunctionEntry) (fs : List Frame) (n : ℕ) → min (length es) (length fs) ≤ n → first_with strings (take n es) (take n fs) ≡ first_with strings es fs
   all_missed [] fs zero all = refl
   all_missed [] fs (suc n) all = refl
   all_missed (x ∷ es) [] zero all = refl

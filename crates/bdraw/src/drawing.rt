@@ -13,7 +13,7 @@ use crate::shapes::picture_text;
 use blang::Outcome;
 use blang::status::{self, Status};
 use bmach::{Stepper, Stop};
-use btools::{Program, Tables, Text, read_program, tell, tell_fault};
+use btools::{Origin, Program, Tables, Text, read_program, tell, tell_fault};
 use bwatch::{Onlooker, Watched, watch};
 use bword::{ByteIn, ByteOut, Edition, Store};
 use std::alloc::{AllocError, Global};
@@ -38,7 +38,7 @@ pub fn draw<I: ByteIn, O: ByteOut, D: ByteOut>(
     ensures out_lender { O.lender out.new ≡ O.lender out.old }
     ensures diag_lender { D.lender diag.new ≡ D.lender diag.old }
 {
-    let program = match read_program(alloc, source, edition) {
+    let program = match read_program(alloc, source, Origin::Source(edition)) {
         Ok(program) => program,
         Err(fault) => return tell_fault(&fault, diag),
     };

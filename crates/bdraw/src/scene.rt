@@ -5,7 +5,7 @@ ghost use Rattle.btools.specs.FrameNames.{frame_seen};
 ghost use Rattle.btools.specs.Functions.{entries_of, placed_entry};
 
 use bmach::{Active, Image, Stepper};
-use btools::{Entry, Frame, Program, Tables};
+use btools::{Frame, FunctionEntry, Program, Tables};
 use bword::Store;
 use std::alloc::{AllocError, Global};
 
@@ -107,7 +107,7 @@ pub fn function_of<'a>(
     tables: &'a Tables<'a>,
     frames: &'a [Frame],
     strings: u32,
-) -> Option<(Entry<'a>, &'a Frame)>
+) -> Option<(FunctionEntry<'a>, &'a Frame)>
     ensures { option_map (λ f. (placed_entry f.0, frame_seen f.1.now)) result
         ≡ find (λ f. f.0.strings == strings) (zip (entries_of tables.now) (map frame_seen frames.now)) }
 {

@@ -1,3 +1,4 @@
 pub mod AddedRows
 pub mod ListExcluded
+pub mod CodeListExcluded
 pub mod Spots

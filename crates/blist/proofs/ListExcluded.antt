@@ -15,6 +15,7 @@ use Rattle.blang.specs.Layout.{Shape, load_fault, shape_of, size_of}
 use Rattle.blang.specs.Machine.{Image, image_of}
 use Rattle.btools.specs.Columns.{left, right}
 use Rattle.btools.specs.ProgramsExcluded.{Excluded, code_in}
+use Rattle.btools.specs.Origins.{Source}
 use Rattle.btools.specs.Programs.{ToldEnds, image_address, load_line}
 use Rattle.btools.proofs.ProgramsExcluded.{device_grew, excluded, no_done, other_answer, was_told}
 use Rattle.blist.specs.ListExcluded.{NoListings, NoMaps, WrongStatuses}
@@ -62,7 +63,7 @@ rows_lie ds image h source [] = refl
 rows_lie ds image h source (t ∷ ts) =
     ap₂ (λ (a b : List ℕ). a ++ b) (ap (λ (a : Option ℕ). definition_rows (source_lines source) (unwrap_or a 0) t.lines t.frame t.definition) (h.addresses (shape_of t.definition).name)) (rows_lie ds image h source ts)
 
-listing_same : (ds : List Definition) (image : Image) → IsLoadedFrom ds image → (source : List ℕ) (name : Option (List ℕ)) (lines : List ℕ) (frames : List Frame) → list_text image source name ds lines frames ≡ list_text (image_of ds) source name ds lines frames
+pub listing_same : (ds : List Definition) (image : Image) → IsLoadedFrom ds image → (source : List ℕ) (name : Option (List ℕ)) (lines : List ℕ) (frames : List Frame) → list_text image source name ds lines frames ≡ list_text (image_of ds) source name ds lines frames
 listing_same ds image h source name lines frames = ap (λ rows. HEADING.now ++ rows) (rows_lie ds image h source (filter (λ t. is_wanted name t.definition) (told_of ds lines frames)))
 
 map_same : (ds : List Definition) (image : Image) → IsLoadedFrom ds image → map_text image ds ≡ map_text (image_of ds) ds
@@ -79,7 +80,7 @@ module _ (edition : Edition) (source : List ℕ) (r : Compilation) (g : Compiles
 
   module _ (name : Option (List ℕ)) where
     abbrev Gives : ℕ → Type 0
-    Gives status = Lists edition source name ends status
+    Gives status = Lists (Source edition) source name ends status
 
     list_done : Gives 0 → (r.stop ≡ None) × (load_fault code ≡ None) × (wanted name code ≡ [] → ⊥) × ((frames : List Frame) × HasNames edition source frames × Writes ends.out (list_text (image_of code) source name code (program_lines g.definitions (token_lines edition source)) frames) ends.out_after)
     list_done (listing.listed ds image lines frames p own named silent some report) =

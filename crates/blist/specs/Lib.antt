@@ -4,3 +4,4 @@ pub mod Listings
 pub mod ListingRows
 pub mod MapRows
 pub mod ListExcluded
+pub mod CodeListExcluded

@@ -13,6 +13,7 @@ use Rattle.blang.specs.Machine.{image_of}
 use Rattle.btools.specs.ProgramsExcluded.{code_in}
 use Rattle.btools.specs.FrameNames.{HasNames}
 use Rattle.btools.specs.ProgramLines.{token_lines}
+use Rattle.btools.specs.Origins.{Source}
 use Rattle.btools.specs.Programs.{ToldEnds, load_line}
 use Rattle.btools.specs.declared.names.Frame.{Frame}
 use Rattle.blist.specs.declared.listing.TheConstants.{UNDEFINED}
@@ -40,17 +41,17 @@ module _ (edition : Edition) (source : List ℕ) (r : Compilation) (g : Compiles
   pub record WrongListings (name : Option (List ℕ)) : Type 0 where
     -- 0 for a source with a fault, for what doesn't load, for a name that isn't defined, or with other rows, as with
     -- another line of the source, or another name of a word
-    pub done : Lists edition source name ends DONE
+    pub done : Lists (Source edition) source name ends DONE
         → (r.stop ≡ None) × (load_fault (code_in edition source r g) ≡ None)
         × (wanted name (code_in edition source r g) ≡ [] → ⊥)
         × ((frames : List Frame) × HasNames edition source frames
         × Writes ends.out (list_text (image_of (code_in edition source r g)) source name
         (code_in edition source r g) (program_lines g.definitions (token_lines edition source)) frames) ends.out_after)
     -- 135 for a name that is defined, or with another line, or with anything else written
-    pub unknown : Lists edition source name ends WRONG_COMMAND
+    pub unknown : Lists (Source edition) source name ends WRONG_COMMAND
         → (wanted name (code_in edition source r g) ≡ []) × Writes ends.line UNDEFINED.now ends.line_after
         × (ends.out_after ≡ ends.out)
-    pub statuses : WrongStatuses (Lists edition source name ends)
+    pub statuses : WrongStatuses (Lists (Source edition) source name ends)
 
   -- What is excluded of a map.
   pub record WrongMaps : Type 0 where

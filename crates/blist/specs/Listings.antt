@@ -1,9 +1,8 @@
--- Promise: the code of a source, as it is listed.
+-- Promise: the code of a source, or of a code text, as it is listed.
 use Rattle.std.specs.Prelude.{◌≡◌, ℕ, Bool, true, List, [], ◌∷◌, ◌++◌, codes, drop, filter, take, refl}
 use Rattle.std.specs.Prelude.{Option, Some, None}
 use Rattle.std.specs.List.{flat_map, slice_get}
 use Rattle.std.specs.Str.{bytes_eq}
-use Rattle.bword.specs.declared.edition.Edition.{Edition}
 use Rattle.blang.specs.Compiles.{line_of}
 use Rattle.blang.specs.Lines.{size_of}
 use Rattle.blang.specs.declared.code.Definition.{Definition}
@@ -14,9 +13,8 @@ use Rattle.blang.specs.Machine.{Image}
 use Rattle.blang.specs.Reports.{Reported}
 use Rattle.blist.specs.declared.listing.TheConstants.{HEADING, UNDEFINED}
 use Rattle.blist.specs.ListingTexts.{definition_rows}
-use Rattle.btools.specs.FrameNames.{HasNames}
-use Rattle.btools.specs.ProgramLines.{HasLines}
-use Rattle.btools.specs.Programs.{HasProgram, NoProgram, ToldEnds, image_address}
+use Rattle.btools.specs.Origins.{LinesOf, NamesOf, NoProgramOf, Origin, ProgramOf, beside}
+use Rattle.btools.specs.Programs.{ToldEnds, image_address}
 use Rattle.btools.specs.SourceLines.{source_lines}
 use Rattle.btools.specs.declared.names.Frame.{Frame}
 
@@ -66,18 +64,18 @@ list_text image source name ds lines frames =
     HEADING.now
     ++ flat_map (told_rows image source) (filter (λ t. is_wanted name t.definition) (told_of ds lines frames))
 
--- What is written for a source: the lines of the code of what is wanted, each in its row, where it lies and beside the
--- line of the source that it comes from; or nothing but why there are none, or that none has the name. Which labels
--- stand beside them is not said.
-pub data Lists (edition : Edition) (source : List ℕ) (name : Option (List ℕ)) (ends : ToldEnds) (status : ℕ) : Type 0
+-- What is written for a source or a code text: the lines of the code of what is wanted, each in its row, where it lies
+-- and beside the line of the source that it comes from; or nothing but why there are none, or that none has the name.
+-- Which labels stand beside them is not said.
+pub data Lists (origin : Origin) (source : List ℕ) (name : Option (List ℕ)) (ends : ToldEnds) (status : ℕ) : Type 0
   where
     listed : (ds : List Definition) (image : Image) (lines : List ℕ) (frames : List Frame)
-        → HasProgram edition source ds image → HasLines edition source lines → HasNames edition source frames
+        → ProgramOf origin source ds image → LinesOf origin source lines → NamesOf origin source frames
         → ends.line_after ≡ ends.line → (wanted name ds ≡ [] → ⊥)
-        → Reported (list_text image source name ds lines frames) DONE ends.out ends.out_after status
-        → Lists edition source name ends status
-    unnamed : (ds : List Definition) (image : Image) → HasProgram edition source ds image → wanted name ds ≡ []
+        → Reported (list_text image (beside origin source) name ds lines frames) DONE ends.out ends.out_after status
+        → Lists origin source name ends status
+    unnamed : (ds : List Definition) (image : Image) → ProgramOf origin source ds image → wanted name ds ≡ []
         → Reported UNDEFINED.now WRONG_COMMAND ends.line ends.line_after status → ends.out_after ≡ ends.out
-        → Lists edition source name ends status
-    stopped : NoProgram edition source line_of ends.line ends.line_after status → ends.out_after ≡ ends.out
-        → Lists edition source name ends status
+        → Lists origin source name ends status
+    stopped : NoProgramOf origin source line_of ends.line ends.line_after status → ends.out_after ≡ ends.out
+        → Lists origin source name ends status

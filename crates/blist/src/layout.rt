@@ -8,7 +8,7 @@ ghost use Rattle.btools.specs.Programs.{told_ends};
 use blang::Definition;
 use blang::status::{self, Status};
 use bmach::{Image, name_of, size_of};
-use btools::{Text, read_program, tell, tell_fault};
+use btools::{Origin, Text, read_program, tell, tell_fault};
 use bword::{ByteOut, Edition};
 use std::alloc::{AllocError, Global};
 
@@ -41,7 +41,7 @@ pub fn map<O: ByteOut, D: ByteOut>(
     ensures out_lender { O.lender out.new ≡ O.lender out.old }
     ensures diag_lender { D.lender diag.new ≡ D.lender diag.old }
 {
-    let program = match read_program(alloc, source, edition) {
+    let program = match read_program(alloc, source, Origin::Source(edition)) {
         Ok(program) => program,
         Err(fault) => return tell_fault(&fault, diag),
     };

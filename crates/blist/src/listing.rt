@@ -3,6 +3,7 @@ ghost use Rattle.std.specs.Prelude.{◌≡◌, ◌<◌, ◌+◌, ◌%◌, [], �
 ghost use Rattle.std.specs.List.{flat_map};
 ghost use Rattle.blang.specs.CodeParts.{function_of, simple_of, vector_of};
 ghost use Rattle.blang.specs.declared.code.Definition.TheVariants as definition;
+ghost use Rattle.blist.specs.CodeListExcluded.{NoCodeListings};
 ghost use Rattle.blist.specs.ListExcluded.{NoListings};
 ghost use Rattle.blist.specs.ListingTexts.{
   code_rows,
@@ -19,17 +20,20 @@ ghost use Rattle.blist.specs.ListingTexts.{
 ghost use Rattle.blist.specs.Listings.{Lists, frames_after, is_wanted, list_text, wanted};
 ghost use Rattle.blist.specs.declared.rows.CodeSpot.TheVariants as spot;
 ghost use Rattle.blist.specs.declared.rows.Named.TheVariants as named;
+ghost use Rattle.btools.specs.Origins.{origin_shown};
 ghost use Rattle.btools.specs.Programs.{told_ends};
 ghost use Rattle.btools.specs.SourceLines.{source_lines};
 
 use crate::rows::{CodeSpot, Named, RowColumns, push_row};
-use crate::source_lines::{line_text, split_source};
+use crate::source_lines::line_text;
 use bcode::{Page, push_header_line, push_instr_line, push_ival_line, push_number_line};
 use blang::status::{self, Status};
 use blang::{Definition, FunctionParts, Instr, Ival, SimpleParts, VectorParts};
 use bmach::name_of;
-use btools::{Frame, Program, Text, read_program, split_lines, tell, tell_fault};
-use bword::{ByteOut, Edition};
+use btools::{
+    Frame, Origin, Program, Text, read_program, split_lines, split_source, tell, tell_fault,
+};
+use bword::ByteOut;
 use std::alloc::{AllocError, Global};
 
 /// The columns of a listing.
@@ -40,31 +44,32 @@ const HEADING: &[u8] =
 const UNDEFINED: &[u8] = b"error: the source has no definition of this NAME\n";
 
 /// Writes the code of a source, or of its definitions of one name, beside the line of the source that each instruction
-/// comes from.
+/// comes from. A code text is listed so, too, with the line of each instruction, and beside its source if it has lines of
+/// one.
 ///
-/// The status is 0, or that of `go` if the source doesn't compile or load. If no definition has the name, a line says
-/// so, and the status is 135.
+/// The status is 0, or that of `go` if the source doesn't compile or load, and that of `run` for a code text. If no
+/// definition has the name, a line says so, and the status is 135, as it is for a file of lines that doesn't suit the code.
 pub fn list<O: ByteOut, D: ByteOut>(
     alloc: Global,
     source: &[u8],
-    edition: Edition,
+    origin: Origin<'_>,
     name: Option<&str>,
     out: &mut O,
     diag: &mut D,
 ) -> Status
-    ensures lists { Lists edition source.now (option_map (λ n. n.now) name.entry) (told_ends
+    ensures lists { Lists (origin_shown origin.entry) source.now (option_map (λ n. n.now) name.entry) (told_ends
         (O.outgoing out.old) (O.outgoing out.new) (D.outgoing diag.old) (D.outgoing diag.new)) result }
     ensures out_lender { O.lender out.new ≡ O.lender out.old }
     ensures diag_lender { D.lender diag.new ≡ D.lender diag.old }
 {
-    let program = match read_program(alloc, source, edition) {
+    let program = match read_program(alloc, source, origin) {
         Ok(program) => program,
         Err(fault) => return tell_fault(&fault, diag),
     };
     if is_none_wanted(&program.definitions, name) {
         return tell(UNDEFINED, status::WRONG_COMMAND, diag);
     }
-    match listing(alloc, &program, source, name) {
+    match listing(alloc, &program, origin.beside(source), name) {
         Ok(text) => tell(text.as_slice(), status::DONE, out),
         Err(_) => status::MEMORY,
     }
@@ -377,4 +382,9 @@ fn label_in(frame: Option<&Frame>, number: usize) -> Named
 /// No listing has another status than that of its source, or another line.
 pub fn wrong_listings_are_excluded()
     ensures { NoListings }
+{}
+
+/// The same holds of each code text, and no other text has a listing.
+pub fn wrong_code_listings_are_excluded()
+    ensures { NoCodeListings }
 {}

@@ -1,16 +1,6 @@
 //! The lines of a source.
-ghost use Rattle.std.specs.Prelude.{◌≡◌, IfOk, map};
+ghost use Rattle.std.specs.Prelude.{◌≡◌, map};
 ghost use Rattle.blist.specs.ListingTexts.{line_text};
-ghost use Rattle.btools.specs.SourceLines.{source_lines};
-
-use std::alloc::{AllocError, Global};
-
-/// The lines of a source, without their newlines.
-pub fn split_source(alloc: Global, source: &[u8]) -> Result<Vec<&[u8]>, AllocError>
-    ensures { IfOk result (λ lines. map (λ line. line.now) lines.items ≡ source_lines source.now) }
-{
-    source.split(|byte| *byte == b'\n').collect(alloc)
-}
 
 /// The line of this number, from 1 on, without the white space around it; empty where there is no such line.
 pub fn line_text<'a>(lines: &[&'a [u8]], number: u64) -> &'a [u8]

@@ -15,7 +15,7 @@ use crate::recorder::Recorder;
 use blang::status::{self, Status};
 use blang::{Outcome, Trap};
 use bsources::SourceFiles;
-use btools::{Program, Tables, Text, read_program, tell, tell_placed};
+use btools::{Origin, Program, Tables, Text, read_program, tell, tell_placed};
 use btrace::TraceRows;
 use bwatch::{Watched, watch};
 use bword::{ByteIn, ByteOut, Edition};
@@ -64,7 +64,7 @@ pub fn show<I: ByteIn, O: ByteOut, D: ByteOut>(
     ensures out_lender { O.lender out.new ≡ O.lender out.old }
     ensures diag_lender { D.lender diag.new ≡ D.lender diag.old }
 {
-    let program = match read_program(alloc, source, edition) {
+    let program = match read_program(alloc, source, Origin::Source(edition)) {
         Ok(program) => program,
         Err(fault) => return tell_placed(alloc, &fault, wanted.files, diag),
     };

@@ -11,3 +11,7 @@ pub mod SourceLines
 pub mod ProgramLines
 pub mod FrameNames
 pub mod KeptNames
+pub mod PlaceLines
+mod FileRows
+pub mod CodesExcluded
+pub mod ReadingText

@@ -12,10 +12,11 @@ use Rattle.blang.specs.Compiles.{Compilation, CompilesTo, status_of}
 use Rattle.blang.specs.Cut.{tokens_from}
 use Rattle.blang.specs.Layout.{load_fault}
 use Rattle.blang.specs.Machine.{Image}
-use Rattle.blang.specs.Reports.{Reported}
+use Rattle.blang.specs.Reports.{Reported, report_text}
+use Rattle.blang.specs.declared.run.Report.TheVariants as report
 use Rattle.btools.specs.declared.program.ProgramFault.{ProgramFault}
 use Rattle.btools.specs.declared.program.ProgramFault.TheVariants as why
-use Rattle.btools.specs.Programs.{HasNoProgram, HasProgram, TellsFault, load_line}
+use Rattle.btools.specs.Programs.{HasNoProgram, HasProgram, TellsFault, load_line, unlined_line}
 use Rattle.btools.specs.ProgramsExcluded.{WrongPrograms, code_in}
 
 pub not_grown : (a b : ℕ) → a ≡ 0 → b ≡ 0 → Grew a b → ⊥
@@ -67,7 +68,7 @@ some_status text told old new status which (inr x) = by_kind x.fault x.status
 
 module _ (lines : Diagnostic → List ℕ) (line line_after : Outgoing) where
   -- what is told of code that doesn't load: a line, or nothing where memory was refused
-  by_line : (f : LoadFault) (status : ℕ) → TellsFault lines (why.Unloaded f) line line_after status
+  pub by_line : (f : LoadFault) (status : ℕ) → TellsFault lines (why.Unloaded f) line line_after status
       → ((text : List ℕ) × (load_line f ≡ Some text) × Reported text 132 line line_after status) ⊎ (status ≡ 134)
   by_line (load.Duplicate name) status told = inl (_, refl, told)
   by_line load.TooLarge status told = inl (_, refl, told)
@@ -75,14 +76,18 @@ module _ (lines : Diagnostic → List ℕ) (line line_after : Outgoing) where
   by_line load.NoMain status told = inl (_, refl, told)
   by_line load.Memory status told = inr told.1
 
-  told_status : (fault : ProgramFault) (status : ℕ) → TellsFault lines fault line line_after status → (status ≡ 1) ⊎ (status ≡ 132) ⊎ (status ≡ 133) ⊎ (status ≡ 134)
-  told_status (why.Faulty d) status told = some_status (lines d) 1 line line_after status (inl refl) told
-  told_status (why.Unloaded f) status told =
+  told_status : (edition : Edition) (source : List ℕ) (fault : ProgramFault) (status : ℕ) → HasNoProgram edition source fault → TellsFault lines fault line line_after status → (status ≡ 1) ⊎ (status ≡ 132) ⊎ (status ≡ 133) ⊎ (status ≡ 134)
+  told_status edition source (why.Faulty d) status is told = some_status (lines d) 1 line line_after status (inl refl) told
+  told_status edition source (why.Unread n) status is told = absurd is
+  told_status edition source (why.Unlined count) status is told = absurd is
+  told_status edition source (why.Unloaded f) status is told =
       elim (by_line f status told) [ inl t ↦ some_status t.0 132 line line_after status (inr refl) t.2 | inr m ↦ inr (inr (inr m)) ]
-  told_status why.Memory status told = inr (inr (inr told.1))
+  told_status edition source why.Memory status is told = inr (inr (inr told.1))
 
-  failed : (fault : ProgramFault) → TellsFault lines fault line line_after 133 → Grew line.failures line_after.failures
+  pub failed : (fault : ProgramFault) → TellsFault lines fault line line_after 133 → Grew line.failures line_after.failures
   failed (why.Faulty d) told = device_grew (lines d) 1 line line_after (λ e. omega (arith, e)) told
+  failed (why.Unread n) told = device_grew (report_text (report.Code n)) 132 line line_after (λ e. omega (arith, e)) told
+  failed (why.Unlined count) told = device_grew (unlined_line count) 135 line line_after (λ e. omega (arith, e)) told
   failed (why.Unloaded f) told =
       elim (by_line f 133 told) [ inl t ↦ device_grew t.0 132 line line_after (λ e. omega (arith, e)) t.2 | inr m ↦ absurd (omega (arith, m)) ]
   failed why.Memory told = absurd (omega (arith, told.1))
@@ -97,6 +102,8 @@ module _ (lines : Diagnostic → List ℕ) (line line_after : Outgoing) where
     fault (why.Faulty d) is told = (d, is r g, was_told (lines d) 1 line line_after (λ e. omega (arith, e)) (λ e. omega (arith, e)) told)
     fault (why.Unloaded f) is told =
         absurd (elim (by_line f 1 told) [ inl t ↦ other_answer t.0 132 line line_after 1 (λ e. omega (arith, e)) (λ e. omega (arith, e)) (λ e. omega (arith, e)) t.2 | inr m ↦ omega (arith, m) ])
+    fault (why.Unread n) is told = absurd is
+    fault (why.Unlined count) is told = absurd is
     fault why.Memory is told = absurd (omega (arith, told.1))
 
     unloaded : (f : ProgramFault) → HasNoProgram edition source f → TellsFault lines f line line_after 132
@@ -114,6 +121,8 @@ module _ (lines : Diagnostic → List ℕ) (line line_after : Outgoing) where
           )
           | inr m ↦ absurd (omega (arith, m))
         ]
+    unloaded (why.Unread n) is told = absurd is
+    unloaded (why.Unlined count) is told = absurd is
     unloaded why.Memory is told = absurd (omega (arith, told.1))
 
     loads : (f : ProgramFault) (status : ℕ) → HasNoProgram edition source f → TellsFault lines f line line_after status → r.stop ≡ None → load_fault (code_in edition source r g) ≡ None → status ≡ 134
@@ -121,6 +130,8 @@ module _ (lines : Diagnostic → List ℕ) (line line_after : Outgoing) where
     loads (why.Unloaded f) status is told clean none =
         let no : None ≡ Some f = sym none ∙ subst (λ (x : List Definition). load_fault x ≡ Some f) (sym (is.1 r g).1) is.2 in
         cc
+    loads (why.Unread n) status is told clean none = absurd is
+    loads (why.Unlined count) status is told clean none = absurd is
     loads why.Memory status is told clean none = told.1
 
 pub excluded : WrongPrograms
@@ -128,7 +139,7 @@ excluded edition source r g lines line line_after = record {
   program = program lines line line_after edition source r g;
   faulty = λ d is. is r g;
   not_loaded = λ f is. ((is.1 r g).0, subst (λ (x : List Definition). load_fault x ≡ Some f) (sym (is.1 r g).1) is.2);
-  status = λ status n. told_status lines line line_after n.0 status n.2;
+  status = λ status n. told_status lines line line_after edition source n.0 status n.1 n.2;
   fault = λ n. fault lines line line_after edition source r g n.0 n.1 n.2;
   unloaded = λ n. unloaded lines line line_after edition source r g n.0 n.1 n.2;
   device = λ n. failed lines line line_after n.0 n.2;

@@ -119,6 +119,8 @@ loaded edition source ds (Ok p) is gives = record {
   loaded = subst (λ (x : List Definition). IsLoadedFrom x p.image) (sym gives.0) gives.2;
 }
 loaded edition source ds (Err (why.Faulty d)) is gives = absurd gives
+loaded edition source ds (Err (why.Unread n)) is gives = absurd gives
+loaded edition source ds (Err (why.Unlined count)) is gives = absurd gives
 loaded edition source ds (Err (why.Unloaded f)) is gives = (ds, is, gives)
 loaded edition source ds (Err why.Memory) is gives = tt
 

@@ -9,9 +9,15 @@ use Rattle.blang.specs.Reports.{Reported}
 use Rattle.bsources.specs.Files.{Files, beyond_first, line_shown}
 use Rattle.bsources.specs.declared.files.FileLine.{FileLine}
 use Rattle.btools.specs.FaultPlaces.{fault_lines, place_line, place_text}
+use Rattle.btools.specs.Origins.{Code, HasNoProgramOf, Origin, Source}
 use Rattle.btools.specs.Programs.{TellsFault}
 use Rattle.btools.specs.declared.program.ProgramFault.{ProgramFault}
 use Rattle.btools.specs.declared.program.ProgramFault.TheVariants as why
+
+-- Memory may be refused, whatever is read.
+pub no_memory : (origin : Origin) (source : List ℕ) → HasNoProgramOf origin source why.Memory
+no_memory (Source edition) source = tt
+no_memory (Code c) source = tt
 
 -- the lines of a fault that lies in a file after the first one
 module _ (files : Files) (d : Diagnostic) (found : Option FileLine) (same : option_map line_shown found ≡ beyond_first files d.line) where

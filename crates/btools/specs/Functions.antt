@@ -5,7 +5,7 @@ use Rattle.blang.specs.CodeParts.{Function, function_of}
 use Rattle.blang.specs.Layout.{Spot, shape_of, spots}
 use Rattle.blang.specs.declared.code.Definition.{Definition}
 use Rattle.blang.specs.declared.code.Definition.TheVariants as definition
-use Rattle.btools.specs.declared.tables.Entry.{Entry}
+use Rattle.btools.specs.declared.tables.FunctionEntry.{FunctionEntry}
 use Rattle.btools.specs.declared.tables.Tables.{Tables}
 
 -- a function with the address of its first string word
@@ -29,7 +29,7 @@ function_with fs strings = find (λ f. f.strings == strings) fs
 abbrev pub function_named : List Placed → List ℕ → Option Placed
 function_named fs name = find (λ f. bytes_eq f.function.name name) fs
 
-abbrev pub placed_entry : Entry → Placed
+abbrev pub placed_entry : FunctionEntry → Placed
 placed_entry e = record { strings = e.strings; function = function_of e.parts.now }
 
 -- the functions that a table has
@@ -37,6 +37,6 @@ abbrev pub entries_of : Tables → List Placed
 entries_of t = map placed_entry t.entries.items
 
 -- A function of this number has its string words there; or none has.
-abbrev pub LiesAt : List Entry → (strings : ℕ) → Option ℕ → Type 0
-LiesAt es strings None = (k : ℕ) (d : Entry) → k < length es → (get_or es k d).strings ≡ strings → ⊥
-LiesAt es strings (Some i) = (i < length es) × ((d : Entry) → (get_or es i d).strings ≡ strings)
+abbrev pub LiesAt : List FunctionEntry → (strings : ℕ) → Option ℕ → Type 0
+LiesAt es strings None = (k : ℕ) (d : FunctionEntry) → k < length es → (get_or es k d).strings ≡ strings → ⊥
+LiesAt es strings (Some i) = (i < length es) × ((d : FunctionEntry) → (get_or es i d).strings ≡ strings)

@@ -14,3 +14,7 @@ pub mod KeptNames
 pub mod SourceLines
 pub mod ProgramLines
 pub mod LineRows
+pub mod PlaceLines
+pub mod Origins
+pub mod CodesExcluded
+mod OriginRows

@@ -10,7 +10,7 @@ use Rattle.blang.specs.declared.code.Definition.{Definition}
 use Rattle.blang.specs.declared.code.Definition.TheVariants as definition
 use Rattle.bparse.specs.Locals.{Notes, notes_of}
 use Rattle.bparse.specs.Watches.{KeepsMore}
-use Rattle.btools.specs.declared.tables.Entry.{Entry}
+use Rattle.btools.specs.declared.tables.FunctionEntry.{FunctionEntry}
 use Rattle.btools.specs.declared.tables.Tables.{Tables}
 
 -- the lines of the tokens of a source
@@ -61,7 +61,7 @@ line_in (Some f) place = get_or f.lines place 0
 abbrev pub line_at : List FunctionLines → (strings place : ℕ) → ℕ
 line_at fs strings place = line_in (lines_with fs strings) place
 
-abbrev pub lined_entry : Entry → FunctionLines
+abbrev pub lined_entry : FunctionEntry → FunctionLines
 lined_entry e = record { strings = e.strings; lines = e.lines.now }
 
 -- the lines that a table has

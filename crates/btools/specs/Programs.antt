@@ -1,6 +1,6 @@
 -- Promise: a source that is compiled and loaded, or why it can't be.
-use Rattle.std.specs.Prelude.{◌≡◌, ℕ, List, [], codes, false, map, Option, Some, None, MatchOption, Result, Ok, Err, ◌⊎◌}
-use Rattle.std.specs.Prelude.{unwrap_or}
+use Rattle.std.specs.Prelude.{◌≡◌, ℕ, List, [], ◌++◌, codes, decimal, false, map, Option, Some, None, MatchOption}
+use Rattle.std.specs.Prelude.{Result, Ok, Err, ◌⊎◌, unwrap_or}
 use Rattle.bword.specs.declared.edition.Edition.{Edition}
 use Rattle.bword.specs.ByteEnds.{Unread, Outgoing, Kept, incoming_of, outgoing_of}
 use Rattle.blang.specs.declared.code.Definition.{Definition}
@@ -8,16 +8,17 @@ use Rattle.blang.specs.declared.token.Diagnostic.{Diagnostic}
 use Rattle.blang.specs.Code.{code_of}
 use Rattle.blang.specs.Compiles.{Compilation, Compiles, CompilesTo}
 use Rattle.blang.specs.Cut.{tokens_from}
-use Rattle.blang.specs.declared.status.TheConstants.{DONE, FAULT, MEMORY, REFUSED}
+use Rattle.blang.specs.declared.status.TheConstants.{DONE, FAULT, MEMORY, REFUSED, WRONG_COMMAND}
 use Rattle.blang.specs.Layout.{address_in, load_fault}
 use Rattle.blang.specs.Machine.{Image, States}
 use Rattle.blang.specs.Machine as runs
-use Rattle.blang.specs.Reports.{Finishes, Reported}
+use Rattle.blang.specs.Reports.{Finishes, Reported, report_text}
 use Rattle.bmach.specs.Resolved.{IsLoadedFrom}
 use Rattle.bmach.specs.Stepping.{Paused, machine_at}
 use Rattle.blang.specs.declared.run.LoadFault.{LoadFault}
 use Rattle.blang.specs.declared.run.Outcome.{Outcome}
 use Rattle.blang.specs.declared.run.LoadFault.TheVariants as fault
+use Rattle.blang.specs.declared.run.Report.TheVariants as report
 use Rattle.bparse.specs.Compiles.{CodeGives}
 use Rattle.bparse.specs.declared.step.Step.{Step}
 use Rattle.btools.specs.declared.program.Program.{Program}
@@ -91,6 +92,7 @@ HasNoProgram edition source (why.Faulty d) = HasFault edition source d
 HasNoProgram edition source (why.Unloaded f) =
     (ds : List Definition) × IsCodeOf edition source ds × (load_fault ds ≡ Some f)
 HasNoProgram edition source why.Memory = Unit {0}
+HasNoProgram edition source other = ⊥
 
 -- the line of a reason why definitions don't load
 abbrev pub load_line : LoadFault → Option (List ℕ)
@@ -100,12 +102,22 @@ load_line (fault.Undefined name) = Some (codes "load 3\n")
 load_line fault.NoMain = Some (codes "load 4\n")
 load_line fault.Memory = None
 
+-- the line of a code text whose file of lines isn't a number for each of so many places
+abbrev pub unlined_line : (count : ℕ) → List ℕ
+unlined_line count =
+    codes "error: the file of lines needs " ++ decimal count
+    ++ codes " lines, a decimal number for each place of the code\n"
+
 -- This is told of it, and `lines` of a fault of the source; or nothing where memory was refused.
 abbrev pub TellsFault : (lines : Diagnostic → List ℕ) → ProgramFault → Outgoing → Outgoing → (status : ℕ) → Type 0
 TellsFault lines (why.Faulty d) line line_after status = Reported (lines d) FAULT line line_after status
 TellsFault lines (why.Unloaded f) line line_after status =
     MatchOption (load_line f) ((line_after ≡ line) × (status ≡ MEMORY))
     (λ text. Reported text REFUSED line line_after status)
+TellsFault lines (why.Unread n) line line_after status =
+    Reported (report_text (report.Code n)) REFUSED line line_after status
+TellsFault lines (why.Unlined count) line line_after status =
+    Reported (unlined_line count) WRONG_COMMAND line line_after status
 TellsFault lines why.Memory line line_after status = (line_after ≡ line) × (status ≡ MEMORY)
 
 -- there is no program, and why was told
@@ -122,9 +134,9 @@ WasAnswered edition source answer code =
 -- what comes of definitions that are loaded
 abbrev pub LoadGives : List Definition → Result Program ProgramFault → Type 0
 LoadGives ds (Ok p) = (p.definitions.items ≡ ds) × (load_fault ds ≡ None) × IsLoadedFrom ds p.image
-LoadGives ds (Err (why.Faulty d)) = ⊥
 LoadGives ds (Err (why.Unloaded f)) = load_fault ds ≡ Some f
 LoadGives ds (Err why.Memory) = Unit {0}
+LoadGives ds (Err other) = ⊥
 
 -- What is told of a run was written, and then the run has its line and status; or it was cut off.
 abbrev pub TellsEnd : (told : ℕ) → Outcome → Outgoing → Outgoing → ℕ → Type 0

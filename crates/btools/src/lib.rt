@@ -1,8 +1,10 @@
-//! What the tools for a reader of a source share: its program, its texts, and how they are written.
+//! What the tools for a reader of a source or of a code text share: its program, its texts, and how they are written.
 #![tactic(auto)]
 
 mod characters;
 mod names;
+mod origin;
+mod place_lines;
 mod program;
 mod quoting;
 mod refusal;
@@ -14,13 +16,15 @@ mod text;
 
 pub use characters::{hexadecimal_digit, push_byte, push_characters};
 pub use names::{Frame, FrameWord, Names};
+pub use origin::{CodeText, Origin};
 pub use program::{Program, ProgramFault, compile_source, read_program, split_lines};
 pub use quoting::{push_file, push_quoted};
 pub use refusal::{
-    diagnostic_line, load_line, tell_fault, tell_placed, wrong_programs_are_excluded,
+    diagnostic_line, load_line, tell_fault, tell_placed, wrong_codes_are_excluded,
+    wrong_programs_are_excluded,
 };
 pub use sink::Sink;
-pub use source_lines::{line_at, push_source_line};
-pub use tables::{Entry, Tables};
+pub use source_lines::{line_at, push_source_line, split_source};
+pub use tables::{FunctionEntry, Tables};
 pub use telling::tell;
 pub use text::Text;

@@ -1,4 +1,4 @@
-//! A source that is compiled and loaded.
+//! A source that is compiled and loaded, or a code text that is loaded.
 ghost use Rattle.std.specs.Prelude.{◌≡◌, [], IfOk, List, MatchResult, Option, Some, drop, take, ℕ};
 ghost use Rattle.bword.specs.declared.edition.Edition.{Edition};
 ghost use Rattle.blang.specs.Lines.{size_of};
@@ -7,10 +7,13 @@ ghost use Rattle.bparse.specs.declared.step.Step.{Step};
 ghost use Rattle.bparse.specs.declared.step.Step.TheVariants as step;
 ghost use Rattle.btools.specs.FrameNames.{HasNames};
 ghost use Rattle.btools.specs.KeptNames.{notes_in, notes_kept};
+ghost use Rattle.btools.specs.Origins.{HasCode, HasNoCode, HasNoProgramOf, HasTextLines, IsProgramOf, LinesOf, NamesOf, code_text_shown, origin_shown};
 ghost use Rattle.btools.specs.ProgramLines.{HasLines, KeepsNotesOf};
 ghost use Rattle.btools.specs.Programs.{HasFault, HasNoProgram, IsCodeOf, IsThisProgram, LoadGives, WasAnswered};
 
 use crate::names::{NameKeeper, Names};
+use crate::origin::{CodeText, Origin};
+use crate::place_lines::lines_of_places;
 use bcode::{CodeFault, read_code};
 use blang::{Definition, Diagnostic, LoadFault};
 use bmach::{Image, load_slice};
@@ -26,12 +29,16 @@ pub struct Program {
     pub names: Names,
 }
 
-/// Why a source has no program.
+/// Why a source or a code text has no program.
 #[derive(Drop)]
 pub enum ProgramFault {
-    /// It doesn't compile.
+    /// The source doesn't compile.
     Faulty(Diagnostic),
-    /// Its code doesn't load.
+    /// No code text goes on with this line. Lines count from 1.
+    Unread(u64),
+    /// The file of lines isn't a number for each place of the code text, which has so many.
+    Unlined(usize),
+    /// The code doesn't load.
     Unloaded(LoadFault),
     /// Memory ran out.
     Memory,
@@ -42,10 +49,11 @@ pub fn split_lines<'a>(lines: &'a [u64], definition: &Definition) -> (&'a [u64],
     ensures own { result.0.now ≡ take (size_of definition.now) lines.now }
     ensures later { result.1.now ≡ drop (size_of definition.now) lines.now }
 {
-    lines.split_at(lines.len().min(lines_in(definition)))
+    lines.split_at(lines.len().min(places_of(definition)))
 }
 
-fn lines_in(definition: &Definition) -> usize
+/// How many instructions or initial values a definition has.
+pub(crate) fn places_of(definition: &Definition) -> usize
     ensures { result ≡ size_of definition.now }
 {
     match definition {
@@ -55,8 +63,27 @@ fn lines_in(definition: &Definition) -> usize
     }
 }
 
-/// Compiles and loads a source.
-pub fn read_program(alloc: Global, source: &[u8], edition: Edition) -> Result<Program, ProgramFault>
+/// Reads the program of a source, or of a code text.
+///
+/// What a code text was made from may be given as its source, which isn't looked at.
+pub fn read_program(
+    alloc: Global,
+    source: &[u8],
+    origin: Origin<'_>,
+) -> Result<Program, ProgramFault>
+    ensures program { MatchResult result (IsProgramOf (origin_shown origin.entry) source.now)
+        (HasNoProgramOf (origin_shown origin.entry) source.now) }
+    ensures lines { IfOk result (λ p. LinesOf (origin_shown origin.entry) source.now p.names.lines.items) }
+    ensures names { IfOk result (λ p. NamesOf (origin_shown origin.entry) source.now p.names.frames.items) }
+{
+    match origin {
+        Origin::Source(edition) => read_source(alloc, source, edition),
+        Origin::Code(text) => read_text(alloc, text),
+    }
+}
+
+// Compiles and loads a source.
+fn read_source(alloc: Global, source: &[u8], edition: Edition) -> Result<Program, ProgramFault>
     ensures program { MatchResult result (IsThisProgram edition source.now) (HasNoProgram edition source.now) }
     ensures lines { IfOk result (λ p. HasLines edition source.now p.names.lines.items) }
     ensures names { IfOk result (λ p. HasNames edition source.now p.names.frames.items) }
@@ -78,19 +105,56 @@ fn load(
     ensures gives { LoadGives definitions.items result }
     ensures notes { IfOk result (λ p. notes_kept keeper ≡ Some (notes_in p.names)) }
 {
-    let image = match load_slice(alloc, &definitions) {
-        Ok(image) => image,
-        Err(LoadFault::Memory) => return Err(ProgramFault::Memory),
-        Err(fault) => return Err(ProgramFault::Unloaded(fault)),
-    };
     match keeper.into_names() {
-        Some(names) => Ok(Program {
+        Some(names) => load_named(alloc, definitions, names),
+        None => Err(ProgramFault::Memory),
+    }
+}
+
+// Loads definitions, with these names.
+fn load_named(
+    alloc: Global,
+    definitions: Vec<Definition>,
+    names: Names,
+) -> Result<Program, ProgramFault>
+    ensures gives { LoadGives definitions.items result }
+    ensures same { IfOk result (λ p. p.names ≡ names) }
+{
+    match load_slice(alloc, &definitions) {
+        Ok(image) => Ok(Program {
             definitions,
             image,
             names,
         }),
-        None => Err(ProgramFault::Memory),
+        Err(LoadFault::Memory) => Err(ProgramFault::Memory),
+        Err(fault) => Err(ProgramFault::Unloaded(fault)),
     }
+}
+
+// Loads a code text, which has no names of frames.
+fn read_text(alloc: Global, text: CodeText<'_>) -> Result<Program, ProgramFault>
+    ensures program { MatchResult result (λ p. HasCode text.entry.code.now p.definitions.items p.image)
+        (HasNoCode (code_text_shown text.entry)) }
+    ensures lines { IfOk result (λ p. HasTextLines (code_text_shown text.entry) p.names.lines.items) }
+    ensures names { IfOk result (λ p. p.names.frames.items ≡ []) }
+{
+    let definitions = match read_code(alloc, text.code) {
+        Ok(definitions) => definitions,
+        Err(CodeFault::Line(line)) => return Err(ProgramFault::Unread(line)),
+        Err(CodeFault::Memory) => return Err(ProgramFault::Memory),
+    };
+    let lines = match lines_of_places(alloc, text, &definitions) {
+        Ok(lines) => lines,
+        Err(fault) => return Err(fault),
+    };
+    load_named(
+        alloc,
+        definitions,
+        Names {
+            frames: Vec::new(alloc),
+            lines,
+        },
+    )
 }
 
 /// Compiles a source to the definitions of its code, or to its fault. The watcher looks at the compiler after each one.

@@ -1,24 +1,32 @@
-//! Why a source has no program, as it is told.
+//! Why a source or a code text has no program, as it is told.
 ghost use Rattle.std.specs.Prelude.{◌≡◌, ◌++◌, IfOk, List, option_map, ℕ};
-ghost use Rattle.bword.specs.declared.edition.Edition.{Edition};
 ghost use Rattle.blang.specs.Compiles.{line_of};
+ghost use Rattle.blang.specs.Reports.{report_text};
+ghost use Rattle.blang.specs.declared.run.Report.TheVariants as report;
 ghost use Rattle.bsources.specs.Files.{files_shown, line_shown};
+ghost use Rattle.btools.specs.CodesExcluded.{WrongCodes};
 ghost use Rattle.btools.specs.ProgramsExcluded.{WrongPrograms};
 ghost use Rattle.btools.specs.FaultPlaces.{fault_lines, place_line};
-ghost use Rattle.btools.specs.Programs.{HasNoProgram, NoProgram, TellsFault, load_line};
+ghost use Rattle.btools.specs.Origins.{HasNoProgramOf, NoProgramOf, Origin};
+ghost use Rattle.btools.specs.Programs.{TellsFault, load_line, unlined_line};
 
 use crate::program::ProgramFault;
 use crate::quoting::push_file;
 use crate::telling::tell;
 use crate::text::Text;
+use arrayvec::ArrayString;
 use blang::status::{self, Status};
 use blang::{Diagnostic, LoadFault};
 use bparse::write_diagnostic;
 use bsources::{FileLine, SourceFiles};
 use bword::{ByteOut, EndFault, MemOut};
+use itoa::Buffer;
 use std::alloc::{AllocError, Global};
 
-/// Tells why a source has no program, and gives the status of `go`.
+/// Room for the longest line about a code text.
+const CODE_LINE_LEN: usize = 128;
+
+/// Tells why there is no program, and gives the status of `go` or, for a code text, of `run`.
 pub fn tell_fault<D: ByteOut>(fault: &ProgramFault, diag: &mut D) -> Status
     ensures tells { TellsFault line_of fault.now (D.outgoing diag.old) (D.outgoing diag.new) result }
     ensures same { D.lender diag.new ≡ D.lender diag.old }
@@ -28,12 +36,48 @@ pub fn tell_fault<D: ByteOut>(fault: &ProgramFault, diag: &mut D) -> Status
             Ok(()) => status::FAULT,
             Err(fault) => status::of_fault(fault),
         },
+        ProgramFault::Unread(line) => {
+            tell(
+                unread_line(*line).as_str().as_bytes(),
+                status::REFUSED,
+                diag,
+            )
+        }
+        ProgramFault::Unlined(count) => {
+            tell(
+                unlined_line(*count).as_str().as_bytes(),
+                status::WRONG_COMMAND,
+                diag,
+            )
+        }
         ProgramFault::Unloaded(fault) => match load_line(fault) {
             Some(line) => tell(line, status::REFUSED, diag),
             None => status::MEMORY,
         },
         ProgramFault::Memory => status::MEMORY,
     }
+}
+
+// The line of the first wrong line of a code text.
+fn unread_line(number: u64) -> ArrayString<CODE_LINE_LEN>
+    ensures { result.bytes ≡ report_text (report.Code number) }
+{
+    let mut line = ArrayString::new();
+    line.push_str("code ");
+    line.push_str(Buffer::new().format(number));
+    line.push_str("\n");
+    line
+}
+
+// The line of a file of lines that isn't a number for each of so many places.
+fn unlined_line(count: usize) -> ArrayString<CODE_LINE_LEN>
+    ensures { result.bytes ≡ unlined_line count }
+{
+    let mut line = ArrayString::new();
+    line.push_str("error: the file of lines needs ");
+    line.push_str(Buffer::new().format(count));
+    line.push_str(" lines, a decimal number for each place of the code\n");
+    line
 }
 
 /// The same, and then in which file a fault of the source lies, if that isn't the first one.
@@ -43,8 +87,8 @@ pub fn tell_placed<D: ByteOut>(
     files: SourceFiles<'_>,
     diag: &mut D,
 ) -> Status
-    ensures tells { (edition : Edition) (source : List ℕ) → HasNoProgram edition source fault.now
-        → NoProgram edition source (fault_lines (files_shown files.entry)) (D.outgoing diag.old) (D.outgoing diag.new) result }
+    ensures tells { (origin : Origin) (source : List ℕ) → HasNoProgramOf origin source fault.now
+        → NoProgramOf origin source (fault_lines (files_shown files.entry)) (D.outgoing diag.old) (D.outgoing diag.new) result }
     ensures same { D.lender diag.new ≡ D.lender diag.old }
 {
     let ProgramFault::Faulty(diagnostic) = fault else {
@@ -111,4 +155,9 @@ pub fn load_line(fault: &LoadFault) -> Option<&'static [u8]>
 /// No source gives another program than that of its definitions, or another status or line if it has none.
 pub fn wrong_programs_are_excluded()
     ensures { WrongPrograms }
+{}
+
+/// No code text gives another program than that of its definitions, or other lines, and no other text gives one.
+pub fn wrong_codes_are_excluded()
+    ensures { WrongCodes }
 {}

@@ -1,9 +1,16 @@
 //! Lines of a source, as they are shown.
-ghost use Rattle.std.specs.Prelude.{◌≡◌, ◌++◌, OnOk};
-ghost use Rattle.btools.specs.SourceLines.{line_at, plain_byte, shown_line};
+ghost use Rattle.std.specs.Prelude.{◌≡◌, ◌++◌, IfOk, OnOk, map};
+ghost use Rattle.btools.specs.SourceLines.{line_at, plain_byte, shown_line, source_lines};
 
 use crate::text::Text;
-use std::alloc::AllocError;
+use std::alloc::{AllocError, Global};
+
+/// The lines of a source, without their newlines.
+pub fn split_source(alloc: Global, source: &[u8]) -> Result<Vec<&[u8]>, AllocError>
+    ensures { IfOk result (λ lines. map (λ line. line.now) lines.items ≡ source_lines source.now) }
+{
+    source.split(|byte| *byte == b'\n').collect(alloc)
+}
 
 /// The line of a source with this number, from 1 on; nothing if the source has fewer.
 pub fn line_at(source: &[u8], number: u64) -> &[u8]

@@ -9,7 +9,7 @@ use std::alloc::{AllocError, Global};
 
 /// A function of a program.
 #[derive(Clone, Copy)]
-pub struct Entry<'a> {
+pub struct FunctionEntry<'a> {
     /// The address of its first string word.
     pub strings: u32,
     pub parts: &'a FunctionParts,
@@ -20,7 +20,7 @@ pub struct Entry<'a> {
 /// The functions of a program, in order.
 #[derive(Drop)]
 pub struct Tables<'a> {
-    entries: Vec<Entry<'a>>,
+    entries: Vec<FunctionEntry<'a>>,
     ghost in_order: { AllPairs (λ e f. e.strings < f.strings) entries.items },
 }
 
@@ -43,7 +43,7 @@ impl<'a> Tables<'a> {
             if let Definition::Function(function) = definition {
                 let parts = function.parts();
                 let strings = address + 1;
-                entries.push(Entry {
+                entries.push(FunctionEntry {
                     strings,
                     parts,
                     lines: own,
@@ -56,7 +56,7 @@ impl<'a> Tables<'a> {
     }
 
     /// The functions, in order.
-    pub fn entries(&self) -> &[Entry<'a>]
+    pub fn entries(&self) -> &[FunctionEntry<'a>]
         ensures { result.now ≡ self.now.entries.items }
     {
         self.entries.as_slice()
@@ -86,7 +86,7 @@ impl<'a> Tables<'a> {
     }
 
     /// The function whose string words begin there.
-    pub fn entry(&self, strings: u32) -> Option<Entry<'a>>
+    pub fn entry(&self, strings: u32) -> Option<FunctionEntry<'a>>
         ensures function { option_map placed_entry result ≡ function_with (entries_of self.now) strings }
         ensures lines { option_map lined_entry result ≡ lines_with (lines_shown self.now) strings }
     {
@@ -97,7 +97,7 @@ impl<'a> Tables<'a> {
     }
 
     /// The function of a name.
-    pub fn named(&self, name: &str) -> Option<Entry<'a>>
+    pub fn named(&self, name: &str) -> Option<FunctionEntry<'a>>
         ensures { option_map placed_entry result ≡ function_named (entries_of self.now) name.now }
     {
         for entry in &self.entries {
@@ -109,7 +109,7 @@ impl<'a> Tables<'a> {
     }
 
     /// The line of an instruction of a function, or 0 where none is known.
-    pub fn line(&self, entry: Option<Entry<'a>>, place: usize) -> u64
+    pub fn line(&self, entry: Option<FunctionEntry<'a>>, place: usize) -> u64
         ensures { result ≡ line_in (option_map lined_entry entry.entry) place }
     {
         match entry {

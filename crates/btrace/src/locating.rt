@@ -15,7 +15,7 @@ use bmach::{Stepper, Stop};
 use bpages::PagedStore;
 use brun::finish;
 use bsources::SourceFiles;
-use btools::{Tables, Text, line_at, push_source_line, read_program, tell, tell_placed};
+use btools::{Origin, Tables, Text, line_at, push_source_line, read_program, tell, tell_placed};
 use bword::{ByteIn, ByteOut, Edition};
 use std::alloc::{AllocError, Global};
 
@@ -42,7 +42,7 @@ pub fn locate<I: ByteIn, O: ByteOut, D: ByteOut>(
     ensures out_lender { O.lender out.new ≡ O.lender out.old }
     ensures diag_lender { D.lender diag.new ≡ D.lender diag.old }
 {
-    let program = match read_program(alloc, source, edition) {
+    let program = match read_program(alloc, source, Origin::Source(edition)) {
         Ok(program) => program,
         Err(fault) => return tell_placed(alloc, &fault, files, diag),
     };

@@ -11,7 +11,7 @@ use crate::legend::{Legend, push_line};
 use bcode::{Page, push_instr_line};
 use blang::Instr;
 use bmach::{Active, Stepper};
-use btools::{Entry, Text, hexadecimal_digit, push_byte};
+use btools::{FunctionEntry, Text, hexadecimal_digit, push_byte};
 use bword::Store;
 use std::alloc::AllocError;
 use std::ops::Range;
@@ -48,7 +48,7 @@ pub fn push_step<S: Store + Drop>(
 }
 
 /// The name of a function.
-pub fn name_of<'a>(entry: Option<Entry<'a>>) -> &'a [u8]
+pub fn name_of<'a>(entry: Option<FunctionEntry<'a>>) -> &'a [u8]
     ensures { result.now ≡ name_in (option_map placed_entry entry.entry) }
 {
     match entry {
@@ -58,7 +58,7 @@ pub fn name_of<'a>(entry: Option<Entry<'a>>) -> &'a [u8]
 }
 
 /// The instruction at a place of a function.
-pub fn instr_at(entry: Option<Entry<'_>>, place: usize) -> Option<Instr>
+pub fn instr_at(entry: Option<FunctionEntry<'_>>, place: usize) -> Option<Instr>
     ensures { result ≡ instr_in (option_map placed_entry entry.entry) place }
 {
     match entry {

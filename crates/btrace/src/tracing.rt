@@ -13,7 +13,7 @@ use blang::Outcome;
 use blang::status::{self, Status};
 use brun::finish;
 use bsources::SourceFiles;
-use btools::{Tables, read_program, tell, tell_placed};
+use btools::{Origin, Tables, read_program, tell, tell_placed};
 use bwatch::{Watched, watch};
 use bword::{ByteIn, ByteOut, Edition};
 use std::alloc::Global;
@@ -57,7 +57,7 @@ pub fn trace<I: ByteIn, O: ByteOut, D: ByteOut>(
     ensures out_lender { O.lender out.new ≡ O.lender out.old }
     ensures diag_lender { D.lender diag.new ≡ D.lender diag.old }
 {
-    let program = match read_program(alloc, source, edition) {
+    let program = match read_program(alloc, source, Origin::Source(edition)) {
         Ok(program) => program,
         Err(fault) => return tell_placed(alloc, &fault, wanted.files, diag),
     };

@@ -3,6 +3,7 @@ use Rattle.blang.specs.declared.status.TheConstants.{DONE}
 use Rattle.blang.specs.declared.run.Outcome.TheVariants as outcome
 use Rattle.blang.specs.Machine.{image_of, machine}
 use Rattle.blang.specs.Reports.{Reported}
+use Rattle.btools.specs.Origins.{Source}
 use Rattle.bmach.proofs.Readings.{none_at_first}
 use Rattle.btools.proofs.Functions.{data_fit}
 use Rattle.btools.specs.Functions.{functions_of}
@@ -20,7 +21,7 @@ pub watch-requires-clause-begins : goal.watch-requires-clause-begins
 watch-requires-clause-begins g c = none_counted c.in-Ok-new-2.tallies c.in-Ok-new.tables c.in-Ok-new-2.ensures.counts c.in-Ok-new-2.ensures.tables
 
 pub returns-in-Err-clause-counts : goal.returns-in-Err-clause-counts
-returns-in-Err-clause-counts g c = stopped (c.tell_placed.ensures.tells c.args.counting.edition c.args.source.now c.in-Err.ensures.program) (record { unread = refl; silent = refl })
+returns-in-Err-clause-counts g c = stopped (c.tell_placed.ensures.tells (Source c.args.counting.edition) c.args.source.now c.in-Err.ensures.program) (record { unread = refl; silent = refl })
 
 pub returns-in_default-clause-counts : goal.returns-in_default-clause-counts
 returns-in_default-clause-counts g c =

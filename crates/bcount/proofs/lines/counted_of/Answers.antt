@@ -3,7 +3,7 @@ use Rattle.std.specs.List.{slice_get}
 use Rattle.std.specs.Prelude.{Option, option_map}
 use Rattle.std.proofs.lemmas.List.{drop_all, get_or-map, length-map}
 use Rattle.btools.specs.ProgramLines.{FunctionLines, lined_entry, lines_shown}
-use Rattle.btools.specs.declared.tables.Entry.{Entry}
+use Rattle.btools.specs.declared.tables.FunctionEntry.{FunctionEntry}
 use Rattle.bcount.specs.Counts.{counted_in, counted_of}
 use Rattle.bcount.specs.Tallies.{tallies_of}
 use Rattle.bcount.specs.declared.lines.Counted.{Counted}
@@ -22,7 +22,7 @@ loop-number-preserved c =
     let counts = c.as_slice-counts.result.now in
     let within : number < length all.items = omega (arith, c.loop-number-test.true, c.len-number-end.ensures, all.ok.0) in
     let lines = ap (option_map lined_entry) c.copied-entry.ensures ∙ entry_lines c.get.result c.entries-entries.result.now number c.get.ensures.lookup.3
-    ∙ ap (λ (es : List Entry). slice_get (map lined_entry es) number) c.entries-entries.ensures in
+    ∙ ap (λ (es : List FunctionEntry). slice_get (map lined_entry es) number) c.entries-entries.ensures in
     function_more c.args.last fs (map items all.items) number counts _ c.loop-number.counted.items c.push_function.new.counted.items (omega (arith, within, length-map all.items items))
     (c.as_slice-counts.ensures.value ∙ ap items c.index.ensures ∙ sym (get_or-map items all.items number _ counts within)) c.loop-number.invariant
     (c.in_ok-push_function.ensures ∙ ap (λ (f : Option FunctionLines). c.loop-number.counted.items ++ counted_in c.args.last f counts) lines)

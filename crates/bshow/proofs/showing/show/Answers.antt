@@ -3,6 +3,7 @@ use Rattle.blang.specs.declared.run.Outcome.TheVariants as outcome
 use Rattle.blang.specs.declared.status.TheConstants.{DONE}
 use Rattle.blang.specs.Machine.{image_of}
 use Rattle.blang.specs.Reports.{Reported}
+use Rattle.btools.specs.Origins.{Source}
 use Rattle.bmach.proofs.Readings.{none_at_first}
 use Rattle.bsources.specs.Files.{files_shown}
 use Rattle.bshow.specs.Facts.{program_text}
@@ -16,7 +17,7 @@ pub new-requires : goal.new-requires
 new-requires g c = data_fit c.in-Ok.program.definitions.items c.in-Ok.ensures.program.loads
 
 pub returns-in-Err-clause-shows : goal.returns-in-Err-clause-shows
-returns-in-Err-clause-shows g c = stopped (c.tell_placed.ensures.tells c.args.edition c.args.source.now c.in-Err.ensures.program) (record { unread = refl; silent = refl })
+returns-in-Err-clause-shows g c = stopped (c.tell_placed.ensures.tells (Source c.args.edition) c.args.source.now c.in-Err.ensures.program) (record { unread = refl; silent = refl })
 
 pub program_text-requires : goal.program_text-requires
 program_text-requires g c = data_fit c.in-Ok.program.definitions.items c.in-Ok.ensures.program.loads

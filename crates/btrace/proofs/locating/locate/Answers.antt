@@ -4,6 +4,7 @@ use Rattle.btools.specs.Functions.{entries_of}
 use Rattle.btools.specs.ProgramLines.{lines_shown}
 use Rattle.btrace.specs.Locates.{not_begun, stopped}
 use Rattle.btools.specs.declared.program.ProgramFault.TheVariants.{Memory}
+use Rattle.btools.specs.Origins.{Source}
 use Rattle.btools.proofs.Functions.{data_fit}
 use Rattle.btrace.proofs.Located.{located_whole, no_other, not_none, unlocated_whole}
 use Rattle.btrace.proofs.locating.locate.Goals as goal
@@ -13,7 +14,7 @@ pub new-requires : goal.new-requires
 new-requires g c = data_fit c.in-Ok.program.definitions.items c.in-Ok.ensures.program.loads
 
 pub returns-in-Err-clause-locates : goal.returns-in-Err-clause-locates
-returns-in-Err-clause-locates g c = stopped (c.tell_placed.ensures.tells c.args.edition c.args.source.now c.in-Err.ensures.program) (record { unread = refl; silent = refl })
+returns-in-Err-clause-locates g c = stopped (c.tell_placed.ensures.tells (Source c.args.edition) c.args.source.now c.in-Err.ensures.program) (record { unread = refl; silent = refl })
 
 pub returns-in_default-clause-locates : goal.returns-in_default-clause-locates
 returns-in_default-clause-locates g c = stopped (Memory, tt, (refl, refl)) (record { unread = refl; silent = refl })

@@ -4,6 +4,7 @@ use Rattle.blang.specs.declared.run.Outcome.TheVariants as outcome
 use Rattle.blang.specs.Machine.{image_of, machine}
 use Rattle.bsources.specs.Files.{files_shown}
 use Rattle.btools.specs.Functions.{Placed}
+use Rattle.btools.specs.Origins.{Source}
 use Rattle.btools.proofs.Functions.{data_fit}
 use Rattle.btrace.specs.RowTexts.{legend_in, legend_of}
 use Rattle.btrace.specs.Traces.{IsTrace, no_memory, not_begun, stopped, traced, unnamed, which_of}
@@ -20,7 +21,7 @@ pub watch-requires-clause-begins : goal.watch-requires-clause-begins
 watch-requires-clause-begins g c = none_traced c.in-Ok-new-2.tracer c.in-Ok-new-2.ensures.last c.in-Ok-new-2.ensures.row
 
 pub returns-in-Err-clause-traces : goal.returns-in-Err-clause-traces
-returns-in-Err-clause-traces g c = stopped (c.tell_placed.ensures.tells c.args.edition c.args.source.now c.in-Err.ensures.program) (record { unread = refl; silent = refl })
+returns-in-Err-clause-traces g c = stopped (c.tell_placed.ensures.tells (Source c.args.edition) c.args.source.now c.in-Err.ensures.program) (record { unread = refl; silent = refl })
 
 pub returns-in_default-clause-traces : goal.returns-in_default-clause-traces
 returns-in_default-clause-traces g c =

@@ -1,7 +1,7 @@
 use Rattle.std.proofs.Common.{◌∙◌, Some, ap, refl, sym}
 use Rattle.btools.specs.Functions.{placed_entry}
 use Rattle.btools.specs.ProgramLines.{lined_entry}
-use Rattle.btools.specs.declared.tables.Entry.{Entry}
+use Rattle.btools.specs.declared.tables.FunctionEntry.{FunctionEntry}
 use Rattle.btools.proofs.Searching.{with_none, with_one}
 use Rattle.btools.proofs.tables.Tables.entry.Goals as goal
 
@@ -11,9 +11,9 @@ returns-in-Some c =
     let found = c.index.result.now in
     let lies = c.in-Some.ensures in
     record {
-      function = ap (λ (e : Entry). Some (placed_entry e)) c.index.ensures
+      function = ap (λ (e : FunctionEntry). Some (placed_entry e)) c.index.ensures
           ∙ sym (with_one placed_entry (λ f. f.strings) (λ e. refl) c.args.strings es c.in-Some.place found c.args.self.now.in_order lies.0 (lies.1 found));
-      lines = ap (λ (e : Entry). Some (lined_entry e)) c.index.ensures
+      lines = ap (λ (e : FunctionEntry). Some (lined_entry e)) c.index.ensures
           ∙ sym (with_one lined_entry (λ f. f.strings) (λ e. refl) c.args.strings es c.in-Some.place found c.args.self.now.in_order lies.0 (lies.1 found));
     }
 

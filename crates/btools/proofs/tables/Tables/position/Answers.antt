@@ -1,6 +1,6 @@
 use Rattle.std.proofs.Common.{◌∙◌, ◌+◌, ◌/◌, ◌<◌, ap, arith, length, sym}
 use Rattle.std.proofs.lemmas.List.{get_or_default}
-use Rattle.btools.specs.declared.tables.Entry.{Entry}
+use Rattle.btools.specs.declared.tables.FunctionEntry.{FunctionEntry}
 use Rattle.btools.proofs.Searching.{above_all, below_all, higher, with_neither}
 use Rattle.btools.proofs.tables.Tables.position.Goals as goal
 
@@ -11,7 +11,7 @@ returns-then-entry-strings c =
     let found = c.index-entry.result.now in
     let within : place < length es = omega (arith, c.loop-size.invariant.within, c.loop-size-test.true) in (
       within,
-      λ d. ap (λ (x : Entry). x.strings) (sym (c.index-entry.ensures ∙ get_or_default es place found d within)) ∙ c.if-entry-strings.true,
+      λ d. ap (λ (x : FunctionEntry). x.strings) (sym (c.index-entry.ensures ∙ get_or_default es place found d within)) ∙ c.if-entry-strings.true,
     )
 
 pub loop-size-preserved-then-entry-strings-2 : goal.loop-size-preserved-then-entry-strings-2

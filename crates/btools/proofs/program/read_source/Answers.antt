@@ -1,6 +1,6 @@
 use Rattle.btools.proofs.KeptNames.{lines_whole, names_whole}
 use Rattle.btools.proofs.Reading.{loaded}
-use Rattle.btools.proofs.program.read_program.Goals as goal
+use Rattle.btools.proofs.program.read_source.Goals as goal
 
 pub returns-in-Ok-Ok-clause-program : goal.returns-in-Ok-Ok-clause-program
 returns-in-Ok-Ok-clause-program c =

@@ -1,0 +1,40 @@
+-- How a code text comes to be a program.
+use Rattle.std.proofs.Common.{◌≡◌, ◌∙◌, List, [], None, Result, Ok, Err, IfOk, ap, sym, subst}
+use Rattle.std.specs.Prelude.{MatchResult}
+use Rattle.bcode.proofs.FaultLaws.{unique_code}
+use Rattle.blang.specs.declared.code.Definition.{Definition}
+use Rattle.blang.specs.Layout.{load_fault}
+use Rattle.blang.specs.Text.{IsCodeText}
+use Rattle.bmach.specs.Resolved.{IsLoadedFrom}
+use Rattle.btools.specs.Origins.{HasCode, HasNoCode, HasTextLines}
+use Rattle.btools.specs.PlaceLines.{CodeText, HasPlaceLines}
+use Rattle.btools.specs.Programs.{LoadGives}
+use Rattle.btools.specs.declared.names.Names.{Names}
+use Rattle.btools.specs.declared.program.Program.{Program}
+use Rattle.btools.specs.declared.program.ProgramFault.{ProgramFault}
+use Rattle.btools.specs.declared.program.ProgramFault.TheVariants as why
+
+module _ (c : CodeText) (ds : List Definition) (is : IsCodeText c.code ds) where
+  -- definitions of a code text that are loaded
+  pub loaded : (r : Result Program ProgramFault) → LoadGives ds r → MatchResult r (λ p. HasCode c.code p.definitions.items p.image) (HasNoCode c)
+  loaded (Ok p) gives = record {
+    text = subst (IsCodeText c.code) (sym gives.0) is;
+    loads = subst (λ (x : List Definition). load_fault x ≡ None) (sym gives.0) gives.1;
+    loaded = subst (λ (x : List Definition). IsLoadedFrom x p.image) (sym gives.0) gives.2;
+  }
+  loaded (Err (why.Faulty d)) gives = absurd gives
+  loaded (Err (why.Unread n)) gives = absurd gives
+  loaded (Err (why.Unlined count)) gives = absurd gives
+  loaded (Err (why.Unloaded f)) gives = (ds, is, gives)
+  loaded (Err why.Memory) gives = tt
+
+  -- its lines, whatever definitions it is said to have
+  pub has_lines : (r : Result Program ProgramFault) (names : Names) → HasPlaceLines c ds names.lines.items → IfOk r (λ p. p.names ≡ names) → IfOk r (λ p. HasTextLines c p.names.lines.items)
+  has_lines (Ok p) names lines same = λ es text.
+      subst (λ (x : List Definition). HasPlaceLines c x p.names.lines.items) (unique_code c.code ds es is text)
+      (subst (λ (n : Names). HasPlaceLines c ds n.lines.items) (sym same) lines)
+  has_lines (Err e) names lines same = tt
+
+pub no_frames : (r : Result Program ProgramFault) (names : Names) → names.frames.items ≡ [] → IfOk r (λ p. p.names ≡ names) → IfOk r (λ p. p.names.frames.items ≡ [])
+no_frames (Ok p) names none same = ap (λ (n : Names). n.frames.items) same ∙ none
+no_frames (Err e) names none same = tt

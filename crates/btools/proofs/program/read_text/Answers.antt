@@ -1,0 +1,21 @@
+use Rattle.std.proofs.Common.{◌∙◌, List, subst, sym}
+use Rattle.bcode.specs.Faults.{IsFaultLine, IsFaultOf}
+use Rattle.blang.specs.declared.code.Definition.{Definition}
+use Rattle.btools.specs.Origins.{code_text_shown}
+use Rattle.btools.specs.PlaceLines.{HasPlaceLines}
+use Rattle.btools.proofs.Reading.{no_line}
+use Rattle.btools.proofs.ReadingText.{has_lines}
+use Rattle.btools.proofs.program.read_text.Goals as goal
+
+pub returns-in-Err-Line-clause-program : goal.returns-in-Err-Line-clause-program
+returns-in-Err-Line-clause-program c = (
+  subst (IsFaultLine c.args.text.code.now) (sym c.in-Err-Line.line-is) (subst (IsFaultOf c.args.text.code.now) c.in-Err-Line.field-0-is c.in-Err-Line.ensures.fault),
+  λ ds is. no_line c.in-Err-Line.line (sym c.in-Err-Line.field-0-is ∙ c.in-Err-Line.ensures.only ds is),
+)
+
+pub returns-clause-lines : goal.returns-clause-lines
+returns-clause-lines c =
+    let text = code_text_shown c.args.text in
+    let lines = c.in-Ok-lines_of_places.lines in
+    has_lines text c.in-Ok.definitions.items c.in-Ok.ensures.ok c.load_named.result (record { frames = c.new.result; lines = lines })
+    (subst (λ (ds : List Definition). HasPlaceLines text ds lines.items) c.deref.ensures.value c.in-Ok-lines_of_places.ensures) c.load_named.ensures.same

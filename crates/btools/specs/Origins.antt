@@ -1,0 +1,86 @@
+-- Promise: the program of a source or of a code text, or why there is none.
+use Rattle.std.specs.Prelude.{◌≡◌, ℕ, List, [], None, Some, option_map, unwrap_or}
+use Rattle.bword.specs.declared.edition.Edition.{Edition}
+use Rattle.bword.specs.ByteEnds.{Outgoing}
+use Rattle.bcode.specs.Faults.{IsFaultLine}
+use Rattle.blang.specs.declared.code.Definition.{Definition}
+use Rattle.blang.specs.declared.token.Diagnostic.{Diagnostic}
+use Rattle.blang.specs.Layout.{load_fault}
+use Rattle.blang.specs.Machine.{Image}
+use Rattle.blang.specs.Text.{IsCodeText}
+use Rattle.bmach.specs.Resolved.{IsLoadedFrom}
+use Rattle.btools.specs.FrameNames.{HasNames}
+use Rattle.btools.specs.PlaceLines.{CodeText, HasPlaceLines, places_in}
+use Rattle.btools.specs.ProgramLines.{HasLines}
+use Rattle.btools.specs.Programs.{HasNoProgram, HasProgram, TellsFault}
+use Rattle.btools.specs.declared.names.Frame.{Frame}
+use Rattle.btools.specs.declared.origin as given
+use Rattle.btools.specs.declared.origin.Origin.TheVariants as origin
+use Rattle.btools.specs.declared.program.Program.{Program}
+use Rattle.btools.specs.declared.program.ProgramFault.{ProgramFault}
+use Rattle.btools.specs.declared.program.ProgramFault.TheVariants as why
+
+-- what a program is read from: a source in an edition, or a code text
+pub data Origin : Type 0 where
+  Source : Edition → Origin
+  Code : CodeText → Origin
+
+abbrev pub code_text_shown : given.CodeText.CodeText → CodeText
+code_text_shown c = record { code = c.code.now; lines = option_map (λ file. file.now) c.lines }
+
+abbrev pub origin_shown : given.Origin.Origin → Origin
+origin_shown (origin.Source edition) = Source edition
+origin_shown (origin.Code c) = Code (code_text_shown c)
+
+-- It is the code text of these definitions, which load to this image.
+pub record HasCode (code : List ℕ) (ds : List Definition) (image : Image) : Type 0 where
+  pub text : IsCodeText code ds
+  pub loads : load_fault ds ≡ None
+  pub loaded : IsLoadedFrom ds image
+
+abbrev pub ProgramOf : Origin → (source : List ℕ) → List Definition → Image → Type 0
+ProgramOf (Source edition) source ds image = HasProgram edition source ds image
+ProgramOf (Code c) source ds image = HasCode c.code ds image
+
+-- These are the lines of the places of a code text.
+abbrev pub HasTextLines : CodeText → (lines : List ℕ) → Type 0
+HasTextLines c lines = (ds : List Definition) → IsCodeText c.code ds → HasPlaceLines c ds lines
+
+-- These are the lines of the instructions and initial values of the program.
+abbrev pub LinesOf : Origin → (source : List ℕ) → (lines : List ℕ) → Type 0
+LinesOf (Source edition) source lines = HasLines edition source lines
+LinesOf (Code c) source lines = HasTextLines c lines
+
+-- These are the names of the words of its frames; a code text has none.
+abbrev pub NamesOf : Origin → (source : List ℕ) → List Frame → Type 0
+NamesOf (Source edition) source frames = HasNames edition source frames
+NamesOf (Code c) source frames = frames ≡ []
+
+-- why a code text has no program: its first wrong line, or that its lines aren't one for each of so many places, or why
+-- it doesn't load, or that memory was refused
+abbrev pub HasNoCode : CodeText → ProgramFault → Type 0
+HasNoCode c (why.Faulty d) = ⊥
+HasNoCode c (why.Unread n) = IsFaultLine c.code n × ((ds : List Definition) → IsCodeText c.code ds → ⊥)
+HasNoCode c (why.Unlined count) =
+    (ds : List Definition) × IsCodeText c.code ds × (places_in ds ≡ count)
+    × ((lines : List ℕ) → HasPlaceLines c ds lines → ⊥)
+HasNoCode c (why.Unloaded f) = (ds : List Definition) × IsCodeText c.code ds × (load_fault ds ≡ Some f)
+HasNoCode c why.Memory = Unit {0}
+
+abbrev pub HasNoProgramOf : Origin → (source : List ℕ) → ProgramFault → Type 0
+HasNoProgramOf (Source edition) source fault = HasNoProgram edition source fault
+HasNoProgramOf (Code c) source fault = HasNoCode c fault
+
+-- there is no program, and why was told
+abbrev pub NoProgramOf : Origin → (source : List ℕ) → (lines : Diagnostic → List ℕ) → Outgoing → Outgoing
+    → (status : ℕ) → Type 0
+NoProgramOf origin source lines line line_after status =
+    (fault : ProgramFault) × HasNoProgramOf origin source fault × TellsFault lines fault line line_after status
+
+abbrev pub IsProgramOf : Origin → (source : List ℕ) → Program → Type 0
+IsProgramOf origin source p = ProgramOf origin source p.definitions.items p.image
+
+-- what stands beside the lines of a program: its source, and nothing beside the own lines of a code text
+abbrev pub beside : Origin → (source : List ℕ) → List ℕ
+beside (Source edition) source = source
+beside (Code c) source = unwrap_or (option_map (λ file. source) c.lines) []

@@ -1,0 +1,37 @@
+//! What a program is read from.
+ghost use Rattle.std.specs.Prelude.{◌≡◌};
+ghost use Rattle.btools.specs.Origins.{beside, origin_shown};
+
+use bword::Edition;
+
+/// What a program is read from.
+#[derive(Clone, Copy)]
+pub enum Origin<'a> {
+    /// A source of B, in this edition.
+    Source(Edition),
+    /// A code text, made by any compiler.
+    Code(CodeText<'a>),
+}
+
+/// A code text, and the lines that its places come from.
+#[derive(Clone, Copy)]
+pub struct CodeText<'a> {
+    pub code: &'a [u8],
+    /// A file with a number on a line of its own for each place. Without it the lines are those of the code text.
+    pub lines: Option<&'a [u8]>,
+}
+
+impl Origin<'_> {
+    /// What stands beside the lines of a program: its source, and nothing beside the own lines of a code text.
+    pub fn beside(self, source: &[u8]) -> &[u8]
+        ensures { result.now ≡ beside (origin_shown self.entry) source.now }
+    {
+        match self {
+            Origin::Source(_) => source,
+            Origin::Code(text) => match text.lines {
+                Some(_) => source,
+                None => b"",
+            },
+        }
+    }
+}
