@@ -9,6 +9,7 @@ use Rattle.blang.specs.Reports.{Reported, RunEnds}
 use Rattle.bgrammar.proofs.GoesLaws.{each_source_comes}
 use Rattle.brun.specs.OneRun.{unread}
 use Rattle.btools.specs.FaultPlaces.{fault_lines}
+use Rattle.btools.specs.Origins.{Source}
 use Rattle.btools.specs.Programs.{HasFault, HasProgram, NoProgram}
 use Rattle.btools.proofs.ProgramsExcluded as programs
 use Rattle.btools.proofs.ProgramsExcluded.{other_answer}
@@ -44,7 +45,7 @@ module _ (edition : Edition) (text : List ℕ) (d : Diagnostic) (faulty : HasFau
       the_same : {a b : Diagnostic} → Some a ≡ Some b → a ≡ b
       the_same e = cc
 
-  by_trace : (files : Files) (steps : ℕ) (shown : TraceRows) (name : Option (List ℕ)) (ends : RunEnds) → Traces edition text steps shown files name ends 1 → Writes ends.line (fault_lines files d) ends.line_after
+  by_trace : (files : Files) (steps : ℕ) (shown : TraceRows) (name : Option (List ℕ)) (ends : RunEnds) → Traces (Source edition) text steps shown files name ends 1 → Writes ends.line (fault_lines files d) ends.line_after
   by_trace files steps shown name ends (traces.traced ds image lines which result made t told has lined named watched reported tells) = absurd (no_program ds image has)
   by_trace files steps shown name ends (traces.not_begun ds image which result has named never finishes quiet) = absurd (no_program ds image has)
   by_trace files steps shown name ends (traces.unnamed ds image has unknown reported quiet) = absurd (no_program ds image has)

@@ -178,7 +178,7 @@ Answers edition files text (check for_editor) ends status =
       status = status;
     })
 Answers edition files text (trace steps shown function) ends status =
-    Traces edition text steps (traced_rows shown) files function ends status
+    Traces (Source edition) text steps (traced_rows shown) files function ends status
 Answers edition files text (locate steps) ends status = Locates edition text files steps ends status
 Answers edition files text (count steps for_editor) ends status =
     Counts (record { edition = edition; steps = steps; files = files; style = style_of for_editor }) text ends status

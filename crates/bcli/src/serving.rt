@@ -349,7 +349,15 @@ fn answer<I: ByteIn, O: ByteOut, D: ByteOut>(
                 function: walk.function,
                 files,
             };
-            trace(alloc, text, edition, wanted, input, out, diag)
+            trace(
+                alloc,
+                text,
+                Origin::Source(edition),
+                wanted,
+                input,
+                out,
+                diag,
+            )
         }
         Question::Locate(steps) => locate(alloc, text, edition, files, steps, input, out, diag),
         Question::Count(steps, for_editor) => {

@@ -1,5 +1,5 @@
 -- The place that is told of a run is the one where the machine was.
-use Rattle.std.proofs.Common.{◌≡◌, ◌∙◌, ℕ, zero, suc, ◌+◌, ◌-◌, ◌<◌, ◌≤◌, ⊎_elim, List, ◌++◌, Some, ap, arith, refl, subst, sym}
+use Rattle.std.proofs.Common.{◌≡◌, ◌∙◌, ℕ, zero, suc, ◌+◌, ◌-◌, ◌≤◌, ⊎_elim, List, ◌++◌, Some, ap, arith, refl, subst, sym}
 use Rattle.std.proofs.lemmas.Bool.{cases_order}
 use Rattle.bword.specs.declared.edition.Edition.{Edition}
 use Rattle.blang.specs.declared.code.Definition.{Definition}
@@ -7,7 +7,7 @@ use Rattle.blang.specs.declared.run.Outcome.{Outcome}
 use Rattle.blang.specs.declared.run.Outcome.TheVariants as outcome
 use Rattle.blang.specs.declared.run.Trap.{Trap}
 use Rattle.blang.specs.declared.status.TheConstants.{LIMIT, TRAP}
-use Rattle.blang.specs.Machine.{Call, Halted, Image, Running, State, Stuck, image_of, machine, machine_started, steps}
+use Rattle.blang.specs.Machine.{Halted, Image, Running, State, Stuck, image_of, machine, machine_started, steps}
 use Rattle.blang.specs.Layout.{first_world}
 use Rattle.blang.specs.Reports.{RunEnds, state_outcome}
 use Rattle.bmach.specs.Stops.{EndsAt, RunsCall, active_of}
@@ -15,7 +15,7 @@ use Rattle.bmach.specs.declared.machine.Active.{Active}
 use Rattle.bmach.proofs.Running.{steps_add}
 use Rattle.bsources.specs.Files.{Files}
 use Rattle.btrace.specs.Locates.{located_status, told_site}
-use Rattle.btrace.specs.PlacesTold.{IsLocated, PlacesTold, TellsPlaceOf}
+use Rattle.btrace.specs.PlacesTold.{PlacesTold, TellsPlaceOf}
 use Rattle.btrace.specs.RowTexts.{legend_in}
 use Rattle.btrace.proofs.TraceExcluded.{Stops, limit_is, line_in, stops_so}
 

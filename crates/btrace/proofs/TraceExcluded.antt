@@ -29,11 +29,13 @@ use Rattle.bmach.proofs.Resolving.{run-resolved}
 use Rattle.bmach.proofs.Running.{memory_unfailed}
 use Rattle.brun.proofs.RunSteps.{outcome-resolved, run_loaded}
 use Rattle.bsources.specs.Files.{Files}
+use Rattle.btools.specs.Origins.{Code, NoProgramOf, Origin, ProgramOf, Source}
 use Rattle.btools.specs.ProgramLines.{HasLines}
 use Rattle.btools.specs.Programs.{HasProgram, NoProgram, TellsEnd, nothing_written}
 use Rattle.btools.proofs.Compiled.{text_in}
+use Rattle.btools.proofs.CodesExcluded.{codes_excluded}
 use Rattle.btools.proofs.ProgramsExcluded as programs
-use Rattle.btrace.specs.TraceExcluded.{ComesAlways, IsSourceOf, LocatesExcluded, TracesExcluded, status_of}
+use Rattle.btrace.specs.TraceExcluded.{ComesAlways, IsCodeIn, IsSourceOf, LocatesExcluded, TracesExcluded, status_of}
 use Rattle.btrace.specs.Locates as locates
 use Rattle.btrace.specs.Locates.{Locates, TellsSite, located_status, told_site}
 use Rattle.btrace.specs.RowTexts.{Legend, legend_in}
@@ -42,7 +44,8 @@ use Rattle.btrace.specs.Traces.{Traces, ending_text, rows_text}
 use Rattle.btrace.specs.declared.tracing.TheConstants.{HEADING}
 use Rattle.btrace.specs.declared.trail.TraceRows.{TraceRows}
 use Rattle.bwatch.specs.Sights.{sights_of}
-use Rattle.btrace.proofs.Unasked.{by_place, by_trace}
+use Rattle.bwatch.proofs.Origins.{loaded_in}
+use Rattle.btrace.proofs.Unasked.{by_code, by_place, by_trace}
 
 module _ (files : Files) where
   some_same : {A : Type 0} (a b : A) → Some a ≡ Some b → a ≡ b
@@ -80,6 +83,16 @@ module _ (files : Files) where
         faulty : (d : Diagnostic) × (is.compilation.stop ≡ Some d) × Writes line (lines d) line_after → ⊥
         faulty f = let no : None ≡ Some f.0 = sym is.clean ∙ f.1 in cc
 
+  -- Programs of a source or of a code text.
+  only_in : (origin : Origin) (source : List ℕ) (ds : List Definition) → IsCodeIn origin source ds → (other : List Definition) (image : Image) → ProgramOf origin source other image → other ≡ ds
+  only_in (Source edition) source ds is other image p = only edition source ds is other image p
+  only_in (Code c) source ds is other image p = unique_code c.code other ds p.text is
+
+  has_program_in : (origin : Origin) (source : List ℕ) (ds : List Definition) → IsCodeIn origin source ds → (lines : Diagnostic → List ℕ) (line line_after : Outgoing) (status : ℕ) → status < 132 → NoProgramOf origin source lines line line_after status → ⊥
+  has_program_in (Source edition) source ds is lines line line_after status less none = has_program edition source ds is lines line line_after status less none
+  has_program_in (Code c) source ds is lines line line_after status less none =
+      elim ((codes_excluded.texts c source lines line line_after ds is).status status none) [ inl h ↦ omega (arith, h) | inr (inl h) ↦ omega (arith, h) | inr (inr (inl h)) ↦ omega (arith, h) | inr (inr (inr h)) ↦ omega (arith, h) ]
+
   -- what was loaded has the outcomes of its definitions
   outcome_loaded : (ds : List Definition) (image : Image) → IsLoadedFrom ds image → (input : List ℕ) (n : ℕ) → state_outcome (run image input n) ≡ state_outcome (machine ds input n)
   outcome_loaded ds image l input n = ap state_outcome (run_loaded ds image l input n ∙ run-resolved (image_of ds) input n) ∙ outcome-resolved (image_of ds) (run (image_of ds) input n)
@@ -110,30 +123,30 @@ module _ (files : Files) where
   came ds steps i j o p line line_after status less outcome.Device h f = let bad : status ≡ 133 = f.1 in absurd (omega arith)
   came ds steps i j o p line line_after status less outcome.Memory h f = let bad : status ≡ 134 = f.1 in absurd (omega arith)
 
-  module _ (edition : Edition) (source : List ℕ) (ds : List Definition) (is : IsSourceOf edition source ds) (steps : ℕ) (shown : TraceRows) (name : Option (List ℕ)) (ends : RunEnds) (status : ℕ) (less : status < 132) (starts : ComesAlways ds 0 outcome.Limit) where
-    no_beginning : (other : List Definition) (image : Image) (result : Outcome) → HasProgram edition source other image → BeginsNot image result → Finishes result ends.line ends.line_after status → ⊥
+  module _ (origin : Origin) (source : List ℕ) (ds : List Definition) (is : IsCodeIn origin source ds) (steps : ℕ) (shown : TraceRows) (name : Option (List ℕ)) (ends : RunEnds) (status : ℕ) (less : status < 132) (starts : ComesAlways ds 0 outcome.Limit) where
+    no_beginning : (other : List Definition) (image : Image) (result : Outcome) → ProgramOf origin source other image → BeginsNot image result → Finishes result ends.line ends.line_after status → ⊥
     no_beginning other image result program never f =
-        begins ds image result ends.line ends.line_after status less starts (subst (λ x. IsLoadedFrom x image) (only edition source ds is other image program) program.loaded) never f
+        begins ds image result ends.line ends.line_after status less starts (subst (λ x. IsLoadedFrom x image) (only_in origin source ds is other image program) (loaded_in origin source other image program)) never f
 
     -- a trace that was told of no refused write is followed by the line of its outcome
     finished : (text : List ℕ) (answer : ℕ) (result : Outcome) → Reported text DONE ends.out ends.out_after answer → TellsEnd answer result ends.line ends.line_after status → Writes ends.out text ends.out_after × Finishes result ends.line ends.line_after status
     finished text answer result reported (inl t) = let zero : answer ≡ 0 = t.0 in ((told text DONE ends.out ends.out_after answer (omega arith) reported).0, t.1)
     finished text answer result reported (inr t) = let same : status ≡ answer = t.2 in absurd (t.0 ((told text DONE ends.out ends.out_after answer (omega arith) reported).1))
 
-    status_told : (result : Outcome) → ComesAlways ds steps result → Traces edition source steps shown files name ends status → status ≡ status_of result
+    status_told : (result : Outcome) → ComesAlways ds steps result → Traces origin source steps shown files name ends status → status ≡ status_of result
     status_told result comes (traces.traced other image lines which r made text answer program lined named w reported tells) =
         let f = finished text answer r reported tells in
         let c = came other steps ends.input ends.input_after nothing_written (outgoing_of w.output) ends.line ends.line_after status less r w.gives f.1 in
-        let at_end = subst (λ x. state_outcome (machine x c.1.0 steps) ≡ r) (only edition source ds is other image program) c.1.1 in
+        let at_end = subst (λ x. state_outcome (machine x c.1.0 steps) ≡ r) (only_in origin source ds is other image program) c.1.1 in
         c.0 ∙ ap status_of (sym at_end ∙ comes c.1.0)
     status_told result comes (traces.not_begun other image which r program named never f quiet) = absurd (no_beginning other image r program never f)
     status_told result comes (traces.unnamed other image program unknown r quiet) =
         let bad : status ≡ 135 = (told _ WRONG_COMMAND ends.line ends.line_after status (omega arith) r).1 in absurd (omega arith)
-    status_told result comes (traces.stopped none quiet) = absurd (has_program edition source ds is _ ends.line ends.line_after status less none)
+    status_told result comes (traces.stopped none quiet) = absurd (has_program_in origin source ds is _ ends.line ends.line_after status less none)
     status_told result comes (traces.no_memory other image program still same read e) = let bad : status ≡ 134 = e in absurd (omega arith)
 
     -- a run that begins has its trace written
-    written_so : Traces edition source steps shown files name ends status → (more : List ℕ) × Writes ends.out (HEADING.now ++ more) ends.out_after
+    written_so : Traces origin source steps shown files name ends status → (more : List ℕ) × Writes ends.out (HEADING.now ++ more) ends.out_after
     written_so (traces.traced other image lines which r made text answer program lined named w reported tells) =
         let legend = legend_in other lines files in
         let sights = sights_of (image_of other).functions (machine other) (w.taken ++ []) in
@@ -145,7 +158,7 @@ module _ (files : Files) where
     written_so (traces.not_begun other image which r program named never f quiet) = absurd (no_beginning other image r program never f)
     written_so (traces.unnamed other image program unknown r quiet) =
         let bad : status ≡ 135 = (told _ WRONG_COMMAND ends.line ends.line_after status (omega arith) r).1 in absurd (omega arith)
-    written_so (traces.stopped none quiet) = absurd (has_program edition source ds is _ ends.line ends.line_after status less none)
+    written_so (traces.stopped none quiet) = absurd (has_program_in origin source ds is _ ends.line ends.line_after status less none)
     written_so (traces.no_memory other image program still same read e) = let bad : status ≡ 134 = e in absurd (omega arith)
 
   not_silent : (before more : List ℕ) → before ≡ before ++ (HEADING.now ++ more) → ⊥
@@ -167,26 +180,27 @@ module _ (files : Files) where
       by_kind end_fault.Device h e = let bad : 134 ≡ 133 = e in omega (arith, bad)
       by_kind end_fault.Memory h e = refused h.counted.0
 
-  read_told : (edition : Edition) (source : List ℕ) (steps : ℕ) (shown : TraceRows) (name : Option (List ℕ)) (ends : RunEnds) → (ends.input_after.failures ≡ ends.input.failures → ⊥) → (Grew ends.out.refusals ends.out_after.refusals → ⊥) → Traces edition source steps shown files name ends MEMORY → ⊥
-  read_told edition source steps shown name ends failed refused (traces.traced ds image lines which result made text answer program lined named w reported tells) =
+  read_told : (origin : Origin) (source : List ℕ) (steps : ℕ) (shown : TraceRows) (name : Option (List ℕ)) (ends : RunEnds) → (ends.input_after.failures ≡ ends.input.failures → ⊥) → (Grew ends.out.refusals ends.out_after.refusals → ⊥) → Traces origin source steps shown files name ends MEMORY → ⊥
+  read_told origin source steps shown name ends failed refused (traces.traced ds image lines which result made text answer program lined named w reported tells) =
       elim tells [
         | inl d ↦ read_whole ds steps ends.input ends.input_after nothing_written (outgoing_of w.output) ends.line ends.line_after result failed w.gives d.1
         | inr d ↦ cut_off text ends.out ends.out_after refused (subst (λ n. Reported text DONE ends.out ends.out_after n) (sym d.2) reported)
       ]
-  read_told edition source steps shown name ends failed refused (traces.not_begun ds image which result program named never f quiet) = failed (ap (λ (i : Incoming). i.failures) quiet.unread)
-  read_told edition source steps shown name ends failed refused (traces.unnamed ds image program unknown r quiet) = failed (ap (λ (i : Incoming). i.failures) quiet.unread)
-  read_told edition source steps shown name ends failed refused (traces.stopped none quiet) = failed (ap (λ (i : Incoming). i.failures) quiet.unread)
-  read_told edition source steps shown name ends failed refused (traces.no_memory ds image program still same read e) = failed read.no_failure
+  read_told origin source steps shown name ends failed refused (traces.not_begun ds image which result program named never f quiet) = failed (ap (λ (i : Incoming). i.failures) quiet.unread)
+  read_told origin source steps shown name ends failed refused (traces.unnamed ds image program unknown r quiet) = failed (ap (λ (i : Incoming). i.failures) quiet.unread)
+  read_told origin source steps shown name ends failed refused (traces.stopped none quiet) = failed (ap (λ (i : Incoming). i.failures) quiet.unread)
+  read_told origin source steps shown name ends failed refused (traces.no_memory ds image program still same read e) = failed read.no_failure
 
   pub excluded : TracesExcluded files
   excluded = record {
-    other_status = λ ds steps shown name result status starts comes wrong less edition source ends is h.
-        wrong (status_told edition source ds is steps shown name ends status less starts result comes h);
-    unwritten = λ ds steps shown name status less starts edition source before ends is first last h.
-        let w = written_so edition source ds is steps shown name ends status less starts h in
+    other_status = λ ds steps shown name result status starts comes wrong less origin source ends is h.
+        wrong (status_told origin source ds is steps shown name ends status less starts result comes h);
+    unwritten = λ ds steps shown name status less starts origin source before ends is first last h.
+        let w = written_so origin source ds is steps shown name ends status less starts h in
         not_silent before w.0 (wrote ends.out ends.out_after before (HEADING.now ++ w.0) before first last w.1);
-    read_failed = λ edition source steps shown name ends failed refused h. read_told edition source steps shown name ends failed refused h;
+    read_failed = λ origin source steps shown name ends failed refused h. read_told origin source steps shown name ends failed refused h;
     unasked = λ edition source r g steps shown name ends status h. by_trace edition source r g steps files ends status shown name h;
+    unasked_by_code = λ c ds is source steps shown name ends status h. by_code c ds is source steps files ends status shown name h;
   }
 
   abbrev pub line_in : Outcome → List ℕ

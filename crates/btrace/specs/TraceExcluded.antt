@@ -18,6 +18,8 @@ use Rattle.blang.specs.Reports.{RunEnds, report_text, state_outcome}
 use Rattle.blang.specs.Text.{IsCodeText}
 use Rattle.bmach.specs.Readings.{LeftBySteps}
 use Rattle.bsources.specs.Files.{Files}
+use Rattle.btools.specs.Origins.{Code, Origin, Source}
+use Rattle.btools.specs.PlaceLines.{CodeText}
 use Rattle.btools.specs.ProgramsExcluded.{code_in}
 use Rattle.btrace.specs.Locates.{Locates}
 use Rattle.btrace.specs.Traces.{Traces}
@@ -29,6 +31,11 @@ pub record IsSourceOf (edition : Edition) (source : List ℕ) (ds : List Definit
   pub goes : CompilesTo [] (tokens_from edition 1 source) compilation
   pub clean : compilation.stop ≡ None
   pub text : IsCodeText (code_text edition compilation) ds
+
+-- They are those of the source, or of the code text.
+abbrev pub IsCodeIn : Origin → (source : List ℕ) → List Definition → Type 0
+IsCodeIn (Source edition) source ds = IsSourceOf edition source ds
+IsCodeIn (Code c) source ds = IsCodeText c.code ds
 
 abbrev pub function : List ℕ → List Instr → Definition
 function name code = definition.Function (record {
@@ -106,23 +113,28 @@ module _ (files : Files) where
     -- another status than that of the machine after just so many steps, as the limit for a trap
     pub other_status : (ds : List Definition) (steps : ℕ) (shown : TraceRows) (name : Option (List ℕ)) (result : Outcome)
         (status : ℕ) → ComesAlways ds 0 outcome.Limit → ComesAlways ds steps result → (status ≡ status_of result → ⊥)
-        → status < REFUSED → (edition : Edition) (source : List ℕ) (ends : RunEnds) → IsSourceOf edition source ds
-        → Traces edition source steps shown files name ends status → ⊥
+        → status < REFUSED → (origin : Origin) (source : List ℕ) (ends : RunEnds) → IsCodeIn origin source ds
+        → Traces origin source steps shown files name ends status → ⊥
     -- the status of a run whose trace was not written
     pub unwritten : (ds : List Definition) (steps : ℕ) (shown : TraceRows) (name : Option (List ℕ))
-        (status : ℕ) → status < REFUSED → ComesAlways ds 0 outcome.Limit → (edition : Edition)
-        → (source before : List ℕ) (ends : RunEnds) → IsSourceOf edition source ds → ends.out.written ≡ Some before
-        → ends.out_after.written ≡ Some before → Traces edition source steps shown files name ends status → ⊥
+        (status : ℕ) → status < REFUSED → ComesAlways ds 0 outcome.Limit → (origin : Origin)
+        → (source before : List ℕ) (ends : RunEnds) → IsCodeIn origin source ds → ends.out.written ≡ Some before
+        → ends.out_after.written ≡ Some before → Traces origin source steps shown files name ends status → ⊥
     -- want of memory told where a read failed and no write was refused memory
-    pub read_failed : (edition : Edition) (source : List ℕ) (steps : ℕ) (shown : TraceRows)
+    pub read_failed : (origin : Origin) (source : List ℕ) (steps : ℕ) (shown : TraceRows)
         (name : Option (List ℕ)) (ends : RunEnds) → (ends.input_after.failures ≡ ends.input.failures → ⊥)
         → (Grew ends.out.refusals ends.out_after.refusals → ⊥)
-        → Traces edition source steps shown files name ends MEMORY → ⊥
+        → Traces origin source steps shown files name ends MEMORY → ⊥
     -- whatever the status, as where memory was refused: a byte taken that no step asked for
     pub unasked : (edition : Edition) (source : List ℕ) (r : Compilation)
         (g : CompilesTo [] (tokens_from edition 1 source) r) (steps : ℕ) (shown : TraceRows)
-        (name : Option (List ℕ)) (ends : RunEnds) (status : ℕ) → Traces edition source steps shown files name ends status
+        (name : Option (List ℕ)) (ends : RunEnds) (status : ℕ)
+        → Traces (Source edition) source steps shown files name ends status
         → LeftBySteps (machine (code_in edition source r g)) steps ends.input ends.input_after
+    pub unasked_by_code : (c : CodeText) (ds : List Definition) → IsCodeText c.code ds → (source : List ℕ) (steps : ℕ)
+        (shown : TraceRows) (name : Option (List ℕ)) (ends : RunEnds) (status : ℕ)
+        → Traces (Code c) source steps shown files name ends status
+        → LeftBySteps (machine ds) steps ends.input ends.input_after
 
   -- no run of a program has this text of lines and this status
   abbrev pub NoPlace : List Definition → (steps status : ℕ) → List ℕ → Type 0

@@ -1,12 +1,16 @@
 -- Closed facts: the trace of small programs, and what is told of where their runs are over.
-use Rattle.std.specs.Prelude.{◌≡◌, ℕ, List, [], ◌∷◌, ◌++◌, Option, Some, None, codes, refl, replicate}
+use Rattle.std.specs.Prelude.{◌≡◌, ℕ, List, [], ◌∷◌, ◌++◌, Option, Some, None, codes, decimal, map, refl, replicate}
 use Rattle.std.specs.Fmt.{digits}
+use Rattle.bword.specs.declared.edition.Edition.TheVariants as editions
 use Rattle.blang.specs.declared.code.Definition.{Definition}
 use Rattle.blang.specs.declared.run.Outcome.{Outcome}
 use Rattle.blang.specs.declared.run.Outcome.TheVariants as outcome
 use Rattle.blang.specs.declared.run.Trap.TheVariants as trap
 use Rattle.blang.specs.Machine.{image_of, machine}
+use Rattle.blang.specs.Text.{code_lines, joined}
 use Rattle.bsources.specs.Files.{Files}
+use Rattle.btools.specs.PlaceLines.{HasPlaceLines}
+use Rattle.btools.specs.SourceLines.{source_lines}
 use Rattle.bwatch.specs.Sights.{Sights, end_sight, sights_of}
 use Rattle.btrace.specs.RowTexts.{legend_in, margin}
 use Rattle.btrace.specs.TraceExcluded.{calling, nothing, passing, reading, storing, trapping, writing}
@@ -67,6 +71,32 @@ halted : under_heading nothing (1 ∷ 2 ∷ []) (asked (rows.From 1) None) 2 (ou
     ≡ codes "       1  main         0     1  c 0         \n" ++ codes "       2  main         1     2  r            0\n"
 unfolding digits
 halted = refl
+
+-- a code text: each row has its line there, or the one of the author's that the file of lines has for its place
+abbrev code_of_nothing : List ℕ
+code_of_nothing = codes "B 2\nF main 0 0 0 0 2\nc 0\nr\nE\n"
+
+nothing_is_spelled_so : code_of_nothing ≡ joined (code_lines editions.Two nothing)
+unfolding digits
+nothing_is_spelled_so = refl
+
+lines_of_code : HasPlaceLines (record { code = code_of_nothing; lines = None }) nothing (3 ∷ 4 ∷ [])
+lines_of_code = refl
+
+told_by_code : under_heading nothing (3 ∷ 4 ∷ []) (asked (rows.From 1) None) 2 (outcome.Exit 0)
+    ≡ codes "       1  main         0     3  c 0         \n" ++ codes "       2  main         1     4  r            0\n"
+unfolding digits
+told_by_code = refl
+
+lines_of_author : source_lines (codes "7\n12\n") ≡ map decimal (7 ∷ 12 ∷ []) ++ [] ∷ []
+unfolding digits
+lines_of_author = refl
+
+told_by_author : under_heading nothing (7 ∷ 12 ∷ []) (asked (rows.From 1) None) 2 (outcome.Exit 0)
+    ≡ codes "       1  main         0     7  c 0         \n"
+    ++ codes "       2  main         1     3 of l.b  r            0\n"
+unfolding digits
+told_by_author = refl
 
 -- a byte that was written, and a word that was stored
 byte_written : rows_text (legend_in writing (1 ∷ 1 ∷ 2 ∷ 3 ∷ []) some_files) (asked (rows.From 4) None) (sights writing) 4

@@ -1,23 +1,21 @@
--- Promise: what comes of a source whose steps are written.
+-- Promise: what comes of a program whose steps are written.
 use Rattle.std.specs.Prelude.{◌≡◌, ℕ, ◌+◌, ◌-◌, ◌==◌, ◌&&◌, Bool, true, false, List, [], ◌++◌, Option, Some, None}
 use Rattle.std.specs.Prelude.{codes, drop, filter, length, nat_le, option_map, refl, if◌then◌else◌}
 use Rattle.std.specs.List.{flat_map, range_with_len}
 use Rattle.std.specs.Option.{option_map_or}
-use Rattle.bword.specs.declared.edition.Edition.{Edition}
 use Rattle.blang.specs.declared.code.Definition.{Definition}
 use Rattle.blang.specs.declared.status.TheConstants.{DONE, MEMORY, WRONG_COMMAND}
 use Rattle.blang.specs.Machine.{Image, image_of, machine}
 use Rattle.blang.specs.Reports.{Finishes, HasNotRun, Reported, RunEnds}
 use Rattle.bmach.specs.Readings.{ReadBySteps}
 use Rattle.bmach.specs.Stepping.{BeginsNot}
-use Rattle.bmach.specs.Stored.{stored}
 use Rattle.blang.specs.declared.run.Outcome.{Outcome}
 use Rattle.blang.specs.declared.run.Outcome.TheVariants as outcome
 use Rattle.bmach.specs.declared.machine.Active.{Active}
 use Rattle.btools.specs.FaultPlaces.{fault_lines}
 use Rattle.btools.specs.Functions.{Placed, function_named, functions_of}
-use Rattle.btools.specs.ProgramLines.{HasLines}
-use Rattle.btools.specs.Programs.{HasProgram, NoProgram, TellsEnd}
+use Rattle.btools.specs.Origins.{LinesOf, NoProgramOf, Origin, ProgramOf}
+use Rattle.btools.specs.Programs.{TellsEnd}
 use Rattle.bsources.specs.Files.{Files}
 use Rattle.bwatch.specs.Sights.{Sight, Sights}
 use Rattle.bwatch.specs.Watches.{Watches}
@@ -105,30 +103,30 @@ trace_text legend which sights made result =
 abbrev pub IsTrace : Legend → Which → (text : List ℕ) → Sights → (made : ℕ) → Outcome → Type 0
 IsTrace legend which text sights made result = text ≡ trace_text legend which sights made result
 
--- The program of the source was run for so many steps at most, as the machine runs it, and its trace written; or it
+-- The program of this origin was run for so many steps at most, as the machine runs it, and its trace written; or it
 -- did not begin; or no function has the name, and that was told; or there is no program, and why was told; or memory
 -- was refused, and nothing was written, or read but by some of its steps.
-pub data Traces (edition : Edition) (source : List ℕ) (steps : ℕ) (shown : TraceRows) (files : Files)
+pub data Traces (origin : Origin) (source : List ℕ) (steps : ℕ) (shown : TraceRows) (files : Files)
     (name : Option (List ℕ)) (ends : RunEnds) (status : ℕ) : Type 0 where
   traced : (ds : List Definition) (image : Image) (lines : List ℕ) (which : Which) (result : Outcome) (made : ℕ)
-      (text : List ℕ) (told : ℕ) → HasProgram edition source ds image → HasLines edition source lines
+      (text : List ℕ) (told : ℕ) → ProgramOf origin source ds image → LinesOf origin source lines
       → which_of (functions_of ds) shown name ≡ Some which
       → Watches (image_of ds).functions (machine ds) steps ends.input ends.input_after result made
       (IsTrace (legend_in ds lines files) which text)
       → Reported text DONE ends.out ends.out_after told → TellsEnd told result ends.line ends.line_after status
-      → Traces edition source steps shown files name ends status
+      → Traces origin source steps shown files name ends status
   not_begun : (ds : List Definition) (image : Image) (which : Which) (result : Outcome)
-      → HasProgram edition source ds image
+      → ProgramOf origin source ds image
       → which_of (functions_of ds) shown name ≡ Some which → BeginsNot image result
       → Finishes result ends.line ends.line_after status → HasNotRun ends
-      → Traces edition source steps shown files name ends status
-  unnamed : (ds : List Definition) (image : Image) → HasProgram edition source ds image
+      → Traces origin source steps shown files name ends status
+  unnamed : (ds : List Definition) (image : Image) → ProgramOf origin source ds image
       → which_of (functions_of ds) shown name ≡ None
       → Reported UNNAMED.now WRONG_COMMAND ends.line ends.line_after status → HasNotRun ends
-      → Traces edition source steps shown files name ends status
-  stopped : NoProgram edition source (fault_lines files) ends.line ends.line_after status → HasNotRun ends
-      → Traces edition source steps shown files name ends status
-  no_memory : (ds : List Definition) (image : Image) → HasProgram edition source ds image
+      → Traces origin source steps shown files name ends status
+  stopped : NoProgramOf origin source (fault_lines files) ends.line ends.line_after status → HasNotRun ends
+      → Traces origin source steps shown files name ends status
+  no_memory : (ds : List Definition) (image : Image) → ProgramOf origin source ds image
       → ends.line_after ≡ ends.line → ends.out_after ≡ ends.out
       → ReadBySteps (machine ds) steps ends.input ends.input_after → status ≡ MEMORY
-      → Traces edition source steps shown files name ends status
+      → Traces origin source steps shown files name ends status

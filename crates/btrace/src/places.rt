@@ -107,9 +107,5 @@ fn push_words<S: Store + Drop>(
 fn push_if(text: &mut Text, is_wanted: bool, bytes: &[u8]) -> Result<(), AllocError>
     ensures { OnOk result (text.new ≡ text.old ++ (if is_wanted then bytes.now else [])) }
 {
-    if is_wanted {
-        text.push(bytes)
-    } else {
-        text.push(b"")
-    }
+    if is_wanted { text.push(bytes) } else { Ok(()) }
 }

@@ -3,6 +3,7 @@ ghost use Rattle.std.specs.Prelude.{◌≡◌, option_map};
 ghost use Rattle.blang.specs.Reports.{run_ends};
 ghost use Rattle.bsources.specs.Files.{Files, files_shown};
 ghost use Rattle.btools.specs.Functions.{entries_of};
+ghost use Rattle.btools.specs.Origins.{origin_shown};
 ghost use Rattle.btrace.specs.TraceExcluded.{TracesExcluded};
 ghost use Rattle.btrace.specs.Traces.{Traces, which_of};
 
@@ -15,7 +16,7 @@ use brun::finish;
 use bsources::SourceFiles;
 use btools::{Origin, Tables, read_program, tell, tell_placed};
 use bwatch::{Watched, watch};
-use bword::{ByteIn, ByteOut, Edition};
+use bword::{ByteIn, ByteOut};
 use std::alloc::Global;
 
 /// The columns of a trace.
@@ -37,27 +38,27 @@ pub struct TraceRequest<'a> {
     pub files: SourceFiles<'a>,
 }
 
-/// Compiles a source, runs its program for at most so many steps, and writes each step when the run is over.
+/// Runs a program for at most so many steps, and writes each step when the run is over.
 ///
 /// The status and the line are those of `go_edition`, but all output goes into the trace. If no function has the name, a
 /// line says so, and the status is 135. If the run is out of memory, nothing is written.
 pub fn trace<I: ByteIn, O: ByteOut, D: ByteOut>(
     alloc: Global,
     source: &[u8],
-    edition: Edition,
+    origin: Origin<'_>,
     wanted: TraceRequest<'_>,
     input: &mut I,
     out: &mut O,
     diag: &mut D,
 ) -> Status
-    ensures traces { Traces edition source.now wanted.entry.steps wanted.entry.rows (files_shown wanted.entry.files) (option_map (λ n. n.now) wanted.entry.function) (run_ends
+    ensures traces { Traces (origin_shown origin.entry) source.now wanted.entry.steps wanted.entry.rows (files_shown wanted.entry.files) (option_map (λ n. n.now) wanted.entry.function) (run_ends
         (I.incoming input.old) (I.incoming input.new) (O.outgoing out.old) (O.outgoing out.new)
         (D.outgoing diag.old) (D.outgoing diag.new)) result }
     ensures input_lender { I.lender input.new ≡ I.lender input.old }
     ensures out_lender { O.lender out.new ≡ O.lender out.old }
     ensures diag_lender { D.lender diag.new ≡ D.lender diag.old }
 {
-    let program = match read_program(alloc, source, Origin::Source(edition)) {
+    let program = match read_program(alloc, source, origin) {
         Ok(program) => program,
         Err(fault) => return tell_placed(alloc, &fault, wanted.files, diag),
     };

@@ -4,24 +4,31 @@ use Rattle.blang.specs.declared.run.Outcome.TheVariants as outcome
 use Rattle.blang.specs.Machine.{image_of, machine}
 use Rattle.bsources.specs.Files.{files_shown}
 use Rattle.btools.specs.Functions.{Placed}
-use Rattle.btools.specs.Origins.{Source}
+use Rattle.btools.specs.Origins.{origin_shown}
 use Rattle.btools.proofs.Functions.{data_fit}
 use Rattle.btrace.specs.RowTexts.{legend_in, legend_of}
 use Rattle.btrace.specs.Traces.{IsTrace, no_memory, not_begun, stopped, traced, unnamed, which_of}
 use Rattle.btrace.specs.Trails.{trail_text}
 use Rattle.bmach.proofs.Readings.{none_at_first}
+use Rattle.bwatch.proofs.Origins.{loaded_in, loads_in}
 use Rattle.bwatch.proofs.Seen.{told_so}
 use Rattle.btrace.proofs.Traced.{none_traced, traced_so}
 use Rattle.btrace.proofs.tracing.trace.Goals as goal
 
 pub new-requires : goal.new-requires
-new-requires g c = data_fit c.in-Ok.program.definitions.items c.in-Ok.ensures.program.loads
+new-requires g c =
+    let ds = c.in-Ok.program.definitions.items in
+    data_fit ds (loads_in (origin_shown c.args.origin) c.args.source.now ds c.in-Ok.program.image c.in-Ok.ensures.program)
+
+pub watch-requires-clause-loaded : goal.watch-requires-clause-loaded
+watch-requires-clause-loaded g c =
+    loaded_in (origin_shown c.args.origin) c.args.source.now c.in-Ok.program.definitions.items c.in-Ok.program.image c.in-Ok.ensures.program
 
 pub watch-requires-clause-begins : goal.watch-requires-clause-begins
 watch-requires-clause-begins g c = none_traced c.in-Ok-new-2.tracer c.in-Ok-new-2.ensures.last c.in-Ok-new-2.ensures.row
 
 pub returns-in-Err-clause-traces : goal.returns-in-Err-clause-traces
-returns-in-Err-clause-traces g c = stopped (c.tell_placed.ensures.tells (Source c.args.edition) c.args.source.now c.in-Err.ensures.program) (record { unread = refl; silent = refl })
+returns-in-Err-clause-traces g c = stopped (c.tell_placed.ensures.tells (origin_shown c.args.origin) c.args.source.now c.in-Err.ensures.program) (record { unread = refl; silent = refl })
 
 pub returns-in_default-clause-traces : goal.returns-in_default-clause-traces
 returns-in_default-clause-traces g c =
