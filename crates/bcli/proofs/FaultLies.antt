@@ -9,7 +9,7 @@ use Rattle.blang.specs.Reports.{Reported, RunEnds}
 use Rattle.bgrammar.proofs.GoesLaws.{each_source_comes}
 use Rattle.brun.specs.OneRun.{unread}
 use Rattle.btools.specs.FaultPlaces.{fault_lines}
-use Rattle.btools.specs.Origins.{Source}
+use Rattle.btools.specs.Origins.{NoProgramOf, ProgramOf, Source}
 use Rattle.btools.specs.Programs.{HasFault, HasProgram, NoProgram}
 use Rattle.btools.proofs.ProgramsExcluded as programs
 use Rattle.btools.proofs.ProgramsExcluded.{other_answer}
@@ -58,12 +58,12 @@ module _ (edition : Edition) (text : List ℕ) (d : Diagnostic) (faulty : HasFau
   by_place files steps ends (locates.not_begun ds image result has never finishes quiet) = absurd (no_program ds image has)
   by_place files steps ends (locates.stopped why quiet) = why_told files ends.line ends.line_after why
 
-  by_count : (asked : Counting) → asked.edition ≡ edition → (ends : RunEnds) → Counts asked text ends 1 → Writes ends.line (fault_lines asked.files d) ends.line_after
-  by_count asked same ends (counts.counted ds image result made tallies lines told has watched own reported tells) = absurd (no_program ds image (subst (λ e. HasProgram e text ds image) same has))
+  by_count : (asked : Counting) → asked.origin ≡ Source edition → (ends : RunEnds) → Counts asked text ends 1 → Writes ends.line (fault_lines asked.files d) ends.line_after
+  by_count asked same ends (counts.counted ds image result made tallies lines told has watched own reported tells) = absurd (no_program ds image (subst (λ o. ProgramOf o text ds image) same has))
   by_count asked same ends (counts.unread ds image output has still gives quiet answer) = absurd (omega (arith, answer))
-  by_count asked same ends (counts.not_begun ds image result has never finishes quiet) = absurd (no_program ds image (subst (λ e. HasProgram e text ds image) same has))
+  by_count asked same ends (counts.not_begun ds image result has never finishes quiet) = absurd (no_program ds image (subst (λ o. ProgramOf o text ds image) same has))
   by_count asked same ends (counts.stopped why quiet) =
-      why_told asked.files ends.line ends.line_after (subst (λ e. NoProgram e text (fault_lines asked.files) ends.line ends.line_after 1) same why)
+      why_told asked.files ends.line ends.line_after (subst (λ o. NoProgramOf o text (fault_lines asked.files) ends.line ends.line_after 1) same why)
   by_count asked same ends (counts.no_memory ds image has still quiet read answer) = absurd (omega (arith, answer))
 
   by_page : (asked : Asked) (ends : RunEnds) → Shows edition text asked ends 1 → Writes ends.line (fault_lines asked.files d) ends.line_after

@@ -181,7 +181,7 @@ Answers edition files text (trace steps shown function) ends status =
     Traces (Source edition) text steps (traced_rows shown) files function ends status
 Answers edition files text (locate steps) ends status = Locates edition text files steps ends status
 Answers edition files text (count steps for_editor) ends status =
-    Counts (record { edition = edition; steps = steps; files = files; style = style_of for_editor }) text ends status
+    Counts (record { origin = Source edition; steps = steps; files = files; style = style_of for_editor }) text ends status
 Answers edition files text (show steps shown input) ends status =
     ShowsRun edition files text steps (traced_rows shown) input ends status
 Answers edition files text (format is_check) ends status = (ends.input_after ≡ ends.input) × Formats (record {

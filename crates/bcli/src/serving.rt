@@ -362,7 +362,7 @@ fn answer<I: ByteIn, O: ByteOut, D: ByteOut>(
         Question::Locate(steps) => locate(alloc, text, edition, files, steps, input, out, diag),
         Question::Count(steps, for_editor) => {
             let counting = Counting {
-                edition,
+                origin: Origin::Source(edition),
                 steps,
                 files,
                 style: style_of(for_editor),

@@ -1,5 +1,6 @@
 -- What no counts are.
-use Rattle.std.proofs.Common.{◌≡◌, ◌∙◌, ℕ, zero, suc, List, [], ◌∷◌, ◌++◌, ap, arith, map, refl}
+use Rattle.std.proofs.Common.{◌≡◌, ◌∙◌, ℕ, zero, suc, List, [], ◌∷◌, ◌++◌, ap, arith, map, refl, subst}
+use Rattle.bword.specs.declared.edition.Edition.{Edition}
 use Rattle.bword.specs.ByteEnds.{Incoming, outgoing_of}
 use Rattle.blang.specs.declared.code.Definition.{Definition}
 use Rattle.blang.specs.declared.run.Outcome.{Outcome}
@@ -9,9 +10,13 @@ use Rattle.blang.specs.Compiles.{Compilation, CompilesTo}
 use Rattle.blang.specs.Cut.{tokens_from}
 use Rattle.blang.specs.Reports.{RunEnds}
 use Rattle.blang.specs.Machine.{image_of, machine}
+use Rattle.blang.specs.Text.{IsCodeText}
+use Rattle.bcode.proofs.FaultLaws.{unique_code}
 use Rattle.bmach.specs.Readings.{LeftBySteps}
-use Rattle.bmach.proofs.Readings.{left_by, run_left}
+use Rattle.bmach.proofs.Readings.{left_by, none_at_first, run_left}
 use Rattle.btools.specs.Functions.{Placed, functions_of}
+use Rattle.btools.specs.Origins.{Code, Source}
+use Rattle.btools.specs.PlaceLines.{CodeText}
 use Rattle.btools.specs.ProgramsExcluded.{code_in}
 use Rattle.btools.specs.Programs.{nothing_written}
 use Rattle.btools.proofs.Unasked.{program_left, untaken}
@@ -52,20 +57,36 @@ read_lost asked source ends status failed (count.not_begun ds image result progr
 read_lost asked source ends status failed (count.stopped none quiet) = absurd (failed (ap (λ (i : Incoming). i.failures) quiet.unread))
 read_lost asked source ends status failed (count.no_memory ds image program still same read answer) = absurd (failed read.no_failure)
 
-module _ (asked : Asked) (source : List ℕ) (r : Compilation) (g : CompilesTo [] (tokens_from asked.edition 1 source) r) (ends : RunEnds) (status : ℕ) where
+module _ (edition : Edition) (source : List ℕ) (r : Compilation) (g : CompilesTo [] (tokens_from edition 1 source) r) (asked : Asked) (ends : RunEnds) (status : ℕ) where
   -- what was read of the input was asked for
-  was_asked : Counts asked source ends status → LeftBySteps (machine (code_in asked.edition source r g)) asked.steps ends.input ends.input_after
+  was_asked : Counts (record asked { origin = Source edition }) source ends status → LeftBySteps (machine (code_in edition source r g)) asked.steps ends.input ends.input_after
   was_asked (count.counted ds image result made tallies lines told has counts own reported tells) =
-      program_left asked.edition source r g asked.steps ends.input ends.input_after ds image has
+      program_left edition source r g asked.steps ends.input ends.input_after ds image has
       (run_left (machine ds) asked.steps ends.input ends.input_after nothing_written (outgoing_of counts.output) result counts.gives)
   was_asked (count.unread ds image output has still gives same answer) =
-      program_left asked.edition source r g asked.steps ends.input ends.input_after ds image has
+      program_left edition source r g asked.steps ends.input ends.input_after ds image has
       (run_left (machine ds) asked.steps ends.input ends.input_after nothing_written (outgoing_of output) outcome.Device gives)
-  was_asked (count.not_begun ds image result has never told quiet) = untaken asked.edition source r g asked.steps ends.input ends.input_after quiet.unread
-  was_asked (count.stopped none quiet) = untaken asked.edition source r g asked.steps ends.input ends.input_after quiet.unread
+  was_asked (count.not_begun ds image result has never told quiet) = untaken edition source r g asked.steps ends.input ends.input_after quiet.unread
+  was_asked (count.stopped none quiet) = untaken edition source r g asked.steps ends.input ends.input_after quiet.unread
   was_asked (count.no_memory ds image has still same read answer) =
-      program_left asked.edition source r g asked.steps ends.input ends.input_after ds image has
+      program_left edition source r g asked.steps ends.input ends.input_after ds image has
       (left_by (machine ds) asked.steps ends.input ends.input_after read)
+
+module _ (c : CodeText) (ds : List Definition) (is : IsCodeText c.code ds) (source : List ℕ) (asked : Asked) (ends : RunEnds) (status : ℕ) where
+  untaken_by_code : ends.input_after ≡ ends.input → LeftBySteps (machine ds) asked.steps ends.input ends.input_after
+  untaken_by_code still = left_by (machine ds) asked.steps ends.input ends.input_after (none_at_first (image_of ds) asked.steps ends.input ends.input_after still)
+
+  left_by_code : (other : List Definition) → IsCodeText c.code other → LeftBySteps (machine other) asked.steps ends.input ends.input_after → LeftBySteps (machine ds) asked.steps ends.input ends.input_after
+  left_by_code other has = subst (λ (x : List Definition). LeftBySteps (machine x) asked.steps ends.input ends.input_after) (unique_code c.code other ds has is)
+
+  asked_by_code : Counts (record asked { origin = Code c }) source ends status → LeftBySteps (machine ds) asked.steps ends.input ends.input_after
+  asked_by_code (count.counted other image result made tallies lines told has counts own reported tells) =
+      left_by_code other has.text (run_left (machine other) asked.steps ends.input ends.input_after nothing_written (outgoing_of counts.output) result counts.gives)
+  asked_by_code (count.unread other image output has still gives same answer) =
+      left_by_code other has.text (run_left (machine other) asked.steps ends.input ends.input_after nothing_written (outgoing_of output) outcome.Device gives)
+  asked_by_code (count.not_begun other image result has never told quiet) = untaken_by_code quiet.unread
+  asked_by_code (count.stopped none quiet) = untaken_by_code quiet.unread
+  asked_by_code (count.no_memory other image has still same read answer) = left_by_code other has.text (left_by (machine other) asked.steps ends.input ends.input_after read)
 
 pub excluded : CountsExcluded
 excluded = record {
@@ -74,4 +95,5 @@ excluded = record {
   last_step = λ i j made other h. at_end made i j other h;
   read_failed = read_lost;
   unasked = was_asked;
+  unasked_by_code = asked_by_code;
 }

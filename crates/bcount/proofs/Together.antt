@@ -1,21 +1,23 @@
 -- The steps of all lines together are those that were made.
-use Rattle.std.proofs.Common.{◌≡◌, ◌≢◌, ◌∙◌, ⊎_elim, ℕ, ◌+◌, ◌<◌, ◌≤◌, List, [], ◌++◌, ap, arith, length, map, refl, subst, sym}
+use Rattle.std.proofs.Common.{◌≡◌, ◌≢◌, ◌∙◌, ⊎_elim, ℕ, zero, suc, ◌+◌, ◌-◌, ◌<◌, ◌≤◌, List, [], ◌++◌, ap, arith, length, map, refl, subst, sym}
 use Rattle.std.specs.List.{flat_map, sum_by}
 use Rattle.std.proofs.lemmas.Option.{slice_get_cases}
 use Rattle.bword.specs.declared.edition.Edition.{Edition}
 use Rattle.blang.specs.Code.{code_of}
 use Rattle.blang.specs.Layout.{Ending, Exited, Trapped, World, first_world, load_fault}
-use Rattle.blang.specs.Machine.{Call, Halted, Image, Loaded, Running, State, Stuck, act_if, image_of, machine, machine_started}
+use Rattle.blang.specs.Machine.{Call, Halted, Image, Loaded, Running, State, Stuck, act_if, image_of, machine, machine_started, steps}
 use Rattle.blang.specs.Reports.{state_outcome}
 use Rattle.blang.specs.Trees as trees
 use Rattle.blang.specs.declared.code.Definition.{Definition}
 use Rattle.blang.specs.declared.run.Outcome.{Outcome}
 use Rattle.blang.specs.declared.run.Outcome.TheVariants as outcome
+use Rattle.blang.specs.declared.run.Trap.TheVariants as trap
 use Rattle.bgrammar.proofs.GoesLaws.{each_source_comes}
-use Rattle.bmach.proofs.Running.{one_more}
+use Rattle.bmach.proofs.Running.{one_more, steps_add}
 use Rattle.bmean.proofs.LawProofs.{code_agrees}
 use Rattle.brun.proofs.MeantSteps.{halted_later}
 use Rattle.btools.specs.Functions.{functions_of}
+use Rattle.btools.specs.Origins.{Code, Origin, ProgramOf, Source}
 use Rattle.btools.specs.Programs.{HasProgram}
 use Rattle.bmach.specs.Stops.{active_of}
 use Rattle.bwatch.specs.Sights.{Sights, sight_of, sights_of}
@@ -24,7 +26,7 @@ use Rattle.bcount.proofs.Counted.{counts_are, not_unread}
 use Rattle.bcount.specs.Counts.{counted_of}
 use Rattle.bcount.specs.SourceLines.{last_line}
 use Rattle.bcount.specs.Tallies.{counts_of}
-use Rattle.bcount.specs.Together.{StepsAddUp}
+use Rattle.bcount.specs.Together.{LacksNone, StepsAddUp}
 use Rattle.bcount.specs.declared.lines.Counted.{Counted}
 use Rattle.bcount.proofs.Addresses.{ascend, is_placed}
 use Rattle.bcount.proofs.AllLines.{lines_together}
@@ -53,8 +55,34 @@ module _ (edition : Edition) (source : List ℕ) (ds : List Definition) (image :
       let loads = ap load_fault compiled.code_is ∙ is.loads in
       (code_agrees compiled.definitions loads input).never_stuck n w (ap (λ cs. machine cs input n) compiled.code_is ∙ e)
 
--- A machine that is never stuck is at an instruction of the program before each step.
-module _ (ds : List Definition) (input : List ℕ) (unstuck : (n : ℕ) (w : World) → machine ds input n ≢ Stuck w) where
+-- A machine that is stuck stays so.
+steps-Stuck : (image : Image) (n : ℕ) (w : World) → steps image n (Stuck w) ≡ Stuck w
+steps-Stuck image zero w = refl
+steps-Stuck image (suc n) w = steps-Stuck image n w
+
+stuck_later : (ds : List Definition) (input : List ℕ) (n m : ℕ) (w : World) → n ≤ m → machine ds input n ≡ Stuck w → machine ds input m ≡ Stuck w
+stuck_later ds input n m w le stuck =
+    let image = image_of ds in
+    let start = machine_started image image.main (first_world image input) in
+    let k : n + (m - n) ≡ m = omega (arith, le) in
+    ap (λ j. steps image j start) (sym k) ∙ steps_add image n (m - n) start ∙ ap (steps image (m - n)) stuck ∙ steps-Stuck image (m - n) w
+
+-- One whose run isn't over for want of an instruction or an operand was not stuck before.
+ends_stuck : (states : ℕ → State) (made steps : ℕ) (result : Outcome) (left : List ℕ) (w : World) → EndsAfter states made steps result left → (result ≡ outcome.Device → ⊥) → states made ≡ Stuck w → result ≡ outcome.Trap trap.Stuck
+ends_stuck states made steps (outcome.Exit status) left w h read stuck = sym h.3 ∙ ap state_outcome stuck
+ends_stuck states made steps (outcome.Trap kind) left w h read stuck = sym h.3 ∙ ap state_outcome stuck
+ends_stuck states made steps outcome.Limit left w h read stuck = sym h.1 ∙ ap state_outcome stuck
+ends_stuck states made steps outcome.Device left w h read stuck = absurd (read refl)
+ends_stuck states made steps outcome.Memory left w h read stuck = absurd h
+
+not_stuck : (origin : Origin) (source : List ℕ) (ds : List Definition) (image : Image) → ProgramOf origin source ds image → (result : Outcome) → LacksNone origin result → (input : List ℕ) (made steps : ℕ) (left : List ℕ)
+    → EndsAfter (machine ds input) made steps result left → (result ≡ outcome.Device → ⊥) → (n : ℕ) → n ≤ made → (w : World) → machine ds input n ≢ Stuck w
+not_stuck (Source edition) source ds image is result whole input made steps left h read n le w stuck = never_stuck edition source ds image is input n w stuck
+not_stuck (Code c) source ds image is result whole input made steps left h read n le w stuck =
+    whole (ends_stuck (machine ds input) made steps result left w h read (stuck_later ds input n made w le stuck))
+
+-- A machine that isn't stuck after so many steps is at an instruction of the program before each of them.
+module _ (ds : List Definition) (input : List ℕ) (made : ℕ) (unstuck : (n : ℕ) → n ≤ made → (w : World) → machine ds input n ≢ Stuck w) where
   abbrev states : ℕ → State
   states n = machine ds input n
 
@@ -64,55 +92,57 @@ module _ (ds : List Definition) (input : List ℕ) (unstuck : (n : ℕ) (w : Wor
   abbrev sights : Sights
   sights = sights_of fns (machine ds) input
 
-  runs_before : (m n : ℕ) → n ≤ m → state_outcome (states m) ≡ outcome.Limit → state_outcome (states n) ≡ outcome.Limit
-  runs_before m n le limit = by (states n) refl
+  runs_before : (m n : ℕ) → n ≤ m → m ≤ made → state_outcome (states m) ≡ outcome.Limit → state_outcome (states n) ≡ outcome.Limit
+  runs_before m n le within limit = by (states n) refl
     where
       by : (s : State) → states n ≡ s → state_outcome s ≡ outcome.Limit
       by (Running call below w) e = refl
       by (Halted ending w) e = absurd (not_at_limit ending w (sym (ap state_outcome (halted_later (image_of ds) input n m ending w le e)) ∙ limit))
-      by (Stuck w) e = absurd (unstuck n w e)
+      by (Stuck w) e = absurd (unstuck n (omega (arith, le, within)) w e)
 
-  within_code : (n : ℕ) (call : Call) (below : List Call) (w : World) → states n ≡ Running call below w → call.place < length call.function.code
-  within_code n call below w e =
+  within_code : (n : ℕ) → n < made → (call : Call) (below : List Call) (w : World) → states n ≡ Running call below w → call.place < length call.function.code
+  within_code n lt call below w e =
       let image = image_of ds in
       let next = one_more image n (machine_started image image.main (first_world image input)) (Running call below w) e in
-      ⊎_elim (λ some. some.1) (λ past. absurd (unstuck (n + 1) w (next ∙ ap (act_if image call below w) past.1))) (slice_get_cases call.function.code call.place).1
+      ⊎_elim (λ some. some.1) (λ past. absurd (unstuck (n + 1) (omega (arith, lt)) w (next ∙ ap (act_if image call below w) past.1))) (slice_get_cases call.function.code call.place).1
 
-  one_place : (n : ℕ) → state_outcome (states n) ≡ outcome.Limit → all_hits (sights n).call (functions_of ds) ≡ 1
-  one_place n limit = by (states n) refl
+  one_place : (n : ℕ) → n < made → state_outcome (states n) ≡ outcome.Limit → all_hits (sights n).call (functions_of ds) ≡ 1
+  one_place n lt limit = by (states n) refl
     where
       by : (s : State) → states n ≡ s → all_hits (sight_of fns (states n)).call (functions_of ds) ≡ 1
       by (Running call below w) e =
           let ours = subst (AreOurs (image_of ds).functions) e (ours_at ds input n) in
           let placed = is_placed ds call.function ours.0 in
-          let within = within_code n call below w e in
+          let within = within_code n lt call below w e in
           ap (λ s. all_hits (sight_of fns s).call (functions_of ds)) e
           ∙ one_hit (active_of call) (functions_of ds) (ascend ds) placed.0 placed.1 (λ d. ((placed.2 d).0, subst (λ code. call.place < length code) (sym (placed.2 d).1) within))
       by (Halted ending w) e = absurd (not_at_limit ending w (sym (ap state_outcome e) ∙ limit))
-      by (Stuck w) e = absurd (unstuck n w e)
+      by (Stuck w) e = absurd (unstuck n (omega (arith, lt)) w e)
 
-  runs_until : (made steps : ℕ) (result : Outcome) (left : List ℕ) → EndsAfter states made steps result left → (result ≡ outcome.Device → ⊥) → (n : ℕ) → n < made → state_outcome (states n) ≡ outcome.Limit
-  runs_until made steps (outcome.Exit status) left h read n lt = let last = h.1 in runs_before h.0 n (omega (arith, last, lt)) h.2
-  runs_until made steps (outcome.Trap kind) left h read n lt = let last = h.1 in runs_before h.0 n (omega (arith, last, lt)) h.2
-  runs_until made steps outcome.Limit left h read n lt = runs_before made n (omega (arith, lt)) h.1
-  runs_until made steps outcome.Device left h read n lt = absurd (read refl)
-  runs_until made steps outcome.Memory left h read n lt = absurd h
+  runs_until : (steps : ℕ) (result : Outcome) (left : List ℕ) → EndsAfter states made steps result left → (result ≡ outcome.Device → ⊥) → (n : ℕ) → n < made → state_outcome (states n) ≡ outcome.Limit
+  runs_until steps (outcome.Exit status) left h read n lt = let last = h.1 in runs_before h.0 n (omega (arith, last, lt)) (omega (arith, last)) h.2
+  runs_until steps (outcome.Trap kind) left h read n lt = let last = h.1 in runs_before h.0 n (omega (arith, last, lt)) (omega (arith, last)) h.2
+  runs_until steps outcome.Limit left h read n lt = runs_before made n (omega (arith, lt)) (omega arith) h.1
+  runs_until steps outcome.Device left h read n lt = absurd (read refl)
+  runs_until steps outcome.Memory left h read n lt = absurd h
 
-  pub all_counted : (made steps : ℕ) (result : Outcome) (left : List ℕ) → EndsAfter states made steps result left → (result ≡ outcome.Device → ⊥) → sum_by (λ x. x) (flat_map (λ xs. xs) (map (counts_of sights made) (functions_of ds))) ≡ made
-  all_counted made steps result left h read =
-      counts_together sights (functions_of ds) made ∙ totals sights (functions_of ds) made (λ n lt. one_place n (runs_until made steps result left h read n lt))
+  pub all_counted : (steps : ℕ) (result : Outcome) (left : List ℕ) → EndsAfter states made steps result left → (result ≡ outcome.Device → ⊥) → sum_by (λ x. x) (flat_map (λ xs. xs) (map (counts_of sights made) (functions_of ds))) ≡ made
+  all_counted steps result left h read =
+      counts_together sights (functions_of ds) made ∙ totals sights (functions_of ds) made (λ n lt. one_place n lt (runs_until steps result left h read n lt))
 
 pub steps_add_up : StepsAddUp
 steps_add_up asked source tallies made h fs =
     let input = h.counts.taken ++ [] in
-    let unstuck = never_stuck asked.edition source h.ds h.image h.program in
+    let told = h.counts.told [] (λ e. refl) in
+    let sights = sights_of (image_of h.ds).functions (machine h.ds) input in
+    let read = not_unread (functions_of h.ds) tallies sights made h.result told in
+    let ends = h.counts.ends [] (λ e. refl) in
+    let unstuck = not_stuck asked.origin source h.ds h.image h.program h.result h.whole input made asked.steps [] ends read in
     let last = last_line source in
     let counted = counted_of last fs tallies in
     let within = h.counts.within in
     let fits = h.fits in
-    let sights = sights_of (image_of h.ds).functions (machine h.ds) input in
-    let told = h.counts.told [] (λ e. refl) in
     let sum = sym (sum_of_map (λ x. x) (λ (c : Counted). c.count) counted)
     ∙ ap (sum_by (λ x. x)) (counts_kept last fs tallies ∙ ap (flat_map (λ xs. xs)) (counts_are (functions_of h.ds) tallies sights made h.result told))
-    ∙ all_counted h.ds input (unstuck input) made asked.steps h.result [] (h.counts.ends [] (λ e. refl)) (not_unread (functions_of h.ds) tallies sights made h.result told) in
+    ∙ all_counted h.ds input made unstuck asked.steps h.result [] ends read in
     lines_together last made counted (all_on last fs tallies (some_line source)) sum (omega (arith, within, fits))

@@ -1,5 +1,6 @@
 -- Promise: what the contract of `count` excludes.
 use Rattle.std.specs.Prelude.{◌≡◌, ℕ, List, [], ◌∷◌, codes}
+use Rattle.bword.specs.declared.edition.Edition.{Edition}
 use Rattle.bword.specs.ByteEnds.{Incoming}
 use Rattle.blang.specs.declared.code.Definition.{Definition}
 use Rattle.blang.specs.declared.code.Definition.TheVariants as definition
@@ -11,7 +12,10 @@ use Rattle.blang.specs.Compiles.{Compilation, CompilesTo}
 use Rattle.blang.specs.Cut.{tokens_from}
 use Rattle.blang.specs.Machine.{image_of, machine}
 use Rattle.blang.specs.Reports.{RunEnds}
+use Rattle.blang.specs.Text.{IsCodeText}
 use Rattle.bmach.specs.Readings.{LeftBySteps}
+use Rattle.btools.specs.Origins.{Code, Source}
+use Rattle.btools.specs.PlaceLines.{CodeText}
 use Rattle.btools.specs.ProgramsExcluded.{code_in}
 use Rattle.btools.specs.Functions.{functions_of}
 use Rattle.bwatch.specs.Watches.{Watches}
@@ -47,7 +51,10 @@ pub record CountsExcluded : Type 0 where
       → (ends.input_after.failures ≡ ends.input.failures → ⊥) → Counts asked source ends status
       → (status ≡ DEVICE) × (ends.out_after ≡ ends.out)
   -- whatever the status, as where memory was refused: a byte taken that no step asked for
-  pub unasked : (asked : Asked) (source : List ℕ) (r : Compilation)
-      (g : CompilesTo [] (tokens_from asked.edition 1 source) r) (ends : RunEnds) (status : ℕ)
-      → Counts asked source ends status
-      → LeftBySteps (machine (code_in asked.edition source r g)) asked.steps ends.input ends.input_after
+  pub unasked : (edition : Edition) (source : List ℕ) (r : Compilation)
+      (g : CompilesTo [] (tokens_from edition 1 source) r) (asked : Asked) (ends : RunEnds) (status : ℕ)
+      → Counts (record asked { origin = Source edition }) source ends status
+      → LeftBySteps (machine (code_in edition source r g)) asked.steps ends.input ends.input_after
+  pub unasked_by_code : (c : CodeText) (ds : List Definition) → IsCodeText c.code ds → (source : List ℕ)
+      (asked : Asked) (ends : RunEnds) (status : ℕ) → Counts (record asked { origin = Code c }) source ends status
+      → LeftBySteps (machine ds) asked.steps ends.input ends.input_after

@@ -1,14 +1,19 @@
 -- Closed facts: counts and their rows, on small values.
-use Rattle.std.specs.Prelude.{◌≡◌, ℕ, true, false, List, [], ◌∷◌, ◌++◌, Some, None, codes, map, refl}
+use Rattle.std.specs.Prelude.{◌≡◌, ℕ, true, false, List, [], ◌∷◌, ◌++◌, Some, None, codes, decimal, map, refl}
 use Rattle.std.specs.Fmt.{digits}
 use Rattle.std.specs.List.{range_with_len}
+use Rattle.blang.specs.Text.{code_lines, joined}
 use Rattle.bsources.specs.Files.{Files, Line}
 use Rattle.bword.specs.declared.edition.Edition.TheVariants as editions
-use Rattle.btools.specs.ProgramLines.{FunctionLines}
+use Rattle.btools.specs.Origins.{Code, Origin, Source}
+use Rattle.btools.specs.PlaceLines.{CodeText, HasPlaceLines}
+use Rattle.btools.specs.ProgramLines.{FunctionLines, lined_functions}
+use Rattle.btools.specs.SourceLines.{source_lines}
 use Rattle.bcount.specs.declared.lines.Counted.{Counted}
 use Rattle.bcount.specs.declared.lines.LineCount.{LineCount}
 use Rattle.bcount.specs.declared.table.CountStyle.{CountStyle}
 use Rattle.bcount.specs.declared.table.CountStyle.TheVariants as styles
+use Rattle.bcount.specs.CountExcluded.{nothing}
 use Rattle.bcount.specs.Counts.{Asked, count_text, counted_of, line_counts, nearest_line, steps_on, times_on}
 use Rattle.bcount.specs.Marks.{is_marked, no_code}
 use Rattle.bcount.specs.SourceLines.{beside_text, last_line}
@@ -77,18 +82,22 @@ no_total = refl
 abbrev done_once : LineCount
 done_once = record { times = Some 1; steps = 2 }
 
-hint_of_one_line : hint_of styles.Table (no_code ∷ done_once ∷ no_code ∷ [])
+hint_of_one_line : hint_of styles.Table true (no_code ∷ done_once ∷ no_code ∷ [])
     ≡ codes "  hint: all code is on one line; b format FILE gives each statement its own\n"
 hint_of_one_line = refl
 
-no_hint_of_two : hint_of styles.Table (done_once ∷ no_code ∷ done_once ∷ []) ≡ []
+no_hint_of_two : hint_of styles.Table true (done_once ∷ no_code ∷ done_once ∷ []) ≡ []
 no_hint_of_two = refl
 
-no_hint_without_code : hint_of styles.Table (no_code ∷ []) ≡ []
+no_hint_without_code : hint_of styles.Table true (no_code ∷ []) ≡ []
 no_hint_without_code = refl
 
-no_hint_of_objects : hint_of styles.Json (done_once ∷ []) ≡ []
+no_hint_of_objects : hint_of styles.Json true (done_once ∷ []) ≡ []
 no_hint_of_objects = refl
+
+-- nor where the source isn't one of B, which `b format` could lay out
+no_hint_of_others : hint_of styles.Table false (done_once ∷ []) ≡ []
+no_hint_of_others = refl
 
 -- the number of the last line: without a newline, with one at the end, with one before it, and with newlines alone
 last_lines : map last_line ([] ∷ codes "a" ∷ codes "a\n" ∷ codes "a\nb" ∷ codes "\n" ∷ codes "\n\n" ∷ [])
@@ -139,8 +148,11 @@ each_on_its_line = refl
 nearest_lines : map (nearest_line 3) (0 ∷ 1 ∷ 3 ∷ 4 ∷ []) ≡ 1 ∷ 1 ∷ 3 ∷ 3 ∷ []
 nearest_lines = refl
 
+abbrev asks_of : Origin → CountStyle → Asked
+asks_of origin style = record { origin = origin; steps = 10; files = two_files; style = style }
+
 abbrev asks : CountStyle → Asked
-asks style = record { edition = editions.One; steps = 10; files = two_files; style = style }
+asks style = asks_of (Source editions.One) style
 
 whole_table : count_text (asks styles.Table) (codes "main(){f();}\n\nf(){}\n") two_functions tallies 4
     ≡ codes "    line         times         steps  source\n"
@@ -167,3 +179,44 @@ hinted_table : count_text (asks styles.Table) (codes "main(){}") (record { strin
     ++ codes "  hint: all code is on one line; b format FILE gives each statement its own\n"
 unfolding digits
 hinted_table = refl
+
+-- a code text: each instruction is on its line there, or on the one of the author's that the file of lines has for it
+abbrev code_of_nothing : List ℕ
+code_of_nothing = codes "F main 0 0 0 0 2\nc 0\nr\nE\n"
+
+nothing_is_spelled_so : code_of_nothing ≡ joined (code_lines editions.One nothing)
+unfolding digits
+nothing_is_spelled_so = refl
+
+abbrev by_itself : CodeText
+by_itself = record { code = code_of_nothing; lines = None }
+
+lines_of_code : HasPlaceLines by_itself nothing (2 ∷ 3 ∷ [])
+lines_of_code = refl
+
+counted_by_code : count_text (asks_of (Code by_itself) styles.Table) code_of_nothing (lined_functions nothing (2 ∷ 3 ∷ [])) ((1 ∷ 1 ∷ []) ∷ []) 2
+    ≡ codes "    line         times         steps  source\n"
+    ++ codes "       1                              F main 0 0 0 0 2\n"
+    ++ codes ">      2             1             1  c 0\n"
+    ++ codes "l.b\n"
+    ++ codes ">      1             1             1  r\n"
+    ++ codes "       2                              E\n"
+    ++ codes "   total                           2\n"
+unfolding digits
+counted_by_code = refl
+
+abbrev by_author : CodeText
+by_author = record { code = code_of_nothing; lines = Some (codes "2\n2\n") }
+
+lines_of_author : source_lines (codes "2\n2\n") ≡ map decimal (2 ∷ 2 ∷ []) ++ [] ∷ []
+unfolding digits
+lines_of_author = refl
+
+counted_by_author : count_text (asks_of (Code by_author) styles.Table) (codes "10 REM\n20 END\n") (lined_functions nothing (2 ∷ 2 ∷ []))
+    ((1 ∷ 1 ∷ []) ∷ []) 2
+    ≡ codes "    line         times         steps  source\n"
+    ++ codes "       1                              10 REM\n"
+    ++ codes ">      2             1             2  20 END\n"
+    ++ codes "   total                           2\n"
+unfolding digits
+counted_by_author = refl

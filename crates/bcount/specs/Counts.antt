@@ -1,9 +1,8 @@
--- Promise: what comes of a source whose steps are counted.
-use Rattle.std.specs.Prelude.{◌≡◌, ℕ, ◌+◌, ◌==◌, List, Option, Some, find, map, max, min, option_map}
+-- Promise: what comes of a program whose steps are counted.
+use Rattle.std.specs.Prelude.{◌≡◌, ℕ, ◌+◌, ◌==◌, Bool, true, false, List, Option, Some, find, map, max, min, option_map}
 use Rattle.std.specs.Prelude.{unwrap_or, if◌then◌else◌}
 use Rattle.std.specs.List.{enumerate_from, flat_map, range_with_len, slice_get, sum_by}
 use Rattle.bsources.specs.Files.{Files, files_shown}
-use Rattle.bword.specs.declared.edition.Edition.{Edition}
 use Rattle.bword.specs.ByteEnds.{Kept, most, outgoing_of}
 use Rattle.blang.specs.declared.code.Definition.{Definition}
 use Rattle.blang.specs.declared.run.Outcome.{Outcome}
@@ -15,8 +14,9 @@ use Rattle.bmach.specs.Readings.{ReadBySteps}
 use Rattle.bmach.specs.Stepping.{BeginsNot}
 use Rattle.btools.specs.Functions.{Placed, functions_of}
 use Rattle.btools.specs.FaultPlaces.{fault_lines}
-use Rattle.btools.specs.ProgramLines.{FunctionLines, HasLines, line_in, lined_functions}
-use Rattle.btools.specs.Programs.{HasProgram, NoProgram, TellsEnd, nothing_written}
+use Rattle.btools.specs.Origins.{Code, LinesOf, NoProgramOf, Origin, ProgramOf, Source, origin_shown}
+use Rattle.btools.specs.ProgramLines.{FunctionLines, line_in, lined_functions}
+use Rattle.btools.specs.Programs.{TellsEnd, nothing_written}
 use Rattle.bwatch.specs.Sights.{Sights}
 use Rattle.bwatch.specs.Watches.{Watches}
 use Rattle.bcount.specs.SourceLines.{last_line}
@@ -29,13 +29,19 @@ use Rattle.bcount.specs.declared.table.CountStyle.{CountStyle}
 
 -- what is asked for
 pub record Asked : Type 0 where
-  pub edition : Edition
+  pub origin : Origin
   pub steps : ℕ
   pub files : Files
   pub style : CountStyle
 
 abbrev pub asked_of : Counting → Asked
-asked_of c = record { edition = c.edition; steps = c.steps; files = files_shown c.files; style = c.style }
+asked_of c =
+    record { origin = origin_shown c.origin; steps = c.steps; files = files_shown c.files; style = c.style }
+
+-- whether the source is one of B
+abbrev pub is_source : Origin → Bool
+is_source (Source edition) = true
+is_source (Code c) = false
 
 -- how often the first instruction of a line was made, if it has one
 abbrev pub times_on : List Counted → (line : ℕ) → Option ℕ
@@ -77,34 +83,34 @@ counts_by_line source fs tallies = line_counts (counted_of (last_line source) fs
 
 abbrev pub count_text : Asked → (source : List ℕ) → List FunctionLines → (tallies : List (List ℕ)) → (made : ℕ) → List ℕ
 count_text asked source fs tallies made =
-    table_text asked.style asked.files source (counts_by_line source fs tallies) made
+    table_text asked.style (is_source asked.origin) asked.files source (counts_by_line source fs tallies) made
 
 -- Each count is how often this instruction was made in so many steps. There are none where a read failed.
 abbrev pub AreCounts : List Placed → (tallies : List (List ℕ)) → Sights → (made : ℕ) → Outcome → Type 0
 AreCounts functions tallies sights made outcome.Device = ⊥
 AreCounts functions tallies sights made result = tallies ≡ map (counts_of sights made) functions
 
--- The program of the source was run for so many steps at most, as the machine runs it, and its counts written, each
+-- The program of this origin was run for so many steps at most, as the machine runs it, and its counts written, each
 -- instruction on its own line; or a read of it failed, and nothing was written; or it did not begin, or there is none,
 -- and why was told; or memory was refused, and nothing was written, or read but by some of its steps.
 pub data Counts (asked : Asked) (source : List ℕ) (ends : RunEnds) (status : ℕ) : Type 0 where
   counted : (ds : List Definition) (image : Image) (result : Outcome) (made : ℕ) (tallies : List (List ℕ))
-      (lines : List ℕ) (told : ℕ) → HasProgram asked.edition source ds image
+      (lines : List ℕ) (told : ℕ) → ProgramOf asked.origin source ds image
       → Watches (image_of ds).functions (machine ds) asked.steps ends.input ends.input_after result made
       (AreCounts (functions_of ds) tallies)
-      → HasLines asked.edition source lines
+      → LinesOf asked.origin source lines
       → Reported (count_text asked source (lined_functions ds lines) tallies made) DONE ends.out ends.out_after told
       → TellsEnd told result ends.line ends.line_after status → Counts asked source ends status
   unread : (ds : List Definition) (image : Image) (output : Kept)
-      → HasProgram asked.edition source ds image → ends.line_after ≡ ends.line
+      → ProgramOf asked.origin source ds image → ends.line_after ≡ ends.line
       → RunGives (machine ds) asked.steps ends.input ends.input_after nothing_written (outgoing_of output) outcome.Device
       → ends.out_after ≡ ends.out → status ≡ DEVICE → Counts asked source ends status
   not_begun : (ds : List Definition) (image : Image) (result : Outcome)
-      → HasProgram asked.edition source ds image → BeginsNot image result
+      → ProgramOf asked.origin source ds image → BeginsNot image result
       → Finishes result ends.line ends.line_after status → HasNotRun ends → Counts asked source ends status
-  stopped : NoProgram asked.edition source (fault_lines asked.files) ends.line ends.line_after status → HasNotRun ends
+  stopped : NoProgramOf asked.origin source (fault_lines asked.files) ends.line ends.line_after status → HasNotRun ends
       → Counts asked source ends status
   no_memory : (ds : List Definition) (image : Image)
-      → HasProgram asked.edition source ds image → ends.line_after ≡ ends.line → ends.out_after ≡ ends.out
+      → ProgramOf asked.origin source ds image → ends.line_after ≡ ends.line → ends.out_after ≡ ends.out
       → ReadBySteps (machine ds) asked.steps ends.input ends.input_after → status ≡ MEMORY
       → Counts asked source ends status

@@ -1,5 +1,5 @@
 -- Inner words: the counts of lines as they are written.
-use Rattle.std.specs.Prelude.{◌≡◌, ℕ, ◌+◌, ◌==◌, Bool, List, [], ◌++◌, Option, Some, None, codes, count_by, decimal, get_or}
+use Rattle.std.specs.Prelude.{◌≡◌, ℕ, ◌+◌, ◌==◌, ◌&&◌, Bool, List, [], ◌++◌, Option, Some, None, codes, count_by, decimal, get_or}
 use Rattle.std.specs.Prelude.{is_some, length, refl, replicate, if◌then◌else◌}
 use Rattle.std.specs.List.{flat_map, range_with_len}
 use Rattle.bsources.specs.Files.{Files, Line, beyond_first, own_line}
@@ -67,16 +67,16 @@ total_of style.Json made = []
 abbrev pub lines_with_code : List LineCount → ℕ
 lines_with_code lines = count_by (λ c. is_some c.times) lines
 
--- what is said of a program whose code is all on one line
+-- what is said of a program of B whose code is all on one line
 abbrev pub hint : List ℕ
 hint = codes "  hint: all code is on one line; b format FILE gives each statement its own\n"
 
-abbrev pub hint_of : CountStyle → List LineCount → List ℕ
-hint_of style.Table lines = if lines_with_code lines == 1 then hint else []
-hint_of style.Json lines = []
+abbrev pub hint_of : CountStyle → (is_b : Bool) → List LineCount → List ℕ
+hint_of style.Table is_b lines = if is_b && lines_with_code lines == 1 then hint else []
+hint_of style.Json is_b lines = []
 
 -- a row of each line, in order, how many steps were made, and perhaps the hint
-abbrev pub table_text : CountStyle → Files → (source : List ℕ) → List LineCount → (made : ℕ) → List ℕ
-table_text style files source lines made =
+abbrev pub table_text : CountStyle → (is_b : Bool) → Files → (source : List ℕ) → List LineCount → (made : ℕ) → List ℕ
+table_text style is_b files source lines made =
     heading_of style ++ flat_map (row_after style files source lines) (range_with_len 0 (length lines))
-    ++ total_of style made ++ hint_of style lines
+    ++ total_of style made ++ hint_of style is_b lines

@@ -4,9 +4,11 @@ use Rattle.std.specs.List.{sum_by}
 use Rattle.bword.specs.ByteEnds.{Incoming, most}
 use Rattle.blang.specs.declared.code.Definition.{Definition}
 use Rattle.blang.specs.declared.run.Outcome.{Outcome}
+use Rattle.blang.specs.declared.run.Outcome.TheVariants as outcome
+use Rattle.blang.specs.declared.run.Trap.TheVariants as trap
 use Rattle.blang.specs.Machine.{Image, image_of, machine}
 use Rattle.btools.specs.Functions.{functions_of}
-use Rattle.btools.specs.Programs.{HasProgram}
+use Rattle.btools.specs.Origins.{Code, Origin, ProgramOf, Source}
 use Rattle.bwatch.specs.Watches.{Watches}
 use Rattle.btools.specs.ProgramLines.{FunctionLines}
 use Rattle.bcount.specs.Counts.{AreCounts, Asked, counts_by_line}
@@ -16,18 +18,24 @@ use Rattle.bcount.specs.declared.lines.LineCount.{LineCount}
 abbrev pub all_steps : List LineCount → ℕ
 all_steps counts = sum_by (λ c. c.steps) counts
 
--- The source has a program, and no more steps were asked for than a u64 counts. So many were made, and these are the
--- counts of its instructions.
+-- Compiled code never lacks an instruction or an operand; for a code text, its run wasn't over for want of one.
+abbrev pub LacksNone : Origin → Outcome → Type 0
+LacksNone (Source edition) result = Unit {0}
+LacksNone (Code c) result = result ≡ outcome.Trap trap.Stuck → ⊥
+
+-- There is a program, and no more steps were asked for than a u64 counts. So many were made, and these are the counts of
+-- its instructions.
 pub record IsCounted (asked : Asked) (source : List ℕ) (tallies : List (List ℕ)) (made : ℕ) : Type 0 where
   pub ds : List Definition
   pub image : Image
-  pub program : HasProgram asked.edition source ds image
+  pub program : ProgramOf asked.origin source ds image
   pub fits : asked.steps ≤ most
   pub input : Incoming
   pub input_after : Incoming
   pub result : Outcome
   pub counts : Watches (image_of ds).functions (machine ds) asked.steps input input_after result made
       (AreCounts (functions_of ds) tallies)
+  pub whole : LacksNone asked.origin result
 
 -- The steps of all lines together are those that were made, whatever lines the instructions are on.
 abbrev pub StepsAddUp : Type 0

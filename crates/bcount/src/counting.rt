@@ -1,8 +1,9 @@
 //! Counting the steps of a program.
 ghost use Rattle.std.specs.Prelude.{◌≡◌, IfOk};
 ghost use Rattle.blang.specs.Reports.{run_ends};
+ghost use Rattle.btools.specs.Origins.{origin_shown};
 ghost use Rattle.btools.specs.ProgramLines.{lines_shown};
-ghost use Rattle.bcount.specs.Counts.{Counts, asked_of, count_text};
+ghost use Rattle.bcount.specs.Counts.{Counts, asked_of, count_text, is_source};
 ghost use Rattle.bcount.specs.CountExcluded.{CountsExcluded};
 ghost use Rattle.bcount.specs.Tallies.{tallies_of};
 ghost use Rattle.bcount.specs.Together.{StepsAddUp};
@@ -17,13 +18,14 @@ use brun::finish;
 use bsources::SourceFiles;
 use btools::{Origin, Tables, Text, read_program, tell, tell_placed};
 use bwatch::{Watched, watch};
-use bword::{ByteIn, ByteOut, Edition};
+use bword::{ByteIn, ByteOut};
 use std::alloc::{AllocError, Global};
 
-/// What is counted of a source, and how it is written.
+/// What is counted of a program, and how it is written.
 #[derive(Clone, Copy)]
 pub struct Counting<'a> {
-    pub edition: Edition,
+    /// What the program is read from.
+    pub origin: Origin<'a>,
     /// The most steps that are made.
     pub steps: u64,
     /// The files of the source.
@@ -31,7 +33,7 @@ pub struct Counting<'a> {
     pub style: CountStyle,
 }
 
-/// Compiles a source, runs its program for at most so many steps, and writes how often each line was made.
+/// Runs a program for at most so many steps, and writes how often each line of the source was made.
 ///
 /// The output of the program is dropped. The line and the status after the counts are those of `go_edition`. If a read
 /// fails or the run is out of memory, nothing is written.
@@ -50,7 +52,7 @@ pub fn count<I: ByteIn, O: ByteOut, D: ByteOut>(
     ensures out_lender { O.lender out.new ≡ O.lender out.old }
     ensures diag_lender { D.lender diag.new ≡ D.lender diag.old }
 {
-    let program = match read_program(alloc, source, Origin::Source(counting.edition)) {
+    let program = match read_program(alloc, source, counting.origin) {
         Ok(program) => program,
         Err(fault) => return tell_placed(alloc, &fault, counting.files, diag),
     };
@@ -96,12 +98,23 @@ fn text_of(
     let lines = lines_of(alloc, counted.as_slice(), last)?;
     let table = Table {
         source,
+        is_b: is_source(counting.origin),
         files: counting.files,
         style: counting.style,
         lines: lines.as_slice(),
         made,
     };
     table_text(alloc, &table)
+}
+
+// Whether the source is one of B.
+fn is_source(origin: Origin<'_>) -> bool
+    ensures { result ≡ is_source (origin_shown origin.entry) }
+{
+    match origin {
+        Origin::Source(_) => true,
+        Origin::Code(_) => false,
+    }
 }
 
 /// No count has a step too few or too many, or one of another instruction.

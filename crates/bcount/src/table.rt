@@ -25,6 +25,8 @@ pub enum CountStyle {
 #[derive(Clone, Copy)]
 pub struct Table<'a> {
     pub source: &'a [u8],
+    /// Whether that is one of B.
+    pub is_b: bool,
     pub files: SourceFiles<'a>,
     pub style: CountStyle,
     /// What the code of each line did.
@@ -41,7 +43,7 @@ const HINT: &[u8] =
 
 /// The text of the counts.
 pub fn table_text(alloc: Global, table: &Table<'_>) -> Result<Text, AllocError>
-    ensures { IfOk result (λ text. text ≡ table_text table.now.style (files_shown table.now.files) table.now.source.now
+    ensures { IfOk result (λ text. text ≡ table_text table.now.style table.now.is_b (files_shown table.now.files) table.now.source.now
         table.now.lines.now table.now.made) }
 {
     let mut text = Text::new(alloc);
@@ -55,7 +57,7 @@ pub fn table_text(alloc: Global, table: &Table<'_>) -> Result<Text, AllocError>
         push_row(&mut text, table, index, is_marked, line)?;
     }
     push_total(&mut text, table.style, table.made)?;
-    push_hint(&mut text, table.style, table.lines)?;
+    push_hint(&mut text, table)?;
     Ok(text)
 }
 
@@ -167,11 +169,11 @@ fn push_total(text: &mut Text, style: CountStyle, made: u64) -> Result<(), Alloc
 }
 
 // What helps where all code is on one line, so that its counts tell little.
-fn push_hint(text: &mut Text, style: CountStyle, lines: &[LineCount]) -> Result<(), AllocError>
-    ensures { OnOk result (text.new ≡ text.old ++ hint_of style lines.now) }
+fn push_hint(text: &mut Text, table: &Table<'_>) -> Result<(), AllocError>
+    ensures { OnOk result (text.new ≡ text.old ++ hint_of table.now.style table.now.is_b table.now.lines.now) }
 {
-    match style {
-        CountStyle::Table if lines_with_code(lines) == 1 => text.push(HINT),
+    match table.style {
+        CountStyle::Table if table.is_b && lines_with_code(table.lines) == 1 => text.push(HINT),
         CountStyle::Table | CountStyle::Json => Ok(()),
     }
 }

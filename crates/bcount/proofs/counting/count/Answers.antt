@@ -3,11 +3,12 @@ use Rattle.blang.specs.declared.status.TheConstants.{DONE}
 use Rattle.blang.specs.declared.run.Outcome.TheVariants as outcome
 use Rattle.blang.specs.Machine.{image_of, machine}
 use Rattle.blang.specs.Reports.{Reported}
-use Rattle.btools.specs.Origins.{Source}
 use Rattle.bmach.proofs.Readings.{none_at_first}
 use Rattle.btools.proofs.Functions.{data_fit}
 use Rattle.btools.specs.Functions.{functions_of}
+use Rattle.btools.specs.Origins.{origin_shown}
 use Rattle.btools.specs.ProgramLines.{FunctionLines}
+use Rattle.bwatch.proofs.Origins.{loaded_in, loads_in}
 use Rattle.bwatch.proofs.Seen.{read_watched, told_so}
 use Rattle.bcount.specs.Counts.{AreCounts, asked_of, count_text, counted, no_memory, not_begun, stopped, unread}
 use Rattle.bcount.specs.Tallies.{tallies_of}
@@ -15,13 +16,19 @@ use Rattle.bcount.proofs.Counted.{counted_so, none_counted}
 use Rattle.bcount.proofs.counting.count.Goals as goal
 
 pub new-requires : goal.new-requires
-new-requires g c = data_fit c.in-Ok.program.definitions.items c.in-Ok.ensures.program.loads
+new-requires g c =
+    let ds = c.in-Ok.program.definitions.items in
+    data_fit ds (loads_in (origin_shown c.args.counting.origin) c.args.source.now ds c.in-Ok.program.image c.in-Ok.ensures.program)
+
+pub watch-requires-clause-loaded : goal.watch-requires-clause-loaded
+watch-requires-clause-loaded g c =
+    loaded_in (origin_shown c.args.counting.origin) c.args.source.now c.in-Ok.program.definitions.items c.in-Ok.program.image c.in-Ok.ensures.program
 
 pub watch-requires-clause-begins : goal.watch-requires-clause-begins
 watch-requires-clause-begins g c = none_counted c.in-Ok-new-2.tallies c.in-Ok-new.tables c.in-Ok-new-2.ensures.counts c.in-Ok-new-2.ensures.tables
 
 pub returns-in-Err-clause-counts : goal.returns-in-Err-clause-counts
-returns-in-Err-clause-counts g c = stopped (c.tell_placed.ensures.tells (Source c.args.counting.edition) c.args.source.now c.in-Err.ensures.program) (record { unread = refl; silent = refl })
+returns-in-Err-clause-counts g c = stopped (c.tell_placed.ensures.tells (origin_shown c.args.counting.origin) c.args.source.now c.in-Err.ensures.program) (record { unread = refl; silent = refl })
 
 pub returns-in_default-clause-counts : goal.returns-in_default-clause-counts
 returns-in_default-clause-counts g c =

@@ -4,7 +4,6 @@ use Rattle.std.specs.List.{All}
 use Rattle.bsources.specs.Files.{files_shown}
 use Rattle.btools.specs.ProgramLines.{lines_shown}
 use Rattle.bcount.specs.declared.lines.Counted.{Counted}
-use Rattle.bcount.specs.declared.lines.LineCount.{LineCount}
 use Rattle.bcount.specs.Counts.{counted_of, line_counts}
 use Rattle.bcount.specs.SourceLines.{IsOnLines}
 use Rattle.bcount.specs.Tables.{table_text}
@@ -26,4 +25,4 @@ returns c =
     let last = c.last_line-last.ensures.value in
     let lines = c.as_slice-2.ensures.value ∙ c.in_ok-lines.ensures ∙ ap (λ (cs : List Counted). line_counts cs c.last_line-last.result) (c.as_slice.ensures.value ∙ c.in_ok-counted.ensures)
     ∙ (λ i. line_counts (counted_of (last i) fs tallies) (last i)) in
-    IfOk-weaker c.table_text.result _ _ (λ text is. is ∙ ap (λ (ls : List LineCount). table_text asked.style (files_shown asked.files) source ls c.args.made) lines) c.table_text.ensures
+    IfOk-weaker c.table_text.result _ _ (λ text is. is ∙ (λ i. table_text asked.style (c.is_source.ensures i) (files_shown asked.files) source (lines i) c.args.made)) c.table_text.ensures

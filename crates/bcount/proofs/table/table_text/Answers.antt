@@ -41,5 +41,5 @@ returns c =
     let all : c.loop-index.index ≡ length lines = omega (arith, c.loop-index-test.false, c.loop-index.auto.index-end) in
     let total = total_of t.style t.made in
     let before = c.in_ok-push_total.ensures ∙ ap (λ (t0 : List ℕ). t0 ++ total) c.loop-index.invariant.rows in
-    c.in_ok-push_hint.ensures ∙ ap (λ (t0 : List ℕ). t0 ++ hint_of t.style lines) before
-    ∙ ap (λ n. heading_of t.style ++ flat_map (row_after t.style files t.source.now lines) (range_with_len 0 n) ++ total ++ hint_of t.style lines) all
+    c.in_ok-push_hint.ensures ∙ ap (λ (t0 : List ℕ). t0 ++ hint_of t.style t.is_b lines) before
+    ∙ ap (λ n. heading_of t.style ++ flat_map (row_after t.style files t.source.now lines) (range_with_len 0 n) ++ total ++ hint_of t.style t.is_b lines) all
