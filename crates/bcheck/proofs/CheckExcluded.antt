@@ -2,7 +2,7 @@
 use Rattle.std.proofs.Common.{◌≡◌, ◌≢◌, ◌∙◌, ◌<◌, ◌≤◌, ◌+◌, ◌*◌, ℕ, suc, List, [], ◌∷◌, ◌++◌, false, IsTrue, Option, Some, None, ap, append_assoc, arith, codes, decimal, drop, length, map, refl, subst, sym, take, inl, inr, ⊎_elim, true}
 use Rattle.std.specs.Io.{StartsWith}
 use Rattle.std.specs.Io.KnownBytes.{Appends}
-use Rattle.std.specs.List.{All, flat_map}
+use Rattle.std.specs.List.{All, AllZip, flat_map}
 use Rattle.std.proofs.Math.Seq.{take-append_seam}
 use Rattle.std.proofs.lemmas.Bool.{both_ways}
 use Rattle.std.proofs.lemmas.List.{append_cancel_left}
@@ -29,10 +29,11 @@ use Rattle.bcheck.specs.Checks as checks
 use Rattle.bsources.specs.Files.{File, Files, Line, own_line, own_line_among}
 use Rattle.bcheck.specs.Checks.{IsAtToken, IsOver, Reason, StandsOn, code_keyword, column_after, diagnostic_code, finding_at}
 use Rattle.btools.specs.Quoting.{file_text, json_text}
-use Rattle.bcheck.specs.Checks.{AreFindings, Check, Checks, FindingParts, Outcome, TellsFirst, finding_column, fix_and_places, finding_head, finding_line, finding_start, finding_text, IsWhole, Says, fault_in, outcome_of, findings_text, severity_of, shown_in_form, told_first}
+use Rattle.bcheck.specs.Checks.{AreFindings, Check, Checks, FindingParts, Outcome, TellsFirst, finding_column, fix_and_places, finding_head, finding_line, finding_mark, finding_shown, finding_start, finding_text, IsWhole, Says, fault_in, outcome_of, findings_text, severity_of, shown_in_form, told_first}
 use Rattle.bcheck.specs.CheckExcluded.{BeginsWith, ComesTo, Excluded, IsTold, Never, NeverOf, file_at, file_of, finding_count, finding_lines, findings_of, has_no_colon, is_printed, newlines}
 use Rattle.bcheck.specs.Tokens.{has_token_on, is_in_token}
-use Rattle.bcheck.specs.UndefinedNames.{told_subjects}
+use Rattle.bcheck.specs.UndefinedNames.{Tells, told_subjects}
+use Rattle.bcheck.specs.declared.mention.Subject.{Subject}
 use Rattle.bcheck.proofs.ToldNames.{names_told}
 use Rattle.bcheck.specs.declared.finding.Severity.{Severity}
 use Rattle.bcheck.specs.declared.finding.Severity.TheVariants as severity
@@ -337,6 +338,39 @@ other_lines c line status text to t wrong other h =
     let w = told_in c line status text to t h in
     other (lines_told c (comes_to c line status to) line status text w ∙ ap (λ n. newlines (shown_in_form c.form line) + n * finding_lines c.form) (count_told c line status text to w wrong))
 
+-- the sentence of each finding stands in the text of all
+people_words : (h t a b c d e f n l : List ℕ) → (h ++ (t ++ a ++ b ++ c ++ d ++ e ++ f) ++ n) ++ l ≡ h ++ (t ++ (a ++ (b ++ (c ++ (d ++ (e ++ (f ++ (n ++ l))))))))
+people_words h t a b c d e f n l = simp append_assoc refl
+
+sentence_in : {source : List ℕ} (s : Severity) (files : Files) (p : FindingParts source) (later : List ℕ) → (more : List ℕ)
+    × (finding_text form.Text s files p ++ later ≡ finding_head form.Text s (finding_at files p).file (finding_at files p).line (finding_column p) ++ (p.sentence ++ more))
+sentence_in s files p later =
+    (_, people_words (finding_head form.Text s (finding_at files p).file (finding_at files p).line (finding_column p)) p.sentence (codes "\n    ") (finding_shown p) (codes "\n    ") (finding_mark p) (codes "\n  fix: ") p.fix (codes "\n") later)
+
+said_in : {source : List ℕ} (s : Severity) (files : Files) (before after : List Subject) (it : Subject) (ps : List (FindingParts source)) → AllZip Says (before ++ it ∷ after) ps
+    → (u : List ℕ) × (sentence : List ℕ) × (v : List ℕ) × (flat_map (finding_text form.Text s files) ps ≡ u ++ (sentence ++ v)) × Tells it sentence
+said_in s files [] after it [] h = absurd h
+said_in s files [] after it (p ∷ ps) h =
+    let w = sentence_in s files p (flat_map (finding_text form.Text s files) ps) in
+    (finding_head form.Text s (finding_at files p).file (finding_at files p).line (finding_column p), p.sentence, w.0, w.1, h.0.0)
+said_in s files (b ∷ before) after it [] h = absurd h
+said_in s files (b ∷ before) after it (p ∷ ps) h =
+    let r = said_in s files before after it ps h.1 in
+    let text = finding_text form.Text s files p in
+    (text ++ r.0, r.1, r.2, ap (λ t. text ++ t) r.3 ∙ sym (append_assoc text r.0 (r.1 ++ r.2)), r.4)
+
+name_left_out : (c : Check) (line : List ℕ) (status : ℕ) (text : List ℕ) (to : ComesTo c line status) (name : List ℕ) → to.outcome.stop ≡ None → load_fault (map code_of to.goes.definitions) ≡ Some (fault.Undefined name)
+    → IsTold c text → c.form ≡ form.Text → (before after : List Subject) (it : Subject) → told_subjects (map code_of to.goes.definitions) ≡ before ++ it ∷ after
+    → ((u v sentence : List ℕ) → text ≡ u ++ (sentence ++ v) → Tells it sentence → ⊥) → Checks c → ⊥
+name_left_out c line status text to name stop undefined t is before after it told wrong h =
+    let w = told_in c line status text to t h in
+    let ds = map code_of to.goes.definitions in
+    let first = shown_in_form c.form line in
+    let whole = subst (λ f. IsWhole Says None f ds w.are.0) undefined (subst (λ s. IsWhole Says s (load_fault ds) ds w.are.0) stop w.are.1) in
+    let said = said_in (severity_of status) c.files before after it w.are.0 (subst (λ ss. AllZip Says ss w.are.0) told whole) in
+    let more = w.are.3 ∙ ap (λ f. flat_map (finding_text f (severity_of status) c.files) w.are.0) is ∙ said.3 in
+    wrong (first ++ said.0) said.2 said.1 (w.text_is ∙ ap (λ m. first ++ m) more ∙ sym (append_assoc first said.0 (said.1 ++ said.2))) said.4
+
 odd_lines : Never (λ c line status text. (count : ℕ) → newlines text ≢ newlines (shown_in_form c.form line) + count * finding_lines c.form)
 odd_lines c line status text to t wrong h =
     let w = told_in c line status text to t h in
@@ -428,6 +462,7 @@ excluded = record {
   no_place = no_place;
   other_letters = other_letters;
   other_lines = other_lines;
+  name_left_out = name_left_out;
   odd_lines = odd_lines;
   other_bytes = other_bytes;
   no_failure = λ c line status to is none h. device c.form (comes_to c line status to) c.files (shown_in_form c.form line) status c.status c.out c.out_after (comes_small c line status to) is none (tells c line status to h);

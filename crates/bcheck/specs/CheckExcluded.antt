@@ -18,7 +18,8 @@ use Rattle.blang.specs.declared.status.TheConstants.{DONE, DEVICE, MEMORY}
 use Rattle.bsources.specs.Files.{own_line}
 use Rattle.bcheck.specs.Checks.{Check, Checks, FindingParts, IsOver, column_after, finding_head}
 use Rattle.bcheck.specs.Tokens.{has_token_on, is_in_token}
-use Rattle.bcheck.specs.UndefinedNames.{told_subjects}
+use Rattle.bcheck.specs.UndefinedNames.{Tells, told_subjects}
+use Rattle.bcheck.specs.declared.mention.Subject.{Subject}
 use Rattle.btools.specs.Quoting.{file_text}
 use Rattle.bcheck.specs.Checks.{finding_start}
 use Rattle.bcheck.specs.Checks.{findings_text}
@@ -138,6 +139,13 @@ pub record Excluded : Type 0 where
   pub other_lines : (c : Check) (line : List ℕ) (status : ℕ) (text : List ℕ) (to : ComesTo c line status)
       → IsTold c text → status ≢ DONE
       → newlines text ≢ newlines (shown_in_form c.form line) + findings_of to * finding_lines c.form → Checks c → ⊥
+  -- of names that nothing defines, for people, no sentence on one of those that are to be told
+  pub name_left_out : (c : Check) (line : List ℕ) (status : ℕ) (text : List ℕ) (to : ComesTo c line status)
+      (name : List ℕ) → to.outcome.stop ≡ None
+      → load_fault (map code_of to.goes.definitions) ≡ Some (fault.Undefined name)
+      → IsTold c text → c.form ≡ form.Text → (before after : List Subject) (subject : Subject)
+      → told_subjects (map code_of to.goes.definitions) ≡ before ++ subject ∷ after
+      → ((u v sentence : List ℕ) → text ≡ u ++ (sentence ++ v) → Tells subject sentence → ⊥) → Checks c → ⊥
   -- lines after the first one that are no whole findings
   pub odd_lines : Never (λ c line status text.
       (count : ℕ) → newlines text ≢ newlines (shown_in_form c.form line) + count * finding_lines c.form)
