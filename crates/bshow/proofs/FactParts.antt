@@ -1,14 +1,12 @@
 -- The parts of the facts of a page, one after another.
-use Rattle.std.proofs.Common.{◌≡◌, ◌∙◌, ℕ, ◌+◌, ◌<◌, ◌≤◌, Bool, true, false, ◌||◌, List, [], ◌∷◌, ◌++◌, None, Option, Some, ap, append-nil, append_assoc, arith, get_or, length, map, nat_lt, refl, reverse, sym, take}
+use Rattle.std.proofs.Common.{◌≡◌, ◌∙◌, ℕ, ◌+◌, ◌<◌, List, [], ◌∷◌, ◌++◌, ap, append-nil, append_assoc, get_or, length, map, reverse, sym, take}
 use Rattle.std.specs.Prelude.{zip}
 use Rattle.std.specs.List.{flat_map, range_with_len}
-use Rattle.std.proofs.lemmas.List.{length-map, map-append, reverse-append, take-map, take_more}
-use Rattle.std.proofs.lemmas.Bool.Decides.{nat_tests}
+use Rattle.std.proofs.lemmas.List.{length-map, map-append, reverse-append, take_more}
 use Rattle.std.proofs.lemmas.List.Concat.{flat_map-append}
-use Rattle.std.proofs.lemmas.List.Sums.{sum_by-take-le}
 use Rattle.blang.specs.declared.code.Definition.{Definition}
-use Rattle.blang.specs.Layout.{data_end, first_some, label_count, load_fault, shape_of, size_of, some_if, spot_after, spots, store_words}
-use Rattle.bmach.proofs.Spots.{data_end-push, length-spots_after, spots_after-push, zip-push}
+use Rattle.blang.specs.Layout.{data_end, shape_of, spot_after, spots, store_words}
+use Rattle.bmach.proofs.Spots.{length-spots_after, spots_after-push, zip-push}
 use Rattle.bmach.specs.declared.machine.Active.{Active}
 use Rattle.bshow.specs.Facts.{all_addresses, call_text, definition_text, spot_text}
 
@@ -32,30 +30,6 @@ one_definition ds i d lt is head text new address here before one =
     one ∙ (λ j. before j ++ definition_text (here j) d)
     ∙ append_assoc head (texts_of (take i ds)) (definition_text (data_end (map shape_of (take i ds))) d)
     ∙ ap (λ x. head ++ x) (sym (ap texts_of (take_more ds i d lt ∙ ap (λ x. take i ds ++ x ∷ []) (sym is)) ∙ texts-push (take i ds) d))
-
--- the words of definitions that load, and where they lie
-ends_after : (ds : List Definition) (d : Definition) → data_end (map shape_of (ds ++ d ∷ [])) ≡ data_end (map shape_of ds) + size_of (shape_of d)
-ends_after ds d = ap data_end (map-append shape_of ds (d ∷ [])) ∙ data_end-push (map shape_of ds) (shape_of d)
-
-pub ends_within : (ds : List Definition) (i : ℕ) → data_end (map shape_of (take i ds)) ≤ data_end (map shape_of ds)
-ends_within ds i = omega (arith, ap data_end (sym (take-map shape_of i ds)), sum_by-take-le size_of (map shape_of ds) i)
-
-pub next_end : (ds : List Definition) (i : ℕ) (d : Definition) → i < length ds → d ≡ get_or ds i d → (address size : ℕ) → address ≡ data_end (map shape_of (take i ds)) → size ≡ size_of (shape_of d) → address + size ≡ data_end (map shape_of (take (i + 1) ds))
-next_end ds i d lt is address size here long =
-    let taken : take (i + 1) ds ≡ take i ds ++ d ∷ [] = take_more ds i d lt ∙ ap (λ x. take i ds ++ x ∷ []) (sym is) in
-    let e : data_end (map shape_of (take (i + 1) ds)) ≡ data_end (map shape_of (take i ds)) + size_of (shape_of d) = ap (λ xs. data_end (map shape_of xs)) taken ∙ ends_after (take i ds) d in
-    omega (arith, e)
-
-second_none : {A : Type 0} (a : Option A) (b : Bool) (x : A) (rest : List (Option A)) → first_some (a ∷ (some_if b x ∷ rest)) ≡ None → b ≡ false
-second_none (Some y) b x rest h = cc
-second_none None true x rest h = cc
-second_none None false x rest h = refl
-
-not_more : (end labels : ℕ) → (nat_lt 65536 end || nat_lt 65535 labels) ≡ false → end ≤ 65536
-not_more end labels h = grind (arith, nat_tests)
-
-pub data_fit : (ds : List Definition) → load_fault ds ≡ None → data_end (map shape_of ds) ≤ 65536
-data_fit ds h = not_more (data_end (map shape_of ds)) (label_count (map shape_of ds)) (second_none _ _ _ _ h)
 
 -- a call more of those that are left, and none
 pub calls_left : (text new whole : List ℕ) (left rest : List Active) (c : Active) → left ≡ rest ++ c ∷ [] → text ++ flat_map call_text (reverse left) ≡ whole → new ≡ text ++ call_text c

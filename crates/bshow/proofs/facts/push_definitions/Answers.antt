@@ -3,7 +3,8 @@ use Rattle.std.proofs.lemmas.List.{take_all}
 use Rattle.std.proofs.lemmas.Result.{on_ok_weaker}
 use Rattle.blang.specs.Layout.{data_end, shape_of}
 use Rattle.btools.proofs.AddedTexts.{piece}
-use Rattle.bshow.proofs.FactParts.{ends_within, next_end, one_definition, texts_of}
+use Rattle.btools.proofs.Functions.{ends_within, next_end}
+use Rattle.bshow.proofs.FactParts.{one_definition, texts_of}
 use Rattle.bshow.proofs.facts.push_definitions.Goals as goal
 
 pub loop-definition-init : goal.loop-definition-init

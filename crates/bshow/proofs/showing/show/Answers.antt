@@ -6,10 +6,10 @@ use Rattle.blang.specs.Reports.{Reported}
 use Rattle.btools.specs.Origins.{Source}
 use Rattle.bmach.proofs.Readings.{none_at_first}
 use Rattle.bsources.specs.Files.{files_shown}
+use Rattle.btools.proofs.Functions.{data_fit}
 use Rattle.bshow.specs.Facts.{program_text}
 use Rattle.bshow.specs.Rows.{lined_code, table_code}
 use Rattle.bshow.specs.Shows.{no_memory, not_begun, shown, stopped, unread}
-use Rattle.bshow.proofs.FactParts.{data_fit}
 use Rattle.bshow.proofs.Recorded.{none_seen, paged}
 use Rattle.bshow.proofs.showing.show.Goals as goal
 
