@@ -1,5 +1,5 @@
 -- Closed facts: what stands in the rows and facts of a page, and which steps have a row, on small values.
-use Rattle.std.specs.Prelude.{◌≡◌, ℕ, true, false, List, [], ◌∷◌, ◌++◌, Some, codes, map, refl, take}
+use Rattle.std.specs.Prelude.{◌≡◌, ℕ, ◌-◌, true, false, List, [], ◌∷◌, ◌++◌, Some, codes, drop, length, map, refl, take}
 use Rattle.std.specs.List.{list_all}
 use Rattle.std.specs.Fmt.{digits}
 use Rattle.blang.specs.declared.code.Definition.{Definition}
@@ -27,7 +27,28 @@ use Rattle.bshow.specs.Facts.{trap_words}
 use Rattle.bshow.specs.Facts.{unbegun_sentence}
 use Rattle.bshow.specs.OwnTexts.{own_texts}
 use Rattle.bshow.specs.Rows.{call_cells, done_cells, is_getchar, lined_code, words_cell}
+use Rattle.bshow.specs.declared.page.TheConstants.{BETWEEN, HEAD, SCRIPT, TAIL}
 use Rattle.bshow.specs.Shows.{calls_at, heard_text, next_text, rows_text, shown_of}
+
+-- The fixed parts of a page: the rows are those of a table, the sentence stands below it, the facts are a text of JSON
+-- of their own, and the script that shows them comes last.
+page_begins : take 16 HEAD.now ≡ codes "<!doctype html>\n"
+page_begins = refl
+
+rows_begin : drop (length HEAD.now - 17) HEAD.now ≡ codes "</thead>\n<tbody>\n"
+rows_begin = refl
+
+rows_end : BETWEEN.now ≡ codes "</tbody>\n</table>\n</div>\n</details>\n<p id=\"end\">"
+rows_end = refl
+
+facts_begin : SCRIPT.now ≡ codes "</p>\n<script type=\"application/json\" id=\"facts\">"
+facts_begin = refl
+
+script_begins : take 33 TAIL.now ≡ codes "</script>\n<script>\n\"use strict\";\n"
+script_begins = refl
+
+script_ends : drop (length TAIL.now - 27) TAIL.now ≡ codes "show(0);\n</script>\n</html>\n"
+script_ends = refl
 
 -- what ends a string, a tag or a comment, and what is no printable character of ASCII
 marks_escaped : escaped (codes "\"\\<>&") ≡ codes "\\u0022\\u005c\\u003c\\u003e\\u0026"
