@@ -14,6 +14,8 @@ pub(crate) enum Like {
     Any,
     /// This one alone.
     Is(Lexeme),
+    /// One of these two.
+    Either(Lexeme, Lexeme),
     /// A name of these letters.
     Word(&'static str),
     /// A name that C has for a type.
@@ -41,6 +43,16 @@ pub(crate) enum Like {
     Closes,
 }
 
+pub(crate) const ANY: Like = Like::Any;
+
+pub(crate) const STRING: Like = Like::Is(Lexeme::String);
+
+pub(crate) const COMMA: Like = Like::Is(Lexeme::Comma);
+
+pub(crate) const OPEN_PAREN: Like = Like::Is(Lexeme::OpenParen);
+
+pub(crate) const CLOSE_PAREN: Like = Like::Is(Lexeme::CloseParen);
+
 /// What C calls its types and their parts, and some words that come before them.
 const TYPES: [&str; 20] = [
     "int", "char", "void", "long", "short", "unsigned", "signed", "float", "double", "bool",
@@ -54,6 +66,7 @@ impl Like {
         match self {
             Like::Any => true,
             Like::Is(one) => *lexeme == *one,
+            Like::Either(one, other) => *lexeme == *one || *lexeme == *other,
             Like::Word(word) => is_word(lexeme, word),
             Like::Type => is_type(lexeme),
             Like::Name => matches!(lexeme, Lexeme::Name(_)),

@@ -9,7 +9,7 @@ use crate::effects::statement;
 use crate::ends::{end_compared, loop_end};
 use crate::finding::{Finding, MOST_FINDINGS, Place};
 use crate::flow::Judgement;
-use crate::kinds::Like;
+use crate::kinds::{ANY, CLOSE_PAREN, COMMA, Like, OPEN_PAREN, STRING};
 use crate::locals::{Locals, NameRole};
 use crate::near::library_arguments;
 use crate::outside::outside;
@@ -210,21 +210,11 @@ enum If {
 #[derive(Clone, Copy)]
 struct Row([Like; 5], If, Option<Warning>);
 
-const ANY: Like = Like::Any;
-
 const AND: Like = Like::Is(Lexeme::Operator(BinOp::And));
 
 const MUL: Like = Like::Is(Lexeme::Operator(BinOp::Mul));
 
 const NOT: Like = Like::Is(Lexeme::Not);
-
-const STRING: Like = Like::Is(Lexeme::String);
-
-const OPEN_PAREN: Like = Like::Is(Lexeme::OpenParen);
-
-const CLOSE_PAREN: Like = Like::Is(Lexeme::CloseParen);
-
-const COMMA: Like = Like::Is(Lexeme::Comma);
 
 const EIGHT: Like = Like::Is(Lexeme::Number(8));
 

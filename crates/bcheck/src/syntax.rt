@@ -5,7 +5,7 @@ ghost use Rattle.bcheck.specs.Checks.{is_on_line};
 
 use crate::around::{Around, Region, opener_of};
 use crate::foreign::Foreign;
-use crate::kinds::Like;
+use crate::kinds::{ANY, CLOSE_PAREN, COMMA, Like, OPEN_PAREN, STRING};
 use crate::spans::{Spans, is_joined, is_next_line, lexeme_at};
 use blang::Keyword;
 use blex::Lexeme;
@@ -210,8 +210,6 @@ pub(crate) enum Marking {
 #[derive(Clone, Copy)]
 struct Mistake(Option<Region>, If, [Like; 5], Syntax, Marking);
 
-const ANY: Like = Like::Any;
-
 const END: Like = Like::Is(Lexeme::End);
 
 const AUTO: Like = Like::Is(Lexeme::Keyword(Keyword::Auto));
@@ -222,7 +220,10 @@ const CASE: Like = Like::Is(Lexeme::Keyword(Keyword::Case));
 
 const IF: Like = Like::Is(Lexeme::Keyword(Keyword::If));
 
-const WHILE: Like = Like::Is(Lexeme::Keyword(Keyword::While));
+const IF_WHILE: Like = Like::Either(
+    Lexeme::Keyword(Keyword::If),
+    Lexeme::Keyword(Keyword::While),
+);
 
 const SWITCH: Like = Like::Is(Lexeme::Keyword(Keyword::Switch));
 
@@ -248,21 +249,17 @@ const SEMICOLON: Like = Like::Is(Lexeme::Semicolon);
 
 const COLON: Like = Like::Is(Lexeme::Colon);
 
-const COMMA: Like = Like::Is(Lexeme::Comma);
-
-const OPEN_PAREN: Like = Like::Is(Lexeme::OpenParen);
-
-const CLOSE_PAREN: Like = Like::Is(Lexeme::CloseParen);
+const SEMICOLON_COLON: Like = Like::Either(Lexeme::Semicolon, Lexeme::Colon);
 
 const OPEN_BRACKET: Like = Like::Is(Lexeme::OpenBracket);
 
-const CLOSE_BRACKET: Like = Like::Is(Lexeme::CloseBracket);
+const CLOSE_BRACKETS: Like = Like::Either(Lexeme::CloseParen, Lexeme::CloseBracket);
 
 const OPEN_BRACE: Like = Like::Is(Lexeme::OpenBrace);
 
 const CLOSE_BRACE: Like = Like::Is(Lexeme::CloseBrace);
 
-const STRING: Like = Like::Is(Lexeme::String);
+const STATEMENT_END: Like = Like::Either(Lexeme::Semicolon, Lexeme::CloseBrace);
 
 const START: Option<Region> = Some(Region::Start);
 
@@ -320,7 +317,7 @@ const DECLARATIONS: [Mistake; 7] = [
 
 /// Words, with what has to come after them.
 #[rattlefmt::skip]
-const WORDS: [Mistake; 16] = [
+const WORDS: [Mistake; 15] = [
     Mistake(BODY, If::For, [ANY, ANY, ANY, ANY, ANY], Syntax::For, Marking::Head),
     Mistake(BODY, If::Always, [ANY, ANY, Like::Word("for"), Like::Name, ANY], Syntax::ForEach, Marking::Before),
     Mistake(BODY, If::Always, [ANY, ANY, Like::Word("do"), ANY, ANY], Syntax::Do, Marking::Before),
@@ -335,17 +332,15 @@ const WORDS: [Mistake; 16] = [
     Mistake(BODY, If::Always, [ANY, CASE, Like::Constant, ANY, ANY], Syntax::CaseColon, Marking::Here),
     Mistake(BODY, If::Joined, [ANY, Like::Constant, COLON, COLON, ANY], Syntax::CaseRange, Marking::Before),
     Mistake(BODY, If::Second, [ANY, COLON, Like::Constant, COLON, ANY], Syntax::CaseRange, Marking::Here),
-    Mistake(BODY, If::Always, [ANY, ANY, IF, ANY, ANY], Syntax::Condition, Marking::Here),
-    Mistake(BODY, If::Always, [ANY, ANY, WHILE, ANY, ANY], Syntax::Condition, Marking::Here),
+    Mistake(BODY, If::Always, [ANY, ANY, IF_WHILE, ANY, ANY], Syntax::Condition, Marking::Here),
     Mistake(BODY, If::Always, [ANY, ANY, RETURN, ANY, ANY], Syntax::ReturnValue, Marking::Here),
 ];
 
 /// Operators and operands, and brackets around them.
 #[rattlefmt::skip]
-const OPERANDS: [Mistake; 21] = [
+const OPERANDS: [Mistake; 20] = [
     Mistake(BODY, If::Always, [ANY, ANY, OR, OR, ANY], Syntax::OrOr, Marking::Here),
-    Mistake(BODY, If::Always, [IF, ANY, CLOSE_PAREN, COLON, ANY], Syntax::HeadColon, Marking::Here),
-    Mistake(BODY, If::Always, [WHILE, ANY, CLOSE_PAREN, COLON, ANY], Syntax::HeadColon, Marking::Here),
+    Mistake(BODY, If::Always, [IF_WHILE, ANY, CLOSE_PAREN, COLON, ANY], Syntax::HeadColon, Marking::Here),
     Mistake(BODY, If::Always, [ELSE, ANY, CLOSE_PAREN, COLON, ANY], Syntax::HeadColon, Marking::Here),
     Mistake(BODY, If::Always, [ANY, ANY, ELSE, COLON, ANY], Syntax::HeadColon, Marking::Here),
     Mistake(BODY, If::LineStart, [Like::Name, ANY, CLOSE_PAREN, COLON, ANY], Syntax::HeadColon, Marking::Here),
@@ -368,27 +363,23 @@ const OPERANDS: [Mistake; 21] = [
 
 /// Statements that begin or end at the wrong place.
 #[rattlefmt::skip]
-const STATEMENTS: [Mistake; 9] = [
+const STATEMENTS: [Mistake; 7] = [
     Mistake(BODY, If::ParenOpen, [ANY, ANY, Like::Ended, Like::Keyword, ANY], Syntax::ParenOpen, Marking::Here),
     Mistake(BODY, If::Always, [SWITCH, ANY, Like::Ended, ANY, ANY], Syntax::SwitchBraces, Marking::Here),
-    Mistake(BODY, If::IfBrace, [ANY, ANY, SEMICOLON, ELSE, ANY], Syntax::ElseInBraces, Marking::Here),
-    Mistake(BODY, If::IfBrace, [ANY, ANY, CLOSE_BRACE, ELSE, ANY], Syntax::ElseInBraces, Marking::Here),
+    Mistake(BODY, If::IfBrace, [ANY, ANY, STATEMENT_END, ELSE, ANY], Syntax::ElseInBraces, Marking::Here),
     Mistake(BODY, If::NextLine, [ANY, ANY, Like::Ended, ELSE, ANY], Syntax::SemicolonMissing, Marking::Here),
-    Mistake(BODY, If::Always, [ANY, ANY, SEMICOLON, ELSE, ANY], Syntax::ElseAlone, Marking::Here),
-    Mistake(BODY, If::Always, [ANY, ANY, CLOSE_BRACE, ELSE, ANY], Syntax::ElseAlone, Marking::Here),
+    Mistake(BODY, If::Always, [ANY, ANY, STATEMENT_END, ELSE, ANY], Syntax::ElseAlone, Marking::Here),
     Mistake(BODY, If::LineStart, [Like::Name, ANY, CLOSE_PAREN, OPEN_BRACE, ANY], Syntax::FunctionInside, Marking::First),
     Mistake(BODY, If::Always, [Like::Name, ANY, CLOSE_PAREN, OPEN_BRACE, ANY], Syntax::CallBody, Marking::First),
 ];
 
 /// The rest, where what comes after an operand is no part of its expression.
 #[rattlefmt::skip]
-const REST: [Mistake; 12] = [
+const REST: [Mistake; 10] = [
     Mistake(BODY, If::Always, [ANY, ANY, ANY, Like::Assigns, ANY], Syntax::AssignLeft, Marking::Here),
     Mistake(BODY, If::Always, [ANY, ANY, ANY, COMMA, ANY], Syntax::CommaAlone, Marking::Here),
-    Mistake(BODY, If::Always, [ANY, ANY, ANY, CLOSE_PAREN, ANY], Syntax::Unopened, Marking::Here),
-    Mistake(BODY, If::Always, [ANY, ANY, ANY, CLOSE_BRACKET, ANY], Syntax::Unopened, Marking::Here),
-    Mistake(BODY, If::Always, [ANY, ANY, SEMICOLON, CLOSE_BRACE, ANY], Syntax::NoStatement, Marking::Here),
-    Mistake(BODY, If::Always, [ANY, ANY, COLON, CLOSE_BRACE, ANY], Syntax::NoStatement, Marking::Here),
+    Mistake(BODY, If::Always, [ANY, ANY, ANY, CLOSE_BRACKETS, ANY], Syntax::Unopened, Marking::Here),
+    Mistake(BODY, If::Always, [ANY, ANY, SEMICOLON_COLON, CLOSE_BRACE, ANY], Syntax::NoStatement, Marking::Here),
     Mistake(BODY, If::NextLine, [ANY, ANY, Like::Ended, ANY, ANY], Syntax::SemicolonMissing, Marking::Here),
     Mistake(BODY, If::Always, [ANY, ANY, Like::Ended, CLOSE_BRACE, ANY], Syntax::SemicolonBefore, Marking::Here),
     Mistake(BODY, If::Second, [ANY, ANY, Like::Name, Like::Operand, ANY], Syntax::CallParens, Marking::Here),
