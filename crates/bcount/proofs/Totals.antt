@@ -45,6 +45,14 @@ module _ (w : ℕ → ℕ) (p : ℕ) (others : (k : ℕ) → (k ≡ p → ⊥) �
       let rest = none_before (a + 1) n (omega (arith, lt)) in
       omega (arith, e, here, rest)
 
+  pub none_after : (a n : ℕ) → a + n ≤ p → sum_by w (range_with_len a n) ≡ 0
+  none_after a zero le = refl
+  none_after a (suc n) le =
+      let e = sum_by-cons w a (range_with_len (a + 1) n) in
+      let here = others a (λ same. omega (arith, same, le)) in
+      let rest = none_after (a + 1) n (omega (arith, le)) in
+      omega (arith, e, here, rest)
+
   pub one_part : (a n : ℕ) → a ≤ p → p < a + n → sum_by w (range_with_len a n) ≡ w p
   one_part a zero low high = absurd (omega (arith, low, high))
   one_part a (suc n) low high = ⊎_elim
@@ -64,14 +72,14 @@ abbrev one_if : Bool → ℕ
 one_if b = cond b 1 0
 
 -- how many places of the functions a machine is at
-abbrev hits : Option Active → Placed → ℕ
+abbrev pub hits : Option Active → Placed → ℕ
 hits s f = sum_by (λ k. one_if (is_at f.strings k s)) (range_with_len 0 (length f.function.code))
 
 abbrev pub all_hits : Option Active → List Placed → ℕ
 all_hits s fs = sum_by (hits s) fs
 
 module _ (sights : Sights) where
-  abbrev total : (made : ℕ) → Placed → ℕ
+  abbrev pub total : (made : ℕ) → Placed → ℕ
   total made f = sum_by (times sights made f.strings) (range_with_len 0 (length f.function.code))
 
   total_more : (made : ℕ) (f : Placed) → total (made + 1) f ≡ total made f + hits (sights made).call f
@@ -79,7 +87,7 @@ module _ (sights : Sights) where
       (λ i. sum_by (λ k. times_more sights made f.strings k i) (range_with_len 0 (length f.function.code)))
       ∙ sum_both (times sights made f.strings) (λ k. one_if (is_at f.strings k (sights made).call)) (range_with_len 0 (length f.function.code))
 
-  totals_more : (made : ℕ) (fs : List Placed) → sum_by (total (made + 1)) fs ≡ sum_by (total made) fs + all_hits (sights made).call fs
+  pub totals_more : (made : ℕ) (fs : List Placed) → sum_by (total (made + 1)) fs ≡ sum_by (total made) fs + all_hits (sights made).call fs
   totals_more made fs = (λ i. sum_by (λ f. total_more made f i) fs) ∙ sum_both (total made) (hits (sights made).call) fs
 
   totals_none : (fs : List Placed) → sum_by (total 0) fs ≡ 0
@@ -124,6 +132,9 @@ module _ (call : Active) where
       one_part (λ k. one_if (is_at f.strings k now)) call.place (other_place f) 0 (length f.function.code) (omega arith) (omega (arith, within))
       ∙ (λ i. one_if (same_number f.strings call.strings same i && same_number call.place call.place refl i))
 
+  past_function : (f : Placed) → length f.function.code ≤ call.place → hits now f ≡ 0
+  past_function f past = none_after (λ k. one_if (is_at f.strings k now)) call.place (other_place f) 0 (length f.function.code) (omega (arith, past))
+
   no_function : (fs : List Placed) → All (λ f. call.strings < f.strings) fs → all_hits now fs ≡ 0
   no_function [] above = refl
   no_function (f ∷ fs) above =
@@ -133,18 +144,25 @@ module _ (call : Active) where
       let e = sum_by-cons (hits now) f fs in
       omega (arith, here, rest, e)
 
-  pub one_hit : (fs : List Placed) → AllPairs (λ f g. f.strings < g.strings) fs → (k : ℕ) → k < length fs → ((d : Placed) → ((get_or fs k d).strings ≡ call.strings) × (call.place < length (get_or fs k d).function.code)) → all_hits now fs ≡ 1
-  one_hit [] ascend k lt is = absurd (omega (arith, lt))
-  one_hit (f ∷ fs) ascend zero lt is =
-      let here = this_function f (is f).0 (is f).1 in
+  -- as many as in its own function
+  own_hits : (v : ℕ) (fs : List Placed) → AllPairs (λ f g. f.strings < g.strings) fs → (k : ℕ) → k < length fs → ((d : Placed) → ((get_or fs k d).strings ≡ call.strings) × (hits now (get_or fs k d) ≡ v)) → all_hits now fs ≡ v
+  own_hits v [] ascend k lt is = absurd (omega (arith, lt))
+  own_hits v (f ∷ fs) ascend zero lt is =
+      let here = (is f).1 in
       let same = (is f).0 in
       let rest = no_function fs (λ k d within. (let less = ascend 0 (suc k) d (omega arith) (omega (arith, within)) in omega (arith, same, less))) in
       let e = sum_by-cons (hits now) f fs in
       omega (arith, here, rest, e)
-  one_hit (f ∷ fs) ascend (suc k) lt is =
+  own_hits v (f ∷ fs) ascend (suc k) lt is =
       let same = (is f).0 in
       let less = ascend 0 (suc k) f (omega arith) (omega (arith, lt)) in
       let here = other_function f (λ e. omega (arith, e, same, less)) in
-      let rest = one_hit fs (λ i j d low high. ascend (suc i) (suc j) d (omega (arith, low)) (omega (arith, high))) k (omega (arith, lt)) (λ d. is d) in
+      let rest = own_hits v fs (λ i j d low high. ascend (suc i) (suc j) d (omega (arith, low)) (omega (arith, high))) k (omega (arith, lt)) (λ d. is d) in
       let e = sum_by-cons (hits now) f fs in
       omega (arith, here, rest, e)
+
+  pub one_hit : (fs : List Placed) → AllPairs (λ f g. f.strings < g.strings) fs → (k : ℕ) → k < length fs → ((d : Placed) → ((get_or fs k d).strings ≡ call.strings) × (call.place < length (get_or fs k d).function.code)) → all_hits now fs ≡ 1
+  one_hit fs ascend k lt is = own_hits 1 fs ascend k lt (λ d. ((is d).0, this_function (get_or fs k d) (is d).0 (is d).1))
+
+  pub no_hit : (fs : List Placed) → AllPairs (λ f g. f.strings < g.strings) fs → (k : ℕ) → k < length fs → ((d : Placed) → ((get_or fs k d).strings ≡ call.strings) × (length (get_or fs k d).function.code ≤ call.place)) → all_hits now fs ≡ 0
+  no_hit fs ascend k lt is = own_hits 0 fs ascend k lt (λ d. ((is d).0, past_function (get_or fs k d) (is d).1))

@@ -1,5 +1,5 @@
 -- Promise: the steps of all lines together.
-use Rattle.std.specs.Prelude.{◌≡◌, ◌≤◌, ℕ, List}
+use Rattle.std.specs.Prelude.{◌≡◌, ◌≤◌, ◌⊎◌, ℕ, ◌+◌, List}
 use Rattle.std.specs.List.{sum_by}
 use Rattle.bword.specs.ByteEnds.{Incoming, most}
 use Rattle.blang.specs.declared.code.Definition.{Definition}
@@ -18,10 +18,11 @@ use Rattle.bcount.specs.declared.lines.LineCount.{LineCount}
 abbrev pub all_steps : List LineCount → ℕ
 all_steps counts = sum_by (λ c. c.steps) counts
 
--- Compiled code never lacks an instruction or an operand; for a code text, its run wasn't over for want of one.
-abbrev pub LacksNone : Origin → Outcome → Type 0
-LacksNone (Source edition) result = Unit {0}
-LacksNone (Code c) result = result ≡ outcome.Trap trap.Stuck → ⊥
+-- All lines have together as many steps as were made; or one fewer, where a code text has no instruction for the last
+-- step.
+abbrev pub AddUp : Origin → Outcome → (all made : ℕ) → Type 0
+AddUp (Source edition) result all made = all ≡ made
+AddUp (Code c) result all made = (all ≡ made) ⊎ ((result ≡ outcome.Trap trap.Stuck) × (all + 1 ≡ made))
 
 -- There is a program, and no more steps were asked for than a u64 counts. So many were made, and these are the counts of
 -- its instructions.
@@ -35,10 +36,9 @@ pub record IsCounted (asked : Asked) (source : List ℕ) (tallies : List (List �
   pub result : Outcome
   pub counts : Watches (image_of ds).functions (machine ds) asked.steps input input_after result made
       (AreCounts (functions_of ds) tallies)
-  pub whole : LacksNone asked.origin result
 
 -- The steps of all lines together are those that were made, whatever lines the instructions are on.
 abbrev pub StepsAddUp : Type 0
 StepsAddUp =
-    (asked : Asked) (source : List ℕ) (tallies : List (List ℕ)) (made : ℕ) → IsCounted asked source tallies made
-    → (fs : List FunctionLines) → all_steps (counts_by_line source fs tallies) ≡ made
+    (asked : Asked) (source : List ℕ) (tallies : List (List ℕ)) (made : ℕ) (is : IsCounted asked source tallies made)
+    (fs : List FunctionLines) → AddUp asked.origin is.result (all_steps (counts_by_line source fs tallies)) made

@@ -122,7 +122,8 @@ pub fn wrong_counts_are_excluded()
     ensures { CountsExcluded }
 {}
 
-/// Each step is counted on one line: the steps of all lines together are those that were made.
+/// Each step is counted on one line: the steps of all lines together are those that were made. A code text may have no
+/// instruction for its last step, which is on no line then.
 pub fn steps_of_all_lines_add_up()
     ensures { StepsAddUp }
 {}
