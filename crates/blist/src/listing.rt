@@ -44,11 +44,12 @@ const HEADING: &[u8] =
 const UNDEFINED: &[u8] = b"error: the source has no definition of this NAME\n";
 
 /// Writes the code of a source, or of its definitions of one name, beside the line of the source that each instruction
-/// comes from. A code text is listed so, too, with the line of each instruction, and beside its source if it has lines of
-/// one.
+/// comes from. A code text is listed so, too, with the line of each instruction, and beside its source if it has lines
+/// of one.
 ///
 /// The status is 0, or that of `go` if the source doesn't compile or load, and that of `run` for a code text. If no
-/// definition has the name, a line says so, and the status is 135, as it is for a file of lines that doesn't suit the code.
+/// definition has the name, a line says so, and the status is 135, as it is for a file of lines that doesn't suit the
+/// code.
 pub fn list<O: ByteOut, D: ByteOut>(
     alloc: Global,
     source: &[u8],

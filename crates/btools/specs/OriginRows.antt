@@ -12,7 +12,8 @@ use Rattle.btools.specs.Programs.{unlined_line}
 
 -- X n 2 1, c 1, s 0, w 4
 abbrev an_external : Definition
-an_external = definition.Simple (record { name = codes "n"; values = ival.Number 1 ∷ ival.Text 0 ∷ []; strings = 4 ∷ [] })
+an_external =
+    definition.Simple (record { name = codes "n"; values = ival.Number 1 ∷ ival.Text 0 ∷ []; strings = 4 ∷ [] })
 
 -- V v 4 1 0, c 3
 abbrev a_vector : Definition
@@ -50,11 +51,13 @@ number_of_places : map places_in ([] ∷ (no_values ∷ []) ∷ (an_external ∷
 number_of_places = refl
 
 -- a text of each edition, and texts whose first line isn't `B 2`
-editions_told : map lines_before (codes "B 2\nE\n" ∷ codes "E\n" ∷ codes "B 1\nE\n" ∷ codes "X n 0 0\nB 2\nE\n" ∷ [] ∷ [])
+editions_told : map lines_before
+    (codes "B 2\nE\n" ∷ codes "E\n" ∷ codes "B 1\nE\n" ∷ codes "X n 0 0\nB 2\nE\n" ∷ [] ∷ [])
     ≡ 1 ∷ 0 ∷ 0 ∷ 0 ∷ 0 ∷ []
 editions_told = refl
 
-unlined_told : unlined_line 12 ≡ codes "error: the file of lines needs 12 lines, a decimal number for each place of the code\n"
+unlined_told : unlined_line 12
+    ≡ codes "error: the file of lines needs 12 lines, a decimal number for each place of the code\n"
 unfolding digits
 unlined_told = refl
 
