@@ -85,7 +85,7 @@ name_of_none frame = refl
 abbrev texts : List (List ℕ)
 texts = codes "f(a) {" ∷ codes "\treturn(0); }  " ∷ []
 
-texts_of_lines : map (line_text texts) (1 ∷ 2 ∷ 3 ∷ []) ≡ codes "f(a) {" ∷ codes "return(0); }" ∷ [] ∷ []
+texts_of_lines : map (line_text texts) (0 ∷ 1 ∷ 2 ∷ 3 ∷ []) ≡ [] ∷ codes "f(a) {" ∷ codes "return(0); }" ∷ [] ∷ []
 texts_of_lines = refl
 
 first_of_line : map (λ before. source_beside texts before (Some 1)) (None ∷ Some 2 ∷ Some 1 ∷ [])

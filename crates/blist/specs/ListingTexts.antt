@@ -1,5 +1,5 @@
 -- Inner words: the rows of a listing.
-use Rattle.std.specs.Prelude.{◌≡◌, ℕ, zero, suc, ◌+◌, ◌-◌, ◌%◌, ◌==◌, Bool, false, true, List, [], ◌∷◌, ◌++◌, codes}
+use Rattle.std.specs.Prelude.{◌≡◌, ℕ, zero, suc, ◌+◌, ◌%◌, ◌==◌, Bool, false, true, List, [], ◌∷◌, ◌++◌, codes}
 use Rattle.std.specs.Prelude.{decimal, drop, get_or}
 use Rattle.std.specs.Prelude.{map, refl, take, Option, Some, None, if◌then◌else◌}
 use Rattle.std.specs.Char.{is_ascii_whitespace}
@@ -118,10 +118,10 @@ instr_named frame (instr.Automatic offset) = word_named frame offset
 instr_named frame (instr.Label number) = label_named frame number
 instr_named frame other = named.Nothing
 
--- the line of a source with this number, without the white space around it
+-- the line of a source with this number, from 1 on, without the white space around it; nothing where there is none
 abbrev pub line_text : (texts : List (List ℕ)) → (number : ℕ) → List ℕ
-line_text texts number =
-    let line = get_or texts (number - 1) [] in trimmed (drop (prefix_len is_ascii_whitespace line) line)
+line_text texts zero = []
+line_text texts (suc n) = let line = get_or texts n [] in trimmed (drop (prefix_len is_ascii_whitespace line) line)
 
 -- the number of the line of the instruction before
 abbrev pub number_before : (lines : List ℕ) → (place : ℕ) → Option ℕ

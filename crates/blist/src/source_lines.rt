@@ -6,7 +6,10 @@ ghost use Rattle.blist.specs.ListingTexts.{line_text};
 pub fn line_text<'a>(lines: &[&'a [u8]], number: u64) -> &'a [u8]
     ensures { result.now ≡ line_text (map (λ line. line.now) lines.now) number }
 {
-    match lines.get(number.saturating_sub(1) as usize) {
+    if number == 0 {
+        return b"";
+    }
+    match lines.get((number - 1) as usize) {
         Some(line) => line.trim_ascii(),
         None => b"",
     }
