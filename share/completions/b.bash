@@ -15,7 +15,10 @@ _b() {
     case ${COMP_WORDS[COMP_CWORD - 1]} in
     --edition) words='1 2' ;;
     --steps | --from | --last | --function | --input) return ;;
-
+    --made | --lines)
+        mapfile -t COMPREPLY < <(compgen -f -- "${COMP_WORDS[COMP_CWORD]}")
+        return
+        ;;
     --with)
         mapfile -t COMPREPLY < <(
             compgen -W 'input numbers print strings test vectors' -- "${COMP_WORDS[COMP_CWORD]}"
@@ -33,11 +36,11 @@ _b() {
     run) words='--steps --no-limit --where --help' ;;
     go) words='--edition --steps --no-limit --where --with --help' ;;
     migrate) words='--help' ;;
-    list) words='--edition --with --help' ;;
+    list) words='--edition --with --code --made --lines --help' ;;
     map) words='--edition --with --svg --steps --help' ;;
     check) words='--edition --with --json --help' ;;
-    trace) words='--edition --with --steps --from --last --function --help' ;;
-    count) words='--edition --with --steps --no-limit --json --help' ;;
+    trace) words='--edition --with --code --made --lines --steps --from --last --function --help' ;;
+    count) words='--edition --with --code --made --lines --steps --no-limit --json --help' ;;
     show) words='--edition --with --steps --from --last --input --help' ;;
     format) words='--edition --check --help' ;;
     esac

@@ -1,7 +1,8 @@
 # shellcheck shell=sh
 # Reads the words of a command line, for the script `b`, and puts others in their place: for a name of the library after
 # --with the path of its file in the folder `library`; and for a FILE `-` of a command that runs no source, standard
-# input. A path, as each word with a slash or a point is one, stays, and so does all else.
+# input. A path, as each word with a slash or a point is one, stays, and so do the values of --made and --lines, and all
+# else.
 b_command=${1-} b_left=$# b_with='' b_over=''
 
 b_lib() {
@@ -27,8 +28,10 @@ compile | go | list | map | check | trace | count | show | format)
             b_lib "$b_word"
             b_with=''
             ;;
+        file*) b_with='' ;;
         "$b_command:--") b_over=over ;;
         "$b_command:--with") b_with=with ;;
+        "$b_command:--made" | "$b_command:--lines") b_with=file ;;
         "$b_command:--with="*)
             b_lib "${b_word#--with=}"
             b_word=--with=$b_word

@@ -4,7 +4,9 @@ use std::fs;
 use std::rt::Files;
 
 // What the files of a case end in, beside its words in NAME.args.
-const ENDINGS: [&str; 7] = ["b", "code", "in", "out", "line", "status", "shown"];
+const ENDINGS: [&str; 9] = [
+    "b", "bas", "code", "lines", "in", "out", "line", "status", "shown",
+];
 
 /// A folder with the names of its files.
 #[derive(Drop)]

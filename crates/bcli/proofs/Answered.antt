@@ -10,7 +10,7 @@ use Rattle.bword.specs.declared.edition.Edition.{Edition}
 use Rattle.brun.specs.OneRun.{unread}
 use Rattle.std.specs.Borrow.{Bor}
 use Rattle.blang.specs.Compiles.{CompileHeadline, Compiles}
-use Rattle.bcommand.specs.CommandLine.{Question, SourceAsked, ask, compile, asked_of, go, question_of}
+use Rattle.bcommand.specs.CommandLine.{OriginAsked, Question, SourceAsked, ask, compile, asked_of, go, from_made, question_of}
 use Rattle.bcommand.specs.declared.job.Job.{Job}
 use Rattle.bcommand.specs.declared.job.Question.{Question as Questioned}
 use Rattle.clap.specs.Words.{Text}
@@ -23,7 +23,8 @@ use Rattle.bshow.specs.Shows.{Shows}
 use Rattle.bshow.specs.Shows.{Asked as PageAsked}
 use Rattle.btrace.specs.declared.trail.TraceRows.{TraceRows as Traced}
 use Rattle.std.specs.Prelude.{◌==◌, None, Option, Some, option_map}
-use Rattle.bcli.specs.Serves.{ShowsRun, CompilesJoined, NamesLib, NamesLibOf, compiling, files_read, whole, Answers, Does, HasNoFile, IsHelp, NamesFile, SaysNothing, RefusesWords}
+use Rattle.btools.specs.Origins.{Origin, Code}
+use Rattle.bcli.specs.Serves.{OnOrigin, ShowsRun, CompilesJoined, NamesLib, NamesLibOf, compiling, files_read, origin_of, whole, Answers, AnswersOf, Does, HasNoFile, IsHelp, NamesFile, SaysNothing, RefusesWords}
 use Rattle.bcli.specs.declared.shelf.FileFault.{FileFault}
 use Rattle.bcli.specs.declared.shelf.FileFault.TheVariants as file_fault
 use Rattle.bcli.specs.Shelves.{Holdings}
@@ -41,12 +42,25 @@ memory_alone k ends status is (inr (inr silent)) = silent
 pub done : (shelf : Holdings) (job same : Job) (ends : RunEnds) (status : ℕ) → job ≡ same → Does shelf (asked_of same) ends status → Does shelf (asked_of job) ends status
 done shelf job same ends status is does = subst (λ (j : Job). Does shelf (asked_of j) ends status) (sym is) does
 
-pub answered : (edition : Edition) (files : Files) (text : List ℕ) (question same : Questioned) (ends : RunEnds) (status : ℕ) → question ≡ same → Answers edition files text (question_of same) ends status → Answers edition files text (question_of question) ends status
-answered edition files text question same ends status is answers = subst (λ (q : Questioned). Answers edition files text (question_of q) ends status) (sym is) answers
+pub answered : (origin : Origin) (edition : Edition) (files : Files) (text : List ℕ) (question same : Questioned) (ends : RunEnds) (status : ℕ) → question ≡ same → AnswersOf origin edition files text (question_of same) ends status → AnswersOf origin edition files text (question_of question) ends status
+answered origin edition files text question same ends status is answers = subst (λ (q : Questioned). AnswersOf origin edition files text (question_of q) ends status) (sym is) answers
+
+-- what is asked is answered of the program of this origin
+pub answers_on : (shelf : Holdings) (edition : Edition) (files : Files) (text : List ℕ) (question : Question) (asked : OriginAsked) (ends : RunEnds) (status : ℕ) → asked ≡ origin_of question
+    → OnOrigin shelf edition text asked (λ origin. AnswersOf origin edition files text question) ends status → Answers shelf edition files text question ends status
+answers_on shelf edition files text question asked ends status is answers =
+    subst (λ (o : OriginAsked). OnOrigin shelf edition text o (λ origin. AnswersOf origin edition files text question) ends status) is answers
 
 -- the text that is given is the one that was read
 pub held : (shelf : Holdings) (file : Text) (given read : List ℕ) → given ≡ read → shelf.holds file read → shelf.holds file given
 held shelf file given read same holds = subst (λ t. shelf.holds file t) (sym same) holds
+
+-- a code text and its lines were read
+pub made_read : (shelf : Holdings) (edition : Edition) (text : List ℕ) (made lined code read lines counted : List ℕ) (does : Origin → RunEnds → ℕ → Type 0) (ends : RunEnds) (status : ℕ)
+    → code ≡ read → shelf.holds made read → lines ≡ counted → shelf.holds lined counted → does (Code (record { code = code; lines = Some lines })) ends status
+    → OnOrigin shelf edition text (from_made made lined) does ends status
+made_read shelf edition text made lined code read lines counted does ends status same holds equal keeps answers =
+    inr (code, held shelf made code read same holds, inr (lines, held shelf lined lines counted equal keeps, answers))
 
 pub not_read : (reason : Type 0) (fault : FileFault) (ends : RunEnds) (status : ℕ) → HasNotRun ends → ends.line_after ≡ ends.line → (fault ≡ file_fault.Device → reason)
     → (fault ≡ file_fault.Device) × (status ≡ DEVICE) ⊎ (status ≡ MEMORY) → HasNoFile reason ends status
@@ -73,13 +87,13 @@ gone shelf source steps it given first following ends status h same is goes head
 -- an answer of a source that was read
 pub asked_of_source : (shelf : Holdings) (source : SourceAsked) (it : Whole) (files : Files) (given : List ℕ) (question : Question) (ends : RunEnds) (status : ℕ)
     → HasReadSource shelf source it → given ≡ it.text.items → files.first ≡ file_shown it.first → files.rest ≡ it.libs.files
-    → Answers source.edition files given question ends status → Does shelf (ask source question) ends status
+    → Answers shelf source.edition files given question ends status → Does shelf (ask source question) ends status
 asked_of_source shelf source it files given question ends status h same first rest answers =
     let files_are : files ≡ files_read h.reads = cong₂ (first ∙ h.first) (rest ∙ ap (λ (f : Followed). f.files) h.libs) in
     inr (inr (
       h.reads,
-      subst (λ (t : List ℕ). Answers source.edition (files_read h.reads) t question ends status) (same ∙ h.text)
-          (subst (λ (f : Files). Answers source.edition f given question ends status) files_are answers),
+      subst (λ (t : List ℕ). Answers shelf source.edition (files_read h.reads) t question ends status) (same ∙ h.text)
+          (subst (λ (f : Files). Answers shelf source.edition f given question ends status) files_are answers),
     ))
   where
     cong₂ : {f g : Files} → f.first ≡ g.first → f.rest ≡ g.rest → f ≡ g

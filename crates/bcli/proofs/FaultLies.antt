@@ -9,7 +9,6 @@ use Rattle.blang.specs.Reports.{Reported, RunEnds}
 use Rattle.bgrammar.proofs.GoesLaws.{each_source_comes}
 use Rattle.brun.specs.OneRun.{unread}
 use Rattle.btools.specs.FaultPlaces.{fault_lines}
-use Rattle.btools.specs.Origins.{NoProgramOf, ProgramOf, Source}
 use Rattle.btools.specs.Programs.{HasFault, HasProgram, NoProgram}
 use Rattle.btools.proofs.ProgramsExcluded as programs
 use Rattle.btools.proofs.ProgramsExcluded.{other_answer}
@@ -23,10 +22,12 @@ use Rattle.btrace.specs.Locates.{Locates}
 use Rattle.btrace.specs.Traces as traces
 use Rattle.btrace.specs.Traces.{Traces}
 use Rattle.btrace.specs.declared.trail.TraceRows.{TraceRows}
-use Rattle.bcommand.specs.CommandLine.{Question, check, count, draw, format, list, locate, map, show, trace}
+use Rattle.bcommand.specs.CommandLine.{Question, check, count, draw, format, from_code, from_made, from_source, list, locate, map, show, trace}
+use Rattle.btools.specs.Origins.{NoProgramOf, Origin, ProgramOf, Source}
 use Rattle.bsources.specs.Files.{Files}
 use Rattle.bcli.specs.ShellExcluded.{tells_run}
 use Rattle.bcli.specs.Serves.{Answers}
+use Rattle.bcli.specs.Shelves.{Holdings}
 
 module _ (edition : Edition) (text : List ℕ) (d : Diagnostic) (faulty : HasFault edition text d) where
   no_program : (ds : List Definition) (image : Image) → HasProgram edition text ds image → ⊥
@@ -59,11 +60,11 @@ module _ (edition : Edition) (text : List ℕ) (d : Diagnostic) (faulty : HasFau
   by_place files steps ends (locates.stopped why quiet) = why_told files ends.line ends.line_after why
 
   by_count : (asked : Counting) → asked.origin ≡ Source edition → (ends : RunEnds) → Counts asked text ends 1 → Writes ends.line (fault_lines asked.files d) ends.line_after
-  by_count asked same ends (counts.counted ds image result made tallies lines told has watched own reported tells) = absurd (no_program ds image (subst (λ o. ProgramOf o text ds image) same has))
+  by_count asked same ends (counts.counted ds image result made tallies lines told has watched own reported tells) = absurd (no_program ds image (subst (λ (o : Origin). ProgramOf o text ds image) same has))
   by_count asked same ends (counts.unread ds image output has still gives quiet answer) = absurd (omega (arith, answer))
-  by_count asked same ends (counts.not_begun ds image result has never finishes quiet) = absurd (no_program ds image (subst (λ o. ProgramOf o text ds image) same has))
+  by_count asked same ends (counts.not_begun ds image result has never finishes quiet) = absurd (no_program ds image (subst (λ (o : Origin). ProgramOf o text ds image) same has))
   by_count asked same ends (counts.stopped why quiet) =
-      why_told asked.files ends.line ends.line_after (subst (λ o. NoProgramOf o text (fault_lines asked.files) ends.line ends.line_after 1) same why)
+      why_told asked.files ends.line ends.line_after (subst (λ (o : Origin). NoProgramOf o text (fault_lines asked.files) ends.line ends.line_after 1) same why)
   by_count asked same ends (counts.no_memory ds image has still quiet read answer) = absurd (omega (arith, answer))
 
   by_page : (asked : Asked) (ends : RunEnds) → Shows edition text asked ends 1 → Writes ends.line (fault_lines asked.files d) ends.line_after
@@ -73,15 +74,19 @@ module _ (edition : Edition) (text : List ℕ) (d : Diagnostic) (faulty : HasFau
   by_page asked ends (pages.stopped why quiet) = why_told asked.files ends.line ends.line_after why
   by_page asked ends (pages.no_memory ds image has still silent read at) = absurd (no_program ds image has)
 
-pub fault_told : (edition : Edition) (files : Files) (text : List ℕ) (question : Question) (ends : RunEnds) (d : Diagnostic) → HasFault edition text d → tells_run question ≡ true
-    → Answers edition files text question ends 1 → Writes ends.line (fault_lines files d) ends.line_after
-fault_told edition files text (list name) ends d faulty tells answers = cc
-fault_told edition files text map ends d faulty tells answers = cc
-fault_told edition files text (draw steps) ends d faulty tells answers = cc
-fault_told edition files text (check for_editor) ends d faulty tells answers = cc
-fault_told edition files text (trace steps shown function) ends d faulty tells answers = by_trace edition text d faulty files steps _ function ends answers
-fault_told edition files text (locate steps) ends d faulty tells answers = by_place edition text d faulty files steps ends answers
-fault_told edition files text (count steps for_editor) ends d faulty tells answers = by_count edition text d faulty _ refl ends answers
-fault_told edition files text (show steps shown None) ends d faulty tells answers = by_page edition text d faulty _ ends answers
-fault_told edition files text (show steps shown (Some given)) ends d faulty tells answers = by_page edition text d faulty _ _ answers.2
-fault_told edition files text (format is_check) ends d faulty tells answers = cc
+pub fault_told : (shelf : Holdings) (edition : Edition) (files : Files) (text : List ℕ) (question : Question) (ends : RunEnds) (d : Diagnostic) → HasFault edition text d → tells_run question ≡ true
+    → Answers shelf edition files text question ends 1 → Writes ends.line (fault_lines files d) ends.line_after
+fault_told shelf edition files text (list origin name) ends d faulty tells answers = cc
+fault_told shelf edition files text map ends d faulty tells answers = cc
+fault_told shelf edition files text (draw steps) ends d faulty tells answers = cc
+fault_told shelf edition files text (check for_editor) ends d faulty tells answers = cc
+fault_told shelf edition files text (trace from_source steps shown function) ends d faulty tells answers = by_trace edition text d faulty files steps _ function ends answers
+fault_told shelf edition files text (trace from_code steps shown function) ends d faulty tells answers = cc
+fault_told shelf edition files text (trace (from_made made lined) steps shown function) ends d faulty tells answers = cc
+fault_told shelf edition files text (locate steps) ends d faulty tells answers = by_place edition text d faulty files steps ends answers
+fault_told shelf edition files text (count from_source steps for_editor) ends d faulty tells answers = by_count edition text d faulty _ refl ends answers
+fault_told shelf edition files text (count from_code steps for_editor) ends d faulty tells answers = cc
+fault_told shelf edition files text (count (from_made made lined) steps for_editor) ends d faulty tells answers = cc
+fault_told shelf edition files text (show steps shown None) ends d faulty tells answers = by_page edition text d faulty _ ends answers
+fault_told shelf edition files text (show steps shown (Some given)) ends d faulty tells answers = by_page edition text d faulty _ _ answers.2
+fault_told shelf edition files text (format is_check) ends d faulty tells answers = cc

@@ -1,5 +1,5 @@
 -- Answers that the contracts of `serve` and `refuse_words` exclude, whatever is proved of the body that gives them.
-use Rattle.std.proofs.Common.{◌≡◌, ◌∙◌, ◌⊎◌, ℕ, List, [], ◌∷◌, ◌++◌, Some, ap, refl, sym, subst, arith, inl, inr, map, append-nil}
+use Rattle.std.proofs.Common.{◌≡◌, ◌∙◌, ◌⊎◌, ℕ, List, [], ◌∷◌, ◌++◌, Some, None, ap, refl, sym, subst, arith, inl, inr, map, append-nil}
 use Rattle.std.specs.Prelude.{All, codes}
 use Rattle.std.specs.Io.KnownBytes.{Appends}
 use Rattle.clap.specs.Words.{IsAmong, Text, fault_of, subcommand_of}
@@ -16,7 +16,7 @@ use Rattle.blang.specs.Reports.{HasNotRun, Reported, RunEnds}
 use Rattle.brun.specs.OneRun.{nothing_written, one_run_ends, unread}
 use Rattle.brun.specs.Runs.{RunsText}
 use Rattle.brun.proofs.OneRun.{one_run}
-use Rattle.bcommand.specs.CommandLine.{Question, ask, asked, command_line, compile, go, locate_code, run}
+use Rattle.bcommand.specs.CommandLine.{OriginAsked, Question, ask, asked, command_line, compile, from_code, from_made, go, locate_code, run}
 use Rattle.bwhere.specs.Wheres.{LocatesCode}
 use Rattle.bcli.specs.declared.shelf.MemFile.{MemFile}
 use Rattle.bcli.specs.Shelves.{Holdings, holding}
@@ -26,8 +26,9 @@ use Rattle.blang.specs.Cut.{tokens_from}
 use Rattle.bsources.specs.Files.{Files, NamedText, file_in, file_of, following}
 use Rattle.bcli.proofs.FaultLies.{fault_told}
 use Rattle.bcli.proofs.Joined.{failed_joined, joined_answers}
-use Rattle.bcli.specs.Serves.{CompilesJoined, NamesLib, Reads, ReadsLibs, compiling, files_read, whole, Answers, Does, HasNoFile, IsHelp, NamesFile, RefusesWords, SaysNothing, Serves, did, refused, no_memory}
-use Rattle.bcli.specs.ShellExcluded.{AreWrong, Excluded, FileIsRead, HoldsOne, NothingFails, alone, files_alone, with_lib}
+use Rattle.btools.specs.Origins.{Code, Origin}
+use Rattle.bcli.specs.Serves.{OnOrigin, origin_of, CompilesJoined, NamesLib, Reads, ReadsLibs, compiling, files_read, whole, Answers, AnswersOf, Does, HasNoFile, IsHelp, NamesFile, RefusesWords, SaysNothing, Serves, did, refused, no_memory}
+use Rattle.bcli.specs.ShellExcluded.{AreWrong, Excluded, FileIsRead, HoldsOne, NothingFails, alone, files_alone, in_file, with_lib}
 
 fault_is_told : (f : EndFault) → 0 ≡ status_of f → ⊥
 fault_is_told end_fault.Device e = omega (arith, e)
@@ -121,6 +122,10 @@ named_run file ends status (inr silent) = silent.unread
 no_file_done : (ends : RunEnds) → HasNoFile (Unit {0}) ends 0 → ⊥
 no_file_done ends (inl device) = omega (arith, device.1.status_is)
 no_file_done ends (inr memory) = silent_done ends memory
+
+-- what is asked of a source of these files is answered of the program of this origin
+abbrev answered_of : Edition → Files → (text : List ℕ) → Question → Origin → RunEnds → ℕ → Type 0
+answered_of edition files text question origin = AnswersOf origin edition files text question
 
 module _ (shelf : Holdings) where
   asked_alone : (words : List Text) (ends : RunEnds) (status : ℕ) → fault_of command_line words ≡ [] → Serves shelf words ends status
@@ -242,13 +247,76 @@ module _ (shelf : Holdings) where
 
   asked_joined : (file lib a b : List ℕ) (edition : Edition) (question : Question) (ends : RunEnds) (status : ℕ) → HoldsOne shelf file a → HoldsOne shelf lib b
       → Does shelf (ask (with_lib file lib edition) question) ends status
-      → Answers edition (record { first = file_of file a; rest = file_of lib b ∷ [] }) (a ++ 10 ∷ b) question ends status ⊎ SaysNothing ends status 134
+      → Answers shelf edition (record { first = file_of file a; rest = file_of lib b ∷ [] }) (a ++ 10 ∷ b) question ends status ⊎ SaysNothing ends status 134
   asked_joined file lib a b edition question ends status first second (inl (inl told)) = absurd (first.there told.0)
   asked_joined file lib a b edition question ends status first second (inl (inr memory)) = inr memory
   asked_joined file lib a b edition question ends status first second (inr (inl told)) = inr (lib_silent (lib ∷ []) ends status (only_there lib second.there) told.2)
   asked_joined file lib a b edition question ends status first second (inr (inr answers)) =
-      inl (subst (λ (f : Files). Answers edition f (a ++ 10 ∷ b) question ends status) (files_of_two file lib a b edition first second answers.0)
-      (subst (λ t. Answers edition (files_read answers.0) t question ends status) (two_are file lib a b edition first second answers.0) answers.1))
+      inl (subst (λ (f : Files). Answers shelf edition f (a ++ 10 ∷ b) question ends status) (files_of_two file lib a b edition first second answers.0)
+      (subst (λ t. Answers shelf edition (files_read answers.0) t question ends status) (two_are file lib a b edition first second answers.0) answers.1))
+
+  -- no file follows
+  none_follow : (texts : List NamedText) → map (λ (it : NamedText). it.name) texts ≡ [] → texts ≡ []
+  none_follow [] e = refl
+  none_follow (it ∷ texts) e = cc
+
+  no_lib : (names : List Text) (ends : RunEnds) (status : ℕ) → names ≡ [] → NamesLib shelf names ends status → ⊥
+  no_lib names ends status e told = nothing told.before (sym e ∙ told.in_turn)
+    where
+      nothing : (before : List Text) → [] ≡ before ++ told.lib ∷ told.after → ⊥
+      nothing [] h = cc
+      nothing (x ∷ xs) h = cc
+
+  -- a source of one file
+  one_is : (file a : List ℕ) (edition : Edition) → ((t : List ℕ) → shelf.holds file t → t ≡ a) → (r : Reads shelf (in_file file edition)) → whole r ≡ a
+  one_is file a edition only r = rw (none_follow r.libs.texts r.libs.names_are, append-nil r.text) (only r.text r.held)
+
+  files_of_one : (file a : List ℕ) (edition : Edition) → ((t : List ℕ) → shelf.holds file t → t ≡ a) → (r : Reads shelf (in_file file edition))
+      → files_read r ≡ record { first = file_of file a; rest = [] }
+  files_of_one file a edition only r = rw (none_follow r.libs.texts r.libs.names_are, only r.text r.held) refl
+
+  asked_of_one : (file a : List ℕ) (edition : Edition) (question : Question) (ends : RunEnds) (status : ℕ) → HoldsOne shelf file a
+      → Does shelf (ask (in_file file edition) question) ends status
+      → Answers shelf edition (record { first = file_of file a; rest = [] }) a question ends status ⊎ SaysNothing ends status 134
+  asked_of_one file a edition question ends status first (inl (inl told)) = absurd (first.there told.0)
+  asked_of_one file a edition question ends status first (inl (inr memory)) = inr memory
+  asked_of_one file a edition question ends status first (inr (inl told)) = absurd (no_lib [] ends status refl told.2)
+  asked_of_one file a edition question ends status first (inr (inr answers)) =
+      inl (subst (λ (f : Files). Answers shelf edition f a question ends status) (files_of_one file a edition first.alone answers.0)
+      (subst (λ t. Answers shelf edition (files_read answers.0) t question ends status) (one_is file a edition first.alone answers.0) answers.1))
+
+  -- the code text and the lines that were read are these
+  of_these : (made code lined lines text : List ℕ) (edition : Edition) (does : Origin → RunEnds → ℕ → Type 0) (ends : RunEnds) (status : ℕ) → HoldsOne shelf made code → HoldsOne shelf lined lines
+      → OnOrigin shelf edition text (from_made made lined) does ends status → does (Code (record { code = code; lines = Some lines })) ends status ⊎ SaysNothing ends status 134
+  of_these made code lined lines text edition does ends status first second (inl (inl told)) = absurd (first.there told.0)
+  of_these made code lined lines text edition does ends status first second (inl (inr memory)) = inr memory
+  of_these made code lined lines text edition does ends status first second (inr (read, held, inl (inl told))) = absurd (second.there told.0)
+  of_these made code lined lines text edition does ends status first second (inr (read, held, inl (inr memory))) = inr memory
+  of_these made code lined lines text edition does ends status first second (inr (read, held, inr (counted, kept, answers))) =
+      inl (subst (λ c. does (Code (record { code = c; lines = Some lines })) ends status) (first.alone read held)
+      (subst (λ l. does (Code (record { code = read; lines = Some l })) ends status) (second.alone counted kept) answers))
+
+  made_alone : (file a made code lined lines : List ℕ) (edition : Edition) (question : Question) (ends : RunEnds) (status : ℕ) → HoldsOne shelf file a → HoldsOne shelf made code → HoldsOne shelf lined lines
+      → origin_of question ≡ from_made made lined → Does shelf (ask (in_file file edition) question) ends status
+      → AnswersOf (Code (record { code = code; lines = Some lines })) edition (record { first = file_of file a; rest = [] }) a question ends status ⊎ SaysNothing ends status 134
+  made_alone file a made code lined lines edition question ends status first second third is does = by (asked_of_one file a edition question ends status first does)
+    where
+      by : Answers shelf edition (record { first = file_of file a; rest = [] }) a question ends status ⊎ SaysNothing ends status 134
+          → answered_of edition (record { first = file_of file a; rest = [] }) a question (Code (record { code = code; lines = Some lines })) ends status ⊎ SaysNothing ends status 134
+      by (inl answers) = of_these made code lined lines a edition (answered_of edition (record { first = file_of file a; rest = [] }) a question) ends status second third
+          (subst (λ (o : OriginAsked). OnOrigin shelf edition a o (answered_of edition (record { first = file_of file a; rest = [] }) a question) ends status) is answers)
+      by (inr silent) = inr silent
+
+  named_first : (made lined text : List ℕ) (edition : Edition) (does : Origin → RunEnds → ℕ → Type 0) (ends : RunEnds) (status : ℕ) → ((code : List ℕ) → shelf.holds made code → ⊥)
+      → OnOrigin shelf edition text (from_made made lined) does ends status → NamesFile (shelf.lacks made) made ends status
+  named_first made lined text edition does ends status none (inl told) = told
+  named_first made lined text edition does ends status none (inr read) = absurd (none read.0 read.1)
+
+  lines_later : (made lined text : List ℕ) (edition : Edition) (files : Files) (question : Question) (ends : RunEnds) (status : ℕ) → ((code : List ℕ) → shelf.holds made code → ⊥) → origin_of question ≡ from_made made lined
+      → Answers shelf edition files text question ends status → NamesFile (shelf.lacks made) made ends status
+  lines_later made lined text edition files question ends status none is answers =
+      named_first made lined text edition (answered_of edition files text question) ends status none
+      (subst (λ (o : OriginAsked). OnOrigin shelf edition text o (answered_of edition files text question) ends status) is answers)
 
   compiled_joined : (lib b input : List ℕ) (edition : Edition) (ends : RunEnds) (status : ℕ) → HoldsOne shelf lib b → Tells ends.input input → NothingFails edition (10 ∷ b) ends status
       → Does shelf (compile edition (lib ∷ [])) ends status
@@ -280,7 +348,9 @@ module _ (shelf : Holdings) where
     file_later = λ source ends status none told. none told.0 told.1;
     joined_alone = joined_alone;
     asked_joined = asked_joined;
-    fault_told = fault_told;
+    made_alone = made_alone;
+    lines_later = lines_later;
+    fault_told = fault_told shelf;
     compiled_joined = compiled_joined;
     failed_joined = λ edition rest ends it counted none. failed_joined edition rest ends 133 it counted none refl;
     both_done = λ clash ends does. not_done _ 135 ends.line ends.line_after (λ e. omega (arith, e)) does.1;
@@ -311,40 +381,34 @@ module _ (file : MemFile) where
   located_alone steps ends status (inl told) = inr (named ends status told)
   located_alone steps ends status (inr locates) = inl (subst (λ t. LocatesCode steps t ends status) locates.1.1 locates.2)
 
-  -- no file follows
-  none_follow : (texts : List NamedText) → map (λ (it : NamedText). it.name) texts ≡ [] → texts ≡ []
-  none_follow [] e = refl
-  none_follow (it ∷ texts) e = cc
-
-  no_lib : (names : List Text) (ends : RunEnds) (status : ℕ) → names ≡ [] → NamesLib (holding file) names ends status → ⊥
-  no_lib names ends status e told = nothing told.before (sym e ∙ told.in_turn)
-    where
-      nothing : (before : List Text) → [] ≡ before ++ told.lib ∷ told.after → ⊥
-      nothing [] h = cc
-      nothing (x ∷ xs) h = cc
+  holds_one : HoldsOne (holding file) file.name.now file.text.now
+  holds_one = record { alone = λ other held. held.1; there = λ missing. missing refl }
 
   whole_alone : (edition : Edition) (r : Reads (holding file) (alone file edition)) → whole r ≡ file.text.now
-  whole_alone edition r = rw (none_follow r.libs.texts r.libs.names_are, append-nil r.text) r.held.1
-
-  files_of_alone : (edition : Edition) (r : Reads (holding file) (alone file edition)) → files_read r ≡ files_alone file
-  files_of_alone edition r = rw (none_follow r.libs.texts r.libs.names_are, r.held.1) refl
+  whole_alone edition r = one_is (holding file) file.name.now file.text.now edition holds_one.alone r
 
   go_alone : (edition : Edition) (steps : ℕ) (ends : RunEnds) (status : ℕ) → Does (holding file) (go (alone file edition) steps) ends status → ((following : Unread) × GoesOff edition steps (unread file.text.now) (incoming_of following) ends status) ⊎ SaysNothing ends status 134
   go_alone edition steps ends status (inl none) = inr (no_file ends status none)
-  go_alone edition steps ends status (inr (inl told)) = absurd (no_lib [] ends status refl told.2)
+  go_alone edition steps ends status (inr (inl told)) = absurd (no_lib (holding file) [] ends status refl told.2)
   go_alone edition steps ends status (inr (inr goes)) =
       inl (goes.1, subst (λ t. GoesOff edition steps (unread t) (incoming_of goes.1) ends status) (whole_alone edition goes.0) goes.2)
 
-  ask_alone : (edition : Edition) (question : Question) (ends : RunEnds) (status : ℕ) → Does (holding file) (ask (alone file edition) question) ends status → Answers edition (files_alone file) file.text.now question ends status ⊎ SaysNothing ends status 134
-  ask_alone edition question ends status (inl told) = inr (named ends status told)
-  ask_alone edition question ends status (inr (inl told)) = absurd (no_lib [] ends status refl told.2)
-  ask_alone edition question ends status (inr (inr answers)) =
-      inl (subst (λ (f : Files). Answers edition f file.text.now question ends status) (files_of_alone edition answers.0)
-      (subst (λ t. Answers edition (files_read answers.0) t question ends status) (whole_alone edition answers.0) answers.1))
+  ask_alone : (edition : Edition) (question : Question) (ends : RunEnds) (status : ℕ) → Does (holding file) (ask (alone file edition) question) ends status
+      → Answers (holding file) edition (files_alone file) file.text.now question ends status ⊎ SaysNothing ends status 134
+  ask_alone edition question ends status does = asked_of_one (holding file) file.name.now file.text.now edition question ends status holds_one does
+
+  code_alone : (edition : Edition) (question : Question) (ends : RunEnds) (status : ℕ) → origin_of question ≡ from_code → Does (holding file) (ask (alone file edition) question) ends status
+      → AnswersOf (Code (record { code = file.text.now; lines = None })) edition (files_alone file) file.text.now question ends status ⊎ SaysNothing ends status 134
+  code_alone edition question ends status is does = by (ask_alone edition question ends status does)
+    where
+      by : Answers (holding file) edition (files_alone file) file.text.now question ends status ⊎ SaysNothing ends status 134
+          → answered_of edition (files_alone file) file.text.now question (Code (record { code = file.text.now; lines = None })) ends status ⊎ SaysNothing ends status 134
+      by (inl answers) = inl (subst (λ (o : OriginAsked). OnOrigin (holding file) edition file.text.now o (answered_of edition (files_alone file) file.text.now question) ends status) is answers)
+      by (inr silent) = inr silent
 
   one_go : (input : Unread) (out line : Kept) (status : ℕ) → file.text.now ≡ codes "main(){putchar('a');}" → Does (holding file) (go (alone file editions.One) 100) (one_run_ends input out line) status → (status ≡ 134) ⊎ ((status ≡ 0) × (out.bytes ≡ codes "a") × (line.bytes ≡ []))
   one_go input out line status one (inl none) = inl (no_file _ status none).status_is
-  one_go input out line status one (inr (inl told)) = absurd (no_lib [] _ status refl told.2)
+  one_go input out line status one (inr (inl told)) = absurd (no_lib (holding file) [] _ status refl told.2)
   one_go input out line status one (inr (inr goes)) =
       one_run goes.1 input out line status
       (subst (λ t. Headline editions.One 100 (unread t) (incoming_of goes.1) (one_run_ends input out line) status) (whole_alone editions.One goes.0 ∙ one) goes.3)
@@ -358,5 +422,6 @@ module _ (file : MemFile) where
     located_alone = located_alone;
     go_alone = go_alone;
     ask_alone = ask_alone;
+    code_alone = code_alone;
     one_go = one_go;
   }

@@ -19,8 +19,8 @@ use Rattle.bcheck.specs.Checks.{Checks}
 use Rattle.bcheck.specs.declared.form.FindingForm.{FindingForm}
 use Rattle.bcheck.specs.declared.form.FindingForm.TheVariants as forms
 use Rattle.blist.specs.Listings.{Lists}
-use Rattle.btools.specs.Origins.{Source}
 use Rattle.blist.specs.Maps.{Maps}
+use Rattle.btools.specs.Origins.{Origin, Source, Code}
 use Rattle.btools.specs.Programs.{ToldEnds}
 use Rattle.bdraw.specs.Draws.{Draws}
 use Rattle.btrace.specs.Locates.{Locates}
@@ -33,7 +33,8 @@ use Rattle.bcount.specs.declared.table.CountStyle.TheVariants as styles
 use Rattle.bshow.specs.Shows.{Shows}
 use Rattle.bformat.specs.Formats.{Formats}
 use Rattle.bwhere.specs.Wheres.{LocatesCode}
-use Rattle.bcommand.specs.CommandLine.{Asked, Question, SourceAsked, asked, clash_line, command_line}
+use Rattle.bcommand.specs.CommandLine.{Asked, OriginAsked, Question, SourceAsked, asked, clash_line, command_line}
+use Rattle.bcommand.specs.CommandLine.{from_source, from_code, from_made}
 use Rattle.bcommand.specs.CommandLine.{compile, run, locate_code, go, migrate, ask, contradiction}
 use Rattle.bcommand.specs.CommandLine.{list, map, draw, check, trace, locate, count, show, format}
 use Rattle.bcommand.specs.declared.job.Rows.{Rows}
@@ -159,14 +160,21 @@ CompilesInput shelf edition [] ends status =
 CompilesInput shelf edition (lib ∷ libs) ends status = NamesLib shelf (lib ∷ libs) ends status
     ⊎ ((r : ReadsLibs shelf (lib ∷ libs)) × CompilesJoined edition (followed r.texts).text ends status)
 
--- what is asked of a source of these files and of this text is answered
-abbrev pub Answers : Edition → Files → (text : List ℕ) → Question → RunEnds → ℕ → Type 0
-Answers edition files text (list name) ends status =
-    (ends.input_after ≡ ends.input) × Lists (Source edition) text name (telling_ends ends) status
-Answers edition files text map ends status =
+-- what a question asks a program to be read from
+abbrev pub origin_of : Question → OriginAsked
+origin_of (list origin name) = origin
+origin_of (trace origin steps shown function) = origin
+origin_of (count origin steps for_editor) = origin
+origin_of question = from_source
+
+-- what is asked of a source of these files and of this text is answered, or of the code text that is its origin
+abbrev pub AnswersOf : Origin → Edition → Files → (text : List ℕ) → Question → RunEnds → ℕ → Type 0
+AnswersOf origin edition files text (list asked name) ends status =
+    (ends.input_after ≡ ends.input) × Lists origin text name (telling_ends ends) status
+AnswersOf origin edition files text map ends status =
     (ends.input_after ≡ ends.input) × Maps edition text (telling_ends ends) status
-Answers edition files text (draw steps) ends status = Draws edition text steps ends status
-Answers edition files text (check for_editor) ends status =
+AnswersOf origin edition files text (draw steps) ends status = Draws edition text steps ends status
+AnswersOf origin edition files text (check for_editor) ends status =
     (ends.input_after ≡ ends.input) × (ends.line_after ≡ ends.line)
     × Checks (record {
       edition = edition;
@@ -177,14 +185,14 @@ Answers edition files text (check for_editor) ends status =
       out_after = ends.out_after;
       status = status;
     })
-Answers edition files text (trace steps shown function) ends status =
-    Traces (Source edition) text steps (traced_rows shown) files function ends status
-Answers edition files text (locate steps) ends status = Locates edition text files steps ends status
-Answers edition files text (count steps for_editor) ends status =
-    Counts (record { origin = Source edition; steps = steps; files = files; style = style_of for_editor }) text ends status
-Answers edition files text (show steps shown input) ends status =
+AnswersOf origin edition files text (trace asked steps shown function) ends status =
+    Traces origin text steps (traced_rows shown) files function ends status
+AnswersOf origin edition files text (locate steps) ends status = Locates edition text files steps ends status
+AnswersOf origin edition files text (count asked steps for_editor) ends status =
+    Counts (record { origin = origin; steps = steps; files = files; style = style_of for_editor }) text ends status
+AnswersOf origin edition files text (show steps shown input) ends status =
     ShowsRun edition files text steps (traced_rows shown) input ends status
-Answers edition files text (format is_check) ends status = (ends.input_after ≡ ends.input) × Formats (record {
+AnswersOf origin edition files text (format is_check) ends status = (ends.input_after ≡ ends.input) × Formats (record {
   edition = edition;
   source = text;
   is_check = is_check;
@@ -194,6 +202,23 @@ Answers edition files text (format is_check) ends status = (ends.input_after ≡
   line_after = ends.line_after;
   status = status;
 })
+
+-- Something is done of a program: of the source, in its edition; of the code text that it is; or of the one in another
+-- file, where that and then the file of its lines were read. One that could not be is named; or memory was refused.
+abbrev pub OnOrigin : Holdings → Edition → (text : List ℕ) → OriginAsked → (does : Origin → RunEnds → ℕ → Type 0)
+    → RunEnds → ℕ → Type 0
+OnOrigin shelf edition text from_source does ends status = does (Source edition) ends status
+OnOrigin shelf edition text from_code does ends status =
+    does (Code (record { code = text; lines = None })) ends status
+OnOrigin shelf edition text (from_made made lined) does ends status = NamesFile (shelf.lacks made) made ends status
+    ⊎ ((code : List ℕ) × shelf.holds made code × (NamesFile (shelf.lacks lined) lined ends status
+    ⊎ ((lines : List ℕ) × shelf.holds lined lines
+    × does (Code (record { code = code; lines = Some lines })) ends status)))
+
+-- what is asked of a source of these files and of this text is answered, or of a code text
+abbrev pub Answers : Holdings → Edition → Files → (text : List ℕ) → Question → RunEnds → ℕ → Type 0
+Answers shelf edition files text question ends status = OnOrigin shelf edition text (origin_of question)
+    (λ origin. AnswersOf origin edition files text question) ends status
 
 -- what was asked for is done, for texts that the shelf holds under the names of the files
 abbrev pub Does : Holdings → Asked → RunEnds → ℕ → Type 0
@@ -211,7 +236,7 @@ Does shelf migrate ends status =
     Migrates (rewriting ends.input ends.input_after ends.out ends.out_after) ends.line ends.line_after status
 Does shelf (ask source question) ends status = NamesFile (shelf.lacks source.file) source.file ends status
     ⊎ NamesLibOf shelf source ends status
-    ⊎ ((r : Reads shelf source) × Answers source.edition (files_read r) (whole r) question ends status)
+    ⊎ ((r : Reads shelf source) × Answers shelf source.edition (files_read r) (whole r) question ends status)
 Does shelf (contradiction clash) ends status =
     HasNotRun ends × Reported (clash_line clash) WRONG_COMMAND ends.line ends.line_after status
 

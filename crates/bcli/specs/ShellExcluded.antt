@@ -18,16 +18,17 @@ use Rattle.blang.specs.Reports.{HasNotRun, Reported, RunEnds}
 use Rattle.brun.specs.OneRun.{nothing_written, one_run_ends, unread}
 use Rattle.brun.specs.Runs.{RunsText}
 use Rattle.bcommand.specs.CommandLine.{Question, SourceAsked, ask, asked, command_line, compile, contradiction, go, run}
-use Rattle.bcommand.specs.CommandLine.{count, locate, locate_code, show, trace}
+use Rattle.bcommand.specs.CommandLine.{count, from_code, from_made, from_source, locate, locate_code, show, trace}
 use Rattle.bsources.specs.Files.{Files, file_of}
 use Rattle.bsources.specs.JoinedEnds.{joined_in}
+use Rattle.btools.specs.Origins.{Code}
 use Rattle.btools.specs.FaultPlaces.{fault_lines}
 use Rattle.btools.specs.Programs.{HasFault}
 use Rattle.bcommand.specs.declared.job.Clash.{Clash}
 use Rattle.bwhere.specs.Wheres.{LocatesCode}
 use Rattle.bcli.specs.declared.shelf.MemFile.{MemFile}
-use Rattle.bcli.specs.Serves.{Answers, CompilesJoined, Does, HasNoFile, IsHelp, NamesFile, NamesLib, NamesLibOf}
-use Rattle.bcli.specs.Serves.{SaysNothing, Serves, compiling, unread_line}
+use Rattle.bcli.specs.Serves.{Answers, AnswersOf, CompilesJoined, Does, HasNoFile, IsHelp, NamesFile, NamesLib}
+use Rattle.bcli.specs.Serves.{NamesLibOf, SaysNothing, Serves, compiling, origin_of, unread_line}
 use Rattle.bcli.specs.Blocks.{HandsOn, Held, TakesPiece, held}
 use Rattle.bcli.specs.Processes.{KnownStreams, PerformsTask, ServesProcess}
 use Rattle.bcli.specs.Shelves.{Holdings, holding}
@@ -41,6 +42,10 @@ pub record AreWrong (words : List Text) : Type 0 where
 pub record HoldsOne (shelf : Holdings) (file text : List ℕ) : Type 0 where
   pub alone : (other : List ℕ) → shelf.holds file other → other ≡ text
   pub there : shelf.lacks file → ⊥
+
+-- the source in a file
+abbrev pub in_file : (file : Text) → Edition → SourceAsked
+in_file file edition = record { file = file; libs = []; edition = edition }
 
 -- a source in two files
 abbrev pub with_lib : (file lib : Text) → Edition → SourceAsked
@@ -56,11 +61,11 @@ pub record NothingFails (edition : Edition) (rest : List ℕ) (ends : RunEnds) (
   pub counted : AreCounted rest ends
   pub undisturbed : IsUndisturbed (compiling edition ends.input ends.input_after ends status)
 
--- the questions that tell of a run, but for a picture
+-- the questions that tell of a run of a source, but for a picture
 abbrev pub tells_run : Question → Bool
-tells_run (trace steps shown function) = true
+tells_run (trace from_source steps shown function) = true
 tells_run (locate steps) = true
-tells_run (count steps for_editor) = true
+tells_run (count from_source steps for_editor) = true
 tells_run (show steps shown input) = true
 tells_run question = false
 
@@ -111,12 +116,23 @@ pub record Excluded (shelf : Holdings) : Type 0 where
   pub asked_joined : (file lib a b : List ℕ) (edition : Edition) (question : Question) (ends : RunEnds) (status : ℕ)
       → HoldsOne shelf file a → HoldsOne shelf lib b
       → Does shelf (ask (with_lib file lib edition) question) ends status
-      → Answers edition (record { first = file_of file a; rest = file_of lib b ∷ [] }) (a ++ 10 ∷ b) question ends
+      → Answers shelf edition (record { first = file_of file a; rest = file_of lib b ∷ [] }) (a ++ 10 ∷ b) question ends
       status ⊎ SaysNothing ends status MEMORY
+  -- of a code text that another compiler made of a source: another code text, other lines, or that the lines can't be
+  -- read though the code text can't be, either
+  pub made_alone : (file a made code lined lines : List ℕ) (edition : Edition) (question : Question) (ends : RunEnds)
+      (status : ℕ) → HoldsOne shelf file a → HoldsOne shelf made code → HoldsOne shelf lined lines
+      → origin_of question ≡ from_made made lined → Does shelf (ask (in_file file edition) question) ends status
+      → AnswersOf (Code (record { code = code; lines = Some lines })) edition
+      (record { first = file_of file a; rest = [] }) a question ends status ⊎ SaysNothing ends status MEMORY
+  pub lines_later : (made lined text : List ℕ) (edition : Edition) (files : Files) (question : Question)
+      (ends : RunEnds) (status : ℕ) → ((code : List ℕ) → shelf.holds made code → ⊥) → origin_of question ≡ from_made made lined
+      → Answers shelf edition files text question ends status → NamesFile (shelf.lacks made) made ends status
   -- by a command that tells of a run other lines of a fault than its own and, if it lies in a file after the first one,
   -- that of its place
   pub fault_told : (edition : Edition) (files : Files) (text : List ℕ) (question : Question) (ends : RunEnds)
-      (d : Diagnostic) → HasFault edition text d → tells_run question ≡ true → Answers edition files text question ends FAULT
+      (d : Diagnostic) → HasFault edition text d → tells_run question ≡ true
+      → Answers shelf edition files text question ends FAULT
       → Writes ends.line (fault_lines files d) ends.line_after
   -- the input and a file that are compiled as other bytes, or that get 133 or 134 where nothing failed
   pub compiled_joined : (lib b input : List ℕ) (edition : Edition) (ends : RunEnds) (status : ℕ) → HoldsOne shelf lib b
@@ -138,9 +154,9 @@ pub record Excluded (shelf : Holdings) : Type 0 where
   -- words that can't be read and end well
   pub unread_words_done : (old new : Outgoing) → Reported unread_line WRONG_COMMAND old new DONE → ⊥
 
--- the source in a file
+-- the source in it
 abbrev pub alone : MemFile → Edition → SourceAsked
-alone file edition = record { file = file.name.now; libs = []; edition = edition }
+alone file edition = in_file file.name.now edition
 
 -- its name and its lines
 abbrev pub files_alone : MemFile → Files
@@ -166,7 +182,13 @@ pub record FileIsRead (file : MemFile) : Type 0 where
   -- what is asked is answered of another source
   pub ask_alone : (edition : Edition) (question : Question) (ends : RunEnds) (status : ℕ)
       → Does (holding file) (ask (alone file edition) question) ends status
-      → Answers edition (files_alone file) file.text.now question ends status ⊎ SaysNothing ends status MEMORY
+      → Answers (holding file) edition (files_alone file) file.text.now question ends status
+      ⊎ SaysNothing ends status MEMORY
+  -- of another code text than this one
+  pub code_alone : (edition : Edition) (question : Question) (ends : RunEnds) (status : ℕ)
+      → origin_of question ≡ from_code → Does (holding file) (ask (alone file edition) question) ends status
+      → AnswersOf (Code (record { code = file.text.now; lines = None })) edition (files_alone file) file.text.now
+      question ends status ⊎ SaysNothing ends status MEMORY
   -- another output than `a`, or another status than 0
   pub one_go : (input : Unread) (out line : Kept) (status : ℕ) → file.text.now ≡ codes "main(){putchar('a');}"
       → Does (holding file) (go (alone file editions.One) 100) (one_run_ends input out line) status

@@ -4,17 +4,21 @@ ghost use Rattle.clap.specs.Words.{kind_of, subcommand_rows_of};
 ghost use Rattle.bword.specs.ByteEnds.{Incoming, Outgoing};
 ghost use Rattle.blang.specs.declared.status.TheConstants.{DEVICE, MEMORY, WRONG_COMMAND};
 ghost use Rattle.blang.specs.Reports.{Reported, run_ends};
-ghost use Rattle.bcommand.specs.CommandLine.{ask, asked, asked_of, compile, go, locate_code, question_of, run, source_shown};
+ghost use Rattle.bcommand.specs.CommandLine.{OriginAsked, ask, asked, asked_of, compile, from_made, go, locate_code, origin_shown as asked_origin, question_of, run, source_shown};
 ghost use Rattle.bcli.specs.ShellExcluded.{Excluded, FileIsRead};
 ghost use Rattle.bshow.specs.Shows.{asked_of as page_of};
 ghost use Rattle.bsources.specs.Files.{file_shown, files_shown};
-ghost use Rattle.bcli.specs.Serves.{Answers, CompilesJoined, Does, NamesFile, RefusesWords, SaysNothing, Serves, ShowsRun, form_of, style_of, traced_rows, no_file_line, unread_line};
+ghost use Rattle.btools.specs.Origins.{origin_shown};
+ghost use Rattle.bcli.specs.Serves.{Answers, AnswersOf, CompilesJoined, Does, NamesFile, OnOrigin, RefusesWords, SaysNothing, Serves, ShowsRun, form_of, origin_of, style_of, traced_rows, no_file_line, unread_line};
 ghost use Rattle.bcli.specs.Shelves.{opened};
 
 use crate::shelf::{FileFault, MemFile, Shelf, SystemFiles};
 use crate::sources::{Unread, Whole, read_libs, read_source};
 use bcheck::{FindingForm, Request, check};
-use bcommand::{Display, Job, Question, Rows, SourceNames, UNREAD, clash_text, job_of, parse};
+use bcommand::{
+    Display, Job, MadeNames, OriginNames, Question, Rows, SourceNames, UNREAD, clash_text, job_of,
+    parse,
+};
 use bcount::{CountStyle, Counting, count};
 use bdraw::draw;
 use bformat::{House, format};
@@ -24,7 +28,7 @@ use bparse::compile_edition;
 use brun::{go_edition, migrate, run_text};
 use bshow::show;
 use bsources::{Following, JoinedIn, SourceFile, SourceFiles};
-use btools::{Origin, tell};
+use btools::{CodeText, Origin, tell};
 use btrace::{TraceRequest, locate, trace};
 use bwhere::locate_code;
 use bword::{ByteIn, ByteOut, Edition, MemIn};
@@ -275,6 +279,7 @@ fn ask_file<S: Shelf, I: ByteIn, O: ByteOut, D: ByteOut>(
     match read_source(alloc, shelf, source) {
         Ok(Whole { text, first, libs }) => ask_read(
             alloc,
+            shelf,
             source.edition,
             first,
             &libs,
@@ -290,8 +295,9 @@ fn ask_file<S: Shelf, I: ByteIn, O: ByteOut, D: ByteOut>(
 }
 
 // Answers what is asked of a source that was read.
-fn ask_read<I: ByteIn, O: ByteOut, D: ByteOut>(
+fn ask_read<S: Shelf, I: ByteIn, O: ByteOut, D: ByteOut>(
     alloc: Global,
+    shelf: &S,
     edition: Edition,
     first: SourceFile<'_>,
     libs: &Following<'_>,
@@ -301,7 +307,7 @@ fn ask_read<I: ByteIn, O: ByteOut, D: ByteOut>(
     out: &mut O,
     diag: &mut D,
 ) -> Status
-    ensures answers { Answers edition (record { first = file_shown first.entry; rest = libs.now.files }) text.now (question_of question.entry) (run_ends
+    ensures answers { Answers (S.holdings shelf.now) edition (record { first = file_shown first.entry; rest = libs.now.files }) text.now (question_of question.entry) (run_ends
         (I.incoming input.old) (I.incoming input.new) (O.outgoing out.old) (O.outgoing out.new)
         (D.outgoing diag.old) (D.outgoing diag.new)) result }
     ensures input_lender { I.lender input.new ≡ I.lender input.old }
@@ -309,12 +315,47 @@ fn ask_read<I: ByteIn, O: ByteOut, D: ByteOut>(
     ensures diag_lender { D.lender diag.new ≡ D.lender diag.old }
 {
     let files = SourceFiles { first, rest: libs };
-    answer(alloc, edition, files, text, question, input, out, diag)
+    match origin_of(question) {
+        OriginNames::Source => {
+            let origin = Origin::Source(edition);
+            answer(
+                alloc, origin, edition, files, text, question, input, out, diag,
+            )
+        }
+        OriginNames::Code => {
+            let lines = None;
+            let origin = Origin::Code(CodeText { code: text, lines });
+            answer(
+                alloc, origin, edition, files, text, question, input, out, diag,
+            )
+        }
+        OriginNames::Made(names) => answer_made(
+            alloc, shelf, names, edition, files, text, question, input, out, diag,
+        ),
+    }
 }
 
-// Answers what is asked of a source of these files and of this text.
-fn answer<I: ByteIn, O: ByteOut, D: ByteOut>(
+// What a question asks a program to be read from.
+fn origin_of(question: Question<'_>) -> OriginNames<'_>
+    ensures { asked_origin result ≡ origin_of (question_of question.entry) }
+{
+    match question {
+        Question::List(origin, _) | Question::Count(origin, _, _) => origin,
+        Question::Trace(walk) => walk.origin,
+        Question::Map
+        | Question::Draw(_)
+        | Question::Check(_)
+        | Question::Locate(_)
+        | Question::Show(_)
+        | Question::Format(_) => OriginNames::Source,
+    }
+}
+
+// Answers what is asked of the code text in a file, which another compiler made of a source.
+fn answer_made<S: Shelf, I: ByteIn, O: ByteOut, D: ByteOut>(
     alloc: Global,
+    shelf: &S,
+    names: MadeNames<'_>,
     edition: Edition,
     files: SourceFiles<'_>,
     text: &[u8],
@@ -323,7 +364,46 @@ fn answer<I: ByteIn, O: ByteOut, D: ByteOut>(
     out: &mut O,
     diag: &mut D,
 ) -> Status
-    ensures answers { Answers edition (files_shown files.entry) text.now (question_of question.entry) (run_ends
+    ensures answers { OnOrigin (S.holdings shelf.now) edition text.now (from_made names.entry.code.now names.entry.lines.now)
+        (λ origin. AnswersOf origin edition (files_shown files.entry) text.now (question_of question.entry)) (run_ends
+        (I.incoming input.old) (I.incoming input.new) (O.outgoing out.old) (O.outgoing out.new)
+        (D.outgoing diag.old) (D.outgoing diag.new)) result }
+    ensures input_lender { I.lender input.new ≡ I.lender input.old }
+    ensures out_lender { O.lender out.new ≡ O.lender out.old }
+    ensures diag_lender { D.lender diag.new ≡ D.lender diag.old }
+{
+    let code = match shelf.read(alloc, names.code) {
+        Ok(code) => code,
+        Err(fault) => return name_file(alloc, names.code, fault, diag),
+    };
+    let lines = match shelf.read(alloc, names.lines) {
+        Ok(lines) => lines,
+        Err(fault) => return name_file(alloc, names.lines, fault, diag),
+    };
+    let made = code.as_slice();
+    let lined = lines.as_slice();
+    let origin = Origin::Code(CodeText {
+        code: made,
+        lines: Some(lined),
+    });
+    answer(
+        alloc, origin, edition, files, text, question, input, out, diag,
+    )
+}
+
+// Answers what is asked of a source of these files and of this text, or of the code text that is its origin.
+fn answer<I: ByteIn, O: ByteOut, D: ByteOut>(
+    alloc: Global,
+    origin: Origin<'_>,
+    edition: Edition,
+    files: SourceFiles<'_>,
+    text: &[u8],
+    question: Question<'_>,
+    input: &mut I,
+    out: &mut O,
+    diag: &mut D,
+) -> Status
+    ensures answers { AnswersOf (origin_shown origin.entry) edition (files_shown files.entry) text.now (question_of question.entry) (run_ends
         (I.incoming input.old) (I.incoming input.new) (O.outgoing out.old) (O.outgoing out.new)
         (D.outgoing diag.old) (D.outgoing diag.new)) result }
     ensures input_lender { I.lender input.new ≡ I.lender input.old }
@@ -331,7 +411,7 @@ fn answer<I: ByteIn, O: ByteOut, D: ByteOut>(
     ensures diag_lender { D.lender diag.new ≡ D.lender diag.old }
 {
     match question {
-        Question::List(name) => list(alloc, text, Origin::Source(edition), name, out, diag),
+        Question::List(_, name) => list(alloc, text, origin, name, out, diag),
         Question::Map => map(alloc, text, edition, out, diag),
         Question::Draw(steps) => draw(alloc, text, edition, steps, input, out, diag),
         Question::Check(for_editor) => {
@@ -349,20 +429,12 @@ fn answer<I: ByteIn, O: ByteOut, D: ByteOut>(
                 function: walk.function,
                 files,
             };
-            trace(
-                alloc,
-                text,
-                Origin::Source(edition),
-                wanted,
-                input,
-                out,
-                diag,
-            )
+            trace(alloc, text, origin, wanted, input, out, diag)
         }
         Question::Locate(steps) => locate(alloc, text, edition, files, steps, input, out, diag),
-        Question::Count(steps, for_editor) => {
+        Question::Count(_, steps, for_editor) => {
             let counting = Counting {
-                origin: Origin::Source(edition),
+                origin,
                 steps,
                 files,
                 style: style_of(for_editor),

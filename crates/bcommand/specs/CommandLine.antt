@@ -1,6 +1,7 @@
 -- Promise: the command line, and what its words ask for. How words are cut into options, and which have a fault, are
 -- definitions of `clap`, which reads them.
-use Rattle.std.specs.Prelude.{ℕ, ◌+◌, ◌==◌, ◌&&◌, ◌^◌, Bool, true, false, List, [], length, codes, min, nat_lt}
+use Rattle.std.specs.Prelude.{ℕ, ◌+◌, ◌==◌, ◌&&◌, ◌^◌, Bool, true, false, List, [], ◌∷◌, ◌++◌, length, codes, min}
+use Rattle.std.specs.Prelude.{Result, Ok, Err, nat_lt}
 use Rattle.std.specs.Prelude.{Option, Some, None, if◌then◌else◌, map as map_each, option_and_then, option_map, unwrap_or}
 use Rattle.std.specs.Char.{digit_value}
 use Rattle.std.specs.List.{list_all}
@@ -21,6 +22,8 @@ use Rattle.bcommand.specs.declared.job.Question.{Question as Questioned}
 use Rattle.bcommand.specs.declared.job.Question.TheVariants as questioned
 use Rattle.bcommand.specs.declared.job.SourceNames.{SourceNames as Given}
 use Rattle.bcommand.specs.declared.job.Walk.{Walk}
+use Rattle.bcommand.specs.declared.job.OriginNames.{OriginNames}
+use Rattle.bcommand.specs.declared.job.OriginNames.TheVariants as origins
 use Rattle.bcommand.specs.declared.job.Clash.{Clash}
 use Rattle.bcommand.specs.declared.job.Clash.TheVariants as clash
 use Rattle.bcommand.specs.declared.job.Display.{Display}
@@ -90,6 +93,15 @@ function_rule = text_rule (codes "function")
 abbrev pub with_lib_rule : Rule
 with_lib_rule = repeated_rule (codes "with")
 
+abbrev pub code_rule : Rule
+code_rule = flag_rule (codes "code")
+
+abbrev pub made_rule : Rule
+made_rule = text_rule (codes "made")
+
+abbrev pub lines_rule : Rule
+lines_rule = text_rule (codes "lines")
+
 abbrev pub file_rule : Rule
 file_rule = argument_rule (codes "FILE") true
 
@@ -117,8 +129,12 @@ migrate_command = new_app (codes "migrate")
 abbrev pub telling : App → App
 telling command = with_rule (with_rule (with_rule command edition_rule) file_rule) with_lib_rule
 
+-- one that tells of a code text, too
+abbrev pub telling_code : App → App
+telling_code command = with_rule (with_rule (with_rule (telling command) code_rule) made_rule) lines_rule
+
 abbrev pub list_command : App
-list_command = with_rule (telling (new_app (codes "list"))) name_rule
+list_command = with_rule (telling_code (new_app (codes "list"))) name_rule
 
 abbrev pub map_command : App
 map_command = with_rule (with_rule (telling (new_app (codes "map"))) svg_rule) steps_rule
@@ -131,10 +147,11 @@ abbrev pub with_rows : App → App
 with_rows command = with_rule (with_rule (with_rule command steps_rule) from_rule) last_rule
 
 abbrev pub trace_command : App
-trace_command = with_rule (with_rows (telling (new_app (codes "trace")))) function_rule
+trace_command = with_rule (with_rows (telling_code (new_app (codes "trace")))) function_rule
 
 abbrev pub count_command : App
-count_command = with_rule (with_rule (with_rule (telling (new_app (codes "count"))) steps_rule) no_limit_rule) json_rule
+count_command =
+    with_rule (with_rule (with_rule (telling_code (new_app (codes "count"))) steps_rule) no_limit_rule) json_rule
 
 abbrev pub show_command : App
 show_command = with_rule (with_rows (telling (new_app (codes "show")))) input_rule
@@ -229,6 +246,28 @@ pub record SourceAsked : Type 0 where
   pub libs : List Text
   pub edition : Edition
 
+-- What a program is read from: the source; the code text that is in its file; or the one in another file, which another
+-- compiler made of the source, with a line of the source for each place in it.
+pub data OriginAsked : Type 0 where
+  from_source : OriginAsked
+  from_code : OriginAsked
+  from_made : (code lines : Text) → OriginAsked
+
+-- A code text has no file after it, and one that was made of a source has lines in that.
+abbrev pub origin_asked : (is_code : Bool) → (made lines : Option Text) → (libs : List Text) → Result OriginAsked Clash
+origin_asked false None None libs = Ok from_source
+origin_asked false (Some code) (Some lines) libs = Ok (from_made code lines)
+origin_asked false (Some code) None libs = Err clash.Made
+origin_asked false None (Some lines) libs = Err clash.Lines
+origin_asked true None None [] = Ok from_code
+origin_asked true None None (lib ∷ libs) = Err clash.Libs
+origin_asked true (Some code) lines libs = Err clash.Origins
+origin_asked true None (Some lines) libs = Err clash.Origins
+
+abbrev pub origin_in : List Row → Result OriginAsked Clash
+origin_in rows = origin_asked (is_set_in (codes "code") rows) (first_of (codes "made") rows)
+    (first_of (codes "lines") rows) (libs_in rows)
+
 abbrev pub source_in : List Row → SourceAsked
 source_in rows = record { file = file_in rows; libs = libs_in rows; edition = edition_in rows }
 
@@ -236,15 +275,15 @@ source_in rows = record { file = file_in rows; libs = libs_in rows; edition = ed
 -- so many steps if there is a number; its faults, for an editor or for people; the steps of its program among so many,
 -- which of them are shown, and of which function; a run of so many steps, and where it is over; how many steps each
 -- line takes in such a run, for an editor or for people; a page of a run, with this input if there is one; the source
--- in one style, or whether it is in that.
+-- in one style, or whether it is in that. Its code, its steps and those of its lines may be asked of a code text, too.
 pub data Question : Type 0 where
-  list : (name : Option Text) → Question
+  list : OriginAsked → (name : Option Text) → Question
   map : Question
   draw : (steps : Option ℕ) → Question
   check : (for_editor : Bool) → Question
-  trace : (steps : ℕ) (shown : Rows) (function : Option Text) → Question
+  trace : OriginAsked → (steps : ℕ) (shown : Rows) (function : Option Text) → Question
   locate : (steps : ℕ) → Question
-  count : (steps : ℕ) (for_editor : Bool) → Question
+  count : OriginAsked → (steps : ℕ) (for_editor : Bool) → Question
   show : (steps : ℕ) (shown : Rows) (input : Option Text) → Question
   format : (is_check : Bool) → Question
 
@@ -277,18 +316,25 @@ map_asked false None = map
 map_asked false (Some steps) = draw (Some steps)
 map_asked true steps = draw steps
 
-abbrev pub trace_asked : SourceAsked → (steps : Option ℕ) → Option Rows → (function : Option Text) → Asked
-trace_asked source steps (Some shown) function =
-    ask source (trace (unwrap_or steps (trace_steps shown)) shown function)
-trace_asked source steps None function = contradiction clash.Rows
+abbrev pub list_asked : SourceAsked → Result OriginAsked Clash → (name : Option Text) → Asked
+list_asked source (Ok origin) name = ask source (list origin name)
+list_asked source (Err it) name = contradiction it
+
+abbrev pub trace_asked : SourceAsked → Result OriginAsked Clash → (steps : Option ℕ) → Option Rows
+    → (function : Option Text) → Asked
+trace_asked source (Ok origin) steps (Some shown) function =
+    ask source (trace origin (unwrap_or steps (trace_steps shown)) shown function)
+trace_asked source (Ok origin) steps None function = contradiction clash.Rows
+trace_asked source (Err it) steps shown function = contradiction it
 
 abbrev pub show_asked : SourceAsked → (steps : Option ℕ) → Option Rows → (input : Option Text) → Asked
 show_asked source steps (Some shown) input = ask source (show (unwrap_or steps (shown_steps shown)) shown input)
 show_asked source steps None input = contradiction clash.Rows
 
-abbrev pub count_asked : SourceAsked → (for_editor : Bool) → Option ℕ → Asked
-count_asked source for_editor (Some steps) = ask source (count steps for_editor)
-count_asked source for_editor None = contradiction clash.Limits
+abbrev pub count_asked : SourceAsked → Result OriginAsked Clash → (for_editor : Bool) → Option ℕ → Asked
+count_asked source (Ok origin) for_editor (Some steps) = ask source (count origin steps for_editor)
+count_asked source (Ok origin) for_editor None = contradiction clash.Limits
+count_asked source (Err it) for_editor steps = contradiction it
 
 -- what these commands ask for, by what was found of their options
 abbrev pub run_in : List Row → Asked
@@ -300,11 +346,15 @@ go_in rows = go_asked (source_in rows) (is_set_in (codes "where") rows) (steps_i
 abbrev pub map_in : List Row → Question
 map_in rows = map_asked (is_set_in (codes "svg") rows) (option_number (codes "steps") rows)
 
+abbrev pub list_in : List Row → Asked
+list_in rows = list_asked (source_in rows) (origin_in rows) (name_in rows)
+
 abbrev pub trace_in : List Row → Asked
-trace_in rows = trace_asked (source_in rows) (option_number (codes "steps") rows) (rows_in rows) (function_in rows)
+trace_in rows =
+    trace_asked (source_in rows) (origin_in rows) (option_number (codes "steps") rows) (rows_in rows) (function_in rows)
 
 abbrev pub count_in : List Row → Asked
-count_in rows = count_asked (source_in rows) (is_set_in (codes "json") rows) (steps_in rows)
+count_in rows = count_asked (source_in rows) (origin_in rows) (is_set_in (codes "json") rows) (steps_in rows)
 
 abbrev pub show_in : List Row → Asked
 show_in rows = show_asked (source_in rows) (option_number (codes "steps") rows) (rows_in rows) (input_in rows)
@@ -314,7 +364,7 @@ abbrev pub asked_by : Text → List Row → Asked
 asked_by name rows = if bytes_eq name (codes "run") then run_in rows
     else (if bytes_eq name (codes "go") then go_in rows
     else (if bytes_eq name (codes "migrate") then migrate
-    else (if bytes_eq name (codes "list") then ask (source_in rows) (list (name_in rows))
+    else (if bytes_eq name (codes "list") then list_in rows
     else (if bytes_eq name (codes "map") then ask (source_in rows) (map_in rows)
     else (if bytes_eq name (codes "check") then ask (source_in rows) (check (is_set_in (codes "json") rows))
     else (if bytes_eq name (codes "trace") then trace_in rows
@@ -331,21 +381,31 @@ abbrev pub source_shown : Given → SourceAsked
 source_shown source =
     record { file = source.file.now; libs = map_each (λ lib. lib.now) source.libs.now; edition = source.edition }
 
+abbrev pub origin_shown : OriginNames → OriginAsked
+origin_shown origins.Source = from_source
+origin_shown origins.Code = from_code
+origin_shown (origins.Made it) = from_made it.code.now it.lines.now
+
+-- the same where there may be a contradiction in its place
+abbrev pub origin_or_clash : Result OriginNames Clash → Result OriginAsked Clash
+origin_or_clash (Ok origin) = Ok (origin_shown origin)
+origin_or_clash (Err it) = Err it
+
 abbrev pub walk_shown : Walk → Question
-walk_shown walk = trace walk.steps walk.rows (option_map (λ n. n.now) walk.function)
+walk_shown walk = trace (origin_shown walk.origin) walk.steps walk.rows (option_map (λ n. n.now) walk.function)
 
 abbrev pub display_shown : Display → Question
 display_shown it = show it.steps it.rows (option_map (λ n. n.now) it.input)
 
 -- what a question of a job is
 abbrev pub question_of : Questioned → Question
-question_of (questioned.List name) = list (option_map (λ n. n.now) name)
+question_of (questioned.List origin name) = list (origin_shown origin) (option_map (λ n. n.now) name)
 question_of questioned.Map = map
 question_of (questioned.Draw steps) = draw steps
 question_of (questioned.Check for_editor) = check for_editor
 question_of (questioned.Trace walk) = walk_shown walk
 question_of (questioned.Locate steps) = locate steps
-question_of (questioned.Count steps for_editor) = count steps for_editor
+question_of (questioned.Count origin steps for_editor) = count (origin_shown origin) steps for_editor
 question_of (questioned.Show it) = display_shown it
 question_of (questioned.Format is_check) = format is_check
 
@@ -359,9 +419,14 @@ asked_of job.Migrate = migrate
 asked_of (job.Ask source question) = ask (source_shown source) (question_of question)
 asked_of (job.Contradiction it) = contradiction it
 
--- the message for two options that contradict each other
+-- the message for options that contradict each other
+abbrev pub clash_message : (told : Text) → Text
+clash_message told = codes "error: the argument " ++ told ++ codes "\n\nFor more information, try '--help'.\n"
+
 abbrev pub clash_line : Clash → Text
-clash_line clash.Limits =
-    codes "error: the argument '--steps <N>' cannot be used with '--no-limit'\n\nFor more information, try '--help'.\n"
-clash_line clash.Rows =
-    codes "error: the argument '--from <N>' cannot be used with '--last <N>'\n\nFor more information, try '--help'.\n"
+clash_line clash.Limits = clash_message (codes "'--steps <N>' cannot be used with '--no-limit'")
+clash_line clash.Rows = clash_message (codes "'--from <N>' cannot be used with '--last <N>'")
+clash_line clash.Origins = clash_message (codes "'--code' cannot be used with '--made <CODE>' or '--lines <LINES>'")
+clash_line clash.Libs = clash_message (codes "'--code' cannot be used with '--with <LIB>'")
+clash_line clash.Made = clash_message (codes "'--made <CODE>' cannot be used without '--lines <LINES>'")
+clash_line clash.Lines = clash_message (codes "'--lines <LINES>' cannot be used without '--made <CODE>'")

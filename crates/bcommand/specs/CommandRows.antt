@@ -8,6 +8,7 @@ use Rattle.bword.specs.declared.edition.Edition.{Edition}
 use Rattle.bcommand.specs.CommandLine.{Asked, SourceAsked, asked, command_line}
 use Rattle.bcommand.specs.CommandLine.{compile, run, locate_code, go, migrate, ask, contradiction}
 use Rattle.bcommand.specs.CommandLine.{list, map, draw, check, trace, locate, count, show, format}
+use Rattle.bcommand.specs.CommandLine.{from_source}
 use Rattle.bcommand.specs.declared.job.Clash.TheVariants as clash
 use Rattle.bcommand.specs.declared.job.Rows.TheVariants as which
 
@@ -100,12 +101,12 @@ migrates_one_edition : fault_of command_line (codes "b" ∷ codes "migrate" ∷ 
 unfolding clap_on_literals
 migrates_one_edition = refl
 
-lists : Asks (codes "b" ∷ codes "list" ∷ codes "x" ∷ []) (ask (x editions.One) (list None))
+lists : Asks (codes "b" ∷ codes "list" ∷ codes "x" ∷ []) (ask (x editions.One) (list from_source None))
 unfolding clap_on_literals
 lists = (refl, refl)
 
 lists_one : Asks (codes "b" ∷ codes "list" ∷ codes "--edition" ∷ codes "2" ∷ codes "x" ∷ codes "f" ∷ [])
-    (ask (x editions.Two) (list (Some (codes "f"))))
+    (ask (x editions.Two) (list from_source (Some (codes "f"))))
 unfolding clap_on_literals
 lists_one = (refl, refl)
 
@@ -148,12 +149,14 @@ checks_no_file : fault_of command_line (codes "b" ∷ codes "check" ∷ []) ≡ 
 unfolding clap_on_literals
 checks_no_file = refl
 
-traces : Asks (codes "b" ∷ codes "trace" ∷ codes "x" ∷ []) (ask (x editions.One) (trace 1000 (which.From 1) None))
+traces : Asks (codes "b" ∷ codes "trace" ∷ codes "x" ∷ [])
+    (ask (x editions.One) (trace from_source 1000 (which.From 1) None))
 unfolding clap_on_literals
 traces = (refl, refl)
 
 traces_some : Asks (codes "b" ∷ codes "trace" ∷ codes "--edition=2" ∷ codes "--steps" ∷ codes "50" ∷ codes "--from=7"
-    ∷ codes "--function" ∷ codes "f" ∷ codes "x" ∷ []) (ask (x editions.Two) (trace 50 (which.From 7) (Some (codes "f"))))
+    ∷ codes "--function" ∷ codes "f" ∷ codes "x" ∷ [])
+    (ask (x editions.Two) (trace from_source 50 (which.From 7) (Some (codes "f"))))
 unfolding clap_on_literals
 traces_some = (refl, refl)
 
@@ -187,7 +190,7 @@ unfolding clap_on_literals
 locates_with = (refl, refl)
 
 lists_with : Asks (codes "b" ∷ codes "list" ∷ codes "x" ∷ codes "--with" ∷ codes "l" ∷ [])
-    (ask (x_with (codes "l" ∷ [])) (list None))
+    (ask (x_with (codes "l" ∷ [])) (list from_source None))
 unfolding clap_on_literals
 lists_with = (refl, refl)
 
@@ -197,12 +200,12 @@ unfolding clap_on_literals
 maps_with = (refl, refl)
 
 traces_with : Asks (codes "b" ∷ codes "trace" ∷ codes "--with=l" ∷ codes "x" ∷ [])
-    (ask (x_with (codes "l" ∷ [])) (trace 1000 (which.From 1) None))
+    (ask (x_with (codes "l" ∷ [])) (trace from_source 1000 (which.From 1) None))
 unfolding clap_on_literals
 traces_with = (refl, refl)
 
 counts_with : Asks (codes "b" ∷ codes "count" ∷ codes "x" ∷ codes "--with" ∷ codes "l" ∷ [])
-    (ask (x_with (codes "l" ∷ [])) (count 10000000 false))
+    (ask (x_with (codes "l" ∷ [])) (count from_source 10000000 false))
 unfolding clap_on_literals
 counts_with = (refl, refl)
 
@@ -222,12 +225,12 @@ unfolding clap_on_literals
 code_with = refl
 
 traces_last : Asks (codes "b" ∷ codes "trace" ∷ codes "--last=5" ∷ codes "x" ∷ [])
-    (ask (x editions.One) (trace 10000000 (which.Last 5) None))
+    (ask (x editions.One) (trace from_source 10000000 (which.Last 5) None))
 unfolding clap_on_literals
 traces_last = (refl, refl)
 
 traces_last_of_some : Asks (codes "b" ∷ codes "trace" ∷ codes "--last=5" ∷ codes "--steps=9" ∷ codes "x" ∷ [])
-    (ask (x editions.One) (trace 9 (which.Last 5) None))
+    (ask (x editions.One) (trace from_source 9 (which.Last 5) None))
 unfolding clap_on_literals
 traces_last_of_some = (refl, refl)
 
@@ -241,12 +244,12 @@ no_last : fault_of command_line (codes "b" ∷ codes "trace" ∷ codes "--last=0
 unfolding clap_on_literals
 no_last = refl
 
-counts : Asks (codes "b" ∷ codes "count" ∷ codes "x" ∷ []) (ask (x editions.One) (count 10000000 false))
+counts : Asks (codes "b" ∷ codes "count" ∷ codes "x" ∷ []) (ask (x editions.One) (count from_source 10000000 false))
 unfolding clap_on_literals
 counts = (refl, refl)
 
 counts_for_editors : Asks (codes "b" ∷ codes "count" ∷ codes "--json" ∷ codes "--no-limit" ∷ codes "--edition=2"
-    ∷ codes "x" ∷ []) (ask (x editions.Two) (count 18446744073709551615 true))
+    ∷ codes "x" ∷ []) (ask (x editions.Two) (count from_source 18446744073709551615 true))
 unfolding clap_on_literals
 counts_for_editors = (refl, refl)
 

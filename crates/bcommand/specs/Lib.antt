@@ -1,4 +1,5 @@
 pub mod CommandLine
 pub mod CommandRows
 pub mod OptionRows
+pub mod OriginRows
 pub mod Rows

@@ -6,6 +6,7 @@ use Rattle.bword.specs.declared.edition.Edition.TheVariants as editions
 use Rattle.bcommand.specs.CommandLine.{Asked, SourceAsked, asked, command_line}
 use Rattle.bcommand.specs.CommandLine.{compile, run, locate_code, go, ask, contradiction}
 use Rattle.bcommand.specs.CommandLine.{list, map as layout, draw, check, trace, locate, count, show, format}
+use Rattle.bcommand.specs.CommandLine.{from_source}
 use Rattle.bcommand.specs.declared.job.Clash.TheVariants as clash
 use Rattle.bcommand.specs.declared.job.Rows.TheVariants as which
 
@@ -14,7 +15,10 @@ abbrev options : List Text
 options =
     codes "--edition=2" ∷ codes "--with=l" ∷ codes "--steps=5" ∷ codes "--no-limit" ∷ codes "--where" ∷ codes "--json"
     ∷ codes "--svg" ∷ codes "--from=5" ∷ codes "--last=5" ∷ codes "--function=f" ∷ codes "--input=i" ∷ codes "--check"
-    ∷ []
+    ∷ codes "--code" ∷ codes "--made=c" ∷ codes "--lines=l" ∷ []
+
+abbrev of_code : List Text
+of_code = codes "--code" ∷ codes "--made=c" ∷ codes "--lines=l" ∷ []
 
 -- those that a command takes, before this argument, if there is one
 abbrev taken : (name : Text) → (file : List Text) → List Text
@@ -40,7 +44,7 @@ migrate_takes : taken (codes "migrate") [] ≡ []
 unfolding clap_on_literals
 migrate_takes = refl
 
-list_takes : taken (codes "list") x ≡ codes "--edition=2" ∷ codes "--with=l" ∷ []
+list_takes : taken (codes "list") x ≡ codes "--edition=2" ∷ codes "--with=l" ∷ of_code
 unfolding clap_on_literals
 list_takes = refl
 
@@ -54,12 +58,12 @@ check_takes = refl
 
 trace_takes : taken (codes "trace") x
     ≡ codes "--edition=2" ∷ codes "--with=l" ∷ codes "--steps=5" ∷ codes "--from=5" ∷ codes "--last=5"
-    ∷ codes "--function=f" ∷ []
+    ∷ codes "--function=f" ∷ of_code
 unfolding clap_on_literals
 trace_takes = refl
 
 count_takes : taken (codes "count") x
-    ≡ codes "--edition=2" ∷ codes "--with=l" ∷ codes "--steps=5" ∷ codes "--no-limit" ∷ codes "--json" ∷ []
+    ≡ codes "--edition=2" ∷ codes "--with=l" ∷ codes "--steps=5" ∷ codes "--no-limit" ∷ codes "--json" ∷ of_code
 unfolding clap_on_literals
 count_takes = refl
 
@@ -125,9 +129,9 @@ files_of_each :
     of_both (codes "go") [] ∷ of_both (codes "go") (codes "--where" ∷ []) ∷ of_both (codes "list") []
     ∷ of_both (codes "map") [] ∷ of_both (codes "map") (codes "--svg" ∷ []) ∷ of_both (codes "check") []
     ∷ of_both (codes "trace") [] ∷ of_both (codes "count") [] ∷ of_both (codes "show") [] ∷ []
-    ≡ go both 10000000 ∷ ask both (locate 10000000) ∷ ask both (list None) ∷ ask both layout ∷ ask both (draw None)
-    ∷ ask both (check false) ∷ ask both (trace 1000 (which.From 1) None) ∷ ask both (count 10000000 false)
-    ∷ ask both (show 2000 (which.From 1) None) ∷ []
+    ≡ go both 10000000 ∷ ask both (locate 10000000) ∷ ask both (list from_source None) ∷ ask both layout
+    ∷ ask both (draw None) ∷ ask both (check false) ∷ ask both (trace from_source 1000 (which.From 1) None)
+    ∷ ask both (count from_source 10000000 false) ∷ ask both (show 2000 (which.From 1) None) ∷ []
 unfolding clap_on_literals
 files_of_each = refl
 
@@ -154,8 +158,8 @@ steps_of_each :
     ≡ run (codes "x") 18446744073709551615 ∷ contradiction clash.Limits
     ∷ locate_code (codes "x") 18446744073709551615
     ∷ go alone 5 ∷ ask alone (locate 18446744073709551615)
-    ∷ ask alone (trace 5 (which.From 1) None) ∷ ask alone (trace 1000 (which.From 5) None)
-    ∷ ask alone (count 5 false) ∷ ask alone (count 10000000 true)
+    ∷ ask alone (trace from_source 5 (which.From 1) None) ∷ ask alone (trace from_source 1000 (which.From 5) None)
+    ∷ ask alone (count from_source 5 false) ∷ ask alone (count from_source 10000000 true)
     ∷ ask alone (show 5 (which.From 1) None) ∷ ask alone (show 5 (which.From 7) None)
     ∷ ask alone (show 5 (which.Last 7) None) ∷ []
 unfolding clap_on_literals
@@ -167,7 +171,7 @@ unfolding clap_on_literals
 no_byte_given = refl
 
 lasts_of_function : of_x (codes "trace" ∷ codes "--last=3" ∷ codes "--function=f" ∷ [])
-    ≡ ask alone (trace 10000000 (which.Last 3) (Some (codes "f")))
+    ≡ ask alone (trace from_source 10000000 (which.Last 3) (Some (codes "f")))
 unfolding clap_on_literals
 lasts_of_function = refl
 

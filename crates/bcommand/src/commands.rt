@@ -142,6 +142,24 @@ const WITH: ArgumentRow = ArgumentRow {
     help: "Puts the source in LIB after FILE; as often as wanted",
 };
 
+const CODE: ArgumentRow = ArgumentRow {
+    id: "code",
+    kind: GivenAs::Flag,
+    help: "FILE is a code text, not a source",
+};
+
+const MADE: ArgumentRow = ArgumentRow {
+    id: "made",
+    kind: GivenAs::Text("CODE"),
+    help: "The code text that another compiler made of FILE",
+};
+
+const LINES: ArgumentRow = ArgumentRow {
+    id: "lines",
+    kind: GivenAs::Text("LINES"),
+    help: "A number for each place of CODE: its line of FILE",
+};
+
 const FILE: ArgumentRow = ArgumentRow {
     id: "FILE",
     kind: GivenAs::Positional(true),
@@ -194,7 +212,7 @@ const COMMANDS: [CommandRow; 11] = [
         about: "Lists the code of the source in FILE, with the lines it comes from",
         usage: None,
         help: LIST_HELP,
-        arguments: &[EDITION, FILE_OR_INPUT, WITH, NAME],
+        arguments: &[EDITION, FILE_OR_INPUT, WITH, CODE, MADE, LINES, NAME],
     },
     CommandRow {
         name: "map",
@@ -215,14 +233,27 @@ const COMMANDS: [CommandRow; 11] = [
         about: "Runs the source in FILE and shows each step",
         usage: None,
         help: TRACE_HELP,
-        arguments: &[EDITION, FILE, WITH, TRACE_STEPS, FROM, LAST, FUNCTION],
+        arguments: &[
+            EDITION,
+            FILE,
+            WITH,
+            CODE,
+            MADE,
+            LINES,
+            TRACE_STEPS,
+            FROM,
+            LAST,
+            FUNCTION,
+        ],
     },
     CommandRow {
         name: "count",
         about: "Runs the source in FILE and counts the steps of each line",
         usage: None,
         help: COUNT_HELP,
-        arguments: &[EDITION, FILE, WITH, STEPS, NO_LIMIT, JSON],
+        arguments: &[
+            EDITION, FILE, WITH, CODE, MADE, LINES, STEPS, NO_LIMIT, JSON,
+        ],
     },
     CommandRow {
         name: "show",

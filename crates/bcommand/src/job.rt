@@ -25,13 +25,21 @@ pub enum Clash {
     Limits,
     /// The steps from a number on, and the last ones.
     Rows,
+    /// A code text in FILE, and one that was made of FILE.
+    Origins,
+    /// A code text in FILE, and a source after it.
+    Libs,
+    /// A code text that was made of FILE, and no lines of it.
+    Made,
+    /// Lines of a code text, and none that was made of FILE.
+    Lines,
 }
 
 /// What is asked of a source.
 #[derive(Clone, Copy)]
 pub enum Question<'a> {
     /// Its code, or only that of the definitions of a name, if there is one.
-    List(Option<&'a str>),
+    List(OriginNames<'a>, Option<&'a str>),
     /// The layout of its memory.
     Map,
     /// A picture of memory, after so many steps if a number is given.
@@ -42,10 +50,28 @@ pub enum Question<'a> {
     /// Where a run of so many steps at most is over.
     Locate(u64),
     /// The steps of each of its lines in a run of so many at most, and whether an editor reads them.
-    Count(u64, bool),
+    Count(OriginNames<'a>, u64, bool),
     Show(Display<'a>),
     /// The same source in one style, or only whether it is in that.
     Format(bool),
+}
+
+/// What a program is read from.
+#[derive(Clone, Copy)]
+pub enum OriginNames<'a> {
+    /// The source, which is compiled.
+    Source,
+    /// The code text that is in FILE.
+    Code,
+    /// The code text that another compiler made of the source.
+    Made(MadeNames<'a>),
+}
+
+/// The file of a code text, and that with a line of its source for each place in it.
+#[derive(Clone, Copy)]
+pub struct MadeNames<'a> {
+    pub code: &'a str,
+    pub lines: &'a str,
 }
 
 /// Which steps of a run are shown: those from a number on, or so many of the last ones.
@@ -58,6 +84,7 @@ pub enum Rows {
 /// A run step by step, and the steps that are shown: all of them, or those of a function.
 #[derive(Clone, Copy)]
 pub struct Walk<'a> {
+    pub origin: OriginNames<'a>,
     /// The most steps that are made.
     pub steps: u64,
     pub rows: Rows,

@@ -6,6 +6,6 @@ mod job;
 mod parsing;
 mod texts;
 
-pub use job::{Clash, Display, Job, Question, Rows, SourceNames, Walk};
+pub use job::{Clash, Display, Job, MadeNames, OriginNames, Question, Rows, SourceNames, Walk};
 pub use parsing::{job_of, parse};
 pub use texts::{UNREAD, clash_text};

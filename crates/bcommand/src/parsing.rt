@@ -2,10 +2,10 @@
 ghost use Rattle.std.specs.Prelude.{◌≡◌, [], IfOk, IfErr, map, option_map, string_bytes};
 ghost use Rattle.clap.specs.Words.{HasKind, fault_of, first_of, found_of, rows_of, subcommand_of, subcommand_rows_of};
 ghost use Rattle.bcommand.specs.CommandLine.{asked, asked_of, command_line, edition_in, file_in, is_set_in, libs_in, option_number, question_of, source_in, source_shown, steps_in};
-ghost use Rattle.bcommand.specs.CommandLine.{count_in, go_in, map_in, rows_asked, run_in, show_in, shown_steps, trace_in, trace_steps};
+ghost use Rattle.bcommand.specs.CommandLine.{count_in, go_in, list_in, map_in, origin_asked, origin_in, origin_or_clash, rows_asked, run_in, show_in, shown_steps, trace_in, trace_steps};
 
 use crate::commands::command;
-use crate::job::{Clash, Display, Job, Question, Rows, SourceNames, Walk};
+use crate::job::{Clash, Display, Job, MadeNames, OriginNames, Question, Rows, SourceNames, Walk};
 use bword::Edition;
 use clap::{ArgMatches, Error};
 use std::alloc::Global;
@@ -41,7 +41,7 @@ pub fn job_of<'m, 'a: 'm>(matches: &'m ArgMatches<'a>) -> Job<'m>
         "run" => run_of(given),
         "go" => go_of(given),
         "migrate" => Job::Migrate,
-        "list" => Job::Ask(source_of(given), Question::List(text_of(given, "NAME"))),
+        "list" => list_of(given),
         "map" => Job::Ask(source_of(given), map_of(given)),
         "check" => Job::Ask(source_of(given), Question::Check(is_set(given, "json"))),
         "trace" => trace_of(given),
@@ -94,6 +94,46 @@ fn edition_of(given: &ArgMatches<'_>) -> Edition
     }
 }
 
+fn list_of<'m, 'a: 'm>(given: &'m ArgMatches<'a>) -> Job<'m>
+    ensures { asked_of result ≡ list_in (rows_of (found_of given.now)) }
+{
+    match origin_of(given) {
+        Ok(origin) => Job::Ask(
+            source_of(given),
+            Question::List(origin, text_of(given, "NAME")),
+        ),
+        Err(clash) => Job::Contradiction(clash),
+    }
+}
+
+fn origin_of<'m, 'a: 'm>(given: &'m ArgMatches<'a>) -> Result<OriginNames<'m>, Clash>
+    ensures { origin_or_clash result ≡ origin_in (rows_of (found_of given.now)) }
+{
+    let made = text_of(given, "made");
+    let lines = text_of(given, "lines");
+    origin_named(is_set(given, "code"), made, lines, libs_of(given))
+}
+
+// A code text stands alone, and one that was made of a source has lines in that.
+fn origin_named<'a>(
+    is_code: bool,
+    made: Option<&'a str>,
+    lines: Option<&'a str>,
+    libs: &[&str],
+) -> Result<OriginNames<'a>, Clash>
+    ensures { origin_or_clash result ≡ origin_asked is_code (option_map (λ t. t.now) made.entry) (option_map (λ t. t.now) lines.entry) (map (λ t. t.now) libs.now) }
+{
+    match (is_code, made, lines) {
+        (false, None, None) => Ok(OriginNames::Source),
+        (false, Some(code), Some(lines)) => Ok(OriginNames::Made(MadeNames { code, lines })),
+        (false, Some(_), None) => Err(Clash::Made),
+        (false, None, Some(_)) => Err(Clash::Lines),
+        (true, None, None) if libs.is_empty() => Ok(OriginNames::Code),
+        (true, None, None) => Err(Clash::Libs),
+        (true, _, _) => Err(Clash::Origins),
+    }
+}
+
 // A number of steps asks for a picture, too.
 fn map_of<'a>(given: &ArgMatches<'a>) -> Question<'a>
     ensures { question_of result ≡ map_in (rows_of (found_of given.now)) }
@@ -107,10 +147,15 @@ fn map_of<'a>(given: &ArgMatches<'a>) -> Question<'a>
 fn trace_of<'m, 'a: 'm>(given: &'m ArgMatches<'a>) -> Job<'m>
     ensures { asked_of result ≡ trace_in (rows_of (found_of given.now)) }
 {
+    let origin = match origin_of(given) {
+        Ok(origin) => origin,
+        Err(clash) => return Job::Contradiction(clash),
+    };
     let Some(rows) = shown_rows(number_of(given, "from"), number_of(given, "last")) else {
         return Job::Contradiction(Clash::Rows);
     };
     let walk = Walk {
+        origin,
         steps: number_of(given, "steps").unwrap_or(trace_steps(rows)),
         rows,
         function: text_of(given, "function"),
@@ -135,10 +180,14 @@ fn show_of<'m, 'a: 'm>(given: &'m ArgMatches<'a>) -> Job<'m>
 fn count_of<'m, 'a: 'm>(given: &'m ArgMatches<'a>) -> Job<'m>
     ensures { asked_of result ≡ count_in (rows_of (found_of given.now)) }
 {
+    let origin = match origin_of(given) {
+        Ok(origin) => origin,
+        Err(clash) => return Job::Contradiction(clash),
+    };
     match steps_of(given) {
         Some(steps) => Job::Ask(
             source_of(given),
-            Question::Count(steps, is_set(given, "json")),
+            Question::Count(origin, steps, is_set(given, "json")),
         ),
         None => Job::Contradiction(Clash::Limits),
     }

@@ -27,6 +27,30 @@ error: the argument '--from <N>' cannot be used with '--last <N>'
 For more information, try '--help'.
 ";
 
+const ORIGINS: &str = "\
+error: the argument '--code' cannot be used with '--made <CODE>' or '--lines <LINES>'
+
+For more information, try '--help'.
+";
+
+const LIBS: &str = "\
+error: the argument '--code' cannot be used with '--with <LIB>'
+
+For more information, try '--help'.
+";
+
+const MADE: &str = "\
+error: the argument '--made <CODE>' cannot be used without '--lines <LINES>'
+
+For more information, try '--help'.
+";
+
+const LINES: &str = "\
+error: the argument '--lines <LINES>' cannot be used without '--made <CODE>'
+
+For more information, try '--help'.
+";
+
 /// The message for options that contradict each other.
 pub fn clash_text(clash: Clash) -> &'static str
     ensures { result.now ≡ clash_line clash }
@@ -34,6 +58,10 @@ pub fn clash_text(clash: Clash) -> &'static str
     match clash {
         Clash::Limits => LIMITS,
         Clash::Rows => ROWS,
+        Clash::Origins => ORIGINS,
+        Clash::Libs => LIBS,
+        Clash::Made => MADE,
+        Clash::Lines => LINES,
     }
 }
 
@@ -144,14 +172,21 @@ the code text, the source line, and the name of an automatic or a label. NAME is
 the name of a definition in the source. With --with LIB the lines are counted
 from the first one of FILE on.
 
+With --code, FILE is a code text of any compiler, and its own lines are shown.
+With --made CODE and --lines LINES, another compiler made CODE of FILE. LINES
+has a line with a number for each place of CODE: the line of FILE that it comes
+from. With --code there is no LIB, and no edition is needed.
+
 Examples:
   b list hello.b
   b list --edition 2 menu.b main
   b list --with print sum.b printf
+  b list --code hello.code
 
-Statuses: 0 listed, 1 a fault of the source, 132 code that doesn't load,
-133 a failed read or write, 134 out of memory, 135 a wrong command line, or no
-definition NAME. b --help explains the letters.";
+Statuses: 0 listed, 1 a fault of the source, 132 no code text or one that
+doesn't load, 133 a failed read or write, 134 out of memory, 135 a wrong command
+line, no definition NAME, or LINES that don't fit. b --help explains the
+letters.";
 
 pub(crate) const MAP_HELP: &str = "\
 A row has the address of a name, how many words it has, and the first six of
@@ -183,6 +218,11 @@ most six parameters.
 function. With it, --steps is 10000000 if not given. A line of a LIB is shown by
 its own number and the name of LIB.
 
+With --code, FILE is a code text of any compiler, and its own lines are shown.
+With --made CODE and --lines LINES, another compiler made CODE of FILE. LINES
+has a line with a number for each place of CODE: the line of FILE that it comes
+from. With --code there is no LIB, and no edition is needed.
+
 The program reads standard input. Its output is in the trace alone. The trace is
 kept in memory, and written when the run is over.
 
@@ -191,11 +231,12 @@ Examples:
   b trace --from 100 --steps 200 --function main hello.b
   b trace --last 20 hello.b
   b trace --with print sum.b
+  b trace --made hello.code --lines hello.lines hello.bas
 
 Statuses: 0 to 127 the program's own, 1 also a fault of the source, 130 a trap,
-131 the limit of steps, 132 code that doesn't load, 133 a failed read or write,
-134 out of memory, 135 a wrong command line, or no function NAME.
-b --help explains the letters.";
+131 the limit of steps, 132 no code text or one that doesn't load, 133 a failed
+read or write, 134 out of memory, 135 a wrong command line, no function NAME, or
+LINES that don't fit. b --help explains the letters.";
 
 pub(crate) const CHECK_HELP: &str = "\
 For a fault, the first line is that of b compile, or load 2 or load 3 as b run
@@ -259,6 +300,11 @@ and how many steps its code took. The three lines that took most are marked. The
 numbers of steps add up to the steps of the run. --json writes one object on
 each line.
 
+With --code, FILE is a code text of any compiler, and its own lines are shown.
+With --made CODE and --lines LINES, another compiler made CODE of FILE. LINES
+has a line with a number for each place of CODE: the line of FILE that it comes
+from. With --code there is no LIB, and no edition is needed.
+
 The program reads standard input, and its output is dropped. After a trap or at
 the limit of steps the counts are those of the steps before it.
 
@@ -266,10 +312,12 @@ Examples:
   b count hello.b
   b count --no-limit --edition 2 menu.b < numbers
   b count --json --with print sum.b
+  b count --code hello.code
 
 Statuses: 0 to 127 the program's own, 1 also a fault of the source, 130 a trap,
-131 the limit of steps, 132 code that doesn't load, 133 a failed read or write,
-134 out of memory, 135 a wrong command line. b --help explains the letters.";
+131 the limit of steps, 132 no code text or one that doesn't load, 133 a failed
+read or write, 134 out of memory, 135 a wrong command line, or LINES that don't
+fit. b --help explains the letters.";
 
 pub(crate) const SHOW_HELP: &str = "\
 The page is one file that needs no network. It shows the source with the running

@@ -432,7 +432,10 @@ b check --json x.b~0
 b trace x.b~130
 b trace --steps 6 x.b~131
 b go --where x.b~130
-b run --where x.code~130";
+b run --where x.code~130
+b list --code x.code~0
+b trace --code x.code~130
+b count --code x.code~130";
 
 // Writes both into files.
 fn keep_readings(rt: &impl Files) -> Result<(), Fail> {

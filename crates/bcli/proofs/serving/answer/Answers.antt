@@ -1,5 +1,6 @@
 use Rattle.std.proofs.Common.{refl, subst}
 use Rattle.bsources.specs.Files.{files_shown}
+use Rattle.btools.specs.Origins.{origin_shown}
 use Rattle.bcheck.specs.Checks.{Checks}
 use Rattle.bcheck.specs.declared.form.FindingForm.{FindingForm}
 use Rattle.bcommand.specs.declared.job.Question.TheVariants as questions
@@ -8,19 +9,19 @@ use Rattle.bcli.proofs.serving.answer.Goals as goal
 
 pub returns-in-List-clause-answers : goal.returns-in-List-clause-answers
 returns-in-List-clause-answers g c =
-    answered c.args.edition (files_shown c.args.files) c.args.text.now c.args.question (questions.List c.in-List.name) _ _ c.in-List.is (refl, c.list.ensures.lists)
+    answered (origin_shown c.args.origin) c.args.edition (files_shown c.args.files) c.args.text.now c.args.question (questions.List c.in-List.field-0 c.in-List.name) _ _ c.in-List.is (refl, c.list.ensures.lists)
 
 pub returns-in-Map-clause-answers : goal.returns-in-Map-clause-answers
 returns-in-Map-clause-answers g c =
-    answered c.args.edition (files_shown c.args.files) c.args.text.now c.args.question questions.Map _ _ c.in-Map.is (refl, c.map.ensures.maps)
+    answered (origin_shown c.args.origin) c.args.edition (files_shown c.args.files) c.args.text.now c.args.question questions.Map _ _ c.in-Map.is (refl, c.map.ensures.maps)
 
 pub returns-in-Draw-clause-answers : goal.returns-in-Draw-clause-answers
 returns-in-Draw-clause-answers g c =
-    answered c.args.edition (files_shown c.args.files) c.args.text.now c.args.question (questions.Draw c.in-Draw.steps) _ _ c.in-Draw.is c.draw.ensures.draws
+    answered (origin_shown c.args.origin) c.args.edition (files_shown c.args.files) c.args.text.now c.args.question (questions.Draw c.in-Draw.steps) _ _ c.in-Draw.is c.draw.ensures.draws
 
 pub returns-in-Check-clause-answers : goal.returns-in-Check-clause-answers
 returns-in-Check-clause-answers g c =
-    answered c.args.edition (files_shown c.args.files) c.args.text.now c.args.question (questions.Check c.in-Check.for_editor) _ _ c.in-Check.is (
+    answered (origin_shown c.args.origin) c.args.edition (files_shown c.args.files) c.args.text.now c.args.question (questions.Check c.in-Check.for_editor) _ _ c.in-Check.is (
       refl,
       refl,
       subst (λ (f : FindingForm). Checks (record {
@@ -36,22 +37,22 @@ returns-in-Check-clause-answers g c =
 
 pub returns-in-Trace-clause-answers : goal.returns-in-Trace-clause-answers
 returns-in-Trace-clause-answers g c =
-    answered _ _ _ c.args.question (questions.Trace c.in-Trace.walk) _ _ c.in-Trace.is
+    answered _ _ _ _ c.args.question (questions.Trace c.in-Trace.walk) _ _ c.in-Trace.is
     (rw (← c.traced_rows.ensures) c.trace.ensures.traces)
 
 pub returns-in-Locate-clause-answers : goal.returns-in-Locate-clause-answers
 returns-in-Locate-clause-answers g c =
-    answered _ _ _ c.args.question (questions.Locate c.in-Locate.steps) _ _ c.in-Locate.is c.locate.ensures.locates
+    answered _ _ _ _ c.args.question (questions.Locate c.in-Locate.steps) _ _ c.in-Locate.is c.locate.ensures.locates
 
 pub returns-in-Count-clause-answers : goal.returns-in-Count-clause-answers
 returns-in-Count-clause-answers g c =
-    answered _ _ _ c.args.question (questions.Count c.in-Count.steps c.in-Count.for_editor) _ _ c.in-Count.is
+    answered _ _ _ _ c.args.question (questions.Count c.in-Count.field-0 c.in-Count.steps c.in-Count.for_editor) _ _ c.in-Count.is
     (rw (← c.style_of.ensures) c.count.ensures.counts)
 
 pub returns-in-Show-clause-answers : goal.returns-in-Show-clause-answers
 returns-in-Show-clause-answers g c =
-    answered _ _ _ c.args.question (questions.Show c.in-Show.display) _ _ c.in-Show.is c.show_run.ensures.shows
+    answered _ _ _ _ c.args.question (questions.Show c.in-Show.display) _ _ c.in-Show.is c.show_run.ensures.shows
 
 pub returns-in-Format-clause-answers : goal.returns-in-Format-clause-answers
 returns-in-Format-clause-answers g c =
-    answered _ _ _ c.args.question (questions.Format c.in-Format.is_check) _ _ c.in-Format.is (refl, c.format.ensures.formats)
+    answered _ _ _ _ c.args.question (questions.Format c.in-Format.is_check) _ _ c.in-Format.is (refl, c.format.ensures.formats)

@@ -1,11 +1,11 @@
 use Rattle.std.proofs.Common.{inl, inr, refl}
-use Rattle.bcommand.specs.CommandLine.{source_shown}
+use Rattle.bcommand.specs.CommandLine.{question_of, source_shown}
 use Rattle.bcli.proofs.Answered.{asked_of_source, lib_named_of, named_for}
 use Rattle.bcli.proofs.serving.ask_file.Goals as goal
 
 pub returns-in-Ok-clause-does : goal.returns-in-Ok-clause-does
 returns-in-Ok-clause-does g c =
-    asked_of_source (g.S.Shelf.holdings c.args.shelf.now) (source_shown c.args.source) _ _ _ _ _ _ c.in-Ok.ensures.ok c.as_slice.ensures.value refl refl c.ask_read.ensures.answers
+    asked_of_source (g.S.Shelf.holdings c.args.shelf.now) (source_shown c.args.source) _ _ _ (question_of c.args.question) _ _ c.in-Ok.ensures.ok c.as_slice.ensures.value refl refl c.ask_read.ensures.answers
 
 pub returns-in-Err-File-clause-does : goal.returns-in-Err-File-clause-does
 returns-in-Err-File-clause-does g c =

@@ -1,0 +1,115 @@
+-- Closed facts: what a program is read from, by the words of each command that takes a code text.
+use Rattle.std.specs.Prelude.{◌≡◌, true, false, List, [], ◌∷◌, ◌++◌, None, codes, map, refl}
+use Rattle.clap.specs.Words.{Text, fault_of, subcommand_of}
+use Rattle.clap.specs.declared.error.kind.ErrorKind.{ErrorKind}
+use Rattle.clap.specs.declared.error.kind.ErrorKind.TheVariants as kind
+use Rattle.clap.proofs.OnLiterals.{clap_on_literals}
+use Rattle.bword.specs.declared.edition.Edition.TheVariants as editions
+use Rattle.bcommand.specs.CommandLine.{Asked, OriginAsked, SourceAsked, asked, command_line}
+use Rattle.bcommand.specs.CommandLine.{ask, contradiction, count, from_code, from_made, list, trace}
+use Rattle.bcommand.specs.declared.job.Clash.{Clash}
+use Rattle.bcommand.specs.declared.job.Clash.TheVariants as clash
+use Rattle.bcommand.specs.declared.job.Rows.TheVariants as which
+
+abbrev names : List Text
+names = codes "list" ∷ codes "trace" ∷ codes "count" ∷ []
+
+abbrev words_of : (name : Text) → (words : List Text) → List Text
+words_of name words = codes "b" ∷ name ∷ words ++ codes "x" ∷ []
+
+-- the faults of these words in each of the commands, and what they ask for
+abbrev faults : (words : List Text) → List (List ErrorKind)
+faults words = map (λ name. fault_of command_line (words_of name words)) names
+
+abbrev each : (words : List Text) → List Asked
+each words = map (λ name. asked (subcommand_of command_line (words_of name words))) names
+
+abbrev none : List (List ErrorKind)
+none = [] ∷ [] ∷ [] ∷ []
+
+-- each of the commands asks for this
+abbrev asks : SourceAsked → OriginAsked → List Asked
+asks source origin = ask source (list origin None) ∷ ask source (trace origin 1000 (which.From 1) None)
+    ∷ ask source (count origin 10000000 false) ∷ []
+
+abbrev refuse : Clash → List Asked
+refuse it = contradiction it ∷ contradiction it ∷ contradiction it ∷ []
+
+abbrev alone : SourceAsked
+alone = record { file = codes "x"; libs = []; edition = editions.One }
+
+of_code : each (codes "--code" ∷ []) ≡ asks alone from_code
+unfolding clap_on_literals
+of_code = refl
+
+-- an edition says nothing of a code text, and is allowed
+of_code_with_edition : (faults (codes "--code" ∷ codes "--edition=2" ∷ []) ≡ none)
+    × (each (codes "--code" ∷ codes "--edition=2" ∷ []) ≡ asks (record alone { edition = editions.Two }) from_code)
+unfolding clap_on_literals
+of_code_with_edition = (refl, refl)
+
+abbrev with_lines : List Text
+with_lines = codes "--made=c" ∷ codes "--lines" ∷ codes "l" ∷ []
+
+of_made : (faults with_lines ≡ none) × (each with_lines ≡ asks alone (from_made (codes "c") (codes "l")))
+unfolding clap_on_literals
+of_made = (refl, refl)
+
+-- in the other order, and of a source in two files
+abbrev with_made : List Text
+with_made = codes "--lines=l" ∷ codes "--with=m" ∷ codes "--made" ∷ codes "c" ∷ []
+
+of_two_made : (faults with_made ≡ none)
+    × (each with_made ≡ asks (record alone { libs = codes "m" ∷ [] }) (from_made (codes "c") (codes "l")))
+unfolding clap_on_literals
+of_two_made = (refl, refl)
+
+made_alone : each (codes "--made=c" ∷ []) ≡ refuse clash.Made
+unfolding clap_on_literals
+made_alone = refl
+
+lines_alone : each (codes "--lines=l" ∷ []) ≡ refuse clash.Lines
+unfolding clap_on_literals
+lines_alone = refl
+
+code_and_made : (faults (codes "--code" ∷ codes "--made=c" ∷ []) ≡ none)
+    × (each (codes "--code" ∷ codes "--made=c" ∷ []) ≡ refuse clash.Origins)
+unfolding clap_on_literals
+code_and_made = (refl, refl)
+
+code_and_lines : (faults (codes "--lines=l" ∷ codes "--code" ∷ []) ≡ none)
+    × (each (codes "--lines=l" ∷ codes "--code" ∷ []) ≡ refuse clash.Origins)
+unfolding clap_on_literals
+code_and_lines = (refl, refl)
+
+code_and_both : each (codes "--made=c" ∷ codes "--code" ∷ codes "--lines=l" ∷ []) ≡ refuse clash.Origins
+unfolding clap_on_literals
+code_and_both = refl
+
+code_and_lib : (faults (codes "--with=m" ∷ codes "--code" ∷ []) ≡ none)
+    × (each (codes "--with=m" ∷ codes "--code" ∷ []) ≡ refuse clash.Libs)
+unfolding clap_on_literals
+code_and_lib = (refl, refl)
+
+-- a text that lacks its value, and two of them
+no_value : map (λ name. fault_of command_line (codes "b" ∷ name ∷ codes "x" ∷ codes "--made" ∷ [])) names
+    ≡ (kind.InvalidValue ∷ []) ∷ (kind.InvalidValue ∷ []) ∷ (kind.InvalidValue ∷ []) ∷ []
+unfolding clap_on_literals
+no_value = refl
+
+two_values : faults (codes "--lines=l" ∷ codes "--lines=m" ∷ [])
+    ≡ (kind.ArgumentConflict ∷ []) ∷ (kind.ArgumentConflict ∷ []) ∷ (kind.ArgumentConflict ∷ []) ∷ []
+unfolding clap_on_literals
+two_values = refl
+
+-- the other contradictions are told of a code text, too, and after these
+abbrev one : (name : Text) → (words : List Text) → Asked
+one name words = asked (subcommand_of command_line (words_of name words))
+
+told_first : one (codes "trace") (codes "--made=c" ∷ codes "--from=5" ∷ codes "--last=5" ∷ [])
+    ∷ one (codes "trace") (codes "--code" ∷ codes "--from=5" ∷ codes "--last=5" ∷ [])
+    ∷ one (codes "count") (codes "--with=m" ∷ codes "--code" ∷ codes "--no-limit" ∷ codes "--steps=5" ∷ [])
+    ∷ one (codes "count") (codes "--code" ∷ codes "--no-limit" ∷ codes "--steps=5" ∷ []) ∷ []
+    ≡ contradiction clash.Made ∷ contradiction clash.Rows ∷ contradiction clash.Libs ∷ contradiction clash.Limits ∷ []
+unfolding clap_on_literals
+told_first = refl
