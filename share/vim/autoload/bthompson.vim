@@ -5,7 +5,7 @@ let s:comment = '/\* b:\(\%( --\%(edition [12]\|with [A-Za-z0-9_./-]\+\)\)\+\) \
 
 function! s:Options(name) abort
   let words = split(get(matchlist(getline(1), s:comment), 1, ''))
-  return map(filter(range(0, len(words) - 1, 2), 'words[v:val] ==# a:name'), 'words[v:val + 1]')
+  return map(filter(copy(range(0, len(words) - 1, 2)), 'words[v:val] ==# a:name'), 'words[v:val + 1]')
 endfunction
 
 function! bthompson#edition() abort
@@ -17,7 +17,7 @@ function! s:Lib(lib) abort
   if a:lib !~# '[./]' || a:lib[0] ==# '/'
     return a:lib
   endif
-  return escape(shellescape(expand('%:h') . '/' . a:lib), '%#|')
+  return escape(shellescape(expand('%:h') . '/' . a:lib), '%#<|')
 endfunction
 
 function! bthompson#check() abort
