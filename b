@@ -1,6 +1,7 @@
 #!/usr/bin/env bash
 # Runs the program `b` with these words, and first proves and builds it where it isn't built of just these sources.
-# Where it was never built, an unproved run answers first, if it can. With --prove before the words it doesn't.
+# Where it was never built, an unproved run answers first, if it can. With --prove before the words it doesn't. With
+# --prove --keep, what the kit keeps of each check stays, for those who change the sources.
 set -u
 unset CDPATH
 top=$(readlink -f "${BASH_SOURCE[0]}")
@@ -55,16 +56,19 @@ is_stale() {
     return 1
 }
 
-prove_first=
+prove_first='' keep=()
 if [ "${1-}" = --prove ]; then
     prove_first=1
     shift
+    [ "${1-}" != --keep ] || { keep=(--keep) && shift; }
 fi
 find_sources
 if is_stale; then
     # shellcheck source=tools/start
     . "$top/tools/start"
     start "$@"
+elif [ "${#keep[@]}" -gt 0 ] && [ ! -d "$top/crates/bword/out/incremental" ]; then
+    say "all is proved, and nothing was kept of it: after rm -rf crates/*/out, --prove --keep proves and keeps it"
 fi
 [ -z "$prove_first" ] || [ $# -gt 0 ] || exit 0
 # shellcheck disable=SC2034
