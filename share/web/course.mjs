@@ -1,0 +1,141 @@
+// The lessons: chapters made of the pages of the repository, their programs with Run beside them, and the exercises.
+import {$, button, element} from './dom.mjs';
+import {sentence} from './exercises.mjs';
+
+const plural = (n, what) => `${n} ${what}${n === 1 ? '' : 's'}`;
+
+export class Course {
+  /** `acts` has what a press of a button does: open, run, command, write, grade, handIn. */
+  constructor(data, store, acts) {
+    Object.assign(this, {data, store, acts});
+    this.results = new Map(data.exercises.map(it => [it.name, store.get(`result:${it.name}`)]));
+    $('chapter').onchange = () => this.show($('chapter').value, true);
+    $('previous').onclick = () => this.move(-1);
+    $('next').onclick = () => this.move(1);
+    this.list();
+    this.show(store.get('chapter') ?? 'start');
+  }
+
+  exercisesOf(chapter) {
+    return this.data.exercises.filter(it => chapter.name === `lesson-${it.lesson}`);
+  }
+
+  isPassed(name) {
+    const result = this.results.get(name);
+    return !!result && result.of > 0 && result.passed === result.of;
+  }
+
+  /** The list of chapters, with a mark where all exercises are done. */
+  list() {
+    const current = $('chapter').value;
+    $('chapter').replaceChildren(...this.data.chapters.map(it => {
+      const all = this.exercisesOf(it), isDone = all.length > 0 && all.every(one => this.isPassed(one.name));
+      return new Option(isDone ? `\u2713 ${it.title}` : it.title, it.name);
+    }));
+    if (current) $('chapter').value = current;
+  }
+
+  move(by) {
+    const {chapters} = this.data, at = chapters.findIndex(it => it.name === this.chapter.name);
+    this.show(chapters[Math.min(chapters.length - 1, Math.max(0, at + by))].name, true);
+  }
+
+  show(name, isAsked = false) {
+    const {chapters} = this.data, at = Math.max(0, chapters.findIndex(it => it.name === name));
+    this.chapter = chapters[at];
+    $('chapter').value = this.chapter.name;
+    $('previous').disabled = at === 0;
+    $('next').disabled = at === chapters.length - 1;
+    const text = $('chapter-text');
+    text.innerHTML = this.chapter.html;
+    for (const it of text.querySelectorAll('figure.file')) this.dressFile(it);
+    for (const it of text.querySelectorAll('figure.command')) this.dressCommand(it);
+    for (const it of text.querySelectorAll('a[data-chapter]')) it.onclick = event => this.follow(event, it);
+    text.append(...this.exercisesOf(this.chapter).map(it => this.card(it)));
+    if (at + 1 < chapters.length) text.append(this.onward(chapters[at + 1]));
+    text.scrollTop = 0;
+    if (isAsked) text.focus();
+    this.store.put('chapter', this.chapter.name);
+  }
+
+  follow(event, link) {
+    event.preventDefault();
+    this.show(link.dataset.chapter, true);
+  }
+
+  onward(chapter) {
+    return element('p', {className: 'onward'}, button(`Next: ${chapter.title}`, () => this.show(chapter.name, true)));
+  }
+
+  setOf(figure) {
+    const at = Number(figure.dataset.set), place = this.chapter.sets.length > 1 ? `${this.chapter.name}.${at + 1}`
+      : this.chapter.name;
+    return {...this.chapter.sets[at], place};
+  }
+
+  /** A program of a chapter, as a file with what its first command gives it. */
+  fileOf(set, name) {
+    const {libs = [], input = ''} = set.starts[name] ?? {}, text = set.files[name];
+    return {place: set.place, name, text, base: text, libs, input: set.files[input] ?? ''};
+  }
+
+  dressFile(figure) {
+    const set = this.setOf(figure), {file: name} = figure.dataset;
+    const bar = element('figcaption', {}, element('b', {}, name));
+    if (name.endsWith('.b')) {
+      bar.append(button('Edit', () => this.acts.open(this.filesOf(set, name)), {title: `Opens ${name} in the editor`}),
+        button('Run', () => this.acts.run(this.filesOf(set, name)), {title: `Opens ${name} and runs it`}));
+    }
+    figure.prepend(bar);
+    figure.querySelector('pre').tabIndex = 0;
+  }
+
+  /** A program with the files of its chapter that come after it, the program last. */
+  filesOf(set, name) {
+    const {libs = []} = set.starts[name] ?? {};
+    return [...libs.filter(it => it in set.files), name].map(it => this.fileOf(set, it));
+  }
+
+  dressCommand(figure) {
+    const set = this.setOf(figure), line = figure.querySelector('code').textContent.replace(/^\$ b /, '');
+    const act = () => this.acts.command(line, set);
+    figure.prepend(button('Run', act, {title: `Runs b ${line}`}));
+    const out = figure.querySelector('pre');
+    if (out) out.tabIndex = 0;
+  }
+
+  card(exercise) {
+    const {name} = exercise, box = element('section', {className: 'exercise', id: `exercise-${name}`});
+    box.innerHTML = exercise.html;
+    box.prepend(element('h3', {}, 'Exercise ', element('em', {}, name)));
+    const result = element('div', {className: 'result', role: 'status'});
+    box.append(element('p', {className: 'row'},
+      button(`Write ${name}.b`, () => this.acts.write(exercise)),
+      button(exercise.tests.length === 1 ? 'Try the test' : `Try the ${exercise.tests.length} tests`, () => this.acts.grade(exercise)),
+      button('Hand in ..', () => this.acts.handIn())), result);
+    this.fill(result, exercise, this.results.get(name));
+    return box;
+  }
+
+  fill(box, exercise, result) {
+    if (!result) return;
+    const isRight = result.passed === result.of;
+    const head = element('p', {className: isRight ? 'good' : 'bad'}, result.refused
+      ? `Not taken: ${result.refused}.` : `${result.passed} of ${plural(result.of, 'test')} passed.`);
+    box.replaceChildren(head, element('ul', {}, ...result.failed.map(([test, text]) => element('li', {},
+      element('b', {}, `${test}: `), text))));
+  }
+
+  /** Keeps and shows what came of the tests of an exercise. */
+  graded(exercise, {refused, results}) {
+    const failed = results.filter(it => it.result !== 'ok').map(it => [it.test.name, sentence(it)]);
+    const passed = results.length - failed.length;
+    const kept = {passed, of: exercise.tests.length, failed, refused};
+    this.results.set(exercise.name, kept);
+    this.store.put(`result:${exercise.name}`, kept);
+    const box = document.querySelector(`#exercise-${exercise.name} .result`);
+    if (box) this.fill(box, exercise, kept);
+    this.list();
+    return kept;
+  }
+}

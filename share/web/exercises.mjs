@@ -1,0 +1,106 @@
+// The tests of an exercise, and what comes of them: the verdict is that of class/grade, word for word.
+import {bytesOf, bytesOfLatin} from './dom.mjs';
+
+const SOURCE_BYTES = 65536; // the longest hand-in
+const OUTPUT_BYTES = 65536; // how much more than the wanted output a run may write
+const SECONDS = 20; // after which a run is ended
+const SHOWN = 100; // characters of a line
+const END_NAME = 'handedin.b';
+const END = '/* The end of the hand-in. */\nhandedin() {\n}\n';
+const PLACE = /at +in (\w+) +place +\d+ +line +(\d+)(?: of (\w+\.b))? +step (\d+)\n(.*)\n +means: (.*)/;
+const BLANKS = /[ \t\n\r\v\f]+$/;
+
+const latin = bytes => Array.from(bytes, it => String.fromCharCode(it)).join('');
+const isPlain = it => /[^\p{C}\p{Z}]| /u.test(it) && it !== '\ufffd';
+/** A line as it can be shown: without what a terminal obeys, and not too long. */
+function plain(text) {
+  const all = [...text].slice(0, SHOWN + 1).map(it => isPlain(it) ? it
+    : `\\x${it.codePointAt(0).toString(16).padStart(2, '0')}`).join('');
+  return all.length <= SHOWN ? all : `${all.slice(0, SHOWN)} ..`;
+}
+
+/** The lines of an output. Blanks at the end of a line and empty lines at the end don't count. */
+function linesOf(output) {
+  const text = output.replace(BLANKS, '');
+  return text ? text.split('\n').map(it => it.replace(BLANKS, '')) : [];
+}
+
+/** The first line that differs: its number, and what is there on both sides. */
+function firstDifference(output, wanted) {
+  const got = linesOf(output), want = linesOf(wanted);
+  const at = Array.from({length: Math.max(got.length, want.length)}, (_, k) => k).find(k => got[k] !== want[k]);
+  if (at === undefined) return null;
+  const told = line => line === undefined ? '(no such line)' : plain(line) || '(an empty line)';
+  return {line: at + 1, wrote: told(got[at]), wanted: told(want[at])};
+}
+
+/** The grading of one hand-in, by a machine of its own. */
+export class Grading {
+  constructor(machine, exercise, text) {
+    Object.assign(this, {machine, exercise, text, name: `${exercise.name}.b`});
+    this.files = {[this.name]: bytesOf(text), [END_NAME]: bytesOf(END)};
+    for (const [name, lib] of Object.entries(exercise.libs)) this.files[name] = bytesOfLatin(lib);
+    for (const it of exercise.tests) if (it.source) this.files[`${it.name}.b`] = bytesOfLatin(it.source);
+  }
+
+  words(command, options, test) {
+    const after = [...(test?.source ? [`${test.name}.b`] : []), ...Object.keys(this.exercise.libs)];
+    const withs = (after.length ? [END_NAME, ...after] : []).flatMap(it => ['--with', it]);
+    return [command, ...options, `--edition=${this.exercise.edition}`, this.name, ...withs];
+  }
+
+  /** Runs b, and ends it where it writes too much or takes too long. */
+  async run(words, test) {
+    const most = (test?.out.length ?? 0) + OUTPUT_BYTES;
+    const timer = setTimeout(() => this.machine.stop(), SECONDS * 1000);
+    const ended = await this.machine.ask(words, {files: this.files, input: bytesOfLatin(test?.input ?? ''), most});
+    clearTimeout(timer);
+    const why = ended.stopped ? `it took more than ${SECONDS} seconds` : ended.full ? `it wrote more than ${most} bytes`
+      : ended.failed;
+    return {...ended, why, told: ended.told ?? '', text: latin(ended.output ?? [])};
+  }
+
+  /** What comes of each test; `each` is called after each one. */
+  async grade(each = () => {}) {
+    if (this.files[this.name].length > SOURCE_BYTES) {
+      return {refused: `the file has more than ${SOURCE_BYTES} bytes`, results: []};
+    }
+    const results = [], checked = await this.run(this.words('check', ['--json']));
+    for (const test of this.exercise.tests) {
+      results.push(checked.status === 1 ? {test, result: 'fault'} : await this.tryTest(test));
+      each(results);
+    }
+    return {results};
+  }
+
+  async tryTest(test) {
+    const ran = await this.run(this.words('go', ['--where', `--steps=${this.exercise.steps}`], test), test);
+    const line = ran.told.split('\n')[0], difference = firstDifference(ran.text, test.out);
+    if (ran.why) return {test, result: 'stopped', why: ran.why};
+    if (!difference && ran.status === (test.status ?? 0)) return {test, result: 'ok'};
+    const result = line ? plain(line) : difference ? 'wrong' : `status ${ran.status}`;
+    return {test, result, status: ran.status, difference, place: this.placeIn(ran.told)};
+  }
+
+  placeIn(told) {
+    const found = PLACE.exec(told);
+    return found && {where: found[1], line: Number(found[2]), file: found[3] ?? this.name, step: found[4], means: found[6]};
+  }
+}
+
+const inputOf = text => text.length <= 40 && !text.trimEnd().includes('\n') && text.trimEnd();
+
+/** A sentence on a test that failed. */
+export function sentence({test, result, why, difference, place, status}) {
+  if (result === 'fault') return 'the program has a fault, which stands below the editor';
+  if (why) return why;
+  const given = inputOf(test.input ?? ''), start = test.source ? '' : given ? `for ${given} `
+    : test.input ? `for the input ${JSON.stringify(test.input)} ` : 'input' in test ? 'without an input ' : '';
+  if (place) return `${start}it ends with ${result}, ${place.means}, in line ${place.line} of ${place.file}`;
+  if (result.startsWith('load')) return `it can't be run with the tests: ${result}`;
+  if (!difference) return `${start}it ends with status ${status}, and not ${test.status ?? 0}`;
+  const {line, wrote, wanted} = difference;
+  if (test.source && wrote.startsWith('wrong: ')) return wrote.slice(7);
+  const at = linesOf(test.out).length > 1 ? ` in line ${line}` : '';
+  return `${start}it writes ${wrote}${at}, wanted ${wanted}`;
+}

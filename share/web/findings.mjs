@@ -1,0 +1,76 @@
+// What `check` finds while one types: marks at its lines, a list below the editor, and fixes to apply by a click. An
+// edit is tried before it is offered: with it the finding is gone, and no other one came before its place.
+import {$, button, element, shown} from './dom.mjs';
+import {edited, edits, told} from './fixes.mjs';
+
+const MOST = 30; // findings in the list
+const TRIED = 5; // findings for which edits are tried
+
+export function parsed(text) {
+  return text.split('\n').filter(Boolean).map(it => JSON.parse(it));
+}
+
+const isSame = (one, other) => one.message === other.message && one.file === other.file && one.code === other.code;
+const errors = found => found.filter(it => it.severity === 'error');
+
+export class Findings {
+  /** `check(program, change)` runs the check of a program, with another text of its file if `change` has one. */
+  constructor({check, apply, go, found}) {
+    Object.assign(this, {check, apply, go, mark: found, serial: 0, found: []});
+  }
+
+  /** Checks a program, shows what was found, and then the edits. Of checks that overlap the last one counts. */
+  async update(program) {
+    const serial = ++this.serial, found = await this.check(program);
+    if (serial !== this.serial || !found) return;
+    this.found = found;
+    this.mark(found);
+    this.show(found, program, new Map());
+    const offers = await this.tried(found, program, serial);
+    if (serial === this.serial && offers.size) this.show(found, program, offers);
+  }
+
+  async tried(found, program, serial) {
+    const offers = new Map();
+    for (const it of found.filter(one => one.file === program.name).slice(0, TRIED)) {
+      for (const edit of edits(program.text, it)) {
+        if (serial !== this.serial) return offers;
+        if (await this.holds(edit, it, found, program)) offers.set(it, [...offers.get(it) ?? [], edit]);
+      }
+    }
+    return offers;
+  }
+
+  async holds(edit, finding, before, program) {
+    if (edit.lib && edit.text === undefined) return true;
+    const after = await this.check(program, {text: edited(program.text, edit), lib: edit.lib});
+    if (!after || after.some(it => isSame(it, finding) && it.line <= finding.line + 1)) return false;
+    const [first] = errors(after), isWarning = finding.severity === 'warning';
+    if (!first) return true;
+    return !isWarning && (first.line > finding.line || errors(after).length < errors(before).length);
+  }
+
+  show(found, program, offers) {
+    $('findings').replaceChildren(...found.slice(0, MOST).map(it => this.item(it, program, offers.get(it) ?? [])));
+    if (found.length > MOST) $('findings').append(element('li', {}, `.. and ${found.length - MOST} more`));
+    $('findings').hidden = found.length === 0;
+    this.tell(found);
+  }
+
+  tell(found) {
+    const first = found[0];
+    const text = !first ? '' : `${found.length === 1 ? 'One finding' : `${found.length} findings`}, line ${first.line}: `
+      + first.message;
+    if ($('found-said').textContent !== text) $('found-said').textContent = text;
+  }
+
+  item(it, program, offers) {
+    const where = it.file === program.name ? `Line ${it.line}` : `${it.file}, line ${it.line}`;
+    const head = button('', () => this.go(it), {className: 'finding'});
+    head.append(element('b', {}, `${where}: `), shown(it.message));
+    const fix = element('small', {}, shown(it.fix ?? ''));
+    const buttons = offers.map(edit => button(`Fix: ${told(program.text, edit)}`, () => this.apply(edit, program),
+      {className: 'fix'}));
+    return element('li', {className: it.severity}, head, fix, ...buttons);
+  }
+}

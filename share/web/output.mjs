@@ -1,0 +1,70 @@
+// The output of a run, as text. A part at its beginning is shown, and of a longer one the end as well; all of it can be
+// saved. It stands in blocks of some lines each, so that a long one is laid out only where it is looked at.
+import {element, shown} from './dom.mjs';
+
+const BLOCK = 4096; // characters of a block, after which the next line begins another one
+const SHOWN = 400_000; // characters at the beginning that are shown
+const END = 4000; // and at the end
+const KEPT = 256 << 20; // bytes that can be saved
+
+export class Output {
+  constructor(box) {
+    this.box = box;
+    this.clear();
+  }
+
+  clear() {
+    this.decoder = new TextDecoder('utf-8', {ignoreBOM: true});
+    Object.assign(this, {kept: [], size: 0, length: 0, end: '', block: null, room: 0, more: null});
+    this.box.replaceChildren();
+    this.box.classList.remove('table');
+  }
+
+  write(bytes) {
+    this.size += bytes.length;
+    if (this.size <= KEPT) this.kept.push(new Blob([bytes]));
+    this.put(shown(this.decoder.decode(bytes, {stream: true})));
+  }
+
+  /** What a person typed for the program, as a terminal shows it. */
+  typed(text) { this.put(text, 'typed'); }
+
+  put(text, kind = '') {
+    const follows = this.box.scrollHeight - this.box.scrollTop - this.box.clientHeight < 40;
+    const first = text.slice(0, Math.max(0, SHOWN - this.length));
+    this.length += text.length;
+    for (let at = 0; at < first.length;) at += this.add(first, at, kind);
+    if (first.length < text.length) this.cut(text.slice(first.length));
+    if (follows) this.box.scrollTop = this.box.scrollHeight;
+  }
+
+  /** Adds a part of a text to the last block, up to the end of a line where the block is full. */
+  add(text, at, kind) {
+    if (this.room <= 0) {
+      this.block = element('div');
+      this.box.append(this.block);
+      this.room = BLOCK;
+    }
+    const newline = text.indexOf('\n', Math.min(at + this.room, text.length));
+    const end = Math.min(newline < 0 ? text.length : newline + 1, at + 2 * BLOCK);
+    const part = text.slice(at, end);
+    this.block.append(kind ? element('span', {className: kind}, part) : part);
+    this.room -= part.length;
+    if (this.room <= 0 && !part.endsWith('\n') && this.room > -BLOCK) this.room = 1;
+    return part.length;
+  }
+
+  cut(text) {
+    this.end = (this.end + text).slice(-END);
+    if (!this.more) {
+      this.more = {said: element('p', {className: 'more'}), end: element('div')};
+      this.box.append(this.more.said, this.more.end);
+    }
+    const hidden = this.length - SHOWN - this.end.length;
+    this.more.said.textContent = hidden > 0 ? `.. ${hidden.toLocaleString('en')} characters aren't shown here ..` : '';
+    this.more.end.textContent = this.end;
+  }
+
+  /** All that was written, for a file. */
+  get parts() { return this.kept; }
+}

@@ -1,0 +1,167 @@
+// Run, Stop, Step through, Lay out, and the commands of the lessons.
+import {$, button, bytesOf, save, say, textOf} from './dom.mjs';
+
+const PLACE = /^at +in (\S+) +place +\d+ +line +(\d+)(?: of (\S+))? +step (\d+)$/m;
+const MEANS = /^ +means: (.*)$/m;
+
+/** What the lines on standard error tell of the end of a run. */
+export function endOf(told) {
+  const place = PLACE.exec(told), line = told.split('\n')[0];
+  return {line, means: MEANS.exec(told)?.[1] ?? '', place: place && {
+    where: place[1], line: Number(place[2]), file: place[3], step: Number(place[4]),
+  }};
+}
+
+const seconds = ms => `${(ms / 1000).toFixed(2)} s`;
+
+export class Runs {
+  /** `program()` gives what Run runs: its words after the options, its files, and the input. */
+  constructor({machine, output, editor, program, show, faults, stopAt}) {
+    Object.assign(this, {machine, output, editor, program, show, faults, stopAt});
+    this.session = null;
+  }
+
+  /** Runs the program from its start. Its output before was of another run. */
+  async run(options = []) {
+    this.stop();
+    const {name, words, files, input} = this.program();
+    this.typed = '';
+    this.session = {name, files, words: ['go', '--where', ...options, ...words], input, typed: '', closed: false};
+    this.begin(name, 'It runs ..');
+    await this.go();
+  }
+
+  begin(name, text) {
+    this.output.clear();
+    $('of').textContent = name;
+    this.editor.unmarkStop();
+    this.show('output');
+    this.ended(false);
+    say(text);
+  }
+
+  ended(is) {
+    $('stop').disabled = is;
+    document.body.classList.toggle('running', !is);
+    if (is) $('ask').hidden = true;
+  }
+
+  /** Runs the session with the input that is there. Where a run is repeated, what it wrote before isn't shown again. */
+  async go() {
+    const {session} = this, {words, files, closed} = session;
+    $('ask').hidden = true;
+    const ended = await this.machine.ask(words, {files, closed, input: bytesOf(session.input + session.typed),
+      skip: this.output.size, write: it => this.session === session && this.output.write(it)});
+    if (this.session !== session) return;
+    if (ended.wants) this.wants();
+    else this.finish(ended);
+  }
+
+  wants() {
+    say('The program waits for input.');
+    $('ask').hidden = false;
+    $('answer').value = '';
+    $('answer').focus();
+    $('out').scrollTop = $('out').scrollHeight;
+  }
+
+  /** A line that was typed for the program. */
+  enter(text) {
+    this.output.typed(`${text}\n`);
+    this.session.typed += `${text}\n`;
+    this.go();
+  }
+
+  noMore() {
+    this.session.closed = true;
+    this.go();
+  }
+
+  stop() {
+    const {session} = this;
+    this.session = null;
+    if (!session) return false;
+    if (this.machine.busy) this.machine.stop();
+    this.ended(true);
+    return true;
+  }
+
+  stopped() {
+    if (this.stop()) say('Stopped.', 'bad');
+    $('run').focus();
+  }
+
+  finish(ended) {
+    const {session} = this;
+    this.session = null;
+    this.typed = session.typed;
+    this.ended(true);
+    const {line, means, place} = endOf(ended.told ?? '');
+    if (ended.failed) say(`The program can't be run here: ${ended.failed}`, 'bad');
+    else if (ended.status === 0) say(`Done, in ${seconds(ended.took)}.`, 'good');
+    else if (place) this.sayPlace(line, means, place, session);
+    else if (ended.status === 1 && line) this.sayFault(line, 'the program has a fault, told below the editor', session);
+    else if (line.startsWith('load')) this.sayFault(line, 'the program can\'t be run, as is told below the editor', session);
+    else say(line ? `${line}.` : `Ended with status ${ended.status}, in ${seconds(ended.took)}.`, 'bad');
+    this.readOut();
+  }
+
+  sayPlace(line, means, place, session) {
+    const file = place.file ?? session.name;
+    const text = `${line}: ${means}, in line ${place.line} of ${file}, in ${place.where}, at step ${place.step}.`;
+    const more = line === 'limit' ? [button('Run without a limit', () => this.run(['--no-limit']))] : [];
+    say(text, 'bad', ...more);
+    this.stopAt(file, place.line);
+  }
+
+  sayFault(line, why, session) {
+    const text = line === 'load 4' ? `${session.name} has no function main` : why;
+    say(`${line}: ${text}.`, 'bad');
+    this.faults();
+  }
+
+  /** A screen reader hears the beginning of the output after the run, and not each part of it. */
+  readOut() {
+    const text = $('out').textContent;
+    $('out-said').textContent = text ? `Output: ${text.slice(0, 300)}` : 'No output.';
+  }
+
+  /** A command of a lesson, such as `b trace --last 2 x.b`: what it writes goes to the output. */
+  async command(line, {words, files, input}) {
+    this.stop();
+    const session = this.session = {};
+    this.begin(line, 'It runs ..');
+    $('out').classList.toggle('table', words[0] !== 'go');
+    const ended = await this.machine.ask(words, {files, input: bytesOf(input),
+      write: it => this.session === session && this.output.write(it)});
+    if (this.session !== session) return;
+    this.session = null;
+    this.ended(true);
+    this.output.put(ended.told ?? '', 'told');
+    say(ended.failed ?? `Ended with status ${ended.status}.`, ended.failed ? 'bad' : '');
+    this.readOut();
+  }
+
+  async step() {
+    const typed = this.session?.typed ?? this.typed ?? '';
+    this.stop();
+    const {name, words, files, input} = this.program();
+    const session = this.session = {};
+    this.ended(false);
+    say(`The steps of ${name} ..`);
+    const ended = await this.machine.ask(['show', ...words], {files, input: bytesOf(input + typed)});
+    if (this.session !== session) return;
+    this.session = null;
+    this.ended(true);
+    if (ended.status !== 0) {
+      say(`${(ended.told ?? '').split('\n')[0] || ended.failed}: there are no steps to show.`, 'bad');
+      this.faults();
+      return;
+    }
+    $('frame').srcdoc = textOf(ended.output);
+    this.show('steps');
+    say('');
+  }
+
+  saveOutput(name) { save(`${name.replace(/\.b$/, '')}.txt`, this.output.parts); }
+}
