@@ -28,5 +28,9 @@ pub mod LibraryRows
 pub mod MeaningRows
 pub mod OperatorRows
 pub mod LimitRows
+pub mod ByteRows
+pub mod EdgeRows
+pub mod LongRows
+pub mod ValueRows
 pub mod Lines
 pub mod LetterRows

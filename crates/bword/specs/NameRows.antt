@@ -1,5 +1,6 @@
 -- Closed facts: which texts are names.
-use Rattle.std.specs.Prelude.{◌≡◌, ℕ, Bool, true, false, List, [], ◌∷◌, map, replicate, filter, codes}
+use Rattle.std.specs.Prelude.{◌≡◌, ℕ, Bool, true, false, List, [], ◌∷◌, map, replicate, filter, codes, take, drop, ◌++◌}
+use Rattle.std.specs.Prelude.{◌+◌, ◌-◌}
 use Rattle.std.specs.Prelude.{refl}
 use Rattle.std.specs.List.{range_with_len}
 use Rattle.bword.specs.Words.{is_name, is_name_start, is_name_byte, same_name}
@@ -33,3 +34,33 @@ same : map both (
     (codes "abcdefgh", codes "abcdefgh") ∷ (codes "abcdefgh", codes "abcdefgi") ∷ []) ≡
     true ∷ false ∷ false ∷ false ∷ true ∷ false ∷ []
 same = refl
+
+-- by their length
+by_length : map (λ n. is_name (replicate n 97)) (range_with_len 0 20) ≡ false ∷ replicate 8 true ++ replicate 11 false
+by_length = refl
+
+-- Each byte alone, and as the second, the fifth and the last one of eight.
+alone : filter (λ b. is_name (b ∷ [])) (range_with_len 0 256) ≡ filter is_name_start (range_with_len 0 256)
+alone = refl
+
+in_each_place : map (λ n. filter (λ b. is_name (replicate n 97 ++ b ∷ replicate (7 - n) 97)) (range_with_len 0 256))
+    (1 ∷ 4 ∷ 7 ∷ []) ≡ replicate 3 (filter is_name_byte (range_with_len 0 256))
+in_each_place = refl
+
+-- Names of eight that differ in one place are others, and so is each beginning. A name is the same as itself.
+differ_in_one : map (λ n. same_name (codes "abcdefgh") (take n (codes "abcdefgh") ++ 65
+    ∷ drop (n + 1) (codes "abcdefgh")))
+    (range_with_len 0 8) ≡ replicate 8 false
+differ_in_one = refl
+
+beginnings : map (λ n. same_name (take n (codes "abcdefgh")) (codes "abcdefgh")) (range_with_len 0 9)
+    ≡ replicate 8 false ++ true ∷ []
+beginnings = refl
+
+beginnings_of_it : map (λ n. same_name (codes "abcdefgh") (take n (codes "abcdefgh"))) (range_with_len 0 9)
+    ≡ replicate 8 false ++ true ∷ []
+beginnings_of_it = refl
+
+of_one_byte : map (λ b. filter (λ c. same_name (b ∷ []) (c ∷ [])) (filter is_name_byte (range_with_len 0 256)))
+    (filter is_name_byte (range_with_len 0 256)) ≡ map (λ b. b ∷ []) (filter is_name_byte (range_with_len 0 256))
+of_one_byte = refl

@@ -1,0 +1,233 @@
+-- Closed facts: the value of each kind of expression, at the least and greatest words and those around 128, 256 and
+-- 32768.
+use Rattle.std.specs.Prelude.{◌≡◌, ◌+◌, ℕ, List, [], ◌∷◌, ◌++◌, map, replicate, codes, Some, None, refl}
+use Rattle.std.specs.List.{range_with_len}
+use Rattle.bword.specs.declared.operators.BinOp.TheVariants as op
+use Rattle.bword.specs.Words.{operators}
+use Rattle.blang.specs.declared.run.Trap.TheVariants.{ZeroDivisor, NotAFunction, NoRoom, TooDeep}
+use Rattle.blang.specs.Layout.{World, Exited, Trapped}
+use Rattle.blang.specs.Trees.{Identifier, Number, Character, Expr, Arguments, Negate, Not, Indirection, Address}
+use Rattle.blang.specs.Trees.{PreIncrement}
+use Rattle.blang.specs.Trees.{PreDecrement, PostIncrement, PostDecrement, Named, Literal, Text, Grouped, Indexed}
+use Rattle.blang.specs.Trees.{Called}
+use Rattle.blang.specs.Trees.{Postfixed, Prefixed, Binary, Conditional, Assigned, No_arguments, Another, Headed, Label}
+use Rattle.blang.specs.Trees.{Empty}
+use Rattle.blang.specs.Value.{Answer, Gives, Ends, Wants, SourceFunction, Program, Frame, Evaluator, value}
+use Rattle.blang.specs.Value.{values}
+
+abbrev edges : List ℕ
+edges = 0 ∷ 1 ∷ 4 ∷ 10 ∷ 13 ∷ 127 ∷ 128 ∷ 255 ∷ 256 ∷ 32767 ∷ 32768 ∷ 65534 ∷ 65535 ∷ []
+
+abbrev word : List ℕ → Identifier
+word x = record { text = x; line = 1 }
+
+abbrev name : List ℕ → Expr
+name x = Named (word x)
+
+abbrev number : ℕ → Expr
+number n = Literal (Number n)
+
+-- f(p, q) l: ; with string words from 30 on, and its label's value
+abbrev function : ℕ → SourceFunction
+function first = record {
+  parameters = word (codes "p") ∷ word (codes "q") ∷ [];
+  body = Headed (Label (word (codes "l"))) Empty;
+  strings = 30;
+  first_label = first;
+}
+
+-- nine parameters
+abbrev nine : SourceFunction
+nine = record {
+  parameters = map (λ i. word (97 ∷ i ∷ [])) (range_with_len 0 9);
+  body = Empty;
+  strings = 0;
+  first_label = 1;
+}
+
+-- x lies at word 2
+abbrev program : Program
+program = record { functions = nine ∷ []; main = None; words = []; data_end = 7; addresses = (codes "x", 2) ∷ [] }
+
+abbrev frame : ℕ → Frame
+frame start = record { function = function 5; start = start; active = 1 }
+
+abbrev world : World
+world = record { store = 7 ∷ 8 ∷ 9 ∷ []; input = []; output = [] }
+
+-- the word of an expression where the frame begins at word 0
+abbrev of_word : Expr → World → Answer ℕ
+of_word e = value program None (frame 0) e
+
+-- Each expression gives the word at its place, and changes nothing.
+abbrev Are : (ℕ → Expr) → List ℕ → Type 0
+Are e words = map (λ n. of_word (e n) world) edges ≡ map (λ v. Gives v world) words
+
+numbers : Are number edges
+numbers = refl
+
+characters : Are (λ n. Literal (Character n)) edges
+characters = refl
+
+in_parentheses : Are (λ n. Grouped (number n)) edges
+in_parentheses = refl
+
+strings : Are (Text []) (30 ∷ 31 ∷ 34 ∷ 40 ∷ 43 ∷ 157 ∷ 158 ∷ 285 ∷ 286 ∷ 32797 ∷ 32798 ∷ 28 ∷ 29 ∷ [])
+strings = refl
+
+negatives : Are (λ n. Prefixed Negate 1 (number n)) (0 ∷ 65535 ∷ 65532 ∷ 65526 ∷ 65523 ∷ 65409 ∷ 65408 ∷ 65281 ∷ 65280
+    ∷ 32769 ∷ 32768 ∷ 2 ∷ 1 ∷ [])
+negatives = refl
+
+nots : Are (λ n. Prefixed Not 1 (number n)) (1 ∷ replicate 12 0)
+nots = refl
+
+-- each word but 0 is true
+choices : Are (λ n. Conditional (number n) (number 1) (number 2)) (2 ∷ replicate 12 1)
+choices = refl
+
+-- the address of an element, whichever side is which
+elements : map (λ m. map (λ n. of_word (Prefixed Address 1 (Indexed (number m) (number n))) world) edges) (1 ∷ 32768
+    ∷ 65535 ∷ [])
+    ≡ map (map (λ v. Gives v world)) (
+    (1 ∷ 2 ∷ 5 ∷ 11 ∷ 14 ∷ 128 ∷ 129 ∷ 256 ∷ 257 ∷ 32768 ∷ 32769 ∷ 65535 ∷ 0 ∷ [])
+    ∷ (32768 ∷ 32769 ∷ 32772 ∷ 32778 ∷ 32781 ∷ 32895 ∷ 32896 ∷ 33023 ∷ 33024 ∷ 65535 ∷ 0 ∷ 32766 ∷ 32767 ∷ [])
+    ∷ (65535 ∷ 0 ∷ 3 ∷ 9 ∷ 12 ∷ 126 ∷ 127 ∷ 254 ∷ 255 ∷ 32766 ∷ 32767 ∷ 65533 ∷ 65534 ∷ []) ∷ [])
+elements = refl
+
+-- the addresses of p, q and x, where the frame begins at each of these words, and what stands there
+addresses_of_p : map (λ s. value program None (frame s) (Prefixed Address 1 (name (codes "p"))) world) edges
+    ≡ map (λ v. Gives v world) edges
+addresses_of_p = refl
+
+addresses_of_q : map (λ s. value program None (frame s) (Prefixed Address 1 (name (codes "q"))) world) edges
+    ≡ map (λ v. Gives v world) (1 ∷ 2 ∷ 5 ∷ 11 ∷ 14 ∷ 128 ∷ 129 ∷ 256 ∷ 257 ∷ 32768 ∷ 32769 ∷ 65535 ∷ 0 ∷ [])
+addresses_of_q = refl
+
+address_of_x : map (λ e. of_word e world) (Prefixed Address 1 (name (codes "x")) ∷ name (codes "x") ∷ [])
+    ≡ Gives 2 world ∷ Gives 9 world ∷ []
+address_of_x = refl
+
+-- a label is its value
+labels : map (λ n. value program None (record { function = function n; start = 0; active = 1 })
+    (name (codes "l")) world) edges
+    ≡ map (λ v. Gives v world) edges
+labels = refl
+
+-- a store with each word at the address of its number
+abbrev holding : World
+holding = record world { store = edges }
+
+fetched : map (λ k. of_word (Prefixed Indirection 1 (number k)) holding) (range_with_len 0 13)
+    ≡ map (λ v. Gives v holding) edges
+fetched = refl
+
+elements_fetched : map (λ k. of_word (Indexed (number 65535) (number (k + 1))) holding) (range_with_len 0 13)
+    ≡ map (λ v. Gives v holding) edges
+elements_fetched = refl
+
+variables : map (λ k. value program None (frame k) (name (codes "p")) holding) (range_with_len 0 13)
+    ≡ map (λ v. Gives v holding) edges
+variables = refl
+
+-- What `++` and `--` give and store; the word after it stays.
+abbrev with_p : ℕ → World
+with_p v = record world { store = v ∷ 8 ∷ [] }
+
+abbrev Counts : (Expr → Expr) → List ℕ → List ℕ → Type 0
+Counts op given stored =
+    map (λ v. of_word (op (name (codes "p"))) (with_p v)) edges ≡ pairs given stored
+  where
+    pairs : List ℕ → List ℕ → List (Answer ℕ)
+    pairs [] stored = []
+    pairs given [] = []
+    pairs (g ∷ gs) (s ∷ ss) = Gives g (with_p s) ∷ pairs gs ss
+
+increments : Counts (Prefixed PreIncrement 1) (1 ∷ 2 ∷ 5 ∷ 11 ∷ 14 ∷ 128 ∷ 129 ∷ 256 ∷ 257 ∷ 32768 ∷ 32769 ∷ 65535 ∷ 0
+    ∷ []) (1 ∷ 2 ∷ 5 ∷ 11 ∷ 14 ∷ 128 ∷ 129 ∷ 256 ∷ 257 ∷ 32768 ∷ 32769 ∷ 65535 ∷ 0 ∷ [])
+increments = refl
+
+decrements : Counts (Prefixed PreDecrement 1) (65535 ∷ 0 ∷ 3 ∷ 9 ∷ 12 ∷ 126 ∷ 127 ∷ 254 ∷ 255 ∷ 32766 ∷ 32767 ∷ 65533
+    ∷ 65534 ∷ []) (65535 ∷ 0 ∷ 3 ∷ 9 ∷ 12 ∷ 126 ∷ 127 ∷ 254 ∷ 255 ∷ 32766 ∷ 32767 ∷ 65533 ∷ 65534 ∷ [])
+decrements = refl
+
+increments_after : Counts (Postfixed PostIncrement 1) edges (1 ∷ 2 ∷ 5 ∷ 11 ∷ 14 ∷ 128 ∷ 129 ∷ 256 ∷ 257 ∷ 32768
+    ∷ 32769 ∷ 65535 ∷ 0 ∷ [])
+increments_after = refl
+
+decrements_after : Counts (Postfixed PostDecrement 1) edges (65535 ∷ 0 ∷ 3 ∷ 9 ∷ 12 ∷ 126 ∷ 127 ∷ 254 ∷ 255 ∷ 32766
+    ∷ 32767 ∷ 65533 ∷ 65534 ∷ [])
+decrements_after = refl
+
+-- Each operator: two words, and what it makes of them.
+abbrev Made : Type 0
+Made = ℕ × ℕ × List ℕ
+
+abbrev made : List Made
+made =
+    (7, 2, 7 ∷ 2 ∷ 0 ∷ 1 ∷ 0 ∷ 0 ∷ 1 ∷ 1 ∷ 28 ∷ 1 ∷ 5 ∷ 9 ∷ 1 ∷ 14 ∷ 3 ∷ []) ∷
+    (2, 7, 7 ∷ 2 ∷ 0 ∷ 1 ∷ 1 ∷ 1 ∷ 0 ∷ 0 ∷ 256 ∷ 0 ∷ 65531 ∷ 9 ∷ 2 ∷ 14 ∷ 0 ∷ []) ∷
+    (65535, 2, 65535 ∷ 2 ∷ 0 ∷ 1 ∷ 1 ∷ 1 ∷ 0 ∷ 0 ∷ 65532 ∷ 16383 ∷ 65533 ∷ 1 ∷ 65535 ∷ 65534 ∷ 0 ∷ []) ∷
+    (7, 65535, 65535 ∷ 7 ∷ 0 ∷ 1 ∷ 0 ∷ 0 ∷ 1 ∷ 1 ∷ 0 ∷ 0 ∷ 8 ∷ 6 ∷ 0 ∷ 65529 ∷ 65529 ∷ []) ∷
+    (32768, 15, 32783 ∷ 0 ∷ 0 ∷ 1 ∷ 1 ∷ 1 ∷ 0 ∷ 0 ∷ 0 ∷ 1 ∷ 32753 ∷ 32783 ∷ 65528 ∷ 32768 ∷ 63352 ∷ []) ∷
+    (0, 1, 1 ∷ 0 ∷ 0 ∷ 1 ∷ 1 ∷ 1 ∷ 0 ∷ 0 ∷ 0 ∷ 0 ∷ 65535 ∷ 1 ∷ 0 ∷ 0 ∷ 0 ∷ []) ∷
+    []
+
+binaries : map (λ r. map (λ op. of_word (Binary op 1 (number r.0) (number r.1)) world) operators) made
+    ≡ map (λ r. map (λ v. Gives v world) r.2) made
+binaries = refl
+
+modified : map (λ r. map
+    (λ op. of_word (Assigned (Some op) 1 (name (codes "p")) (number r.1)) (with_p r.0)) operators) made
+    ≡ map (λ r. map (λ v. Gives v (with_p v)) r.2) made
+modified = refl
+
+assigned : map (λ v. of_word (Assigned None 1 (name (codes "p")) (number v)) (with_p 3)) edges
+    ≡ map (λ v. Gives v (with_p v)) edges
+assigned = refl
+
+by_zero : map (λ op. of_word (Binary op 1 (number 5) (number 0)) world
+    ∷ of_word (Assigned (Some op) 1 (name (codes "p")) (number 0)) world ∷ [])
+    (op.Rem ∷ op.Div ∷ []) ≡ replicate 2 (replicate 2 (Ends (Trapped ZeroDivisor) world))
+by_zero = refl
+
+-- Calls: each of twelve arguments, in order.
+abbrev arguments_after : Arguments → List Expr → Arguments
+arguments_after before [] = before
+arguments_after before (e ∷ es) = arguments_after (Another before e) es
+
+abbrev numbered : ℕ → Arguments
+numbered n = arguments_after No_arguments (map number (range_with_len 1 n))
+
+arguments : map (λ n. values program None (frame 0) (numbered n) world) (range_with_len 0 13)
+    ≡ map (λ n. Gives (range_with_len 1 n) world) (range_with_len 0 13)
+arguments = refl
+
+-- 1 to 6 are the library, of which `putchar` is 4, and 7 is the function, which wants fuel.
+abbrev of_call : ℕ → Answer ℕ
+of_call v = of_word (Called (number v) No_arguments) world
+
+called : map of_call (0 ∷ 1 ∷ 3 ∷ 4 ∷ 6 ∷ 7 ∷ 8 ∷ 9 ∷ 255 ∷ 256 ∷ 32768 ∷ 65535 ∷ [])
+    ≡ Ends (Trapped NotAFunction) world ∷ Gives 7 world
+    ∷ Gives 4 world ∷ Gives 0 (record world { output = 0 ∷ [] }) ∷ Ends (Exited 0) world ∷ Wants world
+    ∷ replicate 6 (Ends (Trapped NotAFunction) world)
+called = refl
+
+-- With fuel the nine parameters are stored after the caller's two words, and the call is one more.
+abbrev evaluator : Evaluator
+evaluator = record { value = λ f e w. Wants w; go_on = λ f rest w. Gives (f.start + f.active) w }
+
+nine_parameters : map
+    (λ n. value program (Some evaluator) (frame 1) (Called (number 7) (numbered n))
+    (record world { store = replicate 14 0 })) (12 ∷ 9 ∷ 2 ∷ [])
+    ≡ map (λ ws. Gives 5 (record world { store = 0 ∷ 0 ∷ 0 ∷ ws ++ 0 ∷ 0 ∷ [] }))
+    (range_with_len 1 9 ∷ range_with_len 1 9 ∷ (1 ∷ 2 ∷ replicate 7 0) ∷ [])
+nine_parameters = refl
+
+-- A call is refused where 4096 are active, and then where its frame of nine words ends after word 65535.
+refused : map (λ (p : ℕ × ℕ). value program (Some evaluator)
+    (record { function = function 5; start = p.0; active = p.1 }) (Called (number 7) No_arguments)
+    (record world { store = [] })) ((65525, 1) ∷ (65526, 1) ∷ (0, 4095) ∷ (0, 4096) ∷ (65526, 4096) ∷ [])
+    ≡ map (λ e. e (record world { store = [] })) (Gives 65529 ∷ Ends (Trapped NoRoom) ∷ Gives 4098
+    ∷ Ends (Trapped TooDeep) ∷ Ends (Trapped TooDeep) ∷ [])
+refused = refl
