@@ -3,14 +3,16 @@
 # --with the path of its file in the folder `library`; and for a FILE `-` of a command that runs no source, standard
 # input. A path, as each word with a slash or a point is one, stays, and so do the values of --made and --lines, and all
 # else.
-b_command=${1-} b_left=$# b_with='' b_over=''
+b_command=${1-} b_with='' b_over='' b_at=0 b_words='' b_some=''
 
+# Has `b_put` name the path of a LIB that is a name of the library: the name, how it is written, and what comes before it.
 b_lib() {
     case $1 in
-    '' | -* | *[./]*) b_word=$1 ;;
-    *) b_word=$library/$1.b ;;
+    '' | -* | *[./]*) return ;;
     esac
-    if [ "$b_word" != "$1" ] && ! [ -f "$b_word" ]; then
+    b_put=$3\$library/$2.b
+    # shellcheck disable=SC2154
+    if ! [ -f "$library/$1.b" ]; then
         b_names=$(cd -- "$library" && printf ', %s' *.b | sed 's/\.b,/,/g; s/\.b$//')
         echo "note: the library has ${b_names#, }" >&2
     fi
@@ -18,27 +20,26 @@ b_lib() {
 
 case $b_command in
 compile | go | list | map | check | trace | count | show | format)
-    while [ "$b_left" -gt 0 ]; do
-        b_word=$1
-        b_left=$((b_left - 1))
-        shift
+    for b_word; do
+        b_at=$((b_at + 1))
+        b_put="\${$b_at}"
         case $b_over$b_with$b_command:$b_word in
         over*) ;;
         with*)
-            b_lib "$b_word"
+            b_lib "$b_word" "$b_put" ''
             b_with=''
             ;;
         file*) b_with='' ;;
         "$b_command:--") b_over=over ;;
         "$b_command:--with") b_with=with ;;
-        "$b_command:--made" | "$b_command:--lines") b_with=file ;;
-        "$b_command:--with="*)
-            b_lib "${b_word#--with=}"
-            b_word=--with=$b_word
-            ;;
-        list:- | map:- | check:- | format:-) b_word=/dev/stdin ;;
+        "$b_command:--made" | "$b_command:--lines") b_with='file' ;;
+        "$b_command:--with="*) b_lib "${b_word#--with=}" "\${$b_at#--with=}" --with= ;;
+        list:- | map:- | check:- | format:-) b_put=/dev/stdin ;;
         esac
-        set -- "$@" "$b_word"
+        # A long text is seldom copied, so that many words are quick.
+        b_some="$b_some \"$b_put\""
+        [ "${#b_some}" -lt 2000 ] || { b_words=$b_words$b_some && b_some=''; }
     done
+    eval "set -- $b_words$b_some"
     ;;
 esac
