@@ -1,0 +1,2 @@
+main()
+    printn(5, 1);

@@ -1,0 +1,4 @@
+main() {
+    auto v 32000;
+    main();
+}

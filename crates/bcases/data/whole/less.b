@@ -1,0 +1,5 @@
+less(n) {
+    auto one;
+    one = 1;
+    return(n - one);
+}
