@@ -1,0 +1,315 @@
+// Tries what tools/web has made: b.wasm by its host b.mjs, beside the native program. tools/try-web calls it.
+//
+//   node tools/try_web.mjs DIR PROGRAM [ROWS]
+//
+// Each case of crates/bcases/data, and each row of the file ROWS, is answered byte for byte as by PROGRAM. In the rows
+// of tools/rows_to_fail.sh each open, read and write fails in turn, or moves one byte, and the memory has each size from
+// that at the start on. The command line and each call of b.mjs answers as PROGRAM, and so does b.wasm as Node's own
+// host of WASI runs it.
+import {spawnSync} from 'node:child_process';
+import fs from 'node:fs';
+import os from 'node:os';
+import path from 'node:path';
+import {fileURLToPath, pathToFileURL} from 'node:url';
+
+const [folder, native, rowsFile] = process.argv.slice(2).map(it => path.resolve(it));
+const {load, Failed} = await import(pathToFileURL(path.join(folder, 'b.mjs')).href);
+const TOP = fileURLToPath(new URL('..', import.meta.url)), DATA = path.join(TOP, 'crates/bcases/data');
+const PAGE = 65536, MOST_PAGES = 32, MOST_TOLD = 10;
+const module = fs.readFileSync(path.join(folder, 'b.wasm'));
+const b = await load(module);
+let wrong = 0;
+
+function expect(is, told) {
+  if (is) return;
+  wrong += 1;
+  if (wrong <= MOST_TOLD) console.error(`wrong: ${told}`);
+}
+
+const same = (one, other) => Buffer.compare(Buffer.from(one), Buffer.from(other)) === 0;
+const begins = (one, whole) => same(one, whole.subarray(0, one.length));
+const readOr = (name, other) => (fs.existsSync(name) && fs.statSync(name).isFile() ? fs.readFileSync(name) : other);
+
+// ---- Runs ----
+
+/** Gives bytes in pieces, one call after another. */
+function inputOf(bytes) {
+  let at = 0;
+  return max => bytes.subarray(at, (at += Math.min(max, bytes.length - at)));
+}
+
+/** A run of the module: its status and what it wrote, or the text of what stopped it. */
+function run(program, words, io) {
+  const kept = {out: [], line: []};
+  const keep = to => bytes => void kept[to].push(bytes);
+  let status;
+  try {
+    status = program.command(words, {output: keep('out'), diagnostics: keep('line'), ...io(keep)});
+  } catch (error) {
+    status = String(error);
+  }
+  return {status, out: Buffer.concat(kept.out), line: Buffer.concat(kept.line)};
+}
+
+function runNative(words, input, cwd) {
+  const {status, stdout, stderr} = spawnSync(native, words, {cwd, input, maxBuffer: 1 << 30});
+  return {status, out: stdout, line: stderr};
+}
+
+const isSame = (one, other) => one.status === other.status && same(one.out, other.out) && same(one.line, other.line);
+const shown = it => `${it.status}, ${it.out.length} and ${it.line.length} bytes: ${it.line.toString().slice(0, 80)}`;
+
+function compare(name, words, input, cwd) {
+  const files = file => readOr(path.resolve(cwd, file), undefined);
+  const got = run(b, words, () => ({files, input: inputOf(input)})), wanted = runNative(words, input, cwd);
+  expect(isSame(got, wanted), `${name}: ${words.join(' ')}: native ${shown(wanted)}; module ${shown(got)}`);
+}
+
+// ---- Cases and rows ----
+
+function tryCase(args) {
+  const at = kind => args.replace(/args$/, kind), words = fs.readFileSync(args, 'utf8').replace(/\n$/, '').split('\n');
+  const given = {compile: 'b', migrate: 'code'}[words[0]] ?? 'in';
+  const input = readOr(at('in'), readOr(at(given), Buffer.alloc(0)));
+  const editions = words.includes('--edition=both') ? ['--edition=1', '--edition=2'] : ['--edition=both'];
+  for (const edition of editions) {
+    const now = words.map(it => (it === '--edition=both' ? edition : it));
+    compare(path.relative(DATA, args), now, input, path.dirname(args));
+  }
+  return editions.length;
+}
+
+function tryCases() {
+  const all = fs.readdirSync(DATA, {recursive: true}).filter(it => it.endsWith('.args')).sort();
+  const runs = all.reduce((sum, it) => sum + tryCase(path.join(DATA, it)), 0);
+  console.log(`${all.length} cases in ${runs} runs`);
+}
+
+function tryRows() {
+  const bytes = text => Buffer.from(text ?? '', 'latin1'), rows = JSON.parse(fs.readFileSync(rowsFile, 'utf8'));
+  for (const row of rows) {
+    const files = row.file === null ? {} : {FILE: bytes(row.file)}, words = [row.command, ...row.args, ...Object.keys(files)];
+    const got = run(b, words, () => ({files, input: inputOf(bytes(row.stdin))}));
+    const is = (written, wanted) => (wanted === null ? written.length > 0 : same(written, bytes(wanted)));
+    expect(got.status === row.status && is(got.out, row.stdout) && is(got.line, row.stderr), `row ${row.id}: ${shown(got)}`);
+  }
+  console.log(`${rows.length} worked rows`);
+}
+
+// ---- Failures in turn ----
+
+/** The rows of a command, a text and an input, with the files that they name. */
+function rowsToFail() {
+  const script = `row() { printf '%s\\0' "$1" "$2" "\${3-}"; }
+lib=lib.b made='--made code --lines lines'; . tools/rows_to_fail.sh`;
+  const parts = spawnSync('bash', ['-euc', script], {cwd: TOP}).stdout.toString('latin1').split('\0').slice(0, -1);
+  const rows = [];
+  for (let at = 0; at < parts.length; at += 3) rows.push(rowOf(...parts.slice(at, at + 3)));
+  return rows;
+}
+
+function rowOf(command, text, input) {
+  const files = {
+    'lib.b': 'f(a) { printn(a, 10); }\n',
+    code: 'F main 0 0 0 0 6\nx putchar\nv\nx getchar\nv\nk 0\nk 1\nE\n',
+    lines: '1\n1\n1\n2\n2\n2\n',
+  };
+  const words = command.split(' '), readsText = ['compile', 'migrate'].includes(words[0]);
+  if (!readsText) words.push('text');
+  return {command, words, files: {...files, text}, input: readsText ? text : input, whole: undefined};
+}
+
+/** The bytes of a file, of which a read may move one, or fail. */
+class FileOfPieces extends Uint8Array {
+  static get [Symbol.species]() {
+    return Uint8Array;
+  }
+
+  subarray(from, to) {
+    return super.subarray(from, from + this.may(to - from));
+  }
+}
+
+/** The system of a row, in which the Nth call of a kind fails, or moves one byte: `io` of all, `short` of large ones. */
+class FailingSystem {
+  constructor(row, kind, nth) {
+    Object.assign(this, {row, kind, nth, calls: 0, given: inputOf(Buffer.from(row.input, 'latin1'))});
+    this.may = this.may.bind(this);
+  }
+
+  /** How many of so many bytes a call moves. */
+  may(count) {
+    const counts = this.kind === 'io' || (this.kind === 'short' && count > 1);
+    if (!counts || ++this.calls !== this.nth) return count;
+    if (this.kind === 'io') throw new Failed('the call that fails');
+    return 1;
+  }
+
+  open(name) {
+    this.may(0);
+    if (!Object.hasOwn(this.row.files, name)) return undefined;
+    return Object.assign(new FileOfPieces(Buffer.from(this.row.files[name], 'latin1')), {may: this.may});
+  }
+
+  io(keep) {
+    const writes = to => bytes => {
+      const taken = this.may(bytes.length);
+      keep(to)(bytes.subarray(0, taken));
+      return taken;
+    };
+    const input = max => this.given(this.may(max));
+    return {files: name => this.open(name), input, output: writes('out'), diagnostics: writes('line')};
+  }
+}
+
+const isStopped = (got, whole) => begins(got.out, whole.out) && begins(got.line, whole.line);
+
+/** Whether nothing came but a line that names a file; run and go alone, without --where, write none. */
+function isUnread(row, got) {
+  const lines = Object.keys(row.files).map(it => `error: the file '${it}' can't be read\n`);
+  return !['run', 'go'].includes(row.command) && got.out.length === 0 && lines.includes(got.line.toString());
+}
+
+/** Lets each call of one kind fail, and answers how many there were, and how many ended the run. */
+function inTurn(row, kind) {
+  for (let nth = 1, ended = 0; ; nth++) {
+    const system = new FailingSystem(row, kind, nth), got = run(b, row.words, keep => system.io(keep));
+    if (system.calls < nth) return {calls: nth - 1, ended};
+    const isWhole = isSame(got, row.whole);
+    const isRight = kind === 'io' && got.status === 133 && (isStopped(got, row.whole) || isUnread(row, got));
+    expect(isWhole || isRight, `${kind} ${nth} of ${row.command} '${row.files.text.slice(0, 60)}': ${shown(got)}`);
+    ended += isWhole ? 0 : 1;
+  }
+}
+
+/** The module with a memory of so many pages at most; and how many it has at the start. */
+function withMost(pages) {
+  for (let at = 8; at < module.length; ) {
+    const section = module[at], size = numberAt(at + 1), end = size.end + size.value;
+    if (section !== 5) {
+      at = end;
+      continue;
+    }
+    const least = numberAt(size.end + 2), body = [1, 1, ...module.subarray(size.end + 2, least.end), ...numberOf(pages)];
+    return {bytes: Buffer.concat([module.subarray(0, at), Buffer.from([5, body.length, ...body]), module.subarray(end)]),
+      least: least.value};
+  }
+  throw new Error('the module has no memory of its own');
+}
+
+function numberAt(at) {
+  let value = 0, shift = 0;
+  for (;; shift += 7) {
+    value += (module[at] & 127) << shift;
+    if (module[at++] < 128) return {value, end: at};
+  }
+}
+
+const numberOf = value => (value < 128 ? [value] : [(value & 127) | 128, ...numberOf(value >> 7)]);
+
+/** Runs all rows with a memory that can't grow, then with one page more, and so on. */
+async function tryMemory(rows) {
+  const {least} = withMost(0);
+  let runs = 0, ended = 0;
+  for (let pages = least; pages <= MOST_PAGES; pages++) {
+    const program = await load(withMost(pages).bytes);
+    for (const row of rows) {
+      const got = run(program, row.words, keep => new FailingSystem(row, 'none', 0).io(keep));
+      const isWhole = isSame(got, row.whole), isRight = got.status === 134 && isStopped(got, row.whole);
+      expect(isWhole || isRight, `${pages} pages for ${row.command} '${row.files.text.slice(0, 60)}': ${shown(got)}`);
+      runs += 1;
+      ended += isWhole ? 0 : 1;
+    }
+  }
+  console.log(`memories of ${least} to ${MOST_PAGES} pages: ${runs} runs, of which ${ended} ended with 134`);
+}
+
+async function tryFailures() {
+  const rows = rowsToFail();
+  for (const row of rows) row.whole = run(b, row.words, keep => new FailingSystem(row, 'none', 0).io(keep));
+  for (const kind of ['io', 'short']) {
+    const all = rows.map(row => inTurn(row, kind)), sum = part => all.reduce((before, it) => before + it[part], 0);
+    console.log(kind === 'io' ? `opens, reads and writes: ${sum('calls')}, of which ${sum('ended')} ended the run with 133`
+      : `reads and writes of several bytes: ${sum('calls')}`);
+  }
+  await tryMemory(rows);
+}
+
+// ---- The command line, the calls of b.mjs, and another host ----
+
+const PRINTS = 'main() { auto c; printf("%d*n", 6*7); while((c = getchar()) != \'*e\') putchar(c); }\n';
+
+function tryCommandLine(room) {
+  const started = (...words) => spawnSync(process.execPath, [path.join(folder, 'b.mjs'), ...words], {cwd: room, input: 'hi'});
+  const expectStart = (words, status, out, line) => {
+    const got = started(...words), said = `${got.status} ${got.stdout} ${got.stderr}`;
+    expect(got.status === status && `${got.stdout}` === out && `${got.stderr}` === line, `node b.mjs ${words.join(' ')}: ${said}`);
+  };
+  expectStart(['go', 'x.b', '--with', 'print'], 0, '42\nhi', '');
+  expectStart(['go', '--with=print', '--', 'x.b'], 0, '42\nhi', '');
+  expectStart(['go', 'x.b'], 132, '', 'load 3\n');
+  expectStart(['run', 'none'], 133, '', '');
+  const checked = runNative(['check', '/dev/stdin'], 'hi', room);
+  expectStart(['check', '-'], 1, `${checked.out}`, `${checked.line}`);
+  const all = started('show', 'x.b', '--with', 'print', '--steps', '200');
+  expect(all.status === 0 && `${all.stdout}`.endsWith('</html>\n'), 'node b.mjs show: the page is whole');
+}
+
+/** Each call of b.mjs for a source, beside the command. */
+function tryCalls(room) {
+  const native = (words, input = '') => runNative(words, input, room), source = fs.readFileSync(path.join(room, 'x.b'));
+  const libs = {'print.b': fs.readFileSync(path.join(TOP, 'lib/print.b'))};
+  const code = native(['compile', '--with', 'print.b'], source).out;
+  const expectCall = (name, got, words, input) => {
+    const wanted = native(words, input), is = {status: got.status, out: got.output, line: Buffer.from(got.diagnostics)};
+    expect(isSame(is, wanted), `${name}: native ${shown(wanted)}; ${got.status} ${got.diagnostics}`);
+  };
+  const name = 'x.b', after = ['--with', 'print.b'];
+  expectCall('compile', b.compile(source, {libs}), ['compile', ...after], source);
+  expectCall('run', b.run(code, {name: 'code', input: 'hi', where: true, steps: 50}), ['run', '--where', '--steps', '50', 'code'], 'hi');
+  expectCall('go', b.go(source, {name, libs, input: 'hi', steps: Infinity}), ['go', name, '--no-limit', ...after], 'hi');
+  expectCall('format', b.format(source, {name}), ['format', name]);
+  expectCall('show', b.show(source, {name, libs, input: 'hi', last: 9}), ['show', name, '--last', '9', ...after], 'hi');
+  expectCall('migrate', b.migrate(code), ['migrate'], code);
+  const {status, findings} = b.check(source, {name}), wanted = native(['check', '--json', name]);
+  expect(status === wanted.status && findings.map(it => `${JSON.stringify(it)}\n`).join('') === `${wanted.out}`, 'check');
+}
+
+/** Runs the module by Node's own host of WASI, over the files of a folder. */
+function tryWasi(room) {
+  const script = `import fs from 'node:fs'; import {WASI} from 'node:wasi';
+const [file, ...args] = process.argv.slice(1);
+const wasi = new WASI({version: 'preview1', args: ['b', ...args], preopens: {'.': '.'}, returnOnExit: true});
+const module = await WebAssembly.compile(fs.readFileSync(file));
+process.exitCode = wasi.start(await WebAssembly.instantiate(module, wasi.getImportObject()));`;
+  const rows = [['go', 'x.b', '--with', './print.b'], ['check', 'sub/y.b'], ['go', '../x.b'], ['go', '/x.b'], ['compile'], ['--help']];
+  for (const words of rows) {
+    const given = ['--no-warnings', '--input-type=module', '-e', script, path.join(folder, 'b.wasm'), ...words];
+    const {status, stdout, stderr} = spawnSync(process.execPath, given, {cwd: room, input: 'hi;'});
+    const isOutside = words[1]?.startsWith('../') || words[1]?.startsWith('/');
+    const wanted = isOutside ? {status: 133, out: '', line: ''} : runNative(words, 'hi;', room);
+    expect(isSame({status, out: stdout, line: stderr}, wanted), `node:wasi ${words.join(' ')}: ${status} ${stdout} ${stderr}`);
+  }
+}
+
+function tryHosts() {
+  const room = fs.mkdtempSync(path.join(os.tmpdir(), 'try-web-'));
+  try {
+    fs.mkdirSync(path.join(room, 'sub'));
+    fs.writeFileSync(path.join(room, 'x.b'), PRINTS);
+    fs.writeFileSync(path.join(room, 'sub/y.b'), 'main() { return(x); }\n');
+    fs.copyFileSync(path.join(TOP, 'lib/print.b'), path.join(room, 'print.b'));
+    fs.writeFileSync(path.join(room, 'code'), runNative(['compile', '--with', 'print.b'], PRINTS, room).out);
+    for (const it of [tryCommandLine, tryCalls, tryWasi]) it(room);
+  } finally {
+    fs.rmSync(room, {recursive: true});
+  }
+  console.log('the command line, the calls of b.mjs, and node:wasi');
+}
+
+tryCases();
+if (rowsFile) tryRows();
+tryHosts();
+await tryFailures();
+console.log(`wrong answers: ${wrong}`);
+process.exitCode = wrong === 0 ? 0 : 1;
