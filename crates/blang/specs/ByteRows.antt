@@ -27,6 +27,23 @@ next_lines = refl
 last_lines : map (next_line most) bytes ≡ replicate 256 most
 last_lines = refl
 
+-- after each line
+abbrev lines : List ℕ
+lines = 1 ∷ 2 ∷ 10 ∷ 13 ∷ 255 ∷ 256 ∷ 65535 ∷ 65536 ∷ []
+
+lines_of_tokens : map (λ n. tokens_from editions.One n (codes "x\n y")) lines
+    ≡ map (λ n. placed (token.Name (codes "x")) n ∷ placed (token.Name (codes "y")) (n + 1) ∷ placed token.End (n + 1)
+    ∷ [])
+    lines
+unfolding tokens_from cut longest greatest whole word_token keyword_of
+lines_of_tokens = refl
+
+lines_of_ends : map (λ n. map (tokens_from editions.One n) ([] ∷ codes " " ∷ codes "#" ∷ [])) lines
+    ≡ map (λ n. (placed token.End n ∷ []) ∷ (placed token.End n ∷ []) ∷ (placed (token.Bad letters.Character) n ∷ [])
+    ∷ []) lines
+unfolding tokens_from cut longest greatest whole operator_of other_of fixed_of
+lines_of_ends = refl
+
 after_each_byte : line_number_after 1 bytes ≡ 2
 after_each_byte = refl
 

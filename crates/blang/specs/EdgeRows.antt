@@ -1,7 +1,7 @@
 -- Closed facts: the library, calls and increments at each byte, and at the least and greatest words and those around
 -- 128, 256 and 32768. The expected values were worked out apart from the definitions.
 use Rattle.std.specs.Prelude.{◌≡◌, ◌+◌, ◌*◌, ◌%◌, ℕ, List, [], ◌∷◌, ◌++◌, map, filter, replicate, codes, Some}
-use Rattle.std.specs.Prelude.{None, true, false, decimal, take, refl}
+use Rattle.std.specs.Prelude.{None, length, true, false, decimal, take, refl}
 use Rattle.std.specs.Fmt.{digits}
 use Rattle.std.specs.List.{range_with_len}
 use Rattle.bword.specs.declared.operators.BinOp.TheVariants as op
@@ -125,6 +125,11 @@ printn_of_each : map (λ base. library Printn (0 ∷ base ∷ []) world) (range_
 unfolding digits
 printn_of_each = refl
 
+-- seventeen bytes at once, after a byte
+printn_longest : library Printn (32768 ∷ 2 ∷ []) world ≡ Gives 0 (record world { output = codes ".-1000000000000000" })
+unfolding digits
+printn_longest = refl
+
 -- the first ten arguments are there, and no other
 arguments : map (argument (range_with_len 101 10)) (range_with_len 0 14 ++ 255 ∷ 256 ∷ 65535 ∷ [])
     ≡ range_with_len 101 10 ++ replicate 7 0
@@ -169,6 +174,14 @@ targets_at_the_end : map (label_target 65408 (range_with_len 200 128)) (0 ∷ 1 
     ≡ replicate 5 None ++ map Some (range_with_len 200 128)
 targets_at_the_end = refl
 
+abbrev two_targets : List ℕ
+two_targets = 9 ∷ 8 ∷ []
+
+targets_from_each : map (λ n. map (label_target n two_targets) (n ∷ (n + 1) ∷ (n + 2) ∷ [])) (1 ∷ 2 ∷ 255 ∷ 256
+    ∷ 32767 ∷ 32768 ∷ 65534 ∷ [])
+    ≡ replicate 7 (Some 9 ∷ Some 8 ∷ None ∷ [])
+targets_from_each = refl
+
 abbrev no_label : List ℕ
 no_label = []
 
@@ -183,21 +196,9 @@ callees : map (callee_of (range_with_len 0 300)) (range_with_len 0 320 ++ 32767 
 callees = refl
 
 -- by the calls that are active, a row each, and where the frame ends
-refusals : map (λ n. map (refusal n) (0 ∷ 1 ∷ 32767 ∷ 32768 ∷ 65535 ∷ 65536 ∷ 65537 ∷ 98303 ∷ 131072 ∷ [])) (0 ∷ 1
-    ∷ 255 ∷ 256 ∷ 4094 ∷ 4095 ∷ 4096 ∷ 4097 ∷ 65535 ∷ []) ≡
-    (None ∷ None ∷ None ∷ None ∷ None ∷ None ∷ Some NoRoom ∷ Some NoRoom ∷ Some NoRoom ∷ []) ∷
-    (None ∷ None ∷ None ∷ None ∷ None ∷ None ∷ Some NoRoom ∷ Some NoRoom ∷ Some NoRoom ∷ []) ∷
-    (None ∷ None ∷ None ∷ None ∷ None ∷ None ∷ Some NoRoom ∷ Some NoRoom ∷ Some NoRoom ∷ []) ∷
-    (None ∷ None ∷ None ∷ None ∷ None ∷ None ∷ Some NoRoom ∷ Some NoRoom ∷ Some NoRoom ∷ []) ∷
-    (None ∷ None ∷ None ∷ None ∷ None ∷ None ∷ Some NoRoom ∷ Some NoRoom ∷ Some NoRoom ∷ []) ∷
-    (None ∷ None ∷ None ∷ None ∷ None ∷ None ∷ Some NoRoom ∷ Some NoRoom ∷ Some NoRoom ∷ []) ∷
-    (Some TooDeep ∷ Some TooDeep ∷ Some TooDeep ∷ Some TooDeep ∷ Some TooDeep ∷ Some TooDeep ∷ Some TooDeep
-    ∷ Some TooDeep ∷ Some TooDeep ∷ []) ∷
-    (Some TooDeep ∷ Some TooDeep ∷ Some TooDeep ∷ Some TooDeep ∷ Some TooDeep ∷ Some TooDeep ∷ Some TooDeep
-    ∷ Some TooDeep ∷ Some TooDeep ∷ []) ∷
-    (Some TooDeep ∷ Some TooDeep ∷ Some TooDeep ∷ Some TooDeep ∷ Some TooDeep ∷ Some TooDeep ∷ Some TooDeep
-    ∷ Some TooDeep ∷ Some TooDeep ∷ []) ∷
-    []
+refusals : map (λ n. map (refusal n) (0 ∷ 1 ∷ 255 ∷ 256 ∷ 32767 ∷ 32768 ∷ 65535 ∷ 65536 ∷ 65537 ∷ 98303 ∷ 131072 ∷ []))
+    (0 ∷ 1 ∷ 255 ∷ 256 ∷ 4094 ∷ 4095 ∷ 4096 ∷ 4097 ∷ 32767 ∷ 32768 ∷ 65535 ∷ [])
+    ≡ replicate 6 (replicate 8 None ++ replicate 3 (Some NoRoom)) ++ replicate 5 (replicate 11 (Some TooDeep))
 refusals = refl
 
 -- up to twelve parameters, and nine arguments; then 128
@@ -239,6 +240,15 @@ read_at_each_corner = refl
 stored_at_each_corner : map (λ a. word_at (with_word whole_store a 7) a) corners ≡ replicate 11 7
 stored_at_each_corner = refl
 
+two_stored_at_each : map (λ a. map (word_at (with_words whole_store a (17 ∷ 18 ∷ []))) (a ∷ (a + 1) ∷ (a + 2) ∷ []))
+    (0 ∷ 1 ∷ 254 ∷ 255 ∷ 256 ∷ 32766 ∷ 32767 ∷ 32768 ∷ 65533 ∷ [])
+    ≡ map (λ a. 17 ∷ 18 ∷ (a + 2) ∷ []) (0 ∷ 1 ∷ 254 ∷ 255 ∷ 256 ∷ 32766 ∷ 32767 ∷ 32768 ∷ 65533 ∷ [])
+two_stored_at_each = refl
+
+each_of_two_stored : map (λ v. store_of (with_words world 1 (v ∷ v ∷ []))) corners
+    ≡ map (λ v. 0 ∷ v ∷ v ∷ 4 ∷ []) corners
+each_of_two_stored = refl
+
 -- Initial values: a number is itself, a name the address that it has, and 0 where it has none; a string's address
 -- wraps.
 numbers : map (λ n. value_word (λ x. None) 9 (ival.Number n)) (bytes ++ corners) ≡ bytes ++ corners
@@ -250,6 +260,15 @@ names = refl
 no_name : value_word (λ x. None) 9 (ival.Name (codes "f")) ≡ 0
 no_name = refl
 
+-- of a string at each of these words, and of each offset in a string
+texts_at_each : map (λ s. value_word (λ x. None) s (ival.Text 1)) corners ≡ 1 ∷ 2 ∷ 3 ∷ 128 ∷ 129 ∷ 256 ∷ 257 ∷ 32768
+    ∷ 32769 ∷ 65535 ∷ 0 ∷ []
+texts_at_each = refl
+
+offsets : map (λ n. value_word (λ x. None) 9 (ival.Text n)) corners ≡ 9 ∷ 10 ∷ 11 ∷ 136 ∷ 137 ∷ 264 ∷ 265 ∷ 32776
+    ∷ 32777 ∷ 7 ∷ 8 ∷ []
+offsets = refl
+
 texts : map (λ n. value_word (λ x. None) 65500 (ival.Text n)) (0 ∷ 1 ∷ 35 ∷ 36 ∷ 37 ∷ 1023 ∷ [])
     ≡ 65500 ∷ 65501 ∷ 65535 ∷ 0 ∷ 1 ∷ 987 ∷ []
 texts = refl
@@ -257,6 +276,10 @@ texts = refl
 paddings : map (λ n. padded n (7 ∷ 8 ∷ 9 ∷ [])) (range_with_len 0 7)
     ≡ replicate 4 (7 ∷ 8 ∷ 9 ∷ []) ++ map (λ n. 7 ∷ 8 ∷ 9 ∷ replicate n 0) (1 ∷ 2 ∷ 3 ∷ [])
 paddings = refl
+
+lengths_of_paddings : map (λ n. length (padded n (7 ∷ []))) corners ≡ 1 ∷ 1 ∷ 2 ∷ 127 ∷ 128 ∷ 255 ∷ 256 ∷ 32767 ∷ 32768
+    ∷ 65534 ∷ 65535 ∷ []
+lengths_of_paddings = refl
 
 -- What is told.
 abbrev traps : List Trap
@@ -278,9 +301,11 @@ statuses = refl
 trap_reports : map report_text (map report.Trap traps) ≡ map line_at (map Trapped traps)
 trap_reports = refl
 
-number_reports : map report_text (map report.Code (1 ∷ 10 ∷ 255 ∷ 256 ∷ 65536 ∷ 18446744073709551615 ∷ [])
+number_reports : map report_text
+    (map report.Code (1 ∷ 10 ∷ 255 ∷ 256 ∷ 32767 ∷ 32768 ∷ 65535 ∷ 65536 ∷ 18446744073709551615 ∷ [])
     ++ map report.Load (1 ∷ 2 ∷ 3 ∷ 4 ∷ []))
-    ≡ codes "code 1\n" ∷ codes "code 10\n" ∷ codes "code 255\n" ∷ codes "code 256\n" ∷ codes "code 65536\n" ∷
+    ≡ codes "code 1\n" ∷ codes "code 10\n" ∷ codes "code 255\n" ∷ codes "code 256\n" ∷ codes "code 32767\n"
+    ∷ codes "code 32768\n" ∷ codes "code 65535\n" ∷ codes "code 65536\n" ∷
     codes "code 18446744073709551615\n" ∷ codes "load 1\n" ∷ codes "load 2\n" ∷ codes "load 3\n" ∷ codes "load 4\n" ∷ []
 unfolding digits
 number_reports = refl

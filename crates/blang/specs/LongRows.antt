@@ -22,14 +22,16 @@ use Rattle.blang.specs.Trees as tree
 use Rattle.blang.specs.Trees.{Identifier, Expr, Named, Called, No_arguments, Arguments, Another, Stmt, Stmts, More}
 use Rattle.blang.specs.Trees.{Headed, Label}
 use Rattle.blang.specs.Trees.{Goto, Compound, ReturnValue, Function}
-use Rattle.blang.specs.Walk.{AutoHere, ExtrnHere, Mention, LabelHere, CaseHere, DefaultHere, BreakHere}
+use Rattle.blang.specs.Walk.{Event, AutoHere, ExtrnHere, Mention, LabelHere, CaseHere, DefaultHere, BreakHere, LvalueWanted}
 use Rattle.blang.specs.Scan.{Entry, Automatic, External, Unlabelled, Labelled, Scope, no_scope, scan_event}
 use Rattle.blang.specs.Scan.{kind_of}
-use Rattle.blang.specs.Scan.{undefined, scan, automatic_words}
+use Rattle.blang.specs.Scan.{undefined, scan, automatic_words, is_place, is_lvalue}
 use Rattle.blang.specs.WellFormed.{packed}
 use Rattle.blang.specs.Code.{Arms, arms_code, code_of}
 use Rattle.blang.specs.Layout.{shape_of, Spot, spots, data_end, addresses, address_in, first_words, duplicate_after}
-use Rattle.blang.specs.Layout.{first_undefined, load_fault, name_in_instr, names_in, size_of}
+use Rattle.blang.specs.Layout.{first_undefined, load_fault, name_in_instr, names_in, size_of, words_before_strings}
+use Rattle.blang.specs.Layout.{words_of_kind, labels_in, first_world, word_at}
+use Rattle.blang.specs.Layout as layout
 
 -- the name with this number, and so many of them
 abbrev name : ℕ → List ℕ
@@ -69,34 +71,34 @@ of_128 : map (λ i. scan_event (AutoHere (word i) None) (record no_scope { names
     ++ replicate 2 (told letters.TooManyNames about.Nothing)
 of_128 = refl
 
+-- some places among them, the first ones and the last one
+abbrev places : List ℕ
+places = 0 ∷ 1 ∷ 9 ∷ 10 ∷ 63 ∷ 99 ∷ 100 ∷ 126 ∷ 127 ∷ []
+
 -- where there are fewer there is room, and the new name comes last
-room : map (λ n. scan_event (ExtrnHere (word 200)) (record no_scope { names = table n })) (range_with_len 0 128)
-    ≡ map (λ n. Ok (record no_scope { names = table n ++ record { name = name 200; kind = External } ∷ [] }))
-    (range_with_len 0 128)
+room : map (λ n. scan_event (ExtrnHere (word 200)) (record no_scope { names = table n })) places
+    ≡ map (λ n. Ok (record no_scope { names = table n ++ record { name = name 200; kind = External } ∷ [] })) places
 room = refl
 
 -- mentioned once more, each is as before
-mentioned_again : map (λ i. scan_event (Mention true (word i)) (record no_scope { names = table 128 }))
-    (range_with_len 0 128)
-    ≡ replicate 128 (Ok (record no_scope { names = table 128 }))
+mentioned_again : map (λ i. scan_event (Mention true (word i)) (record no_scope { names = table 128 })) places
+    ≡ replicate 9 (Ok (record no_scope { names = table 128 }))
 mentioned_again = refl
 
 -- each of 128 gets its label
 abbrev with_one_internal : ℕ → List Entry
 with_one_internal i = take i (table 128) ++ record { name = name i; kind = Unlabelled 9 } ∷ drop (i + 1) (table 128)
 
-labelled : map (λ i. scan_event (LabelHere (word i)) (record no_scope { names = with_one_internal i }))
-    (range_with_len 0 128)
+labelled : map (λ i. scan_event (LabelHere (word i)) (record no_scope { names = with_one_internal i })) places
     ≡ map (λ i. Ok (record no_scope {
       names = take i (table 128) ++ record { name = name i; kind = Labelled 0 } ∷ drop (i + 1) (table 128);
       labels = 1;
-    })) (range_with_len 0 128)
+    })) places
 labelled = refl
 
 -- and each is told that has none, the first one of them
-unlabelled : map (λ i. undefined (with_one_internal i)) (range_with_len 0 128)
-    ≡ map (λ i. Some (record { letters = letters.Undefined; about = about.Name (name i); line = 9 }))
-    (range_with_len 0 128)
+unlabelled : map (λ i. undefined (with_one_internal i)) places
+    ≡ map (λ i. Some (record { letters = letters.Undefined; about = about.Name (name i); line = 9 })) places
 unlabelled = refl
 
 -- the line of a name, and of a case, is kept
@@ -118,8 +120,35 @@ line_of_a_mention : map (λ n. scan_event (Mention false (record { text = name 0
     ≡ map (λ n. Ok (record no_scope { names = record { name = name 0; kind = Unlabelled n } ∷ [] })) lines
 line_of_a_mention = refl
 
-frames : map automatic_words (None ∷ map Some (0 ∷ 1 ∷ 4 ∷ 10 ∷ 13 ∷ 255 ∷ 256 ∷ 32765 ∷ 32766 ∷ 65535 ∷ []))
-    ≡ 1 ∷ 2 ∷ 3 ∷ 6 ∷ 12 ∷ 15 ∷ 257 ∷ 258 ∷ 32767 ∷ 32768 ∷ 65537 ∷ []
+-- whatever the fault is
+lines_of_other_faults : map
+    (λ (e : ℕ → Event). map (λ n. scan_event (e n) (record no_scope { names = table 128 })) lines)
+    ((λ n. ExtrnHere (record { text = name 200; line = n })) ∷ (λ n. LvalueWanted n (Named (word 200))) ∷ [])
+    ≡ map (λ f. map f lines) (at_line letters.TooManyNames about.Nothing ∷ at_line letters.NotLvalue about.Nothing ∷ [])
+lines_of_other_faults = refl
+
+lines_of_cases : map (λ n. scan_event (CaseHere n 7) (record no_scope {
+  switches = record { constants = []; has_default = false } ∷ [];
+  cases = 256;
+})) lines ≡ map (at_line letters.TooManyCases about.Nothing) lines
+lines_of_cases = refl
+
+lines_of_labels : map (λ n. undefined (record { name = name 0; kind = Unlabelled n } ∷ [])) lines
+    ≡ map (λ n. Some (record { letters = letters.Undefined; about = about.Name (name 0); line = n })) lines
+lines_of_labels = refl
+
+-- a word of the frame can be stored to, whichever it is, and so can what an address leads to, on whichever line
+lvalues : map (λ k. is_place (Some (Automatic k))) (range_with_len 0 300 ++ 32767 ∷ 32768 ∷ 65535 ∷ [])
+    ≡ replicate 303 true
+lvalues = refl
+
+lvalues_on_lines : map (λ n. is_lvalue [] (tree.Prefixed tree.Indirection n (Named (word 200)))) lines
+    ≡ replicate 13 true
+lvalues_on_lines = refl
+
+frames : map automatic_words (None
+    ∷ map Some (0 ∷ 1 ∷ 4 ∷ 10 ∷ 13 ∷ 255 ∷ 256 ∷ 32765 ∷ 32766 ∷ 32767 ∷ 32768 ∷ 65535 ∷ []))
+    ≡ 1 ∷ 2 ∷ 3 ∷ 6 ∷ 12 ∷ 15 ∷ 257 ∷ 258 ∷ 32767 ∷ 32768 ∷ 32769 ∷ 32770 ∷ 65537 ∷ []
 frames = refl
 
 -- The names defined before a definition.
@@ -151,12 +180,15 @@ default_after_256 : map (λ b. scan_event (DefaultHere 4) (within (range_with_le
     ≡ Ok (within (range_with_len 0 256) true 256) ∷ told letters.Redeclared about.Default ∷ []
 default_after_256 = refl
 
-default_after_each : map (λ n. scan_event (DefaultHere 4) (within (range_with_len 0 n) false n)) (range_with_len 0 257)
-    ≡ map (λ n. Ok (within (range_with_len 0 n) true n)) (range_with_len 0 257)
+abbrev numbers_of_cases : List ℕ
+numbers_of_cases = 0 ∷ 1 ∷ 9 ∷ 10 ∷ 63 ∷ 99 ∷ 100 ∷ 127 ∷ 128 ∷ 254 ∷ 255 ∷ 256 ∷ []
+
+default_after_each : map (λ n. scan_event (DefaultHere 4) (within (range_with_len 0 n) false n)) numbers_of_cases
+    ≡ map (λ n. Ok (within (range_with_len 0 n) true n)) numbers_of_cases
 default_after_each = refl
 
-twice_after_each : map (λ n. scan_event (DefaultHere 4) (within (range_with_len 0 n) true n)) (range_with_len 0 257)
-    ≡ replicate 257 (told letters.Redeclared about.Default)
+twice_after_each : map (λ n. scan_event (DefaultHere 4) (within (range_with_len 0 n) true n)) numbers_of_cases
+    ≡ replicate 12 (told letters.Redeclared about.Default)
 twice_after_each = refl
 
 -- any word may be a constant once, and no word twice
@@ -332,6 +364,56 @@ sizes_of_vectors = refl
 ends_of_data : map (λ n. data_end (map shape_of (take n (vector (name 0) 32767 [] ∷ functions)))) (range_with_len 0 14)
     ≡ 7 ∷ map (λ i. 32778 + 3 * i) (range_with_len 0 13)
 ends_of_data = refl
+
+-- more than a hundred of them, whose last one counts
+many_values : drop 107 (first_words (map shape_of (simple (name 0) (map ival.Number (range_with_len 1000 130)) ∷ [])))
+    ≡ range_with_len 1100 30
+many_values = refl
+
+sizes_of_130 : size_of (shape_of (simple (name 0) (replicate 130 (ival.Number 5))))
+    ∷ size_of (shape_of (vector (name 0) 5 (replicate 130 (ival.Number 5)))) ∷ []
+    ≡ 130 ∷ 134 ∷ []
+sizes_of_130 = refl
+
+-- the words of a vector, and the labels of a function, by their number
+abbrev numbers : List ℕ
+numbers = 0 ∷ 1 ∷ 2 ∷ 127 ∷ 128 ∷ 255 ∷ 256 ∷ 32767 ∷ 32768 ∷ 65535 ∷ []
+
+vectors : map (λ n. words_before_strings (layout.Vector n) []) numbers ≡ map (λ n. 1 + n) numbers
+vectors = refl
+
+lengths_of_vectors : map
+    (λ n. length (words_of_kind (layout.Vector n)
+    (record { address = 7; strings = 8; value = 9; first_label = 1 }) [])) numbers
+    ≡ map (λ n. 1 + n) numbers
+lengths_of_vectors = refl
+
+own_words : map (λ a. words_of_kind (layout.Vector 1) (record { address = a; strings = 8; value = 9; first_label = 1 })
+    (5 ∷ [])) numbers
+    ≡ map (λ a. (a + 1) ∷ 5 ∷ []) numbers
+own_words = refl
+
+labels_of_each : map (λ n. labels_in (layout.Function n)) numbers ≡ numbers
+labels_of_each = refl
+
+-- the input of a run, and its store
+abbrev none : List ℕ
+none = []
+
+first_input : (first_world (record { functions = none; main = None; words = 3 ∷ 4 ∷ []; data_end = 2; addresses = [] })
+    (range_with_len 0 256)).input
+    ≡ range_with_len 0 256
+first_input = refl
+
+first_store : map (word_at
+    (first_world (record { functions = none; main = None; words = range_with_len 3 130; data_end = 2; addresses = [] }) []))
+    (0 ∷ 1 ∷ 8 ∷ 9 ∷ 100 ∷ 129 ∷ 130 ∷ 255 ∷ 256 ∷ 32767 ∷ 32768 ∷ 65535 ∷ [])
+    ≡ 3 ∷ 4 ∷ 11 ∷ 12 ∷ 103 ∷ 132 ∷ replicate 6 0
+first_store = refl
+
+no_output : (first_world
+    (record { functions = none; main = None; words = []; data_end = 2; addresses = [] }) []).output ≡ []
+no_output = refl
 
 -- The names in instructions and initial values: those of externals alone.
 abbrev each_instruction : List Instr

@@ -1,15 +1,14 @@
 -- Closed facts: the value of each kind of expression, at the least and greatest words and those around 128, 256 and
 -- 32768.
-use Rattle.std.specs.Prelude.{◌≡◌, ◌+◌, ℕ, List, [], ◌∷◌, ◌++◌, map, replicate, codes, Some, None, refl}
+use Rattle.std.specs.Prelude.{◌≡◌, ◌+◌, ℕ, List, [], ◌∷◌, ◌++◌, map, replicate, codes, Option, Some, None, refl}
 use Rattle.std.specs.List.{range_with_len}
 use Rattle.bword.specs.declared.operators.BinOp.TheVariants as op
 use Rattle.bword.specs.Words.{operators}
 use Rattle.blang.specs.declared.run.Trap.TheVariants.{ZeroDivisor, NotAFunction, NoRoom, TooDeep}
-use Rattle.blang.specs.Layout.{World, Exited, Trapped}
+use Rattle.blang.specs.Layout.{World, Exited, Trapped, word_at}
 use Rattle.blang.specs.Trees.{Identifier, Number, Character, Expr, Arguments, Negate, Not, Indirection, Address}
-use Rattle.blang.specs.Trees.{PreIncrement}
-use Rattle.blang.specs.Trees.{PreDecrement, PostIncrement, PostDecrement, Named, Literal, Text, Grouped, Indexed}
-use Rattle.blang.specs.Trees.{Called}
+use Rattle.blang.specs.Trees.{PreIncrement, PreDecrement, PostIncrement, PostDecrement, Named, Literal, Text, Grouped}
+use Rattle.blang.specs.Trees.{Indexed, Called, Auto, Stmt}
 use Rattle.blang.specs.Trees.{Postfixed, Prefixed, Binary, Conditional, Assigned, No_arguments, Another, Headed, Label}
 use Rattle.blang.specs.Trees.{Empty}
 use Rattle.blang.specs.Value.{Answer, Gives, Ends, Wants, SourceFunction, Program, Frame, Evaluator, value}
@@ -231,3 +230,86 @@ refused : map (λ (p : ℕ × ℕ). value program (Some evaluator)
     ≡ map (λ e. e (record world { store = [] })) (Gives 65529 ∷ Ends (Trapped NoRoom) ∷ Gives 4098
     ∷ Ends (Trapped TooDeep) ∷ Ends (Trapped TooDeep) ∷ [])
 refused = refl
+
+-- A word that an expression gives, and the word that it leaves at an address.
+abbrev given : Answer ℕ → Option ℕ
+given (Gives v w) = Some v
+given e = None
+
+abbrev left_at : ℕ → Answer ℕ → Option ℕ
+left_at a (Gives v w) = Some (word_at w a)
+left_at a e = None
+
+-- at each address, in a store whose words are their addresses
+abbrev whole : World
+whole = record world { store = range_with_len 0 65536 }
+
+abbrev word_of : ℕ → Expr
+word_of a = Prefixed Indirection 1 (number a)
+
+fetched_at_each : map (λ a. given (of_word (word_of a) whole)) edges ≡ map Some edges
+fetched_at_each = refl
+
+stored_at_each : map (λ a. left_at a (of_word (Assigned None 1 (word_of a) (number 5)) whole)) edges
+    ≡ replicate 13 (Some 5)
+stored_at_each = refl
+
+modified_at_each : map (λ a. left_at a (of_word (Assigned (Some op.And) 1 (word_of a) (number 0)) whole)) edges
+    ≡ replicate 13 (Some 0)
+modified_at_each = refl
+
+counted_at_each : map (λ a. left_at a (of_word (Prefixed PreIncrement 1 (word_of a)) whole)) edges
+    ≡ map Some (1 ∷ 2 ∷ 5 ∷ 11 ∷ 14 ∷ 128 ∷ 129 ∷ 256 ∷ 257 ∷ 32768 ∷ 32769 ∷ 65535 ∷ 0 ∷ [])
+counted_at_each = refl
+
+made_each : map (λ v. of_word (Binary op.Or 1 (number v) (number 0)) world) edges ≡ map (λ v. Gives v world) edges
+made_each = refl
+
+-- a variable at each word of a frame: b after the vector a of this constant
+abbrev with_vector : ℕ → SourceFunction
+with_vector c = record {
+  parameters = [];
+  body = Headed (Auto (record { word = word (codes "a"); size = Some c }
+      ∷ record { word = word (codes "b"); size = None } ∷ [])) Empty;
+  strings = 0;
+  first_label = 1;
+}
+
+frame_words_each : map
+    (λ c. given (value program None (record { function = with_vector c; start = 0; active = 1 })
+    (name (codes "b")) whole))
+    (0 ∷ 125 ∷ 126 ∷ 253 ∷ 254 ∷ 32765 ∷ 32766 ∷ 65533 ∷ 65534 ∷ [])
+    ≡ map Some (2 ∷ 127 ∷ 128 ∷ 255 ∷ 256 ∷ 32767 ∷ 32768 ∷ 65535 ∷ 0 ∷ [])
+frame_words_each = refl
+
+-- twelve labels of one function
+abbrev labelled : List (List ℕ) → Stmt
+labelled [] = Empty
+labelled (x ∷ xs) = Headed (Label (word x)) (labelled xs)
+
+abbrev label_names : List (List ℕ)
+label_names = map (λ i. 97 ∷ i ∷ []) (range_with_len 0 12)
+
+twelve_labels : map (λ x. given (value program None (record {
+  function = record { parameters = []; body = labelled label_names; strings = 0; first_label = 250 };
+  start = 0;
+  active = 1;
+}) (name x) world)) label_names ≡ map Some (range_with_len 250 12)
+twelve_labels = refl
+
+-- where the frame of a call begins, two words after that of its caller, and how many calls are active then
+frames_of_calls : map
+    (λ s. given (value program (Some evaluator) (frame s) (Called (number 7) No_arguments)
+    (record world { store = [] })))
+    (0 ∷ 1 ∷ 255 ∷ 256 ∷ 32767 ∷ 32768 ∷ 65525 ∷ []) ≡ map Some (4 ∷ 5 ∷ 259 ∷ 260 ∷ 32771 ∷ 32772 ∷ 65529 ∷ [])
+frames_of_calls = refl
+
+active_calls : map (λ n. given
+    (value program (Some evaluator) (record { function = function 5; start = 0; active = n })
+    (Called (number 7) No_arguments)
+    (record world { store = [] }))) (1 ∷ 255 ∷ 256 ∷ 4094 ∷ 4095 ∷ 4096 ∷ [])
+    ≡ map Some (4 ∷ 258 ∷ 259 ∷ 4097 ∷ 4098 ∷ []) ++ None ∷ []
+active_calls = refl
+
+many_arguments : values program None (frame 0) (numbered 130) world ≡ Gives (range_with_len 1 130) world
+many_arguments = refl

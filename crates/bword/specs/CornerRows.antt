@@ -1,7 +1,7 @@
 -- Closed facts: the operators, and the bytes of words, at each pair of some words: the least and the greatest ones, and
 -- those around 128, 256 and 32768. The numbers were worked out apart from the definitions.
 use Rattle.std.specs.Prelude.{◌≡◌, ◌+◌, ◌*◌, ℕ, Bool, if◌then◌else◌, nat_eq, nat_lt, nat_le, not, List, [], ◌∷◌, ◌++◌}
-use Rattle.std.specs.Prelude.{map, replicate, Option, Some, None, pos, neg_ℤ, refl}
+use Rattle.std.specs.Prelude.{map, slice_index, replicate, Option, Some, None, pos, neg_ℤ, refl}
 use Rattle.std.specs.List.{range_with_len}
 use Rattle.bword.specs.declared.operators.BinOp.{BinOp}
 use Rattle.bword.specs.declared.operators.BinOp.TheVariants as op
@@ -302,6 +302,45 @@ halves = refl
 halves_stored : map (λ i. with_byte i 258 7) corners ≡ 263 ∷ 1794 ∷ 263 ∷ 1794 ∷ 263 ∷ 1794 ∷ 263 ∷ 1794 ∷ 263 ∷ 263
     ∷ 1794 ∷ []
 halves_stored = refl
+
+-- of each word
+low_halves : map (byte_of 0) corners ≡ 0 ∷ 1 ∷ 2 ∷ 127 ∷ 128 ∷ 255 ∷ 0 ∷ 255 ∷ 0 ∷ 254 ∷ 255 ∷ []
+low_halves = refl
+
+high_halves : map (byte_of 1) corners ≡ 0 ∷ 0 ∷ 0 ∷ 0 ∷ 0 ∷ 0 ∷ 1 ∷ 127 ∷ 128 ∷ 255 ∷ 255 ∷ []
+high_halves = refl
+
+low_half_stored : map (λ w. with_byte 0 w 7) corners ≡ 7 ∷ 7 ∷ 7 ∷ 7 ∷ 7 ∷ 7 ∷ 263 ∷ 32519 ∷ 32775 ∷ 65287 ∷ 65287 ∷ []
+low_half_stored = refl
+
+high_half_stored : map (λ w. with_byte 1 w 7) corners
+    ≡ 1792 ∷ 1793 ∷ 1794 ∷ 1919 ∷ 1920 ∷ 2047 ∷ 1792 ∷ 2047 ∷ 1792 ∷ 2046 ∷ 2047 ∷ []
+high_half_stored = refl
+
+low_byte_stored : map (with_byte 0 43981) corners
+    ≡ 43776 ∷ 43777 ∷ 43778 ∷ 43903 ∷ 43904 ∷ 44031 ∷ 43776 ∷ 44031 ∷ 43776 ∷ 44030 ∷ 44031 ∷ []
+low_byte_stored = refl
+
+high_byte_stored : map (with_byte 1 43981) corners
+    ≡ 205 ∷ 461 ∷ 717 ∷ 32717 ∷ 32973 ∷ 65485 ∷ 205 ∷ 65485 ∷ 205 ∷ 65229 ∷ 65485 ∷ []
+high_byte_stored = refl
+
+-- in a whole store, whose words are their addresses
+abbrev store : List ℕ
+store = range_with_len 0 65536
+
+read_at_each : map (λ s. char_of store s 0) corners ≡ map (byte_of 0) corners
+read_at_each = refl
+
+read_with_each_index : map (char_of store 7) corners ≡ 7 ∷ 0 ∷ 8 ∷ 0 ∷ 71 ∷ 0 ∷ 135 ∷ 64 ∷ 7 ∷ 6 ∷ 128 ∷ []
+read_with_each_index = refl
+
+stored_at_each : map (λ s. slice_index (with_char store s 1 9) s) corners ≡ map (λ s. with_byte 1 s 9) corners
+stored_at_each = refl
+
+stored_with_each_index : map (λ i. slice_index (with_char store 7 i 9) (byte_address 7 i)) corners
+    ≡ map (λ i. with_byte i (byte_address 7 i) 9) corners
+stored_with_each_index = refl
 
 -- a string of eight bytes, each of which is read, and stored alone
 eight_read : map (char_of (513 ∷ 1027 ∷ 1541 ∷ 2055 ∷ []) 0) (range_with_len 0 8) ≡ range_with_len 1 8
