@@ -1,14 +1,31 @@
--- What no reader of a code text does.
-use Rattle.std.proofs.Common.{subst, ◌≡◌, ℕ, suc, ◌≤◌, List, [], ◌∷◌, ◌++◌, length, sym, ap, ◌∙◌, arith, append_assoc, ◌⊎◌, inl, inr}
-use Rattle.std.specs.Prelude.{All}
+-- What no writer of a code text, no call of `read_code` and no reader does.
+use Rattle.std.proofs.Common.{subst, ◌≡◌, ℕ, suc, ◌≤◌, true, false, if◌then◌else◌, List, [], ◌∷◌, ◌++◌, length, sym, ap, ◌∙◌, arith, append_assoc, append-nil, Option, Some, None, refl, ◌⊎◌, inl, inr}
+use Rattle.std.specs.Prelude.{All, codes}
+use Rattle.std.specs.List.{flat_map}
+use Rattle.std.specs.Io.KnownBytes.{Appends, Consumes}
+use Rattle.bword.specs.declared.edition.Edition.{Edition}
+use Rattle.bword.specs.declared.edition.Edition.TheVariants as editions
 use Rattle.std.proofs.lemmas.List.Elements.{All-head, All-tail}
 use Rattle.bcode.specs.CodeExcluded.{Excluded}
-use Rattle.bcode.specs.Readers.{CodeReader, StoppedAtLine}
+use Rattle.bcode.specs.Faults.{IsFaultLine, HasHeader}
+use Rattle.bcode.specs.Headers.{header_of}
+use Rattle.bcode.specs.LineReading.{header_at, any_header_at, sizes_at, function_header_at, simple_header_at, vector_header_at, line_ended, ival_line_at, operand_at, name_operand_at}
+use Rattle.bcode.specs.Reading.{expect_byte, number_at, number_from, name_text_at}
+use Rattle.bcode.specs.Readers.{CodeReader, HasTaken, TextEnded, StoppedAtLine, MemoryRefused, ReadBroke, opening_read}
+use Rattle.bcode.specs.Stopping.{opens}
 use Rattle.bcode.specs.Streams.{HasNoNewline, IsWholeLine, IsLinePart, AreLines, EndsInLine}
-use Rattle.blang.specs.Text.{joined}
+use Rattle.blang.specs.Text.{joined, body_lines, header_line, definition_text, edition_line, opening, code_lines, IsTextOf, IsCodeText, IsWithinRanges}
 use Rattle.blang.specs.declared.code.Definition.{Definition}
 use Rattle.blang.specs.declared.limits.TheConstants.{LINE_LEN}
-use Rattle.bcode.proofs.StreamLaws.{first_newline, no_newline}
+use Rattle.bcode.specs.declared.header.Header.TheVariants as header
+use Rattle.bcode.proofs.AheadLaws.{both_empty}
+use Rattle.bcode.proofs.BodyLaws.{not_end}
+use Rattle.bcode.proofs.CodeLaws.{code_path, header_of-text, header_of-within}
+use Rattle.bcode.proofs.FaultLaws.{definitions_text, no_opening, same_body, same_rest, unended_code}
+use Rattle.bcode.proofs.FaultRows.{stops, stops_at}
+use Rattle.bcode.proofs.HeaderLaws.{header_at-exact, end_within}
+use Rattle.bcode.proofs.StoppingLaws.{same_spelling, no_path}
+use Rattle.bcode.proofs.StreamLaws.{first_newline, no_newline, FailsAfter-took}
 
 -- a text up to its first newline
 line_first : (l others rest : List ℕ) (w : IsWholeLine l) → l ++ others ++ rest ≡ w.before ++ 10 ∷ (others ++ rest)
@@ -65,5 +82,102 @@ never_ends before old new n h lines rest are same =
     (ends_after e lines rest are same) in
     subst (λ t. length t ≤ LINE_LEN) (sym last) e.part.few
 
+appended : (a b : Option (List ℕ)) (text bytes : List ℕ) → a ≡ Some [] → b ≡ Some bytes → Appends a b text → bytes ≡ text
+appended None b text bytes e f h = cc
+appended (Some a) None text bytes e f h = cc
+appended (Some a) (Some b) text bytes e f h = let p : a ≡ [] = cc in let q : b ≡ bytes = cc in sym q ∙ h ∙ ap (λ l. l ++ text) p
+
+consumed : (a b : Option (List ℕ)) (taken x y : List ℕ) → a ≡ Some x → b ≡ Some y → Consumes a b taken → x ≡ taken ++ y
+consumed None b taken x y e f h = cc
+consumed (Some a) None taken x y e f h = cc
+consumed (Some a) (Some b) taken x y e f h = let p : a ≡ x = cc in let q : b ≡ y = cc in sym p ∙ h ∙ ap (λ l. taken ++ l) q
+
+abbrev zero_first : List ℕ
+zero_first = codes "X n 1 0\nc 007\nE\n"
+
+zero_stuck : stops_at 1 opens zero_first ≡ true
+unfolding header_at any_header_at sizes_at function_header_at simple_header_at vector_header_at line_ended ival_line_at operand_at name_operand_at expect_byte number_at number_from name_text_at
+zero_stuck = refl
+
+leading_zero : (ds : List Definition) → IsCodeText zero_first ds → ⊥
+leading_zero ds code =
+    no_path 1 opens zero_first tt (stops 1 opens zero_first tt zero_stuck) (code_lines code.0 ds) (code_path code.0 ds code.1.within) code.1.spelled
+
+same_line : (text : List ℕ) (n m : ℕ) → IsFaultLine text n → IsFaultLine text m → n ≡ m
+same_line text n m f g =
+    let p = f.greatest g.good g.begins in
+    let q = g.greatest f.good f.begins in
+    omega (arith, f.next, g.next, p, q)
+
+-- a last line is no definition's first
+not_first : (d : Definition) (rest : List ℕ) → IsWithinRanges d → codes "E\n" ≡ definition_text d ++ rest → ⊥
+not_first d rest inside e =
+    not_end d (sym (same_spelling header_at-exact header.End (header_of d) [] (joined (body_lines d) ++ rest) end_within (header_of-within d inside) (e ∙ definitions_text d rest)).0)
+
+no_header : HasHeader (codes "E\n") → ⊥
+no_header h = at h.edition h.definitions h.within h.same
+  where
+    at : (edition : Edition) (ds : List Definition) → All IsWithinRanges ds → codes "E\n" ≡ opening edition ++ (flat_map definition_text ds ++ (header_line h.next ++ h.rest)) → ⊥
+    at editions.Two ds all e = cc
+    at editions.One [] all e =
+        not_end h.next (sym (same_spelling header_at-exact header.End (header_of h.next) [] h.rest end_within (header_of-within h.next h.next_within) (e ∙ ap (λ l. l ++ h.rest) (sym (header_of-text h.next)))).0)
+    at editions.One (d ∷ ds) all e =
+        not_first d (flat_map definition_text ds ++ (header_line h.next ++ h.rest)) (All-head IsWithinRanges d ds all)
+        (e ∙ append_assoc (definition_text d) (flat_map definition_text ds) (header_line h.next ++ h.rest))
+
+taken_on : (r : CodeReader) (ds : List Definition) (rest left : List ℕ) → HasTaken r ds → r.first.source.left ≡ Some (opening_read r ++ flat_map definition_text ds ++ rest) → r.ahead.end.left ≡ Some left → left ≡ rest
+taken_on r ds rest left h e f =
+    sym (same_rest (opening_read r ++ flat_map definition_text ds) rest left (consumed r.first.source.left r.ahead.end.left (opening_read r ++ flat_map definition_text ds) (opening_read r ++ flat_map definition_text ds ++ rest) left e f h.passes.reads.took.bytes))
+
+lost_before_failure : (d : Definition) (old new : CodeReader) → IsWithinRanges d → old.is_begun ≡ false → old.first.edition ≡ editions.One → old.ahead.end.left ≡ Some (definition_text d) → new.ahead.end.left ≡ Some [] → ReadBroke [] old new → ⊥
+lost_before_failure d old new inside unbegun first e f h = h.none d [] inside (left ∙ right)
+  where
+    taken : definition_text d ≡ h.breaks.taken ++ []
+    taken = consumed old.ahead.end.left new.ahead.end.left h.breaks.taken (definition_text d) [] e f (FailsAfter-took h.breaks.fails).bytes
+
+    left : opening_read old ++ [] ++ h.breaks.taken ≡ h.breaks.taken
+    left = ap (λ b. (if b then opening old.first.edition else []) ++ [] ++ h.breaks.taken) unbegun
+
+    right : h.breaks.taken ≡ opening old.first.edition ++ [] ++ (definition_text d ++ [])
+    right =
+        sym (append-nil h.breaks.taken) ∙ sym taken ∙ sym (append-nil (definition_text d))
+        ∙ ap (λ edition. opening edition ++ [] ++ (definition_text d ++ [])) (sym first)
+
+held_back : (before : List Definition) (old new : CodeReader) (h : MemoryRefused before old new) → (d : Definition) (rest : List ℕ) → IsWithinRanges d
+    → h.taken ≡ opening old.first.edition ++ flat_map definition_text before ++ (definition_text d ++ rest) → rest ≡ []
+held_back before old new h d rest inside e = (both_empty rest h.more (sym (same_body h.next d [] (rest ++ h.more) h.inside inside one.0 one.1).1)).0
+  where
+    here : header_line h.next ++ h.rest ≡ definition_text d ++ rest
+    here =
+        same_rest (opening old.first.edition ++ flat_map definition_text before) (header_line h.next ++ h.rest) (definition_text d ++ rest)
+        (sym h.spelled ∙ e)
+
+    whole : definition_text h.next ≡ definition_text d ++ (rest ++ h.more)
+    whole = h.whole ∙ ap (λ l. l ++ h.more) here ∙ append_assoc (definition_text d) rest h.more
+
+    one : (header_of h.next ≡ header_of d) × (joined (body_lines h.next) ++ [] ≡ joined (body_lines d) ++ (rest ++ h.more))
+    one =
+        same_spelling header_at-exact (header_of h.next) (header_of d) (joined (body_lines h.next) ++ []) (joined (body_lines d) ++ (rest ++ h.more)) (header_of-within h.next h.inside) (header_of-within d inside)
+        (sym (definitions_text h.next []) ∙ append-nil (definition_text h.next) ∙ whole ∙ definitions_text d (rest ++ h.more))
+
+other_edition : (before : List Definition) (old new : CodeReader) (rest : List ℕ) → old.first.edition ≡ editions.One → old.first.source.left ≡ Some (edition_line ++ rest) → new.ahead.end.left ≡ Some [] → TextEnded before old new → ⊥
+other_edition before old new rest first e f h =
+    let all = consumed old.first.source.left new.ahead.end.left h.taken (edition_line ++ rest) [] e f h.reads.took.bytes in
+    let one : IsTextOf editions.One h.taken before = subst (λ edition. IsTextOf edition h.taken before) first h.whole in
+    no_opening before rest (all ∙ append-nil h.taken ∙ one.spelled)
+
 pub excluded : Excluded
-excluded = record { read_on = λ before old new n h. none_after h.near; never_ends = never_ends }
+excluded = record {
+  other_text = λ d o p bytes e f h. appended o.written p.written (definition_text d) bytes e f h.appended;
+  leading_zero = leading_zero;
+  unended = unended_code;
+  other_line = same_line;
+  no_header = no_header;
+  taken_on = taken_on;
+  read_on = λ before old new n h. none_after h.near;
+  never_ends = never_ends;
+  lost_before_failure = lost_before_failure;
+  held_back = held_back;
+  other_edition = other_edition;
+  unseen_end = λ before old new unseen h. let e = h.over in cc;
+}

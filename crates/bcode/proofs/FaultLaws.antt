@@ -241,7 +241,7 @@ code_text-joined (d ∷ ds) =
     ∙ ap (λ l. l ++ end_text) (sym (append_assoc (header_line d) (joined (body_lines d)) (flat_map definition_text ds)))
 
 -- The texts of definitions without a last line are no code text.
-definitions_text : (d : Definition) (rest : List ℕ) → definition_text d ++ rest ≡ header_text (header_of d) ++ (joined (body_lines d) ++ rest)
+pub definitions_text : (d : Definition) (rest : List ℕ) → definition_text d ++ rest ≡ header_text (header_of d) ++ (joined (body_lines d) ++ rest)
 definitions_text d rest = append_assoc (header_line d) (joined (body_lines d)) rest ∙ ap (λ l. l ++ (joined (body_lines d) ++ rest)) (sym (header_of-text d))
 
 unended_lines : (ds es : List Definition) → All IsWithinRanges ds → All IsWithinRanges es → flat_map definition_text ds ≡ joined (ended_lines es) → ⊥

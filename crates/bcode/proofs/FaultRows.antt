@@ -54,7 +54,7 @@ abbrev on : (LineState → List ℕ → Bool) → Option (LineState × List ℕ)
 on test (Some r) = test r.0 r.1
 on test None = false
 
-abbrev stops_at : ℕ → LineState → List ℕ → Bool
+abbrev pub stops_at : ℕ → LineState → List ℕ → Bool
 stops_at zero from text = is_stuck from text (step from text)
 stops_at (suc n) from text = on (stops_at n) (step from text)
 
@@ -156,7 +156,7 @@ stops_after n from text good (Some r) is e onward =
     (h.0, r.0, r.1, h.1, h.2, onward r.0 r.1 (good_next from h.0 r.0 good h.1) e)
 stops_after n from text good None is e onward = absurd (cc)
 
-stops : (n : ℕ) (from : LineState) (text : List ℕ) → IsGoodState from → stops_at n from text ≡ true → IsStuckAfter n from text
+pub stops : (n : ℕ) (from : LineState) (text : List ℕ) → IsGoodState from → stops_at n from text ≡ true → IsStuckAfter n from text
 stops zero from text good e =
     let h = stuck_step from text (step from text) e in
     record {

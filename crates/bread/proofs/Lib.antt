@@ -9,3 +9,4 @@ pub mod Lists
 pub mod HeadingSteps
 pub mod StatementSteps
 pub mod DefinitionSteps
+mod ParserExcluded

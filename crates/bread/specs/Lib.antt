@@ -6,3 +6,4 @@ pub mod Compiling
 pub mod Statements
 pub mod Headers
 pub mod Definitions
+pub mod EffectRows
