@@ -18,7 +18,8 @@ use Rattle.blang.specs.declared.code.Definition as coded
 use Rattle.blang.specs.declared.code.Definition.TheVariants as code
 use Rattle.blang.specs.declared.code.Ival.TheVariants as ival
 use Rattle.blang.specs.Scan.{Entry, NameKind, Automatic, External, Labelled}
-use Rattle.blang.specs.Code.{Environment, environment_of, Arms, Fragment, word_code, fragment, code_of}
+use Rattle.blang.specs.Code.{Environment, environment_of, Arms, Fragment, word_code, fragment, code_of, arms_code}
+use Rattle.blang.specs.Code.{In_frame, At_label, name_word_code, name_address_code, heading_code}
 
 abbrev entry : List ℕ → NameKind → Entry
 entry name kind = record { name = name; kind = kind }
@@ -252,3 +253,50 @@ function_with_string : code_of (Function (word (codes "f")) (word (codes "a") �
       code = instr.Text 0 ∷ instr.Pop ∷ instr.Constant 0 ∷ instr.Return ∷ [];
     })
 function_with_string = refl
+
+-- Each number, in each place of the code.
+abbrev numbers : List ℕ
+numbers = 0 ∷ 1 ∷ 4 ∷ 10 ∷ 13 ∷ 127 ∷ 128 ∷ 255 ∷ 256 ∷ 32767 ∷ 32768 ∷ 65534 ∷ 65535 ∷ []
+
+codes_of_numbers : map (λ (make : ℕ → Expr). map (λ n. word_code names (make n) 7) numbers)
+    ((λ n. Literal (Number n)) ∷ (λ n. Literal (Character n)) ∷ (λ n. Text [] n) ∷ [])
+    ≡ map (λ (i : ℕ → Instr). map (λ n. i n ∷ []) numbers) (instr.Constant ∷ instr.Constant ∷ instr.Text ∷ [])
+codes_of_numbers = refl
+
+codes_of_names : map (λ n. map (λ r. name_word_code r (codes "y")) (In_frame n ∷ At_label n ∷ [])) numbers
+    ≡ map (λ n. (instr.Automatic n ∷ instr.Load ∷ []) ∷ (instr.Label n ∷ []) ∷ []) numbers
+codes_of_names = refl
+
+addresses_of_names : map (λ n. map (λ r. name_address_code r (codes "y")) (In_frame n ∷ At_label n ∷ [])) numbers
+    ≡ map (λ n. instr.Automatic n ∷ instr.Label n ∷ []) numbers
+addresses_of_names = refl
+
+codes_of_vectors : map
+    (λ k. heading_code (λ y. In_frame k) (Auto (record { word = word (codes "v"); size = Some 3 } ∷ []))) numbers
+    ≡ map (λ k. instr.Automatic k ∷ instr.Automatic (k + 1) ∷ instr.Store ∷ instr.Pop ∷ []) numbers
+codes_of_vectors = refl
+
+codes_of_cases : arms_code (map (λ n. (Some n, n)) numbers) ∷ map (λ n. arms_code ((None, n) ∷ [])) numbers
+    ≡ (map (λ n. instr.JumpIfCase n n) numbers ++ instr.Pop ∷ []) ∷ map (λ n. instr.Pop ∷ instr.Jump n ∷ []) numbers
+codes_of_cases = refl
+
+-- each place of a jump
+abbrev places : List ℕ
+places = 0 ∷ 1 ∷ 127 ∷ 128 ∷ 255 ∷ 256 ∷ 1000 ∷ 4094 ∷ []
+
+abbrev code_at : Stmt → ℕ → List Instr
+code_at s place = (fragment names s place).code 99
+
+places_of_jumps : map (λ s. map (code_at s) places)
+    (If p Empty ∷ IfElse p Empty Empty ∷ While p Empty ∷ While p (Break 1) ∷ Switch p Nothing ∷ [])
+    ≡ map (λ (make : ℕ → List Instr). map (λ n. p_code ++ make n) places) (
+    (λ n. instr.JumpIfZero (n + 3) ∷ [])
+    ∷ (λ n. instr.JumpIfZero (n + 4) ∷ instr.Jump (n + 4) ∷ [])
+    ∷ (λ n. instr.JumpIfZero (n + 4) ∷ instr.Jump n ∷ [])
+    ∷ (λ n. instr.JumpIfZero (n + 5) ∷ instr.Jump (n + 5) ∷ instr.Jump n ∷ [])
+    ∷ (λ n. instr.Jump (n + 4) ∷ instr.Jump (n + 5) ∷ instr.Pop ∷ [])
+    ∷ [])
+places_of_jumps = refl
+
+places_of_choices : map (word_code names choice) places ≡ map choice_code places
+places_of_choices = refl

@@ -22,7 +22,8 @@ use Rattle.blang.specs.Trees as tree
 use Rattle.blang.specs.Trees.{Identifier, Expr, Named, Called, No_arguments, Arguments, Another, Stmt, Stmts, More}
 use Rattle.blang.specs.Trees.{Headed, Label}
 use Rattle.blang.specs.Trees.{Goto, Compound, ReturnValue, Function}
-use Rattle.blang.specs.Walk.{Event, AutoHere, ExtrnHere, Mention, LabelHere, CaseHere, DefaultHere, BreakHere, LvalueWanted}
+use Rattle.blang.specs.Walk.{Event, AutoHere, ExtrnHere, Mention, LabelHere, CaseHere, DefaultHere, BreakHere}
+use Rattle.blang.specs.Walk.{LvalueWanted}
 use Rattle.blang.specs.Scan.{Entry, Automatic, External, Unlabelled, Labelled, Scope, no_scope, scan_event}
 use Rattle.blang.specs.Scan.{kind_of}
 use Rattle.blang.specs.Scan.{undefined, scan, automatic_words, is_place, is_lvalue}
@@ -30,7 +31,7 @@ use Rattle.blang.specs.WellFormed.{packed}
 use Rattle.blang.specs.Code.{Arms, arms_code, code_of}
 use Rattle.blang.specs.Layout.{shape_of, Spot, spots, data_end, addresses, address_in, first_words, duplicate_after}
 use Rattle.blang.specs.Layout.{first_undefined, load_fault, name_in_instr, names_in, size_of, words_before_strings}
-use Rattle.blang.specs.Layout.{words_of_kind, labels_in, first_world, word_at}
+use Rattle.blang.specs.Layout.{words_of_kind, labels_in, first_world, word_at, LaidOut}
 use Rattle.blang.specs.Layout as layout
 
 -- the name with this number, and so many of them
@@ -397,22 +398,18 @@ labels_of_each : map (λ n. labels_in (layout.Function n)) numbers ≡ numbers
 labels_of_each = refl
 
 -- the input of a run, and its store
-abbrev none : List ℕ
-none = []
+abbrev with_words : List ℕ → LaidOut ℕ
+with_words words = record { functions = []; main = None; words = words; data_end = 2; addresses = [] }
 
-first_input : (first_world (record { functions = none; main = None; words = 3 ∷ 4 ∷ []; data_end = 2; addresses = [] })
-    (range_with_len 0 256)).input
-    ≡ range_with_len 0 256
+first_input : (first_world (with_words []) (range_with_len 0 256)).input ≡ range_with_len 0 256
 first_input = refl
 
-first_store : map (word_at
-    (first_world (record { functions = none; main = None; words = range_with_len 3 130; data_end = 2; addresses = [] }) []))
+first_store : map (word_at (first_world (with_words (range_with_len 3 130)) []))
     (0 ∷ 1 ∷ 8 ∷ 9 ∷ 100 ∷ 129 ∷ 130 ∷ 255 ∷ 256 ∷ 32767 ∷ 32768 ∷ 65535 ∷ [])
     ≡ 3 ∷ 4 ∷ 11 ∷ 12 ∷ 103 ∷ 132 ∷ replicate 6 0
 first_store = refl
 
-no_output : (first_world
-    (record { functions = none; main = None; words = []; data_end = 2; addresses = [] }) []).output ≡ []
+no_output : (first_world (with_words []) []).output ≡ []
 no_output = refl
 
 -- The names in instructions and initial values: those of externals alone.

@@ -1,10 +1,12 @@
 -- Closed facts: texts of single definitions, and the lines of each instruction and initial value.
-use Rattle.std.specs.Prelude.{◌≡◌, ℕ, List, [], ◌∷◌, map, codes, decimal, refl}
+use Rattle.std.specs.Prelude.{◌≡◌, ℕ, List, [], ◌∷◌, ◌++◌, map, replicate, codes, decimal, refl}
+use Rattle.std.specs.List.{range_with_len, flat_map}
 use Rattle.std.specs.Fmt.{digits}
 use Rattle.bword.specs.declared.edition.Edition.TheVariants as editions
 use Rattle.bword.specs.declared.operators.BinOp.TheVariants as op
 use Rattle.blang.specs.declared.code.Instr.{Instr}
 use Rattle.blang.specs.Text.{definition_text, code_lines, joined, opening, instr_line, ival_line, target_line, string_line}
+use Rattle.blang.specs.Text.{header_line, body_lines}
 use Rattle.blang.specs.declared.code.Definition.TheVariants as definition
 use Rattle.blang.specs.declared.code.Increment.TheVariants as increment
 use Rattle.blang.specs.declared.code.Instr.TheVariants as instr
@@ -161,3 +163,73 @@ function_with_strings : definition_text (definition.Function record {
 }) ≡ codes "F f 1 2 1 1 1\nt 0\nw 4\nr\n"
 unfolding digits
 function_with_strings = refl
+
+-- Each number is written in decimals, without zeros before it, whatever the line is.
+abbrev each : List ℕ
+each = 0 ∷ 1 ∷ 9 ∷ 10 ∷ 99 ∷ 100 ∷ 127 ∷ 128 ∷ 255 ∷ 256 ∷ 999 ∷ 1000 ∷ 4095 ∷ 4096 ∷ 9999 ∷ 10000 ∷ 32767 ∷ 32768
+    ∷ 65534 ∷ 65535 ∷ []
+
+abbrev decimals : List (List ℕ)
+decimals = codes "0" ∷ codes "1" ∷ codes "9" ∷ codes "10" ∷ codes "99" ∷ codes "100" ∷ codes "127" ∷ codes "128"
+    ∷ codes "255" ∷ codes "256" ∷ codes "999" ∷ codes "1000" ∷ codes "4095" ∷ codes "4096" ∷ codes "9999"
+    ∷ codes "10000" ∷ codes "32767" ∷ codes "32768" ∷ codes "65534" ∷ codes "65535" ∷ []
+
+abbrev after_letter : List ℕ → List (List ℕ)
+after_letter letter = map (λ d. letter ++ d ++ codes "\n") decimals
+
+lines_of_numbers : map (λ line. map line each)
+    ((λ n. instr_line (instr.Constant n)) ∷ (λ n. instr_line (instr.Automatic n)) ∷ (λ n. instr_line (instr.Text n))
+    ∷ (λ n. instr_line (instr.Label n)) ∷ (λ n. instr_line (instr.Jump n)) ∷ (λ n. instr_line (instr.JumpIfZero n))
+    ∷ (λ n. instr_line (instr.Call n)) ∷ (λ n. ival_line (ival.Number n)) ∷ (λ n. ival_line (ival.Text n)) ∷ target_line
+    ∷ string_line ∷ [])
+    ≡ map after_letter (codes "c " ∷ codes "a " ∷ codes "s " ∷ codes "l " ∷ codes "j " ∷ codes "z " ∷ codes "k "
+    ∷ codes "c "
+    ∷ codes "s " ∷ codes "t " ∷ codes "w " ∷ [])
+unfolding digits
+lines_of_numbers = refl
+
+lines_of_cases : map (λ n. instr_line (instr.JumpIfCase n n)) each
+    ≡ map (λ d. codes "e " ++ d ++ codes " " ++ d ++ codes "\n") decimals
+unfolding digits
+lines_of_cases = refl
+
+-- Headers: numbers, and how many there are of each.
+headers : map (λ n. header_line
+    (definition.Vector record { name = codes "v"; words = n; values = []; strings = [] })) each
+    ≡ map (λ d. codes "V v " ++ d ++ codes " 0 0\n") decimals
+unfolding digits
+headers = refl
+
+headers_of_functions : map
+    (λ n. header_line (definition.Function record { name = codes "f"; parameters = n; frame = n; targets = []; strings = []; code = [] })) each
+    ≡ map (λ d. codes "F f " ++ d ++ codes " " ++ d ++ codes " 0 0 0\n") decimals
+unfolding digits
+headers_of_functions = refl
+
+headers_of_long_ones : header_line
+    (definition.Function record { name = codes "f"; parameters = 1; frame = 2; targets = replicate 128 0; strings = replicate 1024 0; code = replicate 4096 instr.Pop })
+    ∷ header_line (definition.Simple record {
+      name = codes "x";
+      values = replicate 1024
+          (ival.Number 0);
+      strings = replicate 130 0;
+    }) ∷ []
+    ≡ codes "F f 1 2 128 1024 4096\n" ∷ codes "X x 1024 130\n" ∷ []
+unfolding digits
+headers_of_long_ones = refl
+
+-- 130 lines of each kind, in order
+bodies : body_lines (definition.Function record { name = codes "f"; parameters = 0; frame = 0; targets = each; strings = each; code = replicate 130 instr.Pop })
+    ≡ after_letter (codes "t ") ++ after_letter (codes "w ") ++ replicate 130 (codes "p\n")
+unfolding digits
+bodies = refl
+
+bodies_of_values : body_lines
+    (definition.Simple record { name = codes "x"; values = map ival.Number each; strings = each })
+    ∷ body_lines (definition.Vector record { name = codes "x"; words = 20; values = map ival.Number each; strings = each }) ∷ []
+    ≡ replicate 2 (after_letter (codes "c ") ++ after_letter (codes "w "))
+unfolding digits
+bodies_of_values = refl
+
+text_of_many_lines : joined (replicate 130 (codes "p\n")) ≡ flat_map (λ n. codes "p\n") (range_with_len 0 130)
+text_of_many_lines = refl
