@@ -34,7 +34,7 @@ class Browser:
         """The answer of a script in the page, which may wait."""
         text = ("const done = arguments[arguments.length - 1]; "
                 f"(async (...given) => {{ {script} }})(...[...arguments].slice(0, -1)).then("
-                "it => done({value: it === undefined ? null : it}), it => done({error: String(it.stack || it)}))")
+                "it => done({value: it === undefined ? null : it}), it => done({error: `${it}\n${it.stack ?? ''}`}))")
         answer = self.command("run", {"script": text, "args": list(arguments)})
         if "error" in answer:
             raise AssertionError(f"{self.name}: {answer['error']}")
@@ -63,10 +63,14 @@ class Browser:
         self.press(*(ENTER if it == "\n" else it for it in text))
 
     def resize(self, width, height):
-        """Gives the page itself this size."""
+        """Gives the page itself this size, or the smallest one that the browser has: Firefox is never below 500."""
         self.command("size", {"width": width, "height": height})
         inner = self.run("return [innerWidth, innerHeight]")
         self.command("size", {"width": 2 * width - inner[0], "height": 2 * height - inner[1]})
+
+    def frame(self, selector):
+        """What is done within it is done in a frame of the page."""
+        return Frame(self, selector)
 
     def picture(self, path):
         pathlib.Path(path).write_bytes(base64.b64decode(self.command("picture", {})))
@@ -78,10 +82,22 @@ class Browser:
         self.close()
 
 
+class Frame:
+    def __init__(self, browser, selector):
+        self.browser, self.selector = browser, selector
+
+    def __enter__(self):
+        found = self.browser.command("find", {"using": "css selector", "value": self.selector})
+        self.browser.command("frame", {"id": found})
+
+    def __exit__(self, *_):
+        self.browser.command("frame", {"id": None})
+
+
 class Chromium(Browser):
     name = "Chromium"
     ROADS = {"open": "url", "run": "execute/async", "find": "element", "actions": "actions", "size": "window/rect",
-             "picture": "screenshot"}
+             "picture": "screenshot", "frame": "frame"}
 
     def __init__(self, *arguments):
         port = free_port()
@@ -148,7 +164,7 @@ class Firefox(Browser):
     name = "Firefox"
     NAMES = {"open": "WebDriver:Navigate", "run": "WebDriver:ExecuteAsyncScript", "find": "WebDriver:FindElement",
              "click": "WebDriver:ElementClick", "actions": "WebDriver:PerformActions", "size": "WebDriver:SetWindowRect",
-             "picture": "WebDriver:TakeScreenshot"}
+             "picture": "WebDriver:TakeScreenshot", "frame": "WebDriver:SwitchToFrame"}
 
     def __init__(self):
         port = free_port()
@@ -200,6 +216,8 @@ class Firefox(Browser):
             parts = {**parts, "sandbox": None, "newSandbox": False}
         if name == "picture":
             parts = {"full": False}
+        if name == "frame" and parts["id"]:
+            parts = {"element": parts["id"][ELEMENT]}
         answer = self.send(self.NAMES[name], parts)
         return answer["value"] if isinstance(answer, dict) and "value" in answer else answer
 

@@ -201,8 +201,9 @@ class Chapter:
         if not command.line.startswith(COMMAND) or not command.is_runnable(self.files):
             self.parts.append(f"<pre>{line}\n{output}</pre>\n")
             return
-        if command.file not in self.starts:
-            self.starts[command.file] = {"libs": command.libs, "input": command.input}
+        start = self.starts.get(command.file)
+        if not start or command.command == "go" != start["command"]:
+            self.starts[command.file] = {"command": command.command, "libs": command.libs, "input": command.input}
         self.parts.append(f'<figure class="command" data-set="{len(self.sets)}"><code>{line}</code>{out}</figure>\n')
 
     def made(self):

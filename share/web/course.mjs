@@ -76,7 +76,7 @@ export class Course {
   /** A program of a chapter, as a file with what its first command gives it. */
   fileOf(set, name) {
     const {libs = [], input = ''} = set.starts[name] ?? {}, text = set.files[name];
-    return {place: set.place, name, text, base: text, libs, input: set.files[input] ?? ''};
+    return {place: set.place, name, text, base: text, libs, input: set.files[input] ?? '', ends: input !== ''};
   }
 
   dressFile(figure) {

@@ -109,14 +109,14 @@ export class Editor {
   put(text) {
     const {left, top} = this.cm.getScrollInfo(), at = this.cm.getCursor();
     this.cm.operation(() => {
-      this.cm.replaceRange(text, {line: 0, ch: 0}, {line: this.cm.lastLine()}, '*put');
+      this.cm.replaceRange(text, {line: 0, ch: 0}, {line: this.cm.lastLine()}, 'put');
       this.cm.setCursor(at);
     });
     this.cm.scrollTo(left, top);
   }
 
   edit({from, to, text}) {
-    this.cm.replaceRange(text, this.cm.posFromIndex(from), this.cm.posFromIndex(to), '*fix');
+    this.cm.replaceRange(text, this.cm.posFromIndex(from), this.cm.posFromIndex(to), 'fix');
     this.cm.focus();
   }
 

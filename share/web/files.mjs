@@ -18,8 +18,8 @@ export function optionsIn(text) {
 }
 
 export class File {
-  constructor({place = '', name, text = '', base = null, edition = '1', libs = [], input = ''}) {
-    Object.assign(this, {place, name, text, base, edition, libs, input});
+  constructor({place = '', name, text = '', base = null, edition = '1', libs = [], input = '', ends = false}) {
+    Object.assign(this, {place, name, text, base, edition, libs, input, ends});
     const told = optionsIn(text);
     if (told) Object.assign(this, {edition: told.edition ?? edition, libs: told.libs});
   }
@@ -94,8 +94,7 @@ export class Files {
   }
 
   keep(file) {
-    const {place, name, text, base, edition, libs, input} = file;
-    this.store.put(`file:${file.key}`, {place, name, text, base, edition, libs, input});
+    this.store.put(`file:${file.key}`, file);
     this.keepOpen();
   }
 

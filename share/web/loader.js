@@ -6,7 +6,7 @@ const unpack = id => {
   return new Response(new Blob([bytes]).stream().pipeThrough(new DecompressionStream("gzip")));
 };
 const failed = it => { document.getElementById("said").textContent = `This browser can't show the page: ${it}`; };
-const page = {};
+const page = window.page = {};
 page.module = async () => WebAssembly.compile(await unpack("module").arrayBuffer());
 (async () => {
   Object.assign(page, await unpack("rest").json());

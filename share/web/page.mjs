@@ -38,7 +38,7 @@ function programOf(file, {text = file.text, lib} = {}) {
   for (const it of withs) given[it.name] = bytesOf(it.text);
   for (const it of there) if (it in data.libs) given[pathOf(it)] = bytesOf(data.libs[it]);
   const words = [`--edition=${file.edition}`, file.name, ...there.flatMap(it => ['--with', pathOf(it)])];
-  return {name: file.name, words, files: given, input: file.input};
+  return {name: file.name, words, files: given, input: file.input, ends: file.ends};
 }
 
 async function check(file, change) {
@@ -105,6 +105,7 @@ function showOptions() {
   });
   $('libs').replaceChildren(element('legend', {}, 'With'), ...boxes);
   $('input').value = program.input;
+  $('ends').checked = program.ends;
 }
 
 function setLib(name, is) {
@@ -260,8 +261,7 @@ const exercises = () => data.exercises.map(it => files.all.get(`exercise/${it.na
 async function handIn() {
   const done = exercises();
   if (!done.length) return say('No exercise is written yet.', 'bad');
-  const name = element('input', {value: store.get('person') ?? '', required: true, pattern: '[^\\/]{1,60}',
-    autocomplete: 'off'});
+  const name = element('input', {value: store.get('person') ?? '', required: true, maxLength: 60, autocomplete: 'off'});
   const rows = done.map(it => {
     const result = store.get(`result:${exerciseOf(it).name}`);
     return element('li', {}, it.name, result ? `: ${result.passed} of ${result.of} tests` : ': not tried');
@@ -335,8 +335,7 @@ async function rename() {
   const file = files.current, name = await askName(`Rename ${file.name}`, file.name);
   if (!name || name === file.name) return;
   if (files.all.has(`/${name}`)) return say(`There is a file ${name} already.`, 'bad');
-  const {text, edition, libs, input} = file;
-  const made = new File({name, text, edition, libs, input});
+  const made = new File({...file, place: '', name, base: null});
   files.all.set(made.key, made);
   files.open = files.open.map(it => it === file ? made : it);
   editor.forget(file);
@@ -399,10 +398,10 @@ function showKept() {
 // ---- Links
 
 async function link() {
-  const {program} = files, {libs, edition, input} = program;
+  const {program} = files, {libs, edition, input, ends} = program;
   const all = [program, ...files.withs(program)].map(it => [it.name, it.text]);
   const fragment = await packed({files: all, libs: libs.filter(it => it in data.libs || all.some(([name]) => name === it)),
-    edition, input});
+    edition, input, ends});
   history.replaceState(null, '', `#${fragment}`);
   const isCopied = await navigator.clipboard?.writeText(location.href).then(() => true, () => false);
   say(`The link is in the address line${isCopied ? ', and copied' : ''}: ${location.href.length} characters.`, 'good');
@@ -417,7 +416,8 @@ async function openLink() {
     if (!program) throw new Error('it has another form');
     const [[name, text], ...more] = program.files;
     for (const [other, its] of more) addFile(nameFrom(other), its);
-    addFile(nameFrom(name), text, {edition: program.edition, libs: program.libs, input: program.input});
+    addFile(nameFrom(name), text, {edition: program.edition, libs: program.libs,
+      input: program.input, ends: program.ends === true});
     say(`${name} is from the link.`);
   } catch (it) {
     openAll([{name: files.freeName('prog.b')}]);
@@ -478,6 +478,10 @@ function wire() {
     files.program.input = $('input').value;
     files.keep(files.program);
   };
+  $('ends').onchange = () => {
+    files.program.ends = $('ends').checked;
+    files.keep(files.program);
+  };
   wireMenus();
   window.addEventListener('beforeprint', fillPrinted);
   window.addEventListener('hashchange', openLink);
@@ -532,12 +536,23 @@ async function start() {
   else openFile(files.current);
   showCourse(store.get('with-course') ?? true);
   pane(isNew ? 'course' : 'program');
+  performance.mark('shown');
   await openLink();
   const ended = await checker.ask(['--version'], {files: {}});
   $('version').textContent = ended.failed ?? textOf(ended.output).split(',')[0];
+  performance.mark('ready');
 }
 
 page.started = start();
 page.started.catch(it => say(String(it), 'bad'));
 // For the script that tries the page.
-Object.assign(page, {files, editor, runs, course, grade, Grading, tester: () => tester ??= new Machine(module, worker)});
+Object.assign(page, {
+  files, editor, runs, course, output, setLib, readFile, Grading,
+  open: given => openFile(files.find(given)),
+  tester: () => tester ??= new Machine(module, worker),
+  async checked() {
+    findings.serial++;
+    clearTimeout(timer);
+    await findings.update(files.program);
+  },
+});

@@ -24,9 +24,9 @@ export class Runs {
   /** Runs the program from its start. Its output before was of another run. */
   async run(options = []) {
     this.stop();
-    const {name, words, files, input} = this.program();
+    const {name, words, files, input, ends} = this.program();
     this.typed = '';
-    this.session = {name, files, words: ['go', '--where', ...options, ...words], input, typed: '', closed: false};
+    this.session = {name, files, words: ['go', '--where', ...options, ...words], input, typed: '', closed: ends};
     this.begin(name, 'It runs ..');
     await this.go();
   }
@@ -53,6 +53,7 @@ export class Runs {
     const ended = await this.machine.ask(words, {files, closed, input: bytesOf(session.input + session.typed),
       skip: this.output.size, write: it => this.session === session && this.output.write(it)});
     if (this.session !== session) return;
+    this.output.flush();
     if (ended.wants) this.wants();
     else this.finish(ended);
   }
@@ -82,6 +83,7 @@ export class Runs {
     this.session = null;
     if (!session) return false;
     if (this.machine.busy) this.machine.stop();
+    this.output.flush();
     this.ended(true);
     return true;
   }
@@ -137,6 +139,7 @@ export class Runs {
     if (this.session !== session) return;
     this.session = null;
     this.ended(true);
+    this.output.flush();
     this.output.put(ended.told ?? '', 'told');
     say(ended.failed ?? `Ended with status ${ended.status}.`, ended.failed ? 'bad' : '');
     this.readOut();
@@ -161,6 +164,11 @@ export class Runs {
     $('frame').srcdoc = textOf(ended.output);
     this.show('steps');
     say('');
+  }
+
+  /** Waits until no run goes on, or one waits for input. */
+  async done() {
+    while (this.session && $('ask').hidden) await new Promise(done => setTimeout(done, 5));
   }
 
   saveOutput(name) { save(`${name.replace(/\.b$/, '')}.txt`, this.output.parts); }

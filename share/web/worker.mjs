@@ -6,8 +6,11 @@ const TOLD_BYTES = 1 << 16; // of standard error
 const BURST = 4000, GAP = 20; // so many messages at once, and then one in so many milliseconds
 const ROOM = 1 << 16;
 
+const SINGLE = 20_000, SOON = 2000; // characters that come singly, and so many milliseconds at most
+
 class WantsInput extends Error {}
 class Full extends Error {}
+class Much extends Error {}
 let program;
 
 /** The input of a run: what was given, then its end, or a stop where more has to be asked for. */
@@ -26,11 +29,13 @@ class Written {
   constructor({id, skip, most, stream}) {
     Object.assign(this, {id, skip, most, stream, room: new Uint8Array(ROOM), size: 0, total: 0, sent: 0});
     this.began = performance.now();
+    this.isSingle = stream;
   }
 
   put(bytes) {
     this.total += bytes.length;
     if (this.total > this.most) throw new Full();
+    if (this.isSingle && this.total > SINGLE) this.change(bytes.length);
     const known = Math.min(this.skip, bytes.length);
     this.skip -= known;
     if (known === bytes.length) return;
@@ -38,6 +43,19 @@ class Written {
     this.room.set(known ? bytes.subarray(known) : bytes, this.size);
     this.size += bytes.length - known;
     if (this.stream && (this.sent < BURST || this.sent < BURST + (performance.now() - this.began) / GAP)) this.send();
+  }
+
+  /** Characters come one by one, so that each is seen at once. Where many come soon, the run is repeated in blocks. */
+  change(size) {
+    this.isSingle = false;
+    this.known = this.total - size;
+    if (performance.now() - this.began < SOON) throw new Much();
+  }
+
+  /** Begins again for a run that is repeated: what was put before is known. */
+  repeat(skip) {
+    this.skip = Math.max(skip, this.known);
+    this.total = 0;
   }
 
   grow(more) {
@@ -73,13 +91,24 @@ function toldOf() {
   };
 }
 
-async function made(request) {
-  const {words, files} = request, written = new Written(request), told = toldOf(), began = performance.now();
-  const io = {files, input: inputOf(request), output: it => written.put(it), diagnostics: it => told.put(it),
-    atOnce: request.stream};
-  const ended = {};
+/** Runs a command, once more in blocks where it writes much. */
+function run(program, request, written, told) {
+  const {words, files} = request;
+  const io = () => ({files, input: inputOf(request), output: it => written.put(it), diagnostics: it => told.put(it),
+    atOnce: written.isSingle});
   try {
-    ended.status = (await program).command(words, io);
+    return program.command(words, io());
+  } catch (it) {
+    if (!(it instanceof Much)) throw it;
+    written.repeat(request.skip);
+    return program.command(words, io());
+  }
+}
+
+async function made(request) {
+  const written = new Written(request), told = toldOf(), began = performance.now(), ended = {};
+  try {
+    ended.status = run(await program, request, written, told);
   } catch (it) {
     if (it instanceof WantsInput) ended.wants = true;
     else if (it instanceof Full) ended.full = true;
