@@ -24,6 +24,9 @@ class Box {
   get firstChild() {
     return this.children[0];
   }
+  get lastChild() {
+    return this.children.at(-1);
+  }
   append(...boxes) {
     this.children.push(...boxes);
   }
@@ -52,16 +55,19 @@ class Box {
     delete this.attributes[name];
   }
   addEventListener() {}
-  before() {}
+  after() {}
 }
 
 function made(page) {
   const between = (start, end) => page.split(start)[1].split(end)[0];
   const rows = between("<tbody>\n", "</tbody>").split("</tr>\n").filter(Boolean)
     .map(row => ({ cells: row.replace("<tr><td>", "").split("<td>").map(textContent => ({ textContent })) }));
+  const end = new Box("p");
+  end.textContent = between('<p id="end">', "</p>");
   const boxes = new Map([
     ["steps", { tBodies: [{ rows }] }],
     ["facts", { textContent: between('id="facts">', "</script>") }],
+    ["end", end],
   ]);
   const document = {
     getElementById: id => boxes.get(id) ?? boxes.set(id, new Box(id)).get(id),
@@ -70,14 +76,26 @@ function made(page) {
     addEventListener() {},
   };
   const script = page.split("<script>")[1].split("</script>")[0];
-  const asks = "return { rows, made, visits, go, show, stops, gloss, box: $ };";
-  return new Function("document", script + asks)(document);
+  const asks = "return { rows, made, visits, go, seek, show, stops, gloss, box: $ };";
+  const place = { hash: "", protocol: "file:" };
+  return new Function("document", "location", "addEventListener", script + asks)(document, place, () => {});
 }
 
-// Each word that a box has, with what stands before and after it.
+// All boxes within a box for which something holds.
+function within(box, is) {
+  return is(box) ? [box] : (box.children ?? []).flatMap(it => within(it, is));
+}
+// Each word that a box has, with what stands before and after it. Of a row of words also what stands below each.
 function told(box) {
-  if (box.dataset?.word !== undefined) return [box.textContent];
-  return (box.children ?? []).flatMap(told);
+  const row = within(box, it => it.className === "cells").flatMap(it => it.children);
+  const below = row.map(it => it.children.map(part => part.textContent).filter(Boolean).join(" | "));
+  return within(box, it => it.dataset?.word !== undefined).map(it => it.textContent).concat(below);
+}
+// The addresses of the words that are marked, and of those that are told as unset.
+function marks(boxes) {
+  const addressed = boxes.flatMap(box => within(box, it => it.dataset?.address !== undefined));
+  const those = is => addressed.filter(is).map(it => it.dataset.address);
+  return [those(it => it.children.some(part => part.tag === "mark")), those(it => "unset" in it.dataset)];
 }
 
 const page = made(readFileSync(process.argv[2], "latin1"));
@@ -85,13 +103,21 @@ const moves = {};
 for (const stop of page.rows.slice(0, 1)) page.stops.add(stop.line);
 for (const [name, move] of Object.entries(page.go)) {
   moves[name] = page.rows.slice(0, page.made).map((_, at) => {
-    page.show(at);
+    page.seek(at);
     return Math.min(page.made, Math.max(0, move()));
   });
 }
+const text = id => page.box(id).textContent;
+const marked = box => within(box, it => it.tag === "mark").map(it => it.textContent).join("");
 const seen = page.visits.map(at => {
   page.show(at);
-  const [step, output] = ["step", "output"].map(id => page.box(id).textContent);
-  return [step, output, told(page.box("calls")), told(page.box("memory"))];
+  const [calls, memory] = ["calls", "memory"].map(page.box), [fresh, unset] = marks([calls, memory]);
+  const gave = within(calls, it => it.className === "gave").map(it => it.textContent);
+  const looked = within(memory, it => it.tag === "div" && it.className !== "words" && it.className !== "cells");
+  return {
+    step: text("step"), output: text("output"), wrote: marked(page.box("output")), legend: text("legend"),
+    hasEnded: !page.box("end").hidden, words: told(calls).concat(told(memory)), fresh, unset, gave,
+    looked: looked.map(marked).join(""), calls: within(calls, it => it.tag === "code").map(it => it.textContent),
+  };
 });
 console.log(JSON.stringify({ visits: page.visits, moves, seen, glosses: page.rows.map(page.gloss) }));

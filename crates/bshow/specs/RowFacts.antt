@@ -47,7 +47,7 @@ facts_begin = refl
 script_begins : take 33 TAIL.now ≡ codes "</script>\n<script>\n\"use strict\";\n"
 script_begins = refl
 
-script_ends : drop (length TAIL.now - 27) TAIL.now ≡ codes "show(0);\n</script>\n</html>\n"
+script_ends : drop (length TAIL.now - 32) TAIL.now ≡ codes "showLinked();\n</script>\n</html>\n"
 script_ends = refl
 
 -- what ends a string, a tag or a comment, and what is no printable character of ASCII

@@ -13,64 +13,98 @@ pub const HEAD: &[u8] = b"\
 <style>\n\
 :root {\n\
 \x20 color-scheme: light dark;\n\
-\x20 --ink: #1a1a1a; --ground: #fff; --line: #767676; --now: #ffe58a; --new: #b9e6b9; --soft: #f1f1f1;\n\
-\x20 --aim: #bcd9ff;\n\
+\x20 --ink: #1a1a1a; --ground: #fff; --line: #767676; --now: #ffe58a; --past: #e3e9f5; --new: #b9e6b9; --soft: #f1f1f1;\n\
+\x20 --aim: #bcd9ff; --stop: #ffd0cc;\n\
 }\n\
 @media (prefers-color-scheme: dark) {\n\
-\x20 :root { --ink: #ededed; --ground: #151515; --line: #8c8c8c; --now: #5b4a00; --new: #1d4d24; --soft: #262626;\n\
-\x20   --aim: #123f73 }\n\
+\x20 :root { --ink: #ededed; --ground: #151515; --line: #8c8c8c; --now: #5b4a00; --past: #29303f; --new: #1d4d24;\n\
+\x20   --soft: #262626; --aim: #123f73; --stop: #6b1f1a }\n\
 }\n\
+* { box-sizing: border-box }\n\
 body {\n\
-\x20 margin: 0 auto; max-width: 75rem; padding: .5rem;\n\
+\x20 margin: 0 auto; max-width: 100rem; padding: .3rem .5rem;\n\
 \x20 font: 1rem/1.4 system-ui, sans-serif; color: var(--ink); background: var(--ground);\n\
 }\n\
-h1 { font-size: 1.3rem; margin: .3rem 0 }\n\
-h2 { font-size: 1rem; margin: .8rem 0 .3rem }\n\
-pre, code, table, .words { font-family: ui-monospace, monospace; font-size: .9rem }\n\
+h1 { font-size: 1.2rem; margin: 0 1rem 0 0 }\n\
+h2 { font-size: 1rem; margin: .4rem 0 .2rem }\n\
+p { margin: .3rem 0 }\n\
+pre, code, table, .words, .cells { font-family: ui-monospace, monospace; font-size: .9rem }\n\
 pre {\n\
-\x20 white-space: pre-wrap; overflow-wrap: anywhere; margin: 0; min-height: 1.4em;\n\
+\x20 white-space: pre-wrap; overflow-wrap: anywhere; margin: 0; min-height: 1.8em;\n\
 \x20 border: 1px solid var(--line); padding: .2rem .4rem;\n\
 }\n\
-#source { max-height: 35vh; overflow: auto; padding: 0 }\n\
-#source > div { padding: 0 .4rem 0 3.2rem; text-indent: -2.8rem }\n\
+#source { overflow: auto; padding: 0; position: relative }\n\
+#source > div { padding: 0 .4rem 0 4.2rem; text-indent: -3.8rem }\n\
+#source > div::before { content: \"  \"; white-space: pre }\n\
 #source button { all: unset; cursor: pointer; white-space: pre; text-indent: 0 }\n\
 #source button:focus-visible { outline: 3px solid #2a7ae2 }\n\
 #source button[aria-pressed=\"true\"] { background: var(--aim); font-weight: bold; text-decoration: underline }\n\
-#source [aria-current] { background: var(--now); outline: 1px solid var(--line); outline-offset: -1px }\n\
+#source .past, #legend .past { background: var(--past) }\n\
+#source [aria-current], #legend .now { background: var(--now); outline: 1px solid var(--line); outline-offset: -1px }\n\
+#source .stop, #legend .stop, #end.stop { background: var(--stop) }\n\
+#source .past::before { content: \"\\2713\\0020\" }\n\
+#source [aria-current]::before { content: \"\\25b6\\0020\" }\n\
+#source .stop::before { content: \"\\2715\\0020\" }\n\
 #source .file { font-weight: bold }\n\
-#controls {\n\
-\x20 position: sticky; top: 0; z-index: 1; padding: .3rem 0;\n\
-\x20 background: var(--ground); border-bottom: 1px solid var(--line);\n\
-}\n\
-#at, #visit { width: 100%; margin: .3rem 0 }\n\
+#legend { margin: .1rem 0; font-size: .9rem; min-height: 1.4em }\n\
+#legend span { padding: 0 .3rem }\n\
+#controls { background: var(--ground); border-bottom: 1px solid var(--line) }\n\
+#told { display: flex; flex-wrap: wrap; gap: 0 1rem; align-items: baseline }\n\
+#told p { margin: 0; font-weight: bold; padding: 0 .3rem }\n\
+a { color: inherit }\n\
+#at, #visit { width: 100%; margin: .2rem 0 }\n\
 [hidden] { display: none !important }\n\
 button {\n\
 \x20 font: inherit; color: inherit; background: var(--soft);\n\
-\x20 min-height: 2.4rem; padding: 0 .7rem; margin: .1rem 0; border: 1px solid var(--line); border-radius: .3rem;\n\
+\x20 min-height: 2.2rem; padding: 0 .6rem; margin: .1rem 0; border: 1px solid var(--line); border-radius: .3rem;\n\
 }\n\
+label { white-space: nowrap }\n\
 :focus-visible { outline: 3px solid #2a7ae2; outline-offset: 1px }\n\
-#parts { display: grid; gap: 0 1rem; grid-template-columns: minmax(0, 1fr) }\n\
-@media (min-width: 48rem) {\n\
-\x20 #parts { grid-template-columns: minmax(0, 1fr) minmax(0, 1fr) }\n\
-\x20 #source { max-height: 70vh }\n\
-}\n\
 mark { background: var(--new); color: inherit; font-weight: bold; text-decoration: underline }\n\
 .aim { background: var(--aim); outline: 2px solid var(--line) }\n\
 .words { display: flex; flex-wrap: wrap; gap: .2rem }\n\
-.words > span { border: 1px solid var(--line); padding: 0 .3rem }\n\
-.words small, #memory small { opacity: .85 }\n\
-.words i { font-style: normal; overflow-wrap: anywhere }\n\
+.words > span, .cells > span > span { border: 1px solid var(--line); padding: 0 .3rem }\n\
+.cells { display: flex; overflow-x: auto; margin: .2rem 0; padding-bottom: .1rem }\n\
+.cells > span { display: flex; flex-direction: column; align-items: center }\n\
+.cells > span > span { display: flex; flex-direction: column; align-items: center; align-self: stretch }\n\
+.cells > span + span > span { border-left: 0 }\n\
+.cells small, .cells > span { white-space: nowrap }\n\
+.cells .index { font-weight: bold; color: var(--ink) }\n\
+.words small, .cells small, #memory small { opacity: .85 }\n\
+.words i, .cells i { font-style: normal; overflow-wrap: anywhere }\n\
 .words i::before { content: \" \" }\n\
-#arrow { position: absolute; top: 0; left: 0; z-index: 2; overflow: visible; pointer-events: none }\n\
-#about { min-height: 1.4em; margin: .3rem 0 }\n\
+.unset { font-weight: normal; font-style: italic; opacity: .85 }\n\
+.gave { margin-left: .5rem }\n\
+#right { position: relative }\n\
+#arrows { position: absolute; top: 0; left: 0; z-index: 2; overflow: visible; pointer-events: none }\n\
+#arrows path { fill: none; stroke: currentColor; stroke-width: 1.5 }\n\
+#about { position: sticky; bottom: 0; z-index: 1; background: var(--ground); border-top: 1px solid var(--line) }\n\
+#about:empty { display: none }\n\
 ol { margin: 0; padding-left: 1.6rem }\n\
 table { border-collapse: collapse }\n\
 th, td { border: 1px solid var(--line); padding: 0 .4rem; text-align: left; vertical-align: top }\n\
+#memory table { width: 100%; table-layout: fixed }\n\
+#memory th { width: 6.5rem; overflow-wrap: anywhere }\n\
 .scroll { overflow: auto }\n\
 @media (scripting: enabled) { #all:not(.shown) > .scroll { display: none } }\n\
+@media (min-width: 48rem) {\n\
+\x20 #view { display: flex; flex-direction: column; height: calc(100vh - .6rem); min-height: 24rem }\n\
+\x20 #parts {\n\
+\x20   flex: 1; min-height: 0; display: grid; gap: 0 1rem; grid-template-columns: minmax(0, 1fr) minmax(0, 1fr);\n\
+\x20   grid-template-rows: minmax(0, 1fr);\n\
+\x20 }\n\
+\x20 #left { display: flex; flex-direction: column; min-height: 0 }\n\
+\x20 #source { flex: 1 1 8rem; min-height: 5rem }\n\
+\x20 #output { flex: 0 1 auto; min-height: 2.9rem; max-height: 9rem; overflow: auto }\n\
+\x20 #input { flex: 0 1 auto; max-height: 4.5rem; overflow: auto }\n\
+\x20 #right { overflow: auto; padding: 0 .3rem .5rem }\n\
+}\n\
 @media (max-width: 48rem) {\n\
-\x20 #source { max-height: 22vh }\n\
-\x20 #output { max-height: 12vh; overflow: auto }\n\
+\x20 #controls { position: sticky; top: 0; z-index: 3; padding: .1rem 0 }\n\
+\x20 #source { max-height: 26vh }\n\
+\x20 #output { max-height: 14vh; overflow: auto }\n\
+\x20 #input { max-height: 5rem; overflow: auto }\n\
+\x20 #memory th { width: 4.5rem }\n\
 }\n\
 @media (max-width: 30rem) {\n\
 \x20 h1 { font-size: 1rem }\n\
@@ -79,18 +113,25 @@ th, td { border: 1px solid var(--line); padding: 0 .4rem; text-align: left; vert
 \x20 #keys { display: none }\n\
 }\n\
 @media print {\n\
-\x20 :root { color-scheme: light; --ink: #000; --ground: #fff; --line: #767676; --now: #ffe58a; --new: #b9e6b9 }\n\
-\x20 #controls button, #controls label, #at, #visit, #keys, #view:not([hidden]) ~ #all { display: none }\n\
+\x20 :root { color-scheme: light; --ink: #000; --ground: #fff; --line: #767676; --now: #ffe58a; --past: #e3e9f5;\n\
+\x20   --new: #b9e6b9; --stop: #ffd0cc }\n\
+\x20 #controls button, #controls label, #controls input, #link, #keys, #view:not([hidden]) ~ #all { display: none }\n\
 \x20 #controls { position: static }\n\
-\x20 #source { max-height: none }\n\
-\x20 mark, [aria-current] { -webkit-print-color-adjust: exact; print-color-adjust: exact }\n\
+\x20 #view, #left { display: block; height: auto }\n\
+\x20 #source, #output, #input { max-height: none; overflow: visible }\n\
+\x20 #right, .cells { overflow: visible }\n\
+\x20 .cells { flex-wrap: wrap }\n\
+\x20 mark, [aria-current], .past, .stop { -webkit-print-color-adjust: exact; print-color-adjust: exact }\n\
 }\n\
 </style>\n\
 <h1 id=\"title\">A run of a program in B</h1>\n\
 <noscript><p>Without scripts this page is a table: one row for each step of the run.</p></noscript>\n\
 <div id=\"view\" hidden>\n\
 <div id=\"controls\">\n\
+<div id=\"told\">\n\
 <output id=\"step\" aria-live=\"polite\"></output>\n\
+<a id=\"link\" href=\"#s=1\">link to this step</a>\n\
+</div>\n\
 <div id=\"gloss\" hidden></div>\n\
 <input id=\"visit\" type=\"range\" min=\"0\" value=\"0\" aria-label=\"Line of the run\">\n\
 <input id=\"at\" type=\"range\" min=\"0\" value=\"0\" aria-label=\"Step\" hidden>\n\
@@ -105,28 +146,31 @@ th, td { border: 1px solid var(--line); padding: 0 .4rem; text-align: left; vert
 <button data-go=\"back\" hidden>Back</button>\n\
 <button data-go=\"on\" hidden>Step</button>\n\
 <label><input id=\"single\" type=\"checkbox\"> Instructions</label>\n\
+<label><input id=\"all-arrows\" type=\"checkbox\"> Arrows</label>\n\
 </div>\n\
-<p id=\"keys\">Keys: Left and Right a line, or a step of instructions, with Shift ten; Home, End; P and L previous and next\n\
-line, O over calls, U out of this call, S next stop, W to the next write, I instructions. A click on the number of a line\n\
-makes it a stop.</p>\n\
 <div id=\"parts\">\n\
-<div>\n\
+<div id=\"left\">\n\
 <h2>Source</h2><pre id=\"source\" tabindex=\"0\" aria-label=\"Source\"></pre>\n\
-<h2>Output so far</h2><pre id=\"output\"></pre>\n\
+<p id=\"legend\"></p>\n\
+<h2>Output so far</h2><pre id=\"output\" tabindex=\"0\" aria-label=\"Output so far\"></pre>\n\
+<div id=\"input-part\"><h2>Input</h2><pre id=\"input\"></pre></div>\n\
 </div>\n\
-<div>\n\
+<div id=\"right\" tabindex=\"0\" role=\"group\" aria-label=\"Calls and memory\">\n\
 <div id=\"single-parts\" hidden><h2>Operands, the topmost last</h2><div id=\"operands\" class=\"words\"></div></div>\n\
 <h2>Active calls, the running one first</h2><ol id=\"calls\"></ol>\n\
+<div id=\"memory-part\"><h2>Memory</h2><div id=\"memory\"></div></div>\n\
+<p>A word is a number. After it stands what it was made as: where an address leads, the name of a function or a label,\n\
+or a character that was read or that stands so in its line. That goes by the steps that made it, and where these aren't\n\
+here, by what lies at that address. A word can always be meant otherwise: a click on it tells all that it can be. Marked\n\
+is what was stored since the position shown before. Below a vector stand its indices, and the words used as one.</p>\n\
+<p id=\"keys\">Keys: Left and Right a line, or a step of instructions, with Shift ten; Home, End; P and L previous and\n\
+next line, O over calls, U out of this call, S next stop, W to the next write, I instructions, A arrows. A click on the\n\
+number of a line makes it a stop.</p>\n\
 <p id=\"about\" aria-live=\"polite\"></p>\n\
-<h2>Input</h2><pre id=\"input\"></pre>\n\
-<h2>Memory</h2><div id=\"memory\" class=\"scroll\"></div>\n\
-<p>A word is a number. After it stands what it was made as: where an address leads, the name of a function or a label, or\n\
-a character that was read or that stands so in its line. That goes by the steps that made it, and where these aren't\n\
-here, by what lies at that address. A word can always be meant otherwise: a click on it tells all that it can be.</p>\n\
+<svg id=\"arrows\" width=\"1\" height=\"1\" aria-hidden=\"true\"></svg>\n\
 </div>\n\
 </div>\n\
 </div>\n\
-<svg id=\"arrow\" width=\"1\" height=\"1\" aria-hidden=\"true\"></svg>\n\
 <details id=\"all\" open>\n\
 <summary>All steps as a table</summary>\n\
 <p>A row tells the machine before a step, and then what the step did: the address from which on it stored words,\n\
@@ -181,7 +225,7 @@ const rows = [...$(\"steps\").tBodies[0].rows].map(({ cells }) => {\n\
 \x20 return {\n\
 \x20   step: number(0), name: text(1), place: number(2), line: number(3), code: text(4), operands: list(5),\n\
 \x20   depth: number(6), start: number(7), isMade: cells.length > 8, address: cells[8] && number(8), before: list(9),\n\
-\x20   stored: list(10), read: text(11), written: text(12), below: null,\n\
+\x20   stored: list(10), read: text(11), written: text(12), below: null, began: undefined,\n\
 \x20 };\n\
 });\n\
 const made = rows.filter(row => row.isMade).length;\n\
@@ -205,7 +249,8 @@ const spots = facts.definitions.map(([from, name, size, frame], k) => {\n\
 \x20 return { from, to, name, texts: from + 1, isFunction: true };\n\
 });\n\
 \n\
-// The calls below each one, as a chain. Those that were there before the first row are told by the row after their\n\
+// The calls below each one, as a chain, and by which row a call began, where that is known. Those that were there\n\
+// before the first row are told by the row after their\n\
 // callee returned, or at the step for which all calls are told.\n\
 function fill(call, name, start) {\n\
 \x20 if (call && call.name === undefined) Object.assign(call, { name, start });\n\
@@ -214,12 +259,12 @@ let unknown = null;\n\
 for (let k = 0; k < (rows[0]?.depth ?? 0); k++) unknown = { below: unknown };\n\
 rows.forEach((row, k) => {\n\
 \x20 const last = rows[k - 1];\n\
-\x20 if (!last) row.below = unknown;\n\
-\x20 else if (row.depth > last.depth) row.below = last;\n\
+\x20 if (!last) Object.assign(row, { below: unknown, began: row.step === 1 ? 0 : undefined });\n\
+\x20 else if (row.depth > last.depth) Object.assign(row, { below: last, began: k - 1 });\n\
 \x20 else if (row.depth < last.depth) {\n\
 \x20   fill(last.below, row.name, row.start);\n\
-\x20   row.below = last.below.below;\n\
-\x20 } else row.below = last.below;\n\
+\x20   Object.assign(row, { below: last.below.below, began: last.below.began });\n\
+\x20 } else Object.assign(row, { below: last.below, began: last.began });\n\
 });\n\
 facts.calls.pop();\n\
 let told = rows.find(row => row.step === facts.calls_at + 1)?.below;\n\
@@ -233,14 +278,19 @@ const words = new Map();\n\
 for (let k = 0; k + 1 < facts.words.length; k += 2) words.set(facts.words[k], facts.words[k + 1]);\n\
 for (const row of rows) row.stored.forEach((_, k) => words.has(row.address + k) || words.set(row.address + k, 0));\n\
 const first = 7;\n\
-const stores = new Set(rows.flatMap(row => row.stored.map((_, k) => row.address + k)));\n\
+// The rows whose steps stored the word at an address.\n\
+const stores = new Map();\n\
+rows.forEach((row, at) => row.stored.forEach((_, k) => {\n\
+\x20 if (!stores.has(row.address + k)) stores.set(row.address + k, []);\n\
+\x20 stores.get(row.address + k).push(at);\n\
+}));\n\
 const used = [...words.keys()].filter(a => a >= first || stores.has(a)).sort((a, b) => a - b);\n\
 let at = made;\n\
 const range = (from, to) => Array.from({ length: to - from }, (_, k) => from + k);\n\
 \n\
 const ESCAPES = { 0: \"*0\", 4: \"*e\", 9: \"*t\", 10: \"*n\", 34: \"*\\\"\", 39: \"*'\", 42: \"**\" };\n\
 // What a word was made as, which no word tells by itself: it goes with the word through the steps.\n\
-const NUMBER = 1, ADDRESS = 2, FUNCTION = 3, LABEL = 4, CHARACTER = 5;\n\
+const NUMBER = 1, ADDRESS = 2, FUNCTION = 3, LABEL = 4, CHARACTER = 5, PAIR = 6;\n\
 const kinds = new Map();\n\
 const unsigned = word => word & 65535;\n\
 function kindAt(address) {\n\
@@ -279,7 +329,7 @@ function follow(row, stack, isCall) {\n\
 \x20   if (isCall) return given;\n\
 \x20   const name = values.get(unsigned(row.operands.at(-1 - given.length) ?? 0));\n\
 \x20   stack.push({ char: CHARACTER, getchar: CHARACTER, putchar: given[0], lchar: given[2] }[name] ?? NUMBER);\n\
-\x20   return [];\n\
+\x20   return [name === \"lchar\" ? PAIR : undefined];\n\
 \x20 }\n\
 \x20 return stack.slice(-1);\n\
 }\n\
@@ -305,6 +355,33 @@ rows.forEach((row, k) => {\n\
 \x20 put(row, row.stored, row.kept);\n\
 });\n\
 at = made;\n\
+\n\
+// The words that were used as an index: of a function, or of the definitions, the word with the index and that with the\n\
+// address to which it was added, or from which on a character was looked at.\n\
+function own(row, address) {\n\
+\x20 const k = address - row.start, frame = functions.get(row.name)?.frame ?? 0;\n\
+\x20 if (k >= 0 && k < frame) return { offset: k };\n\
+\x20 return address >= first && address < end ? { address } : null;\n\
+}\n\
+function indexIn(row, k) {\n\
+\x20 const isChar = row.code === \"k 2\" && values.get(unsigned(row.operands.at(-3))) === \"char\";\n\
+\x20 if (!isChar && (row.code !== \"b +\" || row.kinds.at(-2) !== ADDRESS)) return null;\n\
+\x20 const [base, , index] = rows.slice(Math.max(0, k - 3), k);\n\
+\x20 if (!index || base.code !== \"v\" || !/^(v|i \\d)$/.test(index.code) || index.depth !== base.depth) return null;\n\
+\x20 const [from, by] = [base, index].map(it => own(row, unsigned(it.operands.at(-1))));\n\
+\x20 return from && by && { k, name: row.name, from, by, isChar };\n\
+}\n\
+// These uses in their order, by function and word.\n\
+const uses = new Map();\n\
+for (const use of rows.map(indexIn).filter(Boolean)) {\n\
+\x20 const key = JSON.stringify([use.name, use.by]);\n\
+\x20 uses.set(key, [...uses.get(key) ?? [], use]);\n\
+}\n\
+\n\
+// The row of the step that comes next; after the run, that of its last step.\n\
+const isOver = () => at === made && !rows[at];\n\
+const running = () => rows[at] ?? rows[made - 1];\n\
+const isStopped = $(\"end\").textContent.includes(\"stopped by\");\n\
 \n\
 function seek(to) {\n\
 \x20 for (; at < to; at++) put(rows[at], rows[at].stored, rows[at].kept);\n\
@@ -348,9 +425,9 @@ function inFrame(call, address) {\n\
 \x20 return named ? named[0] + (k > named[1] ? \"[\" + (k - named[1] - 1) + \"]\" : \"\") : \"@\" + address;\n\
 }\n\
 function nameAt(address) {\n\
-\x20 for (let call = rows[at]; call; call = call.below) {\n\
+\x20 for (let call = running(); call; call = call.below) {\n\
 \x20   const name = inFrame(call, address);\n\
-\x20   if (name) return call === rows[at] ? name : name + \" of \" + call.name;\n\
+\x20   if (name) return call === running() ? name : name + \" of \" + call.name;\n\
 \x20 }\n\
 \x20 const spot = spots.find(it => it.from <= address && address < it.to);\n\
 \x20 if (!spot) return \"\";\n\
@@ -377,6 +454,7 @@ function meant(word, kind) {\n\
 \x20 }\n\
 \x20 if (kind === FUNCTION) return values.get(a) ?? \"\";\n\
 \x20 if (kind === LABEL) return \"a label\";\n\
+\x20 if (kind === PAIR) return '\"' + character(a & 255) + character(a >> 8) + '\"';\n\
 \x20 return kind === CHARACTER ? constantText(a) : \"\";\n\
 }\n\
 // All that a word can be.\n\
@@ -409,27 +487,60 @@ function withMeaning(box, word, kind) {\n\
 \x20 }\n\
 \x20 return box;\n\
 }\n\
-// A word of memory, with a name or an address, marked where the last step stored it.\n\
-function word(address, name, fresh) {\n\
-\x20 const box = element(\"span\");\n\
+// Whether nothing has set a word of a frame since its call began.\n\
+function isUnset(call, address) {\n\
+\x20 const by = stores.get(address)?.findLast(k => k < at);\n\
+\x20 return call?.began !== undefined && !(by >= call.began);\n\
+}\n\
+// A word of memory, with a name or an address, marked where it was stored since the position that was shown before.\n\
+function word(address, name, fresh, { call, kind } = {}) {\n\
+\x20 const box = element(\"span\"), value = words.get(address) ?? 0;\n\
 \x20 box.dataset.address = address;\n\
 \x20 box.append(element(\"small\", name + \" \"));\n\
-\x20 box.append(element(fresh.has(address) ? \"mark\" : \"b\", words.get(address) ?? 0));\n\
-\x20 return withMeaning(box, words.get(address) ?? 0, kindAt(address));\n\
+\x20 if (isUnset(call, address)) {\n\
+\x20   box.append(element(\"b\", \"unset\", \"unset\"));\n\
+\x20   box.dataset.word = value;\n\
+\x20   box.dataset.unset = \"\";\n\
+\x20   return box;\n\
+\x20 }\n\
+\x20 box.append(element(fresh.has(address) ? \"mark\" : \"b\", value));\n\
+\x20 return withMeaning(box, value, kind ?? kindAt(address));\n\
 }\n\
 \n\
-function boxes(list, left) {\n\
-\x20 const all = element(\"div\", undefined, \"words\");\n\
-\x20 all.append(...list);\n\
+// Of many words the first ones are shown, and of the others those that were stored or that an index leads to.\n\
+const LONGEST = 200;\n\
+function boxes(addresses, fresh, make, name) {\n\
+\x20 const some = addresses.filter((a, k) => k < LONGEST || fresh.has(a));\n\
+\x20 const left = addresses.length - some.length, all = element(\"div\", undefined, name);\n\
+\x20 all.append(...some.map(make));\n\
 \x20 if (left) all.append(element(\"span\", \".. \" + left + \" more\"));\n\
 \x20 return all;\n\
 }\n\
+const some = (addresses, fresh, make) => boxes(addresses, fresh, make, \"words\");\n\
 \n\
-// Words by their addresses. Of many the first ones are shown, and of the others those that the last step stored.\n\
-const LONGEST = 200;\n\
-function some(addresses, fresh, name = a => \"@\" + a) {\n\
-\x20 const list = addresses.filter((a, k) => k < LONGEST || fresh.has(a)).map(a => word(a, name(a), fresh));\n\
-\x20 return boxes(list, addresses.length - list.length);\n\
+// The words of active calls that are an index, each with the address to which it was added last, and where that leads.\n\
+function leading() {\n\
+\x20 const last = [...uses.values()].map(list => list.findLast(it => it.k < at) ?? list[0]), led = [];\n\
+\x20 for (let call = running(); call; call = call.below) {\n\
+\x20   for (const { from, by, isChar } of last.filter(it => it.name === call.name)) {\n\
+\x20     const [start, index] = [from, by].map(it => it.address ?? unsigned(call.start + it.offset));\n\
+\x20     if (isUnset(by.address ? null : call, index)) continue;\n\
+\x20     const base = unsigned(words.get(start) ?? 0), value = words.get(index) ?? 0;\n\
+\x20     led.push({ base, to: unsigned(base + (isChar ? value >> 1 : value)), name: nameAt(index) });\n\
+\x20   }\n\
+\x20 }\n\
+\x20 return led;\n\
+}\n\
+let leads = [];\n\
+// Words in one row, each with what stands below it: its index, and the names of the words that lead there.\n\
+function cells(addresses, fresh, indexOf, options) {\n\
+\x20 const led = leads.filter(it => addresses[0] <= it.base && it.base <= addresses.at(-1));\n\
+\x20 return boxes(addresses, fresh, a => {\n\
+\x20   const cell = element(\"span\"), names = new Set(led.filter(it => it.to === a).map(it => it.name));\n\
+\x20   cell.append(word(a, \"@\" + a, fresh, options), element(\"small\", indexOf(a)));\n\
+\x20   if (names.size) cell.append(element(\"small\", [...names].join(\" \"), \"index\"));\n\
+\x20   return cell;\n\
+\x20 }, \"cells\");\n\
 }\n\
 \n\
 // The source, a line each, each file with its own numbers.\n\
@@ -454,72 +565,117 @@ facts.parts.forEach(([name, count], k) => {\n\
 const place = line => places[line - 1] ?? \"line \" + line;\n\
 $(\"title\").textContent = document.title = shown(facts.parts[0][0]) + \", step by step\";\n\
 \n\
-function showCalls(row, fresh) {\n\
+// What calls gave since a position: those that the running call made, of the library `char` and `getchar`.\n\
+function given(since, row) {\n\
+\x20 const gave = [];\n\
+\x20 for (let k = since; k < at; k++) {\n\
+\x20   const { code, depth, operands, kinds, name } = rows[k], next = rows[k + 1];\n\
+\x20   if (code === \"r\" && depth === row.depth + Number(row !== rows[k])) {\n\
+\x20     gave.push([\"returned\", name, operands.at(-1), kinds.at(-1)]);\n\
+\x20   }\n\
+\x20   if (!next || depth !== row.depth || next.depth !== depth || !code.startsWith(\"k \")) continue;\n\
+\x20   const called = values.get(unsigned(operands.at(-1 - Number(code.slice(2)))));\n\
+\x20   if (called === \"char\" || called === \"getchar\") gave.push([\"gave\", called, next.operands.at(-1), next.kinds.at(-1)]);\n\
+\x20 }\n\
+\x20 return gave.slice(-MOST_GIVEN).map(([verb, name, value, kind]) => {\n\
+\x20   const line = element(\"div\", `${name} ${verb} `, \"gave\"), box = element(\"span\");\n\
+\x20   box.append(element(\"mark\", value));\n\
+\x20   line.append(withMeaning(box, value, kind));\n\
+\x20   return line;\n\
+\x20 });\n\
+}\n\
+const MOST_GIVEN = 4;\n\
+\n\
+// The words of a frame: each vector stands in a row below its own word.\n\
+function showFrame(call, fresh) {\n\
+\x20 const f = functions.get(call.name) ?? { parameters: 0, frame: 0, names: [] }, parts = [];\n\
+\x20 const address = k => unsigned(call.start + k), offset = a => unsigned(a - call.start);\n\
+\x20 const name = k => inFrame({ name: call.name, start: 0 }, k).replace(/^@.*/, \"\");\n\
+\x20 const box = a => word(a, [\"@\" + a, name(offset(a))].join(\" \").trimEnd(), fresh, { call });\n\
+\x20 const starts = [...new Set([0, ...f.names.map(it => it[1])])].sort((a, b) => a - b);\n\
+\x20 let singles = [];\n\
+\x20 starts.forEach((from, n) => {\n\
+\x20   const to = Math.min(f.frame, starts[n + 1] ?? f.frame);\n\
+\x20   const isNamed = f.names.some(it => it[1] === from), inside = range(Math.min(to, from + 1), to).map(address);\n\
+\x20   if (from < to) singles.push(address(from));\n\
+\x20   if (!isNamed) singles.push(...inside);\n\
+\x20   else if (inside.length) {\n\
+\x20     parts.push(some(singles, fresh, box), cells(inside, fresh, a => \"[\" + (offset(a) - from - 1) + \"]\", { call }));\n\
+\x20     singles = [];\n\
+\x20   }\n\
+\x20 });\n\
+\x20 return [...parts, some(singles, fresh, box)];\n\
+}\n\
+\n\
+function showCalls(row, fresh, since) {\n\
 \x20 $(\"calls\").replaceChildren();\n\
 \x20 for (let call = row; call; call = call.below) {\n\
-\x20   const f = functions.get(call.name) ?? { parameters: 0, frame: 0, names: [] };\n\
 \x20   const item = element(\"li\");\n\
 \x20   item.append(element(\"code\", call.name ?? \"?\"), call.line ? \" \" + place(call.line) : \"\");\n\
-\x20   const list = [];\n\
-\x20   let left = 0;\n\
-\x20   for (let k = 0; k < f.frame; k++) {\n\
-\x20     const a = (call.start + k) % 65536;\n\
-\x20     if (k >= LONGEST && !fresh.has(a)) {\n\
-\x20       left++;\n\
-\x20       continue;\n\
-\x20     }\n\
-\x20     list.push(word(a, inFrame({ name: call.name, start: 0 }, k).replace(/^@.*/, \"@\" + a), fresh));\n\
-\x20   }\n\
-\x20   item.append(boxes(list, left));\n\
+\x20   item.append(...call === row ? given(since, row) : [], ...showFrame(call, fresh));\n\
 \x20   $(\"calls\").append(item);\n\
 \x20 }\n\
 }\n\
 \n\
-// A string as text. The character that a call looks at is marked, and those that words of frames lead to.\n\
-function shownText({ from, bytes }, row) {\n\
-\x20 const ends = bytes.indexOf(4) < 0 ? bytes.length : bytes.indexOf(4) + 1, marks = new Set();\n\
+// The characters that calls of `char` and `lchar` look at, from a position to the next step.\n\
+function lookedAt(since) {\n\
+\x20 const seen = new Set(), to = $(\"single\").checked ? at : at - 1;\n\
+\x20 for (const { code, operands } of rows.slice(since, to + 1)) {\n\
+\x20   const given = code.startsWith(\"k \") ? operands.slice(-1 - Number(code.slice(2))) : [];\n\
+\x20   if (![\"char\", \"lchar\"].includes(values.get(unsigned(given[0] ?? 0)))) continue;\n\
+\x20   seen.add(2 * unsigned(given[1]) + unsigned(given[2] ?? 0));\n\
+\x20 }\n\
+\x20 return seen;\n\
+}\n\
+// A string as text. The characters that were looked at are marked, and those underlined to which words of frames lead.\n\
+function shownText({ from, bytes }, row, looked) {\n\
+\x20 const ends = bytes.indexOf(4) < 0 ? bytes.length : bytes.indexOf(4) + 1, aims = new Set();\n\
 \x20 for (let call = row; call; call = call.below) {\n\
 \x20   for (let k = 0; k < (functions.get(call.name)?.frame ?? 0); k++) {\n\
 \x20     const a = (call.start ?? 0) + k, to = unsigned(words.get(a) ?? 0);\n\
-\x20     if (kindAt(a) === ADDRESS && to > from) marks.add(2 * (to - from));\n\
+\x20     if (kindAt(a) === ADDRESS && to > from) aims.add(2 * (to - from));\n\
 \x20   }\n\
-\x20 }\n\
-\x20 const given = row?.code.startsWith(\"k \") ? row.operands.slice(-1 - Number(row.code.slice(2))) : [];\n\
-\x20 if ([\"char\", \"lchar\"].includes(values.get(unsigned(given[0] ?? 0)))) {\n\
-\x20   marks.add(2 * (unsigned(given[1]) - from) + unsigned(given[2] ?? 0));\n\
 \x20 }\n\
 \x20 const box = element(\"div\");\n\
 \x20 box.append('\"');\n\
 \x20 bytes.slice(0, Math.min(ends, LONGEST)).forEach((byte, k) => {\n\
-\x20   box.append(marks.has(k) ? element(\"mark\", character(byte)) : character(byte));\n\
+\x20   const tag = looked.has(2 * from + k) ? \"mark\" : aims.has(k) ? \"u\" : null;\n\
+\x20   box.append(tag ? element(tag, character(byte)) : character(byte));\n\
 \x20 });\n\
 \x20 box.append(ends > LONGEST ? \"..\" : '\"');\n\
 \x20 return box;\n\
 }\n\
 \n\
-function showMemory(row, fresh) {\n\
-\x20 const table = element(\"table\");\n\
-\x20 const add = (name, addresses, inside) => {\n\
+function showMemory(row, fresh, since) {\n\
+\x20 const table = element(\"table\"), looked = lookedAt(since);\n\
+\x20 const add = (name, ...parts) => {\n\
 \x20   const line = table.insertRow();\n\
 \x20   line.append(element(\"th\", name));\n\
-\x20   line.insertCell().append(some(addresses, fresh, inside && (a => \"@\" + a + \" \" + name + inside(a))));\n\
-\x20   return line.cells[1];\n\
+\x20   line.insertCell().append(...parts);\n\
+\x20   return line;\n\
 \x20 };\n\
+\x20 const box = (a, name) => word(a, [\"@\" + a, name].join(\" \").trimEnd(), fresh);\n\
 \x20 for (const spot of spots) {\n\
-\x20   const inside = a => a === spot.from ? \"\" : spot.isVector ? \"[\" + (a - spot.from - 1) + \"]\" : \"+\" + (a - spot.from);\n\
-\x20   if (!spot.isFunction) add(spot.name, range(spot.from, spot.texts), inside);\n\
-\x20   for (const text of spot.texts < spot.to ? textsOf(spot) : []) {\n\
-\x20     const line = add(spot.name + \"'s string\", range(text.from, text.from + text.bytes.length / 2));\n\
-\x20     line.prepend(shownText(text, row));\n\
+\x20   const { name, from, texts, to, isVector, isFunction } = spot;\n\
+\x20   if (isVector) {\n\
+\x20     const row = cells(range(from + 1, texts), fresh, a => \"[\" + (a - from - 1) + \"]\");\n\
+\x20     add(name, some([from], fresh, a => box(a, name)), row);\n\
+\x20   } else if (!isFunction || stores.has(from)) {\n\
+\x20     add(name, some(range(from, texts), fresh, a => box(a, name + (a > from ? \"+\" + (a - from) : \"\"))));\n\
+\x20   }\n\
+\x20   for (const text of texts < to ? textsOf(spot) : []) {\n\
+\x20     const own = range(text.from, text.from + text.bytes.length / 2);\n\
+\x20     add(name + \"'s string\", shownText(text, row, looked), cells(own, fresh, () => \"\", { kind: PAIR }));\n\
 \x20   }\n\
 \x20 }\n\
 \x20 let free = end;\n\
 \x20 for (let call = row; call; call = call.below) {\n\
 \x20   free = Math.max(free, (call.start ?? 0) + (functions.get(call.name)?.frame ?? 0));\n\
 \x20 }\n\
-\x20 const others = used.filter(a => a >= free || a < first);\n\
-\x20 if (others.length) add(\"other words\", others);\n\
+\x20 const others = used.filter(a => (a >= free || a < first) && (words.get(a) || stores.get(a)?.[0] < at));\n\
+\x20 if (others.length) add(\"other words\", some(others, fresh, a => box(a, \"\"))).className = \"others\";\n\
 \x20 $(\"memory\").replaceChildren(table);\n\
+\x20 $(\"memory-part\").hidden = !table.lastChild;\n\
 }\n\
 \n\
 // What an instruction does, in words.\n\
@@ -560,25 +716,43 @@ function gloss({ code, operands, start, name }) {\n\
 \x20 return \"\";\n\
 }\n\
 \n\
-// Marks the word to which a box leads and those that lead to it, with an arrow from a box that is seen.\n\
+// An arrow from a box to the word to which it leads, by the edges that lie nearest.\n\
+function arrow(box, there, hue) {\n\
+\x20 const edge = $(\"arrows\").getBoundingClientRect();\n\
+\x20 const [from, into] = [box, there].map(it => it.getBoundingClientRect());\n\
+\x20 const isBelow = into.top >= from.bottom, isAbove = into.bottom <= from.top;\n\
+\x20 const start = (isBelow ? from.bottom : from.top) - edge.top, stop = (isAbove ? into.bottom : into.top) - edge.top;\n\
+\x20 const bend = Math.max(16, Math.abs(stop - start) / 2), head = isAbove ? 6 : -6;\n\
+\x20 const x = (it, { left, width }) => {\n\
+\x20   const row = it.closest(\".cells\")?.getBoundingClientRect();\n\
+\x20   return Math.min(row?.right ?? Infinity, Math.max(row?.left ?? 0, left + width / 2)) - edge.left;\n\
+\x20 };\n\
+\x20 const [x1, x2] = [x(box, from), x(there, into)];\n\
+\x20 const line = document.createElementNS(\"http://www.w3.org/2000/svg\", \"path\");\n\
+\x20 line.setAttribute(\"d\", `M${x1} ${start}C${x1} ${start + (isBelow ? bend : -bend)} ${x2} `\n\
+\x20   + `${stop + (isAbove ? bend : -bend)} ${x2} ${stop}l-4 ${head}m4 ${-head}l4 ${head}`);\n\
+\x20 line.style.stroke = `hsl(${hue} 75% 45%)`;\n\
+\x20 return line;\n\
+}\n\
+// The arrows that are seen: of all words, or of the one that is aimed at.\n\
+let aimed = null;\n\
+function drawArrows() {\n\
+\x20 const ofCalls = \"#right [data-to]:not(.others *)\";\n\
+\x20 const all = $(\"all-arrows\").checked ? document.querySelectorAll(ofCalls) : [aimed].filter(Boolean);\n\
+\x20 const there = box => [...document.querySelectorAll(`[data-address=\"${box.dataset.to}\"]`)].find(it => it !== box);\n\
+\x20 const pairs = [...all].map(box => [box, there(box)]).filter(it => it[1] && it[0].offsetParent);\n\
+\x20 $(\"arrows\").replaceChildren(...pairs.map(([box, it], k) => arrow(box, it, 215 + 67 * k)));\n\
+}\n\
+// Marks the word to which a box leads and those that lead to it.\n\
 function aim(box) {\n\
 \x20 document.querySelectorAll(\".aim\").forEach(it => it.classList.remove(\"aim\"));\n\
-\x20 $(\"arrow\").replaceChildren();\n\
-\x20 if (!box) return;\n\
-\x20 const { to, address } = box.dataset;\n\
-\x20 const there = [...document.querySelectorAll(`[data-address=\"${to}\"]`)].find(it => it !== box);\n\
-\x20 there?.classList.add(\"aim\");\n\
-\x20 if (address) document.querySelectorAll(`[data-to=\"${address}\"]`).forEach(it => it.classList.add(\"aim\"));\n\
-\x20 if (!there) return;\n\
-\x20 const [from, into] = [box, there].map(it => it.getBoundingClientRect());\n\
-\x20 const line = document.createElementNS(\"http://www.w3.org/2000/svg\", \"path\");\n\
-\x20 const [x, y] = [scrollX, scrollY], right = Math.max(from.right, into.right) + 24;\n\
-\x20 const height = it => it.top + it.height / 2 + y;\n\
-\x20 line.setAttribute(\"d\", `M${from.right + x} ${height(from)}C${right + x} ${height(from)} ${right + x} ${height(into)} `\n\
-\x20   + `${into.right + x} ${height(into)}l7 -4m-7 4l7 4`);\n\
-\x20 line.setAttribute(\"fill\", \"none\");\n\
-\x20 line.setAttribute(\"stroke\", \"currentColor\");\n\
-\x20 $(\"arrow\").append(line);\n\
+\x20 aimed = box;\n\
+\x20 if (box) {\n\
+\x20   const { to, address } = box.dataset;\n\
+\x20   if (to) document.querySelectorAll(`[data-address=\"${to}\"]`).forEach(it => it !== box && it.classList.add(\"aim\"));\n\
+\x20   if (address) document.querySelectorAll(`[data-to=\"${address}\"]`).forEach(it => it.classList.add(\"aim\"));\n\
+\x20 }\n\
+\x20 drawArrows();\n\
 }\n\
 \n\
 // What was written or read before each row, by its length.\n\
@@ -607,45 +781,88 @@ function marked(box, text, from, to) {\n\
 \x20 box.replaceChildren(text.slice(0, from), ...part, text.slice(to));\n\
 }\n\
 \n\
-function show(to) {\n\
-\x20 seek(Math.min(made, Math.max(0, to)));\n\
-\x20 const row = rows[at], last = rows[at - 1];\n\
-\x20 const fresh = new Set(last ? last.stored.map((_, k) => last.address + k) : []);\n\
-\x20 $(\"at\").value = at;\n\
-\x20 const single = $(\"single\").checked, unmade = row?.isMade === false ? \" (not made)\" : \"\";\n\
-\x20 $(\"step\").textContent = !row ? made ? `After step ${last.step}` : \"No step\"\n\
+// The source beside a position: the line that was made last, and the next one, or that where the run was stopped.\n\
+function showLines(row) {\n\
+\x20 const last = rows[at - 1], legend = [];\n\
+\x20 lines.forEach(line => {\n\
+\x20   line.removeAttribute(\"aria-current\");\n\
+\x20   line.classList.remove(\"past\", \"stop\");\n\
+\x20   line.firstChild.tabIndex = -1;\n\
+\x20 });\n\
+\x20 if (last && !(isOver() && isStopped)) {\n\
+\x20   lines[last.line - 1]?.classList.add(\"past\");\n\
+\x20   legend.push(element(\"span\", `\\u2713 just made: ${last.name}, ${place(last.line)}`, \"past\"));\n\
+\x20 }\n\
+\x20 const next = isOver() && !isStopped ? null : row, line = lines[(next ?? last)?.line - 1];\n\
+\x20 if (next) {\n\
+\x20   const name = isOver() ? \"stop\" : \"now\", what = isOver() ? \"\\u2715 stopped in\" : \"\\u25b6 next\";\n\
+\x20   line?.setAttribute(\"aria-current\", \"step\");\n\
+\x20   if (isOver()) line?.classList.add(\"stop\");\n\
+\x20   legend.push(element(\"span\", `${what}: ${next.name}, ${place(next.line)}`, name));\n\
+\x20 }\n\
+\x20 $(\"legend\").replaceChildren(...legend);\n\
+\x20 if (!line) return;\n\
+\x20 line.firstChild.tabIndex = 0;\n\
+\x20 const box = $(\"source\"), y = line.offsetTop, height = box.clientHeight;\n\
+\x20 if (y < box.scrollTop || y + line.offsetHeight > box.scrollTop + height) box.scrollTop = y - height / 3;\n\
+}\n\
+\n\
+// Where the run is, in words, and how it ended, once it did.\n\
+function showPlace(row, single) {\n\
+\x20 const unmade = row?.isMade === false ? \" (not made)\" : \"\";\n\
+\x20 $(\"step\").textContent = !row ? \"No step\" : isOver() ? `After step ${row.step}`\n\
 \x20   : single ? `Step ${row.step}: ${row.name}, place ${row.place}, ${place(row.line)}, ${row.code}${unmade}`\n\
 \x20     : `${row.name}, ${place(row.line)}, before step ${row.step}${unmade}`;\n\
-\x20 $(\"gloss\").textContent = row ? row.code + \": \" + gloss(row) : \"\";\n\
+\x20 $(\"gloss\").textContent = isOver() ? \"\" : row.code + \": \" + gloss(row);\n\
+\x20 $(\"at\").value = at;\n\
 \x20 $(\"visit\").value = visits.findLastIndex(k => k <= at);\n\
 \x20 $(\"at\").setAttribute(\"aria-valuetext\", $(\"step\").textContent);\n\
 \x20 $(\"visit\").setAttribute(\"aria-valuetext\", $(\"step\").textContent);\n\
-\x20 aim();\n\
-\x20 lines.forEach(line => {\n\
-\x20   line.removeAttribute(\"aria-current\");\n\
-\x20   line.firstChild.tabIndex = -1;\n\
-\x20 });\n\
-\x20 const line = lines[(row?.line ?? 0) - 1];\n\
-\x20 if (line) {\n\
-\x20   line.setAttribute(\"aria-current\", \"step\");\n\
-\x20   line.firstChild.tabIndex = 0;\n\
-\x20   const box = $(\"source\"), y = line.offsetTop - box.offsetTop, height = box.clientHeight;\n\
-\x20   if (y < box.scrollTop || y + line.offsetHeight > box.scrollTop + height) box.scrollTop = y - height / 3;\n\
-\x20 }\n\
-\x20 $(\"operands\").replaceChildren(...(row?.operands ?? []).map((word, k) => {\n\
-\x20   const box = element(\"span\");\n\
-\x20   box.append(element(\"b\", word));\n\
-\x20   return withMeaning(box, word, row.kinds[k]);\n\
-\x20 }));\n\
-\x20 showCalls(row, fresh);\n\
-\x20 showMemory(row, fresh);\n\
-\x20 const output = shown(facts.output.slice(0, wrote[at]));\n\
-\x20 const before = shown(facts.output.slice(0, wrote[Math.max(0, at - 1)]));\n\
+\x20 $(\"end\").hidden = at < made;\n\
+\x20 $(\"link\").href = \"#s=\" + (row ? row.step + Number(isOver()) : 1);\n\
+}\n\
+\n\
+// The output so far, with what is new, seen to its end; and the input, with what was read.\n\
+function showStreams(since) {\n\
+\x20 const output = shown(facts.output.slice(0, wrote[at])), before = shown(facts.output.slice(0, wrote[since]));\n\
 \x20 marked($(\"output\"), output, common(output, before), output.length);\n\
+\x20 $(\"output\").scrollTop = $(\"output\").scrollHeight;\n\
 \x20 const bytes = facts.given || facts.heard, input = shown(bytes);\n\
 \x20 marked($(\"input\"), input, 0, common(input, shown(bytes.slice(0, heard[at]))));\n\
 }\n\
 \n\
+// Of a row of words that doesn't fit, what was stored is seen, or else what an index leads to.\n\
+function scrollRows() {\n\
+\x20 for (const row of document.querySelectorAll(\".cells\")) {\n\
+\x20   const seen = row.querySelector(\"mark\") ?? row.querySelector(\".index\"), cell = seen?.closest(\".cells > span\");\n\
+\x20   if (cell && cell.offsetLeft + cell.offsetWidth > row.offsetLeft + row.clientWidth) {\n\
+\x20     row.scrollLeft = cell.offsetLeft - row.offsetLeft - row.clientWidth / 2;\n\
+\x20   }\n\
+\x20 }\n\
+}\n\
+\n\
+// Shows a position. Marked is what changed since another one, if that lies before it, and else since the line or step\n\
+// before it.\n\
+function show(to, shown_before = Infinity) {\n\
+\x20 seek(Math.min(made, Math.max(0, to)));\n\
+\x20 const single = $(\"single\").checked, row = running();\n\
+\x20 const before = single ? at - 1 : visits.findLast(k => k < at) ?? 0;\n\
+\x20 const since = Math.max(0, shown_before < at ? shown_before : before);\n\
+\x20 const fresh = new Set(rows.slice(since, at).flatMap(it => it.stored.map((_, k) => it.address + k)));\n\
+\x20 showPlace(row, single);\n\
+\x20 showLines(row);\n\
+\x20 $(\"operands\").replaceChildren(...(isOver() && !isStopped ? [] : row?.operands ?? []).map((word, k) => {\n\
+\x20   const box = element(\"span\");\n\
+\x20   box.append(element(\"b\", word));\n\
+\x20   return withMeaning(box, word, row.kinds[k]);\n\
+\x20 }));\n\
+\x20 leads = leading();\n\
+\x20 showCalls(row, fresh, since);\n\
+\x20 showMemory(row, fresh, since);\n\
+\x20 showStreams(since);\n\
+\x20 scrollRows();\n\
+\x20 aim();\n\
+}\n\
 // A visit of a line begins where another line begins, or another call goes on.\n\
 const visits = [...rows.keys()].filter(k => k === 0 || k < made\n\
 \x20 && (rows[k].line !== rows[k - 1].line || rows[k].depth !== rows[k - 1].depth)).concat(made || []);\n\
@@ -679,17 +896,17 @@ const arrows = { ArrowLeft: [\"previous\", \"back\"], ArrowRight: [\"line\", \"o
 document.addEventListener(\"keydown\", event => {\n\
 \x20 if (event.ctrlKey || event.altKey || event.metaKey) return;\n\
 \x20 const key = event.key.length > 1 ? event.key : event.key.toLowerCase();\n\
-\x20 if (key === \"i\") {\n\
+\x20 if (key === \"i\" || key === \"a\") {\n\
 \x20   event.preventDefault();\n\
-\x20   $(\"single\").click();\n\
+\x20   $(key === \"i\" ? \"single\" : \"all-arrows\").click();\n\
 \x20 }\n\
 \x20 const name = arrows[key]?.[Number($(\"single\").checked)] ?? keys[key];\n\
 \x20 if (!name) return;\n\
 \x20 event.preventDefault();\n\
-\x20 show(go[name + (event.shiftKey && name + \"10\" in go ? \"10\" : \"\")]());\n\
+\x20 show(go[name + (event.shiftKey && name + \"10\" in go ? \"10\" : \"\")](), at);\n\
 });\n\
 for (const button of document.querySelectorAll(\"[data-go]\")) {\n\
-\x20 button.addEventListener(\"click\", () => show(go[button.dataset.go]()));\n\
+\x20 button.addEventListener(\"click\", () => show(go[button.dataset.go](), at));\n\
 }\n\
 $(\"at\").addEventListener(\"input\", () => show(Number($(\"at\").value)));\n\
 $(\"visit\").addEventListener(\"input\", () => show(visits[Number($(\"visit\").value)] ?? 0));\n\
@@ -707,19 +924,35 @@ $(\"source\").addEventListener(\"click\", event => {\n\
 \x20 number.setAttribute(\"aria-pressed\", String(stops.has(line)));\n\
 });\n\
 for (const type of [\"pointerover\", \"focusin\", \"click\"]) {\n\
-\x20 $(\"parts\").addEventListener(type, event => {\n\
+\x20 $(\"right\").addEventListener(type, event => {\n\
 \x20   const box = event.target.closest(\"[data-word]\");\n\
 \x20   aim(box);\n\
-\x20   if (box && type !== \"pointerover\") $(\"about\").textContent = box.dataset.word + \": \" + readings(box.dataset.word);\n\
+\x20   if (!box || type === \"pointerover\") return;\n\
+\x20   const unset = \"unset\" in box.dataset ? \"nothing in this call has set it; left from before is \" : \"\";\n\
+\x20   $(\"about\").textContent = unset + box.dataset.word + \": \" + readings(box.dataset.word);\n\
 \x20 });\n\
 }\n\
+$(\"all-arrows\").addEventListener(\"change\", drawArrows);\n\
+addEventListener(\"resize\", drawArrows);\n\
+$(\"right\").addEventListener(\"scroll\", drawArrows, true);\n\
 $(\"all\").addEventListener(\"toggle\", () => $(\"all\").classList.toggle(\"shown\", $(\"all\").open));\n\
 $(\"at\").max = made;\n\
 $(\"visit\").max = Math.max(0, visits.length - 1);\n\
-$(\"keys\").before($(\"end\"));\n\
+$(\"told\").prepend($(\"title\"));\n\
+$(\"step\").after($(\"end\"));\n\
+$(\"end\").classList.toggle(\"stop\", isStopped);\n\
+$(\"input-part\").hidden = !facts.given && !facts.heard;\n\
 $(\"view\").hidden = false;\n\
 $(\"all\").open = false;\n\
-show(0);\n\
+\n\
+// A link leads to a step by its number.\n\
+function showLinked() {\n\
+\x20 const step = Number(/^#s=(\\d+)$/.exec(location.hash)?.[1] ?? 0), k = rows.findIndex(row => row.step >= step);\n\
+\x20 show(step && k < 0 ? made : k);\n\
+}\n\
+addEventListener(\"hashchange\", showLinked);\n\
+$(\"link\").hidden = !/^(file|https?):$/.test(location.protocol);\n\
+showLinked();\n\
 </script>\n\
 </html>\n\
 ";
