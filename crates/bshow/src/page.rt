@@ -71,8 +71,8 @@ mark { background: var(--new); color: inherit; font-weight: bold; text-decoratio
 .cells small, .cells > span { white-space: nowrap }\n\
 .cells .index { font-weight: bold; color: var(--ink) }\n\
 .words small, .cells small, #memory small { opacity: .85 }\n\
-.words i, .cells i { font-style: normal; overflow-wrap: anywhere }\n\
-.words i::before { content: \" \" }\n\
+.words i, .cells i, .gave i { font-style: normal; overflow-wrap: anywhere }\n\
+.words i::before, .gave i::before { content: \" \" }\n\
 .unset { font-weight: normal; font-style: italic; opacity: .85 }\n\
 .gave { margin-left: .5rem }\n\
 #right { position: relative }\n\
