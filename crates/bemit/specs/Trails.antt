@@ -1,5 +1,5 @@
 -- Inner words: which lines one pass notes while it reads trees, and at which places of the code.
-use Rattle.std.specs.Prelude.{ℕ, List, [], ◌∷◌, length, Bool, true, false, Option, Some, None}
+use Rattle.std.specs.Prelude.{ℕ, List, [], ◌∷◌, length, true, false, Option, Some, None}
 use Rattle.blang.specs.declared.code.Instr.TheVariants as instr
 use Rattle.blang.specs.Trees.{Identifier, Expr, Arguments, Named, Literal, Text, Grouped, Indexed, Called, Postfixed}
 use Rattle.blang.specs.Trees.{Prefixed, Binary, Conditional, Assigned, No_arguments, Another, Declared, Heading, Auto}
@@ -8,7 +8,7 @@ use Rattle.blang.specs.Trees.{Break, Return, ReturnValue, Evaluate, Empty, Stmts
 use Rattle.blang.specs.Trees.{Simple, Vector, Function}
 use Rattle.blang.specs.Scan.{rest_of}
 pub use Rattle.blang.specs.Lines.{Lines, no_lines, padded, filled_to, noted_at}
-use Rattle.bemit.specs.Drafts.{Made, Draft, Going, emitted, place_of, filled, declared, imported, begun, loop_begun}
+use Rattle.bemit.specs.Drafts.{Draft, Going, emitted, place_of, filled, declared, imported, begun, loop_begun}
 use Rattle.bemit.specs.Drafts.{checked, closed, fresh}
 use Rattle.bemit.specs.Effects.{form, loaded, held, passed, evaluated, headed, done, all_done, ival_done}
 use Rattle.bemit.specs.Effects.{values_done, parameters_done}

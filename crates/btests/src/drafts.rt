@@ -1,6 +1,6 @@
 use bemit::{
     Binding, Branch, CaseFault, CodeBuffer, DeclareFault, Declared, DefaultFault, EmitFault,
-    MentionFault, Scope, Undefined,
+    FinishFault, MentionFault, Scope, Undefined,
 };
 use blang::Instr;
 use bword::Name;
@@ -29,7 +29,13 @@ fn is_answered(scope: &mut Scope, call: ScopeCall) -> Result<bool, Fail> {
         ScopeCall::Label(text, place, want) => scope.place_label(name(text)?, place) == want,
         ScopeCall::Finish(Some(text)) => {
             let name = name(text)?;
-            scope.finish() == Err(Undefined { name, line: 2 })
+            let fault = FinishFault::Undefined;
+            scope.finish()
+                == Err(Undefined {
+                    fault,
+                    name,
+                    line: 2,
+                })
         }
         ScopeCall::Finish(None) => scope.finish() == Ok(()),
         ScopeCall::Clear => {
@@ -105,7 +111,7 @@ fn a_function_has_128_names(rt: HostRuntime) -> Result<(), Fail> {
 // What a buffer answers to one call more of each kind.
 fn answers(buffer: &mut CodeBuffer) -> [Option<u16>; 3] {
     let emitted = buffer.emit(Instr::Pop).ok();
-    let hole = buffer.hole(Branch::Jump).ok().map(|hole| hole.place());
+    let hole = buffer.hole(Branch::J).ok().map(|hole| hole.place());
     let label = buffer.emit_label(5).ok();
     [emitted, hole, label]
 }
@@ -154,7 +160,7 @@ fn each_label_instruction_is_resolved(rt: HostRuntime) -> Result<(), Fail> {
 #[test]
 fn a_hole_is_filled(rt: HostRuntime) -> Result<(), Fail> {
     let mut buffer = CodeBuffer::new();
-    let end = buffer.hole(Branch::JumpIfZero).ok().ok_or("room")?;
+    let end = buffer.hole(Branch::Z).ok().ok_or("room")?;
     buffer.fill(end, 3);
     assert!(rt; buffer.code() == [Instr::JumpIfZero(3)].as_slice());
     Ok(())
@@ -192,6 +198,7 @@ fn cases_are_those_of_their_switch(rt: HostRuntime) {
 fn refusals_have_their_numbers(rt: HostRuntime) {
     let numbers = [
         DeclareFault::Redeclared as u8,
+        FinishFault::Undefined as u8,
         DeclareFault::TooManyNames as u8,
         MentionFault::TooManyNames as u8,
         EmitFault::TooLarge as u8,
@@ -199,5 +206,5 @@ fn refusals_have_their_numbers(rt: HostRuntime) {
         CaseFault::TooManyCases as u8,
         DefaultFault::Redeclared as u8,
     ];
-    assert_eq!(rt; numbers, [1, 3, 3, 4, 1, 5, 1]);
+    assert_eq!(rt; numbers, [1, 2, 3, 3, 4, 1, 5, 1]);
 }

@@ -1,4 +1,4 @@
-use Rattle.std.proofs.Common.{◌≡◌, ◌≤◌, length, ◌-◌}
+use Rattle.std.proofs.Common.{◌≡◌, length, ◌-◌}
 use Rattle.bemit.specs.Trails.{padded}
 use Rattle.bemit.proofs.line_table.fill.Given as goal
 
