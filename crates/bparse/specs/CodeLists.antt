@@ -23,6 +23,10 @@ pub record CodeList : Type 0 where
 abbrev pub empty_list : CodeList
 empty_list = record { edition = editions.One; definitions = []; is_ended = false; refusals = 0 }
 
+-- nothing was taken yet
+abbrev pub IsNew : CodeList → Type 0
+IsNew l = (l.edition ≡ editions.One) × (l.definitions ≡ []) × (l.is_ended ≡ false)
+
 abbrev pub list_text : CodeList → List ℕ
 list_text l = opening l.edition ++ (flat_map definition_text l.definitions ++ (if l.is_ended then end_text else []))
 
@@ -32,12 +36,17 @@ kept_of l = record { bytes = list_text l; refusals = l.refusals }
 abbrev pub outgoing_list : CodeList → Outgoing
 outgoing_list l = outgoing_of (kept_of l)
 
--- texts of lists, with and without the lines around the definitions, and what is seen of one
+-- texts of lists, with and without the lines around the definitions, which of them are new, and what is seen of one
 pub record ListTexts : Type 0 where
   pub none : list_text empty_list ≡ []
   pub lines : list_text (record empty_list { edition = editions.Two; is_ended = true }) ≡ codes "B 2\nE\n"
   pub order : (a b : Definition) → list_text (record empty_list { definitions = a ∷ b ∷ []; is_ended = true })
       ≡ definition_text a ++ (definition_text b ++ end_text)
+  -- nothing was taken where no text, no definition and no last line was
+  pub new : IsNew empty_list
+  pub begun : IsNew (record empty_list { edition = editions.Two }) → ⊥
+  pub filled : (d : Definition) → IsNew (record empty_list { definitions = d ∷ [] }) → ⊥
+  pub ended : IsNew (record empty_list { is_ended = true }) → ⊥
   pub seen : outgoing_list (record empty_list { refusals = 2 }) ≡ record { written = Some []; failures = 0; refusals = 2 }
 
 -- A source was compiled to a list of these definitions. Where it has no fault, they are those of its code.

@@ -1,9 +1,8 @@
 //! The definitions of a source in a list.
-ghost use Rattle.std.specs.Prelude.{◌≡◌, ℕ, All, IfOk, List, []};
+ghost use Rattle.std.specs.Prelude.{◌≡◌, ℕ, All, IfOk, IsErr, List, [], false};
 ghost use Rattle.bword.specs.ByteEnds.{PutGives};
-ghost use Rattle.bword.specs.declared.edition.Edition.TheVariants as editions;
-ghost use Rattle.bparse.specs.CodeLists.{empty_list, outgoing_list};
-ghost use Rattle.blang.specs.Text.{IsWithinRanges, definition_of, opening};
+ghost use Rattle.bparse.specs.CodeLists.{IsNew, empty_list, outgoing_list};
+ghost use Rattle.blang.specs.Text.{IsWithinRanges, definition_of};
 
 use crate::code_out::CodeOut;
 use blang::{Definition, Function, FunctionParts, Simple, SimpleParts, Vector, VectorParts, View};
@@ -13,8 +12,7 @@ use std::marker::Model;
 
 /// The definitions of a code text, without the text.
 ///
-/// It is out of memory for a definition, or where what a text begins with or its last line comes out of turn. It then
-/// keeps nothing of that call.
+/// Where it is out of memory for a definition, it keeps nothing of that call.
 #[derive(Drop)]
 pub(crate) struct CodeList {
     alloc: Global,
@@ -70,20 +68,10 @@ impl CodeList {
         definitions
     }
 
-    // Takes the first line of the second edition, if nothing was taken before.
-    fn begin_second(&mut self) -> Result<(), EndFault>
-        ensures { PutGives (outgoing_list self.old) (opening editions.Two) result (outgoing_list self.new) }
-    {
-        if self.is_ended || !self.definitions.is_empty() || matches!(self.edition, Edition::Two) {
-            return self.refuse();
-        }
-        self.edition = Edition::Two;
-        Ok(())
-    }
-
     // Keeps nothing of a call.
     fn refuse(&mut self) -> Result<(), EndFault>
-        ensures { (text : List ℕ) → PutGives (outgoing_list self.old) text result (outgoing_list self.new) }
+        ensures gives { (text : List ℕ) → PutGives (outgoing_list self.old) text result (outgoing_list self.new) }
+        ensures err { IsErr result }
     {
         self.refusals = self.refusals.saturating_add(1);
         Err(EndFault::Memory)
@@ -95,17 +83,16 @@ impl CodeOut for CodeList {
 
     ghost lender = { λ _. [] };
 
+    ghost can_begin = { IsNew };
+
+    ghost can_go_on = { λ l. l.is_ended ≡ false };
+
     fn begin(&mut self, edition: Edition) -> Result<(), EndFault> {
-        match edition {
-            Edition::One => Ok(()),
-            Edition::Two => self.begin_second(),
-        }
+        self.edition = edition;
+        Ok(())
     }
 
     fn put(&mut self, view: &View<'_>) -> Result<(), EndFault> {
-        if self.is_ended {
-            return self.refuse();
-        }
         let Ok(definition) = owned(self.alloc, view) else {
             return self.refuse();
         };
@@ -116,9 +103,6 @@ impl CodeOut for CodeList {
     }
 
     fn end(&mut self) -> Result<(), EndFault> {
-        if self.is_ended {
-            return self.refuse();
-        }
         self.is_ended = true;
         Ok(())
     }

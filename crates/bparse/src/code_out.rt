@@ -1,5 +1,5 @@
 //! Where the code of a source goes: its text to a stream, or its definitions to a list.
-ghost use Rattle.std.specs.Prelude.{◌≡◌, ℕ, ◌∷◌, List, IsOk};
+ghost use Rattle.std.specs.Prelude.{◌≡◌, ℕ, List, IsOk, OnOk};
 ghost use Rattle.bword.specs.declared.edition.Edition.TheVariants as editions;
 ghost use Rattle.bword.specs.ByteEnds.{Outgoing, PutGives};
 ghost use Rattle.blang.specs.Text.{IsWithinRanges, definition_of, definition_text, end_text, opening};
@@ -16,46 +16,61 @@ pub trait CodeOut {
     // Which end it is, where `Self` is a reference to one.
     ghost lender: { Self → List ℕ };
 
+    // What a text begins with may come.
+    ghost can_begin: { Self → Type 0 };
+
+    // Definitions and the last line may come.
+    ghost can_go_on: { Self → Type 0 };
+
     /// Takes what a code text of this edition begins with.
     ///
     /// # Errors
     ///
     /// Of each call: if it failed or is out of memory. A beginning of the text, perhaps none, was taken then.
     fn begin(&mut self, edition: Edition) -> Result<(), EndFault>
+        requires { can_begin self.old }
         ensures gives { PutGives (outgoing self.old) (opening edition) result (outgoing self.new) }
         ensures nothing { edition ≡ editions.One → IsOk result × (outgoing self.new ≡ outgoing self.old) }
+        ensures open { OnOk result (can_go_on self.new) }
         ensures same { lender self.new ≡ lender self.old };
 
     /// Takes a definition.
     fn put(&mut self, view: &View<'_>) -> Result<(), EndFault>
-        requires { IsWithinRanges (definition_of view.now) }
+        requires within { IsWithinRanges (definition_of view.now) }
+        requires open { can_go_on self.old }
         ensures gives { PutGives (outgoing self.old) (definition_text (definition_of view.now)) result (outgoing self.new) }
+        ensures open { OnOk result (can_go_on self.new) }
         ensures same { lender self.new ≡ lender self.old };
 
     /// Takes the last line.
     fn end(&mut self) -> Result<(), EndFault>
+        requires { can_go_on self.old }
         ensures gives { PutGives (outgoing self.old) end_text result (outgoing self.new) }
         ensures same { lender self.new ≡ lender self.old };
 }
 
-impl<O: ByteOut> CodeOut for &mut O {
-    ghost outgoing = { λ r. O.outgoing r.now };
+impl<O: ByteOut> CodeOut for O {
+    ghost outgoing = { O.outgoing };
 
-    ghost lender = { λ r. r.ghost_name ∷ O.lender r.now };
+    ghost lender = { O.lender };
+
+    ghost can_begin = { λ _. Unit {0} };
+
+    ghost can_go_on = { λ _. Unit {0} };
 
     #[inline]
     fn begin(&mut self, edition: Edition) -> Result<(), EndFault> {
-        write_begin(edition, &mut **self)
+        write_begin(edition, self)
     }
 
     #[inline]
     fn put(&mut self, view: &View<'_>) -> Result<(), EndFault> {
-        write_definition(copy_of(view), &mut **self)
+        write_definition(copy_of(view), self)
     }
 
     #[inline]
     fn end(&mut self) -> Result<(), EndFault> {
-        write_end(&mut **self)
+        write_end(self)
     }
 }
 

@@ -1,5 +1,5 @@
 //! The compiler, which writes one definition a call.
-ghost use Rattle.std.specs.Prelude.{◌≡◌, ◌≤◌, length, IfSome, OnOk};
+ghost use Rattle.std.specs.Prelude.{◌≡◌, ◌≤◌, true, false, length, IfSome, OnOk};
 ghost use Rattle.std.specs.Map.{keys_of};
 ghost use Rattle.bword.specs.declared.edition.Edition.TheVariants as editions;
 ghost use Rattle.bgrammar.specs.Reading.{first};
@@ -39,7 +39,7 @@ pub struct Compiler<I: ByteIn, O: CodeOut> {
 }
 
 impl<I: ByteIn, O: CodeOut> Model for Compiler<I, O> {
-    ghost use Rattle.std.specs.Prelude.{◌≡◌, false};
+    ghost use Rattle.std.specs.Prelude.{◌≡◌, true, false};
     ghost use Rattle.std.specs.Map.{keys_of};
     ghost use Rattle.bparse.specs.Compilers.{Compiler, MoreCanBeWritten, compiler_of, compiler_start};
     ghost use Rattle.bparse.specs.Locals.{locals_in};
@@ -54,12 +54,14 @@ impl<I: ByteIn, O: CodeOut> Model for Compiler<I, O> {
     ghost invariant = { λ c. c.is_closed ≡ false → MoreCanBeWritten (compiler_of
         (compiler_start c.edition (I.incoming c.first_input.value) (I.lender c.first_input.value)
         (O.outgoing c.first_out.value) (O.lender c.first_out.value))
-        c.parser.tokens (locals_in c.parser.draft) (keys_of c.names) (O.outgoing c.out) (O.lender c.out) c.is_begun c.is_closed) };
+        c.parser.tokens (locals_in c.parser.draft) (keys_of c.names) (O.outgoing c.out) (O.lender c.out) c.is_begun c.is_closed)
+        × (c.is_begun ≡ false → O.can_begin c.out) × (c.is_begun ≡ true → O.can_go_on c.out) };
 }
 
 impl<I: ByteIn, O: CodeOut> Compiler<I, O> {
     /// A compiler of the first edition that has read and written nothing.
     pub fn new(alloc: Global, input: I, out: O) -> Self
+        requires { O.can_begin out }
         ensures { result ≡ compilers.new (compiler_start editions.One (I.incoming input) (I.lender input) (O.outgoing out) (O.lender out)) }
     {
         Compiler::with_edition(alloc, input, out, Edition::One)
@@ -67,6 +69,7 @@ impl<I: ByteIn, O: CodeOut> Compiler<I, O> {
 
     /// A compiler of this edition that has read and written nothing.
     pub fn with_edition(alloc: Global, input: I, out: O, edition: Edition) -> Self
+        requires { O.can_begin out }
         ensures { result ≡ compilers.new (compiler_start edition (I.incoming input) (I.lender input) (O.outgoing out) (O.lender out)) }
     {
         Compiler {
@@ -187,9 +190,12 @@ fn compile_next<I: ByteIn, O: CodeOut>(
 ) -> Result<(), Step>
     requires ready { IsReady parser.old.tokens }
     requires source { AreOfSource parser.old.tokens }
+    requires new { is_begun ≡ false → O.can_begin out.old }
+    requires open { is_begun ≡ true → O.can_go_on out.old }
     ensures gives { GivesNext (to_begin is_begun edition) (point parser.old.tokens (locals_in parser.old.draft) (keys_of names.old) (O.outgoing out.old)) result
         (point parser.new.tokens (locals_in parser.new.draft) (keys_of names.new) (O.outgoing out.new)) }
     ensures ready { OnOk result (IsReady parser.new.tokens) }
+    ensures open { OnOk result (O.can_go_on out.new) }
     ensures same { O.lender out.new ≡ O.lender out.old }
 {
     if !is_begun {
@@ -206,9 +212,11 @@ fn compile_definition<I: ByteIn, O: CodeOut>(
 ) -> Result<(), Step>
     requires ready { IsReady parser.old.tokens }
     requires source { AreOfSource parser.old.tokens }
+    requires open { O.can_go_on out.old }
     ensures gives { PointGives (point parser.old.tokens (locals_in parser.old.draft) (keys_of names.old) (O.outgoing out.old)) result
         (point parser.new.tokens (locals_in parser.new.draft) (keys_of names.new) (O.outgoing out.new)) }
     ensures ready { OnOk result (IsReady parser.new.tokens) }
+    ensures open { OnOk result (O.can_go_on out.new) }
     ensures same { O.lender out.new ≡ O.lender out.old }
 {
     parser.tokens.look()?;

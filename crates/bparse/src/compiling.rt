@@ -114,6 +114,7 @@ fn compile_and_tell<I: ByteIn, C: CodeOut, D: ByteOut, W: Watcher>(
     watcher: &mut W,
     edition: Edition,
 ) -> (Status, C)
+    requires { C.can_begin code }
     ensures compiles { Compiles (run_of edition (I.incoming source.old) (I.incoming source.new)
         (C.outgoing code) (C.outgoing result.1) (D.outgoing diag.old) (D.outgoing diag.new) result.0) }
     ensures source_lender { I.lender source.new ≡ I.lender source.old }
@@ -165,6 +166,7 @@ fn compile_into<I: ByteIn, C: CodeOut, W: Watcher>(
     watcher: &mut W,
     edition: Edition,
 ) -> (Step, C)
+    requires { C.can_begin code }
     ensures gives { CodeGives edition (I.incoming source.old) (C.outgoing code) result.0
         (I.incoming source.new) (C.outgoing result.1) }
     ensures watched { Watched edition (I.incoming source.old) (W.kept watcher.old) result.0 (I.incoming source.new) (W.kept watcher.new) }

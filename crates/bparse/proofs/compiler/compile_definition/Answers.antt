@@ -51,8 +51,8 @@ returns-in_err-insert-clause-gives g c =
     gives_stop _ (point c.definition.new.parser.tokens (locals_in c.resolve.new.self) (keys_of c.insert.new.self) (g.O.CodeOut.outgoing c.args.out.now)) c.from_residual-in_err-insert.result step.Memory c.from_residual-in_err-insert.ensures.1
     (no_memory c.args.parser.now.tokens c.look.new.self (keys_of c.args.names.now) c.in_ok-look.ensures.ok c.definition.new.parser.tokens _ t.tree c.in-Ok.header.name t.heads.name t.moves clean t.single (keys_of c.insert.new.self))
 
-pub put-requires : goal.put-requires
-put-requires g c =
+pub put-requires-clause-within : goal.put-requires-clause-within
+put-requires-clause-within g c =
     let t = c.in-Ok.ensures in
     let d = drafted (keys_of c.args.names.now) c.look.new.self c.definition.new.parser.tokens c.in-Ok.header c.definition.new.parser.draft t in
     let clean = fault_none (keys_of c.args.names.now) t.tree c.in-Ok.header c.definition.new.parser.draft d c.fault-2.result c.fault-2.ensures c.in_default.not-Some in

@@ -13,5 +13,9 @@ returns-clause-lists c = record {
   order = λ a b.
       append_assoc (definition_text a) (definition_text b ++ []) end_text
       ∙ ap (λ t. definition_text a ++ (t ++ end_text)) (append-nil (definition_text b));
+  new = (refl, refl, refl);
+  begun = λ is_new. let one = is_new.0 in cc;
+  filled = λ d is_new. let none = is_new.1 in cc;
+  ended = λ is_new. let open_now = is_new.2 in cc;
   seen = refl;
 }
