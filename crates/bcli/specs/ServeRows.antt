@@ -1,11 +1,38 @@
--- Closed facts: how an option changes what is asked, and what is read of the files of a source.
-use Rattle.std.specs.Prelude.{◌≡◌, true, false, List, [], ◌∷◌, codes, map, refl}
+-- Closed facts: how an option changes what is asked, what is read of the files of a source, and that each answer is one
+-- for the edition, the files and the steps that were asked for.
+use Rattle.std.proofs.Common.{inr}
+use Rattle.std.specs.Prelude.{◌≡◌, ◌⊎◌, ℕ, Bool, true, false, List, [], ◌∷◌, Option, Some, None, codes}
+use Rattle.std.specs.Prelude.{map, refl}
+use Rattle.clap.specs.Words.{Text}
+use Rattle.bword.specs.ByteEnds.{Unread, incoming_of}
+use Rattle.bword.specs.declared.edition.Edition.{Edition}
+use Rattle.blang.specs.Compiles.{CompileHeadline, Compiles}
+use Rattle.blang.specs.Headline.{GoesOff, Headline}
+use Rattle.blang.specs.Reports.{RunEnds}
+use Rattle.bcheck.specs.Checks.{Checks}
 use Rattle.bcheck.specs.declared.form.FindingForm.TheVariants as forms
 use Rattle.bcount.specs.declared.table.CountStyle.TheVariants as styles
+use Rattle.bcount.specs.Counts.{Counts}
+use Rattle.bdraw.specs.Draws.{Draws}
+use Rattle.bformat.specs.Formats.{Formats}
+use Rattle.blist.specs.Listings.{Lists}
+use Rattle.blist.specs.Maps.{Maps}
+use Rattle.brun.specs.OneRun.{unread}
+use Rattle.brun.specs.Runs.{RunsText}
+use Rattle.bshow.specs.Shows.{Shows}
+use Rattle.btools.specs.Origins.{Code, Origin, Source}
+use Rattle.btrace.specs.Locates.{Locates}
+use Rattle.btrace.specs.Traces.{Traces}
 use Rattle.btrace.specs.declared.trail.TraceRows.TheVariants as traced
+use Rattle.bwhere.specs.Wheres.{LocatesCode}
+use Rattle.bcommand.specs.CommandLine.{OriginAsked, Question, SourceAsked, from_code, from_made, from_source}
+use Rattle.bcommand.specs.CommandLine.{ask, check, compile, count, draw, format, go, list, locate, locate_code}
+use Rattle.bcommand.specs.CommandLine.{map as layout, run, show, trace}
 use Rattle.bcommand.specs.declared.job.Rows.TheVariants as which
-use Rattle.bsources.specs.Files.{NamedText, followed}
-use Rattle.bcli.specs.Serves.{form_of, no_file_line, style_of, traced_rows}
+use Rattle.bsources.specs.Files.{Files, NamedText, followed}
+use Rattle.bcli.specs.Shelves.{Holdings}
+use Rattle.bcli.specs.Serves.{Answers, AnswersOf, CompilesJoined, Does, OnOrigin, Reads, ReadsLibs, ShowsRun, compiling}
+use Rattle.bcli.specs.Serves.{files_read, form_of, no_file_line, origin_of, style_of, telling_ends, traced_rows, whole}
 
 -- findings and counts for an editor, and for people
 forms_asked : map form_of (true ∷ false ∷ []) ≡ forms.Json ∷ forms.Text ∷ []
@@ -31,3 +58,122 @@ followed_two : followed two ≡ record {
   files = record { name = codes "l.b"; lines = 2 } ∷ record { name = codes "m.b"; lines = 1 } ∷ [];
 }
 followed_two = refl
+
+-- An answer of each tool is one to what was asked, and of the edition, the files, the text and the streams.
+module _ (origin : Origin) (edition : Edition) (files : Files) (text : List ℕ) (ends : RunEnds) (status : ℕ) where
+  abbrev answered : Question → Type 0
+  answered question = AnswersOf origin edition files text question ends status
+
+  listed : (from : OriginAsked) (name : Option Text) → answered (list from name)
+      → (ends.input_after ≡ ends.input) × Lists origin text name (telling_ends ends) status
+  listed from name a = a
+
+  mapped : answered layout → (ends.input_after ≡ ends.input) × Maps edition text (telling_ends ends) status
+  mapped a = a
+
+  drawn : (steps : Option ℕ) → answered (draw steps) → Draws edition text steps ends status
+  drawn steps a = a
+
+  checked : (for_editor : Bool) → answered (check for_editor)
+      → (ends.input_after ≡ ends.input) × (ends.line_after ≡ ends.line) × Checks (record {
+        edition = edition;
+        form = form_of for_editor;
+        files = files;
+        source = text;
+        out = ends.out;
+        out_after = ends.out_after;
+        status = status;
+      })
+  checked for_editor a = a
+
+  traced_from : (from : OriginAsked) (steps number : ℕ) (function : Option Text)
+      → answered (trace from steps (which.From number) function)
+      → Traces origin text steps (traced.From number) files function ends status
+  traced_from from steps number function a = a
+
+  traced_last : (from : OriginAsked) (steps most : ℕ) (function : Option Text)
+      → answered (trace from steps (which.Last most) function)
+      → Traces origin text steps (traced.Last most) files function ends status
+  traced_last from steps most function a = a
+
+  located : (steps : ℕ) → answered (locate steps) → Locates edition text files steps ends status
+  located steps a = a
+
+  counted : (from : OriginAsked) (steps : ℕ) (for_editor : Bool) → answered (count from steps for_editor)
+      → Counts (record { origin = origin; steps = steps; files = files; style = style_of for_editor }) text ends status
+  counted from steps for_editor a = a
+
+  shown : (steps number : ℕ) → answered (show steps (which.From number) None)
+      → Shows edition text (record { steps = steps; which = traced.From number; files = files; given = [] }) ends status
+  shown steps number a = a
+
+  shown_given : (steps most : ℕ) (given : Text) → answered (show steps (which.Last most) (Some given))
+      → (ends.input_after ≡ ends.input) × (after : Unread) × Shows edition text
+      (record { steps = steps; which = traced.Last most; files = files; given = given })
+      (record ends { input = unread given; input_after = incoming_of after }) status
+  shown_given steps most given a = a
+
+  formatted : (is_check : Bool) → answered (format is_check)
+      → (ends.input_after ≡ ends.input) × Formats (record {
+        edition = edition;
+        source = text;
+        is_check = is_check;
+        out = ends.out;
+        out_after = ends.out_after;
+        line = ends.line;
+        line_after = ends.line_after;
+        status = status;
+      })
+  formatted is_check a = a
+
+-- what each question asks a program to be read from
+origins_asked : (from : OriginAsked) → map origin_of
+    (list from None ∷ trace from 3 (which.Last 2) None ∷ count from 3 true ∷ layout ∷ draw None ∷ check true
+    ∷ locate 3 ∷ show 3 (which.From 1) None ∷ format true ∷ [])
+    ≡ from ∷ from ∷ from ∷ from_source ∷ from_source ∷ from_source ∷ from_source ∷ from_source ∷ from_source ∷ []
+origins_asked from = refl
+
+-- What the shelf holds under the names that were asked for is compiled, run or told of, in the edition and for the steps
+-- that were asked for.
+module _ (shelf : Holdings) (source : SourceAsked) (edition : Edition) (steps : ℕ) (ends : RunEnds) (status : ℕ) where
+  input_compiled : Does shelf (compile edition []) ends status
+      → Compiles (compiling edition ends.input ends.input_after ends status)
+      × CompileHeadline (compiling edition ends.input ends.input_after ends status)
+  input_compiled d = d
+
+  libs_compiled : (lib : Text) (r : ReadsLibs shelf (lib ∷ []))
+      → CompilesJoined edition (followed r.texts).text ends status → Does shelf (compile edition (lib ∷ [])) ends status
+  libs_compiled lib r c = inr (r, c)
+
+  code_run : (file : Text) (text : List ℕ) → shelf.holds file text → RunsText steps text ends status
+      → Does shelf (run file steps) ends status
+  code_run file text held r = inr (text, held, r)
+
+  code_located : (file : Text) (text : List ℕ) → shelf.holds file text → LocatesCode steps text ends status
+      → Does shelf (locate_code file steps) ends status
+  code_located file text held l = inr (text, held, l)
+
+  source_run : (r : Reads shelf source) (following : Unread)
+      → GoesOff source.edition steps (unread (whole r)) (incoming_of following) ends status
+      → Headline source.edition steps (unread (whole r)) (incoming_of following) ends status
+      → Does shelf (go source steps) ends status
+  source_run r following g h = inr (inr (r, following, g, h))
+
+  source_told : (r : Reads shelf source) (question : Question)
+      → Answers shelf source.edition (files_read r) (whole r) question ends status
+      → Does shelf (ask source question) ends status
+  source_told r question a = inr (inr (r, a))
+
+  -- of a source, of a code text in its place, and of one in another file
+  module _ (text : List ℕ) (does : Origin → RunEnds → ℕ → Type 0) where
+    of_source : OnOrigin shelf edition text from_source does ends status → does (Source edition) ends status
+    of_source d = d
+
+    of_code : OnOrigin shelf edition text from_code does ends status
+        → does (Code (record { code = text; lines = None })) ends status
+    of_code d = d
+
+    of_made : (made lined : Text) (code lines : List ℕ) → shelf.holds made code → shelf.holds lined lines
+        → does (Code (record { code = code; lines = Some lines })) ends status
+        → OnOrigin shelf edition text (from_made made lined) does ends status
+    of_made made lined code lines held held_too d = inr (code, held, inr (lines, held_too, d))

@@ -1,11 +1,12 @@
--- Closed facts: what a program is read from, by the words of each command that takes a code text.
+-- Closed facts: what a program is read from, by the words of each command that takes a code text, and what is said of
+-- words that contradict each other.
 use Rattle.std.specs.Prelude.{◌≡◌, true, false, List, [], ◌∷◌, ◌++◌, None, codes, map, refl}
 use Rattle.clap.specs.Words.{Text, fault_of, subcommand_of}
 use Rattle.clap.specs.declared.error.kind.ErrorKind.{ErrorKind}
 use Rattle.clap.specs.declared.error.kind.ErrorKind.TheVariants as kind
 use Rattle.clap.proofs.OnLiterals.{clap_on_literals}
 use Rattle.bword.specs.declared.edition.Edition.TheVariants as editions
-use Rattle.bcommand.specs.CommandLine.{Asked, OriginAsked, SourceAsked, asked, command_line}
+use Rattle.bcommand.specs.CommandLine.{Asked, OriginAsked, SourceAsked, asked, clash_line, command_line}
 use Rattle.bcommand.specs.CommandLine.{ask, contradiction, count, from_code, from_made, list, trace}
 use Rattle.bcommand.specs.declared.job.Clash.{Clash}
 use Rattle.bcommand.specs.declared.job.Clash.TheVariants as clash
@@ -113,3 +114,17 @@ told_first : one (codes "trace") (codes "--made=c" ∷ codes "--from=5" ∷ code
     ≡ contradiction clash.Made ∷ contradiction clash.Rows ∷ contradiction clash.Libs ∷ contradiction clash.Limits ∷ []
 unfolding clap_on_literals
 told_first = refl
+
+-- what is said of each contradiction
+abbrev hint : Text
+hint = codes "\n\nFor more information, try '--help'.\n"
+
+clashes_told : map clash_line
+    (clash.Limits ∷ clash.Rows ∷ clash.Origins ∷ clash.Libs ∷ clash.Made ∷ clash.Lines ∷ [])
+    ≡ (codes "error: the argument '--steps <N>' cannot be used with '--no-limit'" ++ hint)
+    ∷ (codes "error: the argument '--from <N>' cannot be used with '--last <N>'" ++ hint)
+    ∷ (codes "error: the argument '--code' cannot be used with '--made <CODE>' or '--lines <LINES>'" ++ hint)
+    ∷ (codes "error: the argument '--code' cannot be used with '--with <LIB>'" ++ hint)
+    ∷ (codes "error: the argument '--made <CODE>' cannot be used without '--lines <LINES>'" ++ hint)
+    ∷ (codes "error: the argument '--lines <LINES>' cannot be used without '--made <CODE>'" ++ hint) ∷ []
+clashes_told = refl

@@ -1,6 +1,6 @@
 -- Closed facts: rows, their columns, the rows of each kind of definition, a whole listing, and what is wanted.
-use Rattle.std.specs.Prelude.{◌≡◌, ℕ, List, [], ◌∷◌, ◌++◌, Option, Some, None, codes, false, map, refl, replicate}
-use Rattle.std.specs.Prelude.{true}
+use Rattle.std.specs.Prelude.{◌≡◌, ℕ, List, [], ◌∷◌, ◌++◌, Option, Some, None, codes, false, filter, map, refl}
+use Rattle.std.specs.Prelude.{replicate, true}
 use Rattle.std.specs.Fmt.{digits}
 use Rattle.blang.specs.declared.code.Definition.{Definition}
 use Rattle.blang.specs.declared.code.Definition.TheVariants as definition
@@ -15,7 +15,7 @@ use Rattle.blist.specs.declared.rows.CodeSpot.TheVariants as spot
 use Rattle.blist.specs.declared.rows.Named.TheVariants as named
 use Rattle.blist.specs.ListingTexts.{a_word, definition_rows, instr_named, label_named, line_text, margin_text}
 use Rattle.blist.specs.ListingTexts.{row_text, source_beside, source_column, word_spot}
-use Rattle.blist.specs.Listings.{list_text, wanted}
+use Rattle.blist.specs.Listings.{is_wanted, list_text, told_of, wanted}
 
 place_and_number : margin_text (spot.Place 7) (Some 3) ≡ codes "     7     3  "
 unfolding digits
@@ -187,6 +187,17 @@ whole_listing = refl
 listing_of_name : listed (Some (codes "x")) ≡ HEADING.now ++ codes "    @7        X x 0 0\n"
 unfolding digits
 listing_of_name = refl
+
+-- the names and lines of each function are its own, also after externals
+abbrev told_of_f : List Definition → (lines : List ℕ) → List Frame → List (Option Frame × List ℕ)
+told_of_f ds lines frames =
+    map (λ t. (t.frame, t.lines)) (filter (λ t. is_wanted (Some (codes "f")) t.definition) (told_of ds lines frames))
+
+after_externals : (one other last : Frame)
+    → told_of_f (a_function ∷ a_simple ∷ a_vector 3 ∷ a_function ∷ a_simple ∷ a_function ∷ [])
+    (1 ∷ 2 ∷ 3 ∷ 4 ∷ 5 ∷ 6 ∷ 7 ∷ 8 ∷ 9 ∷ 10 ∷ 11 ∷ 12 ∷ 13 ∷ 14 ∷ 15 ∷ []) (one ∷ other ∷ last ∷ [])
+    ≡ (Some one, 1 ∷ 2 ∷ 3 ∷ []) ∷ (Some other, 8 ∷ 9 ∷ 10 ∷ []) ∷ (Some last, 13 ∷ 14 ∷ 15 ∷ []) ∷ []
+after_externals one other last = refl
 
 abbrev defined : List ℕ → Definition
 defined name = definition.Simple (record { name = name; values = []; strings = [] })

@@ -1,6 +1,6 @@
 -- Closed facts: what stands in the rows and facts of a page, and which steps have a row, on small values.
 use Rattle.std.specs.Prelude.{◌≡◌, ℕ, ◌-◌, true, false, List, [], ◌∷◌, ◌++◌, Some, codes, drop, length, map, refl, take}
-use Rattle.std.specs.List.{list_all}
+use Rattle.std.specs.List.{list_all, range_with_len}
 use Rattle.std.specs.Fmt.{digits}
 use Rattle.blang.specs.declared.code.Definition.{Definition}
 use Rattle.blang.specs.declared.code.Definition.TheVariants as definition
@@ -22,9 +22,8 @@ use Rattle.btrace.specs.declared.trail.TraceRows.{TraceRows}
 use Rattle.btrace.specs.declared.trail.TraceRows.TheVariants as rows
 use Rattle.bwatch.specs.Sights.{Sights, sights_of}
 use Rattle.bshow.specs.Escapes.{escaped, is_safe, unescaped}
-use Rattle.bshow.specs.Facts.{calls_text, definitions_text, files_text, no_run_text, sentence, sizes_text, some_word}
-use Rattle.bshow.specs.Facts.{trap_words}
-use Rattle.bshow.specs.Facts.{unbegun_sentence}
+use Rattle.bshow.specs.Facts.{all_addresses, calls_text, definitions_text, files_text, no_run_text, sentence, sizes_text}
+use Rattle.bshow.specs.Facts.{some_word, trap_words, unbegun_sentence}
 use Rattle.bshow.specs.OwnTexts.{own_texts}
 use Rattle.bshow.specs.Rows.{call_cells, done_cells, is_getchar, lined_code, words_cell}
 use Rattle.bshow.specs.declared.page.TheConstants.{BETWEEN, HEAD, SCRIPT, TAIL}
@@ -117,6 +116,11 @@ zero_left_out = refl
 word_told : some_word 9 65535 ≡ codes "9,-1,"
 unfolding digits
 word_told = refl
+
+-- the words of a page are those from 0 to 65535
+all_words : all_addresses ≡ range_with_len 0 65536
+unfolding all_addresses
+all_words = refl
 
 -- a call of a function that isn't there, and what a step did
 abbrev pub a_call : (strings start : ℕ) → Active
@@ -232,6 +236,18 @@ traps =
 traps_told : map (λ kind. take 7 (trap_words kind) ++ codes "\n") traps
     ≡ map (λ kind. report_text (report.Trap kind)) traps
 traps_told = refl
+
+-- what each trap means
+traps_mean : map trap_words traps
+    ≡ codes "trap dz, a division by 0"
+    ∷ codes "trap fn, a call of a value that is no function"
+    ∷ codes "trap gt, a goto to a value that is no label of its function"
+    ∷ codes "trap st, a frame without room in memory"
+    ∷ codes "trap dp, more than 4096 active calls"
+    ∷ codes "trap bs, a base of printn that isn't from 2 to 10"
+    ∷ codes "trap sk, a step without an instruction or operands"
+    ∷ []
+traps_mean = refl
 
 unbegun_told : unbegun_sentence trap.NoRoom
     ≡ codes "The run never began: it was stopped by trap st, a frame without room in memory."

@@ -3,7 +3,7 @@ use Rattle.std.specs.Prelude.{◌≡◌, ℕ, true, false, [], ◌∷◌, ◌++�
 use Rattle.std.specs.Fmt.{digits}
 use Rattle.blang.specs.declared.run.Outcome.TheVariants as outcome
 use Rattle.blang.specs.declared.run.Trap.TheVariants as trap
-use Rattle.btrace.specs.Locates.{explanation, located_status, site_line, told_site}
+use Rattle.btrace.specs.Locates.{explanation, located_status, meaning, site_line, told_site}
 use Rattle.bmach.specs.declared.machine.Active.{Active}
 use Rattle.btrace.specs.RowTexts.{first_words, has_more, instr_text, margin, operands_text, signed_text, stored_text}
 use Rattle.btrace.specs.RowTexts.{word_row, words_text, written_byte, written_row}
@@ -210,3 +210,19 @@ told_trap = refl
 told_limit : explanation (codes "main() f();") outcome.Limit 1
     ≡ codes "    main() f();\n  means: no end within so many steps; --steps N or --no-limit gives more\n"
 told_limit = refl
+
+-- what each trap and the limit means; an end, a failure and want of memory have no place
+meanings_told : map meaning
+    (outcome.Trap trap.ZeroDivisor ∷ outcome.Trap trap.NotAFunction ∷ outcome.Trap trap.NotALabel
+    ∷ outcome.Trap trap.NoRoom ∷ outcome.Trap trap.TooDeep ∷ outcome.Trap trap.BadBase ∷ outcome.Trap trap.Stuck
+    ∷ outcome.Limit ∷ outcome.Exit 0 ∷ outcome.Device ∷ outcome.Memory ∷ [])
+    ≡ codes "a division by 0"
+    ∷ codes "a call of something that is no function"
+    ∷ codes "a goto to something that is no label of the function"
+    ∷ codes "a call whose frame has no room in memory"
+    ∷ codes "more than 4096 active calls"
+    ∷ codes "a base of printn that isn't 2 to 10"
+    ∷ codes "too few operands, or no instruction at this place"
+    ∷ codes "no end within so many steps; --steps N or --no-limit gives more"
+    ∷ [] ∷ [] ∷ [] ∷ []
+meanings_told = refl

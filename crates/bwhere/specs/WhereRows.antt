@@ -127,3 +127,33 @@ of_three = record { name = []; first = 2; instructions = 3 }
 stuck_told : map (code_meaning (outcome.Trap trap.Stuck) of_three) (2 ∷ 3 ∷ [])
     ≡ (codes "too few operands" ∷ codes "no instruction of the function is at this place" ∷ [])
 stuck_told = refl
+
+-- what each trap and the limit means; an end, a failure and want of memory have no place
+meanings_told : map (λ result. code_meaning result of_three 2)
+    (outcome.Trap trap.ZeroDivisor ∷ outcome.Trap trap.NotAFunction ∷ outcome.Trap trap.NotALabel
+    ∷ outcome.Trap trap.NoRoom ∷ outcome.Trap trap.TooDeep ∷ outcome.Trap trap.BadBase ∷ outcome.Trap trap.Stuck
+    ∷ outcome.Limit ∷ outcome.Exit 0 ∷ outcome.Device ∷ outcome.Memory ∷ [])
+    ≡ (codes "the right operand of / or % is 0"
+    ∷ codes "the callee below the arguments is neither 1 to 6 nor the value of a function"
+    ∷ codes "the word isn't the value of a label of this function"
+    ∷ codes "the frame of the called function has no room in the store"
+    ∷ codes "4096 calls are active"
+    ∷ codes "the base of printn isn't 2 to 10"
+    ∷ codes "too few operands"
+    ∷ codes "no end within so many steps; --steps N or --no-limit gives more"
+    ∷ [] ∷ [] ∷ [] ∷ [])
+meanings_told = refl
+
+-- what is told of each fault of loading
+abbrev main_alone : List ℕ
+main_alone = codes "F main 0 0 0 0 3\nx f\nc 0\nr\nE\n"
+
+faults_told : map (unloaded_text main_alone)
+    (fault.Duplicate (codes "g") ∷ fault.TooLarge ∷ fault.Undefined (codes "f") ∷ fault.NoMain ∷ fault.Memory ∷ [])
+    ≡ (codes "  means: g is defined twice\n"
+    ∷ codes "  means: the data end would be above 65536, or there are more than 65535 labels\n"
+    ∷ codes "at     line    2\n    x f\n  means: f is neither defined nor in the library\n"
+    ∷ codes "  means: there is no function main\n"
+    ∷ [] ∷ [])
+unfolding digits
+faults_told = refl

@@ -1,0 +1,8 @@
+main() {
+    auto x;
+    if(getchar() == 'q')
+        goto out;
+    printn(x, 10);
+out:
+    ;
+}

@@ -1,0 +1,2 @@
+#else X
+main() ;

@@ -1,0 +1,2 @@
+#endif X
+main() ;

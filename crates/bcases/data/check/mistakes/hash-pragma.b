@@ -1,0 +1,2 @@
+#pragma X
+main() ;
