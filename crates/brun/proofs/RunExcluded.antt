@@ -100,6 +100,13 @@ module _ (edition : Edition) (source source_after : Incoming) (ends : RunEnds) (
       let bad : codes "a" ≡ [] = a ∙ sym none in
       cc
 
+-- another status than 1 for a source with a fault, where nothing fails
+pub no_other_status : (edition : Edition) (steps : ℕ) (source source_after : Incoming) (ends : RunEnds) (status : ℕ) (text : List ℕ) → Tells source text → Tells ends.input []
+    → NothingFailed source source_after ends status → (r : compiled.Compilation) → CompilesTo [] (tokens_from edition 1 text) r → (fault : Diagnostic) → r.stop ≡ Some fault
+    → GoesOff edition steps source source_after ends status → status ≡ 1
+no_other_status edition steps source source_after ends status text tells told healthy r g fault stop h =
+    (((headline edition steps source source_after ends status h text [] tells told healthy).1 r g).faulty fault stop).answered
+
 abbrev first_byte : List ℕ → ℕ
 first_byte [] = 0
 first_byte (b ∷ bytes) = b

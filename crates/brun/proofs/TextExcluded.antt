@@ -1,6 +1,10 @@
 -- Answers that the contract of `run_text` excludes, whatever is proved of the body that gives them.
 use Rattle.std.proofs.Common.{◌≡◌, ◌∙◌, ℕ, ◌<◌, List, [], ap, arith, refl, subst, sym, ◌⊎◌, inl, inr, ⊎_elim}
 use Rattle.std.specs.Prelude.{None, Some}
+use Rattle.bword.specs.ByteEnds.{Outgoing}
+use Rattle.bword.specs.declared.ends.EndFault.{EndFault}
+use Rattle.bword.specs.declared.ends.EndFault.TheVariants as end_fault
+use Rattle.blang.specs.Compiles.{status_of}
 use Rattle.blang.specs.Layout.{load_fault}
 use Rattle.blang.specs.Machine.{machine}
 use Rattle.blang.specs.Reports.{Finishes, HasNotRun, NotLoaded, Reported, RunEnds, RunGives, load_number, report_text}
@@ -41,6 +45,15 @@ no_text_told steps text n ends status line none (texts.unread m other without qu
     inl (quiet, subst (λ k. Reported (report_text (report.Code k)) 132 ends.line ends.line_after status) (same_line text m n other line) told)
 no_text_told steps text n ends status line none (texts.read ds code runs) = absurd (none ds code)
 no_text_told steps text n ends status line none (texts.no_room header quiet silent e) = inr (quiet, silent, e)
+
+-- The limit of steps isn't told as a trap.
+other_end : (fault : EndFault) (status : ℕ) → status ≡ status_of fault → 132 < status
+other_end end_fault.Device status e = omega (arith, e)
+other_end end_fault.Memory status e = omega (arith, e)
+
+pub no_limit_as_a_trap : (line following : Outgoing) (status : ℕ) → Finishes outcome.Limit line following status → status ≡ 130 → ⊥
+no_limit_as_a_trap line following status (inl told) is = let bad : 131 ≡ 130 = sym told.1 ∙ is in omega (arith, bad)
+no_limit_as_a_trap line following status (inr r) is = let high = other_end r.fault status r.status in omega (arith, high, is)
 
 -- 133 wants a stream that failed.
 finished : (steps : ℕ) (ds : List Definition) (ends : RunEnds) (status : ℕ) (result : Outcome) → RunGives (machine ds) steps ends.input ends.input_after ends.out ends.out_after result → ((n : ℕ) → result ≡ outcome.Exit n → n < 128)

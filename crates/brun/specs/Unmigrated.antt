@@ -39,3 +39,11 @@ pub record Unmigrated : Type 0 where
   pub refusal_invented : (w : Rewriting) (line line_after : Outgoing) → Tells w.input end_text
       → (Grew w.out.refusals w.out_after.refusals → ⊥) → (Grew line.refusals line_after.refusals → ⊥)
       → Migrates w line line_after MEMORY → ⊥
+  -- a last line after the definitions before a wrong line, and another line told as the first wrong one
+  pub ended : (w : Rewriting) (taken : List ℕ) → HasWritten w (opening editions.Two ++ end_text)
+      → HasBadLine w taken 1 → ⊥
+  pub other_line : (w : Rewriting) (taken : List ℕ) (n m : ℕ) → HasBadLine w taken n → HasBadLine w taken m → n ≡ m
+  -- a text of the first edition written, and 0 after a read that failed
+  pub not_rewritten : (w : Rewriting) (taken : List ℕ) → HasWritten w end_text → IsMigrated w taken → ⊥
+  pub failure_passed : (w : Rewriting) (taken : List ℕ) → w.input.failures ≡ 0 → w.input_after.failures ≡ 1
+      → IsMigrated w taken → ⊥
