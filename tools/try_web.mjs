@@ -268,6 +268,7 @@ function tryCalls(room) {
   expectCall('compile', b.compile(source, {libs}), ['compile', ...after], source);
   expectCall('run', b.run(code, {name: 'code', input: 'hi', where: true, steps: 50}), ['run', '--where', '--steps', '50', 'code'], 'hi');
   expectCall('go', b.go(source, {name, libs, input: 'hi', steps: Infinity}), ['go', name, '--no-limit', ...after], 'hi');
+  expectCall('go ./', b.go(source, {name: './x.b', where: true}), ['go', '--where', './x.b']);
   expectCall('format', b.format(source, {name}), ['format', name]);
   expectCall('show', b.show(source, {name, libs, input: 'hi', last: 9}), ['show', name, '--last', '9', ...after], 'hi');
   expectCall('migrate', b.migrate(code), ['migrate'], code);

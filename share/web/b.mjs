@@ -24,8 +24,9 @@ const OK = 0, NOT_A_FILE = 8, INPUT_OUTPUT = 29, NO_ENTRY = 44;
 const INPUT = 0, OUTPUT = 1, DIAGNOSTICS = 2, FOLDER = 3;
 const TERMINAL = 2, REGULAR = 4;
 
-const encoder = new TextEncoder(), decoder = new TextDecoder();
+const encoder = new TextEncoder(), decoder = new TextDecoder('utf-8', {ignoreBOM: true});
 const bytesOf = given => (typeof given === 'string' ? encoder.encode(given) : given);
+const filesOf = texts => Object.fromEntries(Object.entries(texts).map(([name, text]) => [name, bytesOf(text)]));
 
 /** The calls of wasi_snapshot_preview1 that b.wasm takes, for one run. */
 class Host {
@@ -99,11 +100,16 @@ class Host {
     return this.set(moved, taken ?? bytes.length);
   }
 
+  /** The bytes of a file, where there is one of this name. */
+  bytesOfFile(name) {
+    const {files = {}} = this.io;
+    if (typeof files === 'function') return files(name);
+    return Object.hasOwn(files, name) ? files[name] : undefined;
+  }
+
   /** The one folder has no name, and the name of a file is its path from there. */
   path_open(folder, _, path, length, ...rest) {
-    const name = decoder.decode(this.room(path, length).slice()), {files = {}} = this.io;
-    const isThere = typeof files === 'function' || Object.hasOwn(files, name);
-    const bytes = isThere ? (typeof files === 'function' ? files(name) : files[name]) : undefined;
+    const bytes = this.bytesOfFile(decoder.decode(this.room(path, length).slice()));
     if (folder !== FOLDER || !bytes) return NO_ENTRY;
     const file = FOLDER + 1 + this.opened.size;
     this.opened.set(file, {bytes, at: 0});
@@ -225,14 +231,12 @@ class Program {
 
   /** A command with the file of a source, and the files that come after it. */
   ofFile(command, name, text, options) {
-    const {libs = {}} = options;
-    const files = Object.fromEntries([[name, text], ...Object.entries(libs)].map(([it, bytes]) => [it, bytesOf(bytes)]));
+    const files = filesOf({...options.libs, [name]: text});
     return this.answer([...command, ...wordsOf(options), '--', name], {...options, files});
   }
 
   compile(source, {edition, libs = {}} = {}) {
-    const files = Object.fromEntries(Object.entries(libs).map(([it, bytes]) => [it, bytesOf(bytes)]));
-    return this.answer(['compile', ...wordsOf({edition, libs})], {input: source, files});
+    return this.answer(['compile', ...wordsOf({edition, libs})], {input: source, files: filesOf(libs)});
   }
 
   check(source, {name = SOURCE, edition, libs} = {}) {

@@ -106,14 +106,17 @@ long write(int file, const void *bytes, size count) {
 }
 
 // How many bytes of a path name this folder, which may be `.`, and the slashes after it; -1 where the path is elsewhere.
-// A folder without a name has each path.
+// A folder without a name has each path as it is.
 static long bytes_of_folder(const char *folder, size count, const char *path) {
-    if (count == 0 || (count == 1 && folder[0] == '.' && path[0] != '/')) return 0;
+    size begin = 0;
+    if (count == 0) return 0;
+    while (path[begin] == '.' && path[begin + 1] == '/') begin += 2;
+    if (count == 1 && folder[0] == '.') return path[begin] == '/' ? -1 : (long)begin;
     for (size n = 0; n < count; n++)
-        if (path[n] != folder[n]) return -1;
-    if (folder[count - 1] != '/' && path[count] != '/') return -1;
-    while (path[count] == '/') count++;
-    return (long)count;
+        if (path[begin++] != folder[n]) return -1;
+    if (folder[count - 1] != '/' && path[begin] != '/') return -1;
+    while (path[begin] == '/') begin++;
+    return (long)begin;
 }
 
 // The opened folder with the longest name that the path begins with, or -1, and the rest of the path.
@@ -122,7 +125,6 @@ static int folder_of(const char *path, const char **rest) {
     address stat[2] = {0, 0}; // a byte that says that it is a folder, and the length of its name
     long longest = -1;
     int found = -1;
-    while (path[0] == '.' && path[1] == '/') path += 2;
     for (int folder = FIRST_FOLDER; fd_prestat_get(folder, at(stat)) == 0; folder++) {
         if (stat[1] > MOST_NAME || fd_prestat_dir_name(folder, at(name), stat[1])) continue;
         size count = stat[1] && name[stat[1] - 1] == 0 ? stat[1] - 1 : stat[1];
