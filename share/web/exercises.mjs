@@ -79,7 +79,8 @@ export class Grading {
     if (ran.why) return {test, result: 'stopped', why: ran.why};
     if (!difference && ran.status === (test.status ?? 0)) return {test, result: 'ok'};
     const result = line ? plain(line) : difference ? 'wrong' : `status ${ran.status}`;
-    return {test, result, status: ran.status, difference, place: this.placeIn(ran.told)};
+    const libs = Object.keys(this.exercise.libs).map(it => `lib/${it}`).join(', ');
+    return {test, result, status: ran.status, difference, libs, place: this.placeIn(ran.told)};
   }
 
   placeIn(told) {
@@ -91,13 +92,15 @@ export class Grading {
 const inputOf = text => text.length <= 40 && !text.trimEnd().includes('\n') && text.trimEnd();
 
 /** A sentence on a test that failed. */
-export function sentence({test, result, why, difference, place, status}) {
+export function sentence({test, result, why, difference, place, status, libs}) {
   if (result === 'fault') return 'the program has a fault, which stands below the editor';
   if (why) return why;
   const given = inputOf(test.input ?? ''), start = test.source ? '' : given ? `for ${given} `
     : test.input ? `for the input ${JSON.stringify(test.input)} ` : 'input' in test ? 'without an input ' : '';
   if (place) return `${start}it ends with ${result}, ${place.means}, in line ${place.line} of ${place.file}`;
-  if (result.startsWith('load')) return `it can't be run with the tests: ${result}`;
+  if (/^rd main\b/.test(result)) return 'the tests have a main of their own, so take yours out';
+  if (result === 'load 3') return `a name isn't defined: the tests put ${libs || 'no file'} after it`;
+  if (result !== 'wrong' && !result.startsWith('status')) return `it can't be run with the tests: ${result}`;
   if (!difference) return `${start}it ends with status ${status}, and not ${test.status ?? 0}`;
   const {line, wrote, wanted} = difference;
   if (test.source && wrote.startsWith('wrong: ')) return wrote.slice(7);

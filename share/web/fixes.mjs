@@ -6,12 +6,13 @@ const PIECE = /\/\*[\s\S]*?(?:\*\/|$)|"(?:\*.|[^"\n])*"?|'(?:\*.|[^'\n])*'?|[A-Z
 
 /** A source with the place of a finding. */
 class Place {
-  constructor(text, {line, column, end}) {
+  constructor(text, {line, column, end, related}) {
     const lines = text.split('\n'), start = lines.slice(0, line - 1).reduce((n, it) => n + it.length + 1, 0);
     this.text = text;
     this.from = start + unitOf(lines[line - 1] ?? '', column);
     this.to = start + unitOf(lines[line - 1] ?? '', end ?? column);
     this.token = text.slice(this.from, this.to);
+    this.opened = related && !related.file ? lines[related.line - 1] ?? '' : '';
   }
 
   put(text) { return {from: this.from, to: this.to, text}; }
@@ -37,6 +38,18 @@ class Place {
     if (at < 0) return null;
     const indent = /^[^\n]*\n([ \t]+)\S/.exec(this.text.slice(at))?.[1];
     return {from: at, to: at, text: indent === undefined ? ` ${text}` : `\n${indent}${text}`};
+  }
+
+  /** The } of a function, where its line isn't indented, so that there is one place for it. */
+  closing() {
+    if (!/^\w/.test(this.opened)) return null;
+    const {index = 0, 0: last = ''} = this.pieces().at(-1) ?? {}, at = index + last.length;
+    return {from: at, to: at, text: '\n}'};
+  }
+
+  /** A star in quotes that has to be two. */
+  star() {
+    return this.text.startsWith("'*'", this.from) ? {from: this.from, to: this.from + 3, text: "'**'"} : null;
   }
 
   swapOperator() {
@@ -75,6 +88,8 @@ const FIXES = [
   [/^write a plain space in its place/, it => [it.put(' ')]],
   [/^write a plain - in its place/, it => [it.put('-')]],
   [/^1 is true, and 0 is false/, it => [it.put(/^true$/i.test(it.token) ? '1' : '0')]],
+  [/^write the } that is missing/, it => [it.closing()]],
+  [/^write the quote at its end/, it => [it.star()]],
   [/^take the ; out$/, it => [it.put('')]],
 ];
 
@@ -94,5 +109,5 @@ export function told(text, {from, to, text: put, lib}) {
   if (put === undefined) return `add --with ${lib}`;
   const old = text.slice(from, to).trim(), line = text.slice(0, from).split('\n').length;
   if (!put) return `take ${old} out`;
-  return old ? `put ${put} for ${old}` : `put ${put.trim()} in line ${line + (put.startsWith('\n') ? 1 : 0)}`;
+  return old ? `put ${put.trim()} for ${old}` : `put ${put.trim()} in line ${line + (put.startsWith('\n') ? 1 : 0)}`;
 }
