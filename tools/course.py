@@ -275,9 +275,10 @@ def course(top, start):
     lessons = lessons_of((docs / "CLASS.md").read_text())
     for it in exercises:
         it["lesson"] = lessons.get(it["name"], 0)
+    order = {name: at for at, name in enumerate(lessons)}
     return {
         "chapters": [it.made() for it in chapters],
-        "exercises": sorted(exercises, key=lambda it: (it["lesson"], it["name"])),
+        "exercises": sorted(exercises, key=lambda it: order.get(it["name"], len(order))),
         "libs": {it.stem: it.read_text() for it in sorted(top.glob("lib/*.b"))},
         "examples": {it.name: it.read_text() for it in sorted(top.glob("examples/*.b"))},
     }

@@ -13,7 +13,7 @@ export class Course {
     $('previous').onclick = () => this.move(-1);
     $('next').onclick = () => this.move(1);
     this.list();
-    this.show(store.get('chapter') ?? 'start');
+    this.show(store.get('chapter') ?? data.chapters[0].name);
   }
 
   exercisesOf(chapter) {

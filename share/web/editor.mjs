@@ -91,7 +91,9 @@ export class Editor {
       if (change.origin !== 'setValue') this.unmarkStop();
       changed(change);
     });
-    this.cm.getInputField().setAttribute('aria-describedby', 'editor-keys');
+    const field = this.cm.getInputField();
+    for (const [name, value] of [['role', 'textbox'], ['aria-multiline', 'true'], ['aria-describedby', 'editor-keys']])
+      field.setAttribute(name, value);
   }
 
   /** Shows a file, with the places and the steps back that it had before. */

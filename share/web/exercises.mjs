@@ -60,15 +60,21 @@ export class Grading {
     return {...ended, why, told: ended.told ?? '', text: latin(ended.output ?? [])};
   }
 
-  /** What comes of each test; `each` is called after each one. */
-  async grade(each = () => {}) {
+  /** Ends the tests: there is no verdict then. */
+  stop() {
+    this.isStopped = true;
+    this.machine.stop();
+  }
+
+  /** What comes of each test. */
+  async grade() {
     if (this.files[this.name].length > SOURCE_BYTES) {
       return {refused: `the file has more than ${SOURCE_BYTES} bytes`, results: []};
     }
     const results = [], checked = await this.run(this.words('check', ['--json']));
     for (const test of this.exercise.tests) {
       results.push(checked.status === 1 ? {test, result: 'fault'} : await this.tryTest(test));
-      each(results);
+      if (this.isStopped) return null;
     }
     return {results};
   }

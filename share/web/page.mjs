@@ -24,7 +24,7 @@ const files = new Files(store), output = new Output($('out'));
 const module = page.module();
 const worker = URL.createObjectURL(new Blob([page.worker], {type: 'text/javascript'}));
 const runner = new Machine(module, worker), checker = new Machine(module, worker);
-let tester;
+let tester, grading;
 
 // ---- The program: its words, its files, its input
 
@@ -235,18 +235,22 @@ function write(exercise) {
 }
 
 async function grade(exercise) {
-  if (!files.all.has(`exercise/${exercise.name}.b`)) {
+  const file = files.all.get(`exercise/${exercise.name}.b`);
+  if (!file) {
     write(exercise);
     say(`Write ${exercise.name}.b first.`);
     return;
   }
+  if (grading) return;
   runs.stop();
   runs.begin(`tests of ${exercise.name}`, 'They run ..');
   tester ??= new Machine(module, worker);
-  const grading = new Grading(tester, exercise, files.all.get(`exercise/${exercise.name}.b`).text);
+  grading = new Grading(tester, exercise, file.text);
   const graded = await grading.grade();
+  grading = null;
   runs.ended(true);
-  sayGraded(exercise, course.graded(exercise, graded), graded);
+  if (graded) sayGraded(exercise, course.graded(exercise, graded), graded);
+  else say('Stopped.', 'bad');
 }
 
 function sayGraded(exercise, {passed, of, failed, refused}, {results}) {
@@ -344,6 +348,12 @@ async function rename() {
   openFile(made);
 }
 
+/** Puts a program of a lesson or an example back as it stands there. */
+function putBack() {
+  editor.put(files.current.base);
+  say(`${files.current.name} is as it was.`);
+}
+
 async function removeFile() {
   const file = files.current;
   if (!await dialog(`Delete ${file.name}?`, 'Delete', element('p', {}, 'It is gone from this browser then.'))) return;
@@ -393,6 +403,7 @@ function showKept() {
     openFile(it);
   })));
   if (!kept.length) $('kept').append(element('p', {}, 'No others.'));
+  $('put-back').hidden = files.current.base === null || !files.current.isChanged;
 }
 
 // ---- Links
@@ -411,6 +422,11 @@ async function link() {
 async function openLink() {
   const fragment = location.hash.slice(1);
   if (!fragment) return false;
+  if (course.data.chapters.some(it => it.name === fragment)) {
+    course.show(fragment, true);
+    pane('course');
+    return true;
+  }
   try {
     const program = await unpacked(fragment);
     if (!program) throw new Error('it has another form');
@@ -434,6 +450,12 @@ function colours(theme) {
   else delete document.documentElement.dataset.theme;
 }
 
+/** Prints the program with its output, or the lesson. */
+function printed(what) {
+  document.body.dataset.print = what;
+  print();
+}
+
 function fillPrinted() {
   const {program} = files, texts = [program, ...files.withs(program)].map(it => [it.name, it.text]);
   const lines = text => text.replace(/\n$/, '').split('\n').map((it, k) => `${String(k + 1).padStart(4)}  ${it}`).join('\n');
@@ -447,9 +469,9 @@ function fillPrinted() {
 
 function wire() {
   const acts = {
-    run: () => runs.run(), stop: () => runs.stopped(), step: () => runs.step(), layout: layOut, new: newFile,
+    run: () => runs.run(), stop: () => grading ? grading.stop() : runs.stopped(), step: () => runs.step(), layout: layOut, new: newFile,
     open: () => $('chosen').click(), save: () => save(files.current.name, [files.current.text]), rename,
-    delete: removeFile, link, print: () => print(), 'hand-in': handIn, 'save-output': () => runs.saveOutput(files.program.name),
+    'put-back': putBack, delete: removeFile, link, print: () => printed('program'), 'print-lesson': () => printed('lesson'), 'hand-in': handIn, 'save-output': () => runs.saveOutput(files.program.name),
     'no-more': () => runs.noMore(), skip: () => goTo(files.current.name, {line: 1}),
     try: () => grade(exerciseOf(files.current)),
     back: () => {
@@ -484,6 +506,7 @@ function wire() {
   };
   wireMenus();
   window.addEventListener('beforeprint', fillPrinted);
+  window.addEventListener('afterprint', () => delete document.body.dataset.print);
   window.addEventListener('hashchange', openLink);
   window.addEventListener('pagehide', () => files.current && files.keep(files.current));
 }
