@@ -1,5 +1,5 @@
 """Browsers without a screen, for the scripts that try pages: Chromium by its driver (the packages chromium and
-chromium-driver of Debian), and Firefox by Marionette (the package firefox-esr). `opened()` gives those that are here."""
+chromium-driver of Debian), and Firefox by Marionette (the package firefox-esr). `kinds()` gives those that are here."""
 import base64
 import json
 import pathlib
@@ -125,7 +125,8 @@ class Chromium(Browser):
         options = {"args": flags, "prefs": {"download.default_directory": self.folder.name}}
         wanted = {"goog:chromeOptions": options, "goog:loggingPrefs": {"browser": "ALL"},
                   "timeouts": {"script": 120000}}
-        self.session = "/session/" + self.call("POST", "/session", {"capabilities": {"alwaysMatch": wanted}})["sessionId"]
+        answer = self.call("POST", "/session", {"capabilities": {"alwaysMatch": wanted}})
+        self.session = "/session/" + answer["sessionId"]
 
     def call(self, method, path, body=None):
         data = None if body is None else json.dumps(body).encode()
