@@ -45,5 +45,5 @@ PerformsTask does shown known status =
     Performed does shown known status ⊎ (known.line_after ≡ known.line) × (status ≡ MEMORY)
 
 -- the words of a process were served over these files, or memory for its streams was refused
-abbrev pub ServesProcess : Holdings → Option (List Text) → KnownStreams → ℕ → Type 0
-ServesProcess files words known status = PerformsTask (AnswersWords files words) (Unit {0}) known status
+abbrev pub ServesProcess : Holdings → Option (List Text) → (shown : Type 0) → KnownStreams → ℕ → Type 0
+ServesProcess files words shown known status = PerformsTask (AnswersWords files words) shown known status

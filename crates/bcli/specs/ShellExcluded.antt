@@ -198,20 +198,20 @@ pub record FileIsRead (file : MemFile) : Type 0 where
 abbrev pub silent_lines : (input : Option (List ℕ)) (told : List ℕ) → KnownStreams
 silent_lines input told = record { input = input; line = Some told; line_after = Some told }
 
--- of the streams of a process
+-- of the streams of a process, whether the output was shown or not
 pub record ProcessExcluded (files : Holdings) : Type 0 where
   -- a call for help that is answered as no words or others are
   pub help_unserved : (words : List Text) (known : KnownStreams) → fault_of command_line words ≡ kind.DisplayHelp ∷ []
-      → ServesProcess files (Some words) known WRONG_COMMAND → ⊥
+      → ServesProcess files (Some words) (Unit {0}) known WRONG_COMMAND → ⊥
   -- wrong words, or words that can't be read, after which all went well
   pub wrong_status : (words : List Text) (known : KnownStreams) → AreWrong words
-      → ServesProcess files (Some words) known DONE → ⊥
-  pub unread_status : (known : KnownStreams) → ServesProcess files None known DONE → ⊥
+      → ServesProcess files (Some words) (Unit {0}) known DONE → ⊥
+  pub unread_status : (known : KnownStreams) → ServesProcess files None (Unit {0}) known DONE → ⊥
   -- a complaint that doesn't come to the writer of lines
   pub line_lost : (words : List Text) (input : Option (List ℕ)) (told : List ℕ) → AreWrong words
-      → ServesProcess files (Some words) (silent_lines input told) WRONG_COMMAND → ⊥
+      → ServesProcess files (Some words) (Unit {0}) (silent_lines input told) WRONG_COMMAND → ⊥
   pub unread_line_lost : (input : Option (List ℕ)) (told : List ℕ)
-      → ServesProcess files None (silent_lines input told) WRONG_COMMAND → ⊥
+      → ServesProcess files None (Unit {0}) (silent_lines input told) WRONG_COMMAND → ⊥
   -- a status that no task of this kind answers, or one that isn't that of a failed write though nothing was shown
   pub unanswered : (test : RunEnds → ℕ → Bool) (known : KnownStreams) (status : ℕ)
       → ((ends : RunEnds) → test ends status ≡ false)

@@ -1,5 +1,6 @@
 //! Bytes of output on their way to a writer.
 ghost use Rattle.std.specs.Prelude.{◌≡◌, ◌++◌, List, ℕ, [], if◌then◌else◌, length, nat_le, IfOk, MatchResult, OnErr, OnOk};
+ghost use Rattle.std.specs.Io.KnownBytes.{Appends};
 ghost use Rattle.bcli.specs.Blocks.{HandsOn, HandsSome, PassesOn, TakesPiece, WritesOn, has_room};
 
 use std::alloc::{AllocError, Global};
@@ -27,6 +28,16 @@ pub(crate) trait Buffered {
     // Shows what is kept. What can't be shown isn't tried again.
     fn show(&mut self) -> io::Result<()>
         ensures shows { OnOk result (shows self.old self.new) };
+}
+
+// A buffer of which its writer is left in the end.
+pub(crate) trait Finish<W> {
+    // What a call does that shows all that was kept.
+    ghost finishes: { Self → W → Type 0 };
+
+    // Shows what is kept, for the last time: no buffer is left that could take more.
+    fn finish(self) -> io::Result<W>
+        ensures finishes { IfOk result (finishes self) };
 }
 
 // A buffer of fixed length. Where that is 0, each piece is shown at once.
@@ -144,6 +155,22 @@ impl<W: Write + Drop> Buffered for Block<W> {
         ensures fails { OnErr result (HandsSome self.old self.old.kept self.new) }
     {
         self.show_kept()
+    }
+}
+
+impl<W: Write + Drop> Finish<W> for Block<W> {
+    ghost finishes = { λ old writer. Appends old.shown (W.contents writer) old.kept };
+
+    fn finish(mut self) -> io::Result<W>
+        ensures finishes { IfOk result (λ writer. Appends self.shown (W.contents writer) self.kept) }
+    {
+        self.show_kept()?;
+        let Block {
+            writer,
+            bytes: _,
+            filled: _,
+        } = self;
+        Ok(writer)
     }
 }
 

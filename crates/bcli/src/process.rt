@@ -1,6 +1,6 @@
 //! The streams of a process, kept in order: what was written is shown before more input is fetched, and before a line
 //! is written beside it.
-ghost use Rattle.std.specs.Prelude.{◌≡◌, ℕ, IfOk, None, OnOk, length, map as map_each, option_map, string_bytes};
+ghost use Rattle.std.specs.Prelude.{◌≡◌, ◌≢◌, ℕ, IfOk, None, OnOk, length, map as map_each, option_map, string_bytes};
 ghost use Rattle.std.specs.Io.{ReadsAtMost, WritesAtMost};
 ghost use Rattle.std.specs.Io.KnownBytes.{Keeps, ReadConsumes, WriteAppends};
 ghost use Rattle.blang.specs.Reports.{RunEnds, run_ends};
@@ -9,7 +9,7 @@ ghost use Rattle.bcli.specs.ShellExcluded.{ProcessExcluded};
 ghost use Rattle.bcli.specs.Processes.{AnswersWords, PerformsTask, ServesProcess};
 ghost use Rattle.bcli.specs.Shelves.{opened};
 
-use crate::block::{Block, Buffered};
+use crate::block::{Block, Buffered, Finish};
 use crate::serving::{refuse_words, serve};
 use crate::shelf::Shelf;
 use blang::status::{self, Status};
@@ -30,10 +30,12 @@ pub struct Streams<I: Read + Drop, O: Write + Drop, D: Write + Drop> {
     pub at_once: bool,
 }
 
-/// The status of a process, and its writer of lines as it was left.
+/// The status of a process, and its writers as they were left.
 #[derive(Drop)]
-pub struct Served<D: Write + Drop> {
+pub struct Served<O: Write + Drop, D: Write + Drop> {
     pub status: Status,
+    /// None where some of the output wasn't shown.
+    pub output: Option<O>,
     pub diag: D,
 }
 
@@ -43,13 +45,13 @@ pub fn serve_process<R, I, O, D>(
     rt: &R,
     words: Option<Vec<String>>,
     streams: Streams<I, O, D>,
-) -> Served<D>
+) -> Served<O, D>
 where
     R: AllocGlobal + Files,
     I: Read + Drop,
     O: Write + Drop,
     D: Write + Drop,
-    ensures serves { ServesProcess (opened R.File.remaining) (option_map (λ v. map_each string_bytes v.items) words) (record {
+    ensures serves { ServesProcess (opened R.File.remaining) (option_map (λ v. map_each string_bytes v.items) words) (result.output ≢ None) (record {
       input = I.remaining streams.input;
       line = D.contents streams.diag;
       line_after = D.contents result.diag;
@@ -69,24 +71,26 @@ where
         }
         Err(_) => Served {
             status: status::MEMORY,
+            output: None,
             diag,
         },
     }
 }
 
-// What is done over the ends of a process. As with a buffer, that it was done can only come from a call.
-trait Task {
+// What is done over the ends of a process. As with a buffer, that it was done can only come from a call. What it
+// writes goes to a buffer of this type, and only the caller of `perform_task` has one.
+trait Task<B: Buffered + Drop> {
     // What it does to the ends, with its status.
     ghost does: { Self → RunEnds → ℕ → Type 0 };
 
-    fn perform<I: ByteIn, O: ByteOut, D: ByteOut>(
+    fn perform<I: ByteIn, D: ByteOut>(
         self,
         input: &mut I,
-        out: &mut O,
+        out: &mut Writing<&Output<B>>,
         diag: &mut D,
     ) -> Status
         ensures does { does self (run_ends
-            (I.incoming input.old) (I.incoming input.new) (O.outgoing out.old) (O.outgoing out.new)
+            (I.incoming input.old) (I.incoming input.new) out.old out.new
             (D.outgoing diag.old) (D.outgoing diag.new)) result };
 }
 
@@ -97,13 +101,13 @@ struct Answering<'a, R> {
     words: Option<Vec<String>>,
 }
 
-impl<R: AllocGlobal + Files> Task for Answering<'_, R> {
+impl<R: AllocGlobal + Files, B: Buffered + Drop> Task<B> for Answering<'_, R> {
     ghost does = { λ it. AnswersWords (opened R.File.remaining) (option_map (λ v. map_each string_bytes v.items) it.words) };
 
-    fn perform<I: ByteIn, O: ByteOut, D: ByteOut>(
+    fn perform<I: ByteIn, D: ByteOut>(
         self,
         input: &mut I,
-        out: &mut O,
+        out: &mut Writing<&Output<B>>,
         diag: &mut D,
     ) -> Status {
         let Answering { rt, words } = self;
@@ -115,19 +119,20 @@ impl<R: AllocGlobal + Files> Task for Answering<'_, R> {
 }
 
 // Performs a task over the streams of a process, and then shows what is held of the output.
-fn perform_task<T, B, I, D>(
+fn perform_task<T, B, I, O, D>(
     alloc: Global,
     task: T,
     output: Output<B>,
     input: I,
     diag: D,
-) -> Served<D>
+) -> Served<O, D>
 where
-    T: Task + Drop,
-    B: Buffered + Drop,
+    T: Task<B> + Drop,
+    B: Buffered + Finish<O> + Drop,
     I: Read + Drop,
+    O: Write + Drop,
     D: Write + Drop,
-    ensures performs { PerformsTask (T.does task) (WasShown B.shows) (record {
+    ensures performs { PerformsTask (T.does task) (result.output ≢ None) (record {
       input = I.remaining input;
       line = D.contents diag;
       line_after = D.contents result.diag;
@@ -140,6 +145,7 @@ where
     let Ok(reader) = BufReader::new(alloc, asking) else {
         return Served {
             status: status::MEMORY,
+            output: None,
             diag,
         };
     };
@@ -152,15 +158,22 @@ where
         &mut Writing::new(&output),
         &mut lines,
     );
-    let status = match output.show() {
-        Ok(()) => told,
-        Err(_) => status::DEVICE,
-    };
     let WriteAfterOutput {
         writer: diag,
         output: _,
     } = lines.into_writer();
-    Served { status, diag }
+    match output.into_buffer().finish() {
+        Ok(writer) => Served {
+            status: told,
+            output: Some(writer),
+            diag,
+        },
+        Err(_) => Served {
+            status: status::DEVICE,
+            output: None,
+            diag,
+        },
+    }
 }
 
 // Output that streams share.
@@ -184,6 +197,12 @@ impl<B: Buffered + Drop> Output<B> {
             Ok(mut buffer) => buffer.show(),
             Err(_) => Err(io::Error::from(ErrorKind::Other)),
         }
+    }
+
+    // The buffer, which no stream shares any more.
+    fn into_buffer(self) -> B {
+        let Output { buffer } = self;
+        buffer.into_inner()
     }
 
     #[inline(always)]
