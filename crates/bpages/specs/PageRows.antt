@@ -1,5 +1,8 @@
 -- Closed facts: words and pages of a small table, in which pages 1 and 3 are made.
-use Rattle.std.specs.Prelude.{◌≡◌, ℕ, List, [], ◌∷◌, ◌++◌, map, replicate, refl}
+use Rattle.std.specs.Prelude.{◌≡◌, ℕ, true, false, List, [], ◌∷◌, ◌++◌, map, replicate, refl, Result, Err, OnErr}
+use Rattle.std.proofs.Common.{subst, sym, ◌∙◌}
+use Rattle.std.specs.Ordering.{nat_cmp}
+use Rattle.bword.specs.declared.store.NoMemory.{NoMemory}
 use Rattle.std.specs.FinSet as set
 use Rattle.bpages.specs.Pages.{paged_word, made_below}
 
@@ -17,3 +20,10 @@ words = refl
 made : made_below starts 4 ≡ set.insert (set.insert set.empty 1) 3
 unfolding made_below
 made = refl
+
+-- A page that is made isn't refused.
+refused : (pages : set.FinSet nat_cmp) (page : ℕ) (r : Result (Unit {0}) NoMemory) (why : NoMemory)
+    → set.contains pages page ≡ true → r ≡ Err why → OnErr r (set.contains pages page ≡ false) → ⊥
+refused pages page r why made e h =
+    let none : true ≡ false = sym made ∙ subst (λ x. OnErr x (set.contains pages page ≡ false)) e h in
+    cc
