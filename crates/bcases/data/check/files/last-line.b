@@ -1,0 +1,4 @@
+main() ;
+
+
+/* the last line

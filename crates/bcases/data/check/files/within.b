@@ -1,0 +1,4 @@
+/* lines
+of a
+comment */ main() say('x');
+/* one */ f() ;

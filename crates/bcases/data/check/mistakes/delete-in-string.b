@@ -1,0 +1,5 @@
+main() {
+    auto s;
+    s = "ab";
+    printn(s, 10);
+}

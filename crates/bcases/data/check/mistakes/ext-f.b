@@ -1,0 +1,6 @@
+main() {
+    printn(count + 1, 10);
+}
+count() {
+    return(1);
+}

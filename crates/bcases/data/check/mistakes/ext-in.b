@@ -1,0 +1,10 @@
+main() {
+    printn(count, 10);
+}
+f() {
+    {
+        ;
+    }
+    count();
+}
+count() ;

@@ -1,0 +1,11 @@
+main() {
+    printn(count, 10);
+}
+f() {
+    {
+        {
+            ;
+        }
+    }
+}
+count 5;

@@ -1,0 +1,8 @@
+main() {
+    printn(count, 10);
+}
+f() {
+    auto count;
+    count = 1;
+}
+count 5;

@@ -1,0 +1,8 @@
+main() {
+    printn(countr, 10);
+}
+f() {
+    auto countx;
+    countx = 1;
+}
+counter 5;

@@ -1,0 +1,4 @@
+counter 5;
+main() {
+    printn(countr, 10);
+}

@@ -1,0 +1,12 @@
+main() {
+    printn(countr, 10);
+}
+f() {
+    auto counter;
+    {
+        ;
+    }
+    counter = 1;
+    ;
+    counter = 2;
+}

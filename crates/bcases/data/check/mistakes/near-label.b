@@ -1,0 +1,5 @@
+main() {
+    goto loop;
+lop:
+    ;
+}

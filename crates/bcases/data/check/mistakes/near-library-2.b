@@ -1,0 +1,6 @@
+main() {
+    putchr('a');
+    putcahr('a');
+    getcharr();
+    exut(0);
+}

@@ -1,0 +1,2 @@
+main() abc(1);
+ac(n) printn(n, 10);

@@ -1,0 +1,5 @@
+main() {
+    auto ab;
+    ab = 1;
+    printn(ac, 10);
+}
