@@ -15,3 +15,4 @@ pub mod TakenLaws
 pub mod NamesSteps
 mod WatchSteps
 mod WholeSteps
+mod CompilerExcluded
