@@ -1,0 +1,2 @@
+main() ;
+n 5;   /* the end */
