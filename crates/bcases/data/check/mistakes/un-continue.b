@@ -1,0 +1,7 @@
+main() {
+    auto x, s;
+    x = 1;
+    s = "ab";
+    while(x)
+        continue;
+}

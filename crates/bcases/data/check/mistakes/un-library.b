@@ -1,0 +1,6 @@
+main() {
+    auto x, s;
+    x = 1;
+    s = "ab";
+    x = printn;
+}

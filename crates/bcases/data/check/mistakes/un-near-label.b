@@ -1,0 +1,8 @@
+main() {
+    auto x, s;
+    x = 1;
+    s = "ab";
+    goto onn;
+on:
+    ;
+}
