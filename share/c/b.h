@@ -13,8 +13,8 @@
  * written is not promised.
  *
  * What is said of a call holds for what fits into its rooms. A room that is too small is a write that failed: the
- * status is B_FAILED, and the room is full of the beginning of what it should hold. So where neither B_FAILED nor
- * B_NO_MEMORY is answered, all was written.
+ * status is B_FAILED, and the room is full of the beginning of what it should hold. A room that is just large enough is
+ * never answered so. Where neither B_FAILED nor B_NO_MEMORY is answered, all was written.
  *
  * Several threads may call at once, each with rooms of its own: calls share nothing but malloc. That was tried, and is
  * no part of what is proved. */

@@ -1,1 +1,3 @@
 mod Filling
+pub mod RoomSteps
+pub mod RoomsExcluded

@@ -8,7 +8,7 @@ use Rattle.bcheck.specs.Checks.{Check, Checks}
 use Rattle.bcheck.specs.declared.form.FindingForm.TheVariants as form
 use Rattle.bformat.specs.Formats.{Format, Formats}
 use Rattle.bsources.specs.Files.{Files, file_of}
-use Rattle.bembed.specs.Rooms.{Room, Filled, Untouched, fresh, stream_of}
+use Rattle.bembed.specs.Rooms.{Overflow, Room, Filled, Untouched, fresh, stream_of}
 
 -- a source by itself, named as standard input
 abbrev pub alone : List ℕ → Files
@@ -28,10 +28,10 @@ check_of edition source out out_after status = record {
 
 -- A source in memory is checked into a room, and there is no line.
 pub record ChecksIn (source : List ℕ) (out line : Room) (status : ℕ) (edition : Edition) : Type 0 where
-  pub out_failures : ℕ
-  pub out_filled : Filled out out_failures
+  pub out_over : Overflow
+  pub out_filled : Filled out out_over
   pub no_line : Untouched line
-  pub checks : Checks (check_of edition source fresh (stream_of out out_failures) status)
+  pub checks : Checks (check_of edition source fresh (stream_of out out_over) status)
 
 -- a layout that is written, and its two streams, before and after
 abbrev pub format_of : Edition → (source : List ℕ) → (out out_after line line_after : Outgoing) → (status : ℕ) → Format
@@ -48,16 +48,16 @@ format_of edition source out out_after line line_after status = record {
 
 -- A source in memory is laid out into two rooms.
 pub record FormatsIn (source : List ℕ) (out line : Room) (status : ℕ) (edition : Edition) : Type 0 where
-  pub out_failures : ℕ
-  pub line_failures : ℕ
-  pub out_filled : Filled out out_failures
-  pub line_filled : Filled line line_failures
-  pub formats : Formats (format_of edition source fresh (stream_of out out_failures) fresh
-      (stream_of line line_failures) status)
+  pub out_over : Overflow
+  pub line_over : Overflow
+  pub out_filled : Filled out out_over
+  pub line_filled : Filled line line_over
+  pub formats : Formats (format_of edition source fresh (stream_of out out_over) fresh
+      (stream_of line line_over) status)
 
 -- A text is written into a room, and there is no line.
 pub record SaysIn (text : List ℕ) (out line : Room) (status : ℕ) : Type 0 where
-  pub out_failures : ℕ
-  pub out_filled : Filled out out_failures
+  pub out_over : Overflow
+  pub out_filled : Filled out out_over
   pub no_line : Untouched line
-  pub says : Reported text DONE fresh (stream_of out out_failures) status
+  pub says : Reported text DONE fresh (stream_of out out_over) status

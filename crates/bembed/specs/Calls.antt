@@ -10,7 +10,7 @@ use Rattle.blang.specs.declared.status.TheConstants.{WRONG_COMMAND}
 use Rattle.brun.specs.Migrates.{Migrates, rewriting}
 use Rattle.brun.specs.Runs.{RunsText}
 use Rattle.bwhere.specs.Wheres.{LocatesCode}
-use Rattle.bembed.specs.Rooms.{Room, Filled, Untouched, fresh, stream_of}
+use Rattle.bembed.specs.Rooms.{Overflow, Room, Filled, Untouched, fresh, stream_of}
 
 -- the editions by their numbers
 abbrev pub edition_of : ℕ → Option Edition
@@ -40,64 +40,64 @@ run_over edition source source_after code code_after line line_after status = re
 }
 
 -- the run of the compiler over a source in memory and two rooms
-abbrev pub compile_run : Edition → (source : List ℕ) → Unread → (out line : Room) → (out_failures line_failures : ℕ)
+abbrev pub compile_run : Edition → (source : List ℕ) → Unread → (out line : Room) → (out_over line_over : Overflow)
     → (status : ℕ) → Run
-compile_run edition source after out line out_failures line_failures status =
-    run_over edition (all_of source) (incoming_of after) fresh (stream_of out out_failures)
-    fresh (stream_of line line_failures) status
+compile_run edition source after out line out_over line_over status =
+    run_over edition (all_of source) (incoming_of after) fresh (stream_of out out_over)
+    fresh (stream_of line line_over) status
 
 -- A source in memory is compiled into two rooms.
 pub record CompilesIn (source : List ℕ) (out line : Room) (status : ℕ) (edition : Edition) : Type 0 where
   pub source_after : Unread
-  pub out_failures : ℕ
-  pub line_failures : ℕ
-  pub out_filled : Filled out out_failures
-  pub line_filled : Filled line line_failures
-  pub compiles : Compiles (compile_run edition source source_after out line out_failures line_failures status)
-  pub headline : CompileHeadline (compile_run edition source source_after out line out_failures line_failures status)
+  pub out_over : Overflow
+  pub line_over : Overflow
+  pub out_filled : Filled out out_over
+  pub line_filled : Filled line line_over
+  pub compiles : Compiles (compile_run edition source source_after out line out_over line_over status)
+  pub headline : CompileHeadline (compile_run edition source source_after out line out_over line_over status)
 
 -- the ends of a run over streams in memory
-abbrev pub ends_of : (input : List ℕ) → Unread → (out line : Room) → (out_failures line_failures : ℕ) → RunEnds
-ends_of input after out line out_failures line_failures =
-    run_ends (all_of input) (incoming_of after) fresh (stream_of out out_failures) fresh (stream_of line line_failures)
+abbrev pub ends_of : (input : List ℕ) → Unread → (out line : Room) → (out_over line_over : Overflow) → RunEnds
+ends_of input after out line out_over line_over =
+    run_ends (all_of input) (incoming_of after) fresh (stream_of out out_over) fresh (stream_of line line_over)
 
 -- A source in memory is compiled, and its program is run on an input in memory, into two rooms.
 pub record GoesIn (steps : ℕ) (source input : List ℕ) (out line : Room) (status : ℕ) (edition : Edition) : Type 0 where
   pub source_after : Unread
   pub input_after : Unread
-  pub out_failures : ℕ
-  pub line_failures : ℕ
-  pub out_filled : Filled out out_failures
-  pub line_filled : Filled line line_failures
+  pub out_over : Overflow
+  pub line_over : Overflow
+  pub out_filled : Filled out out_over
+  pub line_filled : Filled line line_over
   pub goes : GoesOff edition steps (all_of source) (incoming_of source_after)
-      (ends_of input input_after out line out_failures line_failures) status
+      (ends_of input input_after out line out_over line_over) status
   pub headline : Headline edition steps (all_of source) (incoming_of source_after)
-      (ends_of input input_after out line out_failures line_failures) status
+      (ends_of input input_after out line out_over line_over) status
 
 -- A code text is run on an input in memory, into two rooms.
 pub record RunsIn (steps : ℕ) (code input : List ℕ) (out line : Room) (status : ℕ) : Type 0 where
   pub input_after : Unread
-  pub out_failures : ℕ
-  pub line_failures : ℕ
-  pub out_filled : Filled out out_failures
-  pub line_filled : Filled line line_failures
-  pub runs : RunsText steps code (ends_of input input_after out line out_failures line_failures) status
+  pub out_over : Overflow
+  pub line_over : Overflow
+  pub out_filled : Filled out out_over
+  pub line_filled : Filled line line_over
+  pub runs : RunsText steps code (ends_of input input_after out line out_over line_over) status
 
 -- The same, and where it went wrong is told.
 pub record LocatesIn (steps : ℕ) (code input : List ℕ) (out line : Room) (status : ℕ) : Type 0 where
   pub input_after : Unread
-  pub out_failures : ℕ
-  pub line_failures : ℕ
-  pub out_filled : Filled out out_failures
-  pub line_filled : Filled line line_failures
-  pub locates : LocatesCode steps code (ends_of input input_after out line out_failures line_failures) status
+  pub out_over : Overflow
+  pub line_over : Overflow
+  pub out_filled : Filled out out_over
+  pub line_filled : Filled line line_over
+  pub locates : LocatesCode steps code (ends_of input input_after out line out_over line_over) status
 
 -- A code text in memory is migrated into two rooms.
 pub record MigratesIn (code : List ℕ) (out line : Room) (status : ℕ) : Type 0 where
   pub code_after : Unread
-  pub out_failures : ℕ
-  pub line_failures : ℕ
-  pub out_filled : Filled out out_failures
-  pub line_filled : Filled line line_failures
-  pub migrates : Migrates (rewriting (all_of code) (incoming_of code_after) fresh (stream_of out out_failures))
-      fresh (stream_of line line_failures) status
+  pub out_over : Overflow
+  pub line_over : Overflow
+  pub out_filled : Filled out out_over
+  pub line_filled : Filled line line_over
+  pub migrates : Migrates (rewriting (all_of code) (incoming_of code_after) fresh (stream_of out out_over))
+      fresh (stream_of line line_over) status

@@ -2,3 +2,4 @@ pub mod Rooms
 pub mod Calls
 pub mod Asks
 mod CallRows
+pub mod RoomsExcluded

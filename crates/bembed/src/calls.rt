@@ -1,6 +1,7 @@
 //! Compiling and running.
 ghost use Rattle.std.specs.Prelude.{◌≡◌};
 ghost use Rattle.blang.specs.declared.status.TheConstants.{WRONG_COMMAND};
+ghost use Rattle.bembed.specs.RoomsExcluded.{Excluded};
 ghost use Rattle.bembed.specs.Calls.{edition_of, InEdition, CompilesIn, GoesIn, LocatesIn, MigratesIn, RunsIn};
 
 use crate::room::{Room, Written};
@@ -155,3 +156,8 @@ pub extern "C" fn b_migrate(
     let mut code = MemIn::new(code);
     migrate(alloc, &mut code, &mut out, &mut line)
 }
+
+/// What no call tells of its rooms: that a text has no room where it has.
+pub fn wrong_rooms_are_excluded()
+    ensures { Excluded }
+{}

@@ -6,3 +6,5 @@
 mod asking;
 mod calls;
 mod room;
+
+pub use calls::wrong_rooms_are_excluded;

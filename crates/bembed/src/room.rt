@@ -1,6 +1,6 @@
 //! Streams over the rooms of a caller.
-ghost use Rattle.std.specs.Prelude.{◌≡◌, ◌≤◌, [], ◌∷◌, false, length};
-ghost use Rattle.bembed.specs.Rooms.{room_of, FailsFull};
+ghost use Rattle.std.specs.Prelude.{◌≡◌, ◌≤◌, ◌+◌, ◌++◌, [], ◌∷◌, take, false, length};
+ghost use Rattle.bembed.specs.Rooms.{room_of, overflow_of, fresh, FailsFull};
 
 use bword::{ByteOut, EndFault};
 
@@ -21,8 +21,10 @@ pub(crate) struct Room<'a> {
     room: &'a mut [u8],
     count: &'a mut usize,
     failures: u64,
+    // The first byte that had no room.
+    over: Option<u8>,
     ghost within: { count.now ≤ length room.now },
-    ghost full: { FailsFull room.now count.now failures },
+    ghost full: { FailsFull room.now count.now (overflow_of failures over) },
 }
 
 impl<'a> Room<'a> {
@@ -30,20 +32,20 @@ impl<'a> Room<'a> {
     pub(crate) fn new(room: &'a mut [u8], count: &'a mut usize) -> Room<'a>
         ensures room_name { result.room.ghost_name ≡ room.entry.ghost_name }
         ensures count_name { result.count.ghost_name ≡ count.entry.ghost_name }
-        ensures room { result.room.now ≡ room.old }
-        ensures empty { (result.count.now ≡ 0) × (result.failures ≡ 0) }
+        ensures empty { room_of result.room.now result.count.now (overflow_of result.failures result.over) ≡ fresh }
     {
         *count = 0;
         Room {
             room,
             count,
             failures: 0,
+            over: None,
         }
     }
 }
 
 impl ByteOut for Room<'_> {
-    ghost outgoing = { λ r. room_of r.room.now r.count.now r.failures };
+    ghost outgoing = { λ r. room_of r.room.now r.count.now (overflow_of r.failures r.over) };
 
     ghost lender = { λ r. r.room.ghost_name ∷ r.count.ghost_name ∷ [] };
 
@@ -51,13 +53,22 @@ impl ByteOut for Room<'_> {
 
     fn put(&mut self, bytes: &[u8]) -> Result<(), EndFault> {
         let start = *self.count;
-        let count = bytes.len().min(self.room.len() - start);
-        self.room[start..start + count].copy_from_slice(&bytes[..count]);
-        *self.count = start + count;
-        if count < bytes.len() {
-            self.failures = self.failures.saturating_add(1);
-            return Err(EndFault::Device);
-        }
-        Ok(())
+        let fits = &bytes[..bytes.len().min(self.room.len() - start)];
+        write_at(self.room, start, fits);
+        *self.count = start + fits.len();
+        let Some(byte) = bytes.get(fits.len()) else {
+            return Ok(());
+        };
+        self.over = self.over.or(Some(*byte));
+        self.failures = self.failures.saturating_add(1);
+        Err(EndFault::Device)
     }
+}
+
+// Writes bytes at a place of a room that has room for them there.
+fn write_at(room: &mut [u8], start: usize, bytes: &[u8])
+    requires { start + length bytes.now ≤ length room.old }
+    ensures { take (start + length bytes.now) room.new ≡ take start room.old ++ bytes.now }
+{
+    room[start..start + bytes.len()].copy_from_slice(bytes);
 }
