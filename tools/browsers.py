@@ -164,7 +164,8 @@ class Chromium(Browser):
 class Firefox(Browser):
     name = "Firefox"
     NAMES = {"open": "WebDriver:Navigate", "run": "WebDriver:ExecuteAsyncScript", "find": "WebDriver:FindElement",
-             "click": "WebDriver:ElementClick", "actions": "WebDriver:PerformActions", "size": "WebDriver:SetWindowRect",
+             "click": "WebDriver:ElementClick", "actions": "WebDriver:PerformActions",
+             "size": "WebDriver:SetWindowRect",
              "picture": "WebDriver:TakeScreenshot", "frame": "WebDriver:SwitchToFrame"}
 
     def __init__(self):

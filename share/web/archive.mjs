@@ -31,8 +31,9 @@ export function zip(files, date = new Date()) {
     const about = [[20, 2], [0x800, 2], [0, 2], ...dosTime(date), [crc(bytes), 4], [bytes.length, 4],
       [bytes.length, 4], [title.length, 2], [0, 2]];
     const head = numbers([0x04034b50, 4], ...about);
+    const entry = numbers([0x02014b50, 4], [20, 2], ...about, [0, 2], [0, 2], [0, 2], [0, 4], [at, 4]);
     bodies.push(Uint8Array.from(head), title, bytes);
-    index.push(Uint8Array.from(numbers([0x02014b50, 4], [20, 2], ...about, [0, 2], [0, 2], [0, 2], [0, 4], [at, 4])), title);
+    index.push(Uint8Array.from(entry), title);
     at += head.length + title.length + bytes.length;
   }
   const size = index.reduce((sum, it) => sum + it.length, 0);

@@ -22,7 +22,7 @@ export class Course {
 
   isPassed(name) {
     const result = this.results.get(name);
-    return !!result && result.of > 0 && result.passed === result.of;
+    return !!result && result.of > 0 && result.passed === result.of && !result.isOld;
   }
 
   /** The list of chapters, with a mark where all exercises are done. */
@@ -105,13 +105,14 @@ export class Course {
   }
 
   card(exercise) {
-    const {name} = exercise, box = element('section', {className: 'exercise', id: `exercise-${name}`});
+    const {name} = exercise, count = exercise.tests.length;
+    const box = element('section', {className: 'exercise', id: `exercise-${name}`});
     box.innerHTML = exercise.html;
     box.prepend(element('h3', {}, 'Exercise ', element('em', {}, name)));
     const result = element('div', {className: 'result', role: 'status'});
     box.append(element('p', {className: 'row'},
       button(`Write ${name}.b`, () => this.acts.write(exercise)),
-      button(exercise.tests.length === 1 ? 'Try the test' : `Try the ${exercise.tests.length} tests`, () => this.acts.grade(exercise)),
+      button(count === 1 ? 'Try the test' : `Try the ${count} tests`, () => this.acts.grade(exercise)),
       button('Hand in ..', () => this.acts.handIn())), result);
     this.fill(result, exercise, this.results.get(name));
     return box;
@@ -119,9 +120,9 @@ export class Course {
 
   fill(box, exercise, result) {
     if (!result) return;
-    const isRight = result.passed === result.of;
+    const isRight = result.passed === result.of, when = result.isOld ? ' before the last change' : '';
     const head = element('p', {className: isRight ? 'good' : 'bad'}, result.refused
-      ? `Not taken: ${result.refused}.` : `${result.passed} of ${plural(result.of, 'test')} passed.`);
+      ? `Not taken: ${result.refused}.` : `${result.passed} of ${plural(result.of, 'test')} passed${when}.`);
     box.replaceChildren(head, element('ul', {}, ...result.failed.map(([test, text]) => element('li', {},
       element('b', {}, `${test}: `), text))));
   }
@@ -130,12 +131,21 @@ export class Course {
   graded(exercise, {refused, results}) {
     const failed = results.filter(it => it.result !== 'ok').map(it => [it.test.name, sentence(it)]);
     const passed = results.length - failed.length;
-    const kept = {passed, of: exercise.tests.length, failed, refused};
-    this.results.set(exercise.name, kept);
-    this.store.put(`result:${exercise.name}`, kept);
+    return this.keep(exercise, {passed, of: exercise.tests.length, failed, refused, isOld: false});
+  }
+
+  keep(exercise, result) {
+    this.results.set(exercise.name, result);
+    this.store.put(`result:${exercise.name}`, result);
     const box = document.querySelector(`#exercise-${exercise.name} .result`);
-    if (box) this.fill(box, exercise, kept);
+    if (box) this.fill(box, exercise, result);
     this.list();
-    return kept;
+    return result;
+  }
+
+  /** A change of what was written for an exercise: what came of its tests was before it. */
+  touch(exercise) {
+    const result = this.results.get(exercise.name);
+    if (result && !result.isOld) this.keep(exercise, {...result, isOld: true});
   }
 }

@@ -91,7 +91,7 @@ export class Grading {
 
   placeIn(told) {
     const found = PLACE.exec(told);
-    return found && {where: found[1], line: Number(found[2]), file: found[3] ?? this.name, step: found[4], means: found[6]};
+    return found && {line: Number(found[2]), file: found[3] ?? this.name, means: found[6]};
   }
 }
 

@@ -83,7 +83,14 @@ export class Files {
 
   /** The other files that come after a program, and no name of the library. */
   withs(program) {
-    return program.libs.map(name => this.open.find(it => it !== program && it.name === name)).filter(Boolean);
+    return program.libs.map(name => this.known(program, name)).filter(Boolean);
+  }
+
+  /** The file that a name means for a program: one that is open, one of its place, or one of the person's own. */
+  known(program, name) {
+    const open = this.open.find(it => it !== program && it.name === name);
+    const found = open ?? this.all.get(`${program.place}/${name}`) ?? this.all.get(`/${name}`);
+    return found === program ? null : found;
   }
 
   /** What may come after a program: open files of its place and those that are a person's own, each name once. */

@@ -21,56 +21,61 @@ export class Findings {
 
   /** Checks a program, shows what was found, and then the edits. Of checks that overlap the last one counts. */
   async update(program) {
-    const serial = ++this.serial, found = await this.check(program);
+    const serial = ++this.serial, {text} = program, found = await this.check(program);
     if (serial !== this.serial || !found) return;
     this.found = found;
     this.mark(found);
-    this.show(found, program, new Map());
-    const offers = await this.tried(found, program, serial);
-    if (serial === this.serial && offers.size) this.show(found, program, offers);
+    const all = JSON.stringify([program.key, text, found]);
+    if (all === this.shown) return;
+    this.shown = all;
+    this.show(found, program, text, new Map());
+    const offers = await this.tried(found, program, text, () => this.shown === all);
+    if (this.shown === all && offers.size) this.show(found, program, text, offers);
   }
 
-  async tried(found, program, serial) {
+  async tried(found, program, text, isShown) {
     const offers = new Map();
     for (const it of found.filter(one => one.file === program.name).slice(0, TRIED)) {
-      for (const edit of edits(program.text, it)) {
-        if (serial !== this.serial) return offers;
-        if (await this.holds(edit, it, found, program)) offers.set(it, [...offers.get(it) ?? [], edit]);
+      for (const edit of edits(text, it)) {
+        if (!isShown()) return offers;
+        if (await this.holds(edit, it, found, program, text)) offers.set(it, [...offers.get(it) ?? [], edit]);
       }
     }
     return offers;
   }
 
-  async holds(edit, finding, before, program) {
+  async holds(edit, finding, before, program, text) {
     if (edit.lib && edit.text === undefined) return true;
-    const after = await this.check(program, {text: edited(program.text, edit), lib: edit.lib});
+    const after = await this.check(program, {text: edited(text, edit), lib: edit.lib});
     if (!after || after.some(it => isSame(it, finding) && it.line <= finding.line + 1)) return false;
     const [first] = errors(after), isWarning = finding.severity === 'warning';
     if (!first) return true;
     return !isWarning && (first.line > finding.line || errors(after).length < errors(before).length);
   }
 
-  show(found, program, offers) {
-    $('findings').replaceChildren(...found.slice(0, MOST).map(it => this.item(it, program, offers.get(it) ?? [])));
+  show(found, program, text, offers) {
+    const items = found.slice(0, MOST).map(it => this.item(it, program, text, offers.get(it) ?? []));
+    $('findings').replaceChildren(...items);
     if (found.length > MOST) $('findings').append(element('li', {}, `.. and ${found.length - MOST} more`));
     $('findings').hidden = found.length === 0;
     this.tell(found);
   }
 
   tell(found) {
-    const first = found[0];
-    const text = !first ? '' : `${found.length === 1 ? 'One finding' : `${found.length} findings`}, line ${first.line}: `
-      + first.message;
+    const [first] = found, count = found.length === 1 ? 'One finding' : `${found.length} findings`;
+    const text = first ? `${count}, line ${first.line}: ${first.message}` : '';
     if ($('found-said').textContent !== text) $('found-said').textContent = text;
   }
 
-  item(it, program, offers) {
+  item(it, program, text, offers) {
     const where = it.file === program.name ? `Line ${it.line}` : `${it.file}, line ${it.line}`;
     const head = button('', () => this.go(it), {className: 'finding'});
     head.append(element('b', {}, `${where}: `), shown(it.message));
     const fix = element('small', {}, shown(it.fix ?? ''));
-    const buttons = offers.map(edit => button(`Fix: ${told(program.text, edit)}`, () => this.apply(edit, program),
-      {className: 'fix'}));
+    const buttons = offers.map(edit => button(`Fix: ${told(text, edit)}`, () => {
+      if (program.text === text) this.apply(edit, program);
+      else this.update(program);
+    }, {className: 'fix'}));
     return element('li', {className: it.severity}, head, fix, ...buttons);
   }
 }

@@ -102,7 +102,9 @@ export function edits(text, finding) {
   return [];
 }
 
-export const edited = (text, {from, to, text: put}) => put === undefined ? text : text.slice(0, from) + put + text.slice(to);
+export function edited(text, {from, to, text: put}) {
+  return put === undefined ? text : text.slice(0, from) + put + text.slice(to);
+}
 
 /** What an edit does, for its button. */
 export function told(text, {from, to, text: put, lib}) {

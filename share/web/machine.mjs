@@ -1,4 +1,5 @@
-// The program as a helper beside the page: a worker that runs one command after the other, and is made anew after a stop.
+// The program as a helper beside the page: a worker that runs one command after the other, and is made anew where it
+// was stopped.
 const NONE = new Uint8Array(0);
 
 export class Machine {

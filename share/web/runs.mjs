@@ -103,7 +103,7 @@ export class Runs {
     else if (ended.status === 0) say(`Done, in ${seconds(ended.took)}.`, 'good');
     else if (place) this.sayPlace(line, means, place, session);
     else if (ended.status === 1 && line) this.sayFault(line, 'the program has a fault, told below the editor', session);
-    else if (line.startsWith('load')) this.sayFault(line, 'the program can\'t be run, as is told below the editor', session);
+    else if (line.startsWith('load')) this.sayFault(line, "it can't be run, as told below the editor", session);
     else say(line ? `${line}.` : `Ended with status ${ended.status}, in ${seconds(ended.took)}.`, 'bad');
     this.readOut();
   }

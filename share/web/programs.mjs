@@ -1,0 +1,36 @@
+// What a command gets of a program: its words, its files and its input.
+import {bytesOf, textOf} from './dom.mjs';
+import {parsed} from './findings.mjs';
+import {checker, data, files} from './state.mjs';
+
+const pathOf = name => name.endsWith('.b') ? name : `lib/${name}.b`;
+
+/** What a command gets of a program, with another text or one LIB more where a change is tried. */
+export function programOf(file, {text = file.text, lib} = {}) {
+  const withs = files.withs(file), libs = lib && !file.libs.includes(lib) ? [...file.libs, lib] : file.libs;
+  const there = libs.filter(it => it in data.libs || withs.some(one => one.name === it));
+  const given = {[file.name]: bytesOf(text)};
+  for (const it of withs) given[it.name] = bytesOf(it.text);
+  for (const it of there) if (it in data.libs) given[pathOf(it)] = bytesOf(data.libs[it]);
+  const words = [`--edition=${file.edition}`, file.name, ...there.flatMap(it => ['--with', pathOf(it)])];
+  return {name: file.name, words, files: given, input: file.input, ends: file.ends};
+}
+
+/** What `check` finds in a program. */
+export async function check(file, change) {
+  const {words, files: given} = programOf(file, change);
+  const ended = await checker.ask(['check', '--json', ...words], {files: given});
+  return ended.output ? parsed(textOf(ended.output)) : null;
+}
+
+/** The words of a command of a lesson, and the files of its chapter, as they are now. */
+export function commandOf(line, set) {
+  const [told, input] = line.split(' < '), words = told.split(' '), given = {};
+  const text = name => files.all.get(`${set.place}/${name}`)?.text ?? set.files[name];
+  words.forEach((word, k) => {
+    if (words[k - 1] === '--with') words[k] = pathOf(word);
+    if (word in set.files) given[word] = bytesOf(text(word));
+    else if (words[k - 1] === '--with' && word in data.libs) given[pathOf(word)] = bytesOf(data.libs[word]);
+  });
+  return {words, files: given, input: set.files[input] ?? ''};
+}

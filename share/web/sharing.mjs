@@ -1,0 +1,57 @@
+// Links that hold a program, and what is printed.
+import {$, element, say} from './dom.mjs';
+import {addFile, nameFrom} from './devices.mjs';
+import {openAll, pane} from './editing.mjs';
+import {packed, unpacked} from './link.mjs';
+import {data, files} from './state.mjs';
+
+export async function link() {
+  const {program} = files, {libs, edition, input, ends} = program;
+  const all = [program, ...files.withs(program)].map(it => [it.name, it.text]);
+  const there = libs.filter(it => it in data.libs || all.some(([name]) => name === it));
+  const fragment = await packed({files: all, libs: there, edition, input, ends});
+  history.replaceState(null, '', `#${fragment}`);
+  const isCopied = await navigator.clipboard?.writeText(location.href).then(() => true, () => false);
+  say(`The link is in the address line${isCopied ? ', and copied' : ''}: ${location.href.length} characters.`, 'good');
+}
+
+/** Opens the program of the fragment, if there is one. */
+export async function openLink(course) {
+  const fragment = location.hash.slice(1);
+  if (!fragment) return false;
+  if (data.chapters.some(it => it.name === fragment)) {
+    course.show(fragment, true);
+    pane('course');
+    return true;
+  }
+  try {
+    const program = await unpacked(fragment);
+    if (!program) throw new Error('it has another form');
+    const [[name, text], ...more] = program.files;
+    for (const [other, its] of more) addFile(nameFrom(other), its);
+    addFile(nameFrom(name), text, {edition: program.edition, libs: program.libs,
+      input: program.input, ends: program.ends === true});
+    say(`${name} is from the link.`);
+  } catch (it) {
+    openAll([{name: files.freeName('prog.b')}]);
+    say(`This link holds no program: ${it.message}. Here is an empty file.`, 'bad');
+  }
+  history.replaceState(null, '', location.pathname + location.search);
+  return true;
+}
+
+/** Prints the program with its output, or the lesson. */
+export function printed(what) {
+  document.body.dataset.print = what;
+  print();
+}
+
+export function fillPrinted() {
+  const {program} = files, texts = [program, ...files.withs(program)].map(it => [it.name, it.text]);
+  const line = (text, k) => `${String(k + 1).padStart(4)}  ${text}`;
+  const lines = text => text.replace(/\n$/, '').split('\n').map(line).join('\n');
+  const parts = texts.flatMap(([name, text]) => [element('h2', {}, name), element('pre', {}, lines(text))]);
+  const wrote = $('out').textContent;
+  if (wrote) parts.push(element('h2', {}, 'Output'), element('pre', {}, wrote));
+  $('printed').replaceChildren(...parts);
+}

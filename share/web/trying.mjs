@@ -1,0 +1,98 @@
+// The exercises: writing them, trying their tests, and handing them in.
+import {element, save, say} from './dom.mjs';
+import {zip} from './archive.mjs';
+import {Course} from './course.mjs';
+import {dialog} from './dialogs.mjs';
+import {editor, openAll, runs} from './editing.mjs';
+import {Grading, sentence} from './exercises.mjs';
+import {commandOf} from './programs.mjs';
+import {data, files, output, store, testing} from './state.mjs';
+
+let grading, course;
+
+export const exerciseOf = file => file?.place === 'exercise' && data.exercises.find(it => `${it.name}.b` === file.name);
+
+function startOf(exercise) {
+  const text = `/* ${exercise.name} */\n`;
+  const libs = Object.keys(exercise.libs).map(it => it.replace(/\.b$/, '')).filter(it => it !== 'test');
+  return {place: 'exercise', name: `${exercise.name}.b`, text, base: text, edition: exercise.edition, libs};
+}
+
+function write(exercise) {
+  openAll([startOf(exercise)]);
+  editor.cm.focus();
+  editor.cm.setCursor(editor.cm.lineCount(), 0);
+}
+
+export async function grade(exercise) {
+  const file = files.all.get(`exercise/${exercise.name}.b`);
+  if (!file) {
+    write(exercise);
+    say(`Write ${exercise.name}.b first.`);
+    return;
+  }
+  if (grading) return;
+  runs.stop();
+  runs.begin(`tests of ${exercise.name}`, 'They run ..');
+  grading = new Grading(testing(), exercise, file.text);
+  const graded = await grading.grade();
+  grading = null;
+  runs.ended(true);
+  if (graded) sayGraded(exercise, course.graded(exercise, graded), graded);
+  else say('Stopped.', 'bad');
+}
+
+function sayGraded(exercise, {passed, of, failed, refused}, {results}) {
+  const isRight = passed === of;
+  const first = failed[0] ? `: ${failed[0][1]}.` : isRight ? ': well done.' : '.';
+  say(refused ? `${exercise.name} isn't taken: ${refused}.` : `${passed} of ${of}${first}`, isRight ? 'good' : 'bad');
+  output.put(results.map(it => `${it.test.name}: ${it.result === 'ok' ? 'ok' : sentence(it)}\n`).join(''));
+}
+
+const exercises = () => data.exercises.map(it => files.all.get(`exercise/${it.name}.b`)).filter(it => it?.isChanged);
+
+export async function handIn() {
+  const done = exercises();
+  if (!done.length) return say('No exercise is written yet.', 'bad');
+  const name = element('input', {value: store.get('person') ?? '', required: true, maxLength: 60, autocomplete: 'off'});
+  const rows = done.map(it => {
+    const result = course.results.get(exerciseOf(it).name);
+    const isKnown = result && !result.isOld;
+    return element('li', {}, it.name, isKnown ? `: ${result.passed} of ${result.of} tests` : ': not tried');
+  });
+  const isYes = await dialog('Hand in exercises', 'Make the file',
+    element('p', {}, element('label', {}, 'Your name ', name)),
+    element('p', {}, 'The file has a folder of this name with:'), element('ul', {}, ...rows),
+    element('p', {}, 'Give it to your teacher. Nothing is sent from here.'));
+  const person = name.value.trim().replace(/[^\p{L}\p{N}_. -]/gu, '_').replace(/^[. -]+/, '_');
+  if (!isYes || !person) return undefined;
+  store.put('person', name.value.trim());
+  save(`${person}.zip`, zip(done.map(it => [`${person}/${it.name}`, it.text])));
+  return say(`${person}.zip has ${done.map(it => it.name).join(', ')}.`, 'good');
+}
+
+/** Ends the tests that run, if any do. */
+export function stopTests() {
+  grading?.stop();
+  return !!grading;
+}
+
+/** What was known of the tests of an exercise is of the text before. */
+export function typedInto(file) {
+  const exercise = exerciseOf(file);
+  if (exercise) course.touch(exercise);
+}
+
+/** Shows the lessons. */
+export function begin() {
+  course = new Course(data, store, {
+    open: openAll,
+    async run(given) {
+      openAll(given);
+      await runs.run();
+    },
+    command: (line, set) => runs.command(`b ${line}`, commandOf(line, set)),
+    write, grade, handIn,
+  });
+  return course;
+}
