@@ -1,0 +1,20 @@
+main() {
+    atoi();
+    calloc();
+    fgets();
+    gets();
+    len();
+    malloc();
+    memset();
+    parseInt();
+    puts();
+    qsort();
+    scanf();
+    strcat();
+    strcmp();
+    strcpy();
+    strlen();
+    strstr();
+    tolower();
+    toupper();
+}
