@@ -1,0 +1,5 @@
+main() {
+    auto on;
+    on = 1;
+    on: ;
+}

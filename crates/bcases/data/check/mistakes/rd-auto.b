@@ -1,0 +1,7 @@
+main() {
+    auto a, b;
+    extrn c,
+        a;
+    a = b = c;
+}
+c 5;

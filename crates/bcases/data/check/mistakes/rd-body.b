@@ -1,0 +1,6 @@
+f(a) g();
+main() f(1);
+g() ;
+f(a, b) {
+    return(a + b);
+}

@@ -1,0 +1,7 @@
+main() {
+    switch 1 {
+        case 1: ;
+        case 'a': ;
+        case 97: ;
+    }
+}

@@ -1,0 +1,7 @@
+main() {
+    switch 1 {
+        default: ;
+        case 1: ;
+        default: ;
+    }
+}

@@ -1,0 +1,5 @@
+main() {
+    on: ;
+    off: ;
+    on: goto off;
+}

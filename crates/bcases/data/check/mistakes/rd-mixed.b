@@ -1,0 +1,5 @@
+f 1;
+main() ;
+f(b) {
+    return(b);
+}
