@@ -22,11 +22,21 @@ use bword::{Edition, MemIn, MemOut};
 use std::alloc::{AllocError, Global};
 
 /// A program, as it was compiled and as it was loaded.
-#[derive(Drop)]
 pub struct Program {
     pub definitions: Vec<Definition>,
     pub image: Image,
     pub names: Names,
+}
+
+// Not derived: a derived drop is compiled and proved once more in each crate that drops a program.
+impl Drop for Program {
+    fn drop(self) {
+        let Program {
+            definitions: _,
+            image: _,
+            names: _,
+        } = self;
+    }
 }
 
 /// Why a source or a code text has no program.

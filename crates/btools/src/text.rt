@@ -7,9 +7,15 @@ use std::alloc::{AllocError, Global};
 use std::marker::Model;
 
 /// A text that grows.
-#[derive(Drop)]
 pub struct Text {
     bytes: Vec<u8>,
+}
+
+// Not derived: a derived drop is compiled and proved once more in each crate that drops a text.
+impl Drop for Text {
+    fn drop(self) {
+        let Text { bytes: _ } = self;
+    }
 }
 
 impl Model for Text {
