@@ -196,6 +196,11 @@ class Context:
                 self.siblings[name] = [it for it in names if it != name]
         self.homes = {name: f"Constants_of_{file}" for file, names in constants.items() for name in names}
 
+    def variants(self, kind):
+        """Returns the variants of a type, each with what it holds and those that hold the same."""
+        of_type = [it for it in self.constructors if it.startswith(f"{kind}.")]
+        return [(it.partition(".")[2], *self.constructors[it]) for it in of_type]
+
     def note_data(self, name, variants):
         for variant, held in variants:
             same = [it for it, its in variants if its == held and it != variant]
@@ -245,6 +250,13 @@ class Names:
         alias, _, name = word.rpartition(".")
         key = f"{self.aliases[alias]}.{name}" if alias in self.aliases else None if alias else self.bare.get(word)
         return self.context.constructors.get(key)
+
+    def spelled(self, kind):
+        """Returns the variants of a type by their names, each as this file spells it."""
+        found = {it.partition(".")[2]: word for word, it in self.bare.items() if it.startswith(f"{kind}.")}
+        for alias in (it for it, made in self.aliases.items() if made == kind):
+            found = {variant: f"{alias}.{variant}" for variant, _, _ in self.context.variants(kind)}
+        return found
 
     def home(self, word):
         """Returns the file of a constant, or of a constructor of a type of which the file has another."""
@@ -484,6 +496,7 @@ class Change:
 
     def __init__(self, module, number, name, line, edits, text):
         self.module, self.number, self.name, self.line = module, number, name, line
+        self.is_of_value = str(number).startswith("v")
         self.edits = sorted(edits, reverse=True)
         self.text = text
         for start, end, new in self.edits:
@@ -501,13 +514,17 @@ def shown(text, start, end):
     return f"{before}[{text[start:end]}]"
 
 
+def is_claimed(module, text, definition):
+    """Returns whether a definition is a type, or a clause of a promise."""
+    head = text[definition.start : definition.end].partition(" : ")[2].partition("\n")[0]
+    return definition.is_data or definition.is_record or (module in PROMISES and head.endswith("Type 0"))
+
+
 def changes_of(module, text, names, wanted):
     """Returns the changes of a file, in order."""
     found, seen = [], {text}
     for definition in definitions_in(text):
-        head = text[definition.start : definition.end].partition(" : ")[2].partition("\n")[0]
-        is_claim = module in PROMISES and head.endswith("Type 0")
-        if definition.believed_as not in wanted or definition.is_data or definition.is_record or is_claim:
+        if definition.believed_as not in wanted or is_claimed(module, text, definition):
             continue
         edits = []
         for clause in definition.clauses:
@@ -524,7 +541,7 @@ def changes_of(module, text, names, wanted):
     return found
 
 
-def all_changes():
+def all_changes(of_file=changes_of):
     """Returns the changes of each file with definitions to believe, and the names of each, by the file's name."""
     wanted, context, texts, found, names_of = believed(), Context(), {}, {}, {}
     for crate in SOURCES:
@@ -534,7 +551,7 @@ def all_changes():
     for module in (it for it in texts if it in wanted):
         names = names_of[module] = Names(module, texts[module], context, context.homes)
         names.alike = alike_in(texts[module])
-        found[module] = changes_of(module, texts[module], names, wanted[module])
+        found[module] = of_file(module, texts[module], names, wanted[module])
     return found, names_of
 
 

@@ -1,0 +1,10 @@
+/* The number of each byte that is read, and of the end. */
+main() {
+    auto i;
+    i = 0;
+    while(i < 14) {
+        printn(getchar(), 10);
+        putchar(' ');
+        i++;
+    }
+}

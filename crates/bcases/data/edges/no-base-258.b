@@ -1,0 +1,1 @@
+main() { putchar('a'); printn(5, 258); putchar('b'); }

@@ -1,0 +1,1 @@
+main() { putchar('a'); printn(5, 65535); putchar('b'); }
