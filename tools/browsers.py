@@ -239,6 +239,18 @@ class Firefox(Browser):
             self.folder.cleanup()
 
 
+def started(kind):
+    """A browser of this kind. On a machine with much to do one may not start in time, so it is tried three times."""
+    for left in (2, 1, 0):
+        try:
+            return kind()
+        except (AssertionError, OSError):
+            if not left:
+                raise
+            time.sleep(2)
+    return None
+
+
 def missing():
     """What isn't here, each with the packages of Debian that have it."""
     wanted = {"chromium chromium-driver": "chromedriver", "firefox-esr": "firefox-esr"}

@@ -98,7 +98,11 @@ export class Course {
 
   dressCommand(figure) {
     const set = this.setOf(figure), line = figure.querySelector('code').textContent.replace(/^\$ b /, '');
-    const act = () => this.acts.command(line, set);
+    const name = line.split(' ').find(it => it.endsWith('.b'));
+    const act = () => {
+      this.acts.open(this.filesOf(set, name));
+      this.acts.command(line, set);
+    };
     figure.prepend(button('Run', act, {title: `Runs b ${line}`}));
     const out = figure.querySelector('pre');
     if (out) out.tabIndex = 0;

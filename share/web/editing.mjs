@@ -87,8 +87,16 @@ export function openFile(file) {
   recheck(0);
 }
 
+/** Opens files, the last one shown. What a chapter or an example opened before goes where nobody has changed it. */
 export function openAll(given) {
   for (const it of given) openFile(files.find(it));
+  const isDone = it => it.place !== files.current.place && it.base !== null && !it.isChanged;
+  for (const it of files.open.filter(isDone)) {
+    editor.forget(it);
+    files.close(it);
+  }
+  showTabs();
+  showOptions();
   if (isNarrow()) pane('program');
 }
 

@@ -76,6 +76,8 @@ export class Findings {
       if (program.text === text) this.apply(edit, program);
       else this.update(program);
     }, {className: 'fix'}));
-    return element('li', {className: it.severity}, head, fix, ...buttons);
+    const item = element('li', {className: it.severity}, head, fix);
+    if (buttons.length) item.append(element('div', {}, ...buttons));
+    return item;
   }
 }

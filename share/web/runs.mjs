@@ -141,6 +141,7 @@ export class Runs {
     this.ended(true);
     this.output.flush();
     this.output.put(ended.told ?? '', 'told');
+    if (words[0] !== 'go') $('out').scrollTop = 0;
     say(ended.failed ?? `Ended with status ${ended.status}.`, ended.failed ? 'bad' : '');
     this.readOut();
   }
