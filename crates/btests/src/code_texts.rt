@@ -53,14 +53,6 @@ fn a_byte_after_a_text(rt: HostRuntime) -> Result<(), Fail> {
     Ok(())
 }
 
-// With an allocation that fails there is no other fault than that.
-#[test]
-fn memory_alone_is_refused(rt: HostRuntime) {
-    if let Err(fault) = read_code(rt.alloc(), CODE.as_bytes()) {
-        assert_eq!(rt; fault, CodeFault::Memory);
-    }
-}
-
 #[test]
 fn texts_of_faults(rt: HostRuntime) -> Result<(), Fail> {
     let text = format!(in rt.alloc(); "{}, {}", CodeFault::Line(3), CodeFault::Memory)?;

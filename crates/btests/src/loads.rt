@@ -55,16 +55,6 @@ fn addresses_of_names(rt: HostRuntime) -> Result<(), Fail> {
     Ok(())
 }
 
-// With an allocation that fails there is no other fault than that.
-#[test]
-fn memory_alone_is_refused(rt: HostRuntime) {
-    if let Ok(definitions) = read_code(rt.alloc(), STRINGS.as_bytes()) {
-        if let Err(fault) = load(rt.alloc(), definitions) {
-            assert!(rt; matches!(fault, LoadFault::Memory));
-        }
-    }
-}
-
 #[test]
 fn texts_of_faults(rt: HostRuntime) -> Result<(), Fail> {
     let name = Name::new("n").ok_or("a name")?;

@@ -83,26 +83,3 @@ fn a_write_that_fails(rt: HostRuntime) -> Result<(), Fail> {
     assert_eq!(rt; narrow.bytes.as_slice(), b"hell".as_slice());
     Ok(())
 }
-
-// With an allocation that fails, a beginning of the output is written and there is no other answer.
-#[test]
-fn memory_alone_is_refused(rt: HostRuntime) {
-    let Ok(definitions) = read_code(rt.alloc(), COPY.as_bytes()) else {
-        return;
-    };
-    let Ok(image) = load(rt.alloc(), definitions) else {
-        return;
-    };
-    let Ok(store) = FlatStore::new(rt.alloc()) else {
-        return;
-    };
-    let mut out = MemOut::new(rt.alloc());
-    let mut end = MemIn::new(b"hi");
-    let answer = run(rt.alloc(), &image, store, &mut end, &mut out, 1000);
-    if answer == Outcome::Exit(0) {
-        assert_eq!(rt; out.bytes(), b"hi".as_slice());
-    } else {
-        assert!(rt; answer == Outcome::Memory);
-        assert!(rt; b"hi".starts_with(out.bytes()));
-    }
-}
