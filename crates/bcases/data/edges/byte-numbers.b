@@ -2,7 +2,7 @@
 main() {
     auto i;
     i = 0;
-    while(i < 14) {
+    while(i < 258) {
         printn(getchar(), 10);
         putchar(' ');
         i++;
