@@ -115,6 +115,10 @@ int32_t b_open(const char *path, int32_t how, ...) {
 
 int32_t b_close(int32_t file) { return _close(file); }
 
+int64_t b_lseek(int32_t file, int64_t place, int32_t from) { return _lseeki64(file, place, from); }
+
+int32_t b___xpg_strerror_r(int32_t error, char *room, size_t size) { return strerror_s(room, size, error); }
+
 static HANDLE handle_of(int file) { return (HANDLE)_get_osfhandle(file); }
 
 int32_t b_isatty(int32_t file) {
@@ -180,6 +184,10 @@ int32_t b_open(const char *path, int32_t how, ...) {
 }
 
 int32_t b_close(int32_t file) { return close(file); }
+
+int64_t b_lseek(int32_t file, int64_t place, int32_t from) { return lseek(file, place, from); }
+
+int32_t b___xpg_strerror_r(int32_t error, char *room, size_t size) { return strerror_r(error, room, size); }
 
 int32_t b_isatty(int32_t file) { return isatty(file); }
 

@@ -28,7 +28,7 @@ struct tried rattle_alloc(size bytes, size alignment);
 // The numbers of WASI, and those of Linux that the program knows.
 enum { WASI_INTERRUPTED = 27, WASI_TERMINAL = 2, WASI_FOLLOW_LINKS = 1, WASI_MAY_READ = 2, WASI_SEEKS = 36 };
 enum { OUT_OF_MEMORY = 134 }; // a status of the program
-enum { NO_ENTRY = 2, INTERRUPTED = 4, FAILED = 5, NOT_ALLOWED = 13 };
+enum { NO_ENTRY = 2, INTERRUPTED = 4, FAILED = 5, NOT_ALLOWED = 13, NO_SEEKING = 29 };
 enum { INPUT = 0, FIRST_FOLDER = 3, ACCESS_MODE = 3, MOST_NAME = 4096, MOST_MOVED = 1 << 30 };
 
 static int last_error;
@@ -159,6 +159,15 @@ int open(const char *path, int how, ...) {
 int close(int file) {
     int error = file == INPUT ? 0 : fd_close(file);
     return error ? fail_by_wasi(error) : 0;
+}
+
+// Files are read from their beginning to their end, as pipes are.
+long lseek(int file, long place, int from) { return fail(NO_SEEKING); }
+
+// Errors have no texts here.
+int __xpg_strerror_r(int error, byte *room, size bytes) {
+    if (bytes > 0) room[0] = 0;
+    return 0;
 }
 
 // A terminal is a device that has no places to seek.
