@@ -1,0 +1,46 @@
+use bparse::{Compiler, Step, compile, compile_edition};
+use bword::{Edition, MemIn, MemOut};
+
+#[test]
+fn a_compiler_of_its_own_streams(rt: HostRuntime) {
+    let mut compiler = Compiler::new(rt.alloc(), MemIn::new(b"n 2000;"), MemOut::new(rt.alloc()));
+    assert!(rt; matches!(compiler.next_definition(), Step::Written));
+    assert!(rt; matches!(compiler.next_definition(), Step::Finished));
+    assert!(rt; matches!(compiler.next_definition(), Step::Closed));
+    let (_, out) = compiler.into_ends();
+    assert_eq!(rt; out.bytes(), b"X n 1 0\nc 2000\nE\n".as_slice());
+}
+
+#[test]
+fn a_compiler_of_lent_streams(rt: HostRuntime) {
+    let mut source = MemIn::new(b"a;\na;");
+    let mut out = MemOut::new(rt.alloc());
+    let mut compiler = Compiler::with_edition(rt.alloc(), &mut source, &mut out, Edition::Two);
+    assert!(rt; matches!(compiler.next_definition(), Step::Written));
+    let Step::Fault(fault) = compiler.next_definition() else {
+        return;
+    };
+    drop(compiler);
+    assert_eq!(rt; fault.line, 2);
+    assert_eq!(rt; out.bytes(), b"B 2\nX a 0 0\n".as_slice());
+}
+
+#[test]
+fn whole_sources(rt: HostRuntime) {
+    let (mut out, mut diag) = (MemOut::new(rt.alloc()), MemOut::new(rt.alloc()));
+    let status = compile(rt.alloc(), &mut MemIn::new(b"a;a;"), &mut out, &mut diag);
+    assert_eq!(rt; status, 1);
+    assert_eq!(rt; out.bytes(), b"X a 0 0\n".as_slice());
+    assert_eq!(rt; diag.bytes(), b"rd a 1\n".as_slice());
+    let mut source = MemIn::new(b"");
+    let (mut out, mut diag) = (MemOut::new(rt.alloc()), MemOut::new(rt.alloc()));
+    let status = compile_edition(
+        rt.alloc(),
+        &mut &mut source,
+        &mut &mut out,
+        &mut &mut diag,
+        Edition::Two,
+    );
+    assert_eq!(rt; status, 0);
+    assert_eq!(rt; out.bytes(), b"B 2\nE\n".as_slice());
+}
