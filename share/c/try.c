@@ -1,5 +1,6 @@
-/* Tries the calls of the library: worked rows, rooms that are too small, and many calls. VERSION is that of the program
- * `b`. An argument is the number of calls after which memory has to be as it was. */
+/* Tries the calls of the library: worked rows, rooms that are too small, memory that is refused, and many calls. VERSION
+ * is that of the program `b`. An argument is the number of calls after which memory has to be as it was. It is linked
+ * with --wrap=malloc and --wrap=realloc. */
 #include "b.h"
 
 #include <malloc.h>
@@ -68,6 +69,82 @@ static void try_asking(void) {
     expect("no layout", format("main() { 'abc'; }", sizeof out, sizeof line), 1, "", "ct 1\n");
     expect("the version", b_version(out, sizeof out, &written), 0, VERSION, "");
     expect("a version that doesn't fit", b_version(out, 1, &written), 133, "1", "");
+}
+
+void *__real_malloc(size_t size);
+void *__real_realloc(void *old, size_t size);
+
+/* How many growths of memory come before the one that is refused; none is where this is below 0. */
+static _Thread_local long until = -1;
+
+static int is_refused(void) { return until >= 0 && until-- == 0; }
+
+void *__wrap_malloc(size_t size) { return is_refused() ? NULL : __real_malloc(size); }
+
+void *__wrap_realloc(void *old, size_t size) { return is_refused() ? NULL : __real_realloc(old, size); }
+
+/* A call of each kind, all of which take memory. */
+static const char *program = "n 1; main() { extrn n; auto v 2; v[n] = getchar(); putchar(v[n]); f(v); } f(v) { v[0] = 1/0; }";
+static const char *text = "X n 0 0\nF main 0 0 0 0 8\nx putchar\nv\nc 97\nk 1\np\nc 1\nc 0\nb /\nE\n";
+
+static int call(int kind) {
+    const uint8_t *bytes = (const uint8_t *)text, *input = (const uint8_t *)"x";
+    switch (kind) {
+    case 0: return compile(program, 1, sizeof out, sizeof line);
+    case 1: return compile("a; b; a;", 2, sizeof out, sizeof line);
+    case 2: return go(program, "x", 2, 100, sizeof out, sizeof line);
+    case 3: return run(text, "", 100, sizeof out, sizeof line);
+    case 4:
+        return b_run_where(bytes, strlen(text), input, 1, 100, out, sizeof out, line, sizeof line, &written);
+    case 5: return b_migrate(bytes, strlen(text), out, sizeof out, line, sizeof line, &written);
+    case 6: written.line = 0; return check("main() { return(x); }", sizeof out);
+    case 7: return format(program, sizeof out, sizeof line);
+    default: return -1;
+    }
+}
+
+/* Each growth of memory in a call is refused in turn, up to the first that it doesn't have: it answers as before, or that
+ * memory is refused, with a beginning of what it wrote before. */
+static void try_refusals(int kind) {
+    static uint8_t all[sizeof out], all_line[sizeof line];
+    int whole = call(kind), refused = 0;
+    struct b_written before = written;
+    memcpy(all, out, sizeof out);
+    memcpy(all_line, line, sizeof line);
+    for (long n = 0; n < 10000; n++) {
+        until = n;
+        int status = call(kind), is_met = until < 0;
+        until = -1;
+        int begins = written.out <= before.out && memcmp(out, all, written.out) == 0 && written.line <= before.line &&
+                     memcmp(line, all_line, written.line) == 0;
+        int is_same = status == whole && written.out == before.out && written.line == before.line;
+        if (begins && is_same && !is_met) break;
+        if (!begins || !(is_same || (is_met && status == B_NO_MEMORY))) {
+            printf("growth %ld of call %d: status %d, wrote %d bytes and a line of %d\n", n + 1, kind, status,
+                   (int)written.out, (int)written.line);
+            wrong = 1;
+        }
+        refused += status == B_NO_MEMORY;
+    }
+    if (refused == 0) {
+        printf("call %d: no growth was refused\n", kind);
+        wrong = 1;
+    }
+}
+
+/* What a room holds after what was written stays as it was. */
+static void try_rests(void) {
+    for (int kind = 0; call(kind) >= 0; kind++) {
+        memset(out, 0xee, sizeof out);
+        memset(line, 0xee, sizeof line);
+        call(kind);
+        for (size_t at = written.out; at < sizeof out; at++)
+            wrong |= out[at] != 0xee;
+        for (size_t at = written.line; at < sizeof line; at++)
+            wrong |= line[at] != 0xee;
+        if (wrong)
+            printf("call %d: what a room held after what was written, or something before, isn't as it was\n", kind);
+    }
 }
 
 /* Many calls in a thread, with rooms of its own: it gives its argument back where one was answered otherwise. */
@@ -139,6 +216,9 @@ int main(int count, char **words) {
         printf("%d calls: memory isn't as it was\n", calls);
         wrong = 1;
     }
+    for (int kind = 0; call(kind) >= 0; kind++)
+        try_refusals(kind);
+    try_rests();
     try_where();
     try_asking();
     try_threads();
