@@ -3,7 +3,9 @@
 isn't proved again: rattle checks its own crate alone, which it does before each build.
 
   tools/over_libraries.py --note           for .ci/run, right after `rt ci` has passed: notes that its libraries stand
-  tools/over_libraries.py CRATE FILE       writes the archive or the object of CRATE into FILE
+  tools/over_libraries.py CRATE FILE [TARGET]
+                                           writes the archive or the object of CRATE into FILE, for another machine than
+                                           this where there is a TARGET, one of the kit's
 
 `./b --prove` and `rt check` leave libraries with a stamp of their sources, and `rt ci` some without one, which fit
 only each other. So a note of the stamp is put beside the latter. Where a source has changed since, or libraries of both
@@ -116,10 +118,10 @@ def main(words):
         raise SystemExit("over_libraries: the kit on the path has another module than this knows")
     if words == ["--note"]:
         note(rtlib)
-    elif len(words) == 2:
-        build(rtlib, crate_of(rtlib, words[0]), words[1])
+    elif len(words) in (2, 3):
+        build(rtlib, crate_of(rtlib, words[0]), words[1], more=["--target", words[2]] if words[2:] else [])
     else:
-        raise SystemExit("over_libraries: usage: tools/over_libraries.py --note | CRATE FILE")
+        raise SystemExit("over_libraries: usage: tools/over_libraries.py --note | CRATE FILE [TARGET]")
 
 
 if __name__ == "__main__":

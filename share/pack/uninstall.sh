@@ -1,15 +1,31 @@
 #!/bin/sh
 # Removes what install.sh has copied below PREFIX, and nothing else.
-#
-#   ./uninstall.sh            from /usr/local
-#   ./uninstall.sh PREFIX     from PREFIX
 set -eu
-case ${1:-/usr/local} in
-/*) prefix=${1:-/usr/local} ;;
+usage='usage: ./uninstall.sh [PREFIX]
+
+Removes what ./install.sh PREFIX has copied below PREFIX, and nothing else. Without PREFIX that is /usr/local.'
+
+fail() {
+    printf 'uninstall.sh: %s\n' "$1" >&2
+    exit 1
+}
+
+[ $# -le 1 ] || fail "one PREFIX is wanted; ./uninstall.sh --help tells more"
+case ${1-/usr/local} in
+-h | --help)
+    printf '%s\n' "$usage"
+    exit
+    ;;
+'') fail 'PREFIX is empty' ;;
+-*) fail "there is no option $1; ./uninstall.sh --help tells more" ;;
+\~*) fail "within quotes ~ is no folder: write PREFIX without quotes, or \$HOME in the place of ~" ;;
+/*) prefix=${1-/usr/local} ;;
 *) prefix=$PWD/$1 ;;
 esac
 cd "$(dirname "$0")"
-find bin libexec share -type f | while read -r file; do rm -f "$prefix/$file"; done
-find lib examples class docs README.md PROVED -type f | while read -r file; do rm -f "$prefix/share/b/$file"; done
+[ -e "$prefix/libexec/b-words.sh" ] || fail "b isn't installed below $prefix"
+find bin libexec share ! -type d | while read -r file; do rm -f "$prefix/$file"; done
+find linux-* ! -type d | while read -r file; do rm -f "$prefix/${file#*/}"; done
+find lib examples class docs README.md PROVED ! -type d | while read -r file; do rm -f "$prefix/share/b/$file"; done
 if [ -d "$prefix/share/b" ]; then find "$prefix/share/b" -depth -type d -exec rmdir {} + 2>/dev/null || true; fi
 echo "b was removed from $prefix"

@@ -5,8 +5,8 @@
   b'42'
 
 Texts are bytes. A source with a fault, a trap and whatever else has a line is an Error, with its status, its line and
-what was written before it. The library is looked for at the path in B_LIBRARY, beside this file, and where the system
-has its libraries."""
+what was written before it. The library is looked for at the path in B_LIBRARY, beside this file, where an install puts
+it, and where the system has its libraries."""
 import ctypes
 import json
 import os
@@ -37,9 +37,9 @@ class _Written(ctypes.Structure):
 
 
 def _load():
-    beside = os.path.join(os.path.dirname(os.path.abspath(__file__)), "libb.so")
-    path = os.environ.get("B_LIBRARY") or (beside if os.path.exists(beside) else "libb.so")
-    library = ctypes.CDLL(path)
+    here = os.path.dirname(os.path.abspath(__file__))
+    beside = (os.path.join(here, *parts, "libb.so.1") for parts in ((), ("..", "c", "lib")))
+    library = ctypes.CDLL(os.environ.get("B_LIBRARY") or next(filter(os.path.exists, beside), "libb.so.1"))
     text, room = [ctypes.c_char_p, ctypes.c_size_t], [ctypes.c_void_p, ctypes.c_size_t]
     ends = room + room + [ctypes.POINTER(_Written)]
     library.b_compile.argtypes = text + [ctypes.c_uint8] + ends
