@@ -1,5 +1,5 @@
-/* Does what fail.c does, in a program that is linked with it: the linker lets these functions come before the real ones,
- * by --wrap. So it is for programs that load no library, and for other systems. tools/machines --try links it. */
+/* Does what fail.c does, in a program that is linked with it: the linker lets these functions come before the real
+ * ones, by --wrap. So it is for programs that load no library, and for other systems. tools/machines --try links it. */
 #include <errno.h>
 #include <stdarg.h>
 #include <stdint.h>

@@ -70,7 +70,7 @@ def crate_of(rtlib, name):
 
 
 def noted(crate):
-    """The file with the stamp of a library that `rt ci` made. The kit takes it away, with all of `out`, at the next one."""
+    """The file with the stamp of a library that `rt ci` made. The next `rt ci` takes it away, with all of `out`."""
     return pathlib.Path(crate.folder) / "out/noted"
 
 

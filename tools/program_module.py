@@ -1,9 +1,9 @@
-"""The LLVM module of the proved program `b`, which the kit's backend makes of its MIR and hands to a clang, and the same
-module for another machine. tools/web and tools/machines use it.
+"""The LLVM module of the proved program `b`, which the kit's backend makes of its MIR and hands to a clang, and the
+same module for another machine. tools/web and tools/machines use it.
 
-The module is of plain functions: they call one another by their names, and a dozen functions of C. So it means the same
-on each machine with pointers of 64 bits, the least byte of a word first, and words aligned alike. `retarget` changes the
-names of the machine alone, and stops at whatever could mean something else there."""
+The module is of plain functions: they call one another by their names, and those functions of C that stand in OF_C. So
+it means the same on each machine with pointers of 64 bits, the least byte of a word first, and words aligned alike.
+`retarget` changes the names of the machine alone, and stops at whatever could mean something else there."""
 import hashlib
 import os
 import pathlib
@@ -19,9 +19,9 @@ from over_libraries import build, crate_of, kit
 TOP = pathlib.Path(__file__).resolve().parent.parent
 SOURCE, CPU = "x86_64-unknown-linux-gnu", "x86-64"
 # As the kit calls its clang for each target.
-AS_THE_KIT = ["-ffunction-sections", "-fdata-sections", "-mllvm", "-trap-unreachable", "-mllvm", "-no-x86-call-frame-opt",
-              "-mllvm", "-disable-machine-licm", "-mllvm", "-disable-postra-machine-licm", "-mllvm",
-              "-sink-common-insts=false", "--no-default-config", "-fno-crash-diagnostics", "-Werror"]
+AS_THE_KIT = ["-ffunction-sections", "-fdata-sections", "-mllvm", "-trap-unreachable", "-mllvm",
+              "-no-x86-call-frame-opt", "-mllvm", "-disable-machine-licm", "-mllvm", "-disable-postra-machine-licm",
+              "-mllvm", "-sink-common-insts=false", "--no-default-config", "-fno-crash-diagnostics", "-Werror"]
 
 # A clang that keeps the module, and then does what it was called for.
 KEEPING = """#!/bin/sh
@@ -70,7 +70,9 @@ ELSEWHERE = {
 }
 SUSPECT = re.compile("|".join(it.pattern for it in ELSEWHERE.values()))
 # The attributes that name a machine; a module for another one has none of them.
-OF_A_MACHINE = re.compile(r' "(probe-stack|stack-probe-size|target-cpu|target-features|tune-cpu|frame-pointer)"="[^"]*"')
+OF_A_MACHINE = re.compile(
+    r' "(probe-stack|stack-probe-size|target-cpu|target-features|tune-cpu|frame-pointer)"="[^"]*"'
+)
 # That of a clang that looks at addresses, for an unproved run.
 OF_A_TRY = " sanitize_address"
 
@@ -119,8 +121,8 @@ class Build(NamedTuple):
 
 
 class Proved:
-    """The proved program, or a crate that is a library for C, which is built anew over the libraries that stand: once for
-    a target, in a folder that keeps what was made."""
+    """The proved program, or a crate that is a library for C, which is built anew over the libraries that stand: once
+    for a target, in a folder that keeps what was made."""
 
     def __init__(self, folder, name="b"):
         self.folder, self.name = pathlib.Path(folder).resolve(), name
@@ -181,8 +183,9 @@ def digest(path):
 def sources_digest(name):
     """The digest of the digests of all that a crate is built of, which for `b` ./b keeps beside the program."""
     crates = re.findall(r"^(\w+)", (TOP / "crates.txt").read_text(), re.M)
-    folders = [f"crates/{name}/{part}" for name in crates[:crates.index(name) + 1] for part in ("src", "specs", "proofs")]
-    files = [it for folder in folders for it in (TOP / folder).rglob("*") if it.is_file()]
+    below = crates[:crates.index(name) + 1]
+    folders = [TOP / "crates" / it / part for it in below for part in ("src", "specs", "proofs")]
+    files = [it for folder in folders for it in folder.rglob("*") if it.is_file()]
     names = sorted(str(it.relative_to(TOP)) for it in [TOP / "crates.txt", *files])
     digests = [f"{digest(TOP / it)}  {it}\n" for it in names]
     return hashlib.sha256("".join(digests).encode()).hexdigest()
@@ -190,8 +193,8 @@ def sources_digest(name):
 
 def layout_of(toolchain, target):
     """How the kit's clang lays words out for a target."""
-    said = run(toolchain["clang"], f"--target={target}", "--no-default-config", "-x", "c", "-S", "-emit-llvm", "-o", "-",
-               os.devnull)
+    said = run(toolchain["clang"], f"--target={target}", "--no-default-config", "-x", "c", "-S", "-emit-llvm",
+               "-o", "-", os.devnull)
     return re.search(r'^target datalayout = "(.*)"', said, re.M)[1]
 
 
@@ -258,7 +261,7 @@ def retarget(toolchain, module, target, to, change=lambda line: line):
         fail(f"{said} lines of the module may mean something else on {target}")
 
 
-# The calls whose names or numbers are others where it isn't Linux; share/machines/system.c has them as b_read and so on.
+# The calls whose names or numbers are others where it isn't Linux. share/machines/system.c has them as b_read and so on.
 OF_LINUX = re.compile(r"@(read|write|open|close|lseek|isatty|__sysv_signal|__xpg_strerror_r)\(")
 OF_TWO_WORDS = re.compile(r"\b(call|declare) (\{ i64, i64 \} @rattle_(re)?alloc\()")
 

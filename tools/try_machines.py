@@ -1,5 +1,6 @@
-"""Tries the programs that tools/machines has made, by what tries the native one: each case of crates/bcases/data and each
-worked row of ../shared/rows/rows.json, where that is, is answered as by the native program; and calls fail in turn."""
+"""Tries the programs that tools/machines has made, by what tries the native one: each case of crates/bcases/data is
+answered as by the native program, and calls fail in turn. MORE_RUNS names a file of more runs with their answers, as
+tools/try_web.mjs takes it."""
 import json
 import os
 import pathlib
@@ -9,7 +10,7 @@ import tempfile
 
 TOP = pathlib.Path(__file__).resolve().parent.parent
 DATA = TOP / "crates/bcases/data"
-ROWS = TOP / "../shared/rows/rows.json"
+MORE_RUNS = os.environ.get("MORE_RUNS")
 MOST_TOLD = 10
 
 
@@ -48,26 +49,26 @@ class Trial:
             self.expect(got == wanted, f"{args.relative_to(DATA)}: {now}: {shown(got)}; native: {shown(wanted)}")
         return len(editions)
 
-    def try_row(self, row, room):
-        """Compares the answer to a row with what is kept of it."""
-        words = [row["command"], *row["args"]]
-        if row["file"] is not None:
-            (pathlib.Path(room) / "FILE").write_bytes(row["file"].encode("latin-1"))
+    def try_run(self, of, room):
+        """Compares the answer to a run with the one that stands beside it."""
+        words = [of["command"], *of["args"]]
+        if of["file"] is not None:
+            (pathlib.Path(room) / "FILE").write_bytes(of["file"].encode("latin-1"))
             words.append("FILE")
-        got = self.run(words, (row["stdin"] or "").encode("latin-1"), room)
-        wanted = [row["status"], *(it if it is None else it.encode("latin-1") for it in (row["stdout"], row["stderr"]))]
+        got = self.run(words, (of["stdin"] or "").encode("latin-1"), room)
+        wanted = [of["status"], *(it if it is None else it.encode("latin-1") for it in (of["stdout"], of["stderr"]))]
         is_right = all(one == other or other is None and one for one, other in zip(got, wanted))
-        self.expect(is_right, f"row {row['id']}: {shown(got)}")
+        self.expect(is_right, f"run {of['id']}: {shown(got)}")
 
     def try_all(self, native):
         """Whether all was answered right; it tells how much it was."""
         cases = sorted(DATA.rglob("*.args"))
         runs = sum(self.try_case(it, native) for it in cases)
-        rows = json.loads(ROWS.read_text()) if ROWS.exists() else []
+        more = json.loads(pathlib.Path(MORE_RUNS).read_text()) if MORE_RUNS else []
         with tempfile.TemporaryDirectory() as room:
-            for row in rows:
-                self.try_row(row, room)
-        print(f"{self.name}: {len(cases)} cases in {runs} runs, {len(rows)} worked rows; wrong answers: {self.wrong}", flush=True)
+            for of in more:
+                self.try_run(of, room)
+        print(f"{self.name}: {len(cases)} cases in {runs} runs, and {len(more)} more; wrong answers: {self.wrong}", flush=True)
         return self.wrong == 0
 
 
@@ -79,7 +80,8 @@ def shown(answer):
 def fails_in_turn(name, runner, program, kinds, environment=None):
     """Whether each call of these kinds that fails in turn ends a run as it has to."""
     words = [TOP / "tools/fail-in-turn", program, *(runner or ["env"])]
-    ran = subprocess.run(words, env={**os.environ, **(environment or {}), "KINDS": kinds}, capture_output=True, text=True)
+    surroundings = {**os.environ, **(environment or {}), "KINDS": kinds}
+    ran = subprocess.run(words, env=surroundings, capture_output=True, text=True)
     told = [it for it in ran.stdout.splitlines() if not it.endswith(": 0") and ": 0, of" not in it]
     print(f"{name}: calls that fail in turn: {'; '.join(told) or 'no wrong answers'}", flush=True)
     if ran.returncode:

@@ -1,18 +1,20 @@
 // Tries what tools/web has made: b.wasm by its host b.mjs, beside the native program. tools/try-web calls it.
 //
-//   node tools/try_web.mjs DIR PROGRAM [ROWS]
+//   node tools/try_web.mjs DIR PROGRAM [RUNS]
 //
-// Each case of crates/bcases/data, and each row of the file ROWS, is answered byte for byte as by PROGRAM. In the rows
-// of tools/rows_to_fail.sh each open, read and write fails in turn, or moves one byte, and the memory has each size from
-// that at the start on. The command line and each call of b.mjs answers as PROGRAM, and so does b.wasm as Node's own
-// host of WASI runs it.
+// Each case of crates/bcases/data is answered byte for byte as by PROGRAM. In the rows of tools/rows_to_fail.sh each
+// open, read and write fails in turn, or moves one byte, and the memory has each size from that at the start on. The
+// command line and each call of b.mjs answers as PROGRAM, and so does b.wasm as Node's own host of WASI runs it.
+//
+// RUNS is a list in JSON. Each run in it has `command`, `args`, `file` and `stdin`, which may be null, and its answer:
+// `status`, `stdout` and `stderr`, of which null is any text but none.
 import {spawnSync} from 'node:child_process';
 import fs from 'node:fs';
 import os from 'node:os';
 import path from 'node:path';
 import {fileURLToPath, pathToFileURL} from 'node:url';
 
-const [folder, native, rowsFile] = process.argv.slice(2).map(it => path.resolve(it));
+const [folder, native, runsFile] = process.argv.slice(2).map(it => path.resolve(it));
 const {load, Failed} = await import(pathToFileURL(path.join(folder, 'b.mjs')).href);
 const TOP = fileURLToPath(new URL('..', import.meta.url)), DATA = path.join(TOP, 'crates/bcases/data');
 const PAGE = 65536, MOST_PAGES = 32, MOST_TOLD = 10;
@@ -65,7 +67,7 @@ function compare(name, words, input, cwd) {
   expect(isSame(got, wanted), `${name}: ${words.join(' ')}: native ${shown(wanted)}; module ${shown(got)}`);
 }
 
-// ---- Cases and rows ----
+// ---- Cases and runs ----
 
 function tryCase(args) {
   const at = kind => args.replace(/args$/, kind), words = fs.readFileSync(args, 'utf8').replace(/\n$/, '').split('\n');
@@ -85,15 +87,16 @@ function tryCases() {
   console.log(`${all.length} cases in ${runs} runs`);
 }
 
-function tryRows() {
-  const bytes = text => Buffer.from(text ?? '', 'latin1'), rows = JSON.parse(fs.readFileSync(rowsFile, 'utf8'));
-  for (const row of rows) {
-    const files = row.file === null ? {} : {FILE: bytes(row.file)}, words = [row.command, ...row.args, ...Object.keys(files)];
-    const got = run(b, words, () => ({files, input: inputOf(bytes(row.stdin))}));
+function tryRuns() {
+  const bytes = text => Buffer.from(text ?? '', 'latin1'), runs = JSON.parse(fs.readFileSync(runsFile, 'utf8'));
+  for (const it of runs) {
+    const files = it.file === null ? {} : {FILE: bytes(it.file)};
+    const got = run(b, [it.command, ...it.args, ...Object.keys(files)], () => ({files, input: inputOf(bytes(it.stdin))}));
     const is = (written, wanted) => (wanted === null ? written.length > 0 : same(written, bytes(wanted)));
-    expect(got.status === row.status && is(got.out, row.stdout) && is(got.line, row.stderr), `row ${row.id}: ${shown(got)}`);
+    const isRight = got.status === it.status && is(got.out, it.stdout) && is(got.line, it.stderr);
+    expect(isRight, `run ${it.id}: ${shown(got)}`);
   }
-  console.log(`${rows.length} worked rows`);
+  console.log(`${runs.length} runs of ${runsFile}`);
 }
 
 // ---- Failures in turn ----
@@ -130,7 +133,7 @@ class FileOfPieces extends Uint8Array {
   }
 }
 
-/** The system of a row, in which the Nth call of a kind fails, or moves one byte: `io` of all, `short` of large ones. */
+/** The system of a row, in which the Nth call of a kind fails (`io`), or the Nth large one moves one byte (`short`). */
 class FailingSystem {
   constructor(row, kind, nth) {
     Object.assign(this, {row, kind, nth, calls: 0, given: inputOf(Buffer.from(row.input, 'latin1'))});
@@ -190,9 +193,10 @@ function withMost(pages) {
       at = end;
       continue;
     }
-    const least = numberAt(size.end + 2), body = [1, 1, ...module.subarray(size.end + 2, least.end), ...numberOf(pages)];
-    return {bytes: Buffer.concat([module.subarray(0, at), Buffer.from([5, body.length, ...body]), module.subarray(end)]),
-      least: least.value};
+    const least = numberAt(size.end + 2);
+    const body = [1, 1, ...module.subarray(size.end + 2, least.end), ...numberOf(pages)];
+    const parts = [module.subarray(0, at), Buffer.from([5, body.length, ...body]), module.subarray(end)];
+    return {bytes: Buffer.concat(parts), least: least.value};
   }
   throw new Error('the module has no memory of its own');
 }
@@ -229,8 +233,8 @@ async function tryFailures() {
   for (const row of rows) row.whole = run(b, row.words, keep => new FailingSystem(row, 'none', 0).io(keep));
   for (const kind of ['io', 'short']) {
     const all = rows.map(row => inTurn(row, kind)), sum = part => all.reduce((before, it) => before + it[part], 0);
-    console.log(kind === 'io' ? `opens, reads and writes: ${sum('calls')}, of which ${sum('ended')} ended the run with 133`
-      : `reads and writes of several bytes: ${sum('calls')}`);
+    const ended = `opens, reads and writes: ${sum('calls')}, of which ${sum('ended')} ended the run with 133`;
+    console.log(kind === 'io' ? ended : `reads and writes of several bytes: ${sum('calls')}`);
   }
   await tryMemory(rows);
 }
@@ -240,10 +244,12 @@ async function tryFailures() {
 const PRINTS = 'main() { auto c; printf("%d*n", 6*7); while((c = getchar()) != \'*e\') putchar(c); }\n';
 
 function tryCommandLine(room) {
-  const started = (...words) => spawnSync(process.execPath, [path.join(folder, 'b.mjs'), ...words], {cwd: room, input: 'hi'});
+  const host = path.join(folder, 'b.mjs');
+  const started = (...words) => spawnSync(process.execPath, [host, ...words], {cwd: room, input: 'hi'});
   const expectStart = (words, status, out, line) => {
     const got = started(...words), said = `${got.status} ${got.stdout} ${got.stderr}`;
-    expect(got.status === status && `${got.stdout}` === out && `${got.stderr}` === line, `node b.mjs ${words.join(' ')}: ${said}`);
+    const isRight = got.status === status && `${got.stdout}` === out && `${got.stderr}` === line;
+    expect(isRight, `node b.mjs ${words.join(' ')}: ${said}`);
   };
   expectStart(['go', 'x.b', '--with', 'print'], 0, '42\nhi', '');
   expectStart(['go', '--with=print', '--', 'x.b'], 0, '42\nhi', '');
@@ -266,14 +272,17 @@ function tryCalls(room) {
   };
   const name = 'x.b', after = ['--with', 'print.b'];
   expectCall('compile', b.compile(source, {libs}), ['compile', ...after], source);
-  expectCall('run', b.run(code, {name: 'code', input: 'hi', where: true, steps: 50}), ['run', '--where', '--steps', '50', 'code'], 'hi');
-  expectCall('go', b.go(source, {name, libs, input: 'hi', steps: Infinity}), ['go', name, '--no-limit', ...after], 'hi');
+  const ran = b.run(code, {name: 'code', input: 'hi', where: true, steps: 50});
+  expectCall('run', ran, ['run', '--where', '--steps', '50', 'code'], 'hi');
+  const gone = b.go(source, {name, libs, input: 'hi', steps: Infinity});
+  expectCall('go', gone, ['go', name, '--no-limit', ...after], 'hi');
   expectCall('go ./', b.go(source, {name: './x.b', where: true}), ['go', '--where', './x.b']);
   expectCall('format', b.format(source, {name}), ['format', name]);
   expectCall('show', b.show(source, {name, libs, input: 'hi', last: 9}), ['show', name, '--last', '9', ...after], 'hi');
   expectCall('migrate', b.migrate(code), ['migrate'], code);
   const {status, findings} = b.check(source, {name}), wanted = native(['check', '--json', name]);
-  expect(status === wanted.status && findings.map(it => `${JSON.stringify(it)}\n`).join('') === `${wanted.out}`, 'check');
+  const lines = findings.map(it => `${JSON.stringify(it)}\n`).join('');
+  expect(status === wanted.status && lines === `${wanted.out}`, 'check');
 }
 
 /** Runs the module by Node's own host of WASI, over the files of a folder. */
@@ -283,13 +292,13 @@ const [file, ...args] = process.argv.slice(1);
 const wasi = new WASI({version: 'preview1', args: ['b', ...args], preopens: {'.': '.'}, returnOnExit: true});
 const module = await WebAssembly.compile(fs.readFileSync(file));
 process.exitCode = wasi.start(await WebAssembly.instantiate(module, wasi.getImportObject()));`;
-  const rows = [['go', 'x.b', '--with', './print.b'], ['check', 'sub/y.b'], ['go', '../x.b'], ['go', '/x.b'], ['compile'], ['--help']];
-  for (const words of rows) {
+  const inside = [['go', 'x.b', '--with', './print.b'], ['check', 'sub/y.b'], ['compile'], ['--help']];
+  for (const words of [...inside, ['go', '../x.b'], ['go', '/x.b']]) {
     const given = ['--no-warnings', '--input-type=module', '-e', script, path.join(folder, 'b.wasm'), ...words];
     const {status, stdout, stderr} = spawnSync(process.execPath, given, {cwd: room, input: 'hi;'});
-    const isOutside = words[1]?.startsWith('../') || words[1]?.startsWith('/');
-    const wanted = isOutside ? {status: 133, out: '', line: ''} : runNative(words, 'hi;', room);
-    expect(isSame({status, out: stdout, line: stderr}, wanted), `node:wasi ${words.join(' ')}: ${status} ${stdout} ${stderr}`);
+    const wanted = inside.includes(words) ? runNative(words, 'hi;', room) : {status: 133, out: '', line: ''};
+    const isRight = isSame({status, out: stdout, line: stderr}, wanted);
+    expect(isRight, `node:wasi ${words.join(' ')}: ${status} ${stdout} ${stderr}`);
   }
 }
 
@@ -309,7 +318,7 @@ function tryHosts() {
 }
 
 tryCases();
-if (rowsFile) tryRows();
+if (runsFile) tryRuns();
 tryHosts();
 await tryFailures();
 console.log(`wrong answers: ${wrong}`);

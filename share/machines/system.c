@@ -35,7 +35,9 @@ static OF_TWO_WORDS struct tried answer(void *block) {
 }
 
 /* Blocks are aligned to 16 bytes, as malloc does it on all these machines. */
-OF_TWO_WORDS struct tried rattle_alloc(size_t size, size_t alignment) { return answer(malloc(size ? size : alignment)); }
+OF_TWO_WORDS struct tried rattle_alloc(size_t size, size_t alignment) {
+    return answer(malloc(size ? size : alignment));
+}
 
 OF_TWO_WORDS struct tried rattle_realloc(void *block, size_t kept, size_t size, size_t alignment) {
     (void)kept;

@@ -1,6 +1,7 @@
-/* The words of a command line, where no script reads them first: for a name of the library after --with the path of its
- * file comes, in the folder `lib` beside the program, and for the FILE `-` of a command that runs no source comes standard
- * input. A path, as each word with a slash or a point is one, stays, and so do the values of --made and --lines. */
+/* The words of a command line, where no script reads them first: for a name of the library after --with the path of
+ * its file comes, in the folder `lib` beside the program, and for the FILE `-` of a command that runs no source comes
+ * standard input. A path, as each word with a slash or a point is one, stays, and so do the values of --made and
+ * --lines. */
 #include <stdio.h>
 #include <stdlib.h>
 #include <string.h>
@@ -67,7 +68,8 @@ static char *with_path(char *word, size_t begin) {
 }
 
 int put_paths(char **words, size_t count) {
-    static const char *const with_source[] = {"compile", "go", "list", "map", "check", "trace", "count", "show", "format", 0};
+    static const char *const with_source[] = {"compile", "go",    "list", "map",    "check",
+                                              "trace",   "count", "show", "format", 0};
     static const char *const reads_input[] = {"list", "map", "check", "format", 0};
     static const char *const takes_value[] = {"--with", "--made", "--lines", 0};
     static const char with[] = "--with=";

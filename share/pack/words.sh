@@ -5,7 +5,8 @@
 # else.
 b_command=${1-} b_with='' b_over='' b_at=0 b_words='' b_some=''
 
-# Has `b_put` name the path of a LIB that is a name of the library: the name, how it is written, and what comes before it.
+# Has `b_put` name the path of a LIB that is a name of the library: the name, how it is written, and what comes before
+# it.
 b_lib() {
     case $1 in
     '' | -* | *[./]*) return ;;

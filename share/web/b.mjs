@@ -7,7 +7,7 @@
 //
 // Each call is a run of the program, in memory of its own, as a process is. It opens no file but those it is given.
 
-/** What a stream or a file throws where a read or a write fails. The program then ends with 133, as it does natively. */
+/** What a stream or a file throws where a read or a write fails. The program then ends with 133, as natively. */
 export class Failed extends Error {}
 
 /** What is thrown where the module itself is stopped by its engine, as when that has no stack left. */

@@ -1,9 +1,9 @@
-// The memory of the module: what the program asks for as rattle_alloc, rattle_realloc and rattle_dealloc, over the memory
-// of a WebAssembly module. tools/web links it.
+// What the program asks for as rattle_alloc, rattle_realloc and rattle_dealloc, over the memory of a WebAssembly
+// module. tools/web links it.
 //
 // A block is of a class, which says its size: 16, 32, 48 and 64 bytes, and from there four classes to a doubling. Each
-// class has a list of its free blocks. A new block comes from the end of what was given out, and what the memory lacks is
-// asked for. The class of a block stands in the 16 bytes before it, so that each block is aligned to 16.
+// class has a list of its free blocks. A new block comes from the end of what was given out, and what the memory lacks
+// is asked for. The class of a block stands in the 16 bytes before it, so that each block is aligned to 16.
 #include "module.h"
 
 enum { ALIGNMENT = 16, CLASSES = 256, PAGE = 65536, PAGES_AT_ONCE = 64 };

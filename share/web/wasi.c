@@ -1,4 +1,4 @@
-// What the program asks of a system, over the eleven calls of wasi_snapshot_preview1 that it takes. tools/web links it.
+// What the program asks of a system, over the ten calls of wasi_snapshot_preview1 that it takes. tools/web links it.
 //
 // The program has addresses of 64 bits, and the calls take them with 32: the memory of the module never has more.
 #include "module.h"
@@ -105,8 +105,8 @@ long write(int file, const void *bytes, size count) {
     return error ? fail_by_wasi(error) : (long)moved;
 }
 
-// How many bytes of a path name this folder, which may be `.`, and the slashes after it; -1 where the path is elsewhere.
-// A folder without a name has each path as it is.
+// How many bytes of a path name this folder, which may be `.`, and the slashes after it; -1 where the path is
+// elsewhere. A folder without a name has each path as it is.
 static long bytes_of_folder(const char *folder, size count, const char *path) {
     size begin = 0;
     if (count == 0) return 0;
@@ -152,7 +152,8 @@ int open(const char *path, int how, ...) {
     if (is_input(path)) return INPUT;
     int folder = folder_of(path, &rest);
     if (folder < 0) return fail(NO_ENTRY);
-    int error = path_open(folder, WASI_FOLLOW_LINKS, at(rest), (address)length(rest), 0, WASI_MAY_READ, 0, 0, at(&file));
+    address count = (address)length(rest);
+    int error = path_open(folder, WASI_FOLLOW_LINKS, at(rest), count, 0, WASI_MAY_READ, 0, 0, at(&file));
     return error ? fail_by_wasi(error) : file;
 }
 
