@@ -1,7 +1,8 @@
-"""Browsers without a screen, for the scripts that try pages: Chromium by its driver (the packages chromium and
-chromium-driver of Debian), and Firefox by Marionette (the package firefox-esr). `kinds()` gives those that are here."""
+"""Browsers without a screen, for the scripts that try pages: Chromium and WebKit by their drivers, and Firefox by
+Marionette. `kinds()` gives those that are here, and `missing()` the packages of Debian that have the others."""
 import base64
 import json
+import os
 import pathlib
 import shutil
 import socket
@@ -94,25 +95,25 @@ class Frame:
         self.browser.command("frame", {"id": None})
 
 
-class Chromium(Browser):
-    name = "Chromium"
+class Driven(Browser):
+    """A browser with a driver of its own, which speaks WebDriver."""
+
     ROADS = {"open": "url", "run": "execute/async", "find": "element", "actions": "actions", "size": "window/rect",
              "picture": "screenshot", "frame": "frame"}
 
-    def __init__(self, *arguments):
+    def __init__(self, words, wanted, environment=None):
         port = free_port()
         self.address = f"http://127.0.0.1:{port}"
         self.opener = urllib.request.build_opener(urllib.request.ProxyHandler({}))
-        self.folder = tempfile.TemporaryDirectory(prefix="chromium-", ignore_cleanup_errors=True)
-        self.driver = subprocess.Popen(["chromedriver", f"--port={port}", "--log-level=OFF"],
-                                       stdout=subprocess.DEVNULL, stderr=subprocess.DEVNULL)
+        self.driver = subprocess.Popen([*words, f"--port={port}"], env=environment, stdout=subprocess.DEVNULL,
+                                       stderr=subprocess.DEVNULL)
         try:
-            self.begin(arguments)
+            self.begin({**wanted, "timeouts": {"script": 120000}})
         except BaseException:
             self.driver.kill()
             raise
 
-    def begin(self, arguments):
+    def begin(self, wanted):
         for _ in range(200):
             try:
                 if self.call("GET", "/status")["ready"]:
@@ -120,11 +121,6 @@ class Chromium(Browser):
             except OSError:
                 pass
             time.sleep(0.05)
-        flags = ["--headless=new", "--no-sandbox", "--disable-gpu", "--disable-dev-shm-usage",
-                 f"--user-data-dir={self.folder.name}/profile", *arguments]
-        options = {"args": flags, "prefs": {"download.default_directory": self.folder.name}}
-        wanted = {"goog:chromeOptions": options, "goog:loggingPrefs": {"browser": "ALL"},
-                  "timeouts": {"script": 120000}}
         answer = self.call("POST", "/session", {"capabilities": {"alwaysMatch": wanted}})
         self.session = "/session/" + answer["sessionId"]
 
@@ -144,6 +140,31 @@ class Chromium(Browser):
             return self.call("GET", f"{self.session}/screenshot")
         return self.call("POST", f"{self.session}/{self.ROADS[name]}", parts)
 
+    def complaints(self):
+        return []
+
+    def close(self):
+        try:
+            self.call("DELETE", self.session)
+        except (AssertionError, OSError):
+            pass
+        finally:
+            self.driver.terminate()
+            self.driver.wait()
+            self.folder.cleanup()
+
+
+class Chromium(Driven):
+    name = "Chromium"
+
+    def __init__(self, *arguments):
+        self.folder = tempfile.TemporaryDirectory(prefix="chromium-", ignore_cleanup_errors=True)
+        flags = ["--headless=new", "--no-sandbox", "--disable-gpu", "--disable-dev-shm-usage",
+                 f"--user-data-dir={self.folder.name}/profile", *arguments]
+        options = {"args": flags, "prefs": {"download.default_directory": self.folder.name}}
+        super().__init__(["chromedriver", "--log-level=OFF"],
+                         {"goog:chromeOptions": options, "goog:loggingPrefs": {"browser": "ALL"}})
+
     def tools(self, name, **parts):
         """A command of the protocol of the browser's own tools."""
         return self.call("POST", f"{self.session}/goog/cdp/execute", {"cmd": name, "params": parts})
@@ -152,13 +173,41 @@ class Chromium(Browser):
         """What the page has put into the console since the last call."""
         return [it["message"] for it in self.call("POST", f"{self.session}/se/log", {"type": "browser"})]
 
-    def close(self):
+
+def mini_browser():
+    return next(pathlib.Path("/usr/lib").glob("*/webkit2gtk-4.1/MiniBrowser"), None)
+
+
+class WebKit(Driven):
+    """WebKitGTK's small browser, on a screen of Xvfb: the engine that Safari has, too."""
+
+    name = "WebKit"
+
+    def __init__(self):
+        self.folder = tempfile.TemporaryDirectory(prefix="webkit-", ignore_cleanup_errors=True)
+        reading, writing = os.pipe()
+        self.screen = subprocess.Popen(["Xvfb", "-displayfd", str(writing), "-screen", "0", "1600x1000x24"],
+                                       pass_fds=[writing], stderr=subprocess.DEVNULL)
+        os.close(writing)
+        with os.fdopen(reading) as told:
+            display = told.readline().strip()
+        # Without these its processes want a bus and a graphics card.
+        environment = {**os.environ, "DISPLAY": f":{display}", "HOME": self.folder.name,
+                       "WEBKIT_DISABLE_COMPOSITING_MODE": "1", "WEBKIT_DISABLE_SANDBOX_THIS_IS_DANGEROUS": "1"}
+        options = {"binary": str(mini_browser()), "args": ["--automation"]}
         try:
-            self.call("DELETE", self.session)
-        finally:
-            self.driver.terminate()
-            self.driver.wait()
-            self.folder.cleanup()
+            super().__init__(["WebKitWebDriver"], {"webkitgtk:browserOptions": options}, environment)
+        except BaseException:
+            self.screen.kill()
+            raise
+
+    def picture(self, path):
+        """Its driver waits for ever for a picture."""
+
+    def close(self):
+        super().close()
+        self.screen.terminate()
+        self.screen.wait()
 
 
 class Firefox(Browser):
@@ -251,12 +300,23 @@ def started(kind):
     return None
 
 
+# The browsers, with the programs and the packages of Debian that each one takes.
+KINDS = [
+    (Chromium, ["chromedriver"], "chromium chromium-driver"),
+    (Firefox, ["firefox-esr"], "firefox-esr"),
+    (WebKit, ["WebKitWebDriver", "Xvfb"], "webkit2gtk-driver xvfb"),
+]
+
+
+def is_here(programs):
+    return all(shutil.which(it) for it in programs)
+
+
 def missing():
-    """What isn't here, each with the packages of Debian that have it."""
-    wanted = {"chromium chromium-driver": "chromedriver", "firefox-esr": "firefox-esr"}
-    return [packages for packages, program in wanted.items() if not shutil.which(program)]
+    """The packages of the browsers that aren't here."""
+    return [packages for _, programs, packages in KINDS if not is_here(programs)]
 
 
 def kinds():
     """The browsers that are here."""
-    return [it for it, program in ((Chromium, "chromedriver"), (Firefox, "firefox-esr")) if shutil.which(program)]
+    return [kind for kind, programs, _ in KINDS if is_here(programs)]

@@ -61,11 +61,13 @@ export async function readFile(chosen) {
   return say(text.includes('\r\n') ? `${chosen.name}: its lines end as usual here now, without carriage returns.` : '');
 }
 
-/** Opens a text as a file of its own, and leaves another file of this name as it is. */
+/** Opens a text as a file of its own, and leaves another file of this name as it is; the name that it has then. */
 export function addFile(name, text, options = {}) {
   const there = files.all.get(`/${name}`);
   const free = there && there.text !== text ? files.freeName(name) : name;
+  if (there && there.text === text) Object.assign(there, options);
   openAll([{name: free, text, ...options}]);
+  return free;
 }
 
 export function showKept() {

@@ -113,7 +113,14 @@ export const example = name => ({place: 'examples', name, text: data.examples[na
 
 // ---- Typing, and what is found
 
-let timer, keeping;
+let timer, keeping, typed;
+/** Keeps what was typed last. */
+export function keepNow() {
+  clearTimeout(keeping);
+  if (typed) files.keep(typed);
+  typed = null;
+}
+
 export function recheck(wait = WAIT) {
   clearTimeout(timer);
   timer = setTimeout(() => findings.update(files.program), wait);
@@ -123,8 +130,10 @@ function changed(change) {
   if (change.origin === 'setValue') return;
   const file = files.current;
   file.text = editor.text;
+  if (typed !== file) keepNow();
+  typed = file;
   clearTimeout(keeping);
-  keeping = setTimeout(() => files.keep(file), KEEPING);
+  keeping = setTimeout(keepNow, KEEPING);
   typedInto(file);
   if (change.from.line === 0) takeOptions(file);
   recheck();

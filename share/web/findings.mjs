@@ -19,18 +19,22 @@ export class Findings {
     Object.assign(this, {check, apply, go, mark: found, serial: 0, found: []});
   }
 
-  /** Checks a program, shows what was found, and then the edits. Of checks that overlap the last one counts. */
+  /**
+   * Checks a program, shows what was found, and then the edits. Of checks that overlap the last one counts; the answer
+   * says whether this one did.
+   */
   async update(program) {
     const serial = ++this.serial, {text} = program, found = await this.check(program);
-    if (serial !== this.serial || !found) return;
+    if (serial !== this.serial || !found) return false;
     this.found = found;
     this.mark(found);
     const all = JSON.stringify([program.key, text, found]);
-    if (all === this.shown) return;
+    if (all === this.shown) return true;
     this.shown = all;
     this.show(found, program, text, new Map());
     const offers = await this.tried(found, program, text, () => this.shown === all);
     if (this.shown === all && offers.size) this.show(found, program, text, offers);
+    return true;
   }
 
   async tried(found, program, text, isShown) {

@@ -1,6 +1,7 @@
 // A program as the fragment of a link. What is packed stays in the link, and goes to no server.
 const MARK = 'p=';
 const MOST = 4_000_000; // characters of what a link holds
+const MOST_FILES = 20;
 
 const through = (parts, stream) => new Response(new Blob(parts).stream().pipeThrough(stream));
 
@@ -27,8 +28,9 @@ async function limited(response) {
 
 const isText = it => typeof it === 'string';
 function isProgram({files, input, edition, libs}) {
-  return Array.isArray(files) && files.length > 0 && files.every(it => Array.isArray(it) && it.length === 2
-    && it.every(isText)) && isText(input) && ['1', '2'].includes(edition) && Array.isArray(libs) && libs.every(isText);
+  const isFile = it => Array.isArray(it) && it.length === 2 && it.every(isText);
+  return Array.isArray(files) && files.length > 0 && files.length <= MOST_FILES && files.every(isFile)
+    && isText(input) && ['1', '2'].includes(edition) && Array.isArray(libs) && libs.every(isText);
 }
 
 /** The program of a fragment; nothing where the fragment is none of a program. Throws where it is damaged. */

@@ -2,7 +2,7 @@
 /* global page */
 import {$, save, say, textOf} from './dom.mjs';
 import {newFile, putBack, readFile, removeFile, rename, showKept} from './devices.mjs';
-import {editor, example, findings, goTo, layOut, openAll, openFile, pane, recheck, runs, setLib,
+import {editor, example, findings, goTo, keepNow, layOut, openAll, openFile, pane, recheck, runs, setLib,
   show, showCourse} from './editing.mjs';
 import {Grading} from './exercises.mjs';
 import {fillPrinted, link, openLink, printed} from './sharing.mjs';
@@ -61,7 +61,7 @@ function wire() {
   window.addEventListener('beforeprint', fillPrinted);
   window.addEventListener('afterprint', () => delete document.body.dataset.print);
   window.addEventListener('hashchange', () => openLink(course));
-  window.addEventListener('pagehide', () => files.current && files.keep(files.current));
+  window.addEventListener('pagehide', keepNow);
 }
 
 /** What belongs to a program: its edition and its input. */
@@ -152,5 +152,7 @@ Object.assign(page, {
   data, files, editor, runs, course, output, setLib, readFile, Grading,
   open: given => openFile(files.find(given)),
   tester: testing,
-  checked: () => findings.update(files.program),
+  async checked() {
+    while (!await findings.update(files.program));
+  },
 });

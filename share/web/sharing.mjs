@@ -27,10 +27,10 @@ export async function openLink(course) {
   try {
     const program = await unpacked(fragment);
     if (!program) throw new Error('it has another form');
-    const [[name, text], ...more] = program.files;
-    for (const [other, its] of more) addFile(nameFrom(other), its);
-    addFile(nameFrom(name), text, {edition: program.edition, libs: program.libs,
-      input: program.input, ends: program.ends === true});
+    const [[name, text], ...more] = program.files, {edition, input, ends} = program;
+    const names = new Map(more.map(([other, its]) => [other, addFile(nameFrom(other), its)]));
+    const libs = program.libs.map(it => names.get(it) ?? it);
+    addFile(nameFrom(name), text, {edition, libs, input, ends: ends === true});
     say(`${name} is from the link.`);
   } catch (it) {
     openAll([{name: files.freeName('prog.b')}]);

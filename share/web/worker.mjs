@@ -3,10 +3,10 @@
 import {load} from './b.mjs';
 
 const TOLD_BYTES = 1 << 16; // of standard error
-const BURST = 4000, GAP = 20; // so many messages at once, and then one in so many milliseconds
+const BURST = 200, GAP = 10; // so many messages at once, and then one in so many milliseconds
 const ROOM = 1 << 16;
 
-const SINGLE = 20_000, SOON = 2000; // characters that come singly, and so many milliseconds at most
+const SINGLE = 4000, SOON = 3000; // characters that come singly; more of them in so many milliseconds come in blocks
 
 class WantsInput extends Error {}
 class Full extends Error {}
