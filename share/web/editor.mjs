@@ -4,50 +4,51 @@
 
 const ESCAPES = /[0e()nt*'"]/;
 
+function inQuotes(stream, state) {
+  if (stream.match(/^\*./)) return ESCAPES.test(stream.current()[1]) ? 'string-2' : 'error';
+  if (stream.next() === state.quote || stream.eol()) state.quote = '';
+  else if (!stream.eol()) stream.match(/^[^*'"]+/);
+  if (stream.eol()) state.quote = '';
+  return 'string';
+}
+
+function inComment(stream, state) {
+  if (stream.match(/^.*?\*\//)) state.isComment = false;
+  else stream.skipToEnd();
+  return 'comment';
+}
+
+/** The style of a token outside of quotes and comments; `styleOf` tells that of a name. */
+function plain(stream, state, styleOf) {
+  if (stream.eatSpace()) return null;
+  if (stream.match('/*')) {
+    state.isComment = true;
+    return inComment(stream, state);
+  }
+  const character = stream.peek();
+  if (character === '"' || character === "'") {
+    state.quote = stream.next();
+    return 'string';
+  }
+  const word = stream.match(/^\w+/)?.[0];
+  if (word) return /^\d/.test(word) ? (/^0\d*[89]|\D/.test(word) ? 'error' : 'number') : styleOf(word);
+  const mark = stream.next();
+  return /[-+*/%&|=!<>?:]/.test(mark) ? 'operator' : /[()[\]{};,]/.test(mark) ? 'bracket' : 'error';
+}
+
+const indent = (state, after) => Math.max(0, state.depth - (/^\s*}/.test(after) ? 1 : 0)) * 4;
+
 /** How a source is coloured. The words of the language are those that the other editors have. */
 function language({keywords, second, library}) {
   const isKeyword = new Set([...keywords, ...second]), isLibrary = new Set(Object.keys(library));
-  function inQuotes(stream, state) {
-    if (stream.match(/^\*./)) return ESCAPES.test(stream.current()[1]) ? 'string-2' : 'error';
-    if (stream.next() === state.quote || stream.eol()) state.quote = '';
-    else if (!stream.eol()) stream.match(/^[^*'"]+/);
-    if (stream.eol()) state.quote = '';
-    return 'string';
-  }
-  function inComment(stream, state) {
-    if (stream.match(/^.*?\*\//)) state.isComment = false;
-    else stream.skipToEnd();
-    return 'comment';
-  }
-  function plain(stream, state) {
-    if (stream.eatSpace()) return null;
-    if (stream.match('/*')) {
-      state.isComment = true;
-      return inComment(stream, state);
-    }
-    const character = stream.peek();
-    if (character === '"' || character === "'") {
-      state.quote = stream.next();
-      return 'string';
-    }
-    const word = stream.match(/^\w+/)?.[0];
-    if (word) {
-      if (/^\d/.test(word)) return /^0\d*[89]|\D/.test(word) ? 'error' : 'number';
-      return isKeyword.has(word) ? 'keyword' : isLibrary.has(word) ? 'builtin' : 'variable';
-    }
-    const mark = stream.next();
-    return /[-+*/%&|=!<>?:]/.test(mark) ? 'operator' : /[()[\]{};,]/.test(mark) ? 'bracket' : 'error';
-  }
-  function indent(state, after) {
-    return Math.max(0, state.depth - (/^\s*}/.test(after) ? 1 : 0)) * 4;
-  }
+  const styleOf = word => isKeyword.has(word) ? 'keyword' : isLibrary.has(word) ? 'builtin' : 'variable';
   return {
     startState: () => ({isComment: false, quote: '', depth: 0}),
     copyState: state => ({...state}),
     token(stream, state) {
       if (state.isComment) return inComment(stream, state);
       if (state.quote) return inQuotes(stream, state);
-      const style = plain(stream, state);
+      const style = plain(stream, state, styleOf);
       if (style === 'bracket' && stream.current() === '{') state.depth++;
       if (style === 'bracket' && stream.current() === '}') state.depth = Math.max(0, state.depth - 1);
       return style;
