@@ -363,7 +363,7 @@ PACKAGE = """{{
     "./package.json": "./package.json"
   }},
   "bin": {{ "b": "./b.mjs" }},
-  "engines": {{ "node": ">=18" }},
+  "engines": {{ "node": ">=20" }},
   "license": "UNLICENSED"
 }}
 """

@@ -261,7 +261,7 @@ def retarget(toolchain, module, target, to, change=lambda line: line):
         fail(f"{said} lines of the module may mean something else on {target}")
 
 
-# The calls whose names or numbers are others where it isn't Linux. share/machines/system.c has them as b_read and so on.
+# The calls whose names or numbers are others than on Linux. share/machines/system.c has them as b_read and so on.
 OF_LINUX = re.compile(r"@(read|write|open|close|lseek|isatty|__sysv_signal|__xpg_strerror_r)\(")
 OF_TWO_WORDS = re.compile(r"\b(call|declare) (\{ i64, i64 \} @rattle_(re)?alloc\()")
 

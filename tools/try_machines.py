@@ -68,7 +68,8 @@ class Trial:
         with tempfile.TemporaryDirectory() as room:
             for of in more:
                 self.try_run(of, room)
-        print(f"{self.name}: {len(cases)} cases in {runs} runs, and {len(more)} more; wrong answers: {self.wrong}", flush=True)
+        told = f"{len(cases)} cases in {runs} runs, and {len(more)} more; wrong answers: {self.wrong}"
+        print(f"{self.name}: {told}", flush=True)
         return self.wrong == 0
 
 

@@ -1,5 +1,5 @@
-/* How the library asks for memory, as the kit has it for the machine that it runs on itself. malloc aligns all blocks to
- * 16 bytes there. */
+/* How the library asks for memory, as the kit has it for the machine that it runs on itself. malloc aligns all blocks
+ * to 16 bytes there. */
 #include <stdint.h>
 #include <stdlib.h>
 

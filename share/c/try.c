@@ -1,6 +1,6 @@
-/* Tries the calls of the library: worked rows, rooms that are too small, memory that is refused, and many calls. VERSION
- * is that of the program `b`. An argument is the number of calls after which memory has to be as it was. It is linked
- * with --wrap=malloc and --wrap=realloc. */
+/* Tries the calls of the library: worked rows, rooms that are too small, memory that is refused, and many calls.
+ * VERSION is that of the program `b`. An argument is the number of calls after which memory has to be as it was. It is
+ * linked with --wrap=malloc and --wrap=realloc. */
 #include "b.h"
 
 #include <malloc.h>
@@ -84,7 +84,8 @@ void *__wrap_malloc(size_t size) { return is_refused() ? NULL : __real_malloc(si
 void *__wrap_realloc(void *old, size_t size) { return is_refused() ? NULL : __real_realloc(old, size); }
 
 /* A call of each kind, all of which take memory. */
-static const char *program = "n 1; main() { extrn n; auto v 2; v[n] = getchar(); putchar(v[n]); f(v); } f(v) { v[0] = 1/0; }";
+static const char *program =
+    "n 1; main() { extrn n; auto v 2; v[n] = getchar(); putchar(v[n]); f(v); } f(v) { v[0] = 1/0; }";
 static const char *text = "X n 0 0\nF main 0 0 0 0 8\nx putchar\nv\nc 97\nk 1\np\nc 1\nc 0\nb /\nE\n";
 
 static int call(int kind) {
@@ -103,8 +104,8 @@ static int call(int kind) {
     }
 }
 
-/* Each growth of memory in a call is refused in turn, up to the first that it doesn't have: it answers as before, or that
- * memory is refused, with a beginning of what it wrote before. */
+/* Each growth of memory in a call is refused in turn, up to the first that it doesn't have: it answers as before, or
+ * that memory is refused, with a beginning of what it wrote before. */
 static void try_refusals(int kind) {
     static uint8_t all[sizeof out], all_line[sizeof line];
     int whole = call(kind), refused = 0;
