@@ -1,8 +1,8 @@
 """The second kind of changes for tools/change-definitions: at one argument a definition gives another result.
 
 The argument is a number at an edge, a variant of an enum, or a list that is empty, without its first or its last
-element, or cut off after nine, or before the last hundred. The other result is one of the same type. Where the tool has none of
-that type, the definition takes the argument for its neighbour."""
+element, or cut off after nine, or before the last hundred. The other result is one of the same type. Where the tool has
+none of that type, the definition takes the argument for its neighbour."""
 import re
 
 from changes import Change, bound_by, definitions_in, is_claimed, nested
