@@ -1,6 +1,6 @@
 // The page that a student opens first: an editor with what `check` finds, Run, and the lessons. All of it runs here.
 /* global page */
-import {$, save, say, textOf} from './dom.mjs';
+import {$, bytesOf, save, say, textOf} from './dom.mjs';
 import {newFile, putBack, readFile, removeFile, rename, showKept} from './devices.mjs';
 import {editor, example, findings, goTo, keepNow, layOut, openAll, openFile, pane, recheck, runs, setLib,
   show, showCourse} from './editing.mjs';
@@ -9,6 +9,7 @@ import {fillPrinted, link, openLink, printed} from './sharing.mjs';
 import {checker, data, files, isNarrow, onWidth, output, store, testing} from './state.mjs';
 import {begin, exerciseOf, grade, handIn, stopTests} from './trying.mjs';
 
+const IDLE = 500; // milliseconds after the page is ready
 const course = begin();
 
 function colours(theme) {
@@ -130,6 +131,12 @@ function wireKeys(event) {
   }
 }
 
+/** Runs some steps beside the page, so that the engine has compiled the machine well before somebody presses Run. */
+function warm() {
+  const text = 'main() { auto i, j; i = 0; while(i < 10) { j = 0; while(j < 20000) j++; i++; } }';
+  checker.ask(['go', 'warm.b'], {files: {'warm.b': bytesOf(text)}});
+}
+
 async function start() {
   colours(store.get('theme') ?? '');
   wire();
@@ -143,6 +150,7 @@ async function start() {
   const ended = await checker.ask(['--version'], {files: {}});
   $('version').textContent = ended.failed ?? textOf(ended.output).split(',')[0];
   performance.mark('ready');
+  setTimeout(warm, IDLE);
 }
 
 page.started = start();
