@@ -109,8 +109,8 @@ export class Runs {
   }
 
   sayPlace(line, means, place, session) {
-    const file = place.file ?? session.name;
-    const text = `${line}: ${means.split(';')[0]}, in line ${place.line} of ${file}, in ${place.where}, at step ${place.step}.`;
+    const file = place.file ?? session.name, why = `${line}: ${means.split(';')[0]}`;
+    const text = `${why}, in line ${place.line} of ${file}, in ${place.where}, at step ${place.step}.`;
     const more = line === 'limit' ? [button('Run without a limit', () => this.run(['--no-limit']))] : [];
     say(text, 'bad', ...more);
     this.stopAt(file, place.line);
