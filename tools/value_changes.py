@@ -99,7 +99,8 @@ def of_variants(place, variable, kind, names, at_head):
             given = " ".join(f"x{i}" for i in range(len(held)))
             one, other = (f"({spelled[it]} {given})" if held else spelled[it] for it in (variant, others[0]))
             changed = f"abbrev pub changed : {kind} → {kind}\nchanged {one} = {other}\nchanged it = it\n\n"
-            yield [(at_head, at_head, changed), *place.taken_for(variable, f"(changed {variable})")]
+            edits = place.taken_for(variable, f"(changed {variable})")
+            yield edits and [(at_head, at_head, changed), *edits]
 
 
 def of_argument(place, variable, kind, names, at_head):
