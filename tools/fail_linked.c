@@ -25,7 +25,7 @@ static long nth, calls;
 
 static void end(void) {
     kind = "";
-    FILE *file = counts ? fopen(counts, "w") : NULL;
+    FILE *file = counts ? fopen(counts, "wb") : NULL;
     if (!file) return;
     fprintf(file, "%ld\n", calls);
     fclose(file);

@@ -12,6 +12,8 @@ TOP = pathlib.Path(__file__).resolve().parent.parent
 DATA = TOP / "crates/bcases/data"
 MORE_RUNS = os.environ.get("MORE_RUNS")
 MOST_TOLD = 10
+# What b.exe writes of a name after --with, as the script `b` does before it runs the native program.
+OF_THE_WORDS = b"note: the library has "
 
 
 def read(path, other=b""):
@@ -28,7 +30,8 @@ class Trial:
 
     def run(self, words, given, cwd):
         ran = subprocess.run([*self.words, *words], input=given, cwd=cwd, capture_output=True, env=self.environment)
-        return ran.returncode, ran.stdout, ran.stderr
+        lines = [it for it in ran.stderr.splitlines(True) if not it.startswith(OF_THE_WORDS)]
+        return ran.returncode, ran.stdout, b"".join(lines)
 
     def expect(self, is_right, told):
         if is_right:
