@@ -12,7 +12,9 @@ EXCHANGED = {
     "wrapping_sub": "wrapping_add", "min": "max", "max": "min", "first": "last", "last": "first", "any": "all",
     "is_some": "is_none", "is_none": "is_some", "break": "continue",
 }
-RESULTS = {"bool": ("true", "false"), "usize": ("0",), "u64": ("0",), "": ("{}",), "Result<(), AllocError>": ("Ok(())",)}
+RESULTS = {
+    "bool": ("true", "false"), "usize": ("0",), "u64": ("0",), "": ("{}",), "Result<(), AllocError>": ("Ok(())",),
+}
 # What is handed on in a call of a command, and what stands for it.
 OTHER_EDITION = "match {} {{ Edition::One => Edition::Two, Edition::Two => Edition::One }}"
 HANDED = {
@@ -78,9 +80,11 @@ def token_changes(tokens):
         if token == "||" and not spaced or token in ("min", "max", "first", "last", "any") and tokens[at + 1] != "(":
             new = None
         if re.fullmatch(r"\d+", token) and tokens[at - 1] != "." and not re.search(r"\||\.\.", near(tokens, at)):
-            yield f"{token} is {int(token) + 1}: {near(tokens, at)}", replaced(tokens, at, at + 1, str(int(token) + 1))
+            more = str(int(token) + 1)
+            yield f"{token} is {more}: {near(tokens, at)}", replaced(tokens, at, at + 1, more)
             new = "0" if token == "1" else None
-        if token == "!" and not tokens[at - 1][-1].isalnum() and (tokens[at + 1][0].isalpha() or tokens[at + 1] in "(*&"):
+        is_negated = token == "!" and not tokens[at - 1][-1].isalnum()
+        if is_negated and (tokens[at + 1][0].isalpha() or tokens[at + 1] in "(*&"):
             new = " "
         if new:
             yield f"{token} is {new}: {near(tokens, at)}", replaced(tokens, at, at + 1, new)
@@ -143,7 +147,7 @@ def takes_the_rest(tokens, at):
 
 
 def pattern_changes(tokens):
-    """Yields the changes of a match: a pattern that stands for none, one that lacks a part, or one without a condition."""
+    """Yields the changes of a match: a pattern that is never taken, that lacks a part, or that has no condition."""
     for at, token in enumerate(tokens):
         if token == "=>":
             start = pattern_start(tokens, at)
