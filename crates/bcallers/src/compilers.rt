@@ -1,5 +1,6 @@
 use bparse::{Compiler, Step, compile, compile_edition};
 use bword::{Edition, MemIn, MemOut};
+use std::test::Fail;
 
 #[test]
 fn a_compiler_of_its_own_streams(rt: HostRuntime) {
@@ -12,17 +13,18 @@ fn a_compiler_of_its_own_streams(rt: HostRuntime) {
 }
 
 #[test]
-fn a_compiler_of_lent_streams(rt: HostRuntime) {
+fn a_compiler_of_lent_streams(rt: HostRuntime) -> Result<(), Fail> {
     let mut source = MemIn::new(b"a;\na;");
     let mut out = MemOut::new(rt.alloc());
     let mut compiler = Compiler::with_edition(rt.alloc(), &mut source, &mut out, Edition::Two);
     assert!(rt; matches!(compiler.next_definition(), Step::Written));
     let Step::Fault(fault) = compiler.next_definition() else {
-        return;
+        return Err("a fault".into());
     };
     drop(compiler);
     assert_eq!(rt; fault.line, 2);
     assert_eq!(rt; out.bytes(), b"B 2\nX a 0 0\n".as_slice());
+    Ok(())
 }
 
 #[test]

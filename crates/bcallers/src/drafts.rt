@@ -49,16 +49,13 @@ fn breaks(rt: HostRuntime) {
 }
 
 #[test]
-fn holes(rt: HostRuntime) {
+fn holes(rt: HostRuntime) -> Result<(), Fail> {
     let mut buffer = CodeBuffer::new();
-    let Ok(hole) = buffer.hole(Branch::J) else {
-        return;
-    };
+    let hole = buffer.hole(Branch::J).ok().ok_or("a hole")?;
     assert_eq!(rt; hole.place(), 0);
     buffer.fill(hole, 9);
-    let Ok(hole) = buffer.hole(Branch::Z) else {
-        return;
-    };
+    let hole = buffer.hole(Branch::Z).ok().ok_or("a hole")?;
     buffer.fill(hole, 3);
     assert!(rt; buffer.code() == [Instr::Jump(9), Instr::JumpIfZero(3)].as_slice());
+    Ok(())
 }

@@ -1,6 +1,6 @@
 -- Inner words: a block of output, on its way to a writer.
 use Rattle.std.specs.Prelude.{◌≡◌, ℕ, ◌+◌, ◌≤◌, nat_le, Bool, true, false, List, [], ◌++◌, length, take}
-use Rattle.std.specs.Prelude.{Option, Result, Ok, Err}
+use Rattle.std.specs.Prelude.{Option, Some, Result, Ok, Err}
 use Rattle.std.specs.Io.KnownBytes.{Appends, append_known}
 
 -- What a block has shown, what it keeps, and for how many bytes it has room.
@@ -53,3 +53,7 @@ WasShown {B} shows = (old : B) × (new : B) × shows old new
 -- a buffer took these bytes
 abbrev pub WasTaken : {B : Type 0} → (takes : B → List ℕ → B → Type 0) → List ℕ → Type 0
 WasTaken {B} takes bytes = (old : B) × (new : B) × takes old bytes new
+
+-- a buffer was shown for the last time, and this is its writer as that has left it
+abbrev pub WasFinished : {B W : Type 0} → (finishes : B → W → Type 0) → Option W → Type 0
+WasFinished {B} {W} finishes output = (old : B) × (writer : W) × (output ≡ Some writer) × finishes old writer

@@ -4,7 +4,7 @@ ghost use Rattle.std.specs.Prelude.{◌≡◌, ◌≢◌, ℕ, IfOk, None, OnOk,
 ghost use Rattle.std.specs.Io.{ReadsAtMost, WritesAtMost};
 ghost use Rattle.std.specs.Io.KnownBytes.{Keeps, ReadConsumes, WriteAppends};
 ghost use Rattle.blang.specs.Reports.{RunEnds, run_ends};
-ghost use Rattle.bcli.specs.Blocks.{WasShown, WasTaken};
+ghost use Rattle.bcli.specs.Blocks.{WasFinished, WasShown, WasTaken};
 ghost use Rattle.bcli.specs.ShellExcluded.{ProcessExcluded};
 ghost use Rattle.bcli.specs.Processes.{AnswersWords, PerformsTask, ServesProcess};
 ghost use Rattle.bcli.specs.Shelves.{opened};
@@ -132,7 +132,7 @@ where
     I: Read + Drop,
     O: Write + Drop,
     D: Write + Drop,
-    ensures performs { PerformsTask (T.does task) (result.output ≢ None) (record {
+    ensures performs { PerformsTask (T.does task) (WasFinished B.finishes result.output) (record {
       input = I.remaining input;
       line = D.contents diag;
       line_after = D.contents result.diag;
