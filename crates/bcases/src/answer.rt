@@ -17,7 +17,7 @@ pub(crate) struct Answer {
 #[derive(Drop)]
 pub(crate) enum Kept {
     Apart {
-        out: String,
+        out: Vec<u8>,
         line: String,
         status: Status,
     },
@@ -41,8 +41,8 @@ impl Kept {
                 let Some(rest) = answer.out.bytes().strip_prefix(begins.as_bytes()) else {
                     bail!("the code text of edition 2 begins with B 2");
                 };
-                compare_text("output", rest, out.as_str())?;
-                compare_text("line", answer.line.bytes(), line.as_str())?;
+                compare_bytes("output", rest, out.as_slice())?;
+                compare_bytes("line", answer.line.bytes(), line.as_bytes())?;
                 let came = answer.status;
                 ensure!(came == *status, "its status is {came}, and not {status}");
                 Ok(())
@@ -51,22 +51,26 @@ impl Kept {
                 let is_kept = answer.out.put(answer.line.bytes()).is_ok();
                 ensure!(is_kept, "out of memory");
                 let shown = answer.out.bytes().trim_ascii_end();
-                compare_text("output", shown, text.trim_end())
+                compare_bytes("output", shown, text.trim_end().as_bytes())
             }
         }
     }
 }
 
-// Compares a text with what is kept of it, where three dots at the end of a line stand for any text.
-fn compare_text(what: &str, text: &[u8], kept: &str) -> Result<()> {
-    let is_right = match kept.split_once("...\n") {
+// Compares bytes with what is kept of them. In a text three dots at the end of a line stand for any text.
+fn compare_bytes(what: &str, text: &[u8], kept: &[u8]) -> Result<()> {
+    let parts = match str::from_utf8(kept) {
+        Ok(kept) => kept.split_once("...\n"),
+        Err(_) => None,
+    };
+    let is_right = match parts {
         Some((before, after)) => {
             let rest = text.strip_prefix(before.as_bytes());
             rest.is_some_and(|rest| rest.ends_with(after.as_bytes()))
         }
-        None => text == kept.as_bytes(),
+        None => text == kept,
     };
-    let same = text.iter().zip(kept.as_bytes()).take_while(|(a, b)| a == b);
+    let same = text.iter().zip(kept).take_while(|(a, b)| a == b);
     let line = same.filter(|(byte, _)| **byte == b'\n').count();
     ensure!(
         is_right,

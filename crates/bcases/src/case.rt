@@ -53,6 +53,20 @@ fn text_of<R: AllocGlobal + Files>(
     }
 }
 
+// The bytes of a file of the case; none where the file isn't there.
+fn bytes_of<R: AllocGlobal + Files>(
+    rt: &R,
+    folder: &Folder,
+    name: &str,
+    ending: &str,
+) -> Result<Vec<u8>> {
+    if folder.has(name, ending) {
+        Ok(fs::read(rt, file_of(rt.alloc(), name, ending)?)?)
+    } else {
+        Ok(Vec::new(rt.alloc()))
+    }
+}
+
 // The words of a command line, one a line, after the program's own name.
 fn words_of(alloc: Global, lines: &str, edition: &str) -> Result<Vec<String>, AllocError> {
     let mut words = Vec::new(alloc);
@@ -92,7 +106,7 @@ fn input_of<'a>(folder: &Folder, name: &str, words: &str) -> Result<Option<&'a s
 }
 
 fn kept_of<R: AllocGlobal + Files>(rt: &R, folder: &Folder, name: &str) -> Result<Kept> {
-    let out = text_of(rt, folder, name, "out")?;
+    let out = bytes_of(rt, folder, name, "out")?;
     let line = text_of(rt, folder, name, "line")?;
     let status = text_of(rt, folder, name, "status")?;
     if folder.has(name, "shown") {
