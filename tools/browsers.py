@@ -13,7 +13,7 @@ import urllib.error
 import urllib.request
 
 SECONDS = 60
-ENTER, CONTROL, ESCAPE, TAB = "\ue007", "\ue009", "\ue00c", "\ue004"
+ENTER, SHIFT, CONTROL, ESCAPE, TAB = "\ue007", "\ue008", "\ue009", "\ue00c", "\ue004"
 ELEMENT = "element-6066-11e4-a52e-4f735466cecf"
 
 

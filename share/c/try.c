@@ -174,11 +174,8 @@ static void try_threads(void) {
         }
 }
 
-int main(int count, char **words) {
-    if (count > 1)
-        calls = atoi(words[1]);
-    const char *answer = "main() { printn(6*7, 10); }";
-    const char *echo = "main() { auto c; while((c = getchar()) != '*e') putchar(c); exit(3); }";
+/* Each kind of answer, and rooms that are large enough, that just fit and that are too small. */
+static void try_answers(const char *answer, const char *echo) {
     expect("a number", go(answer, "", 1, 1000000, sizeof out, sizeof line), 0, "42", "");
     expect("an input", go(echo, "some text", 1, 1000000, sizeof out, sizeof line), 3, "some text", "");
     expect("a fault", go("main() { return(x); }", "", 1, 1000000, sizeof out, sizeof line), 1, "", "un x 1\n");
@@ -190,7 +187,10 @@ int main(int count, char **words) {
     expect("a room that fits", go(answer, "", 1, 1000000, 2, 0), 0, "42", "");
     expect("a room too small for the line", go("main() { return(x); }", "", 1, 1000000, 0, 4), 133, "", "un x");
     expect("no code text", run("F", "", 1000, sizeof out, sizeof line), 132, "", "code 1\n");
+}
 
+/* A source is compiled into a room of each size up to that of its code. */
+static void try_code(const char *echo) {
     char code[sizeof out];
     int status = compile(echo, 1, sizeof out, sizeof line);
     memcpy(code, out, written.out);
@@ -207,7 +207,10 @@ int main(int count, char **words) {
             wrong = 1;
             break;
         }
+}
 
+/* After many calls as much memory is taken as before. */
+static void try_memory(const char *answer) {
     for (int i = 0; i < 1000; i++)
         go(answer, "", 1, 1000000, sizeof out, sizeof line);
     size_t before = mallinfo2().uordblks;
@@ -217,6 +220,16 @@ int main(int count, char **words) {
         printf("%d calls: memory isn't as it was\n", calls);
         wrong = 1;
     }
+}
+
+int main(int count, char **words) {
+    if (count > 1)
+        calls = atoi(words[1]);
+    const char *answer = "main() { printn(6*7, 10); }";
+    const char *echo = "main() { auto c; while((c = getchar()) != '*e') putchar(c); exit(3); }";
+    try_answers(answer, echo);
+    try_code(echo);
+    try_memory(answer);
     for (int kind = 0; call(kind) >= 0; kind++)
         try_refusals(kind);
     try_rests();
