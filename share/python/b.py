@@ -4,17 +4,21 @@
   >>> b.go(b"main() { printn(6*7, 10); }").output
   b'42'
 
-Texts are bytes. A source with a fault, a trap and whatever else has a line is an Error, with its status, its line and
-what was written before it. The library is looked for at the path in B_LIBRARY, beside this file, where an install puts
+A text is bytes, whatever else has a buffer, or a str, which is taken as UTF-8. A source with a fault, a trap and
+whatever else has a line is an Error, with its status, its line and what was written before it. A number that isn't in
+its range is a ValueError. The library is looked for at the path in B_LIBRARY, beside this file, where an install puts
 it, and where the system has its libraries."""
 import ctypes
 import json
+import operator
 import os
-from typing import Any, Dict, List, NamedTuple
+from typing import Any, Dict, List, NamedTuple, Optional, Union
 
+Text = Union[bytes, bytearray, memoryview, str]
 STEPS = 100_000_000
 FAULT, TRAP, LIMIT, REFUSED, FAILED, NO_MEMORY, WRONG_EDITION = 1, 130, 131, 132, 133, 134, 135
 _LINE = 256
+_ROOM = 1 << 16
 
 
 class Ran(NamedTuple):
@@ -58,6 +62,24 @@ def _load():
 _library = _load()
 
 
+def _bytes(text):
+    """A text and its length, as a call takes them."""
+    text = text.encode() if isinstance(text, str) else bytes(memoryview(text))
+    return text, len(text)
+
+
+def _number(name, number, least, most):
+    """A number that is in its range, since a call takes any other by its lowest bits."""
+    number = operator.index(number)
+    if not least <= number <= most:
+        raise ValueError(f"{name} is {number}, and has to be from {least} to {most}")
+    return number
+
+
+def _edition(edition):
+    return _number("edition", edition, 1, 2)
+
+
 def _call(function, *words, room, line_room=_LINE, has_line=True):
     """The status, the output and the line of a call."""
     out, line, written = ctypes.create_string_buffer(max(room, 1)), ctypes.create_string_buffer(line_room), _Written()
@@ -66,44 +88,45 @@ def _call(function, *words, room, line_room=_LINE, has_line=True):
     return status, ctypes.string_at(out, written.out), line.raw[: written.line]
 
 
-def _fitting(function, *words, room, has_line=True):
-    """The same. A room that is too small is doubled until what is written fits."""
+def _fitting(function, *words, room, **how):
+    """The same. Where a room is too small, the call is made again with one of eight times its size."""
+    room = _number("room", room, 0, 1 << 62)
     while True:
-        status, out, line = _call(function, *words, room=room, has_line=has_line)
+        status, out, line = _call(function, *words, room=room, **how)
         if status != FAILED:
             return status, out, line
-        room *= 2
+        room = 8 * max(room, 1)
 
 
-def _text(function, *words, room, has_line=True):
+def _text(function, *words, room, **how):
     """The text that a call writes, with status 0."""
-    status, out, line = _fitting(function, *words, room=room, has_line=has_line)
+    status, out, line = _fitting(function, *words, room=room, **how)
     if status != 0:
         raise Error(status, out, line)
     return out
 
 
-def compile(source: bytes, *, edition: int = 1, room: int = 1 << 16) -> bytes:
+def compile(source: Text, *, edition: int = 1, room: int = _ROOM) -> bytes:
     """The code text of a source."""
-    return _text(_library.b_compile, source, len(source), edition, room=room)
+    return _text(_library.b_compile, *_bytes(source), _edition(edition), room=room)
 
 
-def migrate(code: bytes, *, room: int = 1 << 16) -> bytes:
+def migrate(code: Text, *, room: int = _ROOM) -> bytes:
     """A code text of edition 1 as one of edition 2."""
-    return _text(_library.b_migrate, code, len(code), room=room)
+    return _text(_library.b_migrate, *_bytes(code), room=room)
 
 
-def check(source: bytes, *, edition: int = 1, room: int = 1 << 16) -> List[Dict[str, Any]]:
+def check(source: Text, *, edition: int = 1, room: int = _ROOM) -> List[Dict[str, Any]]:
     """What is wrong in a source: the faults, or the warnings, each with its line, column, message and fix."""
-    status, out, line = _fitting(_library.b_check, source, len(source), edition, room=room, has_line=False)
+    status, out, line = _fitting(_library.b_check, *_bytes(source), _edition(edition), room=room, has_line=False)
     if status >= FAILED:
         raise Error(status, out, line)
     return [json.loads(finding) for finding in out.splitlines()]
 
 
-def format(source: bytes, *, edition: int = 1, room: int = 1 << 16) -> bytes:
+def format(source: Text, *, edition: int = 1, room: int = _ROOM) -> bytes:
     """A source laid out in one style."""
-    return _text(_library.b_format, source, len(source), edition, room=room)
+    return _text(_library.b_format, *_bytes(source), _edition(edition), room=room)
 
 
 def version() -> str:
@@ -111,19 +134,30 @@ def version() -> str:
     return _text(_library.b_version, room=256, has_line=False).decode("ascii")
 
 
-def _ran(status, out, line):
+def _ran(function, *words, steps, room, line_room=_LINE):
+    words = (*words, _number("steps", steps, 0, 2**64 - 1))
+    if room is None:
+        status, out, line = _fitting(function, *words, room=_ROOM, line_room=line_room)
+    else:
+        status, out, line = _call(function, *words, room=_number("room", room, 0, 1 << 62), line_room=line_room)
     if line or status >= 128:
         raise Error(status, out, line)
     return Ran(out, status)
 
 
-def run(code: bytes, input: bytes = b"", *, steps: int = STEPS, room: int = 1 << 16, where: bool = False) -> Ran:
-    """What a code text does with an input. Past its room of so many bytes the run ends with FAILED. If it is asked for
-    where, the line of an Error tells where the code text went wrong."""
-    call, line_room = (_library.b_run_where, len(code) + 300) if where else (_library.b_run, _LINE)
-    return _ran(*_call(call, code, len(code), input, len(input), steps, room=room, line_room=line_room))
+def run(
+    code: Text, input: Text = b"", *, steps: int = STEPS, room: Optional[int] = None, where: bool = False
+) -> Ran:
+    """What a code text does with an input. Past a room of so many bytes the run ends with FAILED; without one all of
+    the output comes, for which a long one is run again. If it is asked for where, the line of an Error tells where the
+    code text went wrong."""
+    code, length = _bytes(code)
+    function, line_room = (_library.b_run_where, length + 300) if where else (_library.b_run, _LINE)
+    return _ran(function, code, length, *_bytes(input), steps=steps, room=room, line_room=line_room)
 
 
-def go(source: bytes, input: bytes = b"", *, edition: int = 1, steps: int = STEPS, room: int = 1 << 16) -> Ran:
-    """What the program of a source does with an input. Past its room of so many bytes the run ends with FAILED."""
-    return _ran(*_call(_library.b_go, source, len(source), input, len(input), edition, steps, room=room))
+def go(
+    source: Text, input: Text = b"", *, edition: int = 1, steps: int = STEPS, room: Optional[int] = None
+) -> Ran:
+    """What the program of a source does with an input. `room` is as for `run`."""
+    return _ran(_library.b_go, *_bytes(source), *_bytes(input), _edition(edition), steps=steps, room=room)

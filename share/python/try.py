@@ -25,6 +25,32 @@ def error_of(call, *words, **named):
     return None
 
 
+def is_refused(call, *words, **named):
+    """Whether a number that isn't in its range is a ValueError."""
+    try:
+        call(*words, **named)
+    except ValueError:
+        return True
+    return False
+
+
+def texts_and_numbers():
+    """What is found and what is wanted, of each kind of text, of an output of some length and of each wrong number."""
+    source = b"main() { printn(6*7, 10); }"
+    for text in (source.decode(), bytearray(source), memoryview(source)):
+        yield b.go(text), (b"42", 0)
+    yield b.go("main() { putchar('\u00e9'); }"), ("\u00e9".encode(), 0)
+    yield b.go(ECHO, "\u20ac"), ("\u20ac".encode(), 3)
+    yield b.go(b"main() { auto n; n = 40000; while(n--) { putchar('ab'); putchar('cd'); } }"), (b"abcd" * 40000, 0)
+    for steps in (-1, 2**64):
+        yield is_refused(b.go, source, steps=steps), True
+        yield is_refused(b.run, b"E\n", steps=steps), True
+    for call in (b.compile, b.go, b.check, b.format):
+        for edition in (0, 3, 257):
+            yield is_refused(call, source, edition=edition), True
+    yield is_refused(b.go, source, room=-1), True
+
+
 def rows():
     """What is found and what is wanted, of each row."""
     yield b.go(b"main() { printn(6*7, 10); }"), (b"42", 0)
@@ -43,11 +69,9 @@ def rows():
     yield error_of(b.run, b"F main 0 0 0 0 1\np\nE\n", where=True), (b.TRAP, STUCK, b"")
     yield error_of(b.run, b"F main 0 0 0 0 3\nc 1\nr\nE\n", where=True), (b.REFUSED, ONE_TOO_MANY, b"")
     yield error_of(b.run, b"B 2\nF main 0 0 0 0 4\nx prnt\nv\nk 0\nr\nE\n", where=True), (b.REFUSED, UNDEFINED, b"")
-    yield error_of(b.compile, b"main() { }", edition=3), (b.WRONG_EDITION, b"", b"")
     yield b.check(b"main() { printn(6*7, 10); }"), []
     yield places(b"main() {\n  return(x);\n}"), [(2, 10, "error", "un")]
     yield places(b"main() { foo(1); }", room=1), [(1, 10, "error", "load 3")]
-    yield error_of(b.check, b"main() { }", edition=3), (b.WRONG_EDITION, b"", b"")
     yield b.format(b"main(){return(1);}", room=1), b"main() {\n    return(1);\n}\n"
     yield error_of(b.format, b"main() { 'abc'; }"), (b.FAULT, b"ct 1\n", b"")
     yield b.version(), sys.argv[2]
@@ -112,7 +136,7 @@ def cases(folder):
                 yield found, (int(status or 0), wanted, line), f"{path.relative_to(folder)}, edition {edition}"
 
 
-tried = [(found, wanted, "a row") for found, wanted in rows()]
+tried = [(found, wanted, "a row") for found, wanted in (*rows(), *texts_and_numbers())]
 tried += cases(pathlib.Path(sys.argv[1]))
 wrong = [row for row in tried if row[0] != row[1]]
 for found, wanted, name in wrong:
