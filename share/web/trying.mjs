@@ -35,9 +35,13 @@ export async function grade(exercise) {
   runs.stop();
   runs.begin(`tests of ${exercise.name}`, 'They run ..');
   grading = new Grading(testing(), exercise, file.text);
-  const graded = await grading.grade();
-  grading = null;
-  runs.ended(true);
+  let graded;
+  try {
+    graded = await grading.grade();
+  } finally {
+    grading = null;
+    runs.ended(true);
+  }
   if (graded) sayGraded(exercise, course.graded(exercise, graded), graded);
   else say('Stopped.', 'bad');
 }

@@ -1,0 +1,332 @@
+"""Builds code texts of B's machine, for a compiler of your own that is written in Python.
+
+  >>> code = Code()
+  >>> main = code.function("main")
+  >>> main.call("printn", 6 * 7, 10)
+  >>> main.drop()
+  >>> code.text()
+  b'F main 0 0 0 0 8\\nx printn\\nv\\nc 42\\nc 10\\nk 2\\np\\nc 0\\nr\\nE\\n'
+
+`Code.line` is the line of your source to which all belongs that is added from then on; `lines()` has these lines, as
+`b trace --made` takes them. A number or a name that no code text may have is a CodeError at once, and what is still
+open at the end is one at `text()`. docs/CODE.md tells what each instruction does."""
+import operator
+import re
+
+WORDS, VALUES, STRINGS, PARAMETERS, LABELS, INSTRUCTIONS = 32767, 1024, 1024, 128, 128, 4096
+LIBRARY = ("char", "lchar", "getchar", "putchar", "printn", "exit")
+OPERATORS = ("|", "&", "==", "!=", "<", "<=", ">", ">=", "<<", ">>", "-", "+", "%", "*", "/")
+END_OF_STRING = 4
+BEFORE_INC, BEFORE_DEC, AFTER_INC, AFTER_DEC = range(4)
+
+
+class CodeError(Exception):
+    """What no code text can have, or what is missing in one, with the line of your source where that is known."""
+
+    line = None
+
+
+def number(what, given, least, most):
+    given = operator.index(given)
+    if not least <= given <= most:
+        raise CodeError(f"{what} is {given}, and has to be from {least} to {most}")
+    return given
+
+
+def word(given):
+    """A word, of a number that may be below 0."""
+    return number("a constant", given, -32768, 65535) % 65536
+
+
+def name_of(given):
+    if not re.fullmatch(r"[A-Za-z_][A-Za-z0-9_]{0,7}", given, re.ASCII):
+        raise CodeError(f"{given!r} is no name: one has at most eight letters, digits and _, and begins with no digit")
+    return given
+
+
+def packed(text):
+    """The words of a string, with its end."""
+    if END_OF_STRING in text:
+        raise CodeError("a string ends before a byte 4")
+    text = [*text, END_OF_STRING]
+    return [low + 256 * high for low, high in zip(text[::2], [*text[1::2], 0])]
+
+
+class Place:
+    """A place to which instructions lead before it is known, or after: `Function.put` sets it."""
+
+    at = None
+
+
+class Label(Place):
+    """A place whose value a program can keep, and to which `goto` leads."""
+
+    def __init__(self, index):
+        self.index = index
+
+
+class Definition:
+    """What all definitions have: a name, string words, and lines with the places of the code that they belong to."""
+
+    def __init__(self, code, name):
+        self.code, self.name, self.strings, self.kept, self.lines = code, name_of(name), [], {}, []
+
+    def fail(self, text):
+        raise CodeError(f"{self.name}: {text}")
+
+    def string(self, text):
+        """The offset of a string, of bytes or of a text in UTF-8. The same string stands once."""
+        text = text.encode() if isinstance(text, str) else bytes(text)
+        if text not in self.kept:
+            words = packed(text)
+            if len(self.strings) + len(words) > STRINGS:
+                self.fail(f"its strings have more than {STRINGS} words")
+            self.kept[text] = len(self.strings)
+            self.strings += words
+        return self.kept[text]
+
+
+class Data(Definition):
+    """An external word, or a vector with `words` words, and the values that it has at first."""
+
+    def __init__(self, code, name, words=None):
+        super().__init__(code, name)
+        self.words = None if words is None else number(f"the size of {name}", words, 1, WORDS)
+        self.values = []
+
+    def add(self, line):
+        if len(self.values) == VALUES:
+            self.fail(f"it has more than {VALUES} values")
+        if self.words == len(self.values):
+            self.fail(f"it has more values than its {self.words} words")
+        self.values.append(line)
+        self.lines.append(self.code.line)
+
+    def constant(self, given):
+        self.add(f"c {word(given)}")
+
+    def external(self, name):
+        """The address of an external."""
+        self.add(f"x {self.code.use(name)}")
+
+    def text(self, text):
+        """The address of a string."""
+        self.add(f"s {self.string(text)}")
+
+    def written(self):
+        head = f"X {self.name}" if self.words is None else f"V {self.name} {self.words}"
+        sizes = f"{len(self.values)} {len(self.strings)}"
+        return [f"{head} {sizes}", *self.values, *(f"w {it}" for it in self.strings)]
+
+
+class Function(Definition):
+    """A function. Each method that is named as an instruction of docs/CODE.md adds it."""
+
+    def __init__(self, code, name, parameters):
+        super().__init__(code, name)
+        self.parameters = self.frame = number(f"the parameters of {name}", parameters, 0, PARAMETERS)
+        self.instructions, self.labels = [], []
+
+    @property
+    def here(self):
+        """The place of the next instruction."""
+        return len(self.instructions)
+
+    def words(self, count=1):
+        """So many new words of the frame: the number of the first."""
+        first = self.frame
+        self.frame = number(f"the frame of {self.name}", first + number("words", count, 0, WORDS), 0, WORDS)
+        return first
+
+    def label(self):
+        if len(self.labels) == LABELS:
+            self.fail(f"it has more than {LABELS} labels")
+        self.labels.append(Label(len(self.labels)))
+        return self.labels[-1]
+
+    def put(self, place):
+        """Sets a place, which is the next instruction from now on."""
+        if place.at is not None:
+            self.fail("a place is set twice")
+        place.at = self.here
+
+    def add(self, letter, *parts):
+        if self.here == INSTRUCTIONS:
+            self.fail(f"it has more than {INSTRUCTIONS} instructions")
+        self.instructions.append((letter, *parts))
+        self.lines.append(self.code.line)
+
+    def to(self, letter, place, *parts):
+        """An instruction that leads to a place, to a new one where none is given, which it answers."""
+        place = Place() if place is None else place
+        self.add(letter, *parts, place)
+        return place
+
+    def constant(self, given):
+        self.add("c", word(given))
+
+    def external(self, name):
+        self.add("x", self.code.use(name))
+
+    def automatic(self, index):
+        self.add("a", number(f"a word of the frame of {self.name}", index, 0, self.frame - 1))
+
+    def text(self, text):
+        self.add("s", self.string(text))
+
+    def label_value(self, label):
+        self.add("l", label.index)
+
+    def load(self):
+        self.add("v")
+
+    def store(self):
+        self.add("w")
+
+    def operator(self, letter, sign):
+        if sign not in OPERATORS:
+            self.fail(f"{sign!r} is no operator: {' '.join(OPERATORS)}")
+        self.add(letter, sign)
+
+    def binary(self, sign):
+        self.operator("b", sign)
+
+    def modify(self, sign):
+        self.operator("m", sign)
+
+    def negate(self):
+        self.add("n")
+
+    def invert(self):
+        """1 of 0, and 0 of all else."""
+        self.add("h")
+
+    def increment(self, kind):
+        self.add("i", number("the kind of an increment", kind, 0, 3))
+
+    def jump(self, place=None):
+        return self.to("j", place)
+
+    def jump_if_zero(self, place=None):
+        return self.to("z", place)
+
+    def jump_if_case(self, given, place=None):
+        return self.to("e", place, word(given))
+
+    def goto(self):
+        self.add("g")
+
+    def call_with(self, arguments):
+        """A call of the callee that stands below so many arguments."""
+        self.add("k", number("the arguments of a call", arguments, 0, 65535))
+
+    def call(self, name, *constants):
+        """A call of an external function with constants, or with none, whose result is left."""
+        self.variable(name)
+        for it in constants:
+            self.constant(it)
+        self.call_with(len(constants))
+
+    def variable(self, which):
+        """The word of an external, by its name, or of the frame, by its number."""
+        (self.external if isinstance(which, str) else self.automatic)(which)
+        self.load()
+
+    def give(self):
+        """Returns the topmost word."""
+        self.add("r")
+
+    def drop(self):
+        self.add("p")
+
+    def end(self):
+        """Adds the return of 0 with which a function ends, unless its end is never reached."""
+        parts = (it for instruction in self.instructions for it in instruction)
+        places = [*self.labels, *(it for it in parts if isinstance(it, Place))]
+        if self.instructions[-1:] != [("r",)] or any(it.at == self.here for it in places):
+            self.constant(0)
+            self.give()
+
+    def part(self, given):
+        if isinstance(given, Place):
+            if given.at is None:
+                self.fail("an instruction leads to a place that isn't set")
+            return str(given.at)
+        return str(given)
+
+    def written(self):
+        self.end()
+        if any(it.at is None for it in self.labels):
+            self.fail("a label isn't set")
+        sizes = (self.parameters, self.frame, len(self.labels), len(self.strings), self.here)
+        return [
+            f"F {self.name} {' '.join(map(str, sizes))}", *(f"t {it.at}" for it in self.labels),
+            *(f"w {it}" for it in self.strings), *(" ".join(map(self.part, it)) for it in self.instructions),
+        ]
+
+
+class Taken(Definition):
+    """A definition of another code text."""
+
+    def __init__(self, code, name, text, places):
+        super().__init__(code, name)
+        self.written, self.lines = lambda: text, [0] * places
+
+
+class Code:
+    """A whole code text of an edition, and the line of your source to which what is added next belongs."""
+
+    def __init__(self, edition=1):
+        self.edition, self.line = number("the edition", edition, 1, 2), 0
+        self.definitions, self.used = {}, {}
+
+    def define(self, definition):
+        if definition.name in self.definitions:
+            raise CodeError(f"{definition.name} is defined twice")
+        self.definitions[definition.name] = definition
+        return definition
+
+    def simple(self, name):
+        return self.define(Data(self, name))
+
+    def vector(self, name, words):
+        return self.define(Data(self, name, words))
+
+    def function(self, name, parameters=0):
+        return self.define(Function(self, name, parameters))
+
+    def use(self, name):
+        """Notes that a name is used, which may be defined later."""
+        self.used.setdefault(name_of(name), self.line)
+        return name
+
+    def take(self, text):
+        """Takes in the definitions of a whole code text, as `b compile` writes it of a file of B's library."""
+        lines = text.decode("ascii").split("\n")
+        if lines[-2:] != ["E", ""]:
+            raise CodeError("that is no whole code text: its last line isn't E")
+        lines = lines[lines[0] == "B 2":-2]
+        while lines:
+            kind, name, *sizes = lines[0].split(" ")
+            sizes = [int(it) for it in sizes]
+            size = 1 + sum(sizes[2:] if kind == "F" else sizes[-2:])
+            self.define(Taken(self, name, lines[:size], sizes[-1] if kind == "F" else sizes[-2]))
+            for it in lines[1:size]:
+                if it.startswith("x "):
+                    self.use(it[2:])
+            lines = lines[size:]
+
+    def text(self):
+        """The code text, of which `b run` takes the bytes."""
+        for name, line in self.used.items():
+            if name not in self.definitions and name not in LIBRARY:
+                fault = CodeError(f"{name} is neither defined nor in the library")
+                fault.line = line
+                raise fault
+        head = ["B 2"] if self.edition == 2 else []
+        lines = [line for it in self.definitions.values() for line in it.written()]
+        return "".join(f"{it}\n" for it in [*head, *lines, "E"]).encode("ascii")
+
+    def lines(self):
+        """The file of the lines, of which the places are those of `text()`, after a call of that."""
+        return "".join(f"{line}\n" for it in self.definitions.values() for line in it.lines).encode("ascii")

@@ -1,0 +1,186 @@
+"""Compiles Pebble, a small language, for the machine of B: `python3 pebble.py FILE` writes FILE.code and FILE.lines.
+
+docs/AUTHORS.md tells how it was made. PRINT.code, beside this file or the path after FILE, is the code text of B's
+`lib/print.b`, whose `putstr` writes a text."""
+import pathlib
+import re
+import sys
+
+from bcode import Code, CodeError
+
+TOKEN = re.compile(r'\s*(\d+|[a-z]\w*|"[^"]*"|<=|>=|==|!=|[-+*/%<>=(),])')
+RANKS = [("==", "!=", "<", "<=", ">", ">="), ("+", "-"), ("*", "/", "%")]
+
+
+class Line:
+    """The tokens of a line, from the left."""
+
+    def __init__(self, text):
+        self.left = []
+        text = text.split("#")[0].rstrip()
+        while text:
+            found = TOKEN.match(text)
+            if not found:
+                raise CodeError(f"no token begins with {text.strip()[0]!r}")
+            self.left.append(found[1])
+            text = text[found.end():]
+
+    @property
+    def next(self):
+        return self.left[0] if self.left else "the end of the line"
+
+    def take(self, wanted=None):
+        if not self.left or wanted and self.next != wanted:
+            raise CodeError(f"{wanted or 'an expression'} is wanted before {self.next}")
+        return self.left.pop(0)
+
+
+class Compiler:
+    def __init__(self):
+        self.code, self.function, self.open = Code(), None, []
+
+    def compile(self, source):
+        for at, text in enumerate(source.splitlines(), 1):
+            self.code.line, line = at, Line(text)
+            if line.left:
+                self.statement(line)
+                if line.left:
+                    raise CodeError(f"{line.next} is left on the line")
+        if self.open:
+            raise CodeError("an end is missing")
+
+    def statement(self, line):
+        word = line.next
+        if word in ("def", "let", "if", "else", "while", "print", "return", "end"):
+            line.take()
+            return getattr(self, f"take_{word}")(line)
+        self.expression(line)
+        return self.inside.drop()
+
+    @property
+    def inside(self):
+        if not self.function:
+            raise CodeError("this stands outside of a function")
+        return self.function
+
+    def take_def(self, line):
+        name, names = line.take(), []
+        line.take("(")
+        while line.next != ")":
+            names.append(line.take())
+            if line.next != ")":
+                line.take(",")
+        line.take(")")
+        self.function = self.code.function(name, len(names))
+        self.names = {it: index for index, it in enumerate(names)}
+        self.open.append(self.end_def)
+
+    def end_def(self):
+        self.function = None
+
+    def take_let(self, line):
+        name = line.take()
+        if name not in self.names:
+            self.names[name] = self.inside.words()
+        self.inside.automatic(self.names[name])
+        line.take("=")
+        self.expression(line)
+        self.inside.store()
+        self.inside.drop()
+
+    def take_if(self, line):
+        self.expression(line)
+        place = self.inside.jump_if_zero()
+        self.open.append(lambda: self.function.put(place))
+
+    def take_else(self, line):
+        place = self.inside.jump()
+        self.open.pop()()
+        self.open.append(lambda: self.function.put(place))
+
+    def take_while(self, line):
+        top = self.inside.here
+        self.expression(line)
+        place = self.inside.jump_if_zero()
+
+        def end_while():
+            self.function.jump(top)
+            self.function.put(place)
+
+        self.open.append(end_while)
+
+    def take_end(self, line):
+        if not self.open:
+            raise CodeError("there is nothing to end")
+        self.open.pop()()
+
+    def take_print(self, line):
+        if line.next.startswith('"'):
+            self.inside.variable("putstr")
+            self.inside.text(line.take()[1:-1])
+            self.inside.call_with(1)
+        else:
+            self.inside.variable("printn")
+            self.expression(line)
+            self.inside.constant(10)
+            self.inside.call_with(2)
+        self.inside.drop()
+        self.inside.call("putchar", ord("\n"))
+        self.inside.drop()
+
+    def take_return(self, line):
+        self.expression(line)
+        self.inside.give()
+
+    def expression(self, line, rank=0):
+        if rank == len(RANKS):
+            return self.operand(line)
+        self.expression(line, rank + 1)
+        while line.next in RANKS[rank]:
+            sign = line.take()
+            self.expression(line, rank + 1)
+            self.inside.binary(sign)
+
+    def operand(self, line):
+        token = line.take()
+        if token.isdigit():
+            self.inside.constant(int(token))
+        elif token == "-":
+            self.operand(line)
+            self.inside.negate()
+        elif token == "(":
+            self.expression(line)
+            line.take(")")
+        elif line.next == "(":
+            self.call(token, line)
+        elif token in self.names:
+            self.inside.variable(self.names[token])
+        else:
+            raise CodeError(f"{token} has no value yet: let {token} = ..")
+
+    def call(self, name, line):
+        self.inside.variable(name)
+        line.take("(")
+        count = 0
+        while line.next != ")":
+            self.expression(line)
+            count += 1
+            if line.next != ")":
+                line.take(",")
+        line.take(")")
+        self.inside.call_with(count)
+
+
+def main(source, library=pathlib.Path(__file__).with_name("print.code")):
+    source, compiler = pathlib.Path(source), Compiler()
+    try:
+        compiler.compile(source.read_text())
+        compiler.code.take(pathlib.Path(library).read_bytes())
+        code = compiler.code.text()
+    except CodeError as fault:
+        sys.exit(f"{source}:{fault.line or compiler.code.line}: {fault}")
+    source.with_suffix(".code").write_bytes(code)
+    source.with_suffix(".lines").write_bytes(compiler.code.lines())
+
+
+main(*sys.argv[1:])
