@@ -23,6 +23,8 @@ MAINTAINER = "Zirpaune maintainers <maintainers@users.noreply.zirpaune.example>"
 # The two processors: as Linux calls them, as Debian does, the folder of their libraries there, and what wheels name.
 AMD64 = ("x86_64", "amd64", "x86_64-linux-gnu")
 ARM64 = ("aarch64", "arm64", "aarch64-linux-gnu")
+# In `share/python`, what is for authors of compilers in Python.
+FOR_AUTHORS = ("bcode.py", "pebble.py")
 # The oldest glibc for which a wheel can be told to be, 2.17.
 GLIBC = 17
 COPYRIGHT = """The owner of Zirpaune, the program b, hasn't chosen a licence yet. Ask before you hand it on.
@@ -150,7 +152,7 @@ def linux(pack):
     manual(folder / "share")
     copy(folder / "share/zsh/site-functions", TOP / "share/completions/_b")
     copy(folder / "share/b", *(TOP / "share" / it for it in ("lsp", "vim", "vscode")))
-    copy(folder / "share/b/python", TOP / "share/python/b.py")
+    copy(folder / "share/b/python", *(TOP / "share/python" / it for it in ("b.py", *FOR_AUTHORS)))
     if pack.part("web"):
         copy(folder / "share/b/web", pack.part("web") / "b.html", pack.part("web") / "b.wasm")
     for machine, *_ in (AMD64, ARM64):
@@ -230,6 +232,7 @@ def deb(pack, processor):
     copy(usr / "share/zsh/vendor-completions", TOP / "share/completions/_b")
     copy(usr / "share/b/lib", *(TOP / "lib").glob("*.b"))
     copy(usr / "share/b", *(TOP / "share" / it for it in ("lsp", "vim", "vscode")))
+    copy(usr / "share/b/python", *(TOP / "share/python" / it for it in FOR_AUTHORS))
     copy(doc, TOP / "README.md", *(TOP / it for it in ("examples", "class", "docs")))
     if c:
         library(c, folder / "c")
@@ -323,7 +326,7 @@ def wheel(pack, processor):
         return None
     folder = pack.begin(f"wheel-{machine}")
     module, info = folder / "b", folder / f"b-{pack.version}.dist-info"
-    copy(module, c / "libb.so.1", SHARE / "__main__.py")
+    copy(module, c / "libb.so.1", SHARE / "__main__.py", TOP / "share/python/bcode.py")
     (module / "libb.so.1").chmod(0o644)
     shutil.copy(TOP / "share/python/b.py", module / "__init__.py")
     (module / "py.typed").touch()
