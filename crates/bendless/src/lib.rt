@@ -1,0 +1,14 @@
+//! Runs that never end. A law alone: nothing here runs.
+#![tactic(auto)]
+
+ghost use Rattle.bmean.specs.Laws.{OfCode};
+ghost use Rattle.bendless.specs.Endless.{NeverEnds, WantsForEver};
+
+/// Where a state comes again, but for what was written, the machine halts after no number of steps, and the program of
+/// the code wants more fuel at every number.
+pub fn a_state_that_comes_again_never_ends()
+    ensures machine { NeverEnds }
+    ensures meaning { OfCode WantsForEver }
+{
+    bmean::what_the_program_means_is_done();
+}
