@@ -1,9 +1,23 @@
 -- What was done over streams that were made over memory was done over their bytes.
-use Rattle.std.proofs.Common.{◌≡◌, ℕ, List, Option, Some, false, sym, subst}
+use Rattle.std.proofs.Common.{◌≡◌, ◌∙◌, ℕ, List, ◌∷◌, drop, length, Option, Some, false, ap, arith, sym, subst}
 use Rattle.bword.specs.declared.edition.Edition.{Edition}
 use Rattle.bword.specs.ByteEnds.{Incoming, Outgoing, Unread, incoming_of}
-use Rattle.bembed.specs.Rooms.{Overflow, Room, room_of, fresh}
+use Rattle.bembed.specs.declared.room.Room as stream
+use Rattle.bembed.specs.Rooms.{Filled, Overflow, Room, room_of, fresh, overflow_of}
 use Rattle.bembed.specs.Calls.{InEdition, all_of, edition_of}
+
+-- A room over which a stream was made is filled as the stream was left.
+pub filled : (made left : stream.Room) (room : Room) → made.before.now.bytes ≡ room.before
+    → (left.room.ghost_name ∷ left.count.ghost_name ∷ left.before.now.bytes)
+    ≡ (made.room.ghost_name ∷ made.count.ghost_name ∷ made.before.now.bytes)
+    → room.after ≡ left.room.now → room.count ≡ left.count.now → length room.after ≡ length room.before
+    → Filled room (overflow_of left.failures left.over)
+filled made left room is same after told size = record {
+  size = size;
+  within = omega (arith, left.within, ap length after, told, size);
+  kept = rw told (rw after (left.kept ∙ ap (drop left.count.now) (ap (drop 2) same ∙ is)));
+  full = (λ failed. (told ∙ (left.full.0 failed).0 ∙ ap length (sym after) ∙ size, (left.full.0 failed).1), left.full.1);
+}
 
 pub from_memory : (P : Incoming → Type 0) (stream : Unread) (bytes : List ℕ)
     → stream ≡ record { left = bytes; is_over = false } → P (incoming_of stream) → P (all_of bytes)

@@ -1,13 +1,20 @@
 -- What a write at the head of a room does.
-use Rattle.std.proofs.Common.{◌≡◌, ◌∙◌, ℕ, ◌+◌, ◌-◌, ◌≤◌, min, List, [], ◌∷◌, ◌++◌, length, take, Option, Some, None, refl, sym, ap, subst, add-one, arith, append_assoc, append-nil}
+use Rattle.std.proofs.Common.{◌≡◌, ◌∙◌, ℕ, ◌+◌, ◌-◌, ◌≤◌, min, List, [], ◌∷◌, ◌++◌, length, take, drop, Option, Some, None}
+use Rattle.std.proofs.Common.{refl, sym, ap, subst, add-one, arith, append_assoc, append-nil}
 use Rattle.std.specs.Prelude.{slice_get}
 use Rattle.std.specs.Option.{option_or}
 use Rattle.std.proofs.lemmas.List.{length-take}
 use Rattle.std.proofs.lemmas.Option.{get_or_from_slice_get, slice_get_within}
-use Rattle.std.proofs.Math.Seq.{take-suc}
+use Rattle.std.proofs.Math.Seq.{drop-drop, take-suc}
 use Rattle.bword.specs.ByteEnds.{Refuses, Grew}
 use Rattle.bword.specs.declared.ends.EndFault.TheVariants as fault
 use Rattle.bembed.specs.Rooms.{FailsFull, room_of, overflow_of}
+
+-- what a write leaves after its bytes was there before all writes
+pub kept_on : (before room written : List ℕ) (count more : ℕ) → drop count room ≡ drop count before
+    → drop (count + more) written ≡ drop (count + more) room → drop (count + more) written ≡ drop (count + more) before
+kept_on before room written count more kept left =
+    left ∙ sym (drop-drop more count room) ∙ ap (drop more) kept ∙ drop-drop more count before
 
 -- where a byte had no room, the room is full
 full_where_over : (room : List ℕ) (count failures byte : ℕ) → FailsFull room count (overflow_of failures (Some byte)) → count ≡ length room

@@ -36,7 +36,8 @@ one_over = refl
 room_left : Outgoing.written (room_of (7 ∷ 8 ∷ []) 1 all_fits) ≡ Some (7 ∷ [])
 room_left = refl
 
-failures_told : map (λ n. Outgoing.failures (room_of (7 ∷ 8 ∷ []) 2 (nine_over n))) (1 ∷ 255 ∷ most ∷ []) ≡ 1 ∷ 255 ∷ most ∷ []
+failures_told : map (λ n. Outgoing.failures (room_of (7 ∷ 8 ∷ []) 2 (nine_over n))) (1 ∷ 255 ∷ most ∷ [])
+    ≡ 1 ∷ 255 ∷ most ∷ []
 failures_told = refl
 
 -- a write fails in a full room where a byte has none, and in no other
@@ -54,13 +55,31 @@ over_without_failure full = let over = full.1 refl in cc
 
 -- a room of two bytes, before and after so many of them were written
 abbrev two : (count : ℕ) → Room
-two count = record { before = 0 ∷ 0 ∷ []; after = 7 ∷ 8 ∷ []; count = count }
+two count = record { before = 0 ∷ 8 ∷ []; after = 7 ∷ 8 ∷ []; count = count }
 
 abbrev one : (count : ℕ) → Room
 one count = record { before = 0 ∷ []; after = 9 ∷ []; count = count }
 
 more_than_there_is : Filled (one 2) (nine_over 1) → ⊥
 more_than_there_is filled = let within = filled.within in omega arith
+
+-- one byte was written in a room of three, and this is after it
+abbrev three : (rest : List ℕ) → Room
+three rest = record { before = 0 ∷ 5 ∷ 6 ∷ []; after = 7 ∷ rest; count = 1 }
+
+left_as_it_was : Filled (three (5 ∷ 6 ∷ [])) all_fits
+left_as_it_was = record {
+  size = refl;
+  within = omega arith;
+  kept = refl;
+  full = (λ failed. absurd (failed refl), λ none. refl);
+}
+
+cleared : Filled (three (0 ∷ 0 ∷ [])) all_fits → ⊥
+cleared filled = let kept = filled.kept in cc
+
+last_byte_changed : Filled (three (5 ∷ 0 ∷ [])) all_fits → ⊥
+last_byte_changed filled = let kept = filled.kept in cc
 
 touched : Untouched (one 0) → ⊥
 touched untouched = let same = untouched.same in cc
@@ -79,16 +98,17 @@ ends_given : (after : Unread) → ends_of (97 ∷ 98 ∷ []) after (two 1) (one 
 ends_given after = refl
 
 -- a run of the compiler has all of the source ahead
-compile_given : (after : Unread) → compile_run editions.Two (97 ∷ 98 ∷ []) after (two 1) (one 1) all_fits (nine_over 3) 133 ≡ record {
-  edition = editions.Two;
-  source = incoming_of (text_ahead (97 ∷ 98 ∷ []));
-  source_after = incoming_of after;
-  code = stream [] 0;
-  code_after = stream (7 ∷ []) 0;
-  line = stream [] 0;
-  line_after = stream (9 ∷ 9 ∷ []) 3;
-  status = 133;
-}
+compile_given : (after : Unread)
+    → compile_run editions.Two (97 ∷ 98 ∷ []) after (two 1) (one 1) all_fits (nine_over 3) 133 ≡ record {
+      edition = editions.Two;
+      source = incoming_of (text_ahead (97 ∷ 98 ∷ []));
+      source_after = incoming_of after;
+      code = stream [] 0;
+      code_after = stream (7 ∷ []) 0;
+      line = stream [] 0;
+      line_after = stream (9 ∷ 9 ∷ []) 3;
+      status = 133;
+    }
 compile_given after = refl
 
 -- what is done is done for the texts, the edition and the steps that are given
@@ -129,8 +149,8 @@ formatted : (f : FormatsIn (97 ∷ []) (two 1) (one 1) 0 editions.Two) → Forma
 formatted f = f.formats
 
 -- what is laid out is written, and not only looked at
-format_given : Format.is_check (format_of editions.Two (97 ∷ []) (stream [] 0) (stream [] 0) (stream [] 0) (stream [] 0) 0)
-    ≡ false
+format_given : Format.is_check
+    (format_of editions.Two (97 ∷ []) (stream [] 0) (stream [] 0) (stream [] 0) (stream [] 0) 0) ≡ false
 format_given = refl
 
 said : (s : SaysIn (97 ∷ []) (two 1) (record { before = []; after = []; count = 0 }) 0)

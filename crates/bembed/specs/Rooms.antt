@@ -1,5 +1,6 @@
 -- Promise: what a stream over the room of a caller has written, and what a call leaves in its two rooms.
-use Rattle.std.specs.Prelude.{◌≡◌, ◌≢◌, ℕ, ◌≤◌, List, [], ◌∷◌, ◌++◌, take, length, true, Option, Some, None, is_some}
+use Rattle.std.specs.Prelude.{◌≡◌, ◌≢◌, ℕ, ◌≤◌, List, [], ◌∷◌, ◌++◌, take, drop, length}
+use Rattle.std.specs.Prelude.{true, Option, Some, None, is_some}
 use Rattle.bword.specs.ByteEnds.{Outgoing}
 
 -- how often a write failed, and the first byte that had no room
@@ -35,10 +36,12 @@ pub record Room : Type 0 where
   pub after : List ℕ
   pub count : ℕ
 
--- A stream has written at the head of the room. It failed only where the room is full and a byte has none.
+-- A stream has written at the head of the room, and what the room held after that stays. It failed only where the room
+-- is full and a byte has none.
 pub record Filled (room : Room) (over : Overflow) : Type 0 where
   pub size : length room.after ≡ length room.before
   pub within : room.count ≤ length room.before
+  pub kept : drop room.count room.after ≡ drop room.count room.before
   pub full : FailsFull room.before room.count over
 
 -- the stream over a room that is filled so

@@ -5,6 +5,7 @@ ghost use Rattle.bembed.specs.Asks.{ChecksIn, FormatsIn, SaysIn, check_of};
 ghost use Rattle.bembed.specs.Calls.{edition_of, InEdition};
 ghost use Rattle.bsources.specs.Files.{followed};
 
+use crate::before::Before;
 use crate::calls::{edition_of, refuse};
 use crate::room::{Room, Written};
 use bcheck::{FindingForm, Request, check};
@@ -41,7 +42,8 @@ pub extern "C" fn b_check(
         return refuse(written);
     };
     written.line = 0;
-    let mut out = Room::new(out, &mut written.out);
+    let before = Before::of(out);
+    let mut out = Room::new(out, &before, &mut written.out);
     check_alone(alloc, source, edition, &mut out)
 }
 
@@ -62,7 +64,8 @@ fn check_before<O: ByteOut>(
     rest: &Following<'_>,
     out: &mut O,
 ) -> Status
-    ensures checks { rest.now ≡ followed [] → Checks (check_of edition source.now (O.outgoing out.old) (O.outgoing out.new) result) }
+    ensures checks { rest.now ≡ followed []
+        → Checks (check_of edition source.now (O.outgoing out.old) (O.outgoing out.new) result) }
     ensures out_lender { O.lender out.new ≡ O.lender out.old }
 {
     let first = SourceFile::new(FILE, source);
@@ -94,8 +97,9 @@ pub extern "C" fn b_format(
     let Some(edition) = edition_of(edition) else {
         return refuse(written);
     };
-    let mut out = Room::new(out, &mut written.out);
-    let mut line = Room::new(line, &mut written.line);
+    let (out_before, line_before) = (Before::of(out), Before::of(line));
+    let mut out = Room::new(out, &out_before, &mut written.out);
+    let mut line = Room::new(line, &line_before, &mut written.line);
     format(&House, alloc, source, edition, false, &mut out, &mut line)
 }
 
@@ -107,6 +111,7 @@ pub extern "C" fn b_version(out: &mut [u8], written: &mut Written) -> u8
         (record { before = []; after = []; count = written.new.line }) result }
 {
     written.line = 0;
-    let mut out = Room::new(out, &mut written.out);
+    let before = Before::of(out);
+    let mut out = Room::new(out, &before, &mut written.out);
     tell(VERSION.as_bytes(), status::DONE, &mut out)
 }

@@ -4,6 +4,7 @@ ghost use Rattle.blang.specs.declared.status.TheConstants.{WRONG_COMMAND};
 ghost use Rattle.bembed.specs.RoomsExcluded.{Excluded};
 ghost use Rattle.bembed.specs.Calls.{edition_of, InEdition, CompilesIn, GoesIn, LocatesIn, MigratesIn, RunsIn};
 
+use crate::before::Before;
 use crate::room::{Room, Written};
 use blang::status::{self, Status};
 use bparse::compile_edition;
@@ -53,8 +54,9 @@ pub extern "C" fn b_compile(
     let Some(edition) = edition_of(edition) else {
         return refuse(written);
     };
-    let mut out = Room::new(out, &mut written.out);
-    let mut line = Room::new(line, &mut written.line);
+    let (out_before, line_before) = (Before::of(out), Before::of(line));
+    let mut out = Room::new(out, &out_before, &mut written.out);
+    let mut line = Room::new(line, &line_before, &mut written.line);
     let mut source = MemIn::new(source);
     compile_edition(alloc, &mut source, &mut out, &mut line, edition)
 }
@@ -74,8 +76,9 @@ pub extern "C" fn b_run(
         (record { before = out.old; after = out.new; count = written.new.out })
         (record { before = line.old; after = line.new; count = written.new.line }) result }
 {
-    let mut out = Room::new(out, &mut written.out);
-    let mut line = Room::new(line, &mut written.line);
+    let (out_before, line_before) = (Before::of(out), Before::of(line));
+    let mut out = Room::new(out, &out_before, &mut written.out);
+    let mut line = Room::new(line, &line_before, &mut written.line);
     let mut input = MemIn::new(input);
     run_text(alloc, code, &mut input, &mut out, &mut line, steps)
 }
@@ -95,8 +98,9 @@ pub extern "C" fn b_run_where(
         (record { before = out.old; after = out.new; count = written.new.out })
         (record { before = line.old; after = line.new; count = written.new.line }) result }
 {
-    let mut out = Room::new(out, &mut written.out);
-    let mut line = Room::new(line, &mut written.line);
+    let (out_before, line_before) = (Before::of(out), Before::of(line));
+    let mut out = Room::new(out, &out_before, &mut written.out);
+    let mut line = Room::new(line, &line_before, &mut written.line);
     let mut input = MemIn::new(input);
     locate_code(alloc, code, &mut input, &mut out, &mut line, steps)
 }
@@ -123,8 +127,9 @@ pub extern "C" fn b_go(
     let Some(edition) = edition_of(edition) else {
         return refuse(written);
     };
-    let mut out = Room::new(out, &mut written.out);
-    let mut line = Room::new(line, &mut written.line);
+    let (out_before, line_before) = (Before::of(out), Before::of(line));
+    let mut out = Room::new(out, &out_before, &mut written.out);
+    let mut line = Room::new(line, &line_before, &mut written.line);
     let mut source = MemIn::new(source);
     let mut input = MemIn::new(input);
     go_edition(
@@ -151,8 +156,9 @@ pub extern "C" fn b_migrate(
         (record { before = out.old; after = out.new; count = written.new.out })
         (record { before = line.old; after = line.new; count = written.new.line }) result }
 {
-    let mut out = Room::new(out, &mut written.out);
-    let mut line = Room::new(line, &mut written.line);
+    let (out_before, line_before) = (Before::of(out), Before::of(line));
+    let mut out = Room::new(out, &out_before, &mut written.out);
+    let mut line = Room::new(line, &line_before, &mut written.line);
     let mut code = MemIn::new(code);
     migrate(alloc, &mut code, &mut out, &mut line)
 }

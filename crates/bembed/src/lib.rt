@@ -4,6 +4,7 @@
 #![tactic(auto)]
 
 mod asking;
+mod before;
 mod calls;
 mod room;
 

@@ -1,7 +1,8 @@
 //! Streams over the rooms of a caller.
-ghost use Rattle.std.specs.Prelude.{◌≡◌, ◌≤◌, ◌+◌, ◌++◌, [], ◌∷◌, take, false, length};
+ghost use Rattle.std.specs.Prelude.{◌≡◌, ◌≤◌, ◌+◌, ◌++◌, ◌∷◌, take, drop, false, length};
 ghost use Rattle.bembed.specs.Rooms.{room_of, overflow_of, fresh, FailsFull};
 
+use crate::before::Before;
 use bword::{ByteOut, EndFault};
 
 /// How many bytes a call wrote at the head of each room.
@@ -23,15 +24,19 @@ pub(crate) struct Room<'a> {
     failures: u64,
     // The first byte that had no room.
     over: Option<u8>,
+    before: &'a Before,
     ghost within: { count.now ≤ length room.now },
     ghost full: { FailsFull room.now count.now (overflow_of failures over) },
+    ghost kept: { drop count.now room.now ≡ drop count.now before.now.bytes },
 }
 
 impl<'a> Room<'a> {
     /// A stream that has written nothing.
-    pub(crate) fn new(room: &'a mut [u8], count: &'a mut usize) -> Room<'a>
+    pub(crate) fn new(room: &'a mut [u8], before: &'a Before, count: &'a mut usize) -> Room<'a>
+        requires { before.now.bytes ≡ room.old }
         ensures room_name { result.room.ghost_name ≡ room.entry.ghost_name }
         ensures count_name { result.count.ghost_name ≡ count.entry.ghost_name }
+        ensures before { result.before.now.bytes ≡ room.entry.now }
         ensures empty { room_of result.room.now result.count.now (overflow_of result.failures result.over) ≡ fresh }
     {
         *count = 0;
@@ -40,6 +45,7 @@ impl<'a> Room<'a> {
             count,
             failures: 0,
             over: None,
+            before,
         }
     }
 }
@@ -47,7 +53,7 @@ impl<'a> Room<'a> {
 impl ByteOut for Room<'_> {
     ghost outgoing = { λ r. room_of r.room.now r.count.now (overflow_of r.failures r.over) };
 
-    ghost lender = { λ r. r.room.ghost_name ∷ r.count.ghost_name ∷ [] };
+    ghost lender = { λ r. r.room.ghost_name ∷ r.count.ghost_name ∷ r.before.now.bytes };
 
     ghost refuses_whole = { false };
 
@@ -68,7 +74,8 @@ impl ByteOut for Room<'_> {
 // Writes bytes at a place of a room that has room for them there.
 fn write_at(room: &mut [u8], start: usize, bytes: &[u8])
     requires { start + length bytes.now ≤ length room.old }
-    ensures { take (start + length bytes.now) room.new ≡ take start room.old ++ bytes.now }
+    ensures written { take (start + length bytes.now) room.new ≡ take start room.old ++ bytes.now }
+    ensures kept { drop (start + length bytes.now) room.new ≡ drop (start + length bytes.now) room.old }
 {
     room[start..start + bytes.len()].copy_from_slice(bytes);
 }
