@@ -10,7 +10,7 @@
  * - No call is made from a signal handler, or from the forked child of a process with threads.
  *
  * Of what is the caller's, a call writes the rooms and the struct alone. What a room holds after the bytes that were
- * written is not promised.
+ * written stays as it was.
  *
  * What is said of a call holds for what fits into its rooms. A room that is too small is a write that failed: the
  * status is B_FAILED, and the room is full of the beginning of what it should hold. A room that is just large enough is
