@@ -1,10 +1,14 @@
 -- Closed facts: trees that are well formed or not, and where a source stops being a program's.
-use Rattle.std.proofs.Common.{◌≡◌, ◌≤◌, ℕ, zero, suc, true, false, List, [], ◌∷◌, map, codes, Option, None, Some, refl, sym, subst, arith, inl, leb-true}
+use Rattle.std.proofs.Common.{◌≡◌, ◌≤◌, ℕ, zero, suc, true, false, List, [], ◌∷◌, map, codes, Option, None, Some}
+use Rattle.std.proofs.Common.{refl, sym, subst, arith, inl, leb-true}
 use Rattle.bword.specs.declared.operators.BinOp.TheVariants as op
 use Rattle.blang.specs.declared.token.Token.{Token}
 use Rattle.blang.specs.declared.token.Placed.{Placed}
 use Rattle.blang.specs.declared.token.Diagnostic.{Diagnostic}
-use Rattle.blang.specs.Trees.{Number, Negate, PostIncrement, Expr, Arguments, Literal, Text, Grouped, Indexed, Called, Postfixed, Prefixed, Binary, Conditional, Assigned, No_arguments, Another, Heading, Label, Stmt, Headed, Compound, If, IfElse, While, Switch, Goto, ReturnValue, Evaluate, Empty, Nothing, More, Ival_constant, Ival_text, Definition, Simple, Function}
+use Rattle.blang.specs.Trees.{Number, Negate, PostIncrement, Expr, Arguments, Literal, Text, Grouped, Indexed, Called}
+use Rattle.blang.specs.Trees.{Postfixed, Prefixed, Binary, Conditional, Assigned, No_arguments, Another, Heading}
+use Rattle.blang.specs.Trees.{Label, Stmt, Headed, Compound, If, IfElse, While, Switch, Goto, ReturnValue, Evaluate}
+use Rattle.blang.specs.Trees.{Empty, Nothing, More, Ival_constant, Ival_text, Definition, Simple, Function}
 use Rattle.blang.specs.WellFormed.{rvalue_rank, Binds, StatementBinds, IsFormed, IsViable, StopsAt, Parts, Parted}
 use Rattle.blang.specs.Walk.{TextAt, levels_in, texts_in, walk, walk_statement, spell_definition}
 use Rattle.blang.specs.Code.{string_words_of}

@@ -1,9 +1,8 @@
 -- Closed facts: what each construct asks of its parts. The parts are an assignment, a conditional and a bitwise or,
 -- which ask for 9, 8 and 7: so each fact shows how loosely the operators of each part may bind.
-use Rattle.std.specs.Prelude.{◌≡◌, ◌≤◌, ◌++◌, ◌⊎◌, ℕ, List, [], ◌∷◌, map, true, false, Bool, codes, None, Some, refl}
+use Rattle.std.specs.Prelude.{◌≡◌, ◌≤◌, ◌++◌, ℕ, List, [], ◌∷◌, map, true, false, Bool, codes, None, Some, refl}
 use Rattle.std.proofs.Common.{inl, inr}
 use Rattle.bword.specs.declared.operators.BinOp.TheVariants as op
-use Rattle.blang.specs.declared.token.Placed.{Placed}
 use Rattle.blang.specs.declared.token.Token.{Token}
 use Rattle.blang.specs.declared.token.Token.TheVariants as token
 use Rattle.blang.specs.declared.token.Letters.TheVariants as letters
@@ -12,10 +11,10 @@ use Rattle.blang.specs.declared.token.Diagnostic.{Diagnostic}
 use Rattle.blang.specs.Cut.{placed}
 use Rattle.blang.specs.Trees.{Identifier, Number, Negate, PostIncrement, Expr, Named, Literal, Text, Grouped, Indexed}
 use Rattle.blang.specs.Trees.{Called, Postfixed, Prefixed, Binary, Conditional, Assigned, No_arguments, Another, Auto}
-use Rattle.blang.specs.Trees.{Extrn, Label, Case, Default, Heading, Stmt, Headed, Compound, If, IfElse, While, Switch}
-use Rattle.blang.specs.Trees.{Goto, Break, Return, ReturnValue, Evaluate, Empty, Nothing, More, Ival_text, Definition}
-use Rattle.blang.specs.Trees.{Simple, Vector, Function}
-use Rattle.blang.specs.WellFormed.{IsPostfix, Binds, is_open, IsHeading, StatementBinds, OffsetsFrom, IsFormed}
+use Rattle.blang.specs.Trees.{Extrn, Label, Stmt, Headed, Compound, If, IfElse, While, Switch}
+use Rattle.blang.specs.Trees.{Goto, ReturnValue, Evaluate, Empty, Nothing, More, Ival_text}
+use Rattle.blang.specs.Trees.{Simple, Function}
+use Rattle.blang.specs.WellFormed.{IsPostfix, Binds, is_open, StatementBinds, IsFormed}
 use Rattle.blang.specs.WellFormed.{AllFormed}
 use Rattle.blang.specs.WellFormed.{IsProgram, BeginsProgram, IsViable, fault_at, StopsAt, IsPart, packed}
 

@@ -14,7 +14,7 @@ use Rattle.blang.specs.declared.token.Token.TheVariants as token
 use Rattle.blang.specs.Cut.{Piece, Space, Word, whole, is_digit, is_digit_of, base_of, plain_of, escape_of, keyword_of}
 use Rattle.blang.specs.Cut.{Quoted, Open, Starred, Closed, Wrong, Past, with_quoted_byte, character_token, string_token}
 use Rattle.blang.specs.Cut.{number_token, number_in, next_line, line_number_after, is_last, tokens_from, placed, cut}
-use Rattle.blang.specs.Cut.{longest}
+use Rattle.blang.specs.Cut.{longest, after_close}
 use Rattle.blang.specs.Cut.{greatest, keywords, word_token, operator_of, other_of, fixed_of}
 
 abbrev bytes : List ℕ
@@ -44,8 +44,18 @@ lines_of_ends : map (λ n. map (tokens_from editions.One n) ([] ∷ codes " " �
 unfolding tokens_from cut longest greatest whole operator_of other_of fixed_of
 lines_of_ends = refl
 
+-- the end of a source after a token of two bytes
+lines_of_longer_tokens : map (λ n. tokens_from editions.One n (codes "ab")) lines
+    ≡ map (λ n. placed (token.Name (codes "ab")) n ∷ placed token.End n ∷ []) lines
+unfolding tokens_from cut longest greatest whole word_token keyword_of
+lines_of_longer_tokens = refl
+
 after_each_byte : line_number_after 1 bytes ≡ 2
 after_each_byte = refl
+
+-- no byte in a comment keeps it from its end
+closed_after_each_byte : map (λ b. after_close (120 ∷ b ∷ codes "*/")) bytes ≡ replicate 256 (Some [])
+closed_after_each_byte = refl
 
 -- The comment has each byte, and then two carriage returns, of which one is before a newline.
 abbrev comment : List ℕ
@@ -137,6 +147,12 @@ too_large : map (λ n. number_token (decimal n)) (range_with_len 65536 20 ++ 999
 unfolding number_in digits
 too_large = refl
 
+-- of more than a hundred digits each counts
+many_digits : map number_token ((49 ∷ replicate 100 48) ∷ (49 ∷ replicate 300 48) ∷ (48 ∷ 49 ∷ replicate 100 48)
+    ∷ (48 ∷ 56 ∷ replicate 100 48) ∷ []) ≡ replicate 4 (token.Bad letters.Constant)
+unfolding number_in
+many_digits = refl
+
 too_large_octals : map (λ n. number_token (48 ∷ digits 8 false n)) (range_with_len 65536 20 ++ 262144 ∷ 4294967296 ∷ [])
     ≡ replicate 22 (token.Bad letters.Constant)
 unfolding number_in digits
@@ -210,6 +226,11 @@ a_star_too_many : map (λ text. whole editions.One (34 ∷ replicate 254 97 ++ t
     ≡ unclosed ∷ None ∷ None ∷ []
 unfolding whole with_quoted_byte escape_of
 a_star_too_many = refl
+
+-- A string has all of its characters.
+string_tokens : map (λ n. string_token (range_with_len 1 n)) (0 ∷ 1 ∷ 2 ∷ 9 ∷ 10 ∷ 100 ∷ 101 ∷ 254 ∷ [])
+    ≡ map (λ n. token.String (record { items = range_with_len 1 n })) (0 ∷ 1 ∷ 2 ∷ 9 ∷ 10 ∷ 100 ∷ 101 ∷ 254 ∷ [])
+string_tokens = refl
 
 -- One character is its byte. Of two each is each.
 one_character : map (λ b. character_token (b ∷ [])) bytes ≡ map token.Character bytes

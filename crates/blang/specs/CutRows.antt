@@ -8,7 +8,8 @@ use Rattle.bword.specs.declared.edition.Edition.TheVariants as editions
 use Rattle.bword.specs.declared.operators.BinOp.TheVariants as op
 use Rattle.blang.specs.declared.token.Token.{Token}
 use Rattle.blang.specs.Cut.{Word, whole, is_blank, word_token, keyword_of, number_in, with_quoted_byte, plain_of}
-use Rattle.blang.specs.Cut.{number_token, escape_of, operator_of, other_of, fixed_of, string_token, tokens_from, placed, cut, longest}
+use Rattle.blang.specs.Cut.{number_token, escape_of, operator_of, other_of, fixed_of, string_token, tokens_from}
+use Rattle.blang.specs.Cut.{placed, cut, longest}
 use Rattle.blang.specs.Cut.{greatest, is_last}
 use Rattle.blang.specs.Cut as cut_rules
 use Rattle.blang.specs.declared.token.Token.TheVariants as token
@@ -307,7 +308,8 @@ reaches : map (longest editions.One) (
     codes "abcdefghij9_ x" ∷ codes "0899x" ∷ codes "'ab\n'" ∷ codes "'abc'" ∷ codes "'*xy'" ∷ codes "\"a\n\"" ∷
     codes "'a" ∷ codes "\"ab" ∷
     codes "##" ∷ codes "/* x" ∷ []) ≡ 12 ∷ 4 ∷ 4 ∷ 4 ∷ 3 ∷ 3 ∷ 2 ∷ 3 ∷ 1 ∷ 4 ∷ []
-unfolding longest greatest whole word_token keyword_of number_in with_quoted_byte escape_of operator_of other_of fixed_of
+unfolding longest greatest whole word_token keyword_of number_in with_quoted_byte escape_of operator_of other_of
+    fixed_of
 reaches = refl
 
 -- Lines: those of the first byte of each token, and of `End`.

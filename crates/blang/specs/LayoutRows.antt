@@ -190,8 +190,9 @@ vector_undefined : load_fault (vector (codes "v") 2 (ival.Name (codes "g") ∷ [
 vector_undefined = refl
 
 -- a function of that name alone is the main one
-mains : map is_main (main ∷ simple (codes "main") [] [] ∷ vector (codes "main") 1 [] [] ∷ function (codes "mains") [] [] []
-    ∷ function (codes "mai") [] [] [] ∷ []) ≡ true ∷ false ∷ false ∷ false ∷ false ∷ []
+mains : map is_main (main ∷ simple (codes "main") [] [] ∷ vector (codes "main") 1 [] []
+    ∷ function (codes "mains") [] [] [] ∷ function (codes "mai") [] [] [] ∷ [])
+    ≡ true ∷ false ∷ false ∷ false ∷ false ∷ []
 mains = refl
 
 -- main[1];

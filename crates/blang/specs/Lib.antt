@@ -17,6 +17,10 @@ pub mod Meaning
 pub mod Headline
 pub mod CutRows
 pub mod TextRows
+pub mod TokenRows
+pub mod WalkRows
+pub mod VariantRows
+pub mod PlaceRows
 pub mod TreeRows
 pub mod SpellRows
 pub mod BindRows
@@ -32,5 +36,6 @@ pub mod ByteRows
 pub mod EdgeRows
 pub mod LongRows
 pub mod ValueRows
+pub mod WideRows
 pub mod Lines
 pub mod LetterRows

@@ -2,7 +2,8 @@
 use Rattle.std.specs.Prelude.{◌≡◌, [], ◌∷◌, map, refl}
 use Rattle.bword.specs.declared.ends.EndFault.TheVariants as end_fault
 use Rattle.bword.specs.declared.store.TheConstants.{STORE_LEN}
-use Rattle.blang.specs.declared.limits.TheConstants.{WORD_VALUES, MAX_PARAMETERS, MAX_LABELS, MAX_WORDS, MAX_STRING_WORDS}
+use Rattle.blang.specs.declared.limits.TheConstants.{WORD_VALUES, MAX_PARAMETERS, MAX_LABELS, MAX_WORDS}
+use Rattle.blang.specs.declared.limits.TheConstants.{MAX_STRING_WORDS}
 use Rattle.blang.specs.declared.limits.TheConstants.{MAX_VALUES, MAX_INSTRUCTIONS, LINE_LEN, MAX_NESTING, MAX_NAMES}
 use Rattle.blang.specs.declared.limits.TheConstants.{MAX_CASES, STORE_WORDS, MAX_PROGRAM_LABELS, MAX_CALLS}
 use Rattle.blang.specs.declared.token.TheConstants.{STRING_LEN}

@@ -4,7 +4,7 @@ use Rattle.std.specs.Prelude.{ℕ, zero, suc, ◌+◌, List, [], ◌∷◌, ◌+
 use Rattle.std.specs.Prelude.{false, if◌then◌else◌}
 use Rattle.blang.specs.Trees.{Identifier, Expr, Arguments, Indirection, Named, Literal, Text, Grouped, Indexed, Called}
 use Rattle.blang.specs.Trees.{Postfixed, Prefixed, Binary, Conditional, Assigned, No_arguments, Another, Declared}
-use Rattle.blang.specs.Trees.{Heading, Auto, Extrn, Label, Case, Default, Stmt, Headed, Compound, If, IfElse, While}
+use Rattle.blang.specs.Trees.{Heading, Auto, Extrn, Stmt, Headed, Compound, If, IfElse, While}
 use Rattle.blang.specs.Trees.{Switch, Goto, Break, Return, ReturnValue, Evaluate, Empty, Stmts, Nothing, More, Ival}
 use Rattle.blang.specs.Trees.{Definition, Simple, Vector, Function}
 use Rattle.blang.specs.Walk.{Walk, tokens_in, walk, walk_arguments, comma_before_next, walk_size, walk_declared}

@@ -341,6 +341,19 @@ words_of_functions : drop 7 (first_words (map shape_of functions))
     ≡ flat_map (λ i. (7 + i) ∷ 1 ∷ 4 ∷ []) (range_with_len 0 12)
 words_of_functions = refl
 
+-- and 130 functions of one label each: their values, the values of their labels, and where they lie
+abbrev many_functions : List Definition
+many_functions = map (λ i. function (name i) 1 []) (range_with_len 0 130)
+
+spots_of_many : map (λ (s : Spot). s.value ∷ s.first_label ∷ s.address ∷ s.strings ∷ [])
+    (spots (map shape_of many_functions))
+    ≡ map (λ i. (7 + i) ∷ (1 + i) ∷ (7 + 3 * i) ∷ (8 + 3 * i) ∷ []) (range_with_len 0 130)
+spots_of_many = refl
+
+words_of_many : drop 7 (first_words (map shape_of many_functions))
+    ≡ flat_map (λ i. (7 + i) ∷ 1 ∷ 4 ∷ []) (range_with_len 0 130)
+words_of_many = refl
+
 -- A function as an initial value is its address, and not its value: a table of functions in a simple one and in a
 -- vector.
 abbrev dispatching : List Definition

@@ -71,7 +71,7 @@ shown (Gives v w) = elim v [ ]
 shown (Ends e w) = (Some e, w.output)
 shown (Wants w) = (None, w.output)
 
-abbrev does : List Definition → (input : List ℕ) → (fuel : ℕ) → Option Ending × List ℕ
+abbrev pub does : List Definition → (input : List ℕ) → (fuel : ℕ) → Option Ending × List ℕ
 does ds input n = shown (meant ds input n)
 
 -- main(){}
@@ -419,8 +419,8 @@ arguments_in_order = refl
 truths : map is_true (0 ∷ 1 ∷ 256 ∷ 32768 ∷ 65535 ∷ []) ≡ false ∷ true ∷ true ∷ true ∷ true ∷ []
 truths = refl
 
-if_256 : does (main (If (number 256) (putchar (number 121)) ∷ putchar (Conditional (number 256) (number 121) (number 110))
-    ∷ []) ∷ []) [] 0 ≡ (Some (Exited 0), codes "yy")
+if_256 : does (main (If (number 256) (putchar (number 121))
+    ∷ putchar (Conditional (number 256) (number 121) (number 110)) ∷ []) ∷ []) [] 0 ≡ (Some (Exited 0), codes "yy")
 if_256 = refl
 
 -- main(){switch 264 {case 8: putchar('8'); case 264: putchar('x');}}

@@ -6,9 +6,11 @@ use Rattle.std.specs.List.{list_any}
 use Rattle.bword.specs.Words.{same_name}
 use Rattle.blang.specs.declared.token.Letters.{Letters}
 use Rattle.blang.specs.declared.token.Diagnostic.{Diagnostic}
-use Rattle.blang.specs.Trees.{Identifier, Expr, Indirection, Named, Grouped, Indexed, Prefixed, Stmt, Definition, Simple}
+use Rattle.blang.specs.Trees.{Identifier, Expr, Indirection, Named, Grouped, Indexed, Prefixed, Stmt, Definition}
+use Rattle.blang.specs.Trees.{Simple}
 use Rattle.blang.specs.Trees.{Vector, Function}
-use Rattle.blang.specs.Walk.{Event, AutoHere, ExtrnHere, Mention, LabelHere, CaseHere, DefaultHere, BreakHere, LvalueWanted}
+use Rattle.blang.specs.Walk.{Event, AutoHere, ExtrnHere, Mention, LabelHere, CaseHere, DefaultHere, BreakHere}
+use Rattle.blang.specs.Walk.{LvalueWanted}
 use Rattle.blang.specs.Walk.{LoopBegins, LoopEnds, SwitchBegins, SwitchEnds, events_in, walk_function}
 use Rattle.blang.specs.declared.limits.TheConstants.{MAX_NAMES, MAX_CASES}
 use Rattle.blang.specs.declared.token.About.{About}

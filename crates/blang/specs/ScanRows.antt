@@ -8,13 +8,13 @@ use Rattle.blang.specs.declared.token.About.{About}
 use Rattle.blang.specs.declared.token.About.TheVariants as about
 use Rattle.blang.specs.declared.token.Diagnostic.{Diagnostic}
 use Rattle.blang.specs.Trees.{Identifier, Number, Negate, Indirection, Expr, Named, Literal, Grouped, Indexed, Prefixed}
-use Rattle.blang.specs.Trees.{Goto, Evaluate, Empty, Headed, Label, Definition, Simple, Vector, Function}
+use Rattle.blang.specs.Trees.{Goto, Definition, Simple, Vector, Function}
 use Rattle.blang.specs.Walk.{Event, AutoHere, ExtrnHere, Mention, LabelHere, CaseHere, DefaultHere, BreakHere}
 use Rattle.blang.specs.Walk.{LvalueWanted}
 use Rattle.blang.specs.Walk.{LoopBegins, LoopEnds, SwitchBegins, SwitchEnds}
 use Rattle.blang.specs.Scan.{Entry, NameKind, Automatic, External, Unlabelled, Labelled, Around, Scope, scan_event}
 use Rattle.blang.specs.Scan.{scanned}
-use Rattle.blang.specs.Scan.{no_scope, scope_fault, scan, identifier_of}
+use Rattle.blang.specs.Scan.{no_scope, scope_fault, scan}
 
 abbrev entry : List ℕ → NameKind → Entry
 entry name kind = record { name = name; kind = kind }
@@ -159,6 +159,21 @@ no_lvalues = refl
 first_fault : scanned (LoopBegins ∷ ExtrnHere (word (codes "p")) ∷ ExtrnHere (word (codes "x")) ∷ []) (Ok scope)
     ≡ of_name letters.Redeclared (codes "p")
 first_fault = refl
+
+-- each event of several is scanned as it is
+scanned_each : scanned (ExtrnHere (word (codes "a")) ∷ AutoHere (word (codes "b")) None ∷ LabelHere (word (codes "c"))
+    ∷ Mention true (word (codes "d")) ∷ Mention false (word (codes "e")) ∷ LoopBegins ∷ SwitchBegins ∷ CaseHere 4 7
+    ∷ DefaultHere 4 ∷ BreakHere 4 ∷ SwitchEnds ∷ LoopEnds ∷ []) (Ok scope)
+    ≡ Ok (record {
+      names = scope.names ++ entry (codes "a") External ∷ entry (codes "b") (Automatic 3)
+          ∷ entry (codes "c") (Labelled 1) ∷ entry (codes "d") External ∷ entry (codes "e") (Unlabelled 4) ∷ [];
+      frame = 4;
+      labels = 2;
+      switches = [];
+      loops = 0;
+      cases = 1;
+    })
+scanned_each = refl
 
 scope_faults : map scope_fault (Ok no_scope ∷ Ok scope ∷ fault letters.Syntax about.Case ∷ [])
     ≡ None ∷ Some (record { letters = letters.Undefined; about = about.Name (codes "g"); line = 2 })

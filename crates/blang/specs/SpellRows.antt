@@ -1,5 +1,5 @@
 -- Closed facts: trees, and the source that each is the tree of, with the lines that it keeps.
-use Rattle.std.specs.Prelude.{◌≡◌, ℕ, List, [], ◌∷◌, ◌++◌, map, codes, Option, Some, None, refl}
+use Rattle.std.specs.Prelude.{◌≡◌, ℕ, List, [], ◌∷◌, ◌++◌, map, codes, Some, None, refl}
 use Rattle.bword.specs.declared.edition.Edition.TheVariants as editions
 use Rattle.bword.specs.declared.operators.BinOp.TheVariants as op
 use Rattle.blang.specs.Cut.{tokens_from, cut, longest, greatest, whole, word_token, keyword_of, number_in}
@@ -8,7 +8,7 @@ use Rattle.blang.specs.Cut.{escape_of, operator_of, other_of, fixed_of}
 use Rattle.blang.specs.declared.token.Placed.{Placed}
 use Rattle.blang.specs.declared.token.Token.TheVariants as token
 use Rattle.blang.specs.Trees.{mark, kept_tokens, Identifier, Number, Character, Negate, Not, Indirection, Address}
-use Rattle.blang.specs.Trees.{PreIncrement, PreDecrement, PostIncrement, PostDecrement, Expr, Arguments, Named, Literal}
+use Rattle.blang.specs.Trees.{PreIncrement, PreDecrement, PostIncrement, PostDecrement, Expr, Named, Literal}
 use Rattle.blang.specs.Trees.{Text, Grouped, Indexed, Called, Postfixed, Prefixed, Binary, Conditional, Assigned}
 use Rattle.blang.specs.Trees.{No_arguments, Another, Auto, Extrn, Label, Case, Default, Stmt, Headed, Compound, If}
 use Rattle.blang.specs.Trees.{IfElse}

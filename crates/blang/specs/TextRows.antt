@@ -5,7 +5,8 @@ use Rattle.std.specs.Fmt.{digits}
 use Rattle.bword.specs.declared.edition.Edition.TheVariants as editions
 use Rattle.bword.specs.declared.operators.BinOp.TheVariants as op
 use Rattle.blang.specs.declared.code.Instr.{Instr}
-use Rattle.blang.specs.Text.{definition_text, code_lines, joined, opening, instr_line, ival_line, target_line, string_line}
+use Rattle.blang.specs.Text.{definition_text, code_lines, joined, opening, instr_line, ival_line, target_line}
+use Rattle.blang.specs.Text.{string_line}
 use Rattle.blang.specs.Text.{header_line, body_lines}
 use Rattle.blang.specs.declared.code.Definition.TheVariants as definition
 use Rattle.blang.specs.declared.code.Increment.TheVariants as increment
@@ -52,7 +53,8 @@ function : definition_text (definition.Function record {
       ∷ instr.JumpIfCase 2 16 ∷ instr.Pop ∷ instr.Automatic 4 ∷ instr.Load ∷ instr.Return ∷ instr.Constant 0
       ∷ instr.Return ∷ [];
 }) ≡ codes
-    "F f 1 5 1 0 26\nt 4\na 1\na 2\nw\np\na 1\nv\na 4\nv\nb +\na 0\nv\nm +\np\na 0\nv\nj 19\nl 0\ng\nj 21\ne 2 16\np\na 4\nv\nr\nc 0\nr\n"
+    "F f 1 5 1 0 26\nt 4\na 1\na 2\nw\np\na 1\nv\na 4\nv\nb +\na 0\nv\nm +\np\na 0\nv\nj 19\n"
+    ++ codes "l 0\ng\nj 21\ne 2 16\np\na 4\nv\nr\nc 0\nr\n"
 unfolding digits
 function = refl
 
@@ -201,13 +203,27 @@ unfolding digits
 headers = refl
 
 headers_of_functions : map
-    (λ n. header_line (definition.Function record { name = codes "f"; parameters = n; frame = n; targets = []; strings = []; code = [] })) each
+    (λ n. header_line (definition.Function record {
+      name = codes "f";
+      parameters = n;
+      frame = n;
+      targets = [];
+      strings = [];
+      code = [];
+    })) each
     ≡ map (λ d. codes "F f " ++ d ++ codes " " ++ d ++ codes " 0 0 0\n") decimals
 unfolding digits
 headers_of_functions = refl
 
 headers_of_long_ones : header_line
-    (definition.Function record { name = codes "f"; parameters = 1; frame = 2; targets = replicate 128 0; strings = replicate 1024 0; code = replicate 4096 instr.Pop })
+    (definition.Function record {
+      name = codes "f";
+      parameters = 1;
+      frame = 2;
+      targets = replicate 128 0;
+      strings = replicate 1024 0;
+      code = replicate 4096 instr.Pop;
+    })
     ∷ header_line (definition.Simple record {
       name = codes "x";
       values = replicate 1024
@@ -219,14 +235,26 @@ unfolding digits
 headers_of_long_ones = refl
 
 -- 130 lines of each kind, in order
-bodies : body_lines (definition.Function record { name = codes "f"; parameters = 0; frame = 0; targets = each; strings = each; code = replicate 130 instr.Pop })
+bodies : body_lines (definition.Function record {
+  name = codes "f";
+  parameters = 0;
+  frame = 0;
+  targets = each;
+  strings = each;
+  code = replicate 130 instr.Pop;
+})
     ≡ after_letter (codes "t ") ++ after_letter (codes "w ") ++ replicate 130 (codes "p\n")
 unfolding digits
 bodies = refl
 
 bodies_of_values : body_lines
     (definition.Simple record { name = codes "x"; values = map ival.Number each; strings = each })
-    ∷ body_lines (definition.Vector record { name = codes "x"; words = 20; values = map ival.Number each; strings = each }) ∷ []
+    ∷ body_lines (definition.Vector record {
+      name = codes "x";
+      words = 20;
+      values = map ival.Number each;
+      strings = each;
+    }) ∷ []
     ≡ replicate 2 (after_letter (codes "c ") ++ after_letter (codes "w "))
 unfolding digits
 bodies_of_values = refl

@@ -8,7 +8,7 @@ use Rattle.blang.specs.declared.code.Definition as coded
 use Rattle.blang.specs.declared.code.Definition.TheVariants as code
 use Rattle.blang.specs.Trees.{Identifier, Number, Expr, Named, Literal, Binary, Stmt, Headed, Default, While, Switch}
 use Rattle.blang.specs.Trees.{Break, Evaluate, Empty, Auto, Nothing, More, Function, Called, Another, No_arguments}
-use Rattle.blang.specs.Trees.{Prefixed, Address, Negate, Not, Indirection, PreIncrement, PreDecrement, PostDecrement}
+use Rattle.blang.specs.Trees.{Prefixed, Address, Negate, Not, Indirection, PreDecrement, PostDecrement}
 use Rattle.blang.specs.Trees.{Postfixed, Grouped, Indexed, Text, Conditional, Assigned, Extrn, Label, Case, Character}
 use Rattle.blang.specs.Trees.{Stmts, Compound, If, IfElse, Goto, Return, ReturnValue}
 use Rattle.blang.specs.Walk.{Event, Mention, LvalueWanted, LoopBegins, LoopEnds, AutoHere, ExtrnHere, LabelHere}

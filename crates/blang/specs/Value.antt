@@ -11,7 +11,8 @@ use Rattle.blang.specs.Layout.{World, word_at, with_word, Ending, Trapped, Reply
 use Rattle.blang.specs.Layout.{library, Callee, NoFunction, OfLibrary, OfProgram, callee_of, refusal, parameter_words}
 use Rattle.blang.specs.Layout.{address_in, LaidOut, stored_word, left_word}
 use Rattle.blang.specs.Scan.{Scope, function_scope}
-use Rattle.blang.specs.Code.{Targets, no_targets, both_targets, heading_targets, Environment, environment_of, Referent, In_frame, Outside, At_label, clean}
+use Rattle.blang.specs.Code.{Targets, no_targets, both_targets, heading_targets, Environment, environment_of}
+use Rattle.blang.specs.Code.{Referent, In_frame, Outside, At_label, clean}
 use Rattle.blang.specs.Trees.{Stmt, Headed, Compound, If, IfElse, While, Switch, Stmts}
 use Rattle.blang.specs.Trees.{Nothing, More, Identifier, Expr, Arguments, Negate, Not, Indirection, Address}
 use Rattle.blang.specs.Trees.{PreIncrement, PreDecrement, PostIncrement, PostDecrement, Named, Literal, Text, Grouped}

@@ -7,7 +7,8 @@ use Rattle.blang.specs.Cut.{placed, string_token}
 use Rattle.blang.specs.declared.token.Keyword.TheVariants as keyword
 use Rattle.blang.specs.declared.token.Token.TheVariants as token
 use Rattle.blang.specs.Trees.{mark, keyword_mark, Identifier, constant_value, Expr, Arguments, PrefixOp, Negate, Not}
-use Rattle.blang.specs.Trees.{Indirection, Address, PreIncrement, PreDecrement, Named, Literal, Text, Grouped, Indexed, Called, Postfixed, Prefixed, Binary}
+use Rattle.blang.specs.Trees.{Indirection, Address, PreIncrement, PreDecrement, Named, Literal, Text, Grouped}
+use Rattle.blang.specs.Trees.{Indexed, Called, Postfixed, Prefixed, Binary}
 use Rattle.blang.specs.Trees.{Conditional, Assigned, No_arguments, Another, name_token, constant_token, prefix_token}
 use Rattle.blang.specs.Trees.{postfix_token, Declared, Heading, Auto, Extrn, Label, Case, Default, Stmt, Headed}
 use Rattle.blang.specs.Trees.{Compound, If, IfElse, While, Switch, Goto, Break, Return, ReturnValue, Evaluate, Empty}
@@ -159,7 +160,8 @@ abbrev pub walk_import : Identifier → Walk
 walk_import w = name w (ExtrnHere w)
 
 abbrev pub walk_heading : Heading → Walk
-walk_heading (Auto declared) = plain (token.Keyword keyword.Auto) ▸ walk_list walk_declared declared ▸ plain token.Semicolon
+walk_heading (Auto declared) =
+    plain (token.Keyword keyword.Auto) ▸ walk_list walk_declared declared ▸ plain token.Semicolon
 walk_heading (Extrn names) = plain (token.Keyword keyword.Extrn) ▸ walk_list walk_import names ▸ plain token.Semicolon
 walk_heading (Label w) = name w (LabelHere w) ▸ plain token.Colon
 walk_heading (Case line c) =

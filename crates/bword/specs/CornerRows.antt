@@ -203,9 +203,10 @@ between = refl
 
 -- shifted by 0 to 17, and by counts past them
 abbrev shifts : BinOp → List (List (Option ℕ))
-shifts op = map (λ a. map (binary_of op a) (range_with_len 0 18 ++ 31 ∷ 32 ∷ 255 ∷ 256 ∷ 32768 ∷ 65535 ∷ [])) corners
+shifts op = map (λ a. map (binary_of op a) (range_with_len 0 18 ++ 31 ∷ 32 ∷ 255 ∷ 256 ∷ 32767 ∷ 32768 ∷ 65535
+    ∷ [])) corners
 
-left_shifts : shifts op.Shl ≡ made (map (λ row. row ++ replicate 8 0) (
+left_shifts : shifts op.Shl ≡ made (map (λ row. row ++ replicate 9 0) (
     (0 ∷ 0 ∷ 0 ∷ 0 ∷ 0 ∷ 0 ∷ 0 ∷ 0 ∷ 0 ∷ 0 ∷ 0 ∷ 0 ∷ 0 ∷ 0 ∷ 0 ∷ 0 ∷ []) ∷
     (1 ∷ 2 ∷ 4 ∷ 8 ∷ 16 ∷ 32 ∷ 64 ∷ 128 ∷ 256 ∷ 512 ∷ 1024 ∷ 2048 ∷ 4096 ∷ 8192 ∷ 16384 ∷ 32768 ∷ []) ∷
     (2 ∷ 4 ∷ 8 ∷ 16 ∷ 32 ∷ 64 ∷ 128 ∷ 256 ∷ 512 ∷ 1024 ∷ 2048 ∷ 4096 ∷ 8192 ∷ 16384 ∷ 32768 ∷ 0 ∷ []) ∷
@@ -225,7 +226,7 @@ left_shifts : shifts op.Shl ≡ made (map (λ row. row ++ replicate 8 0) (
     []))
 left_shifts = refl
 
-right_shifts : shifts op.Shr ≡ made (map (λ row. row ++ replicate 8 0) (
+right_shifts : shifts op.Shr ≡ made (map (λ row. row ++ replicate 9 0) (
     (0 ∷ 0 ∷ 0 ∷ 0 ∷ 0 ∷ 0 ∷ 0 ∷ 0 ∷ 0 ∷ 0 ∷ 0 ∷ 0 ∷ 0 ∷ 0 ∷ 0 ∷ 0 ∷ []) ∷
     (1 ∷ 0 ∷ 0 ∷ 0 ∷ 0 ∷ 0 ∷ 0 ∷ 0 ∷ 0 ∷ 0 ∷ 0 ∷ 0 ∷ 0 ∷ 0 ∷ 0 ∷ 0 ∷ []) ∷
     (2 ∷ 1 ∷ 0 ∷ 0 ∷ 0 ∷ 0 ∷ 0 ∷ 0 ∷ 0 ∷ 0 ∷ 0 ∷ 0 ∷ 0 ∷ 0 ∷ 0 ∷ 0 ∷ []) ∷
