@@ -363,6 +363,7 @@ PACKAGE = """{{
   "exports": {{
     ".": {{ "types": "./b.d.ts", "default": "./b.mjs" }},
     "./b.wasm": "./b.wasm",
+    "./bcode": "./bcode.mjs",
     "./package.json": "./package.json"
   }},
   "bin": {{ "b": "./b.mjs" }},
