@@ -1,0 +1,5 @@
+main() {
+    switch getchar() {
+        case 'a': putchar 'A';
+    }
+}

@@ -1,0 +1,4 @@
+main() {
+again: printn 1, 10;
+    goto again;
+}

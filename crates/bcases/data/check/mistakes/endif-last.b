@@ -1,0 +1,7 @@
+main() {
+    auto n;
+    n = getchar();
+    if(n == 'y')
+        putchar('y');
+    endif
+}

@@ -1,0 +1,6 @@
+main() {
+    auto x;
+    x = 2;
+    if(x = = 2)
+        putchar('y');
+}

@@ -1,0 +1,5 @@
+n 3;
+main() {
+    extrn n
+    n = 4;
+}

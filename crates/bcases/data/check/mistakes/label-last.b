@@ -1,0 +1,8 @@
+main() {
+    auto n;
+    n = 3;
+    if(n)
+        goto done;
+    putchar('n');
+done:
+}

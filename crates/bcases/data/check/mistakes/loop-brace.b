@@ -1,0 +1,7 @@
+main() {
+    auto n;
+    n = 3;
+    loop {
+        n--;
+    }
+}

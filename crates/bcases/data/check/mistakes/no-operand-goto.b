@@ -1,0 +1,8 @@
+main() {
+    auto n;
+    n = 3;
+again:
+    n--;
+    if(n)
+        goto ;
+}

@@ -1,0 +1,5 @@
+f(n) {
+    if(n)
+        return();
+    putchar('n');
+}

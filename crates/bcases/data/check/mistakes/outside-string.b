@@ -1,0 +1,6 @@
+main() {
+    auto i;
+    i = 0;
+    }
+    putstr("done*n");
+}

@@ -1,0 +1,5 @@
+main() {
+    auto x;
+    x = + 2;
+    printn(x, 10);
+}

@@ -1,0 +1,3 @@
+public main() {
+    putchar('a');
+}

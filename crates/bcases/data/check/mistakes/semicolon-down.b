@@ -1,0 +1,6 @@
+main() {
+    auto n;
+    n = 'b';
+    n--
+    putchar(n);
+}

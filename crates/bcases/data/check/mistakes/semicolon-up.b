@@ -1,0 +1,6 @@
+main() {
+    auto n;
+    n = 'a';
+    n++
+    putchar(n);
+}
