@@ -2,6 +2,7 @@
 -- its code, and the labels and cases in it.
 use Rattle.std.specs.Prelude.{◌≡◌, ◌≤◌, ◌+◌, ◌-◌, ◌*◌, ℕ, true, false, List, [], ◌∷◌, ◌++◌, map, length, codes}
 use Rattle.std.specs.Prelude.{Option, Some, None, replicate, Ok, Err, refl}
+use Rattle.std.specs.Prelude.{◌⊎◌}
 use Rattle.std.specs.List.{range_with_len, flat_map}
 use Rattle.bword.specs.declared.operators.BinOp.TheVariants as op
 use Rattle.blang.specs.declared.token.About.{About}
@@ -19,16 +20,22 @@ use Rattle.blang.specs.Trees.{Number, Character, Expr, Named, Literal, Grouped, 
 use Rattle.blang.specs.Trees.{Assigned, Auto, Label, Case, Stmt, Headed}
 use Rattle.blang.specs.Trees.{Return, Ival_constant, Ival_text}
 use Rattle.blang.specs.Trees.{Ival_name, Definition, Simple, Vector, Function}
+use Rattle.blang.specs.Trees.{bare, Break, Identifier}
+use Rattle.blang.specs.Trees.{Empty, While, If, IfElse, Switch, Nothing}
 use Rattle.blang.specs.Walk.{TextAt}
+use Rattle.blang.specs.Walk.{AutoHere, spell_definition}
 use Rattle.blang.specs.WellFormed.{Binds, is_open, packed, OffsetsFrom, AllFormed, IsProgram, BeginsProgram}
 use Rattle.blang.specs.WellFormed.{IsViable, StopsAt, fault_at}
+use Rattle.blang.specs.WellFormed.{IsPart, IsFormed}
 use Rattle.blang.specs.Scan.{Entry, External, fault, name_fault, word_fault, is_lvalue, scan_case}
 use Rattle.blang.specs.Scan.{scan_default, rest_of, scan, Around, no_scope}
+use Rattle.blang.specs.Scan.{with_declaration, scan_event, function_events, function_scope, scanned, inner_fault, Automatic, Scope}
 use Rattle.blang.specs.Code.{Outside, In_frame, word_code, vector_code, heading_code, Fragment, fragment, ival_code}
 use Rattle.blang.specs.Code.{vector_constant, vector_words, code_of, or_too_large, fault_of}
 use Rattle.blang.specs.TokenRows.{at_line, inner_ones, lines}
 use Rattle.blang.specs.VariantRows.{edges, operators}
 use Rattle.blang.specs.WalkRows.{word, one, statements, outer}
+use Rattle.blang.specs.WalkRows.{events}
 
 -- a claim on each
 abbrev pub each : {A : Type 0} → (A → Type 0) → List A → Type 0
@@ -87,6 +94,9 @@ all_formed : AllFormed many_definitions ≡ each (λ n. (n ≡ 0) × no_claim) (
 all_formed = refl
 
 -- Where tokens stop being those of a program.
+abbrev no_diagnostic : Diagnostic
+no_diagnostic = record { letters = letters.Syntax; about = about.Nothing; line = 0 }
+
 abbrev many_tokens : List Token
 many_tokens = map token.Number (range_with_len 0 150)
 
@@ -100,6 +110,16 @@ viable_tokens = refl
 ends_after_many : StopsAt many_tokens (at_line 2 token.End) None
     ≡ (◌≡◌ {A = Token} token.End token.End × IsProgram many_tokens)
 ends_after_many = refl
+
+stops_after_many : StopsAt many_tokens (at_line 2 token.Comma) (Some no_diagnostic)
+    ≡ (BeginsProgram many_tokens × (IsViable many_tokens token.Comma → ⊥)
+    × (no_diagnostic ≡ fault_at (at_line 2 token.Comma)))
+stops_after_many = refl
+
+part_of_many : IsPart many_tokens ≡ ((many_tokens ≡ [])
+    ⊎ ((d : Definition) × (t : Token) × (more : List Token) × IsFormed d
+    × (map bare (spell_definition d) ≡ many_tokens ++ t ∷ more)))
+part_of_many = refl
 
 abbrev all_letters : List Letters
 all_letters =
@@ -137,6 +157,36 @@ entries = map (λ n. record { name = 97 ∷ n ∷ []; kind = External }) (range_
 lvalues : map (λ n. is_lvalue entries (Named (word n)) ∷ is_lvalue entries (Grouped (Named (word n))) ∷ [])
     (range_with_len 0 130) ≡ replicate 128 (true ∷ true ∷ []) ++ replicate 2 (false ∷ false ∷ [])
 lvalues = refl
+
+redeclared : map (λ n. with_declaration (word n) External entries) (range_with_len 0 128)
+    ≡ map (λ n. Err (diagnostic letters.Redeclared (about.Name (97 ∷ n ∷ [])) n)) (range_with_len 0 128)
+redeclared = refl
+
+-- each event is scanned as it is
+abbrev in_a_switch : Scope
+in_a_switch = record no_scope { switches = record { constants = []; has_default = false } ∷ [] }
+
+scanned_alone : map (λ e. scanned (e ∷ []) (Ok in_a_switch)) events ≡ map (λ e. scan_event e in_a_switch) events
+scanned_alone = refl
+
+-- a function's 120 parameters, and one of them twice
+abbrev parameters : List Identifier
+parameters = map word (range_with_len 0 120)
+
+parameters_seen : function_events parameters Empty ≡ map (λ n. AutoHere (word n) None) (range_with_len 0 120)
+parameters_seen = refl
+
+scope_of_parameters : function_scope parameters Empty ≡ Ok (record no_scope {
+  names = map (λ n. record { name = 97 ∷ n ∷ []; kind = Automatic n }) (range_with_len 0 120);
+  frame = 120;
+})
+scope_of_parameters = refl
+
+inner_faults : inner_fault (Function (word 3) [] (Break 5)) ∷ inner_fault (Function (word 3) parameters Empty)
+    ∷ inner_fault (Function (word 3) (parameters ++ word 0 ∷ []) Empty) ∷ []
+    ≡ Some (diagnostic letters.Syntax about.Break 5) ∷ None
+    ∷ Some (diagnostic letters.Redeclared (about.Name (97 ∷ 0 ∷ [])) 0) ∷ []
+inner_faults = refl
 
 -- The switches around stay, more than a hundred of them.
 abbrev around : ℕ → Around
@@ -226,6 +276,15 @@ code_alone : map (λ s. instrs s 5 99) statements
     ∷ (instr.Jump 99 ∷ []) ∷ (instr.Constant 0 ∷ instr.Return ∷ []) ∷ (instr.Constant 1 ∷ instr.Return ∷ [])
     ∷ (instr.Constant 1 ∷ instr.Pop ∷ []) ∷ [] ∷ []
 code_alone = refl
+
+-- a loop, a choice and a switch at each place
+placed_code : map (λ p. map (λ s. instrs s p 99) (While one Empty ∷ If one Empty ∷ IfElse one Empty Empty
+    ∷ Switch one Nothing ∷ [])) edges
+    ≡ map (λ p. (instr.Constant 1 ∷ instr.JumpIfZero (p + 3) ∷ instr.Jump p ∷ [])
+    ∷ (instr.Constant 1 ∷ instr.JumpIfZero (p + 2) ∷ [])
+    ∷ (instr.Constant 1 ∷ instr.JumpIfZero (p + 3) ∷ instr.Jump (p + 3) ∷ [])
+    ∷ (instr.Constant 1 ∷ instr.Jump (p + 3) ∷ instr.Jump (p + 4) ∷ instr.Pop ∷ []) ∷ []) edges
+placed_code = refl
 
 -- a label or a case before each statement, in each place of another one
 labels_within : map (λ f. (pieces (f (Headed (Label (word 9)) Return)) 0).targets.labels) outer

@@ -13,11 +13,13 @@ use Rattle.blang.specs.Trees.{PreDecrement, PostIncrement, PostDecrement, Expr, 
 use Rattle.blang.specs.Trees.{Prefixed, Binary, Assigned, Declared, Auto, Extrn, Label, Case, Default, Stmt, Headed}
 use Rattle.blang.specs.Trees.{Compound, If, IfElse, While, Switch, Goto, Break, Return, ReturnValue, Evaluate, Empty}
 use Rattle.blang.specs.Trees.{Nothing, More, Ival_constant, Ival_text, Simple}
+use Rattle.blang.specs.Trees.{Vector, Ival, Function}
 use Rattle.blang.specs.Walk.{Event, AutoHere, ExtrnHere, Mention, LabelHere, CaseHere, DefaultHere, BreakHere}
 use Rattle.blang.specs.Walk.{LvalueWanted, LoopBegins, LoopEnds, SwitchBegins, SwitchEnds, Said, TextHere}
 use Rattle.blang.specs.Walk.{Noted, Level, ◌▸◌, tokens_in, events_in, levels_in, plain, lined, name, text, level}
 use Rattle.blang.specs.Walk.{walk_commas, walk_list, prefix_events, walk, walk_size, walk_heading, walk_statement}
 use Rattle.blang.specs.Walk.{walk_value, walk_values, walk_function, spell_all}
+use Rattle.blang.specs.Walk.{spell_definition}
 use Rattle.blang.specs.TokenRows.{at_line, inner_ones, last_ones, lines}
 
 abbrev edges : List ℕ
@@ -38,7 +40,7 @@ number_1 = at_line 0 (token.Number 1)
 abbrev tokens : List Token
 tokens = inner_ones ++ last_ones
 
-abbrev events : List Event
+abbrev pub events : List Event
 events =
     AutoHere (word 3) None ∷ AutoHere (word 3) (Some 5) ∷ ExtrnHere (word 3) ∷ Mention true (word 3)
     ∷ Mention false (word 3) ∷ LabelHere (word 3) ∷ CaseHere 256 7 ∷ DefaultHere 256 ∷ BreakHere 256
@@ -98,6 +100,21 @@ parameters : tokens_in (walk_function (map word (range_with_len 1 150)) Empty)
     ≡ at_line 0 token.OpenParen ∷ named 1 ∷ names_after_commas 2 149
     ++ at_line 0 token.CloseParen ∷ at_line 0 token.Semicolon ∷ []
 parameters = refl
+
+function_of_many : spell_definition (Function (word 3) (map word (range_with_len 1 150)) Empty)
+    ≡ named 3 ∷ at_line 0 token.OpenParen ∷ named 1 ∷ names_after_commas 2 149
+    ++ at_line 0 token.CloseParen ∷ at_line 0 token.Semicolon ∷ []
+function_of_many = refl
+
+abbrev many_values : List Ival
+many_values = map (λ n. Ival_constant (Number n)) (range_with_len 1 150)
+
+definitions_of_many : spell_definition (Simple (word 3) many_values)
+    ∷ spell_definition (Vector (word 3) (Some 7) many_values) ∷ []
+    ≡ (named 3 ∷ number_1 ∷ after_commas token.Number 2 149 ++ at_line 0 token.Semicolon ∷ [])
+    ∷ (named 3 ∷ at_line 0 token.OpenBracket ∷ at_line 0 (token.Number 7) ∷ at_line 0 token.CloseBracket ∷ number_1
+    ∷ after_commas token.Number 2 149 ++ at_line 0 token.Semicolon ∷ []) ∷ []
+definitions_of_many = refl
 
 imports : tokens_in (walk_heading (Extrn (map word (range_with_len 1 150))))
     ≡ at_line 0 (token.Keyword keyword.Extrn) ∷ named 1 ∷ names_after_commas 2 149 ++ at_line 0 token.Semicolon ∷ []
@@ -218,6 +235,10 @@ levels_within = refl
 bodies : map (λ s. tokens_in (walk_function [] s)) statements
     ≡ map (λ s. at_line 0 token.OpenParen ∷ at_line 0 token.CloseParen ∷ said s) statements
 bodies = refl
+
+functions : map (λ s. spell_definition (Function (word 3) [] s)) statements
+    ≡ map (λ s. named 3 ∷ at_line 0 token.OpenParen ∷ at_line 0 token.CloseParen ∷ said s) statements
+functions = refl
 
 events_of_bodies : map (λ s. events_in (walk_function [] s)) statements ≡ map seen statements
 events_of_bodies = refl

@@ -1,7 +1,7 @@
 -- Closed facts: lists of more than a hundred, and numbers at the edges, in texts, in the layout, in the machine and in
 -- what a program means; each statement done in each place of another one.
 use Rattle.std.specs.Prelude.{◌≡◌, ◌+◌, ◌-◌, ◌*◌, ◌%◌, ℕ, List, [], ◌∷◌, ◌++◌, map, length, take, replicate, codes}
-use Rattle.std.specs.Prelude.{decimal, slice_index, Some, None, refl}
+use Rattle.std.specs.Prelude.{Option, decimal, slice_index, Some, None, refl}
 use Rattle.std.specs.Fmt.{digits}
 use Rattle.std.specs.List.{range_with_len, flat_map}
 use Rattle.bword.specs.Words.{zeros}
@@ -10,6 +10,7 @@ use Rattle.blang.specs.declared.token.Diagnostic.{Diagnostic}
 use Rattle.blang.specs.declared.token.About.TheVariants as about
 use Rattle.blang.specs.declared.token.Letters.TheVariants as letters
 use Rattle.blang.specs.declared.code.Instr.TheVariants as instr
+use Rattle.blang.specs.declared.code.Increment.TheVariants as increments
 use Rattle.blang.specs.declared.code.Ival.TheVariants as ival
 use Rattle.blang.specs.declared.code.Definition as coded
 use Rattle.blang.specs.declared.code.Definition.TheVariants as code
@@ -32,9 +33,13 @@ use Rattle.blang.specs.Layout.{words_of_kind, value_word, padded, first_undefine
 use Rattle.blang.specs.Layout as layout
 use Rattle.blang.specs.Machine.{Loaded, Image, Call, Running, Halted, Stuck, take_call, act, step, fresh_call}
 use Rattle.blang.specs.Machine.{gone_to_place, program_function_called, callee_called, main_begun, state_world, machine}
+use Rattle.blang.specs.Headline.{line_at, status_at}
+use Rattle.blang.specs.Machine.{State, run}
 use Rattle.blang.specs.Reports.{state_outcome, called_by, report_text}
 use Rattle.blang.specs.Value.{Gives, Ends, operate, Remaining, Do, Loop_mark, Switch_mark, targets}
 use Rattle.blang.specs.Value.{SourceFunction, Program, Frame, body_value, call_value, name_address, name_value}
+use Rattle.blang.specs.Value.{Evaluator, store, increment, Wants}
+use Rattle.blang.specs.Value.{Answer}
 use Rattle.blang.specs.Meaning.{with_vector, with_vectors, heading_passed, case_in, arm_selected, program_of}
 use Rattle.blang.specs.MeaningRows.{does}
 use Rattle.blang.specs.VariantRows.{edges, operators}
@@ -261,6 +266,27 @@ words_of_many_functions = refl
 exit_statuses : map (λ n. state_outcome (Halted (Exited n) empty)) edges ≡ map outcome.Exit edges
 exit_statuses = refl
 
+-- the line and the status of a program that has ended by itself
+ended : map (λ n. line_at (Exited n)) edges ≡ map (λ n. []) edges
+ended = refl
+
+ended_with : map (λ n. status_at (Exited n)) edges ≡ edges
+ended_with = refl
+
+-- so many steps of two instructions without an end
+abbrev endless : Image
+endless = record image {
+  main = Some (record code_of_f { parameters = 0; frame = 0; code = instr.Jump 1 ∷ instr.Jump 2 ∷ instr.Jump 0 ∷ [] });
+}
+
+abbrev place_of : State → Option ℕ
+place_of (Running c callers w) = Some c.place
+place_of s = None
+
+places_after : map (λ n. place_of (run endless [] n)) (255 ∷ 256 ∷ 257 ∷ 32767 ∷ 32768 ∷ 32769 ∷ 65535 ∷ 65536 ∷ [])
+    ≡ map Some (0 ∷ 1 ∷ 2 ∷ 1 ∷ 2 ∷ 0 ∷ 0 ∷ 1 ∷ [])
+places_after = refl
+
 called_by_each : map (λ n. called_by (range_with_len 0 65600) (instr.Call n)) edges ≡ map Some edges
 called_by_each = refl
 
@@ -304,6 +330,36 @@ refused_bodies = refl
 library_of_many : call_value program None frame (OfLibrary Putchar) many_arguments empty
     ≡ Gives 1 (record empty { output = codes "o" ++ 1 ∷ [] })
 library_of_many = refl
+
+-- a call's body begins with its parameters stored, in a frame of its own
+abbrev seen : Evaluator
+seen = record { value = λ f e w. Wants w; go_on = λ f r w. Gives f.start w }
+
+bodies_begun : map (λ n. body_value program (Some seen) frame None source [] n empty) edges
+    ≡ map (λ n. Gives n empty) edges
+bodies_begun = refl
+
+arguments_stored : body_value program (Some seen) frame None source bytes 5 short
+    ≡ Gives 5 (record short { store = replicate 5 9 ++ range_with_len 0 128 ++ replicate 27 9 })
+arguments_stored = refl
+
+function_called : call_value program (Some seen) frame (OfProgram source) bytes (record empty { store = replicate 300 9 })
+    ≡ Gives 128 (record empty { store = replicate 128 9 ++ range_with_len 0 128 ++ replicate 44 9 })
+function_called = refl
+
+-- what is stored at each address, and what that gives
+abbrev given : ℕ → Answer ℕ → List ℕ
+given a (Gives v w) = v ∷ word_at w a ∷ []
+given a answer = []
+
+stored : map (λ a. given a (store a 7 world)) addresses ≡ replicate 13 (7 ∷ 7 ∷ [])
+unfolding zeros
+stored = refl
+
+incremented : map (λ a. given a (increment increments.PreIncrement a world)
+    ++ given a (increment increments.PostIncrement a world)) addresses ≡ replicate 13 (1 ∷ 1 ∷ 0 ∷ 1 ∷ [])
+unfolding zeros
+incremented = refl
 
 -- Vectors in a frame.
 vectors_by_place : map (λ k. word_at (with_vector (In_frame k) (Some 3) 0 world) k) addresses
