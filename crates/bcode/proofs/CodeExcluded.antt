@@ -5,6 +5,7 @@ use Rattle.std.specs.List.{flat_map}
 use Rattle.std.specs.Io.KnownBytes.{Appends, Consumes}
 use Rattle.bword.specs.declared.edition.Edition.{Edition}
 use Rattle.bword.specs.declared.edition.Edition.TheVariants as editions
+use Rattle.std.proofs.lemmas.List.{append_cancel_right}
 use Rattle.std.proofs.lemmas.List.Elements.{All-head, All-tail}
 use Rattle.bcode.specs.CodeExcluded.{Excluded}
 use Rattle.bcode.specs.Faults.{IsFaultLine, HasHeader}
@@ -129,19 +130,24 @@ taken_on : (r : CodeReader) (ds : List Definition) (rest left : List ℕ) → Ha
 taken_on r ds rest left h e f =
     sym (same_rest (opening_read r ++ flat_map definition_text ds) rest left (consumed r.first.source.left r.ahead.end.left (opening_read r ++ flat_map definition_text ds) (opening_read r ++ flat_map definition_text ds ++ rest) left e f h.passes.reads.took.bytes))
 
-lost_before_failure : (d : Definition) (old new : CodeReader) → IsWithinRanges d → old.is_begun ≡ false → old.first.edition ≡ editions.One → old.ahead.end.left ≡ Some (definition_text d) → new.ahead.end.left ≡ Some [] → ReadBroke [] old new → ⊥
-lost_before_failure d old new inside unbegun first e f h = h.none d [] inside (left ∙ right)
+lost_before_failure : (before : List Definition) (d : Definition) (old new : CodeReader) (more : List ℕ) → IsWithinRanges d
+    → opening_read old ≡ opening old.first.edition → old.ahead.end.left ≡ Some (definition_text d ++ more)
+    → new.ahead.end.left ≡ Some more → ReadBroke before old new → ⊥
+lost_before_failure before d old new more inside opened e f h = h.none d [] inside spelled
   where
-    taken : definition_text d ≡ h.breaks.taken ++ []
-    taken = consumed old.ahead.end.left new.ahead.end.left h.breaks.taken (definition_text d) [] e f (FailsAfter-took h.breaks.fails).bytes
+    taken : definition_text d ++ more ≡ h.breaks.taken ++ more
+    taken =
+        consumed old.ahead.end.left new.ahead.end.left h.breaks.taken (definition_text d ++ more) more e f
+        (FailsAfter-took h.breaks.fails).bytes
 
-    left : opening_read old ++ [] ++ h.breaks.taken ≡ h.breaks.taken
-    left = ap (λ b. (if b then opening old.first.edition else []) ++ [] ++ h.breaks.taken) unbegun
+    whole : h.breaks.taken ≡ definition_text d ++ []
+    whole = append_cancel_right h.breaks.taken (definition_text d) more (sym taken) ∙ sym (append-nil (definition_text d))
 
-    right : h.breaks.taken ≡ opening old.first.edition ++ [] ++ (definition_text d ++ [])
-    right =
-        sym (append-nil h.breaks.taken) ∙ sym taken ∙ sym (append-nil (definition_text d))
-        ∙ ap (λ edition. opening edition ++ [] ++ (definition_text d ++ [])) (sym first)
+    spelled : opening_read old ++ flat_map definition_text before ++ h.breaks.taken
+        ≡ opening old.first.edition ++ flat_map definition_text before ++ (definition_text d ++ [])
+    spelled =
+        ap (λ begun. begun ++ flat_map definition_text before ++ h.breaks.taken) opened
+        ∙ ap (λ text. opening old.first.edition ++ flat_map definition_text before ++ text) whole
 
 held_back : (before : List Definition) (old new : CodeReader) (h : MemoryRefused before old new) → (d : Definition) (rest : List ℕ) → IsWithinRanges d
     → h.taken ≡ opening old.first.edition ++ flat_map definition_text before ++ (definition_text d ++ rest) → rest ≡ []

@@ -34,9 +34,10 @@ pub record Excluded : Type 0 where
   pub never_ends : (before : List Definition) (old new : CodeReader) (n : ℕ) (h : StoppedAtLine before old (suc n) new)
       → (lines rest : List ℕ) → AreLines n lines → h.taken ≡ lines ++ rest → length rest ≤ LINE_LEN
   -- a definition that was whole isn't given: a read fails after it, or memory is wanted for a byte after it
-  pub lost_before_failure : (d : Definition) (old new : CodeReader) → IsWithinRanges d → old.is_begun ≡ false
-      → old.first.edition ≡ editions.One → old.ahead.end.left ≡ Some (definition_text d) → new.ahead.end.left ≡ Some []
-      → ReadBroke [] old new → ⊥
+  pub lost_before_failure : (before : List Definition) (d : Definition) (old new : CodeReader) (more : List ℕ)
+      → IsWithinRanges d → opening_read old ≡ opening old.first.edition
+      → old.ahead.end.left ≡ Some (definition_text d ++ more) → new.ahead.end.left ≡ Some more
+      → ReadBroke before old new → ⊥
   pub held_back : (before : List Definition) (old new : CodeReader) (h : MemoryRefused before old new)
       → (d : Definition) (rest : List ℕ) → IsWithinRanges d
       → h.taken ≡ opening old.first.edition ++ flat_map definition_text before ++ (definition_text d ++ rest)

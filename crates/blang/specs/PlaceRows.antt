@@ -29,7 +29,8 @@ use Rattle.blang.specs.WellFormed.{IsViable, StopsAt, fault_at}
 use Rattle.blang.specs.WellFormed.{IsPart, IsFormed}
 use Rattle.blang.specs.Scan.{Entry, External, fault, name_fault, word_fault, is_lvalue, scan_case}
 use Rattle.blang.specs.Scan.{scan_default, rest_of, scan, Around, no_scope}
-use Rattle.blang.specs.Scan.{with_declaration, scan_event, function_events, function_scope, scanned, inner_fault, Automatic, Scope}
+use Rattle.blang.specs.Scan.{with_declaration, scan_event, function_events, function_scope}
+use Rattle.blang.specs.Scan.{scanned, inner_fault, Automatic, Scope}
 use Rattle.blang.specs.Code.{Outside, In_frame, word_code, vector_code, heading_code, Fragment, fragment, ival_code}
 use Rattle.blang.specs.Code.{vector_constant, vector_words, code_of, or_too_large, fault_of}
 use Rattle.blang.specs.TokenRows.{at_line, inner_ones, lines}

@@ -343,7 +343,8 @@ arguments_stored : body_value program (Some seen) frame None source bytes 5 shor
     ≡ Gives 5 (record short { store = replicate 5 9 ++ range_with_len 0 128 ++ replicate 27 9 })
 arguments_stored = refl
 
-function_called : call_value program (Some seen) frame (OfProgram source) bytes (record empty { store = replicate 300 9 })
+function_called : call_value program (Some seen) frame (OfProgram source) bytes
+    (record empty { store = replicate 300 9 })
     ≡ Gives 128 (record empty { store = replicate 128 9 ++ range_with_len 0 128 ++ replicate 44 9 })
 function_called = refl
 
