@@ -59,7 +59,8 @@ export interface Answer {
   diagnostics: string;
 }
 
-/** What `b check --json` tells of a place. Lines and columns count from 1, with a column for each byte. */
+/** What `b check --json` tells of a place. Lines and columns count from 1, with a column for each byte. `utf16_column`
+    and `utf16_end` are `column` and `end` in units of UTF-16, as strings of JavaScript count. */
 export interface Finding {
   file: string;
   line: number;
@@ -69,7 +70,9 @@ export interface Finding {
   message: string;
   fix: string;
   end: number;
-  related?: {file?: string; line: number; column: number};
+  utf16_column: number;
+  utf16_end: number;
+  related?: {file?: string; line: number; column: number; utf16_column: number};
 }
 
 export interface Program {

@@ -1,6 +1,6 @@
 -- Findings one after another, and what stands in each.
 use Rattle.std.proofs.Common.{◌≡◌, ◌∙◌, ◌+◌, ◌<◌, List, [], ℕ, ◌∷◌, ◌++◌, IsTrue, OnOk, Result, Ok, Err, ap, arith, append-nil, append_assoc, codes, decimal, get_or, length, map, None, Option, replicate, Some, refl, subst, sym, take}
-use Rattle.std.specs.Prelude.{min, nat_lt}
+use Rattle.std.specs.Prelude.{◌-◌, drop, min, nat_lt}
 use Rattle.bword.specs.ByteEnds.{most}
 use Rattle.std.proofs.lemmas.Bool.Decides.{nat_tests}
 use Rattle.std.specs.List.{All, AllZip, flat_map, list_all}
@@ -20,8 +20,9 @@ use Rattle.blang.specs.declared.code.Definition.{Definition}
 use Rattle.blang.specs.declared.run.LoadFault.{LoadFault}
 use Rattle.blang.specs.declared.run.LoadFault.TheVariants as fault
 use Rattle.blang.specs.declared.token.Diagnostic.{Diagnostic}
-use Rattle.bcheck.specs.Checks.{AreFindings, EachOutcome, FindingParts, IsReason, IsWhole, Reason, Says, Second, column_after, fault_in, finding_at, finding_column, finding_end, finding_line, finding_text, findings_text, is_on_line, outcome_of, second_text, severity_of, severity_word, shown_text, is_of_several, spot_words}
+use Rattle.bcheck.specs.Checks.{AreFindings, EachOutcome, FindingParts, IsReason, IsWhole, Reason, Says, Second, column_after, fault_in, finding_at, finding_column, finding_end, finding_line, finding_unit, finding_unit_end, finding_text, findings_text, is_on_line, outcome_of, second_text, severity_of, severity_word, shown_text, is_of_several, spot_words}
 use Rattle.btools.specs.Quoting.{file_text, json_text}
+use Rattle.bcheck.specs.Units.{unit_column}
 use Rattle.bcheck.specs.Findings.{AddsFinding, AreWhole, IsExcerpt, IsOn, IsSecond, ReasonAt, TellsOf}
 use Rattle.bcheck.specs.UndefinedNames.{IsAtName, Tells, name_in, told_subjects}
 use Rattle.bcheck.specs.declared.mention.Subject.{Subject}
@@ -48,9 +49,9 @@ people_pieces : (f a l b c d w e s x p r y m n z k q : List ℕ)
     → f ++ (a ++ (l ++ (b ++ (c ++ (d ++ (w ++ (e ++ (s ++ (x ++ (p ++ (r ++ (y ++ (m ++ (n ++ (z ++ (k ++ q)))))))))))))))) ≡ f ++ a ++ l ++ b ++ c ++ d ++ w ++ e ++ (s ++ x ++ (p ++ r) ++ y ++ (m ++ n) ++ z ++ k) ++ q
 people_pieces f a l b c d w e s x p r y m n z k q = simp append_assoc refl
 
-editor_pieces : (o a f b l c d e w g k h s i m u v n q : List ℕ)
-    → ((o ++ (a ++ (f ++ (b ++ (l ++ (c ++ (d ++ (e ++ (w ++ (g ++ (k ++ (h ++ (s ++ (i ++ (m ++ (u ++ v)))))))))))))))) ++ n) ++ q ≡ o ++ (a ++ f ++ b ++ l ++ c ++ d ++ e ++ w ++ g ++ (k ++ h ++ s ++ i ++ (m ++ ((u ++ v) ++ n))) ++ q)
-editor_pieces o a f b l c d e w g k h s i m u v n q = simp append_assoc refl
+editor_pieces : (o a f b l c d e w g k h s i m u v x y z j n q : List ℕ)
+    → ((o ++ (a ++ (f ++ (b ++ (l ++ (c ++ (d ++ (e ++ (w ++ (g ++ (k ++ (h ++ (s ++ (i ++ (m ++ (u ++ (v ++ (x ++ (y ++ (z ++ j)))))))))))))))))))) ++ n) ++ q ≡ o ++ (a ++ f ++ b ++ l ++ c ++ d ++ e ++ w ++ g ++ (k ++ h ++ s ++ i ++ (m ++ ((u ++ (v ++ (x ++ (y ++ (z ++ j))))) ++ n))) ++ q)
+editor_pieces o a f b l c d e w g k h s i m u v x y z j n q = simp append_assoc refl
 
 pub three_more : (o a m r : List ℕ) → ((o ++ a) ++ m) ++ r ≡ o ++ (a ++ (m ++ r))
 three_more o a m r = simp append_assoc refl
@@ -63,8 +64,9 @@ second_of files source (Some s) i = Some (record { before = i.0; after = i.1; sp
 pub second_same : (files : Files) (source : List ℕ) (s : Option SecondPlace) (i : IsSecond files source s) → spot_text s ≡ second_text files (second_of files source s i)
 second_same files source None i = refl
 second_same files source (Some s) i =
-    ap (λ told. spot_words told (line_shown s.at) s.column) i.4 ∙ ap (λ l. spot_words (is_of_several files) l s.column) i.3
-    ∙ ap (λ n. spot_words (is_of_several files) (own_line files (line_number_after 1 i.0)) n) i.5
+    ap (λ told. spot_words told (line_shown s.at) s.column s.unit) i.4 ∙ ap (λ l. spot_words (is_of_several files) l s.column s.unit) i.3
+    ∙ ap (λ n. spot_words (is_of_several files) (own_line files (line_number_after 1 i.0)) n s.unit) i.5
+    ∙ ap (λ n. spot_words (is_of_several files) (own_line files (line_number_after 1 i.0)) (column_after 1 i.0) n) i.6
 
 text_finding : {source : List ℕ} (p : FindingParts source) (s : Severity) (files : Files) (f w t m old new : List ℕ) (line column blanks : ℕ) → f ≡ (finding_at files p).file → w ≡ severity_word s → t ≡ p.sentence → m ≡ p.fix → line ≡ (finding_at files p).line → column ≡ finding_column p → blanks ≡ length p.left
     → new ≡ old ++ (file_text f ++ (codes ":" ++ (decimal line ++ (codes ":" ++ (decimal column ++ (codes ": " ++ (w ++ (codes ": " ++ (t ++ (codes "\n    " ++ (flat_map shown_text p.left ++ (flat_map shown_text p.right ++ (codes "\n    " ++ (replicate blanks 32 ++ (replicate p.marks 94 ++ (codes "\n  fix: " ++ (m ++ codes "\n")))))))))))))))))
@@ -72,14 +74,15 @@ text_finding : {source : List ℕ} (p : FindingParts source) (s : Severity) (fil
 text_finding p s files f w t m old new line column blanks ef ew et em el ec eb e =
     (rw (ef, ew, et, em, el, ec, eb) at e) ∙ ap (λ x. old ++ x) (people_pieces (file_text (finding_at files p).file) (codes ":") (decimal (finding_at files p).line) (codes ":") (decimal (finding_column p)) (codes ": ") (severity_word s) (codes ": ") p.sentence (codes "\n    ") (flat_map shown_text p.left) (flat_map shown_text p.right) (codes "\n    ") (replicate (length p.left) 32) (replicate p.marks 94) (codes "\n  fix: ") p.fix (codes "\n"))
 
-json_finding : {source : List ℕ} (p : FindingParts source) (s : Severity) (files : Files) (f w k t m n old first both new : List ℕ) (line column stop : ℕ) → f ≡ (finding_at files p).file → w ≡ severity_word s → k ≡ p.code → t ≡ p.sentence → m ≡ p.fix → n ≡ second_text files p.second → line ≡ (finding_at files p).line → column ≡ finding_column p → stop ≡ finding_end p
-    → first ≡ old ++ (codes "{\"file\":" ++ (json_text f ++ (codes ",\"line\":" ++ (decimal line ++ (codes ",\"column\":" ++ (decimal column ++ (codes ",\"severity\":\"" ++ (w ++ (codes "\",\"code\":" ++ (json_text k ++ (codes ",\"message\":" ++ (json_text t ++ (codes ",\"fix\":" ++ (json_text m ++ (codes ",\"end\":" ++ (decimal stop ++ []))))))))))))))))
+json_finding : {source : List ℕ} (p : FindingParts source) (s : Severity) (files : Files) (f w k t m n old first both new : List ℕ) (line column stop unit unit_end : ℕ) → f ≡ (finding_at files p).file → w ≡ severity_word s → k ≡ p.code → t ≡ p.sentence → m ≡ p.fix → n ≡ second_text files p.second → line ≡ (finding_at files p).line → column ≡ finding_column p → stop ≡ finding_end p
+    → unit ≡ finding_unit p → unit_end ≡ finding_unit_end p
+    → first ≡ old ++ (codes "{\"file\":" ++ (json_text f ++ (codes ",\"line\":" ++ (decimal line ++ (codes ",\"column\":" ++ (decimal column ++ (codes ",\"severity\":\"" ++ (w ++ (codes "\",\"code\":" ++ (json_text k ++ (codes ",\"message\":" ++ (json_text t ++ (codes ",\"fix\":" ++ (json_text m ++ (codes ",\"end\":" ++ (decimal stop ++ (codes ",\"utf16_column\":" ++ (decimal unit ++ (codes ",\"utf16_end\":" ++ (decimal unit_end ++ []))))))))))))))))))))
     → both ≡ first ++ n → new ≡ both ++ codes "}\n"
     → new ≡ old ++ finding_text form.Json s files p
-json_finding p s files f w k t m n old first both new line column stop ef ew ek et em en el ec es e0 e1 e2 =
-    let none = append-nil (decimal (finding_end p)) in
-    let e = (rw (ef, ew, ek, et, em, el, ec, es, none) at e0) in
-    e2 ∙ ap (λ x. x ++ codes "}\n") (e1 ∙ ap (λ x. first ++ x) en ∙ ap (λ x. x ++ second_text files p.second) e) ∙ editor_pieces old (codes "{\"file\":") (json_text (finding_at files p).file) (codes ",\"line\":") (decimal (finding_at files p).line) (codes ",\"column\":") (decimal (finding_column p)) (codes ",\"severity\":\"") (severity_word s) (codes "\",\"code\":") (json_text p.code) (codes ",\"message\":") (json_text p.sentence) (codes ",\"fix\":") (json_text p.fix) (codes ",\"end\":") (decimal (finding_end p)) (second_text files p.second) (codes "}\n")
+json_finding p s files f w k t m n old first both new line column stop unit unit_end ef ew ek et em en el ec es eu ev e0 e1 e2 =
+    let none = append-nil (decimal (finding_unit_end p)) in
+    let e = (rw (ef, ew, ek, et, em, el, ec, es, eu, ev, none) at e0) in
+    e2 ∙ ap (λ x. x ++ codes "}\n") (e1 ∙ ap (λ x. first ++ x) en ∙ ap (λ x. x ++ second_text files p.second) e) ∙ editor_pieces old (codes "{\"file\":") (json_text (finding_at files p).file) (codes ",\"line\":") (decimal (finding_at files p).line) (codes ",\"column\":") (decimal (finding_column p)) (codes ",\"severity\":\"") (severity_word s) (codes "\",\"code\":") (json_text p.code) (codes ",\"message\":") (json_text p.sentence) (codes ",\"fix\":") (json_text p.fix) (codes ",\"end\":") (decimal (finding_end p)) (codes ",\"utf16_column\":") (decimal (finding_unit p)) (codes ",\"utf16_end\":") (decimal (finding_unit_end p)) (second_text files p.second) (codes "}\n")
 
 less : (a b : ℕ) → a < b → IsTrue (nat_lt a b)
 less a b h = grind (arith, nat_tests)
@@ -113,6 +116,13 @@ module _ (source : List ℕ) (start : ℕ) (e : Excerpt) (x : IsExcerpt source s
   at_its_end : (stop : ℕ) → stop ≡ min (e.column + e.marks) most → stop ≡ finding_end this_finding
   at_its_end stop is = is ∙ ap (λ c. min (c + e.marks) most) at_its_column
 
+  at_its_unit : e.unit ≡ finding_unit this_finding
+  at_its_unit = x.unit ∙ ap (λ b. unit_column b (drop start source)) (sym x.first) ∙ ap (unit_column (x.before ++ e.left.now)) (sym x.rest)
+
+  at_its_unit_end : e.unit_end ≡ finding_unit_end this_finding
+  at_its_unit_end =
+      x.unit_end ∙ ap (λ b. min (unit_column (b ++ take e.marks e.right.now) (drop e.marks e.right.now ++ x.after) + (e.marks - length e.right.now)) most) (sym x.first)
+
   in_its_file : (files : Files) (at : Line) → at ≡ own_line files e.line → at ≡ own_line files (finding_line this_finding)
   in_its_file files at is = is ∙ ap (own_line files) on_its_line
 
@@ -123,13 +133,13 @@ module _ (source : List ℕ) (start : ℕ) (e : Excerpt) (x : IsExcerpt source s
       let here = in_its_file files (line_shown at) is in
       (this_finding, refl, x.first, x.rest, text_finding this_finding s files f w t m old new at.line e.column blanks (ef ∙ ap (λ (l : Line). l.file) here) ew et em (ap (λ (l : Line). l.line) here) at_its_column eb e1, refl)
 
-  pub adds_json : (s : Severity) (files : Files) (at : FileLine) (f w k t m n old first both new : List ℕ) (stop : ℕ) → stop ≡ min (e.column + e.marks) most → line_shown at ≡ own_line files e.line → f ≡ at.file.now → w ≡ severity_word s → k ≡ code → t ≡ sentence → m ≡ fix → n ≡ second_text files second
-      → first ≡ old ++ (codes "{\"file\":" ++ (json_text f ++ (codes ",\"line\":" ++ (decimal at.line ++ (codes ",\"column\":" ++ (decimal e.column ++ (codes ",\"severity\":\"" ++ (w ++ (codes "\",\"code\":" ++ (json_text k ++ (codes ",\"message\":" ++ (json_text t ++ (codes ",\"fix\":" ++ (json_text m ++ (codes ",\"end\":" ++ (decimal stop ++ []))))))))))))))))
+  pub adds_json : (s : Severity) (files : Files) (at : FileLine) (f w k t m n old first both new : List ℕ) (stop unit unit_end : ℕ) → stop ≡ min (e.column + e.marks) most → unit ≡ e.unit → unit_end ≡ e.unit_end → line_shown at ≡ own_line files e.line → f ≡ at.file.now → w ≡ severity_word s → k ≡ code → t ≡ sentence → m ≡ fix → n ≡ second_text files second
+      → first ≡ old ++ (codes "{\"file\":" ++ (json_text f ++ (codes ",\"line\":" ++ (decimal at.line ++ (codes ",\"column\":" ++ (decimal e.column ++ (codes ",\"severity\":\"" ++ (w ++ (codes "\",\"code\":" ++ (json_text k ++ (codes ",\"message\":" ++ (json_text t ++ (codes ",\"fix\":" ++ (json_text m ++ (codes ",\"end\":" ++ (decimal stop ++ (codes ",\"utf16_column\":" ++ (decimal unit ++ (codes ",\"utf16_end\":" ++ (decimal unit_end ++ []))))))))))))))))))))
       → both ≡ first ++ n → new ≡ both ++ codes "}\n"
       → AddsFinding form.Json s files source start code sentence old new
-  adds_json s files at f w k t m n old first both new stop ends is ef ew ek et em en e0 e1 e2 =
+  adds_json s files at f w k t m n old first both new stop unit unit_end ends eu ev is ef ew ek et em en e0 e1 e2 =
       let here = in_its_file files (line_shown at) is in
-      (this_finding, refl, x.first, x.rest, json_finding this_finding s files f w k t m n old first both new at.line e.column stop (ef ∙ ap (λ (l : Line). l.file) here) ew ek et em en (ap (λ (l : Line). l.line) here) at_its_column (at_its_end stop ends) e0 e1 e2, refl)
+      (this_finding, refl, x.first, x.rest, json_finding this_finding s files f w k t m n old first both new at.line e.column stop unit unit_end (ef ∙ ap (λ (l : Line). l.file) here) ew ek et em en (ap (λ (l : Line). l.line) here) at_its_column (at_its_end stop ends) (eu ∙ at_its_unit) (ev ∙ at_its_unit_end) e0 e1 e2, refl)
 
 -- the finding is one of whatever the source comes to
 abbrev pub Reasoned : Edition → (source : List ℕ) → FindingParts source → Type 0

@@ -11,8 +11,9 @@ use Rattle.std.proofs.lemmas.List.Folds.{list_all-append}
 use Rattle.std.proofs.lemmas.List.Sums.{sum_by-append}
 use Rattle.blang.specs.Cut.{line_number_after}
 use Rattle.bsources.specs.Files.{Files, Line, own_line}
-use Rattle.bcheck.specs.Checks.{FindingParts, Second, column_after, fix_and_places, second_text, file_member, finding_at, finding_column, finding_end, end_words, is_of_several, spot_words, finding_head, finding_line, finding_mark, finding_shown, finding_start, finding_text, finding_words, is_on_line, shown_text, severity_word}
+use Rattle.bcheck.specs.Checks.{FindingParts, Second, column_after, fix_and_places, second_text, file_member, finding_at, finding_column, finding_end, finding_unit, finding_unit_end, end_words, ends_text, is_of_several, spot_words, finding_head, finding_line, finding_mark, finding_shown, finding_start, finding_text, finding_words, is_on_line, shown_text, severity_word}
 use Rattle.btools.specs.Quoting.{file_byte, file_text, json_byte, json_text}
+use Rattle.bcheck.specs.Units.{unit_column}
 use Rattle.bcheck.specs.CheckExcluded.{finding_lines, has_no_colon, is_printed, newlines}
 use Rattle.bcheck.proofs.OnLine.{both_on_line, of_three, replicate_on_line, shown_on_line}
 use Rattle.bcheck.specs.declared.finding.Severity.{Severity}
@@ -275,20 +276,23 @@ member_one : (is_told : Bool) (file : List ℕ) → IsTrue (is_one_line (file_me
 member_one false file = refl
 member_one true file = (more (codes "\"file\":") _ refl (more (json_text file) _ (json_one file) (last_line (codes ",") refl))).line
 
-spot_one : (is_told : Bool) (at : Line) (column : ℕ) → IsTrue (is_one_line (spot_words is_told at column))
-spot_one is_told at column =
+spot_one : (is_told : Bool) (at : Line) (column unit : ℕ) → IsTrue (is_one_line (spot_words is_told at column unit))
+spot_one is_told at column unit =
     (more (codes ",\"related\":{") _ refl (more (file_member is_told at.file) _ (member_one is_told at.file) (more (codes "\"line\":") _ refl (more (decimal at.line) _ (digits_line at.line)
-    (more (codes ",\"column\":") _ refl (more (decimal column) _ (digits_line column) (last_line (codes "}") refl))))))).line
+    (more (codes ",\"column\":") _ refl (more (decimal column) _ (digits_line column)
+    (more (codes ",\"utf16_column\":") _ refl (more (decimal unit) _ (digits_line unit) (last_line (codes "}") refl))))))))).line
 
 second_one : {source : List ℕ} → (files : Files) (s : Option (Second source)) → IsTrue (is_one_line (second_text files s))
 second_one files None = refl
-second_one files (Some s) = spot_one (is_of_several files) (own_line files (line_number_after 1 s.before)) (column_after 1 s.before)
+second_one files (Some s) = spot_one (is_of_several files) (own_line files (line_number_after 1 s.before)) (column_after 1 s.before) (unit_column s.before s.after)
 
-end_one : (column : ℕ) → IsTrue (is_one_line (end_words column))
-end_one column = (more (codes ",\"end\":") _ refl (last_line (decimal column) (digits_line column))).line
+end_one : (end unit unit_end : ℕ) → IsTrue (is_one_line (end_words end unit unit_end))
+end_one end unit unit_end =
+    (more (codes ",\"end\":") _ refl (more (decimal end) _ (digits_line end) (more (codes ",\"utf16_column\":") _ refl (more (decimal unit) _ (digits_line unit)
+    (more (codes ",\"utf16_end\":") _ refl (last_line (decimal unit_end) (digits_line unit_end))))))).line
 
 fix_json_one : {source : List ℕ} → (files : Files) (p : FindingParts source) → IsTrue (is_one_line (fix_and_places files p))
-fix_json_one files p = (more (json_text p.fix) _ (json_one p.fix) (more (end_words (finding_end p)) _ (end_one (finding_end p)) (last_line (second_text files p.second) (second_one files p.second)))).line
+fix_json_one files p = (more (json_text p.fix) _ (json_one p.fix) (more (ends_text p) _ (end_one (finding_end p) (finding_unit p) (finding_unit_end p)) (last_line (second_text files p.second) (second_one files p.second)))).line
 
 object_one : {source : List ℕ} → (s : Severity) (files : Files) (p : FindingParts source) → IsTrue (is_one_line (object_line s files p))
 object_one s files p =
@@ -435,10 +439,16 @@ member_printed : (is_told : Bool) (file : List ℕ) → IsTrue (is_printed (json
 member_printed false file h = refl
 member_printed true file h = (add (codes "\"file\":") _ refl (add (json_text file) _ h (last_words (codes ",") refl))).printed
 
-spot_printed : (is_told : Bool) (at : Line) (column : ℕ) → IsTrue (is_printed (json_text at.file)) → IsTrue (is_printed (spot_words is_told at column))
-spot_printed is_told at column h =
+spot_printed : (is_told : Bool) (at : Line) (column unit : ℕ) → IsTrue (is_printed (json_text at.file)) → IsTrue (is_printed (spot_words is_told at column unit))
+spot_printed is_told at column unit h =
     (add (codes ",\"related\":{") _ refl (add (file_member is_told at.file) _ (member_printed is_told at.file h) (add (codes "\"line\":") _ refl (add (decimal at.line) _ (digits_printed at.line)
-    (add (codes ",\"column\":") _ refl (add (decimal column) _ (digits_printed column) (last_words (codes "}") refl))))))).printed
+    (add (codes ",\"column\":") _ refl (add (decimal column) _ (digits_printed column)
+    (add (codes ",\"utf16_column\":") _ refl (add (decimal unit) _ (digits_printed unit) (last_words (codes "}") refl))))))))).printed
+
+ends_printed : (end unit unit_end : ℕ) → IsTrue (is_printed (end_words end unit unit_end))
+ends_printed end unit unit_end =
+    (add (codes ",\"end\":") _ refl (add (decimal end) _ (digits_printed end) (add (codes ",\"utf16_column\":") _ refl (add (decimal unit) _ (digits_printed unit)
+    (add (codes ",\"utf16_end\":") _ refl (last_words (decimal unit_end) (digits_printed unit_end))))))).printed
 
 module _ (files : Files) where
   -- the name of each file, in JSON and as a finding begins
@@ -447,12 +457,12 @@ module _ (files : Files) where
 
   second_printed : {source : List ℕ} → (s : Option (Second source)) → InJson → IsTrue (is_printed (second_text files s))
   second_printed None h = refl
-  second_printed (Some s) h = spot_printed (is_of_several files) (own_line files (line_number_after 1 s.before)) (column_after 1 s.before) (h (line_number_after 1 s.before))
+  second_printed (Some s) h = spot_printed (is_of_several files) (own_line files (line_number_after 1 s.before)) (column_after 1 s.before) (unit_column s.before s.after) (h (line_number_after 1 s.before))
 
   fix_json_printed : {source : List ℕ} → (p : FindingParts source) → IsTrue (is_on_line p.fix) → InJson → IsTrue (is_printed (fix_and_places files p))
   fix_json_printed p h named =
-      both_printed (json_text p.fix) (end_words (finding_end p) ++ second_text files p.second) (json_printed p.fix h)
-      (both_printed (end_words (finding_end p)) (second_text files p.second) (both_printed (codes ",\"end\":") (decimal (finding_end p)) refl (digits_printed (finding_end p))) (second_printed p.second named))
+      both_printed (json_text p.fix) (ends_text p ++ second_text files p.second) (json_printed p.fix h)
+      (both_printed (ends_text p) (second_text files p.second) (ends_printed (finding_end p) (finding_unit p) (finding_unit_end p)) (second_printed p.second named))
 
   text_printed : {source : List ℕ} → (form : FindingForm) (s : Severity) (p : FindingParts source) → ((n : ℕ) → IsTrue (is_printed (finding_start form (own_line files n).file))) → IsTrue (is_printed (finding_text form s files p))
   text_printed form.Text s p h =

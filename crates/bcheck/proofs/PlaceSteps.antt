@@ -18,6 +18,7 @@ use Rattle.blex.specs.declared.lexeme.Seen.{Seen}
 use Rattle.blex.proofs.CallLaws.{calls_give_first}
 use Rattle.bcheck.specs.Checks.{IsOver, StandsOn, column_after, next_column}
 use Rattle.bcheck.specs.Findings.{IsMilestone}
+use Rattle.bcheck.specs.Units.{first_unit, units_after}
 use Rattle.bcheck.specs.declared.places.Milestone.{Milestone}
 
 line_next : (line : ℕ) (bs : List ℕ) (i : ℕ) → i < length bs → line_number_after line (take (suc i) bs) ≡ next_line (line_number_after line (take i bs)) (get_or bs i 0)
@@ -79,12 +80,13 @@ stands_there edition line start source (inr (end, less)) =
     inr (subst (λ (xs : List ℕ). line_number_after 1 xs < line) (sym all) less, subst (IsOver edition) (sym none) (over_at_end edition))
 
 -- the source begins with a milestone
-pub at_first : (source : List ℕ) (m : Milestone) → m.start ≡ 0 → m.line ≡ 1 → m.column ≡ 1 → IsMilestone source m
-at_first source m start line column = record {
+pub at_first : (source : List ℕ) (m : Milestone) → m.start ≡ 0 → m.line ≡ 1 → m.column ≡ 1 → m.units ≡ first_unit → IsMilestone source m
+at_first source m start line column units = record {
   within = omega (arith, start);
   line = line ∙ ap (λ n. line_number_after 1 (take n source)) (sym start);
   column = column ∙ ap (λ n. column_after 1 (take n source)) (sym start);
   some = omega (arith, column);
+  units = units ∙ ap (λ n. units_after first_unit (take n source) (drop n source)) (sym start);
 }
 
 positive : (m n : ℕ) → not (suc m == 0) ≡ nat_lt 0 (suc n)

@@ -187,13 +187,13 @@ in_next_file = refl
 
 warning_for_editors : finding_text form.Json severity.Warning (alone (codes "a\"b")) undefined
     ≡ codes "{\"file\":\"a\\\"b\",\"line\":3,\"column\":6,\"severity\":\"warning\","
-    ++ codes "\"code\":\"un\",\"message\":\"no n\",\"fix\":\"auto n;\",\"end\":7}\n"
+    ++ codes "\"code\":\"un\",\"message\":\"no n\",\"fix\":\"auto n;\",\"end\":7,\"utf16_column\":6,\"utf16_end\":7}\n"
 unfolding digits
 warning_for_editors = refl
 
 in_next_file_for_editors : finding_text form.Json severity.Warning (followed 2) undefined
     ≡ codes "{\"file\":\"l\\u000a.b\",\"line\":1,\"column\":6,\"severity\":\"warning\","
-    ++ codes "\"code\":\"un\",\"message\":\"no n\",\"fix\":\"auto n;\",\"end\":7}\n"
+    ++ codes "\"code\":\"un\",\"message\":\"no n\",\"fix\":\"auto n;\",\"end\":7,\"utf16_column\":6,\"utf16_end\":7}\n"
 unfolding digits
 in_next_file_for_editors = refl
 
@@ -201,15 +201,15 @@ in_next_file_for_editors = refl
 second_texts : map (second_text {source = codes "n 5;\nf() ;"} (alone (codes "x.b")))
     (None ∷ Some (record { before = []; after = codes "n 5;\nf() ;"; split = refl })
     ∷ Some (record { before = codes "n 5;\nf"; after = codes "() ;"; split = refl }) ∷ [])
-    ≡ ([] ∷ codes ",\"related\":{\"line\":1,\"column\":1}" ∷ codes ",\"related\":{\"line\":2,\"column\":2}" ∷ [])
+    ≡ ([] ∷ codes ",\"related\":{\"line\":1,\"column\":1,\"utf16_column\":1}" ∷ codes ",\"related\":{\"line\":2,\"column\":2,\"utf16_column\":2}" ∷ [])
 unfolding digits
 second_texts = refl
 
 second_texts_of_several : map (second_text {source = codes "n 5;\nf() ;"} (followed 1))
     (None ∷ Some (record { before = []; after = codes "n 5;\nf() ;"; split = refl })
     ∷ Some (record { before = codes "n 5;\nf"; after = codes "() ;"; split = refl }) ∷ [])
-    ≡ ([] ∷ codes ",\"related\":{\"file\":\"x.b\",\"line\":1,\"column\":1}"
-    ∷ codes ",\"related\":{\"file\":\"l\\u000a.b\",\"line\":1,\"column\":2}" ∷ [])
+    ≡ ([] ∷ codes ",\"related\":{\"file\":\"x.b\",\"line\":1,\"column\":1,\"utf16_column\":1}"
+    ∷ codes ",\"related\":{\"file\":\"l\\u000a.b\",\"line\":1,\"column\":2,\"utf16_column\":2}" ∷ [])
 unfolding digits
 second_texts_of_several = refl
 
@@ -239,8 +239,8 @@ warning_for_people = refl
 
 error_for_editors : finding_text form.Json severity.Error (alone (codes "x.b")) again
     ≡ codes "{\"file\":\"x.b\",\"line\":2,\"column\":9,\"severity\":\"error\",\"code\":\"r\\\"d\","
-    ++ codes "\"message\":\"\\\"size\\\" \\\\ again\",\"fix\":\"a \\\"b\\\"\",\"end\":13,"
-    ++ codes "\"related\":{\"line\":2,\"column\":1}}\n"
+    ++ codes "\"message\":\"\\\"size\\\" \\\\ again\",\"fix\":\"a \\\"b\\\"\",\"end\":13,\"utf16_column\":9,\"utf16_end\":13,"
+    ++ codes "\"related\":{\"line\":2,\"column\":1,\"utf16_column\":1}}\n"
 unfolding digits
 error_for_editors = refl
 

@@ -1,7 +1,7 @@
 -- Promise: what is written of a source that is checked.
 use Rattle.std.specs.Prelude.{◌≡◌, ℕ, ◌+◌, ◌<◌, ◌==◌, nat_lt, not, Bool, true, false, IsTrue, if◌then◌else◌}
 use Rattle.std.specs.Prelude.{List, [], ◌∷◌, ◌++◌, ◌⊎◌, codes, decimal, length, map, min, replicate, Option, Some, None}
-use Rattle.std.specs.Prelude.{unwrap_or}
+use Rattle.std.specs.Prelude.{◌-◌, drop, take, unwrap_or}
 use Rattle.std.specs.Int.{is_in_range}
 use Rattle.std.specs.List.{All, AllZip, flat_map, list_all}
 use Rattle.bword.specs.declared.edition.Edition.{Edition}
@@ -26,6 +26,7 @@ use Rattle.btools.specs.Quoting.{file_text, json_text}
 use Rattle.blang.specs.Reports.{Reported}
 use Rattle.bsources.specs.Files.{Files, Line, own_line}
 use Rattle.bcheck.specs.Tokens.{has_token_on, is_in_token}
+use Rattle.bcheck.specs.Units.{unit_column}
 use Rattle.bcheck.specs.UndefinedNames.{IsAtName, Tells, name_in, told_subjects}
 use Rattle.bcheck.specs.declared.mention.Subject.{Subject}
 use Rattle.bcheck.specs.declared.finding.Severity.{Severity}
@@ -161,27 +162,42 @@ is_of_several files = nat_lt 0 (length files.rest)
 abbrev pub file_member : (is_told : Bool) → (file : List ℕ) → List ℕ
 file_member is_told file = if is_told then codes "\"file\":" ++ (json_text file ++ codes ",") else []
 
--- then its line in that file, and its column
-abbrev pub spot_words : (is_told : Bool) → Line → (column : ℕ) → List ℕ
-spot_words is_told at column =
+-- then its line in that file, and its column, in bytes and in units
+abbrev pub spot_words : (is_told : Bool) → Line → (column unit : ℕ) → List ℕ
+spot_words is_told at column unit =
     codes ",\"related\":{" ++ (file_member is_told at.file ++ (codes "\"line\":" ++ (decimal at.line
-    ++ (codes ",\"column\":" ++ (decimal column ++ codes "}")))))
+    ++ (codes ",\"column\":" ++ (decimal column ++ (codes ",\"utf16_column\":" ++ (decimal unit ++ codes "}")))))))
 
 abbrev pub second_text : {source : List ℕ} → Files → Option (Second source) → List ℕ
 second_text files None = []
 second_text files (Some s) =
     spot_words (is_of_several files) (own_line files (line_number_after 1 s.before)) (column_after 1 s.before)
+    (unit_column s.before s.after)
 
 -- the column after the marks, on the line of its place
 abbrev pub finding_end : {source : List ℕ} → FindingParts source → ℕ
 finding_end p = min (finding_column p + p.marks) most
 
-abbrev pub end_words : (column : ℕ) → List ℕ
-end_words column = codes ",\"end\":" ++ decimal column
+-- its column and the one after the marks in units of UTF-16; each mark after the end of the line has one
+abbrev pub finding_unit : {source : List ℕ} → FindingParts source → ℕ
+finding_unit p = unit_column (p.before ++ p.left) (p.right ++ p.after)
+
+abbrev pub finding_unit_end : {source : List ℕ} → FindingParts source → ℕ
+finding_unit_end p =
+    min (unit_column ((p.before ++ p.left) ++ take p.marks p.right) (drop p.marks p.right ++ p.after)
+    + (p.marks - length p.right)) most
+
+abbrev pub end_words : (end unit unit_end : ℕ) → List ℕ
+end_words end unit unit_end =
+    codes ",\"end\":" ++ (decimal end ++ (codes ",\"utf16_column\":" ++ (decimal unit
+    ++ (codes ",\"utf16_end\":" ++ decimal unit_end))))
+
+abbrev pub ends_text : {source : List ℕ} → FindingParts source → List ℕ
+ends_text p = end_words (finding_end p) (finding_unit p) (finding_unit_end p)
 
 -- the fix, where the marks end, and the second place, if there is one
 abbrev pub fix_and_places : {source : List ℕ} → Files → FindingParts source → List ℕ
-fix_and_places files p = json_text p.fix ++ (end_words (finding_end p) ++ second_text files p.second)
+fix_and_places files p = json_text p.fix ++ (ends_text p ++ second_text files p.second)
 
 abbrev pub finding_words : {source : List ℕ} → FindingForm → Files → FindingParts source → List ℕ
 finding_words form.Text files p =

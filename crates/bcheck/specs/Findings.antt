@@ -1,7 +1,8 @@
 -- Promise: what is known of a finding before it is told.
 use Rattle.std.specs.Prelude.{◌≡◌, ℕ, ◌+◌, ◌<◌, ◌⊎◌, ◌&&◌, Bool, IsTrue, true, false, List, [], ◌∷◌, ◌++◌, codes, drop}
-use Rattle.std.specs.Prelude.{Option, Some, None, IfSome, Result, Ok, Err, MatchResult, ◌≤◌, length, take}
+use Rattle.std.specs.Prelude.{Option, Some, None, IfSome, Result, Ok, Err, MatchResult, ◌≤◌, ◌-◌, length, min, take}
 use Rattle.bword.specs.declared.edition.Edition.{Edition}
+use Rattle.bword.specs.ByteEnds.{most}
 use Rattle.blang.specs.Cut.{line_number_after}
 use Rattle.blang.specs.declared.token.Diagnostic.{Diagnostic}
 use Rattle.bsources.specs.Files.{Files, line_shown, own_line}
@@ -16,6 +17,7 @@ use Rattle.std.specs.Global.{Vec}
 use Rattle.std.specs.List.{list_any}
 use Rattle.blex.specs.declared.scanner.PlacedPiece.{PlacedPiece}
 use Rattle.bcheck.specs.Tokens.{has_token_on, is_on, pieces_of}
+use Rattle.bcheck.specs.Units.{first_unit, unit_column, units_after}
 use Rattle.bcheck.specs.declared.advice.Matter.{Matter}
 use Rattle.bcheck.specs.declared.advice.Matter.TheVariants as matter
 use Rattle.bcheck.specs.declared.warnings.Warning.{Warning}
@@ -180,12 +182,13 @@ FindsOn edition line source (Some p) =
 abbrev pub Chooses : (line : ℕ) → PlacedPiece → Option PlacedPiece → Option PlacedPiece → Type 0
 Chooses line p old new = ((new ≡ Some p) × (is_on line p ≡ true)) ⊎ ((new ≡ old) × (old ≡ None → is_on line p ≡ false))
 
--- the line and the column of a milestone are those of its place in the source
+-- the line and the columns of a milestone are those of its place in the source
 pub record IsMilestone (source : List ℕ) (m : Milestone) : Type 0 where
   pub within : m.start ≤ length source
   pub line : m.line ≡ line_number_after 1 (take m.start source)
   pub column : m.column ≡ column_after 1 (take m.start source)
   pub some : 0 < m.column
+  pub units : m.units ≡ units_after first_unit (take m.start source) (drop m.start source)
 
 -- What is shown of a place, and the numbers of its line and its column.
 pub record IsExcerpt (source : List ℕ) (start : ℕ) (e : Excerpt) : Type 0 where
@@ -198,13 +201,17 @@ pub record IsExcerpt (source : List ℕ) (start : ℕ) (e : Excerpt) : Type 0 wh
   pub from_line : length e.left.now < e.column
   pub in_line : IsTrue (is_in_line e.right.now)
   pub marked : 0 < e.marks
+  pub unit : e.unit ≡ unit_column (take start source) (drop start source)
+  pub unit_end : e.unit_end
+      ≡ min (unit_column (take start source ++ take e.marks e.right.now) (drop e.marks e.right.now ++ after)
+      + (e.marks - length e.right.now)) most
 
--- the line of its file and the column are those of a place of the source
+-- the line of its file and the columns are those of a place of the source
 abbrev pub IsSpot : Files → (source : List ℕ) → SecondPlace → Type 0
 IsSpot files source s =
     (before : List ℕ) × (after : List ℕ) × (source ≡ before ++ after)
     × (line_shown s.at ≡ own_line files (line_number_after 1 before)) × (s.is_of_several ≡ is_of_several files)
-    × (s.column ≡ column_after 1 before)
+    × (s.column ≡ column_after 1 before) × (s.unit ≡ unit_column before after)
 
 abbrev pub IsSecond : Files → (source : List ℕ) → Option SecondPlace → Type 0
 IsSecond files source s = IfSome s (IsSpot files source)

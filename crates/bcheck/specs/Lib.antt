@@ -7,3 +7,5 @@ pub mod Mentions
 pub mod Pieces
 pub mod UndefinedNames
 pub mod UndefinedRows
+pub mod UnitRows
+pub mod Units

@@ -9,10 +9,10 @@ use Rattle.bcheck.specs.declared.words.Given.{Given}
 use Rattle.bcheck.specs.declared.pieces.Fragment.{Fragment}
 use Rattle.bcheck.specs.declared.pieces.Fragment.TheVariants as piece
 
--- the line and the column of a second place, as an editor is told them
+-- the line and the columns of a second place, as an editor is told them
 abbrev pub spot_text : Option SecondPlace → List ℕ
 spot_text None = []
-spot_text (Some s) = spot_words s.is_of_several (line_shown s.at) s.column
+spot_text (Some s) = spot_words s.is_of_several (line_shown s.at) s.column s.unit
 
 abbrev pub piece_text : Fragment → List ℕ
 piece_text (piece.Words words) = words.now

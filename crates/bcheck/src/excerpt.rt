@@ -1,12 +1,14 @@
 //! The piece of the source that is shown of a place.
 ghost use Rattle.std.specs.List.{All};
-ghost use Rattle.std.specs.Prelude.{◌≡◌, ◌+◌, ◌<◌, ◌≤◌, IsTrue, length, min, take};
+ghost use Rattle.std.specs.Prelude.{◌≡◌, ◌+◌, ◌-◌, ◌<◌, ◌≤◌, IsTrue, drop, length, min, take};
 ghost use Rattle.bword.specs.ByteEnds.{most};
 ghost use Rattle.bcheck.specs.Checks.{is_in_line};
 ghost use Rattle.bcheck.specs.Findings.{IsExcerpt, IsMilestone};
+ghost use Rattle.bcheck.specs.Units.{units_after};
 
 use crate::finding::Place;
 use crate::places::{Milestone, parts, position};
+use crate::units::UnitPlace;
 
 /// The most bytes of a line of the source that are shown.
 const SHOWN_BYTES: usize = 76;
@@ -22,6 +24,9 @@ pub(crate) struct Excerpt<'a> {
     pub left: &'a [u8],
     pub right: &'a [u8],
     pub marks: usize,
+    /// The column, and the one after the marks, in units of UTF-16.
+    pub unit: usize,
+    pub unit_end: usize,
 }
 
 impl Excerpt<'_> {
@@ -43,19 +48,33 @@ pub(crate) fn excerpt_at<'a>(
     ensures { IsExcerpt source.now place.now.start result }
 {
     let (before, rest) = parts(source, place.start);
-    let (line, column) = position(source, milestones, place.start);
+    let (line, column, units) = position(source, milestones, place.start);
     let len = place.len.max(1);
     let left_len = left_length(column, len).min(before.len());
     let room = SHOWN_BYTES.saturating_sub(left_len);
     let (_, left) = before.split_at(before.len() - left_len);
     let (right, _) = rest.split_at(line_length(rest, room));
+    let marks = len.min(room).max(1);
     Excerpt {
         line,
         column,
         left,
         right,
-        marks: len.min(room).max(1),
+        marks,
+        unit: units.column,
+        unit_end: unit_end(units, rest, right, marks),
     }
+}
+
+// The column in units after so many marks, of which each after the end of what is shown has one.
+fn unit_end(units: UnitPlace, rest: &[u8], right: &[u8], marks: usize) -> usize
+    requires { length right.now ≤ length rest.now }
+    ensures { result ≡ min ((units_after units (take (min marks (length right.now)) rest.now)
+        (drop (min marks (length right.now)) rest.now)).column + (marks - length right.now)) most }
+{
+    let last = units.along(rest, marks.min(right.len()));
+    last.column
+        .saturating_add(marks.saturating_sub(right.len()))
 }
 
 // How many bytes before a place are shown that has so many itself.

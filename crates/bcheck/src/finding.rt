@@ -48,13 +48,15 @@ impl Finding {
     }
 }
 
-/// The line and the column of a second place.
+/// The line and the columns of a second place.
 #[derive(Clone, Copy)]
 pub(crate) struct SecondPlace<'a> {
     pub at: FileLine<'a>,
     /// Whether the source has several files.
     pub is_of_several: bool,
     pub column: usize,
+    /// The column in units of UTF-16.
+    pub unit: usize,
 }
 
 /// What is told of a finding.

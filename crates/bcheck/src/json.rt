@@ -40,6 +40,10 @@ pub(crate) fn write(text: &mut Text, told: &Told<'_>) -> Result<(), AllocError>
             Fragment::Quoted(told.words.fix.as_slice()),
             Fragment::Words(b",\"end\":"),
             Fragment::Number(excerpt.mark_end()),
+            Fragment::Words(b",\"utf16_column\":"),
+            Fragment::Number(excerpt.unit as u64),
+            Fragment::Words(b",\"utf16_end\":"),
+            Fragment::Number(excerpt.unit_end as u64),
         ],
     )?;
     push_second(text, told.second)?;

@@ -34,6 +34,7 @@ mod spans;
 mod syntax;
 mod text;
 mod undefined;
+mod units;
 mod unknown;
 mod verdict;
 mod warnings;

@@ -37,7 +37,7 @@ pub(crate) fn push_all(text: &mut Text, pieces: &[Fragment<'_>]) -> Result<(), A
     Ok(())
 }
 
-/// Adds the line and the column of a second place, for an editor, if there is one.
+/// Adds the line and the columns of a second place, for an editor, if there is one.
 pub(crate) fn push_second(
     text: &mut Text,
     second: Option<SecondPlace<'_>>,
@@ -62,6 +62,8 @@ fn push_spot(text: &mut Text, spot: &SecondPlace<'_>) -> Result<(), AllocError>
             Fragment::Number(spot.at.line),
             Fragment::Words(b",\"column\":"),
             Fragment::Number(spot.column as u64),
+            Fragment::Words(b",\"utf16_column\":"),
+            Fragment::Number(spot.unit as u64),
             Fragment::Words(b"}"),
         ],
     )

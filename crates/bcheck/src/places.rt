@@ -5,9 +5,11 @@ ghost use Rattle.blang.specs.Cut.{line_number_after, next_line};
 ghost use Rattle.bcheck.specs.Checks.{IsAtToken, IsOver, StandsOn, column_after, next_column};
 ghost use Rattle.bcheck.specs.Findings.{Chooses, FindsOn, IsMilestone, IsSecond};
 ghost use Rattle.bcheck.specs.Tokens.{ends, is_on, is_token};
+ghost use Rattle.bcheck.specs.Units.{first_unit, units_after};
 ghost use Rattle.bsources.specs.Files.{files_shown};
 
 use crate::finding::{Place, SecondPlace};
+use crate::units::UnitPlace;
 use blex::{Lexeme, Lexer, PlacedPiece, Scanner};
 use bsources::SourceFiles;
 use bword::{Edition, MemIn};
@@ -28,12 +30,13 @@ pub(crate) fn parts(source: &[u8], start: usize) -> (&[u8], &[u8])
 /// How many bytes are from one milestone to the next.
 const MILESTONE_BYTES: usize = 4096;
 
-/// The line and the column of a place of the source, from 1.
+/// The line and the columns of a place of the source, from 1.
 #[derive(Clone, Copy)]
 pub(crate) struct Milestone {
     pub start: usize,
     pub line: u64,
     pub column: usize,
+    pub units: UnitPlace,
 }
 
 /// The lines and columns of some places of a source, so that those of others are found without going through it again.
@@ -43,15 +46,18 @@ pub(crate) fn milestones(alloc: Global, source: &[u8]) -> Result<Vec<Milestone>,
     let mut all = Vec::new(alloc);
     let mut line: u64 = 1;
     let mut column: usize = 1;
+    let mut units = UnitPlace::first();
     for start in 0..source.len() {
         let here = Milestone {
             start,
             line,
             column,
+            units,
         };
         push_milestone(&mut all, here)?;
         line = next_line(line, source[start]);
         column = next_column(column, source[start]);
+        units = units.after(source[start], &source[start + 1..]);
     }
     Ok(all)
 }
@@ -68,20 +74,26 @@ fn push_milestone(all: &mut Vec<Milestone>, here: Milestone) -> Result<(), Alloc
     Ok(())
 }
 
-/// The line and the column of a place of the source, from 1.
-pub(crate) fn position(source: &[u8], milestones: &[Milestone], start: usize) -> (u64, usize)
+/// The line and the columns of a place of the source, from 1.
+pub(crate) fn position(
+    source: &[u8],
+    milestones: &[Milestone],
+    start: usize,
+) -> (u64, usize, UnitPlace)
     requires { All (IsMilestone source.now) milestones.now }
     ensures line { result.0 ≡ line_number_after 1 (take start source.now) }
     ensures column { result.1 ≡ column_after 1 (take start source.now) }
     ensures some { 0 < result.1 }
+    ensures units { result.2 ≡ units_after first_unit (take start source.now) (drop start source.now) }
 {
     let from = last_before(source, milestones, start);
-    let (mut line, mut column) = (from.line, from.column);
+    let (mut line, mut column, mut units) = (from.line, from.column, from.units);
     for index in from.start..start.min(source.len()) {
         line = next_line(line, source[index]);
         column = next_column(column, source[index]);
+        units = units.after(source[index], &source[index + 1..]);
     }
-    (line, column)
+    (line, column, units)
 }
 
 // The last milestone before a place of the source.
@@ -99,11 +111,12 @@ fn last_before(source: &[u8], milestones: &[Milestone], start: usize) -> Milesto
             start: 0,
             line: 1,
             column: 1,
+            units: UnitPlace::first(),
         },
     }
 }
 
-/// The line and the column of a place, if there is one.
+/// The line and the columns of a place, if there is one.
 pub(crate) fn spot_of<'a>(
     source: &[u8],
     files: &SourceFiles<'a>,
@@ -116,11 +129,12 @@ pub(crate) fn spot_of<'a>(
     let Some(place) = place else {
         return None;
     };
-    let (line, column) = position(source, milestones, place.start);
+    let (line, column, units) = position(source, milestones, place.start);
     Some(SecondPlace {
         at: files.own_line(line),
         is_of_several: !files.rest.is_empty(),
         column,
+        unit: units.column,
     })
 }
 

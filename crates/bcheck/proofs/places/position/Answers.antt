@@ -1,5 +1,7 @@
 use Rattle.std.proofs.Common.{◌<◌, get_or, length, subst, sym}
 use Rattle.bcheck.proofs.PlaceSteps.{below_min, column_more, column_some, line_more}
+use Rattle.bcheck.proofs.UnitSteps.{units_more}
+use Rattle.bcheck.specs.Units.{first_unit}
 use Rattle.bcheck.proofs.places.position.Goals as goal
 
 pub loop-index-preserved : goal.loop-index-preserved
@@ -10,4 +12,5 @@ loop-index-preserved c =
       line_more 1 _ _ source l.index within l.invariant.0 c.next_line-line.ensures,
       column_more 1 _ _ source l.index within l.invariant.1 c.next_column-column.ensures,
       subst (λ n. 0 < n) (sym c.next_column-column.ensures) (column_some l.column (get_or source l.index 0)),
+      units_more first_unit _ _ source l.index within l.invariant.3 c.after-units.ensures,
     )

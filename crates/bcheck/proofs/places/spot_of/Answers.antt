@@ -2,6 +2,7 @@ use Rattle.std.proofs.Common.{◌∙◌, ap, drop, sym, take}
 use Rattle.std.proofs.lemmas.List.{take-append-drop}
 use Rattle.bsources.specs.Files.{files_shown, own_line}
 use Rattle.bcheck.proofs.PlaceSteps.{several_is}
+use Rattle.bcheck.specs.declared.units.UnitPlace.{UnitPlace}
 use Rattle.bcheck.proofs.places.spot_of.Goals as goal
 
 pub returns : goal.returns
@@ -14,4 +15,5 @@ returns c =
       c.own_line.ensures ∙ ap (own_line (files_shown c.args.files.now)) c.position-line.ensures.line,
       several_is c.args.files.now.rest.now.files c.is_empty.result c.is_empty.ensures,
       c.position-line.ensures.column,
+      ap (λ (u : UnitPlace). u.column) c.position-line.ensures.units,
     )
