@@ -4,6 +4,7 @@
 # --prove --keep, what the kit keeps of each check stays, for those who change the sources.
 set -u
 unset CDPATH
+export PATH
 top=$(readlink -f "${BASH_SOURCE[0]}")
 top=${top%/*}
 out=$top/crates/b/out

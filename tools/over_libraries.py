@@ -48,7 +48,10 @@ def stamp_once(stamp):
 def kit():
     """The module of the kit's `rt`; None where it isn't the one that this knows."""
     sys.dont_write_bytecode = True
-    sys.path.insert(0, os.path.dirname(os.path.realpath(shutil.which("rt"))))
+    rt = shutil.which("rt")
+    if rt is None:
+        sys.exit("b: no rt on the path: it is in the folder bin of the Rattle kit, which README.md names")
+    sys.path.insert(0, os.path.dirname(os.path.realpath(rt)))
     try:
         import rtlib
     except ImportError:

@@ -2,6 +2,7 @@
 # Copies the program for this processor, its page of the manual, its completions and its texts below PREFIX, and nothing
 # else.
 set -eu
+unset CDPATH
 usage='usage: ./install.sh [PREFIX]
 
 Copies b below PREFIX, and nothing else: the command into PREFIX/bin, the program into PREFIX/libexec, and its texts
@@ -27,30 +28,40 @@ case ${1-/usr/local} in
 /*) prefix=${1-/usr/local} ;;
 *) prefix=$PWD/$1 ;;
 esac
-cd "$(dirname "$0")"
+case $prefix in
+*'
+') fail 'PREFIX ends in a newline' ;;
+esac
+case $0 in */*) cd -- "${0%/*}" ;; esac
 machine=$(uname -s | tr '[:upper:]' '[:lower:]')-$(uname -m)
 [ -d "$machine" ] || fail "there is no program for $machine here; docs/MACHINES.md tells what to take"
 "$machine/libexec/b" --version >/dev/null 2>&1 ||
     fail "the program for $machine doesn't start here; sha256sum -c PROVED tells whether all files are whole"
 
-# What is copied can be read by all, whatever the mask is and however the archive was unpacked.
+# What is copied can be read by all, whatever the mask is and however the archive was unpacked. A new file takes the
+# place of an old one, so that a program that runs goes on, and there is always one of the two.
 umask 022
+put() {
+    to=$2/${1##*/} new=$2/.${1##*/}.new
+    if [ -h "$to" ]; then rm -f "$to"; fi
+    [ ! -d "$to" ] || fail "$to is a folder"
+    mkdir -p "$2"
+    rm -f "$new"
+    cp -P "$1" "$new"
+    [ -h "$1" ] || chmod u+w,go-w,a+rX "$new"
+    mv -f "$new" "$to"
+}
 copy() {
     for file in "$1"/*; do
         if [ -d "$file" ] && ! [ -h "$file" ]; then
             copy "$file" "$2/${file##*/}"
-            continue
+        elif [ -e "$file" ]; then
+            put "$file" "$2"
         fi
-        [ -e "$file" ] || continue
-        mkdir -p "$2"
-        rm -f "$2/${file##*/}"
-        cp -P "$file" "$2"
-        [ -h "$file" ] || chmod u+w,go-w,a+rX "$2/${file##*/}"
     done
 }
 for folder in bin libexec share; do copy "$folder" "$prefix/$folder"; done
 copy "$machine" "$prefix"
 for folder in lib examples class docs; do copy "$folder" "$prefix/share/b/$folder"; done
-cp README.md PROVED "$prefix/share/b"
-chmod u+w,go-w,a+r "$prefix/share/b/README.md" "$prefix/share/b/PROVED"
+for file in README.md PROVED; do put "$file" "$prefix/share/b"; done
 echo "b is in $prefix/bin, and its texts are in $prefix/share/b"

@@ -1,6 +1,7 @@
 #!/bin/sh
 # Removes what install.sh has copied below PREFIX, and nothing else.
 set -eu
+unset CDPATH
 usage='usage: ./uninstall.sh [PREFIX]
 
 Removes what ./install.sh PREFIX has copied below PREFIX, and nothing else. Without PREFIX that is /usr/local.'
@@ -22,7 +23,7 @@ case ${1-/usr/local} in
 /*) prefix=${1-/usr/local} ;;
 *) prefix=$PWD/$1 ;;
 esac
-cd "$(dirname "$0")"
+case $0 in */*) cd -- "${0%/*}" ;; esac
 [ -e "$prefix/libexec/b-words.sh" ] || fail "b isn't installed below $prefix"
 find bin libexec share ! -type d | while read -r file; do rm -f "$prefix/$file"; done
 find linux-* ! -type d | while read -r file; do rm -f "$prefix/${file#*/}"; done
