@@ -6,6 +6,7 @@ import base64
 import gzip
 import hashlib
 import io
+import json
 import os
 import pathlib
 import re
@@ -396,6 +397,53 @@ def page(pack):
     return pack.out / "b.html"
 
 
+CONTENT_TYPES = """<?xml version="1.0" encoding="utf-8"?>
+<Types xmlns="http://schemas.openxmlformats.org/package/2006/content-types">
+{types}</Types>
+"""
+TYPES = {".b": "text/plain", ".js": "application/javascript", ".json": "application/json", ".md": "text/markdown",
+         ".vsixmanifest": "text/xml"}
+MANIFEST = """<?xml version="1.0" encoding="utf-8"?>
+<PackageManifest Version="2.0.0" xmlns="http://schemas.microsoft.com/developer/vsx-schema/2011"
+    xmlns:d="http://schemas.microsoft.com/developer/vsx-schema-design/2011">
+  <Metadata>
+    <Identity Language="en-US" Id="{name}" Version="{version}" Publisher="{publisher}"/>
+    <DisplayName>{displayName}</DisplayName>
+    <Description xml:space="preserve">{description}</Description>
+    <Categories>{categories}</Categories>
+    <Properties>
+      <Property Id="Microsoft.VisualStudio.Code.Engine" Value="{engine}"/>
+      <Property Id="Microsoft.VisualStudio.Code.ExtensionKind" Value="workspace"/>
+    </Properties>
+  </Metadata>
+  <Installation>
+    <InstallationTarget Id="Microsoft.VisualStudio.Code"/>
+  </Installation>
+  <Dependencies/>
+  <Assets>
+    <Asset Type="Microsoft.VisualStudio.Code.Manifest" Path="extension/package.json" Addressable="true"/>
+  </Assets>
+</PackageManifest>
+"""
+
+
+def vsix(pack):
+    """The extension for VS Code, with the language server and the library, so that it needs no other file."""
+    folder = pack.begin(f"b-{pack.version}-vscode")
+    extension = folder / "extension"
+    copy(extension, *(it for it in (TOP / "share/vscode").iterdir() if it.name != "tasks.json"))
+    copy(extension / "server", *(TOP / "share/lsp" / it for it in ("b-lsp", "words.json")))
+    copy(extension / "lib", *(TOP / "lib").glob("*.b"))
+    told = {**json.loads((extension / "package.json").read_text()), "version": pack.version}
+    (extension / "package.json").write_text(json.dumps(told, indent=2) + "\n")
+    named = {**told, "categories": ",".join(told["categories"]), "engine": told["engines"]["vscode"]}
+    (folder / "extension.vsixmanifest").write_text(MANIFEST.format(**named))
+    rows = [f'  <Default Extension="{it}" ContentType="{kind}"/>\n' for it, kind in TYPES.items()]
+    rows.append('  <Override PartName="/extension/server/b-lsp" ContentType="text/x-python"/>\n')
+    (folder / "[Content_Types].xml").write_text(CONTENT_TYPES.format(types="".join(rows)))
+    return pack_zip(pack, folder, pack.out / f"b-{pack.version}.vsix")
+
+
 # Each archive, what it is for, and how it is made.
 ARCHIVES = [
     ("Linux, on both processors", linux),
@@ -406,5 +454,6 @@ ARCHIVES = [
     ("Python on aarch64", lambda pack: wheel(pack, ARM64)),
     ("Node", npm),
     ("browsers", page),
+    ("VS Code", vsix),
     ("macOS, as objects", macos),
 ]

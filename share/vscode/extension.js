@@ -1,97 +1,165 @@
-// Shows what `b check` finds while one types, and lays a source out by `b format`.
+// The language B in VS Code: all that it tells comes from the language server, b-lsp.
 "use strict";
 
-const { execFile } = require("child_process");
+const fs = require("fs");
 const path = require("path");
 const vscode = require("vscode");
-const { findingsIn, optionsOf } = require("./logic");
+const { Client } = require("./client");
 
-const INPUT = "/dev/stdin";
-const MOST = 1 << 26; // bytes of an answer
-const DELAY = 200; // milliseconds after the last change
+const COLOURS = ["function", "variable", "parameter", "label"];
 
 function setting(name) {
     return vscode.workspace.getConfiguration("b").get(name);
 }
 
-/**
- * Runs the program on a text, in the folder of the file. Never fails: a program that doesn't start says so. A shell
- * hands the text on, since that comes over a socket, which has no name that could be opened.
- */
-function run(document, words) {
-    const cwd = document.isUntitled ? undefined : path.dirname(document.fileName);
-    return new Promise((done) => {
-        const command = ["-c", 'cat | "$0" "$@"', setting("program"), ...words, INPUT];
-        const child = execFile("sh", command, { cwd, maxBuffer: MOST }, (error, output, said) => {
-            const isAnswer = !error || typeof error.code === "number";
-            done({ status: error ? error.code : 0, output, said: isAnswer ? said : error.message });
-        });
-        child.stdin.on("error", () => {});
-        child.stdin.end(document.getText());
-    });
+/** Where the server is: in this folder, or beside it where the program is installed. */
+function serverFile() {
+    const own = path.join(__dirname, "server", "b-lsp");
+    return fs.existsSync(own) ? own : path.join(__dirname, "..", "lsp", "b-lsp");
 }
 
-function rangeOf(start, end) {
+function rangeOf({ start, end }) {
     return new vscode.Range(start.line, start.character, end.line, end.character);
 }
 
-function shown(found, document) {
+function placeOf({ uri, range }) {
+    return new vscode.Location(vscode.Uri.parse(uri), rangeOf(range));
+}
+
+function diagnosticOf(told) {
     const { Error, Warning } = vscode.DiagnosticSeverity;
-    const made = new vscode.Diagnostic(rangeOf(found.start, found.end), found.message, found.isError ? Error : Warning);
-    made.source = "b";
-    made.code = found.code;
-    if (found.related) {
-        const where = new vscode.Location(document.uri, rangeOf(found.related, found.related));
-        made.relatedInformation = [new vscode.DiagnosticRelatedInformation(where, "this is meant")];
-    }
+    const made = new vscode.Diagnostic(rangeOf(told.range), told.message, told.severity === 1 ? Error : Warning);
+    made.source = told.source;
+    made.code = told.code;
+    made.relatedInformation = (told.relatedInformation || []).map(
+        (it) => new vscode.DiagnosticRelatedInformation(placeOf(it.location), it.message));
     return made;
 }
 
-/** Checks a document, and shows what was found unless the document has changed meanwhile. */
-async function check(document, all) {
-    const { version } = document;
-    const text = document.getText();
-    const told = await run(document, ["check", "--json", ...optionsOf(text, setting("edition")).words]);
-    if (document.isClosed || document.version !== version)
-        return;
-    const found = findingsIn(told.output, text, INPUT).map((it) => shown(it, document));
-    if (told.said) {
-        const first = rangeOf({ line: 0, character: 0 }, { line: 0, character: 1 });
-        found.push(new vscode.Diagnostic(first, told.said.trim(), vscode.DiagnosticSeverity.Error));
-    }
-    all.set(document.uri, found);
+function editOf(told) {
+    return vscode.TextEdit.replace(rangeOf(told.range), told.newText);
 }
 
-/** The edits that lay a document out; none where the program refuses it. */
-async function format(document) {
-    const text = document.getText();
-    const told = await run(document, ["format", "--edition", optionsOf(text, setting("edition")).edition]);
-    if (told.status !== 0)
-        return [];
-    const whole = rangeOf({ line: 0, character: 0 }, document.positionAt(text.length));
-    return [vscode.TextEdit.replace(whole, told.output)];
+function symbolOf(it) {
+    return new vscode.DocumentSymbol(it.name, "", it.kind - 1, rangeOf(it.range), rangeOf(it.selectionRange));
 }
+
+function completionOf(told) {
+    const made = new vscode.CompletionItem(told.label, told.kind - 1);
+    made.documentation = told.documentation;
+    return made;
+}
+
+function helpOf(told) {
+    const made = new vscode.SignatureHelp();
+    made.signatures = told.signatures.map((it) => {
+        const shown = new vscode.SignatureInformation(it.label, it.documentation);
+        shown.parameters = it.parameters.map((one) => new vscode.ParameterInformation(one.label));
+        return shown;
+    });
+    Object.assign(made, { activeSignature: told.activeSignature, activeParameter: told.activeParameter });
+    return made;
+}
+
+function foldOf(told) {
+    const { Comment, Region } = vscode.FoldingRangeKind;
+    return new vscode.FoldingRange(told.startLine, told.endLine, told.kind === "comment" ? Comment : Region);
+}
+
+function renameOf(told) {
+    const made = new vscode.WorkspaceEdit();
+    for (const [uri, edits] of Object.entries(told.changes))
+        made.set(vscode.Uri.parse(uri), edits.map(editOf));
+    return made;
+}
+
+/** What the server is asked, by the name of the provider of VS Code, and what is made of its answer. */
+function providers(client) {
+    const ask = (method, make) => async (document, ...others) => {
+        const params = { textDocument: { uri: document.uri.toString() } };
+        const position = others.find((it) => it instanceof vscode.Position);
+        const name = others.find((it) => typeof it === "string");
+        const told = await client.ask(`textDocument/${method}`, {
+            ...params, ...(position && { position: { line: position.line, character: position.character } }),
+            ...(name !== undefined && { newName: name }),
+        });
+        return told ? make(told) : undefined;
+    };
+    const each = (make) => (told) => told.map(make);
+    return {
+        Hover: { provideHover: ask("hover", (it) =>
+            new vscode.Hover(new vscode.MarkdownString().appendCodeblock(it.contents.value, "b"))) },
+        Definition: { provideDefinition: ask("definition", placeOf) },
+        Reference: { provideReferences: ask("references", each(placeOf)) },
+        DocumentHighlight: { provideDocumentHighlights: ask("documentHighlight", each((it) =>
+            new vscode.DocumentHighlight(rangeOf(it.range)))) },
+        Rename: { provideRenameEdits: ask("rename", renameOf) },
+        DocumentSymbol: { provideDocumentSymbols: ask("documentSymbol", each(symbolOf)) },
+        DocumentFormattingEdit: { provideDocumentFormattingEdits: ask("formatting", each(editOf)) },
+        FoldingRange: { provideFoldingRanges: ask("foldingRange", each(foldOf)) },
+        CompletionItem: { provideCompletionItems: ask("completion", each(completionOf)) },
+        SignatureHelp: { provideSignatureHelp: ask("signatureHelp", helpOf) },
+        DocumentSemanticTokens: { provideDocumentSemanticTokens: ask("semanticTokens/full", (it) =>
+            new vscode.SemanticTokens(new Uint32Array(it.data))) },
+    };
+}
+
+const MORE = {
+    SignatureHelp: () => ["(", ","],
+    DocumentSemanticTokens: () => [new vscode.SemanticTokensLegend(COLOURS)],
+};
+
+/** Tells the server of the sources that are open, as they change. */
+function follow(client) {
+    const isOurs = (document) => document.languageId === "b";
+    const of = (document) => ({ uri: document.uri.toString(), version: document.version });
+    const opened = (document) => isOurs(document) && client.tell("textDocument/didOpen", {
+        textDocument: { ...of(document), languageId: "b", text: document.getText() } });
+    const changed = ({ document }) => isOurs(document) && client.tell("textDocument/didChange", {
+        textDocument: of(document), contentChanges: [{ text: document.getText() }] });
+    const closed = (document) => isOurs(document) && client.tell("textDocument/didClose", {
+        textDocument: of(document) });
+    vscode.workspace.textDocuments.forEach(opened);
+    return [
+        vscode.workspace.onDidOpenTextDocument(opened),
+        vscode.workspace.onDidChangeTextDocument(changed),
+        vscode.workspace.onDidCloseTextDocument(closed),
+    ];
+}
+
+function start(all) {
+    const words = [serverFile(), "--edition", String(setting("edition")), "--program", setting("program")];
+    const hear = (method, params) => {
+        if (method === "textDocument/publishDiagnostics")
+            all.set(vscode.Uri.parse(params.uri), params.diagnostics.map(diagnosticOf));
+        else if (method === "window/showMessage")
+            vscode.window.showErrorMessage(params.message);
+    };
+    const ended = (reason) => {
+        const told = `The language server of B doesn't run: ${reason}. It needs Python 3.8 or later.`;
+        vscode.window.showErrorMessage(told);
+    };
+    return new Client(setting("python"), words, hear, ended);
+}
+
+let running;
 
 function activate(context) {
     const all = vscode.languages.createDiagnosticCollection("b");
-    const waiting = new Map();
-    const later = (document) => {
-        if (document.languageId !== "b")
-            return;
-        clearTimeout(waiting.get(document));
-        waiting.set(document, setTimeout(() => {
-            waiting.delete(document);
-            check(document, all);
-        }, DELAY));
-    };
-    context.subscriptions.push(
-        all,
-        vscode.workspace.onDidOpenTextDocument(later),
-        vscode.workspace.onDidChangeTextDocument((change) => later(change.document)),
-        vscode.workspace.onDidCloseTextDocument((document) => all.delete(document.uri)),
-        vscode.languages.registerDocumentFormattingEditProvider("b", { provideDocumentFormattingEdits: format }),
-    );
-    vscode.workspace.textDocuments.forEach(later);
+    running = start(all);
+    running.ask("initialize", { processId: process.pid, capabilities: {} }).catch(() => {});
+    running.tell("initialized", {});
+    const ways = Object.entries(providers(running)).map(([name, provider]) =>
+        vscode.languages[`register${name}Provider`]("b", provider, ...(MORE[name] ? MORE[name]() : [])));
+    const symbols = vscode.languages.registerWorkspaceSymbolProvider({
+        provideWorkspaceSymbols: async (query) => (await running.ask("workspace/symbol", { query })).map((it) =>
+            new vscode.SymbolInformation(it.name, it.kind - 1, "", placeOf(it.location))),
+    });
+    context.subscriptions.push(all, symbols, ...ways, ...follow(running));
 }
 
-module.exports = { activate };
+function deactivate() {
+    return running && running.end();
+}
+
+module.exports = { activate, deactivate };

@@ -13,16 +13,26 @@ function! bthompson#edition() abort
 endfunction
 
 " A path is one from the folder of the file.
+function! s:Path(lib) abort
+  return a:lib[0] ==# '/' ? a:lib : expand('%:h') . '/' . a:lib
+endfunction
+
 function! s:Lib(lib) abort
-  if a:lib !~# '[./]' || a:lib[0] ==# '/'
-    return a:lib
-  endif
-  return escape(shellescape(expand('%:h') . '/' . a:lib), '%#<|')
+  return a:lib =~# '[./]' ? escape(shellescape(s:Path(a:lib)), '%#<|') : a:lib
+endfunction
+
+" A pipe or a device that a project names is never opened.
+function! s:IsOdd(lib) abort
+  return a:lib =~# '[./]' && index(['', 'file'], getftype(resolve(s:Path(a:lib)))) < 0
 endfunction
 
 function! bthompson#check() abort
+  let odd = filter(s:Options('--with'), 's:IsOdd(v:val)')
+  if !empty(odd)
+    return 'echo ' . odd[0] . ' is no plain file'
+  endif
   let libs = map(s:Options('--with'), '"--with " . s:Lib(v:val)')
-  return join(['b check --edition', bthompson#edition()] + libs + ['%:S'])
+  return join(['b check --edition', bthompson#edition()] + libs + ['-- %:S'])
 endfunction
 
 function! bthompson#format() abort
