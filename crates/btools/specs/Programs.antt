@@ -29,10 +29,6 @@ use Rattle.btools.specs.declared.program.ProgramFault.TheVariants as why
 abbrev pub nothing_written : Outgoing
 nothing_written = outgoing_of (record { bytes = []; refusals = 0 })
 
--- a stream that doesn't tell what it took
-abbrev pub untold : Outgoing
-untold = record { written = None; failures = 0; refusals = 0 }
-
 -- the two streams of a command that tells of a source, before and after
 pub record ToldEnds : Type 0 where
   pub out : Outgoing

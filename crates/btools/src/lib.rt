@@ -8,7 +8,6 @@ mod place_lines;
 mod program;
 mod quoting;
 mod refusal;
-mod sink;
 mod source_lines;
 mod tables;
 mod telling;
@@ -23,7 +22,6 @@ pub use refusal::{
     diagnostic_line, load_line, tell_fault, tell_placed, wrong_codes_are_excluded,
     wrong_programs_are_excluded,
 };
-pub use sink::Sink;
 pub use source_lines::{line_at, push_source_line, split_source};
 pub use tables::{FunctionEntry, Tables};
 pub use telling::tell;
