@@ -10,7 +10,7 @@ use Rattle.blang.specs.CodeParts.{Function, Simple, Vector, IsWord, IsInstrWithi
 use Rattle.bcode.specs.Ahead.{Ahead, TakesBytes, TakesText, BytesFail, StopsInside, BreaksInside, ReadsDefinition}
 use Rattle.bcode.specs.Faults.{BeginsIn, IsFaultLine, IsFaultLineIn}
 use Rattle.bcode.specs.Headers.{header_of, header_text}
-use Rattle.bcode.specs.LineReading.{LineReader}
+use Rattle.bcode.specs.LineReading.{LineReader, IsExact, FitSizes}
 use Rattle.bcode.specs.Stopping.{opens, expects, value, target, string, instruction, state_after, IsStuckAfter}
 use Rattle.blang.specs.Text.{joined, end_text, header_line, body_lines, lines_of, definition_text, edition_line, opening, opening_lines, ended_lines, code_lines, IsTextOf, IsCodeText, target_line, string_line, ival_line, instr_line, IsWithinRanges}
 use Rattle.blang.specs.declared.code.Definition.{Definition}
@@ -25,7 +25,7 @@ use Rattle.bcode.proofs.StreamLaws.{EndsInLine-after, ends_first}
 use Rattle.bcode.proofs.BodyLaws.{two_kinds, three_kinds, two_goes, three_goes, GoesOn, GoesOn-append, items_go, items_go_last, header_go, not_end, text_header}
 use Rattle.bcode.proofs.CodeLaws.{header_of-text, header_of-within, code_path, path_code, path_ended, ended_path, of_value, of_target, of_string, of_instr}
 use Rattle.bcode.proofs.HeaderLaws.{header_at-exact, end_within}
-use Rattle.bcode.proofs.LineLaws.{IsExact, FitSizes, ival_at-exact, instr_at-exact, number_line_at-exact}
+use Rattle.bcode.proofs.LineLaws.{ival_at-exact, instr_at-exact, number_line_at-exact}
 use Rattle.bcode.proofs.StoppingLaws.{same_spelling, begins_path, greatest_path, no_header, same_after, no_path}
 
 pub fault_line : (text : List ℕ) (good : ℕ) → IsStuckAfter good opens text → IsFaultLine text (suc good)

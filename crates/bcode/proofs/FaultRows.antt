@@ -3,14 +3,14 @@ use Rattle.std.proofs.Common.{◌≡◌, ℕ, zero, suc, ◌^◌, Bool, true, fa
 use Rattle.std.specs.Prelude.{codes}
 use Rattle.bcode.specs.Faults.{IsFaultLine}
 use Rattle.bcode.specs.Headers.{header_text}
-use Rattle.bcode.specs.LineReading.{header_at, any_header_at, sizes_at, function_header_at, simple_header_at, vector_header_at, line_ended, instr_at, ival_line_at, number_line_at, operand_at, name_operand_at, operator_at, less_at, greater_at, increment_at, case_at, LineReader}
+use Rattle.bcode.specs.LineReading.{header_at, any_header_at, sizes_at, function_header_at, simple_header_at, vector_header_at, line_ended, instr_at, ival_line_at, number_line_at, operand_at, name_operand_at, operator_at, less_at, greater_at, increment_at, case_at, LineReader, IsExact}
 use Rattle.bcode.specs.Reading.{expect_byte, number_at, number_from, name_text_at}
 use Rattle.bcode.specs.Stopping.{LineKind, value, target, string, instruction, LineState, opens, expects, finished, state_after, Leads, IsOfKind, IsStuckAfter}
 use Rattle.blang.specs.Text.{edition_line, target_line, string_line, instr_line, ival_line}
 use Rattle.bcode.specs.declared.header.Header.{Header}
 use Rattle.bcode.proofs.FaultLaws.{fault_line}
 use Rattle.bcode.proofs.HeaderLaws.{header_at-exact}
-use Rattle.bcode.proofs.LineLaws.{IsExact, ival_at-exact, instr_at-exact, number_line_at-exact}
+use Rattle.bcode.proofs.LineLaws.{ival_at-exact, instr_at-exact, number_line_at-exact}
 use Rattle.bcode.proofs.PartLaws.{same_read}
 use Rattle.bcode.proofs.StoppingLaws.{IsGoodKind, IsGoodState, good_next, no_header}
 use Rattle.bcode.proofs.StreamLaws.{is_two, two_line, line_two}

@@ -5,14 +5,14 @@ use Rattle.std.proofs.lemmas.Bool.Decides.{nat_tests}
 use Rattle.bword.specs.Words.{is_name}
 use Rattle.blang.specs.CodeParts.{IsWord}
 use Rattle.bcode.specs.Headers.{header_text, function_fits, simple_fits, vector_fits, header_fits, IsNamed, IsHeaderWithin}
-use Rattle.bcode.specs.LineReading.{header_at, any_header_at, header_readers, sizes_at, function_header_at, simple_header_at, vector_header_at, line_ended}
+use Rattle.bcode.specs.LineReading.{IsExact, header_at, any_header_at, header_readers, sizes_at, function_header_at, simple_header_at, vector_header_at, line_ended}
 use Rattle.bcode.specs.Reading.{expect_byte, number_at, name_text_at}
 use Rattle.blang.specs.declared.limits.TheConstants.{WORD_VALUES}
 use Rattle.bcode.specs.declared.header.Header.{Header}
 use Rattle.bcode.specs.declared.header.Header.TheVariants as header
 use Rattle.blang.specs.declared.code.Sizes.{Sizes}
 use Rattle.bcode.proofs.PartLaws.{bind_some, only_if, same_read, expect-sound, expect-again, number_at-sound, number_at-again, name_at-sound, name_at-again}
-use Rattle.bcode.proofs.LineLaws.{IsExact, IsSoundAfter, by_first-sound, ended_entry}
+use Rattle.bcode.proofs.LineLaws.{IsSoundAfter, by_first-sound, ended_entry}
 
 -- numbers within their ranges are words
 pub record AreWords (count : ℕ) (s : Sizes) : Type 0 where

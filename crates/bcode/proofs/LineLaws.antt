@@ -4,7 +4,7 @@ use Rattle.bword.specs.Words.{is_name}
 use Rattle.bword.specs.declared.operators.BinOp.{BinOp}
 use Rattle.bword.specs.declared.operators.BinOp.TheVariants as op
 use Rattle.blang.specs.CodeParts.{IsWord, IsInstrWithin, IsIvalWithin}
-use Rattle.bcode.specs.LineReading.{LineReader, mapped, choose, by_first, line_ended, operand_at, name_operand_at, less_at, greater_at, operator_at, operator_readers, increment_at, increment_readers, case_at, instr_at, instr_readers, ival_line_at, ival_readers, number_line_at}
+use Rattle.bcode.specs.LineReading.{LineReader, IsExact, FitSizes, counted_readers, mapped, choose, by_first, line_ended, operand_at, name_operand_at, less_at, greater_at, operator_at, operator_readers, increment_at, increment_readers, case_at, instr_at, instr_readers, ival_line_at, ival_readers, number_line_at}
 use Rattle.bcode.specs.Reading.{◌>>=◌, expect_byte, number_at, name_text_at}
 use Rattle.blang.specs.Text.{line, increment_text, instr_line, ival_line}
 use Rattle.bword.specs.Words.{operator_text}
@@ -16,12 +16,6 @@ use Rattle.blang.specs.declared.code.Instr.TheVariants as instr
 use Rattle.blang.specs.declared.code.Ival.{Ival}
 use Rattle.blang.specs.declared.code.Ival.TheVariants as ival
 use Rattle.bcode.proofs.PartLaws.{bind_some, same_read, is_same, expect-sound, expect-again, number_at-sound, number_at-again, name_at-sound, name_at-again}
-
--- a reader reads just these texts of these values
-pub record IsExact {X : Type 0} (text : X → List ℕ) (within : X → Type 0) (read : LineReader X) : Type 0 where
-  pub sound : (bytes : List ℕ) (x : X) (rest : List ℕ) → read bytes ≡ Some (x, rest) → within x × (bytes ≡ text x ++ rest)
-  pub again : (x : X) (rest : List ℕ) → within x → read (text x ++ rest) ≡ Some (x, rest)
-  pub filled : (x : X) → 0 < length (text x)
 
 mapped_some : {X Y : Type 0} (f : X → Y) (o : Option (X × List ℕ)) (y : Y) (rest : List ℕ) → mapped f o ≡ Some (y, rest)
     → (x : X) × (o ≡ Some (x, rest)) × (f x ≡ y)
@@ -284,63 +278,54 @@ module _ (sizes : Sizes) where
       simp append_assoc in
       (at, ap (λ l. 101 ∷ l) text ∙ line_is ∙ ap (λ z. instr_line z ++ rest) read.0)
 
--- the sizes are numbers of words
-pub record FitSizes (sizes : Sizes) : Type 0 where
-  pub frame : sizes.frame ≤ 2 ^ 16
-  pub labels : sizes.labels ≤ 2 ^ 16
-  pub strings : sizes.strings ≤ 2 ^ 16
-  pub code : sizes.code ≤ 2 ^ 16
-
 module _ (sizes : Sizes) where
   instr_at-sound : (bytes : List ℕ) (x : Instr) (rest : List ℕ) → instr_at sizes bytes ≡ Some (x, rest) → IsInstrWithin sizes x × (bytes ≡ instr_line x ++ rest)
   unfolding instr_at
   instr_at-sound =
       let within = IsInstrWithin sizes in
       let alone = λ (byte : ℕ) (i : Instr) (inside : within i) (same : instr_line i ≡ byte ∷ 10 ∷ []). ended_entry instr_line within byte i inside same in
-      by_first-sound instr_line within (instr_readers sizes) (
+      let counted : AllSound instr_line within (counted_readers sizes) = (
         number_entry instr_line within 99 instr.Constant (2 ^ 16) (λ n h. h) (λ n. refl),
         (
-          name_entry instr_line within 120 instr.External (λ n h. h) (λ n. refl),
+          number_entry instr_line within 97 instr.Automatic sizes.frame (λ n h. h) (λ n. refl),
           (
-            number_entry instr_line within 97 instr.Automatic sizes.frame (λ n h. h) (λ n. refl),
+            number_entry instr_line within 115 instr.Text sizes.strings (λ n h. h) (λ n. refl),
             (
-              number_entry instr_line within 115 instr.Text sizes.strings (λ n h. h) (λ n. refl),
+              number_entry instr_line within 108 instr.Label sizes.labels (λ n h. h) (λ n. refl),
               (
-                number_entry instr_line within 108 instr.Label sizes.labels (λ n h. h) (λ n. refl),
+                number_entry instr_line within 106 instr.Jump sizes.code (λ n h. h) (λ n. refl),
                 (
-                  alone 118 instr.Load tt refl,
+                  number_entry instr_line within 122 instr.JumpIfZero sizes.code (λ n h. h) (λ n. refl),
+                  (number_entry instr_line within 107 instr.Call (2 ^ 16) (λ n h. h) (λ n. refl), tt),
+                ),
+              ),
+            ),
+          ),
+        ),
+      ) in
+      by_first-sound instr_line within (instr_readers sizes) (
+        name_entry instr_line within 120 instr.External (λ n h. h) (λ n. refl),
+        (
+          alone 118 instr.Load tt refl,
+          (
+            alone 119 instr.Store tt refl,
+            (
+              operator_entry sizes 98 instr.Binary (λ o. tt) (λ o. refl),
+              (
+                operator_entry sizes 109 instr.Modify (λ o. tt) (λ o. refl),
+                (
+                  alone 110 instr.Negate tt refl,
                   (
-                    alone 119 instr.Store tt refl,
+                    alone 104 instr.Not tt refl,
                     (
-                      operator_entry sizes 98 instr.Binary (λ o. tt) (λ o. refl),
+                      increment_entry sizes,
                       (
-                        operator_entry sizes 109 instr.Modify (λ o. tt) (λ o. refl),
+                        alone 103 instr.Goto tt refl,
                         (
-                          alone 110 instr.Negate tt refl,
+                          case_entry sizes,
                           (
-                            alone 104 instr.Not tt refl,
-                            (
-                              increment_entry sizes,
-                              (
-                                number_entry instr_line within 106 instr.Jump sizes.code (λ n h. h) (λ n. refl),
-                                (
-                                  number_entry instr_line within 122 instr.JumpIfZero sizes.code (λ n h. h) (λ n. refl),
-                                  (
-                                    alone 103 instr.Goto tt refl,
-                                    (
-                                      case_entry sizes,
-                                      (
-                                        number_entry instr_line within 107 instr.Call (2 ^ 16) (λ n h. h) (λ n. refl),
-                                        (
-                                          alone 114 instr.Return tt refl,
-                                          (alone 112 instr.Pop tt refl, tt),
-                                        ),
-                                      ),
-                                    ),
-                                  ),
-                                ),
-                              ),
-                            ),
+                            alone 114 instr.Return tt refl,
+                            (alone 112 instr.Pop tt refl, counted),
                           ),
                         ),
                       ),

@@ -11,7 +11,8 @@ use Rattle.bword.specs.declared.operators.BinOp.{BinOp}
 use Rattle.bword.specs.declared.operators.BinOp.TheVariants as op
 use Rattle.blang.specs.CodeParts.{IsInstrWithin, IsIvalWithin}
 use Rattle.bcode.specs.Headers.{header_text, IsHeaderWithin}
-use Rattle.bcode.specs.Streams.{HasNoNewline}
+use Rattle.bcode.specs.LineReading.{FitSizes}
+use Rattle.bcode.specs.Streams.{HasNoNewline, IsLine}
 use Rattle.blang.specs.Text.{line, edition_line, increment_text, instr_line, ival_line}
 use Rattle.bword.specs.Words.{operator_text}
 use Rattle.bcode.specs.declared.header.Header.{Header}
@@ -24,7 +25,6 @@ use Rattle.blang.specs.declared.code.Instr.TheVariants as instr
 use Rattle.blang.specs.declared.code.Ival.{Ival}
 use Rattle.blang.specs.declared.code.Ival.TheVariants as ival
 use Rattle.bcode.proofs.HeaderLaws.{function_words, simple_words, vector_words}
-use Rattle.bcode.proofs.LineLaws.{FitSizes}
 
 abbrev Other : ℕ → Type 0
 Other b = b ≢ 10
@@ -34,14 +34,6 @@ record IsPart (most : ℕ) (part : List ℕ) : Type 0 where
   clean : HasNoNewline part
   some : 0 < length part
   few : length part ≤ most
-
--- Some bytes and a newline, which is the only one.
-pub record IsLine (most : ℕ) (l : List ℕ) : Type 0 where
-  pub before : List ℕ
-  pub clean : HasNoNewline before
-  pub some : 0 < length before
-  pub few : length before < most
-  pub ends : l ≡ before ++ 10 ∷ []
 
 both : (a b : Bool) → (a && b) ≡ true → (a ≡ true) × (b ≡ true)
 both true b e = (refl, e)

@@ -1,7 +1,7 @@
 -- Where a text stops, and the lines that go on.
 use Rattle.std.proofs.Common.{subst, ◌≡◌, ℕ, zero, suc, ◌^◌, ◌<◌, ◌≤◌, List, [], ◌∷◌, ◌++◌, length, take, replicate, refl, sym, ap, ◌∙◌, arith, append_assoc, inl, inr}
 use Rattle.bcode.specs.Headers.{header_text, IsHeaderWithin}
-use Rattle.bcode.specs.LineReading.{LineReader}
+use Rattle.bcode.specs.LineReading.{LineReader, IsExact, FitSizes}
 use Rattle.bcode.specs.Stopping.{LineKind, value, target, string, instruction, IsOfKind, LineState, opens, expects, finished, state_after, LeadsIn, Leads, IsStuckAfter}
 use Rattle.blang.specs.Text.{joined, end_text, edition_line, target_line, string_line, ival_line, instr_line}
 use Rattle.bcode.specs.declared.header.Header.{Header}
@@ -10,7 +10,7 @@ use Rattle.blang.specs.declared.code.Sizes.{Sizes}
 use Rattle.blang.specs.declared.code.Instr.TheVariants as instr
 use Rattle.blang.specs.declared.code.Ival.TheVariants as ival
 use Rattle.bcode.proofs.HeaderLaws.{header_at-exact, AreWords, function_words, some_code, simple_words, vector_words, end_within}
-use Rattle.bcode.proofs.LineLaws.{IsExact, FitSizes, ival_at-exact, instr_at-exact, number_line_at-exact}
+use Rattle.bcode.proofs.LineLaws.{ival_at-exact, instr_at-exact, number_line_at-exact}
 use Rattle.bcode.proofs.PartLaws.{same_read}
 
 -- two spellings that a text begins with are one

@@ -12,14 +12,13 @@ use Rattle.bword.specs.declared.ends.Device.{Device}
 use Rattle.std.proofs.KnownBytes.{Consumes-nil, Consumes-kept}
 use Rattle.bword.proofs.Taking.{Took-none, Took-append, Took-next}
 use Rattle.bcode.specs.Ahead.{Ahead, ReadsLine, RefusesLine, LineGives, SeesEnd, EndGives}
-use Rattle.bcode.specs.LineReading.{LineReader}
-use Rattle.bcode.specs.Streams.{HasNoNewline, IsWholeLine, AreLines, IsLinePart, EndsInLine, TakesLine, FailsAfter, FailsInLine}
+use Rattle.bcode.specs.LineReading.{LineReader, IsExact}
+use Rattle.bcode.specs.Streams.{HasNoNewline, IsLine, IsWholeLine, AreLines, IsLinePart, EndsInLine, TakesLine, FailsAfter, FailsInLine}
 use Rattle.blang.specs.declared.limits.TheConstants.{LINE_LEN}
 use Rattle.bcode.specs.declared.code_stop.CodeStop.{CodeStop}
 use Rattle.bcode.specs.declared.code_stop.CodeStop.TheVariants as stop
-use Rattle.bcode.proofs.LineLaws.{IsExact}
 use Rattle.bcode.proofs.PartLaws.{only_if, same_read, is_same}
-use Rattle.bcode.proofs.ShapeLaws.{IsLine, edition_line-shape}
+use Rattle.bcode.proofs.ShapeLaws.{edition_line-shape}
 use Rattle.std.specs.Cmp.Lexicographic.{pointwise}
 use Rattle.std.proofs.lemmas.Bool.Decides.{Decides-eqb}
 use Rattle.std.proofs.lemmas.Slice.Eq.{starts_is}

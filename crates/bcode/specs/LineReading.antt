@@ -1,10 +1,11 @@
 -- Inner words: reading a line from the front of a text.
-use Rattle.std.specs.Prelude.{ℕ, ◌==◌, if◌then◌else◌, List, [], ◌∷◌, Option, Some, None}
+use Rattle.std.specs.Prelude.{ℕ, ◌≡◌, ◌==◌, ◌<◌, ◌≤◌, if◌then◌else◌, List, [], ◌∷◌, ◌++◌, length, Option, Some, None}
 use Rattle.bword.specs.declared.operators.BinOp.{BinOp}
 use Rattle.bword.specs.declared.operators.BinOp.TheVariants as op
 use Rattle.bcode.specs.Reading.{◌>>=◌, expect_byte, number_at, name_text_at}
 use Rattle.bcode.specs.Headers.{header_fits}
-use Rattle.blang.specs.declared.limits.TheConstants.{WORD_VALUES}
+use Rattle.bcode.specs.Streams.{IsLine}
+use Rattle.blang.specs.declared.limits.TheConstants.{LINE_LEN, WORD_VALUES}
 use Rattle.bcode.specs.declared.header.Header.{Header}
 use Rattle.bcode.specs.declared.header.Header.TheVariants as header
 use Rattle.blang.specs.declared.code.Sizes.{Sizes}
@@ -17,6 +18,25 @@ use Rattle.blang.specs.declared.code.Ival.TheVariants as ival
 
 abbrev pub LineReader : Type 0 → Type 0
 LineReader X = List ℕ → Option (X × List ℕ)
+
+-- a reader reads just these texts of these values
+pub record IsExact {X : Type 0} (text : X → List ℕ) (within : X → Type 0) (read : LineReader X) : Type 0 where
+  pub sound : (bytes : List ℕ) (x : X) (rest : List ℕ) → read bytes ≡ Some (x, rest)
+      → within x × (bytes ≡ text x ++ rest)
+  pub again : (x : X) (rest : List ℕ) → within x → read (text x ++ rest) ≡ Some (x, rest)
+  pub filled : (x : X) → 0 < length (text x)
+
+-- Just the texts of these values are read, and each is a line that fits.
+pub record IsForm {X : Type 0} (text : X → List ℕ) (within : X → Type 0) (read : LineReader X) : Type 0 where
+  pub exact : IsExact text within read
+  pub shape : (x : X) → within x → IsLine LINE_LEN (text x)
+
+-- the sizes are numbers of words
+pub record FitSizes (sizes : Sizes) : Type 0 where
+  pub frame : sizes.frame ≤ WORD_VALUES
+  pub labels : sizes.labels ≤ WORD_VALUES
+  pub strings : sizes.strings ≤ WORD_VALUES
+  pub code : sizes.code ≤ WORD_VALUES
 
 abbrev pub mapped : {X Y : Type 0} → (X → Y) → Option (X × List ℕ) → Option (Y × List ℕ)
 mapped f (Some x) = Some (f x.0, x.1)
@@ -77,22 +97,26 @@ case_at below bytes = do
   target ← number_at 10 below value.1
   Some (instr.JumpIfCase value.0 target.0, target.1)
 
-abbrev pub instr_readers : Sizes → List (ℕ × LineReader Instr)
-instr_readers sizes =
+-- an instruction with a number
+abbrev pub counted_readers : Sizes → List (ℕ × LineReader Instr)
+counted_readers sizes =
     (99, λ rest. mapped instr.Constant (operand_at (WORD_VALUES) rest))
-    ∷ (120, λ rest. mapped instr.External (name_operand_at rest))
     ∷ (97, λ rest. mapped instr.Automatic (operand_at sizes.frame rest))
     ∷ (115, λ rest. mapped instr.Text (operand_at sizes.strings rest))
-    ∷ (108, λ rest. mapped instr.Label (operand_at sizes.labels rest)) ∷ (118, line_ended instr.Load)
-    ∷ (119, line_ended instr.Store)
-    ∷ (98, λ rest. mapped instr.Binary (operator_at rest)) ∷ (109, λ rest. mapped instr.Modify (operator_at rest))
-    ∷ (110, line_ended instr.Negate)
-    ∷ (104, line_ended instr.Not) ∷ (105, λ rest. mapped instr.Increment (increment_at rest))
+    ∷ (108, λ rest. mapped instr.Label (operand_at sizes.labels rest))
     ∷ (106, λ rest. mapped instr.Jump (operand_at sizes.code rest))
     ∷ (122, λ rest. mapped instr.JumpIfZero (operand_at sizes.code rest))
+    ∷ (107, λ rest. mapped instr.Call (operand_at (WORD_VALUES) rest)) ∷ []
+
+abbrev pub instr_readers : Sizes → List (ℕ × LineReader Instr)
+instr_readers sizes =
+    (120, λ rest. mapped instr.External (name_operand_at rest))
+    ∷ (118, line_ended instr.Load) ∷ (119, line_ended instr.Store)
+    ∷ (98, λ rest. mapped instr.Binary (operator_at rest)) ∷ (109, λ rest. mapped instr.Modify (operator_at rest))
+    ∷ (110, line_ended instr.Negate) ∷ (104, line_ended instr.Not)
+    ∷ (105, λ rest. mapped instr.Increment (increment_at rest))
     ∷ (103, line_ended instr.Goto) ∷ (101, case_at sizes.code)
-    ∷ (107, λ rest. mapped instr.Call (operand_at (WORD_VALUES) rest))
-    ∷ (114, line_ended instr.Return) ∷ (112, line_ended instr.Pop) ∷ []
+    ∷ (114, line_ended instr.Return) ∷ (112, line_ended instr.Pop) ∷ counted_readers sizes
 
 unfoldable pub instr_at : Sizes → LineReader Instr
 instr_at sizes bytes = by_first (instr_readers sizes) bytes

@@ -1,5 +1,5 @@
 -- Inner words: lines of bytes that come one by one.
-use Rattle.std.specs.Prelude.{◌≡◌, ◌≢◌, ℕ, suc, ◌≤◌, true, List, [], ◌∷◌, ◌++◌, length, All, Result, Ok, Err, ◌⊎◌}
+use Rattle.std.specs.Prelude.{◌≡◌, ◌≢◌, ℕ, suc, ◌<◌, ◌≤◌, true, List, [], ◌∷◌, ◌++◌, length, All, Result, Ok, Err, ◌⊎◌}
 use Rattle.bword.specs.ByteEnds.{Incoming, Took, Fails}
 use Rattle.bword.specs.declared.ends.Device.{Device}
 use Rattle.blang.specs.Text.{joined}
@@ -8,6 +8,14 @@ use Rattle.blang.specs.declared.limits.TheConstants.{LINE_LEN}
 -- no byte is a newline
 abbrev pub HasNoNewline : List ℕ → Type 0
 HasNoNewline bytes = All (λ b. b ≢ 10) bytes
+
+-- Some bytes and a newline, which is the only one.
+pub record IsLine (most : ℕ) (l : List ℕ) : Type 0 where
+  pub before : List ℕ
+  pub clean : HasNoNewline before
+  pub some : 0 < length before
+  pub few : length before < most
+  pub ends : l ≡ before ++ 10 ∷ []
 
 -- Its last byte is its only newline.
 pub record IsWholeLine (bytes : List ℕ) : Type 0 where

@@ -1,6 +1,12 @@
 //! Lines, read from the front of a text.
-ghost use Rattle.std.specs.Prelude.{◌≡◌, ◌≤◌};
+ghost use Rattle.std.specs.Prelude.{◌≡◌, ◌≢◌, ◌<◌, ◌≤◌, ◌∷◌, [], decimal};
+ghost use Rattle.blang.specs.CodeParts.{IsInstrWithin, IsIvalWithin};
+ghost use Rattle.blang.specs.Text.{line, instr_line, ival_line};
+ghost use Rattle.blang.specs.declared.limits.TheConstants.{WORD_VALUES};
+ghost use Rattle.bcode.specs.Headers.{header_text, IsHeaderWithin};
 ghost use Rattle.bcode.specs.LineReading.{
+  choose,
+  counted_readers,
   line_ended,
   operand_at,
   name_operand_at,
@@ -22,6 +28,7 @@ ghost use Rattle.bcode.specs.LineReading.{
 ghost use Rattle.bcode.specs.Reading.{Gives};
 
 use crate::header::Header;
+use crate::line_form::LineForm;
 use crate::parts::{expect, name, number};
 use crate::{Increment, Instr, Ival};
 use blang::{Sizes, WORD_VALUES};
@@ -133,67 +140,154 @@ fn case(text: &[u8], below: u32) -> Option<(Instr, &[u8])>
     Some((Instr::JumpIfCase { value, target }, rest))
 }
 
-/// An instruction of a function of these sizes.
-#[tactic(auto, unfolding(crate::specs::LineReading::instr_at))]
+// An instruction with a number, after its letter.
 #[inline(always)]
-pub fn instr(text: &[u8], sizes: Sizes) -> Option<(Instr, &[u8])>
-    ensures { Gives (λ r. (r.0, r.1.now)) result (instr_at sizes text.now) }
+fn counted(letter: u8, text: &[u8], sizes: Sizes) -> Option<(Instr, &[u8])>
+    ensures { Gives (λ r. (r.0, r.1.now)) result (choose (counted_readers sizes) letter text.now) }
 {
-    let (letter, rest) = text.split_first()?;
-    match *letter {
-        b'c' => operand(rest, WORD_VALUES).map(|(n, rest)| (Instr::Constant(n), rest)),
-        b'x' => match name_operand(rest) {
-            Some((name, rest)) => Some((Instr::External(name), rest)),
-            None => None,
-        },
-        b'a' => operand(rest, u32::from(sizes.frame)).map(|(n, rest)| (Instr::Automatic(n), rest)),
-        b's' => operand(rest, u32::from(sizes.strings)).map(|(n, rest)| (Instr::Text(n), rest)),
-        b'l' => operand(rest, u32::from(sizes.labels)).map(|(n, rest)| (Instr::Label(n), rest)),
-        b'v' => ended(Instr::Load, rest),
-        b'w' => ended(Instr::Store, rest),
-        b'b' => operator(rest).map(|(operator, rest)| (Instr::Binary(operator), rest)),
-        b'm' => operator(rest).map(|(operator, rest)| (Instr::Modify(operator), rest)),
-        b'n' => ended(Instr::Negate, rest),
-        b'h' => ended(Instr::Not, rest),
-        b'i' => increment(rest).map(|(which, rest)| (Instr::Increment(which), rest)),
-        b'j' => operand(rest, u32::from(sizes.code)).map(|(n, rest)| (Instr::Jump(n), rest)),
-        b'z' => operand(rest, u32::from(sizes.code)).map(|(n, rest)| (Instr::JumpIfZero(n), rest)),
-        b'g' => ended(Instr::Goto, rest),
-        b'e' => case(rest, u32::from(sizes.code)),
-        b'k' => operand(rest, WORD_VALUES).map(|(n, rest)| (Instr::Call(n), rest)),
-        b'r' => ended(Instr::Return, rest),
-        b'p' => ended(Instr::Pop, rest),
+    match letter {
+        b'c' => {
+            let (n, rest) = operand(text, WORD_VALUES)?;
+            Some((Instr::Constant(n), rest))
+        }
+        b'a' => {
+            let (n, rest) = operand(text, u32::from(sizes.frame))?;
+            Some((Instr::Automatic(n), rest))
+        }
+        b's' => {
+            let (n, rest) = operand(text, u32::from(sizes.strings))?;
+            Some((Instr::Text(n), rest))
+        }
+        b'l' => {
+            let (n, rest) = operand(text, u32::from(sizes.labels))?;
+            Some((Instr::Label(n), rest))
+        }
+        b'j' => {
+            let (n, rest) = operand(text, u32::from(sizes.code))?;
+            Some((Instr::Jump(n), rest))
+        }
+        b'z' => {
+            let (n, rest) = operand(text, u32::from(sizes.code))?;
+            Some((Instr::JumpIfZero(n), rest))
+        }
+        b'k' => {
+            let (n, rest) = operand(text, WORD_VALUES)?;
+            Some((Instr::Call(n), rest))
+        }
         _ => None,
     }
 }
 
-/// An initial value of a definition with this many string words.
-#[tactic(auto, unfolding(crate::specs::LineReading::ival_line_at))]
-#[inline(always)]
-pub fn ival(text: &[u8], strings: u16) -> Option<(Ival, &[u8])>
-    ensures { Gives (λ r. (r.0, r.1.now)) result (ival_line_at strings text.now) }
-{
-    let (letter, rest) = text.split_first()?;
-    match *letter {
-        b'c' => operand(rest, WORD_VALUES).map(|(n, rest)| (Ival::Number(n), rest)),
-        b'x' => match name_operand(rest) {
-            Some((name, rest)) => Some((Ival::Name(name), rest)),
-            None => None,
-        },
-        b's' => operand(rest, u32::from(strings)).map(|(offset, rest)| (Ival::Text(offset), rest)),
-        _ => None,
+/// The line of an instruction in a function of these sizes.
+#[derive(Clone, Copy)]
+pub struct InstrLine {
+    pub sizes: Sizes,
+}
+
+impl LineForm for InstrLine {
+    type Value = Instr;
+
+    ghost spell = { λ _. instr_line };
+
+    ghost within = { λ form. IsInstrWithin form.sizes };
+
+    ghost reader = { λ form. instr_at form.sizes };
+
+    #[tactic(auto, unfolding(crate::specs::LineReading::instr_at))]
+    #[inline(always)]
+    fn read_from(self, text: &[u8]) -> Option<(Instr, &[u8])> {
+        let (letter, rest) = text.split_first()?;
+        match *letter {
+            b'x' => match name_operand(rest) {
+                Some((name, rest)) => Some((Instr::External(name), rest)),
+                None => None,
+            },
+            b'v' => ended(Instr::Load, rest),
+            b'w' => ended(Instr::Store, rest),
+            b'b' => {
+                let (operator, rest) = operator(rest)?;
+                Some((Instr::Binary(operator), rest))
+            }
+            b'm' => {
+                let (operator, rest) = operator(rest)?;
+                Some((Instr::Modify(operator), rest))
+            }
+            b'n' => ended(Instr::Negate, rest),
+            b'h' => ended(Instr::Not, rest),
+            b'i' => {
+                let (which, rest) = increment(rest)?;
+                Some((Instr::Increment(which), rest))
+            }
+            b'g' => ended(Instr::Goto, rest),
+            b'e' => case(rest, u32::from(self.sizes.code)),
+            b'r' => ended(Instr::Return, rest),
+            b'p' => ended(Instr::Pop, rest),
+            letter => counted(letter, rest, self.sizes),
+        }
     }
 }
 
-/// The line of a letter and a number.
-#[tactic(auto, unfolding(crate::specs::LineReading::number_line_at))]
-#[inline(always)]
-pub fn number_line(text: &[u8], letter: u8, below: u32) -> Option<(u16, &[u8])>
-    requires { below ≤ WORD_VALUES }
-    ensures { Gives (λ r. (r.0, r.1.now)) result (number_line_at letter below text.now) }
-{
-    let rest = expect(text, letter)?;
-    operand(rest, below)
+/// The line of an initial value of a definition with this many string words.
+#[derive(Clone, Copy)]
+pub struct IvalLine {
+    pub strings: u16,
+}
+
+impl LineForm for IvalLine {
+    type Value = Ival;
+
+    ghost spell = { λ _. ival_line };
+
+    ghost within = { λ form. IsIvalWithin form.strings };
+
+    ghost reader = { λ form. ival_line_at form.strings };
+
+    #[tactic(auto, unfolding(crate::specs::LineReading::ival_line_at))]
+    #[inline(always)]
+    fn read_from(self, text: &[u8]) -> Option<(Ival, &[u8])> {
+        let (letter, rest) = text.split_first()?;
+        match *letter {
+            b'c' => {
+                let (n, rest) = operand(rest, WORD_VALUES)?;
+                Some((Ival::Number(n), rest))
+            }
+            b'x' => match name_operand(rest) {
+                Some((name, rest)) => Some((Ival::Name(name), rest)),
+                None => None,
+            },
+            b's' => {
+                let (offset, rest) = operand(rest, u32::from(self.strings))?;
+                Some((Ival::Text(offset), rest))
+            }
+            _ => None,
+        }
+    }
+}
+
+/// The line of a letter and a number below a bound.
+#[derive(Clone, Copy)]
+pub struct NumberLine {
+    pub letter: u8,
+    pub below: u32,
+    ghost is_letter: { letter ≢ 10 },
+    ghost fits: { below ≤ WORD_VALUES },
+}
+
+impl LineForm for NumberLine {
+    type Value = u16;
+
+    ghost spell = { λ form n. line ((form.letter ∷ []) ∷ decimal n ∷ []) };
+
+    ghost within = { λ form n. n < form.below };
+
+    ghost reader = { λ form. number_line_at form.letter form.below };
+
+    #[tactic(auto, unfolding(crate::specs::LineReading::number_line_at))]
+    #[inline(always)]
+    fn read_from(self, text: &[u8]) -> Option<(u16, &[u8])> {
+        let rest = expect(text, self.letter)?;
+        operand(rest, self.below)
+    }
 }
 
 #[tactic(auto, unfolding(crate::specs::LineReading::sizes_at))]
@@ -291,16 +385,27 @@ fn any_header(text: &[u8]) -> Option<(Header, &[u8])>
 }
 
 /// The first line of a definition within its ranges, or the last one of a code text.
-#[tactic(auto, unfolding(crate::specs::LineReading::header_at))]
-pub fn header(text: &[u8]) -> Option<(Header, &[u8])>
-    ensures { Gives (λ r. (r.0, r.1.now)) result (header_at text.now) }
-{
-    let Some((header, rest)) = any_header(text) else {
-        return None;
-    };
-    if header.fits() {
-        Some((header, rest))
-    } else {
-        None
+#[derive(Clone, Copy)]
+pub struct HeaderLine;
+
+impl LineForm for HeaderLine {
+    type Value = Header;
+
+    ghost spell = { λ _. header_text };
+
+    ghost within = { λ _. IsHeaderWithin };
+
+    ghost reader = { λ _. header_at };
+
+    #[tactic(auto, unfolding(crate::specs::LineReading::header_at))]
+    fn read_from(self, text: &[u8]) -> Option<(Header, &[u8])> {
+        let Some((header, rest)) = any_header(text) else {
+            return None;
+        };
+        if header.fits() {
+            Some((header, rest))
+        } else {
+            None
+        }
     }
 }

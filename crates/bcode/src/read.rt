@@ -1,25 +1,33 @@
 //! Code texts, read.
-ghost use Rattle.std.specs.Prelude.{◌≡◌, ◌≢◌, ◌<◌, ◌≤◌, List, ◌∷◌, [], decimal, IfOk, IfErr, MatchResult};
+ghost use Rattle.std.specs.Prelude.{◌≡◌, List, IfOk, IfErr, MatchResult};
 ghost use Rattle.bcode.specs.Ahead.{LinesGive, BodyGives, DefinitionGives};
-ghost use Rattle.blang.specs.CodeParts.{IsInstrWithin, IsIvalWithin};
 ghost use Rattle.bcode.specs.Faults.{IsEditionOf, IsFaultOf};
 ghost use Rattle.bcode.specs.Headers.{IsHeaderWithin};
-ghost use Rattle.blang.specs.Text.{line, instr_line, ival_line, IsCodeText};
+ghost use Rattle.bcode.specs.LineReading.{IsForm};
+ghost use Rattle.blang.specs.Text.{IsCodeText};
 ghost use Rattle.blang.specs.declared.code.Definition.{Definition};
 ghost use Rattle.bcode.specs.declared.fault.CodeFault.TheVariants.{Memory};
 ghost use Rattle.bcode.specs.declared.header.Header.TheVariants as headers;
 
 use crate::code_stop::CodeStop;
 use crate::header::Header;
+use crate::line_form::LineForm;
+use crate::lines::{HeaderLine, InstrLine, IvalLine, NumberLine};
 use crate::reader::CodeReader;
 use crate::stream::Stream;
 use crate::{
-    CodeFault, CodeStep, Definition, Function, FunctionParts, Instr, Ival, Simple, SimpleParts,
-    Vector, VectorParts,
+    CodeFault, CodeStep, Definition, Function, FunctionParts, Simple, SimpleParts, Vector,
+    VectorParts,
 };
 use blang::{Sizes, WORD_VALUES};
 use bword::{ByteIn, Edition, MemIn, Name};
 use std::alloc::Global;
+
+// The line of a string word.
+const STRING_LINE: NumberLine = NumberLine {
+    letter: b'w',
+    below: WORD_VALUES,
+};
 
 /// Reads a code text, all of it.
 ///
@@ -68,7 +76,7 @@ pub fn next_definition<I: ByteIn>(
 ) -> Result<Option<Definition>, CodeStop>
     ensures { DefinitionGives lines.old result lines.new }
 {
-    match lines.header()? {
+    match lines.read(HeaderLine)? {
         Header::Function {
             name,
             parameters,
@@ -99,9 +107,13 @@ fn function<I: ByteIn>(
     requires { IsHeaderWithin (headers.Function name parameters sizes) }
     ensures { BodyGives (headers.Function name parameters sizes) lines.old result lines.new }
 {
-    let targets = numbers(alloc, lines, b't', u32::from(sizes.code), sizes.labels)?;
-    let strings = numbers(alloc, lines, b'w', WORD_VALUES, sizes.strings)?;
-    let code = instrs(alloc, lines, sizes, sizes.code)?;
+    let target = NumberLine {
+        letter: b't',
+        below: u32::from(sizes.code),
+    };
+    let targets = several(alloc, lines, target, sizes.labels)?;
+    let strings = several(alloc, lines, STRING_LINE, sizes.strings)?;
+    let code = several(alloc, lines, InstrLine { sizes }, sizes.code)?;
     Ok(Definition::Function(Function::from_parts(FunctionParts {
         name,
         parameters,
@@ -122,8 +134,8 @@ fn simple<I: ByteIn>(
     requires { IsHeaderWithin (headers.Simple name count strings) }
     ensures { BodyGives (headers.Simple name count strings) lines.old result lines.new }
 {
-    let values = values(alloc, lines, strings, count)?;
-    let strings = numbers(alloc, lines, b'w', WORD_VALUES, strings)?;
+    let values = several(alloc, lines, IvalLine { strings }, count)?;
+    let strings = several(alloc, lines, STRING_LINE, strings)?;
     Ok(Definition::Simple(Simple::from_parts(SimpleParts {
         name,
         values,
@@ -142,8 +154,8 @@ fn vector<I: ByteIn>(
     requires { IsHeaderWithin (headers.Vector name words count strings) }
     ensures { BodyGives (headers.Vector name words count strings) lines.old result lines.new }
 {
-    let values = values(alloc, lines, strings, count)?;
-    let strings = numbers(alloc, lines, b'w', WORD_VALUES, strings)?;
+    let values = several(alloc, lines, IvalLine { strings }, count)?;
+    let strings = several(alloc, lines, STRING_LINE, strings)?;
     Ok(Definition::Vector(Vector::from_parts(VectorParts {
         name,
         words,
@@ -152,53 +164,19 @@ fn vector<I: ByteIn>(
     })))
 }
 
-fn numbers<I: ByteIn>(
+// So many lines of a form.
+fn several<I: ByteIn, F: LineForm>(
     alloc: Global,
     lines: &mut Stream<I>,
-    letter: u8,
-    below: u32,
+    form: F,
     count: u16,
-) -> Result<Vec<u16>, CodeStop>
-    requires letter { letter ≢ 10 }
-    requires below { below ≤ WORD_VALUES }
-    ensures { LinesGive (λ n. line ((letter ∷ []) ∷ decimal n ∷ [])) (λ n. n < below) (λ v. v.items) count
-        lines.old result lines.new }
-{
-    let mut numbers = Vec::with_capacity(alloc, usize::from(count))?;
-    for _ in 0..count {
-        numbers.push(lines.number(letter, below)?)?;
-    }
-    Ok(numbers)
-}
-
-fn values<I: ByteIn>(
-    alloc: Global,
-    lines: &mut Stream<I>,
-    strings: u16,
-    count: u16,
-) -> Result<Vec<Ival>, CodeStop>
-    ensures { LinesGive ival_line (IsIvalWithin strings) (λ v. v.items) count lines.old result
-        lines.new }
+) -> Result<Vec<F::Value>, CodeStop>
+    requires { IsForm (F.spell form) (F.within form) (F.reader form) }
+    ensures { LinesGive (F.spell form) (F.within form) (λ v. v.items) count lines.old result lines.new }
 {
     let mut values = Vec::with_capacity(alloc, usize::from(count))?;
     for _ in 0..count {
-        values.push(lines.ival(strings)?)?;
+        values.push(lines.read(form)?)?;
     }
     Ok(values)
-}
-
-fn instrs<I: ByteIn>(
-    alloc: Global,
-    lines: &mut Stream<I>,
-    sizes: Sizes,
-    count: u16,
-) -> Result<Vec<Instr>, CodeStop>
-    ensures { LinesGive instr_line (IsInstrWithin sizes) (λ v. v.items) count lines.old result
-        lines.new }
-{
-    let mut instrs = Vec::with_capacity(alloc, usize::from(count))?;
-    for _ in 0..count {
-        instrs.push(lines.instr(sizes)?)?;
-    }
-    Ok(instrs)
 }

@@ -1,17 +1,15 @@
 //! The lines of a text that comes byte by byte.
-ghost use Rattle.std.specs.Prelude.{ℕ, ◌≡◌, ◌≢◌, ◌<◌, ◌≤◌, ◌∷◌, [], decimal, length, OnOk};
+ghost use Rattle.std.specs.Prelude.{◌≡◌, ◌≤◌, length, OnOk};
 ghost use Rattle.bcode.specs.Ahead.{LineGives, EndGives};
-ghost use Rattle.blang.specs.CodeParts.{IsInstrWithin, IsIvalWithin};
-ghost use Rattle.bcode.specs.Headers.{header_text, IsHeaderWithin};
+ghost use Rattle.bcode.specs.LineReading.{IsForm};
 ghost use Rattle.bcode.specs.Streams.{TakingGives};
-ghost use Rattle.blang.specs.Text.{line, edition_line, instr_line, ival_line};
+ghost use Rattle.blang.specs.Text.{edition_line};
 
+use crate::CodeFault;
 use crate::code_stop::CodeStop;
-use crate::header::Header;
-use crate::lines::{header, instr, ival, number_line};
-use crate::{CodeFault, Instr, Ival};
+use crate::line_form::LineForm;
 use arrayvec::ArrayVec;
-use blang::{LINE_LEN, Sizes, WORD_VALUES};
+use blang::LINE_LEN;
 use bword::{ByteIn, Device};
 use std::marker::Model;
 
@@ -86,124 +84,37 @@ impl<I: ByteIn> Stream<I> {
         Ok(())
     }
 
-    /// The first line of a definition, or the last one of a code text.
+    /// The value in the next line, which has this form.
     #[inline(always)]
-    pub fn header(&mut self) -> Result<Header, CodeStop>
-        ensures { LineGives header_text IsHeaderWithin self.old result self.new }
+    pub fn read<F: LineForm>(&mut self, form: F) -> Result<F::Value, CodeStop>
+        requires { IsForm (F.spell form) (F.within form) (F.reader form) }
+        ensures { LineGives (F.spell form) (F.within form) self.old result self.new }
     {
         let ahead = self.input.ahead();
-        let Some((header, rest)) = header(ahead) else {
-            return Ok(self.fetch_header()?);
+        let Some(found) = form.read_from(ahead) else {
+            return Ok(self.fetch(form)?);
         };
-        let count = ahead.len() - rest.len();
-        self.input.take(count);
-        self.line += 1;
-        Ok(header)
-    }
-
-    /// An initial value, in a definition with this many string words.
-    #[inline(always)]
-    pub fn ival(&mut self, strings: u16) -> Result<Ival, CodeStop>
-        ensures { LineGives ival_line (IsIvalWithin strings) self.old result self.new }
-    {
-        let ahead = self.input.ahead();
-        let Some((value, rest)) = ival(ahead, strings) else {
-            return Ok(self.fetch_ival(strings)?);
-        };
+        let (value, rest) = found;
         let count = ahead.len() - rest.len();
         self.input.take(count);
         self.line += 1;
         Ok(value)
     }
 
-    /// An instruction, in a function of these sizes.
-    #[inline(always)]
-    pub fn instr(&mut self, sizes: Sizes) -> Result<Instr, CodeStop>
-        ensures { LineGives instr_line (IsInstrWithin sizes) self.old result self.new }
-    {
-        let ahead = self.input.ahead();
-        let Some((instr, rest)) = instr(ahead, sizes) else {
-            return Ok(self.fetch_instr(sizes)?);
-        };
-        let count = ahead.len() - rest.len();
-        self.input.take(count);
-        self.line += 1;
-        Ok(instr)
-    }
-
-    /// The number in a line with this letter, which is below the bound.
-    #[inline(always)]
-    pub fn number(&mut self, letter: u8, below: u32) -> Result<u16, CodeStop>
-        requires letter { letter ≢ 10 }
-        requires below { below ≤ WORD_VALUES }
-        ensures { LineGives (λ n. line ((letter ∷ []) ∷ decimal n ∷ [])) (λ n. n < below) self.old result self.new }
-    {
-        let ahead = self.input.ahead();
-        let Some((n, rest)) = number_line(ahead, letter, below) else {
-            return Ok(self.fetch_number(letter, below)?);
-        };
-        let count = ahead.len() - rest.len();
-        self.input.take(count);
-        self.line += 1;
-        Ok(n)
-    }
-}
-
-// A line that isn't whole among the bytes ahead, or that is none of a code text, is taken byte by byte.
-// The fast calls hand the answers of these on by `?`, so that the place where these write has no other use.
-impl<I: ByteIn> Stream<I> {
+    // The same of a line that isn't whole among the bytes ahead, or that is none of a code text: it is taken byte by
+    // byte. `read` hands the answer on by `?`, so that the place where this writes it has no other use.
     #[cold]
     #[inline(never)]
-    fn fetch_header(&mut self) -> Result<Header, CodeStop>
-        ensures { LineGives header_text IsHeaderWithin self.old result self.new }
+    fn fetch<F: LineForm>(&mut self, form: F) -> Result<F::Value, CodeStop>
+        requires { IsForm (F.spell form) (F.within form) (F.reader form) }
+        ensures { LineGives (F.spell form) (F.within form) self.old result self.new }
     {
         read_line(&mut self.input, &mut self.bytes)?;
-        let Some((header, _)) = header(self.bytes.as_slice()) else {
+        let Some(found) = form.read_from(self.bytes.as_slice()) else {
             return Err(CodeStop::Fault(CodeFault::Line(self.line)));
         };
         self.line += 1;
-        Ok(header)
-    }
-
-    #[cold]
-    #[inline(never)]
-    fn fetch_ival(&mut self, strings: u16) -> Result<Ival, CodeStop>
-        ensures { LineGives ival_line (IsIvalWithin strings) self.old result self.new }
-    {
-        read_line(&mut self.input, &mut self.bytes)?;
-        let Some((value, _)) = ival(self.bytes.as_slice(), strings) else {
-            return Err(CodeStop::Fault(CodeFault::Line(self.line)));
-        };
-        self.line += 1;
-        Ok(value)
-    }
-
-    #[cold]
-    #[inline(never)]
-    fn fetch_instr(&mut self, sizes: Sizes) -> Result<Instr, CodeStop>
-        ensures { LineGives instr_line (IsInstrWithin sizes) self.old result self.new }
-    {
-        read_line(&mut self.input, &mut self.bytes)?;
-        let Some((instr, _)) = instr(self.bytes.as_slice(), sizes) else {
-            return Err(CodeStop::Fault(CodeFault::Line(self.line)));
-        };
-        self.line += 1;
-        Ok(instr)
-    }
-
-    #[cold]
-    #[inline(never)]
-    fn fetch_number(&mut self, letter: u8, below: u32) -> Result<u16, CodeStop>
-        requires letter { letter ≢ 10 }
-        requires below { below ≤ WORD_VALUES }
-        ensures { LineGives (λ n. line ((letter ∷ []) ∷ decimal n ∷ [])) (λ n. n < below) self.old result self.new }
-    {
-        read_line(&mut self.input, &mut self.bytes)?;
-        let Some((n, _)) = number_line(self.bytes.as_slice(), letter, below) else {
-            return Err(CodeStop::Fault(CodeFault::Line(self.line)));
-        };
-        self.line += 1;
-        Ok(n)
+        Ok(found.0)
     }
 }
 

@@ -19,10 +19,16 @@ use Rattle.bemit.specs.Trails.{Lines, Trail, trail, took, noted_at, trailed, tra
 use Rattle.bread.specs.Tokens.{Tokens, IsSingle, Runs, TokensFail, Advances, AdvancesTo, PassesOne, work}
 use Rattle.bread.specs.declared.halt.Halt.{Halt}
 use Rattle.bread.specs.declared.halt.Halt.TheVariants as halt
+use Rattle.bread.specs.declared.parser.Parser.{Parser}
 use Rattle.bread.specs.declared.operators.Prefix.{Prefix}
 use Rattle.bread.specs.declared.operators.Prefix.TheVariants as prefixes
 use Rattle.bread.specs.declared.operators.Suffix.{Suffix}
 use Rattle.bread.specs.declared.operators.Suffix.TheVariants as suffixes
+
+-- a call does with the tokens and the draft of a parser what is said of these
+abbrev pub Does : {I A : Type 0} → (Tokens → Draft → Result A Halt → Tokens → Draft → Type 0)
+    → Parser I → Result A Halt → Parser I → Type 0
+Does said old result new = said old.tokens old.draft result new.tokens new.draft
 
 -- Reading stops at the current token, or a read failed.
 abbrev pub Halts : {A : Type 0} → Reader A → Tokens → Halt → Tokens → Type 0

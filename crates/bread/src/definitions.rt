@@ -11,6 +11,7 @@ ghost use Rattle.bemit.specs.Drafts as drafts;
 ghost use Rattle.bemit.specs.Effects.{ival_done, values_done, parameters_done};
 ghost use Rattle.bemit.specs.Trails.{took, trailed_name, trailed_value, trailed_values, trailed_parameters};
 ghost use Rattle.bread.specs.Tokens.{IsLoaded, IsSingle};
+ghost use Rattle.bread.specs.Parsers.{Does};
 ghost use Rattle.bread.specs.Compiling.{untold, CompilesPart};
 ghost use Rattle.bread.specs.Definitions.{TakesValue, initial_value_list, parameters, FindsList, FindsKind, FindsDefinition, definition_begun};
 
@@ -64,7 +65,7 @@ fn begin(draft: &mut Draft, word: Word, is_defined: bool)
 // What stands after the name.
 fn after_name<I: ByteIn>(parser: &mut Parser<I>) -> Result<HeadKind, Halt>
     requires { IsLoaded parser.old.tokens }
-    ensures { FindsKind (λ t. t) after_name parser.old.tokens parser.old.draft result parser.new.tokens parser.new.draft }
+    ensures { Does (FindsKind (λ t. t) after_name) parser.old result parser.new }
 {
     match parser.tokens.lexeme() {
         Lexeme::OpenBracket => {
@@ -86,7 +87,7 @@ fn after_name<I: ByteIn>(parser: &mut Parser<I>) -> Result<HeadKind, Halt>
 // What stands after an opening bracket.
 fn vector<I: ByteIn>(parser: &mut Parser<I>) -> Result<HeadKind, Halt>
     requires { IsSingle parser.old.tokens }
-    ensures { FindsKind took vector parser.old.tokens parser.old.draft result parser.new.tokens parser.new.draft }
+    ensures { Does (FindsKind took vector) parser.old result parser.new }
 {
     let size = size(parser)?;
     parser.expect(Mark::CloseBracket)?;
@@ -111,7 +112,7 @@ fn constant_of(size: Option<u16>) -> u32
 // What stands after the parenthesis that opens the parameters.
 fn function<I: ByteIn>(parser: &mut Parser<I>) -> Result<HeadKind, Halt>
     requires { IsLoaded parser.old.tokens }
-    ensures { FindsKind took function parser.old.tokens parser.old.draft result parser.new.tokens parser.new.draft }
+    ensures { Does (FindsKind took function) parser.old result parser.new }
 {
     let parameters = parameters(parser)?;
     statement(parser, NESTING)?;
@@ -124,7 +125,7 @@ fn function<I: ByteIn>(parser: &mut Parser<I>) -> Result<HeadKind, Halt>
 // A parameter.
 fn parameter<I: ByteIn>(parser: &mut Parser<I>) -> Result<(), Halt>
     requires { IsLoaded parser.old.tokens }
-    ensures { CompilesPart (untold name) (λ w d. drafts.declared w None d) trailed_name parser.old.tokens parser.old.draft result parser.new.tokens parser.new.draft }
+    ensures { Does (CompilesPart (untold name) (λ w d. drafts.declared w None d) trailed_name) parser.old result parser.new }
 {
     let word = name(parser)?;
     parser.draft.declare(word.name, word.line, None);
@@ -134,7 +135,7 @@ fn parameter<I: ByteIn>(parser: &mut Parser<I>) -> Result<(), Halt>
 // The names of the parameters, if any, and the parenthesis after them.
 fn parameters<I: ByteIn>(parser: &mut Parser<I>) -> Result<u16, Halt>
     requires { IsLoaded parser.old.tokens }
-    ensures { FindsList parameters parameters_done trailed_parameters MOST_COUNTED parser.old.tokens parser.old.draft result parser.new.tokens parser.new.draft }
+    ensures { Does (FindsList parameters parameters_done trailed_parameters MOST_COUNTED) parser.old result parser.new }
 {
     if parser.tokens.is_at(Mark::CloseParen) {
         parser.tokens.advance()?;
@@ -156,7 +157,7 @@ fn valued<I: ByteIn>(parser: &mut Parser<I>, place: u16, value: Ival) -> Result<
     requires loaded { IsLoaded parser.old.tokens }
     requires goes_on { is_last (first parser.old.tokens.ahead) ≡ false }
     requires place { place ≤ MAX_INSTRUCTIONS }
-    ensures { TakesValue value place parser.old.tokens parser.old.draft result parser.new.tokens parser.new.draft }
+    ensures { Does (TakesValue value place) parser.old result parser.new }
 {
     parser.tokens.take(place)?;
     parser.draft.value(value);
@@ -166,7 +167,7 @@ fn valued<I: ByteIn>(parser: &mut Parser<I>, place: u16, value: Ival) -> Result<
 // An initial value.
 fn value<I: ByteIn>(parser: &mut Parser<I>) -> Result<(), Halt>
     requires { IsLoaded parser.old.tokens }
-    ensures { CompilesPart ival (λ v d. ival_done d v) trailed_value parser.old.tokens parser.old.draft result parser.new.tokens parser.new.draft }
+    ensures { Does (CompilesPart ival (λ v d. ival_done d v) trailed_value) parser.old result parser.new }
 {
     parser.see();
     let place = parser.draft.value_place();
@@ -184,7 +185,7 @@ fn value<I: ByteIn>(parser: &mut Parser<I>) -> Result<(), Halt>
 // The initial values, if any, and a semicolon.
 fn values<I: ByteIn>(parser: &mut Parser<I>) -> Result<u32, Halt>
     requires { IsLoaded parser.old.tokens }
-    ensures { FindsList initial_value_list values_done trailed_values 4294967295 parser.old.tokens parser.old.draft result parser.new.tokens parser.new.draft }
+    ensures { Does (FindsList initial_value_list values_done trailed_values 4294967295) parser.old result parser.new }
 {
     if parser.tokens.is_at(Mark::Semicolon) {
         parser.tokens.advance()?;

@@ -9,6 +9,7 @@ ghost use Rattle.bemit.specs.Effects.{headed};
 ghost use Rattle.bemit.specs.Trails.{trailed_declared, trailed_name, trailed_heading};
 ghost use Rattle.bread.specs.Tokens.{IsLoaded, IsSingle};
 ghost use Rattle.bread.specs.Headings.{auto, extrn, case, default};
+ghost use Rattle.bread.specs.Parsers.{Does};
 ghost use Rattle.bread.specs.Compiling.{untold, CompilesPart, FindsHeading};
 
 use crate::take::{constant, name, size};
@@ -20,7 +21,7 @@ use bword::{ByteIn, Name};
 // A name of `auto`.
 fn automatic<I: ByteIn>(parser: &mut Parser<I>) -> Result<(), Halt>
     requires { IsLoaded parser.old.tokens }
-    ensures { CompilesPart (untold declared) (λ d. drafts.declared d.word d.size) trailed_declared parser.old.tokens parser.old.draft result parser.new.tokens parser.new.draft }
+    ensures { Does (CompilesPart (untold declared) (λ d. drafts.declared d.word d.size) trailed_declared) parser.old result parser.new }
 {
     let word = name(parser)?;
     let size = size(parser)?;
@@ -31,7 +32,7 @@ fn automatic<I: ByteIn>(parser: &mut Parser<I>) -> Result<(), Halt>
 // A name of `extrn`.
 fn external<I: ByteIn>(parser: &mut Parser<I>) -> Result<(), Halt>
     requires { IsLoaded parser.old.tokens }
-    ensures { CompilesPart (untold name) imported trailed_name parser.old.tokens parser.old.draft result parser.new.tokens parser.new.draft }
+    ensures { Does (CompilesPart (untold name) imported trailed_name) parser.old result parser.new }
 {
     let word = name(parser)?;
     parser.draft.import(word.name, word.line);
@@ -41,7 +42,7 @@ fn external<I: ByteIn>(parser: &mut Parser<I>) -> Result<(), Halt>
 // The names after `auto`.
 fn auto<I: ByteIn>(parser: &mut Parser<I>) -> Result<(), Halt>
     requires { IsLoaded parser.old.tokens }
-    ensures { CompilesPart (untold auto) headed trailed_heading parser.old.tokens parser.old.draft result parser.new.tokens parser.new.draft }
+    ensures { Does (CompilesPart (untold auto) headed trailed_heading) parser.old result parser.new }
 {
     automatic(parser)?;
     'names: while parser.tokens.is_at(Mark::Comma) {
@@ -54,7 +55,7 @@ fn auto<I: ByteIn>(parser: &mut Parser<I>) -> Result<(), Halt>
 // The names after `extrn`.
 fn extrn<I: ByteIn>(parser: &mut Parser<I>) -> Result<(), Halt>
     requires { IsLoaded parser.old.tokens }
-    ensures { CompilesPart (untold extrn) headed trailed_heading parser.old.tokens parser.old.draft result parser.new.tokens parser.new.draft }
+    ensures { Does (CompilesPart (untold extrn) headed trailed_heading) parser.old result parser.new }
 {
     external(parser)?;
     'names: while parser.tokens.is_at(Mark::Comma) {
@@ -67,7 +68,7 @@ fn extrn<I: ByteIn>(parser: &mut Parser<I>) -> Result<(), Halt>
 // The constant after a `case` on this line.
 fn case<I: ByteIn>(parser: &mut Parser<I>, line: u64) -> Result<(), Halt>
     requires { IsSingle parser.old.tokens }
-    ensures { CompilesPart (untold (case line)) headed trailed_heading parser.old.tokens parser.old.draft result parser.new.tokens parser.new.draft }
+    ensures { Does (CompilesPart (untold (case line)) headed trailed_heading) parser.old result parser.new }
 {
     let value = constant(parser)?;
     parser.expect(Mark::Colon)?;
@@ -78,7 +79,7 @@ fn case<I: ByteIn>(parser: &mut Parser<I>, line: u64) -> Result<(), Halt>
 // What stands after a `default` on this line.
 fn default<I: ByteIn>(parser: &mut Parser<I>, line: u64) -> Result<(), Halt>
     requires { IsSingle parser.old.tokens }
-    ensures { CompilesPart (untold (default line)) headed trailed_heading parser.old.tokens parser.old.draft result parser.new.tokens parser.new.draft }
+    ensures { Does (CompilesPart (untold (default line)) headed trailed_heading) parser.old result parser.new }
 {
     parser.expect(Mark::Colon)?;
     parser.draft.default(line);
@@ -89,7 +90,7 @@ fn default<I: ByteIn>(parser: &mut Parser<I>, line: u64) -> Result<(), Halt>
 fn label<I: ByteIn>(parser: &mut Parser<I>, name: Name) -> Result<bool, Halt>
     requires loaded { IsLoaded parser.old.tokens }
     requires name { first parser.old.tokens.ahead ≡ token.Name name }
-    ensures { FindsHeading parser.old.tokens parser.old.draft result parser.new.tokens parser.new.draft }
+    ensures { Does FindsHeading parser.old result parser.new }
 {
     let line = parser.tokens.line();
     parser.tokens.look_on()?;
@@ -106,7 +107,7 @@ fn label<I: ByteIn>(parser: &mut Parser<I>, name: Name) -> Result<bool, Halt>
 fn headed<I: ByteIn>(parser: &mut Parser<I>, keyword: Keyword) -> Result<bool, Halt>
     requires loaded { IsLoaded parser.old.tokens }
     requires keyword { first parser.old.tokens.ahead ≡ token.Keyword keyword }
-    ensures { FindsHeading parser.old.tokens parser.old.draft result parser.new.tokens parser.new.draft }
+    ensures { Does FindsHeading parser.old result parser.new }
 {
     let line = parser.tokens.line();
     match keyword {
@@ -137,7 +138,7 @@ fn headed<I: ByteIn>(parser: &mut Parser<I>, keyword: Keyword) -> Result<bool, H
 /// Takes a heading, if one comes, and says whether it did.
 pub fn heading<I: ByteIn>(parser: &mut Parser<I>) -> Result<bool, Halt>
     requires { IsLoaded parser.old.tokens }
-    ensures { FindsHeading parser.old.tokens parser.old.draft result parser.new.tokens parser.new.draft }
+    ensures { Does FindsHeading parser.old result parser.new }
 {
     parser.see();
     match parser.tokens.lexeme() {

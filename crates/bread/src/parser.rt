@@ -16,7 +16,7 @@ ghost use Rattle.bread.specs.Marks.{is_mark};
 ghost use Rattle.bread.specs.Tokens.{all_tokens, is_name, IsLoaded, IsSingle, work};
 ghost use Rattle.bemit.specs.declared.form.Form.TheVariants.{Lone};
 ghost use Rattle.blang.specs.declared.token.Token.TheVariants as token;
-ghost use Rattle.bread.specs.Parsers.{called_at, prefix_meant, prefix_form, suffix_meant, assigned_at, Follows, Continues, Evaluates, Passes, Expects, ExpectsTo, Enters, TakesCurrent};
+ghost use Rattle.bread.specs.Parsers.{Does, called_at, prefix_meant, prefix_form, suffix_meant, assigned_at, Follows, Continues, Evaluates, Passes, Expects, ExpectsTo, Enters, TakesCurrent};
 
 use crate::halt::Halt;
 use crate::mark::Mark;
@@ -182,7 +182,7 @@ impl<I: ByteIn> Parser<I> {
     fn mention(&mut self, name: Name) -> Result<Form, Halt>
         requires loaded { IsLoaded self.old.tokens }
         requires here { first self.old.tokens.ahead ≡ token.Name name }
-        ensures { (room : ℕ) → Follows (primary (inner room)) (called_at self.new.tokens) self.old.tokens self.old.draft result self.new.tokens self.new.draft }
+        ensures { (room : ℕ) → Does (Follows (primary (inner room)) (called_at self.new.tokens)) self.old result self.new }
     {
         let line = self.tokens.line();
         self.tokens.take(self.draft.place())?;
@@ -194,7 +194,7 @@ impl<I: ByteIn> Parser<I> {
     fn atom(&mut self) -> Result<Form, Halt>
         requires loaded { IsLoaded self.old.tokens }
         requires no_group { is_open_paren (first self.old.tokens.ahead) ≡ false }
-        ensures { (room : ℕ) → Follows (primary (inner room)) (called_at self.new.tokens) self.old.tokens self.old.draft result self.new.tokens self.new.draft }
+        ensures { (room : ℕ) → Does (Follows (primary (inner room)) (called_at self.new.tokens)) self.old result self.new }
     {
         self.see();
         let place = self.draft.place();
@@ -235,7 +235,7 @@ impl<I: ByteIn> Parser<I> {
     #[cycle(expressions)]
     fn primary(&mut self, room: u8) -> Result<Form, Halt>
         requires { IsLoaded self.old.tokens }
-        ensures { Follows (primary (inner room)) (called_at self.new.tokens) self.old.tokens self.old.draft result self.new.tokens self.new.draft }
+        ensures { Does (Follows (primary (inner room)) (called_at self.new.tokens)) self.old result self.new }
     {
         if !self.tokens.is_at(Mark::OpenParen) {
             return self.atom();
@@ -250,7 +250,7 @@ impl<I: ByteIn> Parser<I> {
     #[cycle(expressions)]
     fn postfix(&mut self, room: u8) -> Result<Form, Halt>
         requires { IsLoaded self.old.tokens }
-        ensures { Follows (postfix (inner room)) false self.old.tokens self.old.draft result self.new.tokens self.new.draft }
+        ensures { Does (Follows (postfix (inner room)) false) self.old result self.new }
     {
         let mut form = self.primary(room)?;
         'suffixes: while let Some(next) = suffix_of(self.tokens.lexeme()) {
@@ -264,7 +264,7 @@ impl<I: ByteIn> Parser<I> {
     fn suffixed(&mut self, room: u8, next: Suffix, form: Form) -> Result<Form, Halt>
         requires loaded { IsLoaded self.old.tokens }
         requires here { suffix (first self.old.tokens.ahead) ≡ Some (suffix_meant next) }
-        ensures tree { Continues (λ offset e. postfix_with (inner room) offset (suffix_meant next) e) (called_at self.old.tokens) form (called_at self.new.tokens) self.old.tokens self.old.draft result self.new.tokens self.new.draft }
+        ensures tree { Does (Continues (λ offset e. postfix_with (inner room) offset (suffix_meant next) e) (called_at self.old.tokens) form (called_at self.new.tokens)) self.old result self.new }
         ensures falls { OnOk result (work self.new.tokens + 1 ≤ work self.old.tokens) }
     {
         match next {
@@ -292,7 +292,7 @@ impl<I: ByteIn> Parser<I> {
     #[cycle(expressions)]
     fn arguments(&mut self, room: u8) -> Result<u16, Halt>
         requires { IsLoaded self.old.tokens }
-        ensures { Passes (call (inner (room + 1))) self.old.tokens self.old.draft result self.new.tokens self.new.draft }
+        ensures { Does (Passes (call (inner (room + 1)))) self.old result self.new }
     {
         if self.tokens.is_at(Mark::CloseParen) {
             self.tokens.advance()?;
@@ -313,7 +313,7 @@ impl<I: ByteIn> Parser<I> {
     #[cycle(expressions)]
     fn operand(&mut self, room: u8) -> Result<Form, Halt>
         requires { IsLoaded self.old.tokens }
-        ensures { Follows (operand (inner room)) false self.old.tokens self.old.draft result self.new.tokens self.new.draft }
+        ensures { Does (Follows (operand (inner room)) false) self.old result self.new }
     {
         let token = self.tokens.taken();
         let line = self.tokens.line();
@@ -332,7 +332,7 @@ impl<I: ByteIn> Parser<I> {
     fn chain(&mut self, room: u8, rank: u8) -> Result<Form, Halt>
         requires loaded { IsLoaded self.old.tokens }
         requires rank { rank ≤ or_rank }
-        ensures { Follows (chain (inner room) rank) false self.old.tokens self.old.draft result self.new.tokens self.new.draft }
+        ensures { Does (Follows (chain (inner room) rank) false) self.old result self.new }
     {
         let mut form = self.operand(room)?;
         'operators: while let Some(op) = operator_within(rank, self.tokens.lexeme()) {
@@ -350,7 +350,7 @@ impl<I: ByteIn> Parser<I> {
     #[cycle(expressions)]
     fn conditional(&mut self, room: u8, form: Form) -> Result<Form, Halt>
         requires { IsSingle self.old.tokens }
-        ensures { Continues (conditional (inner room)) false form false self.old.tokens self.old.draft result self.new.tokens self.new.draft }
+        ensures { Does (Continues (conditional (inner room)) false form false) self.old result self.new }
     {
         if !self.tokens.is_at(Mark::Question) {
             return Ok(form);
@@ -377,7 +377,7 @@ impl<I: ByteIn> Parser<I> {
     #[cycle(expressions)]
     pub fn rvalue(&mut self, room: u8) -> Result<Form, Halt>
         requires { IsLoaded self.old.tokens }
-        ensures { Follows (reader room Rvalue) false self.old.tokens self.old.draft result self.new.tokens self.new.draft }
+        ensures { Does (Follows (reader room Rvalue) false) self.old result self.new }
     {
         let form = self.chain(room, LOOSEST)?;
         let line = self.tokens.line();
@@ -396,7 +396,7 @@ impl<I: ByteIn> Parser<I> {
     #[cycle(expressions)]
     pub fn evaluate(&mut self, room: u8) -> Result<(), Halt>
         requires { IsLoaded self.old.tokens }
-        ensures { Evaluates (reader room Rvalue) self.old.tokens self.old.draft result self.new.tokens self.new.draft }
+        ensures { Does (Evaluates (reader room Rvalue)) self.old result self.new }
     {
         let form = self.rvalue(room)?;
         load(&mut self.draft, form);

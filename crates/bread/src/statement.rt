@@ -15,6 +15,7 @@ ghost use Rattle.bemit.specs.Effects.{evaluated, done, all_done};
 ghost use Rattle.bemit.specs.Trails.{trailed_ended, trailed_condition, trailed_statement, trailed_through};
 ghost use Rattle.bread.specs.Tokens.{is_name, IsLoaded, IsSingle};
 ghost use Rattle.bread.specs.Headings.{unheaded};
+ghost use Rattle.bread.specs.Parsers.{Does};
 ghost use Rattle.bread.specs.Compiling.{untold, CompilesPart, CompilesAfter};
 ghost use Rattle.bread.specs.Statements.{after_current, rvalue_ended, evaluated_to, break_after, return_value, condition, conditional_after, repeated, statements, closed_loop, closed_switch, after_keyword, after_parenthesis, Chooses};
 
@@ -28,7 +29,7 @@ use bword::ByteIn;
 // A rvalue and a semicolon, and then an instruction.
 fn ended<I: ByteIn>(parser: &mut Parser<I>, room: u8, last: Instr) -> Result<(), Halt>
     requires { IsLoaded parser.old.tokens }
-    ensures { CompilesPart (rvalue_ended room) (evaluated_to last) trailed_ended parser.old.tokens parser.old.draft result parser.new.tokens parser.new.draft }
+    ensures { Does (CompilesPart (rvalue_ended room) (evaluated_to last) trailed_ended) parser.old result parser.new }
 {
     parser.evaluate(room)?;
     parser.expect(Mark::Semicolon)?;
@@ -39,7 +40,7 @@ fn ended<I: ByteIn>(parser: &mut Parser<I>, room: u8, last: Instr) -> Result<(),
 fn goto<I: ByteIn>(parser: &mut Parser<I>, room: u8) -> Result<(), Halt>
     requires loaded { IsLoaded parser.old.tokens }
     requires goes_on { is_last (first parser.old.tokens.ahead) ≡ false }
-    ensures { CompilesPart (after_current (λ off. reader.ended room off Goto)) done trailed_statement parser.old.tokens parser.old.draft result parser.new.tokens parser.new.draft }
+    ensures { Does (CompilesPart (after_current (λ off. reader.ended room off Goto)) done trailed_statement) parser.old result parser.new }
 {
     parser.tokens.advance()?;
     ended(parser, room, Instr::Goto)
@@ -48,7 +49,7 @@ fn goto<I: ByteIn>(parser: &mut Parser<I>, room: u8) -> Result<(), Halt>
 // What stands after a `break` on this line.
 fn broken<I: ByteIn>(parser: &mut Parser<I>, line: u64) -> Result<(), Halt>
     requires { IsSingle parser.old.tokens }
-    ensures { CompilesAfter after_keyword (untold (break_after line)) done trailed_statement parser.old.tokens parser.old.draft result parser.new.tokens parser.new.draft }
+    ensures { Does (CompilesAfter after_keyword (untold (break_after line)) done trailed_statement) parser.old result parser.new }
 {
     parser.expect(Mark::Semicolon)?;
     parser.draft.add_break(line);
@@ -58,7 +59,7 @@ fn broken<I: ByteIn>(parser: &mut Parser<I>, line: u64) -> Result<(), Halt>
 // The value of a `return`, after the parenthesis that opens it.
 fn return_value<I: ByteIn>(parser: &mut Parser<I>, room: u8) -> Result<(), Halt>
     requires { IsLoaded parser.old.tokens }
-    ensures { CompilesAfter after_parenthesis (return_value room) done trailed_statement parser.old.tokens parser.old.draft result parser.new.tokens parser.new.draft }
+    ensures { Does (CompilesAfter after_parenthesis (return_value room) done trailed_statement) parser.old result parser.new }
 {
     parser.evaluate(room)?;
     parser.expect(Mark::CloseParen)?;
@@ -70,7 +71,7 @@ fn return_value<I: ByteIn>(parser: &mut Parser<I>, room: u8) -> Result<(), Halt>
 // What stands after `return`.
 fn returned<I: ByteIn>(parser: &mut Parser<I>, room: u8) -> Result<(), Halt>
     requires { IsSingle parser.old.tokens }
-    ensures { CompilesAfter after_keyword (returned room) done trailed_statement parser.old.tokens parser.old.draft result parser.new.tokens parser.new.draft }
+    ensures { Does (CompilesAfter after_keyword (returned room) done trailed_statement) parser.old result parser.new }
 {
     if parser.tokens.is_at(Mark::OpenParen) {
         parser.tokens.advance()?;
@@ -85,7 +86,7 @@ fn returned<I: ByteIn>(parser: &mut Parser<I>, room: u8) -> Result<(), Halt>
 // A condition in its parentheses.
 fn condition<I: ByteIn>(parser: &mut Parser<I>, room: u8) -> Result<(), Halt>
     requires { IsSingle parser.old.tokens }
-    ensures { CompilesPart (condition room) evaluated trailed_condition parser.old.tokens parser.old.draft result parser.new.tokens parser.new.draft }
+    ensures { Does (CompilesPart (condition room) evaluated trailed_condition) parser.old result parser.new }
 {
     parser.expect(Mark::OpenParen)?;
     parser.evaluate(room)?;
@@ -153,7 +154,7 @@ fn goes_on(lexeme: Lexeme) -> bool
 #[cycle(statements)]
 pub fn statement<I: ByteIn>(parser: &mut Parser<I>, room: u8) -> Result<(), Halt>
     requires { IsLoaded parser.old.tokens }
-    ensures { CompilesPart (statement room) done trailed_statement parser.old.tokens parser.old.draft result parser.new.tokens parser.new.draft }
+    ensures { Does (CompilesPart (statement room) done trailed_statement) parser.old result parser.new }
 {
     'headings: while heading(parser)? {}
     unheaded(parser, room)
@@ -163,7 +164,7 @@ pub fn statement<I: ByteIn>(parser: &mut Parser<I>, room: u8) -> Result<(), Halt
 #[cycle(statements)]
 fn unheaded<I: ByteIn>(parser: &mut Parser<I>, room: u8) -> Result<(), Halt>
     requires { IsLoaded parser.old.tokens }
-    ensures { CompilesPart (unheaded room) done trailed_statement parser.old.tokens parser.old.draft result parser.new.tokens parser.new.draft }
+    ensures { Does (CompilesPart (unheaded room) done trailed_statement) parser.old result parser.new }
 {
     match parser.tokens.lexeme() {
         Lexeme::OpenBrace => compound(parser, room),
@@ -181,7 +182,7 @@ fn unheaded<I: ByteIn>(parser: &mut Parser<I>, room: u8) -> Result<(), Halt>
 fn keyed<I: ByteIn>(parser: &mut Parser<I>, room: u8, keyword: Keyword) -> Result<(), Halt>
     requires loaded { IsLoaded parser.old.tokens }
     requires keyword { first parser.old.tokens.ahead ≡ token.Keyword keyword }
-    ensures { CompilesPart (unheaded room) done trailed_statement parser.old.tokens parser.old.draft result parser.new.tokens parser.new.draft }
+    ensures { Does (CompilesPart (unheaded room) done trailed_statement) parser.old result parser.new }
 {
     let line = parser.tokens.line();
     match keyword {
@@ -207,7 +208,7 @@ fn compound<I: ByteIn>(parser: &mut Parser<I>, room: u8) -> Result<(), Halt>
     requires loaded { IsLoaded parser.old.tokens }
     requires no_name { is_name (first parser.old.tokens.ahead) ≡ false }
     requires goes_on { is_last (first parser.old.tokens.ahead) ≡ false }
-    ensures { CompilesPart (compound (level room)) done trailed_statement parser.old.tokens parser.old.draft result parser.new.tokens parser.new.draft }
+    ensures { Does (CompilesPart (compound (level room)) done trailed_statement) parser.old result parser.new }
 {
     let room = parser.enter(room)?;
     body(parser, room)
@@ -217,7 +218,7 @@ fn compound<I: ByteIn>(parser: &mut Parser<I>, room: u8) -> Result<(), Halt>
 #[cycle(statements)]
 fn body<I: ByteIn>(parser: &mut Parser<I>, room: u8) -> Result<(), Halt>
     requires { IsSingle parser.old.tokens }
-    ensures { CompilesPart (statements room) all_done trailed_through parser.old.tokens parser.old.draft result parser.new.tokens parser.new.draft }
+    ensures { Does (CompilesPart (statements room) all_done trailed_through) parser.old result parser.new }
 {
     'statements: while goes_on(parser.tokens.lexeme()) {
         statement(parser, room)?;
@@ -232,7 +233,7 @@ fn conditional<I: ByteIn>(parser: &mut Parser<I>, room: u8) -> Result<(), Halt>
     requires loaded { IsLoaded parser.old.tokens }
     requires no_name { is_name (first parser.old.tokens.ahead) ≡ false }
     requires goes_on { is_last (first parser.old.tokens.ahead) ≡ false }
-    ensures { CompilesPart (conditional_after room) done trailed_statement parser.old.tokens parser.old.draft result parser.new.tokens parser.new.draft }
+    ensures { Does (CompilesPart (conditional_after room) done trailed_statement) parser.old result parser.new }
 {
     let room = parser.enter(room)?;
     condition(parser, room)?;
@@ -246,7 +247,7 @@ fn conditional<I: ByteIn>(parser: &mut Parser<I>, room: u8) -> Result<(), Halt>
 #[cycle(statements)]
 fn otherwise<I: ByteIn>(parser: &mut Parser<I>, room: u8, test: u16) -> Result<(), Halt>
     requires { IsSingle parser.old.tokens }
-    ensures { Chooses room test parser.old.tokens parser.old.draft result parser.new.tokens parser.new.draft }
+    ensures { Does (Chooses room test) parser.old result parser.new }
 {
     if !parser.tokens.is_at(Mark::Else) {
         skip_to_here(&mut parser.draft, test);
@@ -267,7 +268,7 @@ fn repeated<I: ByteIn>(parser: &mut Parser<I>, room: u8) -> Result<(), Halt>
     requires loaded { IsLoaded parser.old.tokens }
     requires no_name { is_name (first parser.old.tokens.ahead) ≡ false }
     requires goes_on { is_last (first parser.old.tokens.ahead) ≡ false }
-    ensures { CompilesPart (repeated room) done trailed_statement parser.old.tokens parser.old.draft result parser.new.tokens parser.new.draft }
+    ensures { Does (CompilesPart (repeated room) done trailed_statement) parser.old result parser.new }
 {
     let token = parser.tokens.taken();
     let line = parser.tokens.line();
@@ -291,7 +292,7 @@ fn switched<I: ByteIn>(parser: &mut Parser<I>, room: u8) -> Result<(), Halt>
     requires loaded { IsLoaded parser.old.tokens }
     requires no_name { is_name (first parser.old.tokens.ahead) ≡ false }
     requires goes_on { is_last (first parser.old.tokens.ahead) ≡ false }
-    ensures { CompilesPart (switched (level room)) done trailed_statement parser.old.tokens parser.old.draft result parser.new.tokens parser.new.draft }
+    ensures { Does (CompilesPart (switched (level room)) done trailed_statement) parser.old result parser.new }
 {
     let token = parser.tokens.taken();
     let line = parser.tokens.line();

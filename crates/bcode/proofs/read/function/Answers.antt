@@ -1,4 +1,4 @@
-use Rattle.std.proofs.Common.{subst, sym, ◌≡◌, ℕ, ◌<◌, true, Vec, Global, Err, ap, replicate, ◌++◌}
+use Rattle.std.proofs.Common.{arith, subst, sym, ◌≡◌, ℕ, ◌<◌, true, Vec, Global, Err, ap, replicate, ◌++◌}
 use Rattle.std.specs.Prelude.{All}
 use Rattle.bcode.specs.Ahead.{ReadsLines, LinesGive}
 use Rattle.blang.specs.CodeParts.{IsWord, IsInstrWithin}
@@ -10,20 +10,30 @@ use Rattle.blang.specs.declared.code.Instr.{Instr}
 use Rattle.bcode.specs.declared.header.Header.TheVariants as header
 use Rattle.bcode.proofs.BodyLaws.{ends_among, ends_among_last, ends_after, body_exit, three_passed}
 use Rattle.bcode.proofs.CodeLaws.{of_target, of_string, of_instr, same_sizes, function_within}
+use Rattle.bcode.proofs.FormLaws.{number_form, instr_form}
 use Rattle.bcode.proofs.read.function.Goals as goal
+
+pub several-requires : goal.several-requires
+several-requires g c = number_form 116 _ (omega arith) (omega arith)
+
+pub several-requires-2 : goal.several-requires-2
+several-requires-2 g c = number_form 119 _ (omega arith) (omega arith)
+
+pub several-requires-3 : goal.several-requires-3
+several-requires-3 g c = instr_form c.args.sizes record { frame = omega arith; labels = omega arith; strings = omega arith; code = omega arith }
 
 pub returns-in_err-targets : goal.returns-in_err-targets
 returns-in_err-targets g c =
     let s = c.args.sizes in
     body_exit _ _ _ _ _ c.from_residual.ensures.1
     (ends_among target_line (λ n. n < s.code) (target s.code) (of_target s.code) (λ l x. x) (λ (v : Vec ℕ Global). v.items) _ _ s.labels (replicate s.strings string ++ replicate s.code (instruction s)) _
-    (subst (λ (b : ℕ). LinesGive target_line (λ n. n < b) (λ (v : Vec ℕ Global). v.items) s.labels c.args.lines.now (Err c.in_err-targets.field-0.0) c.numbers.new.lines)
+    (subst (λ (b : ℕ). LinesGive target_line (λ n. n < b) (λ (v : Vec ℕ Global). v.items) s.labels c.args.lines.now (Err c.in_err-targets.field-0.0) c.several.new.lines)
     c.from.ensures c.in_err-targets.ensures))
 
 pub returns-in_err-strings : goal.returns-in_err-strings
 returns-in_err-strings g c =
     let s = c.args.sizes in
-    let t = subst (λ (b : ℕ). ReadsLines target_line (λ n. n < b) s.labels c.args.lines.now c.in_ok-targets.targets.items c.numbers.new.lines) c.from.ensures c.in_ok-targets.ensures in
+    let t = subst (λ (b : ℕ). ReadsLines target_line (λ n. n < b) s.labels c.args.lines.now c.in_ok-targets.targets.items c.several.new.lines) c.from.ensures c.in_ok-targets.ensures in
     body_exit _ _ _ _ _ c.from_residual-in_err-strings.ensures.1
     (ends_after target_line (λ n. n < s.code) (target s.code) (of_target s.code) _ s.labels (replicate s.strings string ++ replicate s.code (instruction s)) _ t
     (ends_among string_line IsWord string of_string (λ l x. x) (λ (v : Vec ℕ Global). v.items) _ _ s.strings (replicate s.code (instruction s)) _ c.in_err-strings.ensures))
@@ -31,7 +41,7 @@ returns-in_err-strings g c =
 pub returns-in_err-code : goal.returns-in_err-code
 returns-in_err-code g c =
     let s = c.args.sizes in
-    let t = subst (λ (b : ℕ). ReadsLines target_line (λ n. n < b) s.labels c.args.lines.now c.in_ok-targets.targets.items c.numbers.new.lines) c.from.ensures c.in_ok-targets.ensures in
+    let t = subst (λ (b : ℕ). ReadsLines target_line (λ n. n < b) s.labels c.args.lines.now c.in_ok-targets.targets.items c.several.new.lines) c.from.ensures c.in_ok-targets.ensures in
     body_exit _ _ _ _ _ c.from_residual-in_err-code.ensures.1
     (ends_after target_line (λ n. n < s.code) (target s.code) (of_target s.code) _ s.labels (replicate s.strings string ++ replicate s.code (instruction s)) _ t
     (ends_after string_line IsWord string of_string _ s.strings (replicate s.code (instruction s)) _ c.in_ok-strings.ensures
@@ -40,7 +50,7 @@ returns-in_err-code g c =
 pub from_parts-requires : goal.from_parts-requires
 from_parts-requires g c =
     let s = c.args.sizes in
-    let t = subst (λ (b : ℕ). ReadsLines target_line (λ n. n < b) s.labels c.args.lines.now c.in_ok-targets.targets.items c.numbers.new.lines) c.from.ensures c.in_ok-targets.ensures in
+    let t = subst (λ (b : ℕ). ReadsLines target_line (λ n. n < b) s.labels c.args.lines.now c.in_ok-targets.targets.items c.several.new.lines) c.from.ensures c.in_ok-targets.ensures in
     let w = c.in_ok-strings.ensures in
     let k = c.in_ok-code.ensures in
     let sizes = same_sizes s _ _ _ t.all w.all k.all in
@@ -51,7 +61,7 @@ from_parts-requires g c =
 pub returns : goal.returns
 returns g c =
     let s = c.args.sizes in
-    let t = subst (λ (b : ℕ). ReadsLines target_line (λ n. n < b) s.labels c.args.lines.now c.in_ok-targets.targets.items c.numbers.new.lines) c.from.ensures c.in_ok-targets.ensures in
+    let t = subst (λ (b : ℕ). ReadsLines target_line (λ n. n < b) s.labels c.args.lines.now c.in_ok-targets.targets.items c.several.new.lines) c.from.ensures c.in_ok-targets.ensures in
     let w = c.in_ok-strings.ensures in
     let k = c.in_ok-code.ensures in
     record {

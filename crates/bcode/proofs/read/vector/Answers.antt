@@ -1,4 +1,4 @@
-use Rattle.std.proofs.Common.{subst, sym, Vec, Global, ℕ, refl, replicate}
+use Rattle.std.proofs.Common.{arith, subst, sym, Vec, Global, ℕ, refl, replicate}
 use Rattle.std.specs.Prelude.{All}
 use Rattle.blang.specs.CodeParts.{IsWord, IsIvalWithin}
 use Rattle.bcode.specs.Stopping.{value, string}
@@ -6,7 +6,14 @@ use Rattle.blang.specs.Text.{string_line, ival_line}
 use Rattle.blang.specs.declared.code.Ival.{Ival}
 use Rattle.bcode.proofs.BodyLaws.{ends_among, ends_among_last, ends_after, body_exit, two_passed}
 use Rattle.bcode.proofs.CodeLaws.{of_value, of_string, vector_within}
+use Rattle.bcode.proofs.FormLaws.{number_form, ival_form}
 use Rattle.bcode.proofs.read.vector.Goals as goal
+
+pub several-requires : goal.several-requires
+several-requires g c = ival_form c.args.strings (omega arith)
+
+pub several-requires-2 : goal.several-requires-2
+several-requires-2 g c = number_form 119 _ (omega arith) (omega arith)
 
 pub returns-in_err-values : goal.returns-in_err-values
 returns-in_err-values g c =
