@@ -35,18 +35,6 @@ one_more known before d left rest ds old new is none more d_none split all = (
   append_assoc before (d ∷ []) rest ∙ ap (λ es. before ++ es) (sym split) ∙ all,
 )
 
-pub loop-definition-preserved-in_ok-add : goal.loop-definition-preserved-in_ok-add
-loop-definition-preserved-in_ok-add c =
-    let i = c.loop-definition.invariant in
-    let m = one_more (known_in c.args.addresses.now) c.loop-definition.yielded c.in-Some.definition c.loop-definition.definition-iterator.rest.items c.next.new.self.rest.items c.args.definitions.items (part_of c.loop-definition.part) (part_of c.add.new.self) i.part i.defined c.in_ok-add.ensures.0 c.in_ok-add.ensures.1 c.in-Some.ensures.steps.0 i.all in
-    record { part = m.0; defined = m.1; all = m.2 }
-
-pub loop-definition-preserved-in_ok-add-2 : goal.loop-definition-preserved-in_ok-add-2
-loop-definition-preserved-in_ok-add-2 c =
-    let i = c.loop-definition.invariant in
-    let m = one_more (known_in c.args.addresses.now) c.loop-definition.yielded c.in-Some.definition c.loop-definition.definition-iterator.rest.items c.next.new.self.rest.items c.args.definitions.items (part_of c.loop-definition.part) (part_of c.add.new.self) i.part i.defined c.in_ok-add.ensures.0 c.in_ok-add.ensures.1 c.in-Some.ensures.steps.0 i.all in
-    record { part = m.0; defined = m.1; all = m.2 }
-
 pub loop-definition-preserved : goal.loop-definition-preserved
 loop-definition-preserved c =
     let i = c.loop-definition.invariant in
