@@ -5,22 +5,6 @@ use Rattle.brun.proofs.migrating.write_definitions.Goals as goal
 pub definitions-init : goal.definitions-init
 definitions-init g c = (passing_none c.args.reader.now (g.O.ByteOut.outgoing c.args.out.now) c.requires.since, refl)
 
-pub definitions-preserved-in_ok-write_definition-in-Definition : goal.definitions-preserved-in_ok-write_definition-in-Definition
-definitions-preserved-in_ok-write_definition-in-Definition g c = (
-  passing_more _ _ _ _ _ c.requires.edition c.definitions.invariant.0 c.in-Definition.ensures.keeps c.in-Definition.definition _
-      (c.in-Definition.ensures.gives.1 c.definitions.invariant.0.definitions c.definitions.invariant.0.since)
-      (rw c.view.ensures.same at c.in_ok-write_definition-in-Definition.ensures.gives),
-  c.in_ok-write_definition-in-Definition.ensures.same ∙ c.definitions.invariant.1,
-)
-
-pub definitions-preserved-in_ok-write_definition-in-Definition-2 : goal.definitions-preserved-in_ok-write_definition-in-Definition-2
-definitions-preserved-in_ok-write_definition-in-Definition-2 g c = (
-  passing_more _ _ _ _ _ c.requires.edition c.definitions.invariant.0 c.in-Definition.ensures.keeps c.in-Definition.definition _
-      (c.in-Definition.ensures.gives.1 c.definitions.invariant.0.definitions c.definitions.invariant.0.since)
-      (rw c.view.ensures.same at c.in_ok-write_definition-in-Definition.ensures.gives),
-  c.in_ok-write_definition-in-Definition.ensures.same ∙ c.definitions.invariant.1,
-)
-
 pub definitions-preserved : goal.definitions-preserved
 definitions-preserved g c = (
   passing_more _ _ _ _ _ c.requires.edition c.definitions.invariant.0 c.in-Definition.ensures.keeps c.in-Definition.definition _
