@@ -25,6 +25,7 @@ use Rattle.blang.specs.declared.status.TheConstants.{DEVICE, DONE, FAULT}
 use Rattle.blang.specs.declared.token.Diagnostic.{Diagnostic}
 use Rattle.bgrammar.specs.SourceRows.{ComesIn}
 use Rattle.bgrammar.proofs.SourceRows.{a_break_of_one, a_break_outside}
+use Rattle.bmach.proofs.Losing.{appended}
 use Rattle.bcheck.specs.Checks as checks
 use Rattle.bsources.specs.Files.{File, Files, Line, own_line, own_line_among}
 use Rattle.bcheck.specs.Checks.{IsAtToken, IsOver, Reason, StandsOn, code_keyword, column_after, diagnostic_code, finding_at}
@@ -48,11 +49,6 @@ comes_to c line status to = outcome_of c.edition c.source to.outcome.stop (map c
 abbrev tells : (c : Check) (line : List ℕ) (status : ℕ) (to : ComesTo c line status) → Checks c → TellsFirst c.form (comes_to c line status to) c.files (shown_in_form c.form line) status c.out c.out_after c.status
 tells c line status to h =
     subst (λ (p : List ℕ × ℕ). TellsFirst c.form (comes_to c line status to) c.files (shown_in_form c.form p.0) p.1 c.out c.out_after c.status) to.told (h to.outcome to.goes)
-
-appended : (a b : Option (List ℕ)) (text x y : List ℕ) → a ≡ Some x → b ≡ Some y → Appends a b text → y ≡ x ++ text
-appended None b text x y e f h = cc
-appended (Some a) None text x y e f h = cc
-appended (Some a) (Some b) text x y e f h = let p : a ≡ x = cc in let q : b ≡ y = cc in sym q ∙ h ∙ ap (λ l. l ++ text) p
 
 -- What was told: the line and then findings, with the status of the source.
 record WasTold (form : FindingForm) (o : Outcome) (files : Files) (first : List ℕ) (status result : ℕ) (text : List ℕ) : Type 0 where

@@ -16,15 +16,7 @@ use Rattle.bcheck.specs.declared.finding.Finding.{Finding}
 use Rattle.bcheck.specs.declared.mention.Subject.{Subject}
 use Rattle.bcheck.specs.declared.mention.Subject.TheVariants as subject
 use Rattle.bcheck.specs.declared.words.Given.{Given}
-use Rattle.bcheck.proofs.OnLine.{both_on_line, one_on_line}
-
-first : (a b : Bool) → IsTrue (a && b) → IsTrue a
-first true b h = refl
-first false b h = h
-
-second : (a b : Bool) → IsTrue (a && b) → IsTrue b
-second true b h = h
-second false b h = cc
+use Rattle.bcheck.proofs.OnLine.{both_on_line, first, one_on_line, second}
 
 either : (a b : Bool) → IsTrue (a || b) → (IsTrue a) ⊎ (IsTrue b)
 either true b h = inl refl

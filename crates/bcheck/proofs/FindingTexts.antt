@@ -15,22 +15,11 @@ use Rattle.bcheck.specs.Checks.{FindingParts, Second, column_after, fix_and_plac
 use Rattle.btools.specs.Quoting.{file_byte, file_text, json_byte, json_text}
 use Rattle.bcheck.specs.Units.{unit_column}
 use Rattle.bcheck.specs.CheckExcluded.{finding_lines, has_no_colon, is_printed, newlines}
-use Rattle.bcheck.proofs.OnLine.{both_on_line, of_three, replicate_on_line, shown_on_line}
+use Rattle.bcheck.proofs.OnLine.{both, both_on_line, first, of_three, replicate_on_line, second, shown_on_line}
 use Rattle.bcheck.specs.declared.finding.Severity.{Severity}
 use Rattle.bcheck.specs.declared.finding.Severity.TheVariants as severity
 use Rattle.bcheck.specs.declared.form.FindingForm.{FindingForm}
 use Rattle.bcheck.specs.declared.form.FindingForm.TheVariants as form
-
-both : (a b : Bool) → IsTrue a → IsTrue b → IsTrue (a && b)
-both a b g h = rw (g, h) refl
-
-first : (a b : Bool) → IsTrue (a && b) → IsTrue a
-first true b h = refl
-first false b h = h
-
-second : (a b : Bool) → IsTrue (a && b) → IsTrue b
-second true b h = h
-second false b h = cc
 
 -- Texts all of whose bytes pass a test.
 module _ (p : ℕ → Bool) where

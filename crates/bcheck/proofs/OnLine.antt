@@ -8,14 +8,14 @@ use Rattle.std.proofs.lemmas.List.Folds.{list_all-append}
 use Rattle.bword.specs.Words.{is_name, is_name_byte, is_name_start}
 use Rattle.bcheck.specs.Checks.{is_on_line, shown_byte, shown_text}
 
-both : (a b : Bool) → IsTrue a → IsTrue b → IsTrue (a && b)
+pub both : (a b : Bool) → IsTrue a → IsTrue b → IsTrue (a && b)
 both a b g h = rw (g, h) refl
 
-first : (a b : Bool) → IsTrue (a && b) → IsTrue a
+pub first : (a b : Bool) → IsTrue (a && b) → IsTrue a
 first true b h = refl
 first false b h = h
 
-second : (a b : Bool) → IsTrue (a && b) → IsTrue b
+pub second : (a b : Bool) → IsTrue (a && b) → IsTrue b
 second true b h = h
 second false b h = cc
 

@@ -21,7 +21,7 @@ use Rattle.btrace.specs.Locates as locates
 use Rattle.btrace.specs.Locates.{Locates}
 use Rattle.btrace.specs.Traces as traces
 use Rattle.btrace.specs.Traces.{Traces}
-use Rattle.btrace.specs.declared.trail.TraceRows.{TraceRows}
+use Rattle.bwatch.specs.declared.trail.TraceRows.{TraceRows}
 use Rattle.bcommand.specs.CommandLine.{Question, check, count, draw, format, from_code, from_made, from_source, list, locate, map, show, trace}
 use Rattle.btools.specs.Origins.{NoProgramOf, Origin, ProgramOf, Source}
 use Rattle.bsources.specs.Files.{Files}

@@ -23,7 +23,7 @@ use Rattle.bshow.specs.Shows.{Shows}
 use Rattle.btools.specs.Origins.{Code, Origin, Source}
 use Rattle.btrace.specs.Locates.{Locates}
 use Rattle.btrace.specs.Traces.{Traces}
-use Rattle.btrace.specs.declared.trail.TraceRows.TheVariants as traced
+use Rattle.bwatch.specs.declared.trail.TraceRows.TheVariants as traced
 use Rattle.bwhere.specs.Wheres.{LocatesCode}
 use Rattle.bcommand.specs.CommandLine.{OriginAsked, Question, SourceAsked, from_code, from_made, from_source}
 use Rattle.bcommand.specs.CommandLine.{ask, check, compile, count, draw, format, go, list, locate, locate_code}

@@ -25,8 +25,8 @@ use Rattle.btools.specs.Programs.{ToldEnds}
 use Rattle.bdraw.specs.Draws.{Draws}
 use Rattle.btrace.specs.Locates.{Locates}
 use Rattle.btrace.specs.Traces.{Traces}
-use Rattle.btrace.specs.declared.trail.TraceRows.{TraceRows as Traced}
-use Rattle.btrace.specs.declared.trail.TraceRows.TheVariants as traced
+use Rattle.bwatch.specs.declared.trail.TraceRows.{TraceRows as Traced}
+use Rattle.bwatch.specs.declared.trail.TraceRows.TheVariants as traced
 use Rattle.bcount.specs.Counts.{Counts}
 use Rattle.bcount.specs.declared.table.CountStyle.{CountStyle}
 use Rattle.bcount.specs.declared.table.CountStyle.TheVariants as styles

@@ -494,12 +494,12 @@ fn page_of<'a>(
     }
 }
 
-fn traced_rows(rows: Rows) -> btrace::TraceRows
+fn traced_rows(rows: Rows) -> bwatch::TraceRows
     ensures { result ≡ traced_rows rows }
 {
     match rows {
-        Rows::From(number) => btrace::TraceRows::From(number),
-        Rows::Last(count) => btrace::TraceRows::Last(count),
+        Rows::From(number) => bwatch::TraceRows::From(number),
+        Rows::Last(count) => bwatch::TraceRows::Last(count),
     }
 }
 

@@ -104,7 +104,7 @@ leading_zero : (ds : List Definition) → IsCodeText zero_first ds → ⊥
 leading_zero ds code =
     no_path 1 opens zero_first tt (stops 1 opens zero_first tt zero_stuck) (code_lines code.0 ds) (code_path code.0 ds code.1.within) code.1.spelled
 
-same_line : (text : List ℕ) (n m : ℕ) → IsFaultLine text n → IsFaultLine text m → n ≡ m
+pub same_line : (text : List ℕ) (n m : ℕ) → IsFaultLine text n → IsFaultLine text m → n ≡ m
 same_line text n m f g =
     let p = f.greatest g.good g.begins in
     let q = g.greatest f.good f.begins in

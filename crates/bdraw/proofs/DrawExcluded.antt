@@ -25,7 +25,8 @@ use Rattle.btools.specs.FrameNames.{HasNames}
 use Rattle.btools.specs.ProgramsExcluded.{Excluded, code_in}
 use Rattle.btools.specs.Programs.{load_line, nothing_written}
 use Rattle.btools.specs.declared.names.Frame.{Frame}
-use Rattle.btools.proofs.ProgramsExcluded.{device_grew, excluded, no_done, not_grown, other_answer, was_told}
+use Rattle.bmach.proofs.MachineExcluded.{not_grown}
+use Rattle.btools.proofs.ProgramsExcluded.{device_grew, excluded, no_done, other_answer, was_told}
 use Rattle.btools.proofs.Unasked.{program_left, untaken}
 use Rattle.bwatch.specs.Sights.{Sights, sights_of}
 use Rattle.bwatch.specs.Watches.{EndsAfter, Watches}

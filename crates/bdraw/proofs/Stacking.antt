@@ -2,22 +2,19 @@
 use Rattle.std.proofs.Common.{◌≡◌, ◌∙◌, ℕ, ◌+◌, ◌<◌, List, [], ◌∷◌, ◌++◌, ap, append-nil, append_assoc, arith, get_or, length, map, refl, subst, sym, take}
 use Rattle.std.specs.Prelude.{◌-◌, ◌==◌, false, codes, decimal, drop}
 use Rattle.std.specs.List.{flat_map, range_with_len}
-use Rattle.std.proofs.lemmas.List.{get_or_default, length-drop, map-append, map-id, take_all, take_more}
+use Rattle.std.proofs.lemmas.List.{get_or_default, length-drop, map-append, take_all, take_more}
 use Rattle.std.proofs.lemmas.List.Concat.{flat_map-append}
-use Rattle.std.proofs.lemmas.List.FromFn.{map-range_with_len_more}
 use Rattle.blang.specs.declared.code.Definition.{Definition}
 use Rattle.blang.specs.Layout.{shape_of}
 use Rattle.blang.specs.Machine.{Image}
 use Rattle.bmach.specs.declared.machine.Active.{Active}
+use Rattle.btools.proofs.Ranges.{one_from_zero}
 use Rattle.bdraw.specs.Pictures.{DrawnProgram, PictureRow, at_places, bottom, box_row, call_rows, calls_left_out, count_text, down, library_row, name_row, names_left_out, place_text, rows_of, stacked, text_row}
 use Rattle.bdraw.specs.Stacks.{Adds, Holds}
 use Rattle.bdraw.specs.declared.picture.TheConstants.{MOST_NAMES}
 use Rattle.bdraw.specs.declared.shapes.LabelStyle.TheVariants as style
 use Rattle.bdraw.specs.declared.picture.Picture.{Picture}
 use Rattle.bdraw.specs.declared.shapes.Shape.{Shape}
-
-one_from_zero : (count : ℕ) → range_with_len 0 (count + 1) ≡ range_with_len 0 count ++ count ∷ []
-one_from_zero count = let all : 0 + count ≡ count = omega arith in simp map-id at (map-range_with_len_more (λ (n : ℕ). n) 0 count count all)
 
 -- shapes after others
 pub both : (old now new x y : List Shape) → now ≡ old ++ x → new ≡ now ++ y → new ≡ old ++ (x ++ y)

@@ -15,7 +15,8 @@ use Rattle.bparse.specs.Locals.{NamedWord}
 use Rattle.bwatch.specs.Sights.{end_sight}
 use Rattle.bdraw.specs.Draws.{calls_in, moment_of, title_of}
 use Rattle.bdraw.specs.Pictures.{DrawnProgram, bottom, box_at, calls_left_out, count_text, down, fill_of, frame_row}
-use Rattle.bdraw.specs.Pictures.{kind_text, label, library_row, name_row, names_left_out, picture_of, rows_of, stacked}
+use Rattle.btools.specs.Functions.{kind_text}
+use Rattle.bdraw.specs.Pictures.{label, library_row, name_row, names_left_out, picture_of, rows_of, stacked}
 use Rattle.bdraw.specs.Pictures.{stacked_text, words_row}
 use Rattle.bdraw.specs.declared.scene.Moment.TheVariants as moment
 use Rattle.bdraw.specs.Shapes.{cell_text, escape, fill_name, label_text, picture_text, style_name}

@@ -7,15 +7,14 @@ use Rattle.std.specs.List.{flat_map, range_with_len}
 use Rattle.std.specs.Option.{option_map_or}
 use Rattle.blang.specs.declared.code.Definition.{Definition}
 use Rattle.blang.specs.CodeParts.{Function}
-use Rattle.blang.specs.Layout.{DefinitionKind, Shape as Named, Simple, Vector, library_functions, shape_of, size_of}
+use Rattle.blang.specs.Layout.{Shape as Named, library_functions, shape_of, size_of}
 use Rattle.blang.specs.Layout.{store_words, words_before_strings}
-use Rattle.blang.specs.Layout as layout
 use Rattle.blang.specs.Machine.{Image}
 use Rattle.bmach.specs.declared.machine.Active.{Active}
 use Rattle.bparse.specs.Locals.{NamedWord}
 use Rattle.btools.specs.Characters.{shown_word}
 use Rattle.btools.specs.FrameNames.{frame_seen, name_shown}
-use Rattle.btools.specs.Functions.{Placed, functions_of}
+use Rattle.btools.specs.Functions.{Placed, functions_of, kind_text}
 use Rattle.btools.specs.Programs.{image_address}
 use Rattle.btools.specs.declared.names.Frame.{Frame}
 use Rattle.bdraw.specs.Shapes.{picture_text}
@@ -76,11 +75,6 @@ heading y name kind count =
 abbrev pub dots : (y count : ℕ) → List Shape
 dots y count =
     if nat_lt MOST_WORDS count then label (box_at MOST_WORDS) (down y 14) style.Name (codes "..") ∷ [] else []
-
-abbrev pub kind_text : DefinitionKind → List ℕ
-kind_text (layout.Function labels) = codes "function"
-kind_text Simple = codes "simple"
-kind_text (Vector n) = codes "vector"
 
 -- the names of the words that each program has
 abbrev pub library_names : List (List ℕ)

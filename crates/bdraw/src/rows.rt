@@ -4,14 +4,14 @@ ghost use Rattle.blang.specs.CodeParts.{function_of};
 ghost use Rattle.blang.specs.Layout.{shape_of, words_before_strings};
 ghost use Rattle.btools.specs.Characters.{shown_word};
 ghost use Rattle.btools.specs.FrameNames.{frame_seen, name_shown};
-ghost use Rattle.bdraw.specs.Pictures.{above, at_places, box, box_at, boxes, characters, count_text, dots, fill_of, frame_name, frame_row, heading, kind_text, label, library_name, library_row, name_row, words_row};
+ghost use Rattle.bdraw.specs.Pictures.{above, at_places, box, box_at, boxes, characters, count_text, dots, fill_of, frame_name, frame_row, heading, label, library_name, library_row, name_row, words_row};
 ghost use Rattle.bdraw.specs.declared.shapes.Shape.TheVariants as shape;
 
 use crate::scene::{Memory, Scene};
 use crate::shapes::{Cell, Fill, HALF_BOX, Label, LabelStyle, MARGIN, Shape};
 use blang::{Definition, FunctionParts};
 use bmach::{FIRST_ADDRESS, LIBRARY, name_of, size_of};
-use btools::{Frame, Text, push_characters};
+use btools::{Frame, Text, kind_name, push_characters};
 use bword::Name;
 use std::alloc::{AllocError, Global};
 
@@ -82,7 +82,14 @@ pub fn push_name<M: Memory>(
     let name = name_of(definition);
     let address = scene.program.image.address(&name).unwrap_or(0);
     let count = size_of(definition);
-    push_heading(shapes, alloc, y, name.as_bytes(), kind(definition), count)?;
+    push_heading(
+        shapes,
+        alloc,
+        y,
+        name.as_bytes(),
+        kind_name(definition),
+        count,
+    )?;
     push_words(shapes, alloc, scene, y, address, count)?;
     let others = words_before_strings(definition);
     push_strings(
@@ -356,16 +363,6 @@ fn push_frame_name(
     text.push(name.as_bytes())?;
     text.push(if is_first { b"[0]" } else { b"" })?;
     push_above(shapes, alloc, y, place, text.as_slice())
-}
-
-fn kind(definition: &Definition) -> &'static [u8]
-    ensures { result.now ≡ kind_text (shape_of definition.now).kind }
-{
-    match definition {
-        Definition::Function(_) => b"function",
-        Definition::Simple(_) => b"simple",
-        Definition::Vector(_) => b"vector",
-    }
 }
 
 // How many words of a definition come before its string words.

@@ -10,8 +10,8 @@ use Rattle.blang.specs.declared.run.Trap.{Trap}
 use Rattle.blang.specs.declared.run.Trap.TheVariants.{BadBase}
 use Rattle.blang.specs.Layout.{label_target, World, Ending, Reply, Gives, Ends, word_at, with_word, with_words, parameter_words, next_byte, is_base, argument, printed, with_output, library, Trapped, Callee, NoFunction, OfLibrary, OfProgram, callee_of, refusal, first_world}
 use Rattle.blang.specs.Machine.{Loaded, Image, Call, fresh_call, with_operand, State, Running, Halted, Stuck, take_one, take_two, on_reply, operator_reply, at_place, returned, gone_to_place, program_function_called, callee_called, act, act_if, step, steps, machine_started}
-use Rattle.bmean.proofs.Does.{steps_add}
-use Rattle.bmean.proofs.Runs.{IsOver, over_later}
+use Rattle.bmach.proofs.Running.{IsOver, steps_add}
+use Rattle.bmean.proofs.Runs.{over_later}
 use Rattle.bendless.specs.Endless.{IsRunning, unwritten, silent, ComesAgain, NeverEnds}
 
 -- two replies that are the same but for what was written

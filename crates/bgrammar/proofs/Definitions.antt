@@ -123,11 +123,11 @@ fits_if : (b : Bool) (d : Diagnostic) → (let o : Option Diagnostic = if b then
 fits_if true d h = refl
 fits_if false d h = cc
 
-no_fault : (o : Option Diagnostic) (line : ℕ) (c : coded.Definition) → or_too_large o line c ≡ None → (o ≡ None) × (fits_limits c ≡ true)
+pub no_fault : (o : Option Diagnostic) (line : ℕ) (c : coded.Definition) → or_too_large o line c ≡ None → (o ≡ None) × (fits_limits c ≡ true)
 no_fault None line c h = (refl, fits_if (fits_limits c) _ h)
 no_fault (Some f) line c h = cc
 
-scan_if : (b : Bool) (d : Diagnostic) (o : Option Diagnostic) → (if b then Some d else o) ≡ None → o ≡ None
+pub scan_if : (b : Bool) (d : Diagnostic) (o : Option Diagnostic) → (if b then Some d else o) ≡ None → o ≡ None
 scan_if true d o h = cc
 scan_if false d o h = h
 

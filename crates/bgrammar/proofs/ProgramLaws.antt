@@ -17,6 +17,7 @@ use Rattle.bgrammar.specs.DefinitionReader.{definition, is_open_definition}
 use Rattle.bgrammar.proofs.CommaLaws.{append-nil}
 use Rattle.bgrammar.proofs.GoingOn.{GoOn, GoOn-append, definition_goes_on}
 use Rattle.bgrammar.proofs.KeptLemmas.{kept-append, bare-kept, split_map}
+use Rattle.bgrammar.proofs.StatementSound.{only_else}
 use Rattle.bgrammar.proofs.LawProofs.{reads_spelling, reads_again, goes_on_with_else, has_twin, begins_with_name}
 
 pub bare-append : (us vs : List Placed) → map bare (us ++ vs) ≡ map bare us ++ map bare vs
@@ -101,10 +102,6 @@ stops_begins before at (Some d) h = h.0
 pub stops_there : (before : List Token) (at : Placed) (stop : Option Diagnostic) → StopsAt before at stop → BeginsProgram (before ++ at.token ∷ []) → ⊥
 stops_there before at None h b = let no = begins_goes_on before at.token b in let last : is_last at.token ≡ true = ap is_last h.0 in cc
 stops_there before at (Some d) h b = h.1 (viable_next before at.token b)
-
-only_else : (t : Token) → is_else t ≡ true → t ≡ token.Keyword keyword.Else
-only_else (token.Keyword keyword.Else) h = refl
-only_else _ h = cc
 
 -- the first token of a part is a name
 part_first : (part : List Placed) (rest : List Placed) → IsPart (map bare part) → (part ≡ [] → ⊥) → is_else (first (part ++ rest)) ≡ false

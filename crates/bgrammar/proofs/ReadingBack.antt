@@ -23,7 +23,7 @@ record IsWritten (ds : List Definition) (r : Compilation) : Type 0 where
   within : Holds IsWithinRanges (map code_of ds)
   spelled : joined r.code ++ ending r.stop ≡ joined (ended_lines (map code_of ds))
 
-joined-append : (xs ys : List (List ℕ)) → joined (xs ++ ys) ≡ joined xs ++ joined ys
+pub joined-append : (xs ys : List (List ℕ)) → joined (xs ++ ys) ≡ joined xs ++ joined ys
 joined-append xs ys = flat_map-append (λ l. l) xs ys
 
 written-none : (stop : Option Diagnostic) → stop ≡ None → IsWritten [] (record { code = []; stop = stop })

@@ -184,7 +184,7 @@ entered zero h off w t ps made shape sits ts = tt
 entered (suc k) h off w t ps made shape sits ts = row_told (suc k) off k off (level (suc k)) (deep_told k h) (λ l. w ∷ l) ps made shape (sits k) (w ∷ kept_tokens ts) ts refl
 
 -- the rest of an if, after its statement
-only_else : (t : Token) → is_else t ≡ true → t ≡ token.Keyword keyword.Else
+pub only_else : (t : Token) → is_else t ≡ true → t ≡ token.Keyword keyword.Else
 only_else (token.Keyword keyword.Else) h = refl
 only_else _ h = cc
 

@@ -28,7 +28,8 @@ use Rattle.btools.specs.declared.names.Frame.{Frame}
 use Rattle.blist.specs.ListingTexts.{definition_rows}
 use Rattle.blist.specs.Listings.{Lists, Told, is_wanted, list_text, told_of, told_rows, wanted}
 use Rattle.blist.specs.Listings as listing
-use Rattle.blist.specs.Maps.{Maps, dots, kind_text, map_row, map_text, words_from}
+use Rattle.btools.specs.Functions.{kind_text}
+use Rattle.blist.specs.Maps.{Maps, dots, map_row, map_text, words_from}
 use Rattle.blist.specs.Maps as layout
 
 -- the status of an unknown name is none of a source without a program

@@ -6,11 +6,12 @@ use Rattle.bword.specs.declared.edition.Edition.{Edition}
 use Rattle.blang.specs.declared.code.Definition.{Definition}
 use Rattle.blang.specs.declared.status.TheConstants.{DONE}
 use Rattle.blang.specs.Compiles.{line_of}
-use Rattle.blang.specs.Layout.{Function, DefinitionKind, Shape, Simple, Vector, shape_of, size_of}
+use Rattle.blang.specs.Layout.{Shape, shape_of, size_of}
 use Rattle.blang.specs.Machine.{Image}
 use Rattle.blang.specs.Reports.{Reported}
 use Rattle.blist.specs.declared.layout.TheConstants.{HEADING, SHOWN}
 use Rattle.btools.specs.Columns.{left, right}
+use Rattle.btools.specs.Functions.{kind_text}
 use Rattle.btools.specs.Programs.{HasProgram, NoProgram, ToldEnds, image_address}
 
 -- the columns, and the words that each program has
@@ -28,11 +29,6 @@ map_heading = refl
 -- how many words of a name are shown
 shown : SHOWN ≡ 6
 shown = refl
-
-abbrev pub kind_text : DefinitionKind → List ℕ
-kind_text (Function labels) = codes "function"
-kind_text Simple = codes "simple"
-kind_text (Vector n) = codes "vector"
 
 -- so many words from an address on, a blank before each
 abbrev pub words_from : Image → ℕ → ℕ → List ℕ

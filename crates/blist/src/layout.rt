@@ -2,13 +2,13 @@
 ghost use Rattle.std.specs.Prelude.{◌≡◌, ◌++◌, IfOk, OnOk};
 ghost use Rattle.blang.specs.Layout.{shape_of};
 ghost use Rattle.blist.specs.ListExcluded.{NoMaps};
-ghost use Rattle.blist.specs.Maps.{Maps, dots, kind_text, map_row, map_text, words_from};
+ghost use Rattle.blist.specs.Maps.{Maps, dots, map_row, map_text, words_from};
 ghost use Rattle.btools.specs.Programs.{told_ends};
 
 use blang::Definition;
 use blang::status::{self, Status};
 use bmach::{Image, name_of, size_of};
-use btools::{Origin, Text, read_program, tell, tell_fault};
+use btools::{Origin, Text, kind_name, read_program, tell, tell_fault};
 use bword::{ByteOut, Edition};
 use std::alloc::{AllocError, Global};
 
@@ -74,7 +74,7 @@ fn push_row(text: &mut Text, image: &Image, definition: &Definition) -> Result<(
     text.push_right_number(6, u64::from(address))?;
     text.push(b"  ")?;
     text.push_left(10, name.as_bytes())?;
-    text.push_left(8, kind(definition))?;
+    text.push_left(8, kind_name(definition))?;
     text.push_right_number(7, u64::from(words))?;
     text.push(b" ")?;
     push_words(text, image, address, words.min(SHOWN))?;
@@ -102,16 +102,6 @@ fn push_words(text: &mut Text, image: &Image, address: u16, count: u16) -> Resul
         text.push_number(u64::from(image.word(address.wrapping_add(index))))?;
     }
     Ok(())
-}
-
-fn kind(definition: &Definition) -> &'static [u8]
-    ensures { result.now ≡ kind_text (shape_of definition.now).kind }
-{
-    match definition {
-        Definition::Function(_) => b"function",
-        Definition::Simple(_) => b"simple",
-        Definition::Vector(_) => b"vector",
-    }
 }
 
 /// No map has another text than that of the layout of the source's code, or another status or line.

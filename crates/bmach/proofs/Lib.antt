@@ -25,4 +25,5 @@ pub mod Fusing
 pub mod Fetching
 pub mod Beginning
 pub mod Readings
+pub mod LoadedRuns
 pub mod Storing

@@ -2,6 +2,7 @@
 use Rattle.std.proofs.Common.{◌≡◌, ◌≢◌, ℕ, zero, suc, ◌+◌, ◌≤◌, refl, sym, ap, ◌∙◌, subst, arith}
 use Rattle.blang.specs.Layout.{World, Reply}
 use Rattle.blang.specs.Machine.{Image, State, Running, Halted, Stuck, step, steps, on_reply}
+use Rattle.bmach.proofs.Running.{steps_add}
 use Rattle.blang.specs.Value.{Answer, Gives, Ends, Wants, and_then, answer_of}
 
 -- a run that isn't over, in this world
@@ -18,12 +19,6 @@ Reaches image n s to (Wants w) = (m : ℕ) × (n ≤ m) × IsAt (steps image m s
 
 pub record Does {A : Type 0} (image : Image) (n : ℕ) (s : State) (to : A → World → State) (a : Answer A) : Type 0 where
   pub by : Reaches image n s to a
-
-pub steps_add : (image : Image) (k m : ℕ) (s : State) → steps image (k + m) s ≡ steps image m (steps image k s)
-steps_add image zero m s = let e : zero + m ≡ m = omega arith in ap (λ j. steps image j s) e
-steps_add image (suc k) m s =
-    let e : suc k + m ≡ suc (k + m) = omega arith in
-    ap (λ j. steps image j s) e ∙ steps_add image k m (step image s)
 
 comes_on : {A : Type 0} (image : Image) (k n j : ℕ) (s s' : State) (to : A → World → State) (a : Answer A) → steps image k s ≡ s' → j ≤ k + n → Reaches image n s' to a → Reaches image j s to a
 comes_on image k n j s s' to (Gives a w) e le r = (k + r.0, steps_add image k r.0 s ∙ ap (steps image r.0) e ∙ r.1)

@@ -12,25 +12,14 @@ use Rattle.blang.specs.Layout.{label_target, World, Reply, Gives, Ends, word_at,
 use Rattle.blang.specs.declared.run.Trap.TheVariants.{BadBase}
 use Rattle.blang.specs.Machine.{Loaded, Image, Call, State, Running, Halted, Stuck, take_one, take_two, on_reply, operator_reply, at_place, returned, gone_to_place, program_function_called, callee_called, act, act_if, step, steps}
 use Rattle.blang.specs.Meaning.{IsBeginningOf}
-use Rattle.bmean.proofs.Does.{IsAt, steps_add}
+use Rattle.bmach.proofs.Running.{IsOver, over_stays, steps_add}
+use Rattle.bmean.proofs.Does.{IsAt}
 
 -- the world of a state
 abbrev pub world_in : State → World
 world_in (Running call below w) = w
 world_in (Halted e w) = w
 world_in (Stuck w) = w
-
--- a run that is over stays as it is
-abbrev pub IsOver : State → Type 0
-IsOver (Running call below w) = ⊥
-IsOver (Halted e w) = Unit {0}
-IsOver (Stuck w) = Unit {0}
-
-over_stays : (image : Image) (n : ℕ) (s : State) → IsOver s → steps image n s ≡ s
-over_stays image zero s o = refl
-over_stays image (suc n) (Running call below w) o = elim o [ ]
-over_stays image (suc n) (Halted e w) o = over_stays image n (Halted e w) o
-over_stays image (suc n) (Stuck w) o = over_stays image n (Stuck w) o
 
 -- more steps from where a run is over change nothing
 pub over_later : (image : Image) (m n : ℕ) (s t : State) → m ≤ n → IsOver t → steps image m s ≡ t → steps image n s ≡ t

@@ -5,23 +5,20 @@ use Rattle.std.specs.List.{list_any}
 use Rattle.std.proofs.lemmas.Bool.Decides.{nat_tests}
 use Rattle.blang.specs.declared.token.Diagnostic.{Diagnostic}
 use Rattle.blang.specs.declared.token.Letters.TheVariants as letters
-use Rattle.blang.specs.declared.code.Definition as coded
 use Rattle.blang.specs.Trees.{Identifier, Definition, Simple, Vector, Function}
 use Rattle.blang.specs.Scan.{Entry, NameKind, Automatic, kind_of, with_declaration, fault, name_fault, Scope, no_scope, scanned, with_names, automatic_words, function_scope, scope_fault, identifier_of, inner_fault, scan}
 use Rattle.blang.specs.declared.limits.TheConstants.{MAX_NAMES}
 use Rattle.blang.specs.Walk.{Event, AutoHere}
 use Rattle.bgrammar.specs.Events.{statement_events}
 use Rattle.bword.specs.Words.{same_name}
-use Rattle.blang.specs.Code.{ival_code, string_words_of, code_of, fits_limits, fault_of, or_too_large, vector_words}
+use Rattle.blang.specs.Code.{ival_code, string_words_of, code_of, fault_of, vector_words}
 use Rattle.bparse.specs.Sizes.{IsSmall}
+use Rattle.bgrammar.proofs.Definitions.{no_fault, scan_if}
+use Rattle.bgrammar.proofs.ScanSteps.{scanned-Err}
 use Rattle.bgrammar.proofs.WalkLaws.{function_events_are}
 
 abbrev parameter : Identifier → Event
 parameter w = AutoHere w None
-
-scanned-Err : (es : List Event) (d : Diagnostic) → scanned es (Err d) ≡ Err d
-scanned-Err [] d = refl
-scanned-Err (e ∷ es) d = refl
 
 -- a table with one more name
 abbrev Grown : List Entry → List Entry → Type 0
@@ -65,18 +62,6 @@ third_true false b c e = cc
 fewer : (n : ℕ) → nat_le n 32767 ≡ true → n ≤ 65535
 fewer n h = grind (arith, nat_tests)
 
-no_fault : (o : Option Diagnostic) (line : ℕ) (c : coded.Definition) → or_too_large o line c ≡ None → (o ≡ None) × (fits_limits c ≡ true)
-no_fault (Some d) line c e = cc
-no_fault None line c e = (refl, go (fits_limits c) refl)
-  where
-    go : (b : Bool) → fits_limits c ≡ b → fits_limits c ≡ true
-    go true f = f
-    go false f = let g = rw f at e in cc
-
-no_inner : (b : Bool) (d : Diagnostic) (o : Option Diagnostic) → (if b then Some d else o) ≡ None → o ≡ None
-no_inner true d o e = cc
-no_inner false d o e = e
-
 pub scope_clean : (r : Result Scope Diagnostic) → scope_fault r ≡ None → (s : Scope) × (r ≡ Ok s)
 scope_clean (Ok s) e = (s, refl)
 scope_clean (Err d) e = cc
@@ -84,7 +69,7 @@ scope_clean (Err d) e = cc
 -- the scan of a definition without a fault has none
 pub clean_inner : (defined : List (List ℕ)) (d : Definition) → fault_of defined d ≡ None → inner_fault d ≡ None
 clean_inner defined d e =
-    no_inner (list_any (same_name (identifier_of d).text) defined) (name_fault letters.Redeclared (identifier_of d)) (inner_fault d)
+    scan_if (list_any (same_name (identifier_of d).text) defined) (name_fault letters.Redeclared (identifier_of d)) (inner_fault d)
     (no_fault (scan defined d) (identifier_of d).line (code_of d) e).0
 
 pub clean_small : (defined : List (List ℕ)) (d : Definition) → fault_of defined d ≡ None → IsSmall d

@@ -44,7 +44,8 @@ no_stop e = cc
 some_stop : {d : Diagnostic} → Some d ≡ None → ⊥
 some_stop e = cc
 
-line_some : (d : Diagnostic) → line_of d ≡ [] → ⊥
+-- a line has a byte
+pub line_some : (d : Diagnostic) → line_of d ≡ [] → ⊥
 line_some d e = let newline : codes "\n" ≡ [] = rest_nil _ (codes "\n") e in cc
 
 module _ {source code line : List ℕ} {status : ℕ} (run : Run) (o : Observed source code line status run) (h : Compiles run) where

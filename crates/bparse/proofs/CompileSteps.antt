@@ -7,6 +7,7 @@ use Rattle.bword.specs.ByteEnds.{Incoming, Outgoing, Took, Grew, Writes, Refuses
 use Rattle.bword.specs.declared.ends.EndFault.{EndFault}
 use Rattle.bword.specs.declared.ends.EndFault.TheVariants as end_fault
 use Rattle.blex.proofs.Passing.{Took-none, Took-append}
+use Rattle.bword.proofs.Fetched.{bool_false}
 use Rattle.bword.proofs.Putting.{Refuses-following}
 use Rattle.blang.specs.Text.{joined, opening}
 use Rattle.blang.specs.declared.token.Diagnostic.{Diagnostic}
@@ -45,10 +46,6 @@ take_all (x ∷ xs) = ap (λ l. x ∷ l) (take_all xs)
 
 take_first : (xs ys zs : List (List ℕ)) → zs ≡ xs ++ ys → take (length xs) zs ≡ xs
 take_first xs ys zs e = ap (take (length xs)) e ∙ take-append-le (length xs) xs ys (omega arith) ∙ take_all xs
-
-bool_false : (b : Bool) → (b ≡ true → ⊥) → b ≡ false
-bool_false true h = absurd (h refl)
-bool_false false h = refl
 
 unopened_all : (c : Compiler) → c.is_begun ≡ false → unopened c ≡ opening c.first.edition
 unopened_all c z = ap (λ b. to_begin b c.first.edition) z

@@ -85,9 +85,6 @@ same_fault t more b = ap (λ k. fault_at (placed k b.at.line)) b.token_is ∙ ap
 first_of : (at p : Placed) (rest more : List Placed) → at ∷ rest ≡ p ∷ more → at ≡ p
 first_of at p rest more e = cc
 
-pub breaks_after : {a b c : Tokens} {P : List Placed → List Placed → Type 0} → Moves a b P → TokensFail b c → TokensFail a c
-breaks_after h k = record { taken = h.taken ++ k.taken; reads = Reads-append h.reads k.reads; counted = Grew-after _ _ _ h.failures k.counted }
-
 -- A failed read, before anything is written.
 pub read_fails : (old new : Tokens) {locals locals' : Option Locals} (names names' : Defined) (out : Outgoing) → TokensFail old new → PointGives (point old locals names out) (Err step.Device) (point new locals' names' out)
 read_fails old new names names' out b = inl (record { taken = b.taken; reads = b.reads; each = λ more c r g. tt }, b.counted, refl)

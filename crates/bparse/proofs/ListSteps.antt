@@ -1,5 +1,5 @@
 -- A source that compiles is compiled to the definitions of its code.
-use Rattle.std.proofs.Common.{◌≡◌, ◌∙◌, ℕ, Bool, true, false, List, [], ◌++◌, map, append_assoc, append-nil, if◌then◌else◌, sym, subst}
+use Rattle.std.proofs.Common.{◌≡◌, ◌∙◌, ℕ, Bool, true, false, List, [], ◌++◌, map, append_assoc, append-nil, if◌then◌else◌, refl, sym, subst}
 use Rattle.std.specs.Prelude.{All}
 use Rattle.std.specs.List.{flat_map}
 use Rattle.bword.specs.declared.edition.Edition.{Edition}
@@ -10,8 +10,10 @@ use Rattle.blang.specs.Text.{IsCodeText, IsWithinRanges, definition_text, end_te
 use Rattle.blang.specs.declared.code.Definition.{Definition}
 use Rattle.bcode.proofs.FaultLaws.{code_spelled, unended_code, unique_code}
 use Rattle.bgrammar.proofs.ReadingBack.{reads_back}
-use Rattle.bparse.specs.CodeLists.{CodeList, CompilesList, empty_list, list_text, outgoing_list}
-use Rattle.bparse.specs.Compiles.{run_of}
+use Rattle.bparse.specs.CodeLists.{CodeList, CompilesList, ListGives, empty_list, list_text, outgoing_list}
+use Rattle.bparse.specs.Compiles.{CodeGives, run_of}
+use Rattle.bparse.specs.declared.step.Step.{Step}
+use Rattle.bparse.proofs.CompileSteps.{answers, compiles_between, done}
 
 -- the definitions of a list whose text is a code text
 listed : (l : CodeList) (ds : List Definition) → All IsWithinRanges l.definitions → IsCodeText (list_text l) ds → l.definitions ≡ ds
@@ -37,4 +39,17 @@ compiles_list edition source source_after l ds line line_after status same withi
       let text : code_text edition r ≡ list_text l = sym compiled.code.appended in
       let back = subst (λ t. IsCodeText t (map code_of g.definitions)) text (edition, reads_back edition 1 (h.taken ++ more) r g compiled.clean) in
       same ∙ listed l (map code_of g.definitions) (subst (All IsWithinRanges) same within) back;
+}
+
+-- between these ends of the source
+pub list_gives : (edition : Edition) (source source_after : Incoming) (answer : Step) (l : CodeList) (ds : List Definition) → ds ≡ l.definitions → All IsWithinRanges ds
+    → CodeGives edition source (outgoing_list empty_list) answer source_after (outgoing_list l)
+    → ListGives edition source answer source_after ds
+list_gives edition source source_after answer l ds same within h = record {
+  list = l;
+  listed = sym same;
+  gives = h;
+  all = λ end line.
+      compiles_list edition source source_after l ds line line 0 same within
+      (compiles_between line line (answers end h) (λ first last g. done first last line line g refl));
 }

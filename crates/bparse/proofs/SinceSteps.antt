@@ -2,13 +2,13 @@
 use Rattle.std.proofs.Common.{◌≡◌, ℕ, zero, suc, ◌+◌, length-append, ◌≤◌, Bool, true, false, List, [], ◌∷◌, ◌++◌, length, map, take, drop, get_or, Option, Some, None, Result, Ok, Err, refl, sym, ap, ◌∙◌, subst, append_assoc, append-nil, arith, ◌⊎◌, inl, inr, if◌then◌else◌}
 use Rattle.std.proofs.lemmas.List.{map-append, length-map}
 use Rattle.std.proofs.Math.Seq.{drop-append_seam}
-use Rattle.std.proofs.lemmas.Grind.{flat_map-append}
 use Rattle.bword.specs.ByteEnds.{Incoming, Outgoing, Took, Grew, Writes}
 use Rattle.bword.specs.declared.ends.EndFault.{EndFault}
 use Rattle.bword.specs.declared.ends.EndFault.TheVariants as end_fault
 use Rattle.bword.proofs.Putting.{Writes-none, Writes-append}
 use Rattle.blang.specs.Text.{joined, opening}
-use Rattle.blex.proofs.Passing.{Took-none, Took-append}
+use Rattle.bword.proofs.Taking.{nil-append}
+use Rattle.blex.proofs.Passing.{Grew-after, Took-none, Took-append}
 use Rattle.blang.specs.Cut.{tokens_from}
 use Rattle.blang.specs.Endings.{EndsWith}
 use Rattle.blang.specs.declared.token.Diagnostic.{Diagnostic}
@@ -26,6 +26,7 @@ use Rattle.bgrammar.proofs.GoesLaws.{goes_once, goes_some}
 use Rattle.bgrammar.proofs.GoesReads.{Taken, got_taken}
 use Rattle.bgrammar.proofs.LawProofs.{definition_read, lines_unread}
 use Rattle.bgrammar.proofs.ProgramLaws.{read_there}
+use Rattle.bgrammar.proofs.ReadingBack.{joined-append}
 use Rattle.bemit.specs.Trails.{definition_trail}
 use Rattle.blang.specs.Lines.{lines_of, program_lines, lines_after}
 use Rattle.bcodegen.proofs.DefinitionNotes.{one_trail}
@@ -38,9 +39,6 @@ use Rattle.bparse.specs.Compilers as compilers
 use Rattle.bparse.specs.declared.step.Step.{Step}
 use Rattle.bparse.specs.declared.step.Step.TheVariants as step
 use Rattle.bparse.proofs.CompilerSteps.{tokens_of-ended}
-
-pub joined-append : (xs ys : List (List ℕ)) → joined (xs ++ ys) ≡ joined xs ++ joined ys
-joined-append xs ys = flat_map-append (λ l. l) xs ys
 
 pub spell_all-append : (ds : List Definition) (d : Definition) → spell_all (ds ++ d ∷ []) ≡ spell_all ds ++ spell_definition d
 spell_all-append [] d = append-nil (spell_definition d)
@@ -76,15 +74,9 @@ of_source c m more f = let s = m.since.spelled more f in (c.first.edition, m.sin
 pub is_open_new : (start : CompilerStart) → MoreCanBeWritten (compilers.new start)
 is_open_new start = record { before = []; since = since_new start; ready = refl }
 
-nil_both : (xs ys : List ℕ) → xs ≡ [] → ys ≡ [] → xs ++ ys ≡ []
-nil_both xs ys h k = rw (h, k) refl
-
 -- what could follow after could follow before
 pub follow : {a b : Incoming} {ys : List ℕ} → Took a ys b → (more : List ℕ) → CanFollow b more → CanFollow a (ys ++ more)
-follow {a} {b} {ys} t more f = λ over. let o = t.over over in nil_both ys more o.0 (f o.1)
-
-grew_since : (a b c : ℕ) → b ≡ a → Grew b c → Grew a c
-grew_since a b c e g = rw e at g
+follow {a} {b} {ys} t more f = λ over. let o = t.over over in nil-append ys more o.0 (f o.1)
 
 -- a compiler at a point
 abbrev pub compiler_at : CompilerStart → Point → List ℕ → Bool → Bool → Compiler
@@ -283,7 +275,7 @@ module _ (first : CompilerStart) (a b : Point) (lender lender' : List ℕ) (out 
   same_out e = subst (OpeningWritten old) (sym e) opens
 
   read_failed : ReadFails a b → compilers.ReadFailed since closed
-  read_failed h = (broke _ h.0, grew_since _ _ _ since.failures h.1, same_out h.2)
+  read_failed h = (broke _ h.0, Grew-after _ _ _ since.failures h.1, same_out h.2)
 
   out_refused : (e : EndFault) → OutRefuses a e b → compilers.OutRefused since e closed
   out_refused e h = (a.out, opens, broke_near _ h.0, h.1 ∙ since.failures)

@@ -11,7 +11,9 @@ use Rattle.blang.specs.Code.{code_of}
 use Rattle.blang.specs.Compiles.{Compilation, Compiles, CompilesTo}
 use Rattle.blang.specs.Cut.{tokens_from}
 use Rattle.blang.specs.Text.{definition_text, end_text, opening}
-use Rattle.bparse.specs.Compiles.{run_of}
+use Rattle.bparse.specs.Compiles.{CodeGives, run_of}
+use Rattle.bparse.specs.declared.step.Step.{Step}
+use Rattle.bparse.specs.declared.step.Step.TheVariants as step
 
 -- The edition of a text, its definitions, whether its last line is there, and how often memory was refused.
 pub record CodeList : Type 0 where
@@ -59,3 +61,12 @@ pub record CompilesList (edition : Edition) (source source_after : Incoming) (ds
   pub code : status ≡ DONE → (more : List ℕ) → CanFollow source_after more
       → (r : Compilation) (g : CompilesTo [] (tokens_from edition 1 (compiles.taken ++ more)) r)
       → ds ≡ map code_of g.definitions
+
+-- What compiling all of a source to a list of these definitions answers. At its end they are those of its code, whatever
+-- lines were told before.
+pub record ListGives (edition : Edition) (source : Incoming) (answer : Step) (source_after : Incoming)
+    (ds : List Definition) : Type 0 where
+  pub list : CodeList
+  pub listed : list.definitions ≡ ds
+  pub gives : CodeGives edition source (outgoing_list empty_list) answer source_after (outgoing_list list)
+  pub all : answer ≡ step.Finished → (line : Outgoing) → CompilesList edition source source_after ds line line DONE

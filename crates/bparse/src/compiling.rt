@@ -2,7 +2,7 @@
 ghost use Rattle.std.specs.Prelude.{◌≡◌};
 ghost use Rattle.bword.specs.declared.edition.Edition.TheVariants as editions;
 ghost use Rattle.blang.specs.Compiles.{CompileHeadline, Compiles};
-ghost use Rattle.bparse.specs.CodeLists.{CompilesList, ListTexts};
+ghost use Rattle.bparse.specs.CodeLists.{CompilesList, ListGives, ListTexts};
 ghost use Rattle.bparse.specs.Compilers as compilers;
 ghost use Rattle.bparse.specs.Compiles.{CodeGives, LastGives, run_of};
 ghost use Rattle.bparse.specs.LocalRows.{AllNamed, HasTable, named, named_of_two};
@@ -136,27 +136,25 @@ fn compile_and_tell<I: ByteIn, C: CodeOut, D: ByteOut, W: Watcher>(
     }
 }
 
-/// Compiles all definitions from one end to the other, and gives the last answer. The watcher looks at the compiler
-/// after each one.
-pub fn compile_code<I: ByteIn, O: ByteOut, W: Watcher>(
+/// Compiles all definitions from one end to the other, and gives the last answer, and the definitions of the code in
+/// place of its text. The watcher looks at the compiler after each one. Where the source has a fault or isn't read to
+/// its end, they are some of those before.
+pub fn compile_definitions<I: ByteIn, W: Watcher>(
     alloc: Global,
     source: &mut I,
-    code: &mut O,
     watcher: &mut W,
     edition: Edition,
-) -> Step
-    ensures gives { CodeGives edition (I.incoming source.old) (O.outgoing code.old) result
-        (I.incoming source.new) (O.outgoing code.new) }
-    ensures watched { Watched edition (I.incoming source.old) (W.kept watcher.old) result (I.incoming source.new) (W.kept watcher.new) }
+) -> (Step, Vec<Definition>)
+    ensures gives { ListGives edition (I.incoming source.old) result.0 (I.incoming source.new) result.1.items }
+    ensures watched { Watched edition (I.incoming source.old) (W.kept watcher.old) result.0 (I.incoming source.new) (W.kept watcher.new) }
     ensures source_lender { I.lender source.new ≡ I.lender source.old }
-    ensures code_lender { O.lender code.new ≡ O.lender code.old }
 {
-    let (last, end) = compile_into(alloc, source, code, watcher, edition);
-    let _ = end;
-    last
+    let code = CodeList::new(alloc);
+    let (last, code) = compile_into(alloc, source, code, watcher, edition);
+    (last, code.into_definitions())
 }
 
-// The same, to what takes the code part by part.
+// Compiles all definitions to what takes the code part by part, and gives the last answer.
 // The compiler is large, and a caller that had it inlined would keep its room in each frame.
 #[inline(never)]
 fn compile_into<I: ByteIn, C: CodeOut, W: Watcher>(

@@ -15,7 +15,7 @@ pub use blang::status::{self, Status};
 pub use code_out::CodeOut;
 pub use compiler::Compiler;
 pub use compiling::{
-    compile, compile_code, compile_edition, compile_list, compile_watched, rows_of_names,
+    compile, compile_definitions, compile_edition, compile_list, compile_watched, rows_of_names,
     wrong_compilings_are_excluded,
 };
 pub use diagnostic::write_diagnostic;

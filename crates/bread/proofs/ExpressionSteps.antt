@@ -36,6 +36,8 @@ use Rattle.bread.specs.Tokens.{Tokens, with_noted, IsLoaded, IsSingle, Runs, Tok
 use Rattle.bread.specs.declared.operators.Prefix.{Prefix}
 use Rattle.bread.specs.declared.operators.Prefix.TheVariants as prefixes
 use Rattle.bread.specs.Parsers.{assigned_at, op_within, prefix_meant, prefix_form, called_at, Leads, Halts, ExpressionTaken, ExpressionAfter, Follows, Continues, TookWord, TookArguments, TakesCurrent, Expected}
+use Rattle.bgrammar.proofs.Forms.{only_open_paren}
+use Rattle.bread.proofs.Lists.{is_a_comma, is_no_comma}
 use Rattle.bread.proofs.TokenSteps.{Moves-breaks, noted_moves, noted_loaded}
 use Rattle.bread.proofs.Moving.{again_marked, past, past_expected, noted_past, run_here, run_past, run_as, run_then, run_bind, halt_after, halt_bind, halt_as, bind_twice, halt_then, halt_device}
 use Rattle.bread.proofs.Chains.{climb, rank_positive, within_some, within_none, chain_climbs, climb_none, climb_some}
@@ -121,17 +123,13 @@ pub character_took : (a b : Tokens) (before mid draft : Draft) (r : Result Form 
 character_took a b before mid draft r n place at k e h m room = atom_took room a b before mid draft r (λ off. Literal (Character n)) place at (λ off u. refl) k e (λ off u f. rw (f ∙ h) refl) (λ off c. m) (λ off d. refl)
 
 -- a group
-open_is : (t : Token) → is_open_paren t ≡ true → t ≡ token.OpenParen
-open_is token.OpenParen h = refl
-open_is _ h = cc
-
 group_read : (room k off : ℕ) (u : List Placed) → room ≡ k + 1 → first u ≡ token.OpenParen → primary (inner room) off u ≡ (reader k Rvalue off (after u) >>= λ e r. expect is_close_paren r >>= λ o. Got (Grouped e))
 group_read room k off u h o = ap (λ i. primary i off u) (at_room room k h) ∙ rw o refl
 
 module _ (room k : ℕ) (a b : Tokens) (enters : (room ≡ k + 1) × Advances a b) where
   module _ (here : is_open_paren (first a.ahead) ≡ true) where
     abbrev group_runs : (off : ℕ) → Runs a b (primary (inner room) off) (λ v. reader k Rvalue off v >>= λ e r. expect is_close_paren r >>= λ o. Got (Grouped e))
-    group_runs off = run_past enters.1 (λ u f n. group_read room k off u enters.0 (f ∙ open_is (first a.ahead) here))
+    group_runs off = run_past enters.1 (λ u f n. group_read room k off u enters.0 (f ∙ only_open_paren (first a.ahead) here))
 
     pub group_stops : (c : Tokens) (why : Halt) → ((off : ℕ) → Halts (reader k Rvalue off) b why c) → (off : ℕ) → Halts (primary (inner room) off) a why c
     group_stops c why h off = halt_after (reader k Rvalue off) (λ e r. expect is_close_paren r >>= λ o. Got (Grouped e)) why c (group_runs off) (h off)
@@ -434,21 +432,13 @@ module _ (k : ℕ) (a : Tokens) (l : IsLoaded a) (h : is_close_paren (first a.ah
     single = t.1;
   }
 
-comma_is : (t : Token) → is_comma t ≡ true → comma t ≡ Some tt
-comma_is token.Comma h = refl
-comma_is _ h = cc
-
-no_comma_is : (t : Token) → is_comma t ≡ false → comma t ≡ None
-no_comma_is token.Comma h = cc
-no_comma_is _ h = refl
-
 module _ (k : ℕ) (a m : Tokens) (start draft : Draft) (count : ℕ) (s : InArguments k a start m draft count) where
   pub comma_stops : (b : Tokens) (why : Halt) → TokensFail m b → why ≡ halt.Device → (off : ℕ) (e : Expr) → Halts (call (inner (k + 1)) off e) a why b
   comma_stops b why br w off e = halt_device (call (inner (k + 1)) off e) why w (Moves-breaks (s.so_far off e).runs br)
 
   module _ (b : Tokens) (is : is_comma (first m.ahead) ≡ true) (ad : Advances m b) where
     abbrev comma_runs : (off : ℕ) (e : Expr) → Runs a b (call (inner (k + 1)) off e) (λ v. reader k Rvalue (off + words e + argument_words (s.so_far off e).arguments) v >>= λ f. more_arguments k off e (Another (s.so_far off e).arguments f))
-    comma_runs off e = run_then (s.so_far off e).runs (run_past ad (λ u f n. comma_read k off e (s.so_far off e).arguments u (ap comma f ∙ comma_is (first m.ahead) is)))
+    comma_runs off e = run_then (s.so_far off e).runs (run_past ad (λ u f n. comma_read k off e (s.so_far off e).arguments u (ap comma f ∙ is_a_comma (first m.ahead) is)))
 
     pub more_stops : (c : Tokens) (why : Halt) → ((off : ℕ) → Halts (reader k Rvalue off) b why c) → (off : ℕ) (e : Expr) → Halts (call (inner (k + 1)) off e) a why c
     more_stops c why h off e = halt_after (reader k Rvalue (off + words e + argument_words (s.so_far off e).arguments)) (λ f. more_arguments k off e (Another (s.so_far off e).arguments f)) why c (comma_runs off e) (h (off + words e + argument_words (s.so_far off e).arguments))
@@ -471,7 +461,7 @@ module _ (k : ℕ) (a m : Tokens) (start draft : Draft) (count : ℕ) (s : InArg
 
   module _ (none : is_comma (first m.ahead) ≡ false) where
     abbrev end_runs : (off : ℕ) (e : Expr) → Runs a m (call (inner (k + 1)) off e) (λ v. expect is_close_paren v >>= λ o. Got (Called e (s.so_far off e).arguments))
-    end_runs off e = run_then (s.so_far off e).runs (run_here s.single.0 (λ u f n. ap (λ x. x >>= λ args r. expect is_close_paren r >>= λ o. Got (Called e args)) (many_none (always comma) (another (inner (suc k)) (off + words e)) (s.so_far off e).arguments u (ap comma f ∙ no_comma_is (first m.ahead) none))))
+    end_runs off e = run_then (s.so_far off e).runs (run_here s.single.0 (λ u f n. ap (λ x. x >>= λ args r. expect is_close_paren r >>= λ o. Got (Called e args)) (many_none (always comma) (another (inner (suc k)) (off + words e)) (s.so_far off e).arguments u (ap comma f ∙ is_no_comma (first m.ahead) none))))
 
     pub end_stops : (c : Tokens) (why : Halt) → Halts (expect is_close_paren) m why c → (off : ℕ) (e : Expr) → Halts (call (inner (k + 1)) off e) a why c
     end_stops c why h off e = halt_after (expect is_close_paren) (λ o. Got (Called e (s.so_far off e).arguments)) why c (end_runs off e) h

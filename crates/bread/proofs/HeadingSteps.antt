@@ -23,6 +23,7 @@ use Rattle.bread.specs.declared.halt.Halt.{Halt}
 use Rattle.bread.specs.declared.halt.Halt.TheVariants as halt
 use Rattle.bread.specs.Headings.{auto, extrn, case, default, IsHeadedBy, IsUnheaded, StopsHeading}
 use Rattle.bread.specs.Compiling.{untold, PartTaken, CompilesPart, TookName, TookSize, TookConstant, NoHeading, TookHeading, FindsHeading}
+use Rattle.bgrammar.proofs.Forms.{only_colon}
 use Rattle.bread.proofs.Moving.{past, past_expected, one_past, noted_past}
 use Rattle.bread.proofs.TokenSteps.{Moves-append, Moves-breaks}
 use Rattle.bread.proofs.Steps.{began, went, halts_first, halts_then, run_seen}
@@ -123,11 +124,6 @@ heading_err old start (Err s) new draft why e h = subst (λ x. FindsHeading old 
 pub heading_breaks : (old : Tokens) (start : Draft) (r : Result Bool Halt) (new : Tokens) (draft : Draft) (why : Halt) → IsErrAnd r (λ y. y ≡ why) → why ≡ halt.Device → TokensFail old new → FindsHeading old start r new draft
 heading_breaks old start r new draft why e d h = heading_err old start r new draft why e (subst (λ x. FindsHeading old start (Err x) new draft) (sym d) h)
 
--- a label, or none
-is_a_colon : (t : Token) → is_colon t ≡ true → t ≡ token.Colon
-is_a_colon token.Colon h = refl
-is_a_colon _ h = cc
-
 second_of : (ahead : List Placed) (edition : Edition) (line : ℕ) (bytes : List ℕ) (p q : Placed) (ps : List Placed) (x : List ℕ) → ahead ≡ p ∷ ps → after ahead ≡ q ∷ [] → first ahead ≡ token.Name x → first (after (tokens_with ahead edition line bytes)) ≡ first (after ahead)
 second_of [] edition line bytes p q ps x e k h = cc
 second_of (a ∷ []) edition line bytes p q ps x e k h = cc
@@ -148,7 +144,7 @@ module _ {old mid : Tokens} (x : List ℕ) (name_is : first old.ahead ≡ token.
 
   module _ (k : is_colon (first (after mid.ahead)) ≡ true) {next new : Tokens} (a : Advances mid next) (b : Advances next new) where
     colon_there : first next.ahead ≡ token.Colon
-    colon_there = (subst (λ ps. KeepsAhead ps next.ahead) h.second_is a.keeps).0 ∙ sym (ap first h.second_is) ∙ is_a_colon (first (after mid.ahead)) k
+    colon_there = (subst (λ ps. KeepsAhead ps next.ahead) h.second_is a.keeps).0 ∙ sym (ap first h.second_is) ∙ only_colon (first (after mid.ahead)) k
 
     pub label_took : {start draft : Draft} → draft ≡ labelled (record { text = x; line = line_ahead old.ahead }) start → TookHeading start old new draft
     label_took {start} {draft} e = record {

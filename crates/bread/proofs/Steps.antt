@@ -11,13 +11,7 @@ use Rattle.bread.specs.Parsers.{Halts}
 use Rattle.bemit.specs.Trails.{Trail, Lines}
 use Rattle.bread.specs.Compiling.{PartTaken, CompilesPart, CompilesAfter}
 use Rattle.bread.proofs.TokenSteps.{Moves-breaks, stays_same, noted_loaded}
-use Rattle.bread.proofs.Moving.{run_then, run_bind}
-
-pub first_with : (ahead : List Placed) (edition : Edition) (line : ℕ) (bytes : List ℕ) (p : Placed) (ps : List Placed) → ahead ≡ p ∷ ps → first (tokens_with ahead edition line bytes) ≡ first ahead
-first_with ahead edition line bytes p ps e = rw e refl
-
-pub line_with : (ahead : List Placed) (edition : Edition) (line : ℕ) (bytes : List ℕ) (p : Placed) (ps : List Placed) → ahead ≡ p ∷ ps → line_ahead (tokens_with ahead edition line bytes) ≡ line_ahead ahead
-line_with ahead edition line bytes p ps e = rw e refl
+use Rattle.bread.proofs.Moving.{first_with, line_with, run_then, run_bind}
 
 module _ {A B : Type 0} where
   -- reading goes on after what was read

@@ -1,6 +1,6 @@
 -- What the headlines alone say of one program and one source, over streams in memory.
-use Rattle.std.proofs.Common.{◌≡◌, ℕ, List, [], ◌∷◌, ◌++◌, length, take, codes, Bool, true, false, Option, Some, None, refl, sym, ap, ◌∙◌, subst, arith, length-append, ◌⊎◌, inl, inr}
-use Rattle.std.specs.Prelude.{decimal, ◌==◌}
+use Rattle.std.proofs.Common.{◌≡◌, ℕ, List, [], ◌∷◌, ◌++◌, take, codes, Bool, true, false, Option, Some, None, refl, sym, ap, ◌∙◌, subst, arith, ◌⊎◌, inl, inr}
+use Rattle.std.specs.Prelude.{◌==◌}
 use Rattle.std.specs.Fmt.{digits}
 use Rattle.std.proofs.lemmas.Bool.{eqb-true}
 use Rattle.bword.specs.declared.edition.Edition.TheVariants as editions
@@ -10,7 +10,7 @@ use Rattle.blang.specs.declared.token.Token.TheVariants as token
 use Rattle.blang.specs.declared.token.Diagnostic.{Diagnostic}
 use Rattle.blang.specs.WellFormed.{Parted}
 use Rattle.blang.specs.Compiles as compiled
-use Rattle.blang.specs.Compiles.{CompilesTo, Tells, IsUndisturbed, CompileAnswers, compilation_of, fault_text, fault_status, line_of, letters_text, about_text}
+use Rattle.blang.specs.Compiles.{CompilesTo, Tells, IsUndisturbed, CompileAnswers, compilation_of, fault_text, fault_status}
 use Rattle.blang.specs.Layout.{Exited}
 use Rattle.blang.specs.Machine as runs_at
 use Rattle.blang.specs.Meaning.{Loads}
@@ -19,6 +19,7 @@ use Rattle.blang.specs.Headline.{NothingFailed, RunAnswers}
 use Rattle.bgrammar.proofs.Parting.{parted_end}
 use Rattle.bgrammar.proofs.Outcomes.{parted_after, parted_once}
 use Rattle.bgrammar.proofs.SourceRows.{a_number}
+use Rattle.bparse.proofs.CompileExcluded.{line_some}
 use Rattle.brun.specs.OneRun.{OneRunIsKnown, OneCompilationIsKnown, one_run_ends, one_compilation_run, unread}
 use Rattle.brun.proofs.RunExcluded.{writes_a, main_a, state}
 
@@ -35,16 +36,9 @@ by_memory {A = A} status f = by_cases (status == 134) refl
 tells : (bytes : List ℕ) → Tells (unread bytes) bytes
 tells bytes = record { left = refl; follow = λ over. cc }
 
--- a line has a byte
-some_line : (d : Diagnostic) → line_of d ≡ [] → ⊥
-some_line d e =
-    let whole : length (line_of d) ≡ 0 = ap length e in
-    let last = length-append (letters_text d.letters ++ about_text d.about ++ codes " " ++ decimal d.line) (codes "\n") in
-    omega (arith, whole, last)
-
 no_fault : (stop : Option Diagnostic) → fault_text stop ≡ [] → stop ≡ None
 no_fault None e = refl
-no_fault (Some d) e = absurd (some_line d e)
+no_fault (Some d) e = absurd (line_some d e)
 
 pub one_compilation : OneCompilationIsKnown
 one_compilation source code line status h = by_memory status answered

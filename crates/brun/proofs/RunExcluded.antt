@@ -26,6 +26,7 @@ use Rattle.blang.specs.Headline.{RunsProgram, GoesOff, DoesAsMeant, NothingFaile
 use Rattle.blang.specs.Headline as going
 use Rattle.blang.specs.declared.run.Report.TheVariants as report
 use Rattle.bmach.proofs.Losing.{lost_at_read}
+use Rattle.bmach.proofs.MachineExcluded.{not_grown}
 use Rattle.bmach.proofs.Running.{device_failed}
 use Rattle.bparse.proofs.Remaining.{rest_of, all_written}
 use Rattle.brun.proofs.HeadlineSteps.{headline, other_stop}
@@ -214,15 +215,12 @@ never_asks input (suc (suc made)) asks =
     let bad = subst AsksForByte over asks in
     cc
 
-none_grew : (a b : ℕ) → a ≡ 0 → b ≡ 0 → Grew a b → ⊥
-none_grew a b e f g = omega (arith, e, f, g)
-
 module _ (ends : RunEnds) (a : ends.out.failures ≡ 0) (b : ends.out_after.failures ≡ 0) (c : ends.line.failures ≡ 0) (d : ends.line_after.failures ≡ 0) where
   -- where no write failed, a run that has this status broke off at a read
   stopped_reading : (steps : ℕ) (ds : List Definition) → RunsProgram steps ds ends 133 → StopsAtRead (machine (map code_of ds)) steps ends.input ends.input_after ends.out ends.out_after
   stopped_reading steps ds h =
-      ⊎_elim (λ l. absurd (none_grew ends.line.failures ends.line_after.failures c d l))
-      (λ r. ⊎_elim (λ x. x) (λ w. absurd (none_grew ends.out.failures ends.out_after.failures a b (subst (λ n. Grew n ends.out_after.failures) w.comes.written.failures w.refuses.counted.0))) r)
+      ⊎_elim (λ l. absurd (not_grown ends.line.failures ends.line_after.failures c d l))
+      (λ r. ⊎_elim (λ x. x) (λ w. absurd (not_grown ends.out.failures ends.out_after.failures a b (subst (λ n. Grew n ends.out_after.failures) w.comes.written.failures w.refuses.counted.0))) r)
       (broke_off steps ds ends 133 h refl)
 
   -- What was written before a read that failed isn't lost.

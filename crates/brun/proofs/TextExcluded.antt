@@ -15,6 +15,7 @@ use Rattle.blang.specs.declared.run.Outcome.{Outcome}
 use Rattle.blang.specs.declared.run.Outcome.TheVariants as outcome
 use Rattle.blang.specs.declared.run.Report.TheVariants as report
 use Rattle.bcode.specs.Faults.{IsFaultLine}
+use Rattle.bcode.proofs.CodeExcluded.{same_line}
 use Rattle.bcode.proofs.FaultLaws.{unique_code}
 use Rattle.bmach.proofs.Running.{device_failed}
 use Rattle.brun.specs.Runs as texts
@@ -33,12 +34,6 @@ text_run_alone steps text ds ends status is (texts.read es code runs) =
 text_run_alone steps text ds ends status is (texts.no_room header quiet silent e) = inr (quiet, silent, e)
 
 -- A text that is no code text isn't run, and the line is that of its first wrong line.
-same_line : (text : List ℕ) (n m : ℕ) → IsFaultLine text n → IsFaultLine text m → n ≡ m
-same_line text n m f g =
-    let p = f.greatest g.good g.begins in
-    let q = g.greatest f.good f.begins in
-    omega (arith, f.next, g.next, p, q)
-
 pub no_text_told : (steps : ℕ) (text : List ℕ) (n : ℕ) (ends : RunEnds) (status : ℕ) → IsFaultLine text n → ((ds : List Definition) → IsCodeText text ds → ⊥) → RunsText steps text ends status
     → (HasNotRun ends × Reported (report_text (report.Code n)) 132 ends.line ends.line_after status) ⊎ NoRoom ends status
 no_text_told steps text n ends status line none (texts.unread m other without quiet told) =

@@ -1,4 +1,3 @@
-pub mod Ranges
 pub mod FactParts
 pub mod Calls
 pub mod Recorded

@@ -15,9 +15,9 @@ use Rattle.bmach.specs.Stepping.{Paused}
 use Rattle.bmach.specs.Stops.{active_of}
 use Rattle.bmach.specs.declared.machine.Active.{Active}
 use Rattle.bmach.specs.declared.machine.Stop.{Stop}
-use Rattle.btrace.specs.Trails.{IsKept, Keeps, chosen, trail_text}
-use Rattle.btrace.specs.declared.trail.TraceRows.{TraceRows}
-use Rattle.btrace.specs.declared.trail.Trail.{Trail}
+use Rattle.bwatch.specs.Trails.{IsKept, Keeps, chosen, trail_text}
+use Rattle.bwatch.specs.declared.trail.TraceRows.{TraceRows}
+use Rattle.bwatch.specs.declared.trail.Trail.{Trail}
 use Rattle.bwatch.specs.Sights.{Sight, Sights, end_sight, sight_at, sights_of}
 use Rattle.bwatch.specs.Watches.{Ending, Leaves as EndLeaves, Watches}
 use Rattle.bshow.specs.Facts.{run_text, sentence}
@@ -25,21 +25,13 @@ use Rattle.bshow.specs.Rows.{LinedCode, call_cells, done_cells, heard_between, h
 use Rattle.bshow.specs.Shows.{IsPageOf, calls_at, facts_text, head, heard_text, next_text, page_text, rows_text, run_page, said_text, tail, wanted_of}
 use Rattle.bshow.specs.Steps.{Awaits, AwaitsStep, EndsRows, FollowsCalls, HasSeen, HasTold, IsRun, KeepsLast, KeepsSteps, KnowsStored, Moves, may_show, next_row}
 use Rattle.bshow.specs.declared.recorder.Recorder.{Recorder}
-use Rattle.btrace.proofs.Kept.{kept_more, kept_none, kept_same, kept_text, map-chosen}
+use Rattle.bwatch.proofs.Kept.{kept_more, kept_none, kept_same, kept_text, map-chosen, no_row, own_row}
 use Rattle.bshow.proofs.Calls.{is_run}
-use Rattle.bshow.proofs.Ranges as ranges
+use Rattle.btools.proofs.Ranges as ranges
 
 -- the steps that may be shown, with one more
 wanted_more : (which : TraceRows) (made : ℕ) → wanted_of which (made + 1) ≡ wanted_of which made ++ cond (may_show which made) (made ∷ []) []
 wanted_more which made = simp map-id at (filter_of_map_range_with_len_more (may_show which) (λ (n : ℕ). n) 0 made made (omega arith))
-
-pub no_row : (b : Bool) (row : List ℕ) → b ≡ false → (if b then row else []) ≡ []
-no_row false row e = refl
-no_row true row e = cc
-
-pub own_row : (b : Bool) (row : List ℕ) → b ≡ true → (if b then row else []) ≡ row
-own_row true row e = refl
-own_row false row e = cc
 
 -- The row of a step was ended by these cells and kept, if it has one.
 abbrev pub Added : Bool → TraceRows → (cells : List ℕ) → (old new : Trail) → Type 0

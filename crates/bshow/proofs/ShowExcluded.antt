@@ -18,9 +18,10 @@ use Rattle.bmach.proofs.Running.{device_failed}
 use Rattle.btools.specs.ProgramsExcluded.{Excluded, code_in}
 use Rattle.btools.specs.Programs.{load_line, nothing_written}
 use Rattle.btools.specs.FaultPlaces.{fault_lines}
-use Rattle.btools.proofs.ProgramsExcluded.{device_grew, excluded, no_done, not_grown, other_answer, was_told}
+use Rattle.bmach.proofs.MachineExcluded.{not_grown}
+use Rattle.btools.proofs.ProgramsExcluded.{device_grew, excluded, no_done, other_answer, was_told}
 use Rattle.btools.proofs.Unasked.{program_left, untaken}
-use Rattle.btrace.specs.declared.trail.TraceRows.{TraceRows}
+use Rattle.bwatch.specs.declared.trail.TraceRows.{TraceRows}
 use Rattle.bwatch.specs.Sights.{Sights, sights_of}
 use Rattle.bwatch.specs.Watches.{Watches}
 use Rattle.bshow.specs.Facts.{no_run_text, program_text, unbegun_sentence}

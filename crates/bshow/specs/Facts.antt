@@ -12,7 +12,7 @@ use Rattle.bmach.specs.declared.machine.Active.{Active}
 use Rattle.bsources.specs.Files.{File, Files}
 use Rattle.btools.specs.declared.names.Frame.{Frame}
 use Rattle.btools.specs.declared.names.FrameWord.{FrameWord}
-use Rattle.btrace.specs.RowTexts.{signed_text}
+use Rattle.btools.specs.Characters.{signed_text}
 use Rattle.bshow.specs.Escapes.{escaped}
 
 -- the files of the source in their order, and how many lines each has

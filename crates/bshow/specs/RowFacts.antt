@@ -17,9 +17,9 @@ use Rattle.blang.specs.Machine.{Loaded, image_of, machine}
 use Rattle.blang.specs.Reports.{report_text}
 use Rattle.bmach.specs.declared.machine.Active.{Active}
 use Rattle.bsources.specs.Files.{File, Files, file_of}
-use Rattle.btrace.specs.TraceExcluded.{calling, nothing, passing, reading, storing, trapping, writing}
-use Rattle.btrace.specs.declared.trail.TraceRows.{TraceRows}
-use Rattle.btrace.specs.declared.trail.TraceRows.TheVariants as rows
+use Rattle.bwatch.specs.SmallPrograms.{calling, nothing, passing, reading, storing, trapping, writing}
+use Rattle.bwatch.specs.declared.trail.TraceRows.{TraceRows}
+use Rattle.bwatch.specs.declared.trail.TraceRows.TheVariants as rows
 use Rattle.bwatch.specs.Sights.{Sights, sights_of}
 use Rattle.bshow.specs.Escapes.{escaped, is_safe, unescaped}
 use Rattle.bshow.specs.Facts.{all_addresses, calls_text, definitions_text, files_text, no_run_text, sentence, sizes_text}

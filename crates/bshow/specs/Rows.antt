@@ -7,12 +7,12 @@ use Rattle.blang.specs.declared.code.Definition.{Definition}
 use Rattle.blang.specs.declared.code.Instr.{Instr}
 use Rattle.blang.specs.declared.code.Instr.TheVariants as instr
 use Rattle.bmach.specs.declared.machine.Active.{Active}
-use Rattle.btools.specs.Functions.{Placed, entries_of, function_with, functions_of}
+use Rattle.btools.specs.Functions.{Placed, entries_of, function_with, functions_of, instr_in, name_in}
 use Rattle.btools.specs.ProgramLines.{FunctionLines, line_at, lined_functions, lines_shown}
 use Rattle.btools.specs.declared.tables.Tables.{Tables}
-use Rattle.btrace.specs.RowTexts.{instr_in, instr_text, name_in, signed_text}
-use Rattle.btrace.specs.Traces.{stored_between}
-use Rattle.bwatch.specs.Sights.{Sight, Sights}
+use Rattle.btools.specs.Columns.{instr_text}
+use Rattle.btools.specs.Characters.{signed_text}
+use Rattle.bwatch.specs.Sights.{Sight, Sights, stored_between}
 use Rattle.bshow.specs.Escapes.{escaped}
 use Rattle.bshow.specs.declared.rows.TheConstants.{GETCHAR}
 

@@ -18,8 +18,8 @@ use Rattle.btools.specs.FaultPlaces.{fault_lines}
 use Rattle.btools.specs.FrameNames.{HasNames}
 use Rattle.btools.specs.ProgramLines.{HasLines}
 use Rattle.btools.specs.Programs.{HasProgram, NoProgram, nothing_written}
-use Rattle.btrace.specs.Trails.{chosen, first_of}
-use Rattle.btrace.specs.declared.trail.TraceRows.{TraceRows}
+use Rattle.bwatch.specs.Trails.{chosen, first_of}
+use Rattle.bwatch.specs.declared.trail.TraceRows.{TraceRows}
 use Rattle.bwatch.specs.Sights.{Sights}
 use Rattle.bwatch.specs.Watches.{Watches}
 use Rattle.bshow.specs.Facts.{no_run_text, program_text, run_text, sentence, unbegun_sentence}

@@ -14,9 +14,9 @@ use Rattle.bmach.specs.Stepping.{Paused}
 use Rattle.bmach.specs.Stops.{active_of}
 use Rattle.bmach.specs.declared.machine.Active.{Active}
 use Rattle.btools.specs.declared.names.Frame.{Frame}
-use Rattle.btrace.specs.Trails.{IsKept, Keeps, first_of}
-use Rattle.btrace.specs.declared.trail.TraceRows.{TraceRows}
-use Rattle.btrace.specs.declared.trail.Trail.{Trail}
+use Rattle.bwatch.specs.Trails.{IsKept, Keeps, first_of}
+use Rattle.bwatch.specs.declared.trail.TraceRows.{TraceRows}
+use Rattle.bwatch.specs.declared.trail.Trail.{Trail}
 use Rattle.bwatch.specs.Sights.{Sight, Sights}
 use Rattle.bshow.specs.Facts.{program_text}
 use Rattle.bshow.specs.Rows.{LinedCode, call_cells, done_cells, hears_next, row_text, sight_cells, table_code, words_in}

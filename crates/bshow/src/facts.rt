@@ -10,8 +10,7 @@ use crate::escapes::push_escaped;
 use blang::Definition;
 use bmach::{Active, FIRST_ADDRESS, Stepper, name_of, size_of};
 use bsources::{SourceFile, SourceFiles};
-use btools::{Frame, FrameWord, Program, Text};
-use btrace::push_signed;
+use btools::{Frame, FrameWord, Program, Text, push_signed};
 use bword::Store;
 use std::alloc::AllocError;
 

@@ -1,7 +1,7 @@
 //! Who looks on at a run and keeps its page.
 ghost use Rattle.std.specs.Prelude.{◌≡◌, ◌+◌, ◌-◌, ◌%◌, ◌<◌, ◌^◌, ◌++◌, ◌∷◌, [], IfOk, OnOk, drop, reverse, slice_index, if◌then◌else◌};
 ghost use Rattle.std.specs.List.{flat_map, range_with_len};
-ghost use Rattle.btrace.specs.Trails.{trail_text};
+ghost use Rattle.bwatch.specs.Trails.{trail_text};
 ghost use Rattle.bshow.specs.Facts.{sentence};
 ghost use Rattle.bshow.specs.Rows.{table_code};
 ghost use Rattle.bshow.specs.Shows.{head, said_text};
@@ -15,8 +15,7 @@ use crate::rows::{calls_getchar, operand, push_call, push_done, words_in};
 use blang::Outcome;
 use bmach::{Active, Stepper, Stop};
 use btools::{Tables, Text};
-use btrace::{TraceRows, Trail};
-use bwatch::Onlooker;
+use bwatch::{Onlooker, TraceRows, Trail};
 use bword::Store;
 use std::alloc::{AllocError, Global};
 use std::collections::VecDeque;

@@ -2,15 +2,14 @@
 ghost use Rattle.std.specs.Prelude.{◌≡◌, ◌≤◌, ◌+◌, ◌-◌, ◌++◌, IfOk, OnOk, length, slice_index};
 ghost use Rattle.std.specs.List.{range_with_len};
 ghost use Rattle.bmach.specs.Stops.{active_of};
-ghost use Rattle.btrace.specs.RowTexts.{instr_text};
+ghost use Rattle.btools.specs.Columns.{instr_text};
 ghost use Rattle.bshow.specs.Rows.{call_cells, done_cells, instr_of, is_getchar, number_cell, other_text, others_text, table_code, text_cell, words_cell, words_in};
 
 use crate::escapes::push_escaped;
 use bcode::{Page, push_instr_line};
 use blang::Instr;
 use bmach::Stepper;
-use btools::{Tables, Text};
-use btrace::{instr_at, name_of, push_signed};
+use btools::{Tables, Text, instr_at, name_of, push_signed};
 use bword::Store;
 use std::alloc::{AllocError, Global};
 use std::ops::Range;

@@ -16,8 +16,7 @@ use blang::status::{self, Status};
 use blang::{Outcome, Trap};
 use bsources::SourceFiles;
 use btools::{Origin, Program, Tables, Text, read_program, tell, tell_placed};
-use btrace::TraceRows;
-use bwatch::{Watched, watch};
+use bwatch::{TraceRows, Watched, watch};
 use bword::{ByteIn, ByteOut, Edition};
 use std::alloc::{AllocError, Global};
 

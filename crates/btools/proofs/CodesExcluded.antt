@@ -8,6 +8,7 @@ use Rattle.bword.specs.ByteEnds.{Outgoing, Writes, most}
 use Rattle.bword.specs.declared.ends.EndFault.{EndFault}
 use Rattle.bword.specs.declared.ends.EndFault.TheVariants as end_fault
 use Rattle.bcode.specs.Faults.{IsFaultLine}
+use Rattle.bcode.proofs.CodeExcluded.{same_line}
 use Rattle.bcode.proofs.FaultLaws.{unique_code}
 use Rattle.blang.specs.declared.code.Definition.{Definition}
 use Rattle.blang.specs.declared.run.LoadFault.{LoadFault}
@@ -54,13 +55,6 @@ line_status text told old new status (inr x) = by_kind x.fault x.status
     by_kind : (kind : EndFault) → status ≡ status_of kind → (status ≡ told) ⊎ (status ≡ 133) ⊎ (status ≡ 134)
     by_kind end_fault.Device s = inr (inl s)
     by_kind end_fault.Memory s = inr (inr s)
-
--- the first wrong line of a text
-same_line : (text : List ℕ) (n m : ℕ) → IsFaultLine text n → IsFaultLine text m → n ≡ m
-same_line text n m f g =
-    let p = f.greatest g.good g.begins in
-    let q = g.greatest f.good f.begins in
-    omega (arith, f.next, g.next, p, q)
 
 module _ (c : CodeText) (source : List ℕ) (lines : Diagnostic → List ℕ) (line line_after : Outgoing) where
   module _ (ds : List Definition) (is : IsCodeText c.code ds) where

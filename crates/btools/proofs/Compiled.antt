@@ -9,7 +9,7 @@ use Rattle.blang.specs.Text.{IsCodeText}
 use Rattle.bgrammar.proofs.ReadingBack.{reads_back}
 use Rattle.btools.specs.Programs.{WasCompiled}
 use Rattle.btools.specs.ProgramsExcluded.{code_in}
-use Rattle.btools.proofs.ProgramsExcluded.{not_grown}
+use Rattle.bmach.proofs.MachineExcluded.{not_grown}
 
 no_more : (taken rest : List ℕ) → taken ++ rest ≡ taken → rest ≡ []
 no_more [] rest h = h

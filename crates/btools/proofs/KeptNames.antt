@@ -47,9 +47,3 @@ pub names_whole : (edition : Edition) (source : List ℕ) (r : Result Program Pr
     → IfOk r (λ p. HasNames edition source p.names.frames.items)
 names_whole edition source (Ok p) kept now none keeps is = (whole edition source p kept now none keeps is).1
 names_whole edition source (Err e) kept now none keeps is = tt
-
--- what holds where the compiler came to its end
-pub if_finished : {X D E : Type 0} (r : Result (Result X D) E) (answer : Step) (P : Type 0) → (answer ≡ step.Finished → P) → IfOk r (λ code. IfOk code (λ v. answer ≡ step.Finished)) → IfOk r (λ code. IfOk code (λ v. P))
-if_finished (Ok (Ok x)) answer P f end = f end
-if_finished (Ok (Err d)) answer P f end = tt
-if_finished (Err e) answer P f end = tt

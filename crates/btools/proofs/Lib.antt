@@ -15,3 +15,5 @@ pub mod PlaceLines
 mod FileRows
 pub mod CodesExcluded
 pub mod ReadingText
+pub mod Ranges
+pub mod Stopped

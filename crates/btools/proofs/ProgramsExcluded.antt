@@ -19,9 +19,6 @@ use Rattle.btools.specs.declared.program.ProgramFault.TheVariants as why
 use Rattle.btools.specs.Programs.{HasNoProgram, HasProgram, TellsFault, load_line, unlined_line}
 use Rattle.btools.specs.ProgramsExcluded.{WrongPrograms, code_in}
 
-pub not_grown : (a b : ℕ) → a ≡ 0 → b ≡ 0 → Grew a b → ⊥
-not_grown a b e f h = omega (arith, e, f, h)
-
 -- a line with a status was told, and the answer is that of a failed device
 pub device_grew : (text : List ℕ) (status : ℕ) (old new : Outgoing) → (status ≡ 133 → ⊥) → Reported text status old new 133 → Grew old.failures new.failures
 device_grew text status old new other (inl told) = absurd (other (sym told.1))

@@ -2,32 +2,29 @@
 use Rattle.std.proofs.Common.{◌≡◌, ◌∙◌, ℕ, List, [], ◌++◌, Bool, true, false, None, Result, Ok, Err, IfOk, ap, refl, sym, subst, ◌⊎◌, inl, inr}
 use Rattle.std.specs.Prelude.{MatchResult}
 use Rattle.bword.specs.declared.edition.Edition.{Edition}
-use Rattle.bword.specs.ByteEnds.{Kept, Unread, incoming_of, outgoing_of}
+use Rattle.bword.specs.ByteEnds.{Unread, incoming_of}
 use Rattle.bword.proofs.Remaining.{rest_after}
 use Rattle.bword.proofs.Taking.{Took-append}
 use Rattle.bcode.specs.declared.fault.CodeFault.TheVariants as code_fault
-use Rattle.bcode.proofs.FaultLaws.{unique_code}
 use Rattle.blang.specs.declared.code.Definition.{Definition}
 use Rattle.blang.specs.declared.token.Diagnostic.{Diagnostic}
 use Rattle.blang.specs.Compiles.{CompilesTo}
 use Rattle.blang.specs.Cut.{tokens_from}
-use Rattle.blang.specs.Text.{IsCodeText}
 use Rattle.bgrammar.proofs.GoesLaws.{each_source_comes}
-use Rattle.bparse.specs.Compiles.{CodeGives}
+use Rattle.bparse.specs.CodeLists.{ListGives, kept_of}
 use Rattle.bparse.specs.Compilers.{Compiler, CompilerGives}
 use Rattle.bparse.specs.declared.step.Step.{Step}
 use Rattle.bparse.specs.declared.step.Step.TheVariants as step
-use Rattle.bparse.proofs.CompileSteps.{answers, compiles_between, device, done, last_not_closed, last_not_written}
+use Rattle.bparse.proofs.CompileSteps.{answers, compiles_between, device, last_not_closed, last_not_written}
 use Rattle.blang.specs.Layout.{load_fault}
 use Rattle.bmach.specs.Resolved.{IsLoadedFrom}
-use Rattle.btools.specs.Programs.{HasFault, HasNoProgram, IsCodeOf, IsThisProgram, LoadGives, WasAnswered, WasCompiled, nothing_written}
+use Rattle.btools.specs.Programs.{HasFault, HasNoProgram, IsCodeOf, IsThisProgram, LoadGives, WasCompiled, nothing_written}
 use Rattle.btools.specs.declared.program.Program.{Program}
 use Rattle.btools.specs.declared.program.ProgramFault.{ProgramFault}
 use Rattle.btools.specs.declared.program.ProgramFault.TheVariants as why
-use Rattle.btools.specs.ProgramsExcluded.{code_in}
 use Rattle.btools.proofs.Compiled as compiled
-use Rattle.btools.proofs.Compiled.{clean}
-use Rattle.btools.proofs.ProgramsExcluded.{not_grown}
+use Rattle.btools.proofs.Compiled.{follows}
+use Rattle.bmach.proofs.MachineExcluded.{not_grown}
 
 -- a wrong line is no want of memory
 pub no_line : (n : ℕ) → code_fault.Line n ≡ code_fault.Memory → ⊥
@@ -52,64 +49,45 @@ stopped edition source old new fault reads gives r g =
     never : (b : Bool) → b ≡ true → b ≡ false → ⊥
     never b p q = cc
 
--- what compiling a source over memory answers
-module _ (edition : Edition) (source : List ℕ) (following : Unread) (code : Kept) where
-  abbrev Answers : Step → Type 0
-  Answers answer = CodeGives edition (incoming_of (record { left = source; is_over = false })) nothing_written answer (incoming_of following) (outgoing_of code)
+-- what compiling a source over memory answers, and the definitions that it gives
+module _ (edition : Edition) (source : List ℕ) (first following : Unread) (answer : Step) (ds : List Definition) (is : first ≡ record { left = source; is_over = false })
+    (h : ListGives edition (incoming_of first) answer (incoming_of following) ds) where
+  gives : ListGives edition (incoming_of (record { left = source; is_over = false })) answer (incoming_of following) ds
+  gives = subst (λ (i : Unread). ListGives edition (incoming_of i) answer (incoming_of following) ds) is h
 
-  abbrev Was : ℕ → Type 0
-  Was status = WasCompiled edition source nothing_written nothing_written code.bytes status
+  -- the definitions are those of the source
+  pub code_whole : answer ≡ step.Finished → IsCodeOf edition source ds
+  code_whole end =
+      let all = gives.all end nothing_written in
+      let taken = all.compiles.taken in
+      let follow = follows source following taken all.compiles.took in
+      subst (λ t. IsCodeOf edition t ds) (sym all.compiles.took.bytes)
+      (λ r g. ((all.compiles.compiled refl following.left follow r g).clean, sym (all.code refl following.left follow r g)))
 
-  whole : Answers step.Finished → Was 0
-  whole h = record {
-    following = following;
-    kept = code;
-    code_is = refl;
-    compiles = compiles_between nothing_written nothing_written h (λ first last l. done first last _ _ l refl);
-  }
-
-  -- the code is that of the definitions of the source
-  pub some_text : Answers step.Finished → (ds : List Definition) × IsCodeText code.bytes ds
-  some_text h =
-      let some = each_source_comes [] edition 1 source in
-      (code_in edition source some.0 some.1, (clean edition source some.0 some.1 nothing_written nothing_written code.bytes (whole h)).text)
-
-  pub code_whole : (ds : List Definition) → Answers step.Finished → IsCodeText code.bytes ds → IsCodeOf edition source ds
-  code_whole ds h is r g =
-      let c = clean edition source r g nothing_written nothing_written code.bytes (whole h) in
-      (c.clean, unique_code code.bytes (code_in edition source r g) ds c.text is)
-
-  -- no device fails over memory
-  no_device : Answers step.Device → ⊥
-  no_device h =
-      let some = each_source_comes [] edition 1 source in
-      let failed : Was 133 = record {
-        following = following;
-        kept = code;
-        code_is = refl;
-        compiles = compiles_between nothing_written nothing_written h (λ first last l. device first last _ _ l refl);
-      } in
-      not_grown 0 0 refl refl (compiled.device edition source some.0 some.1 nothing_written nothing_written code.bytes failed)
-
-  -- what comes last is nothing else than the end, a fault or refused memory
-  pub never_so : (last : Step) → Answers last → (last ≡ step.Written) ⊎ ((last ≡ step.Device) ⊎ (last ≡ step.Closed)) → ⊥
-  never_so last h (inl written) = last_not_written (answers written h).gives
-  never_so last h (inr (inl device)) = no_device (answers device h)
-  never_so last h (inr (inr closed)) = last_not_closed (answers closed h).gives
-
-  pub fault_whole : (d : Diagnostic) → Answers (step.Fault d) → HasFault edition source d
-  fault_whole d h =
+  pub fault_whole : (d : Diagnostic) → answer ≡ step.Fault d → HasFault edition source d
+  fault_whole d faulty =
+      let h = answers faulty gives.gives in
       let l = h.gives in
       stopped edition source l.old h.last d (ap (λ x. x.edition) l.keeps_old.first ∙ h.edition_is, ap (λ x. x.source) l.keeps_old.first ∙ h.source) l.gives
 
--- what the compiler answers over memory
-pub answered : (edition : Edition) (source : List ℕ) (answer : Step) (first following : Unread) (start code : Kept) → first ≡ record { left = source; is_over = false } → start ≡ record { bytes = []; refusals = 0 }
-    → CodeGives edition (incoming_of first) (outgoing_of start) answer (incoming_of following) (outgoing_of code) → WasAnswered edition source answer code
-answered edition source answer first following start code is none gives = (
-  following,
-  subst (λ (i : Unread). CodeGives edition (incoming_of i) nothing_written answer (incoming_of following) (outgoing_of code)) is
-      (subst (λ (k : Kept). CodeGives edition (incoming_of first) (outgoing_of k) answer (incoming_of following) (outgoing_of code)) none gives),
-)
+  -- no device fails over memory
+  no_device : answer ≡ step.Device → ⊥
+  no_device fails =
+      let some = each_source_comes [] edition 1 source in
+      let kept = kept_of gives.list in
+      let failed : WasCompiled edition source nothing_written nothing_written kept.bytes 133 = record {
+        following = following;
+        kept = kept;
+        code_is = refl;
+        compiles = compiles_between nothing_written nothing_written (answers fails gives.gives) (λ first last l. device first last _ _ l refl);
+      } in
+      not_grown 0 0 refl refl (compiled.device edition source some.0 some.1 nothing_written nothing_written kept.bytes failed)
+
+  -- what comes last is nothing else than the end, a fault or refused memory
+  pub never_so : (answer ≡ step.Written) ⊎ ((answer ≡ step.Device) ⊎ (answer ≡ step.Closed)) → ⊥
+  never_so (inl written) = last_not_written (answers written gives.gives).gives
+  never_so (inr (inl device)) = no_device device
+  never_so (inr (inr closed)) = last_not_closed (answers closed gives.gives).gives
 
 -- definitions of a source that are loaded
 pub loaded : (edition : Edition) (source : List ℕ) (ds : List Definition) (r : Result Program ProgramFault) → IsCodeOf edition source ds → LoadGives ds r → MatchResult r (IsThisProgram edition source) (HasNoProgram edition source)

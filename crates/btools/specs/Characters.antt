@@ -1,7 +1,8 @@
--- Inner words: bytes shown as characters.
+-- Inner words: bytes shown as characters, and words as numbers.
 use Rattle.std.specs.Prelude.{ℕ, ◌==◌, ◌/◌, ◌%◌, ◌&&◌, Bool, IsTrue, List, [], ◌∷◌, ◌++◌, codes, nat_le, nat_lt}
 use Rattle.std.specs.Prelude.{if◌then◌else◌}
 use Rattle.std.specs.List.{list_all}
+use Rattle.blang.specs.Layout.{printed}
 
 -- a printable character of ASCII
 abbrev pub is_printable : ℕ → Bool
@@ -27,3 +28,7 @@ shown_high word = if nat_lt word 256 then [] else shown_byte (word / 256)
 -- a word as characters between quotes, its low byte first
 abbrev pub shown_word : ℕ → List ℕ
 shown_word word = codes "'" ++ shown_byte (word % 256) ++ shown_high word ++ codes "'"
+
+-- a word as `printn` writes it to the base 10
+abbrev pub signed_text : ℕ → List ℕ
+signed_text word = printed word 10

@@ -1,5 +1,9 @@
 -- Inner words: lines and columns of a text.
-use Rattle.std.specs.Prelude.{ℕ, ◌-◌, List, ◌++◌, length, replicate, take}
+use Rattle.std.specs.Prelude.{◌≡◌, ℕ, ◌-◌, List, [], ◌++◌, length, replicate, refl, take}
+use Rattle.std.specs.Prelude.{Option, Some, None}
+use Rattle.blang.specs.Text.{instr_line}
+use Rattle.blang.specs.declared.code.Instr.{Instr}
+use Rattle.btools.specs.declared.text.TheConstants.{BLANKS}
 
 abbrev pub right : ℕ → List ℕ → List ℕ
 right width text = replicate (width - length text) 32 ++ text
@@ -10,3 +14,11 @@ left width text = text ++ replicate (width - length text) 32
 -- a line without its newline
 abbrev pub without_newline : List ℕ → List ℕ
 without_newline line = take (length line - 1) line
+
+-- an instruction as the code text has it
+abbrev pub instr_text : Option Instr → List ℕ
+instr_text (Some i) = without_newline (instr_line i)
+instr_text None = []
+
+pub blanks : BLANKS.now ≡ replicate 48 32
+blanks = refl

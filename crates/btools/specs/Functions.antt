@@ -1,10 +1,13 @@
 -- Promise: the functions of a program, each with where it lies.
-use Rattle.std.specs.Prelude.{◌≡◌, ◌<◌, ℕ, ◌==◌, List, map, filter_map, find, get_or, length, zip, Option, Some, None}
+use Rattle.std.specs.Prelude.{◌≡◌, ◌<◌, ℕ, ◌==◌, List, [], map, filter_map, find, get_or, length, slice_get, zip}
+use Rattle.std.specs.Prelude.{codes, Option, Some, None}
 use Rattle.std.specs.Str.{bytes_eq}
 use Rattle.blang.specs.CodeParts.{Function, function_of}
-use Rattle.blang.specs.Layout.{Spot, shape_of, spots}
+use Rattle.blang.specs.Layout.{DefinitionKind, Simple, Spot, Vector, shape_of, spots}
+use Rattle.blang.specs.Layout as layout
 use Rattle.blang.specs.declared.code.Definition.{Definition}
 use Rattle.blang.specs.declared.code.Definition.TheVariants as definition
+use Rattle.blang.specs.declared.code.Instr.{Instr}
 use Rattle.btools.specs.declared.tables.FunctionEntry.{FunctionEntry}
 use Rattle.btools.specs.declared.tables.Tables.{Tables}
 
@@ -40,3 +43,19 @@ entries_of t = map placed_entry t.entries.items
 abbrev pub LiesAt : List FunctionEntry → (strings : ℕ) → Option ℕ → Type 0
 LiesAt es strings None = (k : ℕ) (d : FunctionEntry) → k < length es → (get_or es k d).strings ≡ strings → ⊥
 LiesAt es strings (Some i) = (i < length es) × ((d : FunctionEntry) → (get_or es i d).strings ≡ strings)
+
+-- the name of a function
+abbrev pub name_in : Option Placed → List ℕ
+name_in (Some f) = f.function.name
+name_in None = []
+
+-- the instruction at a place of a function
+abbrev pub instr_in : Option Placed → ℕ → Option Instr
+instr_in (Some f) place = slice_get f.function.code place
+instr_in None place = None
+
+-- what a definition is, in a word
+abbrev pub kind_text : DefinitionKind → List ℕ
+kind_text (layout.Function labels) = codes "function"
+kind_text Simple = codes "simple"
+kind_text (Vector n) = codes "vector"

@@ -8,7 +8,7 @@ use Rattle.blang.specs.declared.token.Diagnostic.{Diagnostic}
 use Rattle.blang.specs.Code.{code_of}
 use Rattle.blang.specs.Compiles.{Compilation, Compiles, CompilesTo}
 use Rattle.blang.specs.Cut.{tokens_from}
-use Rattle.blang.specs.declared.status.TheConstants.{DONE, FAULT, MEMORY, REFUSED, WRONG_COMMAND}
+use Rattle.blang.specs.declared.status.TheConstants.{DONE, FAULT, LIMIT, MEMORY, REFUSED, TRAP, WRONG_COMMAND}
 use Rattle.blang.specs.Layout.{address_in, load_fault}
 use Rattle.blang.specs.Machine.{Image, States}
 use Rattle.blang.specs.Machine as runs
@@ -18,9 +18,8 @@ use Rattle.bmach.specs.Stepping.{Paused, machine_at}
 use Rattle.blang.specs.declared.run.LoadFault.{LoadFault}
 use Rattle.blang.specs.declared.run.Outcome.{Outcome}
 use Rattle.blang.specs.declared.run.LoadFault.TheVariants as fault
+use Rattle.blang.specs.declared.run.Outcome.TheVariants as outcome
 use Rattle.blang.specs.declared.run.Report.TheVariants as report
-use Rattle.bparse.specs.Compiles.{CodeGives}
-use Rattle.bparse.specs.declared.step.Step.{Step}
 use Rattle.btools.specs.declared.program.Program.{Program}
 use Rattle.btools.specs.declared.program.ProgramFault.{ProgramFault}
 use Rattle.btools.specs.declared.program.ProgramFault.TheVariants as why
@@ -121,12 +120,6 @@ abbrev pub NoProgram : Edition → (source : List ℕ) → (lines : Diagnostic �
 NoProgram edition source lines line line_after status =
     (fault : ProgramFault) × HasNoProgram edition source fault × TellsFault lines fault line line_after status
 
--- what the compiler answers last of a source that it has in memory, and the code text that it has written
-abbrev pub WasAnswered : Edition → (source : List ℕ) → Step → Kept → Type 0
-WasAnswered edition source answer code =
-    (following : Unread) × CodeGives edition (incoming_of (record { left = source; is_over = false }))
-    nothing_written answer (incoming_of following) (outgoing_of code)
-
 -- what comes of definitions that are loaded
 abbrev pub LoadGives : List Definition → Result Program ProgramFault → Type 0
 LoadGives ds (Ok p) = (p.definitions.items ≡ ds) × (load_fault ds ≡ None) × IsLoadedFrom ds p.image
@@ -139,6 +132,12 @@ abbrev pub TellsEnd : (told : ℕ) → Outcome → Outgoing → Outgoing → ℕ
 TellsEnd told result line line_after status =
     ((told ≡ DONE) × Finishes result line line_after status)
     ⊎ ((told ≡ DONE → ⊥) × (line_after ≡ line) × (status ≡ told))
+
+-- the status of an outcome that is at a place of the program
+abbrev pub located_status : Outcome → Option ℕ
+located_status (outcome.Trap kind) = Some TRAP
+located_status outcome.Limit = Some LIMIT
+located_status result = None
 
 -- the machine from a state on, by its input and the number of its steps
 abbrev pub steps_from : Paused → States

@@ -1,7 +1,7 @@
-//! Words shown as characters.
+//! Words shown as characters and as numbers.
 ghost use Rattle.std.specs.Char.{digit_char};
 ghost use Rattle.std.specs.Prelude.{◌≡◌, ◌<◌, ◌++◌, OnOk};
-ghost use Rattle.btools.specs.Characters.{shown_byte, shown_word};
+ghost use Rattle.btools.specs.Characters.{shown_byte, shown_word, signed_text};
 
 use crate::text::Text;
 use std::alloc::AllocError;
@@ -31,6 +31,17 @@ pub fn push_byte(text: &mut Text, byte: u8) -> Result<(), AllocError>
         32..=126 => text.push(&[byte]),
         _ => text.push(b"."),
     }
+}
+
+/// Adds a word as `printn` writes it to the base 10.
+pub fn push_signed(text: &mut Text, word: u16) -> Result<(), AllocError>
+    ensures { OnOk result (text.new ≡ text.old ++ signed_text word) }
+{
+    if word <= 32767 {
+        return text.push_number(u64::from(word));
+    }
+    text.push(b"-")?;
+    text.push_number(u64::from(word.wrapping_neg()))
 }
 
 /// The hexadecimal digit of a number below 16.

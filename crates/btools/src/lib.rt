@@ -2,6 +2,7 @@
 #![tactic(auto)]
 
 mod characters;
+mod entries;
 mod names;
 mod origin;
 mod place_lines;
@@ -13,9 +14,11 @@ mod tables;
 mod telling;
 mod text;
 
-pub use characters::{hexadecimal_digit, push_byte, push_characters};
+pub use characters::{hexadecimal_digit, push_byte, push_characters, push_signed};
+pub use entries::{instr_at, kind_name, name_of};
 pub use names::{Frame, FrameWord, Names};
 pub use origin::{CodeText, Origin};
+pub use place_lines::{lines_before, lines_in};
 pub use program::{Program, ProgramFault, compile_source, read_program, split_lines};
 pub use quoting::{push_file, push_quoted};
 pub use refusal::{
@@ -24,5 +27,5 @@ pub use refusal::{
 };
 pub use source_lines::{line_at, push_source_line, split_source};
 pub use tables::{FunctionEntry, Tables};
-pub use telling::tell;
+pub use telling::{located_status, tell};
 pub use text::Text;

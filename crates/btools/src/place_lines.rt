@@ -50,8 +50,8 @@ fn places_in(definitions: &[Definition]) -> Option<usize>
     Some(count)
 }
 
-// How many lines of a code text stand before its definitions.
-fn lines_before(code: &[u8]) -> u64
+/// How many lines of a code text stand before its definitions.
+pub fn lines_before(code: &[u8]) -> u64
     ensures { result ≡ lines_before code.now }
 {
     if line_at(code, 1) == b"B 2".as_slice() {
@@ -111,8 +111,8 @@ fn lines_before_places(definition: &Definition) -> u64
     }
 }
 
-// How many lines a definition has.
-fn lines_in(definition: &Definition) -> u64
+/// How many lines a definition has.
+pub fn lines_in(definition: &Definition) -> u64
     ensures { result ≡ length (lines_of definition.now) }
 {
     let body = match definition {

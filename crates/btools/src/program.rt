@@ -1,15 +1,11 @@
 //! A source that is compiled and loaded, or a code text that is loaded.
-ghost use Rattle.std.specs.Prelude.{◌≡◌, [], IfOk, List, MatchResult, Option, Some, drop, take, ℕ};
-ghost use Rattle.bword.specs.declared.edition.Edition.{Edition};
+ghost use Rattle.std.specs.Prelude.{◌≡◌, [], IfOk, MatchResult, Some, drop, take};
 ghost use Rattle.blang.specs.Lines.{size_of};
-ghost use Rattle.blang.specs.Text.{IsCodeText};
-ghost use Rattle.bparse.specs.declared.step.Step.{Step};
-ghost use Rattle.bparse.specs.declared.step.Step.TheVariants as step;
 ghost use Rattle.btools.specs.FrameNames.{HasNames};
 ghost use Rattle.btools.specs.KeptNames.{notes_in, notes_kept};
 ghost use Rattle.btools.specs.Origins.{HasCode, HasNoCode, HasNoProgramOf, HasTextLines, IsProgramOf, LinesOf, NamesOf, code_text_shown, origin_shown};
 ghost use Rattle.btools.specs.ProgramLines.{HasLines, KeepsNotesOf};
-ghost use Rattle.btools.specs.Programs.{HasFault, HasNoProgram, IsCodeOf, IsThisProgram, LoadGives, WasAnswered};
+ghost use Rattle.btools.specs.Programs.{HasFault, HasNoProgram, IsCodeOf, IsThisProgram, LoadGives};
 
 use crate::names::{NameKeeper, Names};
 use crate::origin::{CodeText, Origin};
@@ -17,8 +13,8 @@ use crate::place_lines::lines_of_places;
 use bcode::{CodeFault, read_code};
 use blang::{Definition, Diagnostic, LoadFault};
 use bmach::{Image, load_slice};
-use bparse::{Step, Watcher, compile_code};
-use bword::{Edition, MemIn, MemOut};
+use bparse::{Step, Watcher, compile_definitions};
+use bword::{Edition, MemIn};
 use std::alloc::{AllocError, Global};
 
 /// A program, as it was compiled and as it was loaded.
@@ -178,38 +174,11 @@ pub fn compile_source<W: Watcher>(
     ensures notes { IfOk result (λ code. IfOk code (λ v. KeepsNotesOf edition source.now (W.kept watcher.old) (W.kept watcher.new))) }
 {
     let mut input = MemIn::new(source);
-    let mut code = MemOut::new(alloc);
-    let last = compile_code(alloc, &mut input, &mut code, watcher, edition);
-    code_of(alloc, last, &code)
-}
-
-// The definitions of a source, or its fault, by what the compiler answered last and wrote.
-fn code_of(
-    alloc: Global,
-    last: Step,
-    code: &MemOut,
-) -> Result<Result<Vec<Definition>, Diagnostic>, AllocError>
-    requires { (edition : Edition) × (source : List ℕ) × WasAnswered edition source last code.now }
-    ensures code { IfOk result (λ r. (edition : Edition) (source : List ℕ) → WasAnswered edition source last code.now
-        → MatchResult r (λ v. IsCodeOf edition source v.items) (HasFault edition source)) }
-    ensures finished { IfOk result (λ r. IfOk r (λ v. last ≡ step.Finished)) }
-{
+    let (last, definitions) = compile_definitions(alloc, &mut input, watcher, edition);
     match last {
-        Step::Finished => Ok(Ok(definitions_of(alloc, code.bytes())?)),
+        Step::Finished => Ok(Ok(definitions)),
         Step::Fault(fault) => Ok(Err(fault)),
         Step::Memory => Err(AllocError),
         Step::Written | Step::Device | Step::Closed => unreachable!(),
-    }
-}
-
-// The definitions of a code text.
-fn definitions_of(alloc: Global, code: &[u8]) -> Result<Vec<Definition>, AllocError>
-    requires { (ds : List Definition) × IsCodeText code.now ds }
-    ensures { IfOk result (λ v. IsCodeText code.now v.items) }
-{
-    match read_code(alloc, code) {
-        Ok(definitions) => Ok(definitions),
-        Err(CodeFault::Memory) => Err(AllocError),
-        Err(CodeFault::Line(_)) => unreachable!(),
     }
 }

@@ -1,7 +1,9 @@
 //! Texts that are written whole, and their statuses.
 ghost use Rattle.std.specs.Prelude.{◌≡◌};
 ghost use Rattle.blang.specs.Reports.{Reported};
+ghost use Rattle.btools.specs.Programs.{located_status};
 
+use blang::Outcome;
 use blang::status::{self, Status};
 use bword::ByteOut;
 
@@ -13,5 +15,16 @@ pub fn tell<O: ByteOut>(text: &[u8], status: Status, out: &mut O) -> Status
     match out.put(text) {
         Ok(()) => status,
         Err(fault) => status::of_fault(fault),
+    }
+}
+
+/// The status of an outcome that is at a place of the program.
+pub fn located_status(outcome: Outcome) -> Option<Status>
+    ensures { result ≡ located_status outcome }
+{
+    match outcome {
+        Outcome::Trap(_) => Some(status::TRAP),
+        Outcome::Limit => Some(status::LIMIT),
+        Outcome::Exit(_) | Outcome::Device | Outcome::Memory => None,
     }
 }

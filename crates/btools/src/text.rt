@@ -6,6 +6,9 @@ use itoa::Buffer;
 use std::alloc::{AllocError, Global};
 use std::marker::Model;
 
+/// As many blanks as are added at a time.
+const BLANKS: &[u8] = b"                                                ";
+
 /// A text that grows.
 pub struct Text {
     bytes: Vec<u8>,
@@ -68,9 +71,11 @@ impl Text {
     pub fn push_blanks(&mut self, count: usize) -> Result<(), AllocError>
         ensures { OnOk result (self.new ≡ self.old ++ replicate count 32) }
     {
-        for filled in 0..count {
-            let _ = filled;
-            self.push(b" ")?;
+        let mut left = count;
+        while left > 0 {
+            let next = left.min(BLANKS.len());
+            self.push(&BLANKS[..next])?;
+            left -= next;
         }
         Ok(())
     }

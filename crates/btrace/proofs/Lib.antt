@@ -1,7 +1,5 @@
 mod PlaceParts
 mod RowParts
-pub mod Kept
-mod Telling
 mod Traced
 mod Located
 mod Unasked

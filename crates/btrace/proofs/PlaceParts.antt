@@ -9,7 +9,8 @@ use Rattle.std.proofs.lemmas.List.FromFn.{length-map-range_with_len, map-range_w
 use Rattle.blang.specs.Machine.{Call}
 use Rattle.bmach.specs.Stops.{active_of}
 use Rattle.bmach.specs.declared.machine.Active.{Active}
-use Rattle.btrace.specs.RowTexts.{Legend, first_words, has_more, parameter_at, place_text, places_text, signed_text, waiting, words_text}
+use Rattle.btools.specs.Characters.{signed_text}
+use Rattle.btrace.specs.RowTexts.{Legend, first_words, has_more, parameter_at, place_text, places_text, waiting, words_text}
 
 -- the words of the first parameters, where so many are shown
 pub words_shown : (old text new store : List ℕ) (call : Active) (count : ℕ) → count ≡ min call.parameters 6 → text ≡ (old ++ (if nat_lt 0 count then codes "  with" else [])) ++ flat_map (λ w. codes " " ++ signed_text w) (map (parameter_at store call) (range_with_len 0 count))

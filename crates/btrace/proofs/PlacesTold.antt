@@ -14,7 +14,8 @@ use Rattle.bmach.specs.Stops.{EndsAt, RunsCall, active_of}
 use Rattle.bmach.specs.declared.machine.Active.{Active}
 use Rattle.bmach.proofs.Running.{steps_add}
 use Rattle.bsources.specs.Files.{Files}
-use Rattle.btrace.specs.Locates.{located_status, told_site}
+use Rattle.btools.specs.Programs.{located_status}
+use Rattle.btrace.specs.Locates.{told_site}
 use Rattle.btrace.specs.PlacesTold.{PlacesTold, TellsPlaceOf}
 use Rattle.btrace.specs.RowTexts.{legend_in}
 use Rattle.btrace.proofs.TraceExcluded.{Stops, limit_is, line_in, stops_so}

@@ -1,26 +1,17 @@
 -- The parts of a row, one after another.
 use Rattle.std.proofs.Common.{true, false, ◌≡◌, ◌∙◌, ℕ, ◌+◌, ◌-◌, ◌<◌, List, [], ◌∷◌, ◌++◌, ap, append-nil, append_assoc, arith, codes, drop, get_or, length, nat_lt, refl, sym, take, ◌≤◌, if◌then◌else◌}
 use Rattle.std.specs.List.{flat_map, range_with_len}
-use Rattle.std.proofs.lemmas.List.{map-id}
-use Rattle.std.proofs.lemmas.List.FromFn.{map-range_with_len_more}
 use Rattle.std.proofs.lemmas.Bool.Decides.{nat_tests}
 use Rattle.std.proofs.lemmas.List.{length-drop, take_all, take_more}
 use Rattle.std.proofs.lemmas.List.Concat.{flat_map-append}
-use Rattle.btrace.specs.RowTexts.{margin, operands_text, signed_text, stored_text, word_row, written_byte, written_row}
+use Rattle.btools.specs.Characters.{signed_text}
+use Rattle.btrace.specs.RowTexts.{margin, operands_text, stored_text, word_row, written_byte, written_row}
 
 -- the rows of one more word
 pub one_stored : (store old text new changed : List ℕ) (address : ℕ) → text ≡ old ++ stored_text store changed → new ≡ text ++ word_row store address → new ≡ old ++ stored_text store (changed ++ address ∷ [])
 one_stored store old text new changed address before row =
     row ∙ ap (λ x. x ++ word_row store address) before ∙ append_assoc old (stored_text store changed) (word_row store address)
     ∙ ap (λ x. old ++ x) (ap (λ x. stored_text store changed ++ x) (sym (append-nil (word_row store address))) ∙ sym (flat_map-append (word_row store) changed (address ∷ [])))
-
--- the addresses from one on, with one more
-pub one_further : (start address : ℕ) → start ≤ address → range_with_len start (address + 1 - start) ≡ range_with_len start (address - start) ++ address ∷ []
-one_further start address le =
-    let one : address + 1 - start ≡ address - start + 1 = omega arith in
-    let last : start + (address - start) ≡ address = omega arith in
-    ap (range_with_len start) one
-    ∙ simp map-id at (map-range_with_len_more (λ (n : ℕ). n) start (address - start) address last)
 
 -- the row of bytes of which there are some
 pub some_written : (bytes : List ℕ) → (bytes ≡ [] → ⊥) → written_row bytes ≡ margin ++ codes "writes '" ++ flat_map written_byte bytes ++ codes "'\n"

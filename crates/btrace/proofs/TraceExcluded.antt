@@ -25,24 +25,23 @@ use Rattle.bmach.specs.Resolved.{IsLoadedFrom}
 use Rattle.bmach.specs.Stepping.{BeginsNot, HasEnd}
 use Rattle.bmach.specs.Stops.{EndsAt}
 use Rattle.bmach.specs.declared.machine.Active.{Active}
-use Rattle.bmach.proofs.Resolving.{run-resolved}
 use Rattle.bmach.proofs.Running.{memory_unfailed}
-use Rattle.brun.proofs.RunSteps.{outcome-resolved, run_loaded}
+use Rattle.bmach.proofs.LoadedRuns.{shows_loaded}
 use Rattle.bsources.specs.Files.{Files}
 use Rattle.btools.specs.Origins.{Code, NoProgramOf, Origin, ProgramOf, Source}
 use Rattle.btools.specs.ProgramLines.{HasLines}
-use Rattle.btools.specs.Programs.{HasProgram, NoProgram, TellsEnd, nothing_written}
+use Rattle.btools.specs.Programs.{HasProgram, NoProgram, TellsEnd, located_status, nothing_written}
 use Rattle.btools.proofs.Compiled.{text_in}
 use Rattle.btools.proofs.CodesExcluded.{codes_excluded}
 use Rattle.btools.proofs.ProgramsExcluded as programs
 use Rattle.btrace.specs.TraceExcluded.{ComesAlways, IsCodeIn, IsSourceOf, LocatesExcluded, TracesExcluded, status_of}
 use Rattle.btrace.specs.Locates as locates
-use Rattle.btrace.specs.Locates.{Locates, TellsSite, located_status, told_site}
+use Rattle.btrace.specs.Locates.{Locates, TellsSite, told_site}
 use Rattle.btrace.specs.RowTexts.{Legend, legend_in}
 use Rattle.btrace.specs.Traces as traces
 use Rattle.btrace.specs.Traces.{Traces, ending_text, rows_text}
 use Rattle.btrace.specs.declared.tracing.TheConstants.{HEADING}
-use Rattle.btrace.specs.declared.trail.TraceRows.{TraceRows}
+use Rattle.bwatch.specs.declared.trail.TraceRows.{TraceRows}
 use Rattle.bwatch.specs.Sights.{sights_of}
 use Rattle.bwatch.proofs.Origins.{loaded_in}
 use Rattle.btrace.proofs.Unasked.{by_code, by_place, by_trace}
@@ -95,7 +94,7 @@ module _ (files : Files) where
 
   -- what was loaded has the outcomes of its definitions
   outcome_loaded : (ds : List Definition) (image : Image) → IsLoadedFrom ds image → (input : List ℕ) (n : ℕ) → state_outcome (run image input n) ≡ state_outcome (machine ds input n)
-  outcome_loaded ds image l input n = ap state_outcome (run_loaded ds image l input n ∙ run-resolved (image_of ds) input n) ∙ outcome-resolved (image_of ds) (run (image_of ds) input n)
+  outcome_loaded ds image l input n = sym (shows_loaded ds image l input n).0
 
   no_end : (result : Outcome) → HasEnd result → result ≡ outcome.Limit → ⊥
   no_end (outcome.Exit n) h e = cc

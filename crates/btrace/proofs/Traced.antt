@@ -17,12 +17,12 @@ use Rattle.bwatch.specs.Watches.{Ending, IsLast, Leaves}
 use Rattle.btrace.specs.RowTexts.{Legend, legend_of, places_text, stored_text, written_row}
 use Rattle.btrace.specs.Traces.{IsTrace, done_text, ending_text, is_shown, rows_text, sight_row, step_text, wanted_of, where_text}
 use Rattle.btrace.specs.Tracers.{AwaitsStep, HasTold, HasTraced, texts_of}
-use Rattle.btrace.specs.Trails.{IsKept, Keeps, KeepsIf, chosen, trail_text}
+use Rattle.bwatch.specs.Trails.{IsKept, Keeps, KeepsIf, chosen, trail_text}
 use Rattle.btrace.specs.declared.tracer.Tracer.{Tracer}
 use Rattle.btrace.specs.declared.tracer.Which.{Which}
-use Rattle.btrace.specs.declared.trail.Trail.{Trail}
+use Rattle.bwatch.specs.declared.trail.Trail.{Trail}
 use Rattle.btrace.specs.declared.tracing.TheConstants.{HEADING}
-use Rattle.btrace.proofs.Kept.{kept_more, kept_none, kept_same, kept_text, map-chosen}
+use Rattle.bwatch.proofs.Kept.{kept_more, kept_none, kept_same, kept_text, map-chosen, no_row, own_row}
 
 -- the texts with one step more
 wanted_more : (which : Which) (sights : Sights) (made : ℕ) → wanted_of which sights (made + 1) ≡ wanted_of which sights made ++ cond (is_shown which sights made) (made ∷ []) []
@@ -52,15 +52,6 @@ rows_told first t sights made kept =
 -- no step was made
 pub none_traced : (t : Tracer) → t.trail.last.items ≡ [] → t.trail.row ≡ [] → (sights : Sights) → HasTraced t t sights 0
 none_traced t last row sights = ((refl, refl, kept_none t.which.rows t.trail last), row)
-
--- a row that is begun for a step that isn't shown, and for one that is
-no_row : (b : Bool) (row : List ℕ) → b ≡ false → (if b then row else []) ≡ []
-no_row false row e = refl
-no_row true row e = cc
-
-own_row : (b : Bool) (row : List ℕ) → b ≡ true → (if b then row else []) ≡ row
-own_row true row e = refl
-own_row false row e = cc
 
 -- after a step with which the run isn't over
 pub hidden_traced : (first t : Tracer) (sights : Sights) (made : ℕ) → t.is_shown ≡ false → AwaitsStep first t sights made → HasTraced first t sights (made + 1)

@@ -1,27 +1,26 @@
 -- No byte is taken of the input that no step asked for.
-use Rattle.std.proofs.Common.{◌≡◌, ℕ, List, [], Option, subst}
+use Rattle.std.proofs.Common.{◌≡◌, ℕ, List, [], Option}
 use Rattle.bword.specs.declared.edition.Edition.{Edition}
 use Rattle.bword.specs.ByteEnds.{outgoing_of}
 use Rattle.blang.specs.declared.code.Definition.{Definition}
 use Rattle.blang.specs.Compiles.{Compilation, CompilesTo}
 use Rattle.blang.specs.Cut.{tokens_from}
-use Rattle.blang.specs.Machine.{image_of, machine}
+use Rattle.blang.specs.Machine.{machine}
 use Rattle.blang.specs.Reports.{RunEnds}
 use Rattle.blang.specs.Text.{IsCodeText}
-use Rattle.bcode.proofs.FaultLaws.{unique_code}
 use Rattle.bmach.specs.Readings.{LeftBySteps}
-use Rattle.bmach.proofs.Readings.{left_by, none_at_first, run_left}
+use Rattle.bmach.proofs.Readings.{left_by, run_left}
 use Rattle.bsources.specs.Files.{Files}
 use Rattle.btools.specs.Origins.{Code, Source}
 use Rattle.btools.specs.PlaceLines.{CodeText}
 use Rattle.btools.specs.ProgramsExcluded.{code_in}
 use Rattle.btools.specs.Programs.{nothing_written}
-use Rattle.btools.proofs.Unasked.{program_left, untaken}
+use Rattle.btools.proofs.Unasked.{left_by_code, program_left, untaken, untaken_by_code}
 use Rattle.btrace.specs.Locates as locates
 use Rattle.btrace.specs.Locates.{Locates}
 use Rattle.btrace.specs.Traces as traces
 use Rattle.btrace.specs.Traces.{Traces}
-use Rattle.btrace.specs.declared.trail.TraceRows.{TraceRows}
+use Rattle.bwatch.specs.declared.trail.TraceRows.{TraceRows}
 
 module _ (edition : Edition) (source : List ℕ) (r : Compilation) (g : CompilesTo [] (tokens_from edition 1 source) r) (steps : ℕ) (files : Files) (ends : RunEnds) (status : ℕ) where
   pub by_trace : (shown : TraceRows) (name : Option (List ℕ)) → Traces (Source edition) source steps shown files name ends status → LeftBySteps (machine (code_in edition source r g)) steps ends.input ends.input_after
@@ -46,16 +45,10 @@ module _ (edition : Edition) (source : List ℕ) (r : Compilation) (g : Compiles
 
 module _ (c : CodeText) (ds : List Definition) (is : IsCodeText c.code ds) (source : List ℕ) (steps : ℕ) (files : Files) (ends : RunEnds) (status : ℕ) where
   -- the same of the machine of a code text
-  untaken_by_code : ends.input_after ≡ ends.input → LeftBySteps (machine ds) steps ends.input ends.input_after
-  untaken_by_code still = left_by (machine ds) steps ends.input ends.input_after (none_at_first (image_of ds) steps ends.input ends.input_after still)
-
-  left_by_code : (other : List Definition) → IsCodeText c.code other → LeftBySteps (machine other) steps ends.input ends.input_after → LeftBySteps (machine ds) steps ends.input ends.input_after
-  left_by_code other has = subst (λ (x : List Definition). LeftBySteps (machine x) steps ends.input ends.input_after) (unique_code c.code other ds has is)
-
   pub by_code : (shown : TraceRows) (name : Option (List ℕ)) → Traces (Code c) source steps shown files name ends status → LeftBySteps (machine ds) steps ends.input ends.input_after
   by_code shown name (traces.traced other image lines which result made text told has lined named w reported tells) =
-      left_by_code other has.text (run_left (machine other) steps ends.input ends.input_after nothing_written (outgoing_of w.output) result w.gives)
-  by_code shown name (traces.not_begun other image which result has named never finishes quiet) = untaken_by_code quiet.unread
-  by_code shown name (traces.unnamed other image has unknown reported quiet) = untaken_by_code quiet.unread
-  by_code shown name (traces.stopped none quiet) = untaken_by_code quiet.unread
-  by_code shown name (traces.no_memory other image has still same read e) = left_by_code other has.text (left_by (machine other) steps ends.input ends.input_after read)
+      left_by_code c.code ds is steps ends.input ends.input_after other has.text (run_left (machine other) steps ends.input ends.input_after nothing_written (outgoing_of w.output) result w.gives)
+  by_code shown name (traces.not_begun other image which result has named never finishes quiet) = untaken_by_code c.code ds is steps ends.input ends.input_after quiet.unread
+  by_code shown name (traces.unnamed other image has unknown reported quiet) = untaken_by_code c.code ds is steps ends.input ends.input_after quiet.unread
+  by_code shown name (traces.stopped none quiet) = untaken_by_code c.code ds is steps ends.input ends.input_after quiet.unread
+  by_code shown name (traces.no_memory other image has still same read e) = left_by_code c.code ds is steps ends.input ends.input_after other has.text (left_by (machine other) steps ends.input ends.input_after read)

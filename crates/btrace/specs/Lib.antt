@@ -1,5 +1,4 @@
 pub mod RowTexts
-pub mod Trails
 pub mod Traces
 pub mod Tracers
 pub mod Locates

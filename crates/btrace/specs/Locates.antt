@@ -6,7 +6,7 @@ use Rattle.blang.specs.declared.code.Definition.{Definition}
 use Rattle.blang.specs.declared.run.Outcome.{Outcome}
 use Rattle.blang.specs.declared.run.Outcome.TheVariants as outcome
 use Rattle.blang.specs.declared.run.Trap.TheVariants as trap
-use Rattle.blang.specs.declared.status.TheConstants.{LIMIT, MEMORY, TRAP}
+use Rattle.blang.specs.declared.status.TheConstants.{MEMORY}
 use Rattle.blang.specs.Machine.{Image, machine}
 use Rattle.blang.specs.Reports.{Finishes, HasNotRun, RunEnds, RunGives, Reported}
 use Rattle.bmach.specs.Stepping.{BeginsNot}
@@ -14,16 +14,10 @@ use Rattle.bmach.specs.Stops.{IsOverAt}
 use Rattle.bmach.specs.declared.machine.Active.{Active}
 use Rattle.btools.specs.FaultPlaces.{fault_lines}
 use Rattle.btools.specs.ProgramLines.{HasLines}
-use Rattle.btools.specs.Programs.{HasProgram, NoProgram}
+use Rattle.btools.specs.Programs.{HasProgram, NoProgram, located_status}
 use Rattle.btools.specs.SourceLines.{line_at, shown_line}
 use Rattle.bsources.specs.Files.{Files}
 use Rattle.btrace.specs.RowTexts.{Legend, legend_in, place_line, site_text}
-
--- the status of an outcome that is at a place of the program
-abbrev pub located_status : Outcome → Option ℕ
-located_status (outcome.Trap kind) = Some TRAP
-located_status outcome.Limit = Some LIMIT
-located_status result = None
 
 -- the place of a call, and the number of the step with which the run came there
 abbrev pub site_line : Legend → Active → (number : ℕ) → List ℕ

@@ -3,15 +3,18 @@ use Rattle.std.specs.Prelude.{◌≡◌, ℕ, true, false, [], ◌∷◌, ◌++�
 use Rattle.std.specs.Fmt.{digits}
 use Rattle.blang.specs.declared.run.Outcome.TheVariants as outcome
 use Rattle.blang.specs.declared.run.Trap.TheVariants as trap
-use Rattle.btrace.specs.Locates.{explanation, located_status, meaning, site_line, told_site}
+use Rattle.btools.specs.Programs.{located_status}
+use Rattle.btrace.specs.Locates.{explanation, meaning, site_line, told_site}
 use Rattle.bmach.specs.declared.machine.Active.{Active}
-use Rattle.btrace.specs.RowTexts.{first_words, has_more, instr_text, margin, operands_text, signed_text, stored_text}
+use Rattle.btools.specs.Columns.{instr_text}
+use Rattle.btools.specs.Characters.{signed_text}
+use Rattle.btrace.specs.RowTexts.{first_words, has_more, margin, operands_text, stored_text}
 use Rattle.btrace.specs.RowTexts.{word_row, words_text, written_byte, written_row}
 use Rattle.bsources.specs.Files.{Files}
 use Rattle.btrace.specs.RowTexts.{Legend, line_text}
 use Rattle.btrace.specs.Traces.{is_wanted, which_of}
-use Rattle.btrace.specs.Trails.{chosen}
-use Rattle.btrace.specs.declared.trail.TraceRows.TheVariants as rows
+use Rattle.bwatch.specs.Trails.{chosen}
+use Rattle.bwatch.specs.declared.trail.TraceRows.TheVariants as rows
 
 -- a word is shown as a signed number
 signed_zero : signed_text 0 ≡ codes "0"

@@ -1,18 +1,16 @@
 -- Inner words: the texts of the rows of a trace.
 use Rattle.std.specs.Prelude.{◌≡◌, ℕ, Bool, ◌-◌, List, [], ◌∷◌, ◌++◌, Option, Some, None, codes, decimal, drop}
-use Rattle.std.specs.Prelude.{◌+◌, ◌/◌, ◌%◌, ◌==◌, ◌||◌, length, map, min, nat_lt, refl, replicate, reverse, slice_get}
+use Rattle.std.specs.Prelude.{◌+◌, ◌/◌, ◌%◌, ◌==◌, ◌||◌, length, map, min, nat_lt, refl, replicate, reverse}
 use Rattle.std.specs.Prelude.{slice_index, if◌then◌else◌}
 use Rattle.std.specs.Char.{digit_char}
 use Rattle.std.specs.List.{flat_map, range_with_len}
-use Rattle.blang.specs.Layout.{printed, store_words}
-use Rattle.blang.specs.Text.{instr_line}
+use Rattle.blang.specs.Layout.{store_words}
 use Rattle.blang.specs.declared.code.Definition.{Definition}
-use Rattle.blang.specs.declared.code.Instr.{Instr}
 use Rattle.bmach.specs.declared.machine.Active.{Active}
-use Rattle.btools.specs.Characters.{is_printable, shown_byte}
-use Rattle.btools.specs.Columns.{left, right, without_newline}
+use Rattle.btools.specs.Characters.{is_printable, shown_byte, signed_text}
+use Rattle.btools.specs.Columns.{instr_text, left, right}
 use Rattle.bsources.specs.Files.{Files, Line, beyond_first, files_shown}
-use Rattle.btools.specs.Functions.{Placed, entries_of, function_with, functions_of}
+use Rattle.btools.specs.Functions.{Placed, entries_of, function_with, functions_of, instr_in, name_in}
 use Rattle.btools.specs.ProgramLines.{FunctionLines, line_at, lined_functions, lines_shown}
 use Rattle.btools.specs.Quoting.{file_text}
 use Rattle.btrace.specs.declared.legend as told
@@ -41,21 +39,6 @@ line_of width line (Some at) = right width (decimal at.line) ++ codes " of " ++ 
 abbrev pub line_text : (width : ℕ) → Files → (line : ℕ) → List ℕ
 line_text width files line = line_of width line (beyond_first files line)
 
--- the name of a function
-abbrev pub name_in : Option Placed → List ℕ
-name_in (Some f) = f.function.name
-name_in None = []
-
--- the instruction at a place of a function
-abbrev pub instr_in : Option Placed → ℕ → Option Instr
-instr_in (Some f) place = slice_get f.function.code place
-instr_in None place = None
-
--- an instruction as the code text has it
-abbrev pub instr_text : Option Instr → List ℕ
-instr_text (Some i) = without_newline (instr_line i)
-instr_text None = []
-
 -- the name of the function of a call, its next instruction, and the line of that
 abbrev pub name_of : Legend → Active → List ℕ
 name_of l call = name_in (function_with l.functions call.strings)
@@ -71,10 +54,6 @@ operands_shown = refl
 
 margin_width : MARGIN ≡ 43
 margin_width = refl
-
--- a word as `printn` writes it to the base 10
-abbrev pub signed_text : ℕ → List ℕ
-signed_text word = printed word 10
 
 -- the topmost operands, the topmost last, and `..` before them if there are more
 abbrev pub operands_text : List ℕ → List ℕ

@@ -11,13 +11,13 @@ use Rattle.blang.specs.Text.{code_lines, joined}
 use Rattle.bsources.specs.Files.{Files}
 use Rattle.btools.specs.PlaceLines.{HasPlaceLines}
 use Rattle.btools.specs.SourceLines.{source_lines}
-use Rattle.bwatch.specs.Sights.{Sights, end_sight, sights_of}
+use Rattle.bwatch.specs.Sights.{Sights, end_sight, sights_of, stored_between}
 use Rattle.btrace.specs.RowTexts.{legend_in, margin}
-use Rattle.btrace.specs.TraceExcluded.{calling, nothing, passing, reading, storing, trapping, writing}
-use Rattle.btrace.specs.Traces.{ending_text, rows_text, stored_between}
+use Rattle.bwatch.specs.SmallPrograms.{calling, nothing, passing, reading, storing, trapping, writing}
+use Rattle.btrace.specs.Traces.{ending_text, rows_text}
 use Rattle.btrace.specs.declared.tracer.Which.{Which}
-use Rattle.btrace.specs.declared.trail.TraceRows.{TraceRows}
-use Rattle.btrace.specs.declared.trail.TraceRows.TheVariants as rows
+use Rattle.bwatch.specs.declared.trail.TraceRows.{TraceRows}
+use Rattle.bwatch.specs.declared.trail.TraceRows.TheVariants as rows
 
 -- a source in two files, of which the first has nine lines
 abbrev some_files : Files

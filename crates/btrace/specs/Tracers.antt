@@ -5,7 +5,7 @@ use Rattle.blang.specs.declared.run.Outcome.{Outcome}
 use Rattle.bwatch.specs.Sights.{Sights}
 use Rattle.btrace.specs.RowTexts.{legend_of}
 use Rattle.btrace.specs.Traces.{ending_text, is_shown, rows_text, sight_row, step_text, wanted_of}
-use Rattle.btrace.specs.Trails.{IsKept, trail_text}
+use Rattle.bwatch.specs.Trails.{IsKept, trail_text}
 use Rattle.btrace.specs.declared.tracer.Tracer.{Tracer}
 
 -- the texts of the steps that may be shown

@@ -17,13 +17,13 @@ use Rattle.btools.specs.Functions.{Placed, function_named, functions_of}
 use Rattle.btools.specs.Origins.{LinesOf, NoProgramOf, Origin, ProgramOf}
 use Rattle.btools.specs.Programs.{TellsEnd}
 use Rattle.bsources.specs.Files.{Files}
-use Rattle.bwatch.specs.Sights.{Sight, Sights}
+use Rattle.bwatch.specs.Sights.{Sight, Sights, stored_between}
 use Rattle.bwatch.specs.Watches.{Watches}
 use Rattle.btrace.specs.RowTexts.{Legend, legend_in, places_text, step_row, stored_text, written_row}
-use Rattle.btrace.specs.Trails.{chosen, first_of}
+use Rattle.bwatch.specs.Trails.{chosen, first_of}
 use Rattle.btrace.specs.declared.tracing.TheConstants.{HEADING, UNNAMED}
 use Rattle.btrace.specs.declared.tracer.Which.{Which}
-use Rattle.btrace.specs.declared.trail.TraceRows.{TraceRows}
+use Rattle.bwatch.specs.declared.trail.TraceRows.{TraceRows}
 
 -- the columns of a trace
 trace_heading : HEADING.now ≡ codes "    step  function place  line  code         operands, signed\n"
@@ -63,10 +63,6 @@ shown_of which sights made = chosen which.rows (wanted_of which sights made)
 -- a row with the machine before a step
 abbrev pub sight_row : Legend → (number : ℕ) → Sight → List ℕ
 sight_row legend number s = option_map_or (λ call. step_row legend number call s.operands) s.call []
-
--- the addresses at which a step has stored words; one that ends the run stores none
-abbrev pub stored_between : (before after : Sight) → List ℕ
-stored_between before after = option_map_or (λ call. before.storing) after.call []
 
 -- what a step did: each word that it stored, as it is after it, and what it wrote
 abbrev pub done_text : (before after : Sight) → List ℕ

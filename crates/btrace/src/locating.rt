@@ -5,7 +5,7 @@ ghost use Rattle.btrace.specs.TraceExcluded.{LocatesExcluded};
 ghost use Rattle.bsources.specs.Files.{Files, files_shown};
 ghost use Rattle.btrace.specs.PlacesTold.{PlacesTold};
 ghost use Rattle.btrace.specs.RowTexts.{legend_of};
-ghost use Rattle.btrace.specs.Locates.{Locates, TellsSite, located_status, meaning, told_site};
+ghost use Rattle.btrace.specs.Locates.{Locates, TellsSite, meaning, told_site};
 
 use crate::legend::Legend;
 use crate::places::{line_of, push_site};
@@ -15,7 +15,10 @@ use bmach::{Stepper, Stop};
 use bpages::PagedStore;
 use brun::finish;
 use bsources::SourceFiles;
-use btools::{Origin, Tables, Text, line_at, push_source_line, read_program, tell, tell_placed};
+use btools::{
+    Origin, Tables, Text, line_at, located_status, push_source_line, read_program, tell,
+    tell_placed,
+};
 use bword::{ByteIn, ByteOut, Edition};
 use std::alloc::{AllocError, Global};
 
@@ -66,17 +69,6 @@ pub fn locate<I: ByteIn, O: ByteOut, D: ByteOut>(
     match located_status(stop.outcome) {
         Some(status) if status == told => tell_site(alloc, &legend, source, stop, told, diag),
         _ => told,
-    }
-}
-
-// The status of an outcome that is at a place of the program.
-fn located_status(outcome: Outcome) -> Option<Status>
-    ensures { result ≡ located_status outcome }
-{
-    match outcome {
-        Outcome::Trap(_) => Some(status::TRAP),
-        Outcome::Limit => Some(status::LIMIT),
-        Outcome::Exit(_) | Outcome::Device | Outcome::Memory => None,
     }
 }
 

@@ -5,9 +5,9 @@ ghost use Rattle.btrace.specs.RowTexts.{first_words, has_more, legend_of, place_
 ghost use Rattle.btrace.specs.RowTexts.{waiting, words_text};
 
 use crate::legend::{Legend, push_line};
-use crate::rows::{frame_address, name_of, push_signed};
+use crate::rows::frame_address;
 use bmach::{Active, Stepper};
-use btools::Text;
+use btools::{Text, name_of, push_signed};
 use bword::Store;
 use std::alloc::AllocError;
 

@@ -1,17 +1,16 @@
 //! The rows of a trace.
-ghost use Rattle.std.specs.Prelude.{◌≡◌, ◌≤◌, List, [], ◌+◌, ◌-◌, ◌%◌, ◌^◌, ◌<◌, ◌++◌, OnOk, option_map};
+ghost use Rattle.std.specs.Prelude.{◌≡◌, ◌≤◌, List, [], ◌+◌, ◌-◌, ◌%◌, ◌^◌, ◌<◌, ◌++◌, OnOk};
 ghost use Rattle.std.specs.List.{flat_map, range_with_len};
 ghost use Rattle.bmach.specs.Stops.{active_of};
-ghost use Rattle.btools.specs.Columns.{left};
-ghost use Rattle.btools.specs.Functions.{placed_entry};
-ghost use Rattle.btrace.specs.RowTexts.{hexadecimal, instr_in, instr_text, legend_of, margin, name_in, operands_text, signed_text, step_row};
+ghost use Rattle.btools.specs.Columns.{instr_text, left};
+ghost use Rattle.btrace.specs.RowTexts.{hexadecimal, legend_of, margin, operands_text, step_row};
 ghost use Rattle.btrace.specs.RowTexts.{stored_text, word_row, written_byte, written_row};
 
 use crate::legend::{Legend, push_line};
 use bcode::{Page, push_instr_line};
 use blang::Instr;
 use bmach::{Active, Stepper};
-use btools::{FunctionEntry, Text, hexadecimal_digit, push_byte};
+use btools::{Text, hexadecimal_digit, instr_at, name_of, push_byte, push_signed};
 use bword::Store;
 use std::alloc::AllocError;
 use std::ops::Range;
@@ -47,26 +46,6 @@ pub fn push_step<S: Store + Drop>(
     text.push(b"\n")
 }
 
-/// The name of a function.
-pub fn name_of<'a>(entry: Option<FunctionEntry<'a>>) -> &'a [u8]
-    ensures { result.now ≡ name_in (option_map placed_entry entry.entry) }
-{
-    match entry {
-        Some(entry) => entry.parts.name.as_bytes(),
-        None => b"",
-    }
-}
-
-/// The instruction at a place of a function.
-pub fn instr_at(entry: Option<FunctionEntry<'_>>, place: usize) -> Option<Instr>
-    ensures { result ≡ instr_in (option_map placed_entry entry.entry) place }
-{
-    match entry {
-        Some(entry) => entry.parts.code.get(place).copied(),
-        None => None,
-    }
-}
-
 fn push_instr(text: &mut Text, instr: Option<Instr>) -> Result<(), AllocError>
     ensures { OnOk result (text.new ≡ text.old ++ left 12 (instr_text instr)) }
 {
@@ -89,17 +68,6 @@ fn push_operands(text: &mut Text, operands: &[u16]) -> Result<(), AllocError>
         push_signed(text, *word)?;
     }
     Ok(())
-}
-
-/// Adds a word as `printn` writes it to the base 10.
-pub fn push_signed(text: &mut Text, word: u16) -> Result<(), AllocError>
-    ensures { OnOk result (text.new ≡ text.old ++ signed_text word) }
-{
-    if word <= 32767 {
-        return text.push_number(u64::from(word));
-    }
-    text.push(b"-")?;
-    text.push_number(u64::from(word.wrapping_neg()))
 }
 
 /// Adds a row for each word that a step has stored.

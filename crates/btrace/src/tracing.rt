@@ -9,13 +9,12 @@ ghost use Rattle.btrace.specs.Traces.{Traces, which_of};
 
 use crate::legend::Legend;
 use crate::tracer::{Tracer, Which};
-use crate::trail::TraceRows;
 use blang::Outcome;
 use blang::status::{self, Status};
 use brun::finish;
 use bsources::SourceFiles;
 use btools::{Origin, Tables, read_program, tell, tell_placed};
-use bwatch::{Watched, watch};
+use bwatch::{TraceRows, Watched, watch};
 use bword::{ByteIn, ByteOut};
 use std::alloc::Global;
 

@@ -1,3 +1,5 @@
 pub mod Origins
 pub mod Seen
 mod Loaded
+pub mod Kept
+mod Telling

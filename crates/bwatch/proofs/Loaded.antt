@@ -5,16 +5,15 @@ use Rattle.blang.specs.declared.code.Definition.{Definition}
 use Rattle.blang.specs.declared.run.Outcome.{Outcome}
 use Rattle.blang.specs.declared.run.Outcome.TheVariants as outcome
 use Rattle.blang.specs.Layout.{World}
-use Rattle.blang.specs.Machine.{Call, Halted, Image, Running, State, Stuck, image_of, machine, run, state_world}
+use Rattle.blang.specs.Machine.{Call, Halted, Image, Running, State, Stuck, image_of, machine, state_world}
 use Rattle.blang.specs.Reports.{AsksForByte, state_outcome}
 use Rattle.bmach.specs.Resolved.{IsLoadedFrom, call_resolved, resolved, state_resolved}
 use Rattle.bmach.specs.Stepping.{IsUnstarted, Paused}
 use Rattle.bmach.specs.Stops.{active_of}
-use Rattle.bmach.proofs.Beginning.{run_from}
-use Rattle.bmach.proofs.Resolving.{run-resolved, stored-resolved}
-use Rattle.bmach.proofs.Running.{same_run}
-use Rattle.brun.proofs.RunSteps.{asks-resolved, outcome-resolved, run_loaded, run_of_loaded, world-resolved}
+use Rattle.bmach.proofs.Resolving.{stored-resolved}
+use Rattle.bmach.proofs.LoadedRuns.{asks-resolved, outcome-resolved, world-resolved}
 use Rattle.btools.specs.Programs.{nothing_written, steps_from}
+use Rattle.btools.proofs.Stopped.{runs_whole, states_loaded}
 use Rattle.bwatch.specs.Sights.{Sights, sight_of, sights_of}
 use Rattle.bwatch.specs.Watches.{EndsAfter, Watches}
 
@@ -54,14 +53,13 @@ pub watched_loaded : (ds : List Definition) (image : Image) (p : Paused) → IsL
     → Watches p.image.functions (steps_from p) n i j r made tells → Watches (image_of ds).functions (machine ds) n i j r made tells
 watched_loaded ds image p loaded begins n i j r made tells w =
     let I = image_of ds in
-    let e : (input : List ℕ) (k : ℕ) → steps_from p input k ≡ state_resolved I (machine ds input k) =
-    λ input k. sym (run_from image p begins input k) ∙ run_loaded ds image loaded input k ∙ run-resolved I input k in
+    let e : (input : List ℕ) (k : ℕ) → steps_from p input k ≡ state_resolved I (machine ds input k) = states_loaded ds image p loaded begins in
     let fns : p.image.functions ≡ (resolved I).functions = ap (λ (x : Image). x.functions) begins.image_is ∙ loaded.functions in
     let sights : (input : List ℕ) → sights_of p.image.functions (steps_from p) input ≡ sights_of I.functions (machine ds) input =
     λ input k m. ((λ l. sight_of (fns l) (e input m l)) ∙ sight_same I (machine ds input m)) k in
     record {
       output = w.output;
-      gives = run_of_loaded ds image loaded n i j nothing_written (outgoing_of w.output) r (same_run (run image) (steps_from p) n i j nothing_written (outgoing_of w.output) r (run_from image p begins) w.gives);
+      gives = runs_whole ds image p loaded begins n i j r nothing_written (outgoing_of w.output) w.gives;
       within = w.within;
       taken = w.taken;
       took = w.took;

@@ -16,6 +16,7 @@ use Rattle.bmach.specs.Turns.{FailsAtRead, HasHalted, KeepsBelow, LeavesWords, M
 use Rattle.bmach.specs.declared.machine.Active.{Active}
 use Rattle.bmach.specs.declared.machine.Stop.{Stop}
 use Rattle.bmach.proofs.Asking.{asks_if_taken}
+use Rattle.bmach.proofs.MachineExcluded.{not_grown}
 use Rattle.bmach.proofs.Readings.{read_more, run_read, turn_read}
 use Rattle.bmach.proofs.Running.{at_limit, following, one_more, run_over}
 use Rattle.bmach.proofs.Turning.{follows, goes_on, runs_on, took_nothing}
@@ -72,9 +73,6 @@ over_sight functions (Stuck w) over = refl
 -- a sight with an output has it
 own_output : (s : Sight) (p : Paused) (output : List ℕ) → s ≡ sight_at p output → s ≡ sight_at p s.output
 own_output s p output is = is ∙ ap (sight_at p) (sym (ap (λ (x : Sight). x.output) is))
-
-not_grown : (n m : ℕ) → n ≡ 0 → m ≡ 0 → Grew n m → ⊥
-not_grown n m a b g = omega (arith, a, b, g)
 
 module _ (seen awaits sees : Sights → ℕ → Type 0) (first now after : Paused) (made : ℕ) (i j m : Incoming) (t : IsOn seen first made now i j) where
   abbrev states : List ℕ → ℕ → State

@@ -1,5 +1,6 @@
 -- Promise: what can be seen of a run before each of its steps.
 use Rattle.std.specs.Prelude.{ℕ, List, [], map, Option, Some, None}
+use Rattle.std.specs.Option.{option_map_or}
 use Rattle.blang.specs.Machine.{Halted, Loaded, Running, State, States, Stuck}
 use Rattle.bmach.specs.Stepping.{Paused}
 use Rattle.bmach.specs.Stops.{active_of}
@@ -51,3 +52,7 @@ Sights = ℕ → Sight
 
 abbrev pub sights_of : List Loaded → States → (input : List ℕ) → Sights
 sights_of functions states input made = sight_of functions (states input made)
+
+-- the addresses at which a step has stored words; one that ends the run stores none
+abbrev pub stored_between : (before after : Sight) → List ℕ
+stored_between before after = option_map_or (λ call. before.storing) after.call []

@@ -2,7 +2,9 @@
 #![tactic(auto)]
 
 mod onlooker;
+mod trail;
 mod watching;
 
 pub use onlooker::Onlooker;
+pub use trail::{TraceRows, Trail};
 pub use watching::{Watched, watch};

@@ -10,7 +10,7 @@ use Rattle.blang.specs.declared.run.Outcome.TheVariants as outcome
 use Rattle.blang.specs.declared.run.Trap.TheVariants as trap
 use Rattle.bwhere.specs.Dues.{due_text, number_in, opens}
 use Rattle.bwhere.specs.Sites.{Site, nowhere}
-use Rattle.bwhere.specs.Wheres.{code_meaning, code_site_text, opening_lines, site_of, unloaded_text, unread_text, uses}
+use Rattle.bwhere.specs.Wheres.{code_meaning, code_site_text, site_of, unloaded_text, unread_text, uses}
 
 opening : map opens (codes "E" ∷ codes "F f" ∷ codes "V v" ∷ codes "X n" ∷ codes "B 2" ∷ codes "x n" ∷ [] ∷ [])
     ≡ (true ∷ true ∷ true ∷ true ∷ false ∷ false ∷ false ∷ [])
@@ -102,9 +102,6 @@ definitions = definition.Simple (record { name = codes "n"; values = []; strings
       strings = 4 ∷ [];
       code = instr.Constant 1 ∷ instr.Constant 0 ∷ instr.Binary operator.Div ∷ [];
     }) ∷ []
-
-editions_told : map opening_lines (text ∷ codes "E\n" ∷ []) ≡ (1 ∷ 0 ∷ [])
-editions_told = refl
 
 -- a function is found by its string words, and its instructions after its targets and string words
 places_by_line : map (site_of text definitions) (9 ∷ 8 ∷ []) ≡ (record {

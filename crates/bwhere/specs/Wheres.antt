@@ -18,13 +18,14 @@ use Rattle.blang.specs.declared.run.Outcome.{Outcome}
 use Rattle.blang.specs.declared.run.Outcome.TheVariants as outcome
 use Rattle.blang.specs.declared.run.Report.TheVariants as report
 use Rattle.blang.specs.declared.run.Trap.TheVariants as trap
-use Rattle.blang.specs.declared.status.TheConstants.{LIMIT, MEMORY, REFUSED, TRAP}
+use Rattle.blang.specs.declared.status.TheConstants.{MEMORY, REFUSED}
 use Rattle.bmach.specs.Resolved.{IsLoadedFrom}
 use Rattle.bmach.specs.Stepping.{BeginsNot}
 use Rattle.bmach.specs.Stops.{IsOverAt}
 use Rattle.bmach.specs.declared.machine.Active.{Active}
 use Rattle.btools.specs.Columns.{left, right}
-use Rattle.btools.specs.Programs.{load_line}
+use Rattle.btools.specs.PlaceLines.{lines_before}
+use Rattle.btools.specs.Programs.{load_line, located_status}
 use Rattle.btools.specs.SourceLines.{line_at, shown_line, source_lines}
 use Rattle.bwhere.specs.Dues.{due_text, part_at}
 use Rattle.bwhere.specs.Sites.{Site, instr_line, site_among}
@@ -74,12 +75,6 @@ unloaded_text text fault.TooLarge =
 unloaded_text text fault.NoMain = codes "  means: there is no function main\n"
 unloaded_text text fault.Memory = []
 
--- the status of an outcome that is at a place of the program
-abbrev pub status_at_place : Outcome → Option ℕ
-status_at_place (outcome.Trap kind) = Some TRAP
-status_at_place outcome.Limit = Some LIMIT
-status_at_place result = None
-
 -- what a trap at a place of a function means, or the limit
 abbrev pub code_meaning : Outcome → Site → (place : ℕ) → List ℕ
 code_meaning (outcome.Trap trap.ZeroDivisor) site place = codes "the right operand of / or % is 0"
@@ -94,10 +89,6 @@ code_meaning (outcome.Trap trap.Stuck) site place = if nat_lt place site.instruc
 code_meaning outcome.Limit site place = codes "no end within so many steps; --steps N or --no-limit gives more"
 code_meaning result site place = []
 
--- how many lines of a text stand before its definitions
-abbrev pub opening_lines : (text : List ℕ) → ℕ
-opening_lines text = if bytes_eq (line_at text 1) (codes "B 2") then 1 else 0
-
 -- a place of a function, and the number of the step with which the run came there; the line there, and what it means
 abbrev pub code_site_text : (text : List ℕ) → Site → Outcome → (place number : ℕ) → List ℕ
 code_site_text text site result place number = let line = instr_line site place in
@@ -107,7 +98,7 @@ code_site_text text site result place number = let line = instr_line site place 
 
 -- the function whose string words lie there, in a text of these definitions
 abbrev pub site_of : (text : List ℕ) → List Definition → (strings : ℕ) → Site
-site_of text ds strings = site_among 7 (opening_lines text) strings ds
+site_of text ds strings = site_among 7 (lines_before text) strings ds
 
 -- A text was told with this answer, or memory was refused for it.
 abbrev pub TellsOrNone : List ℕ → (answer : ℕ) → (old new : Outgoing) → (status : ℕ) → Type 0
@@ -133,13 +124,13 @@ pub data LocatesCode (steps : ℕ) (text : List ℕ) (ends : RunEnds) (status : 
   located : (ds : List Definition) (result : Outcome) (told : Outgoing) (answer : ℕ) (active : Active) (made : ℕ)
       → IsCodeText text ds → load_fault ds ≡ None
       → RunGives (machine ds) steps ends.input ends.input_after ends.out ends.out_after result
-      → Finishes result ends.line told answer → status_at_place result ≡ Some answer
+      → Finishes result ends.line told answer → located_status result ≡ Some answer
       → IsOverAt (machine ds) steps ends.input ends.input_after result active made
       → TellsOrNone (code_site_text text (site_of text ds active.strings) result active.place made) answer told
       ends.line_after status → LocatesCode steps text ends status
   unlocated : (ds : List Definition) (result : Outcome) → IsCodeText text ds → load_fault ds ≡ None
       → RunGives (machine ds) steps ends.input ends.input_after ends.out ends.out_after result
-      → Finishes result ends.line ends.line_after status → (status_at_place result ≡ Some status → ⊥)
+      → Finishes result ends.line ends.line_after status → (located_status result ≡ Some status → ⊥)
       → LocatesCode steps text ends status
   not_begun : (ds : List Definition) (image : Image) (result : Outcome) → IsCodeText text ds → load_fault ds ≡ None
       → IsLoadedFrom ds image → BeginsNot image result → Finishes result ends.line ends.line_after status

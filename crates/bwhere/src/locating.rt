@@ -4,7 +4,7 @@ ghost use Rattle.blang.specs.Layout.{data_end, shape_of};
 ghost use Rattle.blang.specs.Reports.{run_ends};
 ghost use Rattle.btools.specs.Programs.{load_line};
 ghost use Rattle.bwhere.specs.Sites.{site_shown};
-ghost use Rattle.bwhere.specs.Wheres.{LocatesCode, TellsUnloaded, TellsUnread, TellsOrNone, code_meaning, code_site_text, cut_text, opening_lines, site_of, status_at_place, unread_text, unloaded_text};
+ghost use Rattle.bwhere.specs.Wheres.{LocatesCode, TellsUnloaded, TellsUnread, TellsOrNone, code_meaning, code_site_text, cut_text, site_of, unread_text, unloaded_text};
 
 use crate::due::push_due;
 use crate::loading::{push_line, push_unloaded};
@@ -15,7 +15,7 @@ use blang::{Definition, LoadFault, Outcome, Trap};
 use bmach::{Stepper, Stop, load_slice};
 use bpages::PagedStore;
 use brun::finish;
-use btools::{Text, line_at, load_line, push_source_line, tell};
+use btools::{Text, line_at, lines_before, load_line, located_status, push_source_line, tell};
 use bword::{ByteIn, ByteOut};
 use std::alloc::{AllocError, Global};
 
@@ -57,7 +57,7 @@ pub fn locate_code<I: ByteIn, O: ByteOut, D: ByteOut>(
     };
     let stop = stepper.run(input, out, steps);
     let told = finish(stop.outcome, diag);
-    match status_at_place(stop.outcome) {
+    match located_status(stop.outcome) {
         Some(status) if status == told => tell_place(alloc, code, &definitions, stop, told, diag),
         _ => told,
     }
@@ -132,17 +132,6 @@ fn unloaded_text(
     Ok(text)
 }
 
-// The status of an outcome that is at a place of the program.
-fn status_at_place(outcome: Outcome) -> Option<Status>
-    ensures { result ≡ status_at_place outcome }
-{
-    match outcome {
-        Outcome::Trap(_) => Some(status::TRAP),
-        Outcome::Limit => Some(status::LIMIT),
-        Outcome::Exit(_) | Outcome::Device | Outcome::Memory => None,
-    }
-}
-
 // Tells where a run was over.
 fn tell_place<D: ByteOut>(
     alloc: Global,
@@ -157,21 +146,10 @@ fn tell_place<D: ByteOut>(
         status (D.outgoing diag.old) (D.outgoing diag.new) result }
     ensures same { D.lender diag.new ≡ D.lender diag.old }
 {
-    let site = site_of(definitions, opening_lines(code), stop.call.strings);
+    let site = site_of(definitions, lines_before(code), stop.call.strings);
     match code_site_text(alloc, code, site, stop) {
         Ok(text) => tell(text.as_slice(), status, diag),
         Err(_) => status::MEMORY,
-    }
-}
-
-// How many lines of a code text stand before its definitions.
-fn opening_lines(code: &[u8]) -> u64
-    ensures { result ≡ opening_lines code.now }
-{
-    if line_at(code, 1) == b"B 2".as_slice() {
-        1
-    } else {
-        0
     }
 }
 

@@ -1,11 +1,11 @@
 //! The functions of a code text, and the lines of their instructions.
-ghost use Rattle.std.specs.Prelude.{◌≡◌, ◌≤◌, map, option_map, length};
+ghost use Rattle.std.specs.Prelude.{◌≡◌, ◌≤◌, map, option_map};
 ghost use Rattle.blang.specs.Layout.{data_end, shape_of};
-ghost use Rattle.blang.specs.Text.{lines_of};
 ghost use Rattle.bwhere.specs.Sites.{instr_line, site_among, site_at, site_shown};
 
 use blang::Definition;
 use bmach::{FIRST_ADDRESS, size_of};
+use btools::lines_in;
 
 /// A function of a code text.
 #[derive(Clone, Copy)]
@@ -65,25 +65,4 @@ fn site_at(definition: &Definition, address: u32, before: u64, strings: u32) -> 
         first: before.saturating_add(head),
         instructions: parts.code.len(),
     })
-}
-
-// How many lines a definition has.
-fn lines_in(definition: &Definition) -> u64
-    ensures { result ≡ length (lines_of definition.now) }
-{
-    let body = match definition {
-        Definition::Function(function) => {
-            let parts = function.parts();
-            parts.targets.len() + parts.strings.len() + parts.code.len()
-        }
-        Definition::Simple(simple) => {
-            let parts = simple.parts();
-            parts.values.len() + parts.strings.len()
-        }
-        Definition::Vector(vector) => {
-            let parts = vector.parts();
-            parts.values.len() + parts.strings.len()
-        }
-    };
-    body as u64 + 1
 }

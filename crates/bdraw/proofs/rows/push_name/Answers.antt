@@ -23,5 +23,5 @@ returns g c =
     on_ok_weaker c.push_strings.result (λ last.
     both old c.push_words.new.shapes.items c.push_strings.new.shapes.items _ _
     (both old c.push_heading.new.shapes.items c.push_words.new.shapes.items _ _ c.in_ok-push_heading.ensures c.in_ok-push_words.ensures) last
-    ∙ (λ i. old ++ (head (name i) (c.kind.ensures i) (count i) ++ all (address i) (count i) ++ strings (address i) (c.words_before_strings-others.ensures i) (most i))))
+    ∙ (λ i. old ++ (head (name i) (c.kind_name.ensures i) (count i) ++ all (address i) (count i) ++ strings (address i) (c.words_before_strings-others.ensures i) (most i))))
     c.push_strings.ensures

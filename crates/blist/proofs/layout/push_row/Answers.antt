@@ -20,5 +20,5 @@ returns c =
     let count : c.min.result ≡ min (size_of d) 6 = c.min.ensures ∙ ap (λ n. min n 6) c.size_of-words.ensures.value in
     on_ok_weaker c.push-3.result (λ end.
     piece _ _ _ _ _ (piece _ _ _ _ _ (piece _ _ _ _ _ (piece _ _ _ _ _ (piece _ _ _ _ _ (piece _ _ _ _ _ (piece _ _ _ _ _ (piece _ _ _ _ _ c.in_ok-push_right_number.ensures c.in_ok-push.ensures) c.in_ok-push_left.ensures) c.in_ok-push_left-2.ensures) c.in_ok-push_right_number-2.ensures) c.in_ok-push-2.ensures) c.in_ok-push_words.ensures) c.in_ok-push_dots.ensures) end
-    ∙ (λ i. c.args.text.now ++ (right 6 (decimal (number i)) ++ codes "  " ++ left 10 (name i) ++ left 8 (c.kind.ensures i) ++ right 7 (decimal (size i)) ++ codes " "
+    ∙ (λ i. c.args.text.now ++ (right 6 (decimal (number i)) ++ codes "  " ++ left 10 (name i) ++ left 8 (c.kind_name.ensures i) ++ right 7 (decimal (size i)) ++ codes " "
     ++ words_from image (address i) (count i) ++ dots (c.size_of-words.ensures.value i) ++ codes "\n"))) c.push-3.ensures

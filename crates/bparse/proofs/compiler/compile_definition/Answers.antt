@@ -4,10 +4,11 @@ use Rattle.std.proofs.Common.{◌∙◌, sym, subst}
 use Rattle.bparse.specs.Locals.{locals_in}
 use Rattle.bparse.specs.Steps.{point, refused_step}
 use Rattle.bparse.specs.declared.step.Step.TheVariants as step
-use Rattle.bparse.proofs.CompilerSteps.{gives_stop, read_fails, breaks_after, fault_stops, end_stops, end_breaks, wrote, fault_after, no_memory, write_breaks, within}
+use Rattle.bparse.proofs.CompilerSteps.{gives_stop, read_fails, fault_stops, end_stops, end_breaks, wrote, fault_after, no_memory, write_breaks, within}
 use Rattle.bword.specs.ByteEnds.{Writes, Refuses}
 use Rattle.bgrammar.specs.DefinitionReader.{definition}
 use Rattle.bread.specs.Parsers.{Halts}
+use Rattle.bread.proofs.TokenSteps.{Moves-breaks}
 use Rattle.bparse.proofs.MadeSteps.{drafted, end_of, not_end, fault_some, fault_none, names_kept, viewed}
 use Rattle.blang.specs.Text.{IsWithinRanges, definition_text}
 use Rattle.bparse.proofs.compiler.compile_definition.Goals as goal
@@ -34,7 +35,7 @@ returns-in-Err-Fault-clause-gives g c =
 pub returns-in-Err-Device-clause-gives : goal.returns-in-Err-Device-clause-gives
 returns-in-Err-Device-clause-gives g c =
     let broken = subst (λ h. Halts definition c.look.new.self h c.definition.new.parser.tokens) c.in-Err-Device.field-0-is c.in-Err-Device.ensures in
-    read_fails c.args.parser.now.tokens c.definition.new.parser.tokens (keys_of c.args.names.now) (keys_of c.args.names.now) _ (breaks_after c.in_ok-look.ensures.ok.moves broken)
+    read_fails c.args.parser.now.tokens c.definition.new.parser.tokens (keys_of c.args.names.now) (keys_of c.args.names.now) _ (Moves-breaks c.in_ok-look.ensures.ok.moves broken)
 
 pub returns-in-Some-clause-gives : goal.returns-in-Some-clause-gives
 returns-in-Some-clause-gives g c =

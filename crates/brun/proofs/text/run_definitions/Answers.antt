@@ -1,7 +1,8 @@
 use Rattle.std.proofs.Common.{sym, ◌∙◌, refl}
+use Rattle.bmach.proofs.LoadedRuns.{run_of_loaded}
 use Rattle.brun.specs.Runs.{refused, ran}
 use Rattle.brun.proofs.Endings.{gives_own_status}
-use Rattle.brun.proofs.RunSteps.{first_fault, run_of_loaded}
+use Rattle.brun.proofs.RunSteps.{first_fault}
 use Rattle.brun.proofs.text.run_definitions.Goals as goal
 
 pub returns-in-Some-clause-runs : goal.returns-in-Some-clause-runs

@@ -5,7 +5,7 @@ use Rattle.blang.specs.Layout.{store_words}
 use Rattle.btools.proofs.AddedTexts.{piece}
 use Rattle.bshow.specs.Facts.{all_addresses, memory_word, some_word}
 use Rattle.bshow.proofs.FactParts.{all_are}
-use Rattle.bshow.proofs.Ranges.{text_more}
+use Rattle.btools.proofs.Ranges.{text_more}
 use Rattle.bshow.proofs.facts.push_memory.Goals as goal
 
 pub loop-address-init : goal.loop-address-init

@@ -4,9 +4,9 @@ use Rattle.std.proofs.lemmas.List.{reverse-reverse}
 use Rattle.std.proofs.lemmas.Result.{on_ok_weaker}
 use Rattle.btools.proofs.AddedTexts.{piece}
 use Rattle.bmach.specs.declared.machine.Active.{Active}
-use Rattle.btools.specs.Functions.{entries_of, function_with, placed_entry}
+use Rattle.btools.specs.Functions.{entries_of, function_with, instr_in, name_in, placed_entry}
 use Rattle.btools.specs.ProgramLines.{line_in, lines_shown, lines_with}
-use Rattle.btrace.specs.RowTexts.{instr_in, instr_text, name_in}
+use Rattle.btools.specs.Columns.{instr_text}
 use Rattle.bshow.specs.Rows.{number_cell, text_cell, words_cell}
 use Rattle.bshow.proofs.rows.push_call.Goals as goal
 

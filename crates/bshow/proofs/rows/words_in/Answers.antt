@@ -4,7 +4,7 @@ use Rattle.std.specs.List.{range_with_len}
 use Rattle.std.proofs.lemmas.Bool.{cases_lt}
 use Rattle.std.proofs.lemmas.List.{map-append}
 use Rattle.bshow.specs.Rows.{words_in}
-use Rattle.bshow.proofs.Ranges.{one_further}
+use Rattle.btools.proofs.Ranges.{one_further}
 use Rattle.bshow.proofs.rows.words_in.Goals as goal
 
 pub loop-address-init : goal.loop-address-init

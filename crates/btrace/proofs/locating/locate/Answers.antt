@@ -6,7 +6,8 @@ use Rattle.btrace.specs.Locates.{not_begun, stopped}
 use Rattle.btools.specs.declared.program.ProgramFault.TheVariants.{Memory}
 use Rattle.btools.specs.Origins.{Source}
 use Rattle.btools.proofs.Functions.{data_fit}
-use Rattle.btrace.proofs.Located.{located_whole, no_other, not_none, unlocated_whole}
+use Rattle.btools.proofs.Stopped.{no_other, not_none}
+use Rattle.btrace.proofs.Located.{located_whole, unlocated_whole}
 use Rattle.btrace.proofs.locating.locate.Goals as goal
 use Rattle.btrace.proofs.locating.locate.Goals.{in_default-located_status-2, in_default-located_status}
 

@@ -1,7 +1,8 @@
 use Rattle.std.proofs.Common.{◌∙◌, ◌++◌, ap, codes, decimal}
 use Rattle.std.proofs.lemmas.Result.{on_ok_weaker}
 use Rattle.btools.specs.Columns.{right}
-use Rattle.btrace.specs.RowTexts.{legend_of, line_text, name_in, name_of, place_line}
+use Rattle.btools.specs.Functions.{name_in}
+use Rattle.btrace.specs.RowTexts.{legend_of, line_text, name_of, place_line}
 use Rattle.btrace.proofs.PlaceParts.{site_parts}
 use Rattle.btrace.proofs.places.push_site.Goals as goal
 

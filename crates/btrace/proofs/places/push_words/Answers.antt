@@ -2,7 +2,8 @@ use Rattle.std.proofs.Common.{◌≡◌, ◌∙◌, ℕ, [], ◌++◌, append-ni
 use Rattle.std.specs.Prelude.{slice_index}
 use Rattle.std.specs.List.{flat_map, range_with_len}
 use Rattle.std.proofs.lemmas.Result.{on_ok_weaker}
-use Rattle.btrace.specs.RowTexts.{parameter_at, signed_text}
+use Rattle.btools.specs.Characters.{signed_text}
+use Rattle.btrace.specs.RowTexts.{parameter_at}
 use Rattle.btrace.proofs.PlaceParts.{one_word, words_shown}
 use Rattle.btrace.proofs.places.push_words.Goals as goal
 

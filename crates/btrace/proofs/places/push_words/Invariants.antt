@@ -1,6 +1,7 @@
 use Rattle.std.proofs.Common.{◌≡◌, ◌++◌, codes, map, nat_lt, [], if◌then◌else◌}
 use Rattle.std.specs.List.{flat_map, range_with_len}
-use Rattle.btrace.specs.RowTexts.{parameter_at, signed_text}
+use Rattle.btools.specs.Characters.{signed_text}
+use Rattle.btrace.specs.RowTexts.{parameter_at}
 use Rattle.btrace.proofs.places.push_words.Given as goal
 
 -- so many words are shown

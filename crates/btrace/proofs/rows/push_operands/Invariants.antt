@@ -1,6 +1,6 @@
 use Rattle.std.proofs.Common.{◌≡◌, ◌++◌, ◌-◌, [], codes, length, nat_lt, take, if◌then◌else◌}
 use Rattle.std.specs.List.{flat_map}
-use Rattle.btrace.specs.RowTexts.{signed_text}
+use Rattle.btools.specs.Characters.{signed_text}
 use Rattle.btrace.specs.declared.rows.TheConstants.{SHOWN_OPERANDS}
 use Rattle.btrace.proofs.rows.push_operands.Given as goal
 

@@ -4,11 +4,11 @@ use Rattle.std.proofs.lemmas.List.{reverse-reverse}
 use Rattle.std.proofs.lemmas.Result.{on_ok_weaker}
 use Rattle.bmach.specs.Stops.{active_of}
 use Rattle.bmach.specs.declared.machine.Active.{Active}
-use Rattle.btools.specs.Columns.{left, right}
+use Rattle.btools.specs.Columns.{instr_text, left, right}
 use Rattle.btools.proofs.AddedTexts.{piece}
-use Rattle.btools.specs.Functions.{function_with, placed_entry}
+use Rattle.btools.specs.Functions.{function_with, instr_in, name_in, placed_entry}
 use Rattle.btools.specs.ProgramLines.{line_in, lined_entry, lines_with}
-use Rattle.btrace.specs.RowTexts.{instr_in, instr_text, legend_of, line_text, name_in, operands_text, place_line}
+use Rattle.btrace.specs.RowTexts.{legend_of, line_text, operands_text, place_line}
 use Rattle.btrace.proofs.rows.push_step.Goals as goal
 
 pub returns : goal.returns

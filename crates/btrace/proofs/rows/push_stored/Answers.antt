@@ -2,7 +2,8 @@ use Rattle.std.proofs.Common.{◌≡◌, ◌∙◌, ◌-◌, ◌%◌, ◌<◌, �
 use Rattle.std.specs.List.{range_with_len}
 use Rattle.std.proofs.lemmas.Bool.{cases_lt}
 use Rattle.btrace.specs.RowTexts.{stored_text, word_row}
-use Rattle.btrace.proofs.RowParts.{one_further, one_stored}
+use Rattle.btools.proofs.Ranges.{one_further}
+use Rattle.btrace.proofs.RowParts.{one_stored}
 use Rattle.btrace.proofs.rows.push_stored.Goals as goal
 
 pub loop-address-init : goal.loop-address-init

@@ -1,7 +1,8 @@
 use Rattle.std.proofs.Common.{◌∙◌, ◌++◌, codes, decimal}
 use Rattle.std.proofs.lemmas.Result.{on_ok_weaker}
 use Rattle.btools.proofs.AddedTexts.{piece}
-use Rattle.btrace.specs.RowTexts.{margin, signed_text}
+use Rattle.btools.specs.Characters.{signed_text}
+use Rattle.btrace.specs.RowTexts.{margin}
 use Rattle.btrace.proofs.rows.push_word.Goals as goal
 
 pub returns : goal.returns

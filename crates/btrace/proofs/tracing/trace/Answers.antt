@@ -8,7 +8,7 @@ use Rattle.btools.specs.Origins.{origin_shown}
 use Rattle.btools.proofs.Functions.{data_fit}
 use Rattle.btrace.specs.RowTexts.{legend_in, legend_of}
 use Rattle.btrace.specs.Traces.{IsTrace, no_memory, not_begun, stopped, traced, unnamed, which_of}
-use Rattle.btrace.specs.Trails.{trail_text}
+use Rattle.bwatch.specs.Trails.{trail_text}
 use Rattle.bmach.proofs.Readings.{none_at_first}
 use Rattle.bwatch.proofs.Origins.{loaded_in, loads_in}
 use Rattle.bwatch.proofs.Seen.{told_so}

@@ -2,7 +2,7 @@ use Rattle.std.proofs.Common.{refl}
 use Rattle.blang.specs.Machine.{image_of}
 use Rattle.bmach.proofs.Beginning.{no_other_beginning}
 use Rattle.bmach.proofs.Readings.{none_at_first}
-use Rattle.brun.proofs.RunSteps.{read_of_loaded}
+use Rattle.bmach.proofs.LoadedRuns.{read_of_loaded}
 use Rattle.bwatch.proofs.Loaded.{watched_loaded}
 use Rattle.bwatch.proofs.Seen.{where_refused}
 use Rattle.bwatch.proofs.watching.watch.Goals as goal

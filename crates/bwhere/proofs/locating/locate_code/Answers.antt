@@ -12,9 +12,9 @@ use Rattle.bmach.specs.Loading.{IsFault}
 use Rattle.btools.specs.Programs.{load_line}
 use Rattle.btools.proofs.Functions.{data_fit}
 use Rattle.bwhere.specs.Wheres.{LocatesCode, TellsOrNone, TellsUnloaded, TellsUnread, code_site_text, located, no_memory, not_begun, site_of, unlocated, unloaded, unread}
-use Rattle.bwhere.proofs.Stopped.{no_other, not_none, runs_whole, stops_run}
+use Rattle.btools.proofs.Stopped.{no_other, not_none, runs_whole, stops_run}
 use Rattle.bwhere.proofs.locating.locate_code.Goals as goal
-use Rattle.bwhere.proofs.locating.locate_code.Goals.{in_default-status_at_place-2, in_default-status_at_place}
+use Rattle.bwhere.proofs.locating.locate_code.Goals.{in_default-located_status-2, in_default-located_status}
 
 module _ (steps : ℕ) (text : List ℕ) (ends : RunEnds) (status : ℕ) (quiet : HasNotRun ends) where
   not_read : (f : CodeFault) → IsFaultOf text f → ((ds : List Definition) → IsCodeText text ds → f ≡ code_fault.Memory)
@@ -59,7 +59,7 @@ returns-in-Some-clause-locates g c =
     let loaded = c.in-Ok-load_slice.ensures.ok in
     located ds stop.outcome (g.D.ByteOut.outgoing c.finish-told.new.diag) c.finish-told.result stop.call stop.steps is c.in-Ok-load_slice.ensures.loads
     (runs_whole ds image c.in-Ok-begin.stepper loaded c.in-Ok-begin.ensures c.args.steps _ _ stop.outcome _ _ c.run-stop.ensures.gives)
-    c.finish-told.ensures.gives (sym c.status_at_place.ensures ∙ c.in-Some.is ∙ ap Some c.if-status-told.true)
+    c.finish-told.ensures.gives (sym c.located_status.ensures ∙ c.in-Some.is ∙ ap Some c.if-status-told.true)
     (stops_run ds image c.in-Ok-begin.stepper loaded c.in-Ok-begin.ensures c.args.steps _ _ stop.outcome stop.call stop.steps c.run-stop.ensures.stops)
     (subst (λ (es : List Definition). TellsOrNone (code_site_text c.args.code.now (site_of c.args.code.now es stop.call.strings) stop.outcome stop.call.place stop.steps) c.finish-told.result (g.D.ByteOut.outgoing c.finish-told.new.diag) (g.D.ByteOut.outgoing c.tell_place.new.diag) c.tell_place.result)
     (c.deref-in-Some.ensures.value ∙ sym c.deref.ensures.value) c.tell_place.ensures.tells)
@@ -70,13 +70,13 @@ returns-clause-locates g c =
     let is = subst (IsCodeText c.args.code.now) (sym c.deref.ensures.value) c.in-Ok.ensures.ok in
     let outcome = c.run-stop.result.outcome in
     let gives = runs_whole ds c.in-Ok-load_slice.image c.in-Ok-begin.stepper c.in-Ok-load_slice.ensures.ok c.in-Ok-begin.ensures c.args.steps _ _ outcome _ _ c.run-stop.ensures.gives in
-    elim c.match-status_at_place.branch [
-      | in_default-status_at_place-2 w ↦
+    elim c.match-located_status.branch [
+      | in_default-located_status-2 w ↦
           rw w.result-is
           (unlocated ds outcome is c.in-Ok-load_slice.ensures.loads gives c.finish-told.ensures.gives
-          (no_other _ _ _ (sym c.status_at_place.ensures ∙ w.in-Some.is) w.if-status-told.false))
-      | in_default-status_at_place w ↦
+          (no_other _ _ _ (sym c.located_status.ensures ∙ w.in-Some.is) w.if-status-told.false))
+      | in_default-located_status w ↦
           rw w.result-is
           (unlocated ds outcome is c.in-Ok-load_slice.ensures.loads gives c.finish-told.ensures.gives
-          (not_none _ _ (sym c.status_at_place.ensures ∙ w.in_default-status_at_place.is)))
+          (not_none _ _ (sym c.located_status.ensures ∙ w.in_default-located_status.is)))
     ]

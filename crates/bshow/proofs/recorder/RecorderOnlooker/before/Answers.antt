@@ -3,7 +3,8 @@ use Rattle.std.proofs.lemmas.Result.{on_ok_weaker}
 use Rattle.bshow.specs.Rows.{sight_cells, table_code, words_in}
 use Rattle.bshow.specs.Steps.{may_show}
 use Rattle.bwatch.specs.Sights.{sight_at}
-use Rattle.bshow.proofs.Recorded.{awaited, cells_seen, no_row, own_row}
+use Rattle.bwatch.proofs.Kept.{no_row, own_row}
+use Rattle.bshow.proofs.Recorded.{awaited, cells_seen}
 use Rattle.bshow.proofs.recorder.RecorderOnlooker.before.Goals as goal
 
 pub returns-then-not-self : goal.returns-then-not-self

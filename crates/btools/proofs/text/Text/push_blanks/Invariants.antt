@@ -1,5 +1,8 @@
 use Rattle.std.proofs.Common.{◌≡◌, ◌++◌, replicate}
 use Rattle.btools.proofs.text.Text.push_blanks.Given as goal
 
-abbrev pub invariant-loop-filled : goal.invariant-loop-filled
-invariant-loop-filled l = l.self ≡ l.fn.self ++ replicate l.filled 32
+abbrev pub invariant-loop-left : goal.invariant-loop-left
+invariant-loop-left l = l.self ++ replicate l.left 32 ≡ l.fn.self ++ replicate l.count 32
+
+abbrev pub decreases-loop-left : goal.decreases-loop-left
+decreases-loop-left l = l.left

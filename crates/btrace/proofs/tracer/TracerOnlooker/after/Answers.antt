@@ -3,7 +3,7 @@ use Rattle.std.specs.List.{range_with_len}
 use Rattle.std.proofs.lemmas.Result.{on_ok_weaker}
 use Rattle.btools.proofs.AddedTexts.{piece}
 use Rattle.btrace.specs.RowTexts.{stored_text, written_row}
-use Rattle.btrace.specs.declared.trail.Trail.{Trail}
+use Rattle.bwatch.specs.declared.trail.Trail.{Trail}
 use Rattle.btrace.proofs.Traced.{hidden_traced, shown_traced}
 use Rattle.btrace.proofs.tracer.TracerOnlooker.after.Goals as goal
 

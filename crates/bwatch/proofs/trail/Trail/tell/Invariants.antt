@@ -1,7 +1,7 @@
 use Rattle.std.proofs.Common.{◌≡◌, ◌++◌, take}
 use Rattle.bword.specs.ByteEnds.{Writes}
-use Rattle.btrace.proofs.Telling.{whole}
-use Rattle.btrace.proofs.trail.Trail.tell.Given as goal
+use Rattle.bwatch.proofs.Telling.{whole}
+use Rattle.bwatch.proofs.trail.Trail.tell.Given as goal
 
 -- the text and so many of the rows were written
 abbrev pub invariant-loop-index : goal.invariant-loop-index

@@ -14,7 +14,7 @@ use Rattle.bmach.specs.declared.machine.Active.{Active}
 use Rattle.bmach.proofs.Beginning.{run_from}
 use Rattle.bmach.proofs.Resolving.{run-resolved}
 use Rattle.bmach.proofs.Running.{same_run}
-use Rattle.brun.proofs.RunSteps.{outcome-resolved, run_loaded, run_of_loaded}
+use Rattle.bmach.proofs.LoadedRuns.{outcome-resolved, run_loaded, run_of_loaded}
 use Rattle.btools.specs.Programs.{steps_from}
 
 pub no_other : (r : Option ℕ) (s t : ℕ) → r ≡ Some s → (s ≡ t → ⊥) → r ≡ Some t → ⊥
@@ -57,16 +57,17 @@ module _ (I : Image) (f g : ℕ → State) (e : (n : ℕ) → g n ≡ state_reso
   ends_at_same made n outcome.Device h = tt
   ends_at_same made n outcome.Memory h = tt
 
+-- a run that was loaded and begun comes to the states of its definitions, resolved
+pub states_loaded : (ds : List Definition) (image : Image) (p : Paused) → IsLoadedFrom ds image → IsUnstarted image p → (input : List ℕ) (k : ℕ) → steps_from p input k ≡ state_resolved (image_of ds) (machine ds input k)
+states_loaded ds image p loaded begins input k = sym (run_from image p begins input k) ∙ run_loaded ds image loaded input k ∙ run-resolved (image_of ds) input k
+
 module _ (ds : List Definition) (image : Image) (p : Paused) (loaded : IsLoadedFrom ds image) (begins : IsUnstarted image p) (n : ℕ) (i j : Incoming) (r : Outcome) where
   pub stops_run : (active : Active) (made : ℕ) → IsOverAt (steps_from p) n i j r active made → IsOverAt (machine ds) n i j r active made
-  stops_run active made s =
-      let e : (input : List ℕ) (k : ℕ) → steps_from p input k ≡ state_resolved (image_of ds) (machine ds input k) =
-      λ input k. sym (run_from image p begins input k) ∙ run_loaded ds image loaded input k ∙ run-resolved (image_of ds) input k in
-      record {
-        taken = s.taken;
-        took = s.took;
-        ends = λ more can. ends_at_same (image_of ds) (machine ds (s.taken ++ more)) (steps_from p (s.taken ++ more)) (e (s.taken ++ more)) active made n r (s.ends more can);
-      }
+  stops_run active made s = record {
+    taken = s.taken;
+    took = s.took;
+    ends = λ more can. ends_at_same (image_of ds) (machine ds (s.taken ++ more)) (steps_from p (s.taken ++ more)) (states_loaded ds image p loaded begins (s.taken ++ more)) active made n r (s.ends more can);
+  }
 
   pub runs_whole : (o q : Outgoing) → RunGives (steps_from p) n i j o q r → RunGives (machine ds) n i j o q r
   runs_whole o q gives = run_of_loaded ds image loaded n i j o q r (same_run (run image) (steps_from p) n i j o q r (run_from image p begins) gives)

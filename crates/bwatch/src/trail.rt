@@ -2,7 +2,7 @@
 ghost use Rattle.std.specs.Prelude.{◌≡◌, [], IfOk, OnOk, drop};
 ghost use Rattle.blang.specs.Reports.{Reported};
 ghost use Rattle.blang.specs.declared.status.TheConstants.{DONE};
-ghost use Rattle.btrace.specs.Trails.{Keeps, KeepsIf, first_of, trail_text};
+ghost use Rattle.bwatch.specs.Trails.{Keeps, KeepsIf, first_of, trail_text};
 
 use blang::status::{self, Status};
 use btools::{Text, tell};

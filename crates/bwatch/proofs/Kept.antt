@@ -1,12 +1,12 @@
 -- The rows that are kept, all or the last ones.
-use Rattle.std.proofs.Common.{◌≡◌, ◌∙◌, ℕ, ◌+◌, ◌-◌, ◌<◌, ◌≤◌, ◌⊎◌, inl, inr, ⊎_elim, List, [], ◌∷◌, ◌++◌, ap, append-nil, arith, drop, length, map, nat_lt, refl, sym, if◌then◌else◌}
+use Rattle.std.proofs.Common.{Bool, true, false, ◌≡◌, ◌∙◌, ℕ, ◌+◌, ◌-◌, ◌<◌, ◌≤◌, ◌⊎◌, inl, inr, ⊎_elim, List, [], ◌∷◌, ◌++◌, ap, append-nil, arith, drop, length, map, nat_lt, refl, sym, if◌then◌else◌}
 use Rattle.std.specs.List.{flat_map}
 use Rattle.std.proofs.lemmas.Bool.{cases_order, cond-false, cond-true, le-ltb, lt-ltb}
 use Rattle.std.proofs.lemmas.List.{drop_all, drop-append-le, drop-drop, drop-map, flat_map_more, length-append, length-drop, length-map}
-use Rattle.btrace.specs.Trails.{IsKept, Keeps, chosen, last_of, trail_text, without_first}
-use Rattle.btrace.specs.declared.trail.TraceRows.{TraceRows}
-use Rattle.btrace.specs.declared.trail.TraceRows.TheVariants as rows
-use Rattle.btrace.specs.declared.trail.Trail.{Trail}
+use Rattle.bwatch.specs.Trails.{IsKept, Keeps, chosen, last_of, trail_text, without_first}
+use Rattle.bwatch.specs.declared.trail.TraceRows.{TraceRows}
+use Rattle.bwatch.specs.declared.trail.TraceRows.TheVariants as rows
+use Rattle.bwatch.specs.declared.trail.Trail.{Trail}
 
 pub map-chosen : {A B : Type 0} (f : A → B) (which : TraceRows) (xs : List A) → map f (chosen which xs) ≡ chosen which (map f xs)
 map-chosen f (rows.From k) xs = refl
@@ -52,3 +52,12 @@ kept_more (rows.Last n) heading texts t u h keeps = ((keeps.0 ∙ h.0, keeps.1 �
 pub kept_text : (which : TraceRows) (heading : List ℕ) (texts : List (List ℕ)) (t : Trail) → IsKept which heading texts t → trail_text t ≡ heading ++ flat_map (λ row. row) (chosen which texts) ++ t.row
 kept_text (rows.From k) heading texts t h = ap (λ x. x ++ t.row) ((λ i. h.0 i ++ flat_map (λ row. row) (h.1 i)) ∙ append-nil (heading ++ flat_map (λ row. row) texts))
 kept_text (rows.Last n) heading texts t h = λ i. h.0 i ++ flat_map (λ row. row) (h.1 i) ++ t.row
+
+-- a row that is begun for a step that isn't shown, and for one that is
+pub no_row : (b : Bool) (row : List ℕ) → b ≡ false → (if b then row else []) ≡ []
+no_row false row e = refl
+no_row true row e = cc
+
+pub own_row : (b : Bool) (row : List ℕ) → b ≡ true → (if b then row else []) ≡ row
+own_row true row e = refl
+own_row false row e = cc

@@ -1,9 +1,9 @@
 -- Inner words: which rows of a run are kept.
 use Rattle.std.specs.Prelude.{◌≡◌, ℕ, ◌-◌, Bool, true, false, List, [], ◌∷◌, ◌++◌, drop, length, nat_lt, if◌then◌else◌}
 use Rattle.std.specs.List.{flat_map}
-use Rattle.btrace.specs.declared.trail.TraceRows.{TraceRows}
-use Rattle.btrace.specs.declared.trail.TraceRows.TheVariants as rows
-use Rattle.btrace.specs.declared.trail.Trail.{Trail}
+use Rattle.bwatch.specs.declared.trail.TraceRows.{TraceRows}
+use Rattle.bwatch.specs.declared.trail.TraceRows.TheVariants as rows
+use Rattle.bwatch.specs.declared.trail.Trail.{Trail}
 
 -- the number of the first step that may be shown
 abbrev pub first_of : TraceRows → ℕ

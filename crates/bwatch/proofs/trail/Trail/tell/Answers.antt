@@ -2,9 +2,9 @@ use Rattle.std.proofs.Common.{◌≡◌, ◌∙◌, ◌+◌, ◌<◌, ◌≤◌,
 use Rattle.std.proofs.lemmas.List.{get_or_read}
 use Rattle.bword.specs.ByteEnds.{Writes}
 use Rattle.bword.proofs.Putting.{Writes-append}
-use Rattle.btrace.specs.Trails.{trail_text}
-use Rattle.btrace.proofs.Telling.{around, begun_off, broken_off, one_text, told_last, was_written, whole}
-use Rattle.btrace.proofs.trail.Trail.tell.Goals as goal
+use Rattle.bwatch.specs.Trails.{trail_text}
+use Rattle.bwatch.proofs.Telling.{around, begun_off, broken_off, one_text, told_last, was_written, whole}
+use Rattle.bwatch.proofs.trail.Trail.tell.Goals as goal
 
 pub loop-index-init : goal.loop-index-init
 loop-index-init g c =
