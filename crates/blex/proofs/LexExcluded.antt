@@ -1,7 +1,8 @@
 -- Answers that the contract of the lexer excludes, over a stream that tells its bytes.
-use Rattle.std.proofs.Common.{◌≡◌, ◌≢◌, ℕ, List, ◌∷◌, ◌++◌, Ok, Err, refl, sym, ap, ◌∙◌, subst, arith, append_assoc}
+use Rattle.std.proofs.Common.{◌≡◌, ◌≢◌, ◌<◌, ℕ, List, ◌∷◌, ◌++◌, Ok, Err, refl, sym, ap, ◌∙◌, subst, arith, append_assoc}
 use Rattle.std.specs.Prelude.{Result}
 use Rattle.bword.proofs.Remaining.{rest_after}
+use Rattle.bword.specs.ByteEnds.{most}
 use Rattle.blang.specs.Compiles.{Tells}
 use Rattle.blang.specs.Cut.{tokens_from, token_first}
 use Rattle.blang.specs.declared.token.Placed.{Placed}
@@ -36,9 +37,10 @@ module _ (old new : Lexer) (is_open : old.progress ≡ progress.Open) where
   pub no_closed_answer : LexGives old (Err stop.Closed) new → ⊥
   no_closed_answer h = subst (λ x. GivesAt x old (Err stop.Closed) new) is_open h
 
--- a failure of no read
-pub no_device_by_itself : (old new : Lexer) → old.source.end.failures ≡ 0 → new.source.end.failures ≡ 0 → Broken old new → ⊥
-no_device_by_itself old new e f h = let grew = h.counted in omega (arith, e, f, grew)
+-- a failure of no read, below the greatest count
+pub no_device_by_itself : (old new : Lexer) → old.source.end.failures < most
+    → new.source.end.failures ≡ old.source.end.failures → Broken old new → ⊥
+no_device_by_itself old new below e h = let grew = h.counted in omega (arith, below, e, grew)
 
 -- something read after the last token
 pub no_read_after_the_end : (old new : Lexer) (last : Last) (line : ℕ) (result : Result Placed LexStop) → old.progress ≡ progress.Ended last line

@@ -1,5 +1,5 @@
 -- Answers that the contract of a compiler's calls excludes, whatever was written before.
-use Rattle.std.proofs.Common.{◌≡◌, ◌≢◌, ℕ, ◌<◌, List, [], ◌∷◌, ◌++◌, length, map, take, Option, Some, None, refl, sym, ap, ◌∙◌, subst, arith, append-nil, inl, inr, ◌⊎◌}
+use Rattle.std.proofs.Common.{◌≡◌, ◌≢◌, ℕ, ◌<◌, List, [], ◌∷◌, ◌++◌, length, map, take, true, false, Option, Some, None, refl, sym, ap, ◌∙◌, subst, arith, append-nil, inl, inr, ◌⊎◌}
 use Rattle.std.specs.Io.KnownBytes.{Appends}
 use Rattle.std.proofs.lemmas.List.Concat.{flat_map-append}
 use Rattle.std.proofs.lemmas.List.{length-map, map-append}
@@ -18,6 +18,7 @@ use Rattle.blang.specs.declared.code.Definition as code
 use Rattle.blang.specs.declared.code.Definition.TheVariants as kinds
 use Rattle.bparse.specs.Compilers.{Compiler, CompilerGives, HasWrittenSince, GrowthRefused, OutRefused, ReadFailed, BeginRefused, opening_written, unopened}
 use Rattle.bparse.specs.Steps.{name_of}
+use Rattle.bgrammar.specs.Compiled.{has}
 use Rattle.bparse.specs.declared.step.Step.TheVariants as step
 use Rattle.bparse.proofs.Remaining.{rest_of, all_written}
 
@@ -34,18 +35,17 @@ some_text (kinds.Function f) rest e = cc
 some_text (kinds.Simple s) rest e = cc
 some_text (kinds.Vector v) rest e = cc
 
-none_named : (ds : List Definition) → 0 ≡ length (map name_of ds) → ds ≡ []
-none_named [] e = refl
-none_named (d ∷ ds) e = absurd (omega (arith, e))
-
 module _ (c : Compiler) (ds : List Definition) (h : HasWrittenSince c ds) where
   -- other bytes than what the text begins with, once, and the text of each definition
   pub no_other_bytes : (bytes : List ℕ) → c.first.out.written ≡ Some [] → c.out.written ≡ Some bytes → bytes ≡ opening_written c ++ joined (map compiled_text ds)
   no_other_bytes bytes before now = all_written c.first.out c.out (opening_written c ++ joined (map compiled_text ds)) bytes before now h.written.appended
 
-  -- no names after a definition
-  pub no_name_forgotten : c.names ≡ [] → ds ≡ []
-  no_name_forgotten none = none_named ds (sym (ap length none) ∙ h.names.size)
+  -- the name of a definition, whichever it is, is none that was noted, or fewer names were noted than definitions
+  pub no_name_forgotten : (x : List ℕ) → has x (map name_of ds) ≡ true → has x c.names ≡ false → ⊥
+  no_name_forgotten x named forgotten = let same = h.names.members x in cc
+
+  pub no_name_left_out : length c.names < length (map name_of ds) → ⊥
+  no_name_left_out few = let same = h.names.size in omega (arith, few, same)
 
   -- a definition after a read that failed
   pub no_failure_passed : c.first.source.failures ≡ 0 → c.tokens.source.end.failures ≡ 1 → ⊥

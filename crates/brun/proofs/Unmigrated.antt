@@ -11,11 +11,12 @@ use Rattle.bword.specs.declared.ends.EndFault.{EndFault}
 use Rattle.bword.specs.declared.ends.EndFault.TheVariants as end_fault
 use Rattle.blang.specs.Compiles.{Tells, status_of}
 use Rattle.blang.specs.Reports.{Reported}
-use Rattle.blang.specs.Text.{opening, code_lines, definition_text, end_text, header_line, joined, lines_of, IsTextOf, IsWithinRanges}
+use Rattle.blang.specs.Text.{opening, code_lines, definition_text, end_text, ended_lines, header_line, joined, IsTextOf, IsWithinRanges}
 use Rattle.blang.specs.declared.status.TheConstants.{DEVICE, MEMORY, REFUSED}
 use Rattle.blang.specs.declared.code.Definition.{Definition}
 use Rattle.blang.specs.declared.code.Definition.TheVariants as kinds
 use Rattle.bcode.proofs.CodeExcluded.{none_after}
+use Rattle.bcode.proofs.FaultLaws.{no_opening, unended_code}
 use Rattle.bcode.proofs.StreamLaws.{FailsAfter-counted}
 use Rattle.bparse.proofs.Remaining.{all_written, rest_of}
 use Rattle.brun.specs.Migrates.{Rewriting, HasBadLine, IsMigrated, InputFailed, IsRefused, Migrates, NoRoom, RefusesNext, definition, done, failed, faulty, first_line, last_line, no_memory, rewritten}
@@ -163,17 +164,13 @@ refusal_told w line line_after tells written told (no_memory t same e) = ⊎_eli
         let rest = rest_of w.input w.input_after t.0 end_text t.1 tells in
         no_room_at_end f.before f.next f.rest rest.more (ap (λ l. l ++ rest.more) (sym f.comes) ∙ rest.whole)
 
-few_lines : (ds : List Definition) → length (flat_map lines_of ds) < 1 → ds ≡ []
-few_lines [] few = refl
-few_lines (d ∷ ds) few = absurd (omega (arith, few))
-
-ended : (w : Rewriting) (taken : List ℕ) → HasWritten w (opening editions.Two ++ end_text) → HasBadLine w taken 1 → ⊥
-ended w taken h b =
-    let none = few_lines b.definitions (b.cut [] (λ over. refl)).whole.among in
-    let wrote : opening editions.Two ++ end_text ≡ rewritten b.definitions =
+ended : (w : Rewriting) (taken : List ℕ) (n : ℕ) (ds : List Definition) → All IsWithinRanges ds
+    → HasWritten w (joined (code_lines editions.Two ds)) → HasBadLine w taken n → ⊥
+ended w taken n ds inside h b =
+    let wrote : joined (code_lines editions.Two ds) ≡ rewritten b.definitions =
     all_written w.out w.out_after (rewritten b.definitions) _ h.nothing h.all b.written.appended in
-    let bad : opening editions.Two ++ end_text ≡ opening editions.Two ++ [] = wrote ∙ ap rewritten none in
-    cc
+    let code : IsTextOf editions.Two (rewritten b.definitions) ds = record { within = inside; spelled = sym wrote } in
+    unended_code editions.Two b.definitions ds (b.cut [] (λ over. refl)).whole.within (editions.Two, code)
 
 other_line : (w : Rewriting) (taken : List ℕ) (n m : ℕ) → HasBadLine w taken n → HasBadLine w taken m → n ≡ m
 other_line w taken n m b c =
@@ -183,11 +180,12 @@ other_line w taken n m b c =
     let q = g.greatest f.good f.begins in
     omega (arith, f.next, g.next, p, q)
 
-not_rewritten : (w : Rewriting) (taken : List ℕ) → HasWritten w end_text → IsMigrated w taken → ⊥
-not_rewritten w taken h m =
-    let wrote : end_text ≡ m.text = all_written w.out w.out_after m.text _ h.nothing h.all m.written.appended in
-    let bad : end_text ≡ joined (code_lines editions.Two m.definitions) = wrote ∙ m.again.spelled in
-    cc
+not_rewritten : (w : Rewriting) (taken : List ℕ) (ds : List Definition)
+    → HasWritten w (joined (code_lines editions.One ds)) → IsMigrated w taken → ⊥
+not_rewritten w taken ds h m =
+    let wrote : joined (code_lines editions.One ds) ≡ m.text =
+    all_written w.out w.out_after m.text _ h.nothing h.all m.written.appended in
+    no_opening ds (joined (ended_lines m.definitions)) (sym (wrote ∙ m.again.spelled))
 
 pub unmigrated : Unmigrated
 unmigrated = record {

@@ -1,10 +1,10 @@
 -- Promise: what no rewriting of a code text is.
-use Rattle.std.specs.Prelude.{◌≡◌, [], ◌++◌, List, ℕ, Some}
+use Rattle.std.specs.Prelude.{◌≡◌, [], ◌++◌, All, List, ℕ, Some}
 use Rattle.bword.specs.ByteEnds.{Grew, Outgoing}
 use Rattle.bword.specs.declared.edition.Edition.TheVariants as editions
 use Rattle.bword.specs.declared.ends.EndFault.{EndFault}
 use Rattle.blang.specs.Compiles.{Tells}
-use Rattle.blang.specs.Text.{opening, definition_text, end_text, IsWithinRanges}
+use Rattle.blang.specs.Text.{opening, definition_text, end_text, code_lines, joined, IsWithinRanges}
 use Rattle.blang.specs.declared.code.Definition.{Definition}
 use Rattle.blang.specs.declared.status.TheConstants.{DEVICE, MEMORY}
 use Rattle.bcode.specs.Streams.{AreLines}
@@ -40,10 +40,11 @@ pub record Unmigrated : Type 0 where
       → (Grew w.out.refusals w.out_after.refusals → ⊥) → (Grew line.refusals line_after.refusals → ⊥)
       → Migrates w line line_after MEMORY → ⊥
   -- a last line after the definitions before a wrong line, and another line told as the first wrong one
-  pub ended : (w : Rewriting) (taken : List ℕ) → HasWritten w (opening editions.Two ++ end_text)
-      → HasBadLine w taken 1 → ⊥
+  pub ended : (w : Rewriting) (taken : List ℕ) (n : ℕ) (ds : List Definition) → All IsWithinRanges ds
+      → HasWritten w (joined (code_lines editions.Two ds)) → HasBadLine w taken n → ⊥
   pub other_line : (w : Rewriting) (taken : List ℕ) (n m : ℕ) → HasBadLine w taken n → HasBadLine w taken m → n ≡ m
   -- a text of the first edition written, and 0 after a read that failed
-  pub not_rewritten : (w : Rewriting) (taken : List ℕ) → HasWritten w end_text → IsMigrated w taken → ⊥
+  pub not_rewritten : (w : Rewriting) (taken : List ℕ) (ds : List Definition)
+      → HasWritten w (joined (code_lines editions.One ds)) → IsMigrated w taken → ⊥
   pub failure_passed : (w : Rewriting) (taken : List ℕ) → w.input.failures ≡ 0 → w.input_after.failures ≡ 1
       → IsMigrated w taken → ⊥
