@@ -68,8 +68,8 @@ class Session:
         self.send(method=method, params={"textDocument": document, **change})
         return self.read()["params"]["diagnostics"]
 
-    def on_all(self, name):
-        return self.ask(f"textDocument/{name}", textDocument={"uri": self.uri})
+    def on_all(self, name, **params):
+        return self.ask(f"textDocument/{name}", textDocument={"uri": self.uri}, **params)
 
     def end(self):
         self.ask("shutdown")

@@ -62,6 +62,8 @@ const vscode = {
     DocumentSymbol: kept("name", "detail", "kind", "range", "selectionRange"),
     SymbolInformation: kept("name", "kind", "container", "location"),
     CompletionItem: kept("label", "kind"),
+    CodeAction: kept("title", "kind"),
+    CodeActionKind: { QuickFix: "quickfix" },
     SignatureHelp: kept(),
     SignatureInformation: kept("label", "documentation"),
     ParameterInformation: kept("label"),
@@ -119,6 +121,9 @@ async function main() {
     extension.activate({ subscriptions: [] });
     const seen = {};
     seen.source = await after(given.source, () => heard.open(document));
+    const line = { start: { line: 11, character: 0 }, end: { line: 11, character: 0 } };
+    const actions = await ways.CodeActions.provideCodeActions(document, line);
+    seen.actions = actions.map((it) => [it.title, it.edit.edits[0].range.text, it.edit.edits[0].text]);
     seen.wrong = await after("main() $;\n", () => heard.change({ document }));
     seen.refused = await ways.DocumentFormattingEdit.provideDocumentFormattingEdits(document);
     seen.mended = await after(given.mended, () => heard.change({ document }));

@@ -66,10 +66,18 @@ function foldOf(told) {
     return new vscode.FoldingRange(told.startLine, told.endLine, told.kind === "comment" ? Comment : Region);
 }
 
+/** The edits of a rename, or of a fix. */
 function renameOf(told) {
     const made = new vscode.WorkspaceEdit();
     for (const [uri, edits] of Object.entries(told.changes))
         made.set(vscode.Uri.parse(uri), edits.map(editOf));
+    return made;
+}
+
+function actionOf(told) {
+    const made = new vscode.CodeAction(told.title, vscode.CodeActionKind.QuickFix);
+    made.diagnostics = told.diagnostics.map(diagnosticOf);
+    made.edit = renameOf(told.edit);
     return made;
 }
 
@@ -97,6 +105,11 @@ function providers(client) {
         DocumentSymbol: { provideDocumentSymbols: ask("documentSymbol", each(symbolOf)) },
         DocumentFormattingEdit: { provideDocumentFormattingEdits: ask("formatting", each(editOf)) },
         FoldingRange: { provideFoldingRanges: ask("foldingRange", each(foldOf)) },
+        CodeActions: { provideCodeActions: async (document, range) =>
+            (await client.ask("textDocument/codeAction", {
+                textDocument: { uri: document.uri.toString() }, range: { start: range.start, end: range.end },
+                context: { diagnostics: [] },
+            })).map(actionOf) },
         CompletionItem: { provideCompletionItems: ask("completion", each(completionOf)) },
         SignatureHelp: { provideSignatureHelp: ask("signatureHelp", helpOf) },
         DocumentSemanticTokens: { provideDocumentSemanticTokens: ask("semanticTokens/full", (it) =>
