@@ -42,7 +42,7 @@ _b() {
     trace) words='--edition --with --code --made --lines --steps --from --last --function --help' ;;
     count) words='--edition --with --code --made --lines --steps --no-limit --json --help' ;;
     show) words='--edition --with --steps --from --last --input --help' ;;
-    format) words='--edition --check --help' ;;
+    format) words='--write --edition --check --help' ;;
     esac
     case ${COMP_WORDS[COMP_CWORD]} in
     -*) mapfile -t COMPREPLY < <(compgen -W "$words" -- "${COMP_WORDS[COMP_CWORD]}") ;;

@@ -346,8 +346,13 @@ out a source that is laid out changes nothing.
 --check writes nothing, and ends with 2 where something would change. A source
 with a wrong token is told, and nothing is written.
 
+The script b, which runs this program, knows --write, too: b format --write FILE
+puts the layout in the place of FILE. A link is refused, and what is no plain
+file. FILE is never half written.
+
 Examples:
   b format hello.b > new.b
+  b format --write hello.b
   b format --check --edition 2 menu.b
 
 Statuses: 0 written, or nothing would change, 1 a wrong token, 2 something would
