@@ -59,7 +59,7 @@ impl Judgement {
                 self.leaves_out(spans, brackets, body);
             }
             Lexeme::Keyword(Keyword::Switch) if token >= self.branch_end => {
-                self.leaves_out(spans, brackets, token.saturating_add(1));
+                self.leaves_out(spans, brackets, brace_after(spans, token));
             }
             Lexeme::Question => {
                 self.settle(locals);
@@ -145,6 +145,16 @@ pub(crate) fn is_target(spans: &Spans, token: usize) -> bool {
         _ => false,
     };
     assigns && lexeme_at(spans, token.wrapping_sub(1)) != Lexeme::Operator(BinOp::Mul)
+}
+
+// The first brace that opens after a token.
+fn brace_after(spans: &Spans, token: usize) -> usize {
+    for at in token..spans.end() {
+        if lexeme_at(spans, at) == Lexeme::OpenBrace {
+            return at;
+        }
+    }
+    spans.end()
 }
 
 /// The token after the statement that begins with this one.

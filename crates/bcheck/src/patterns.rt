@@ -273,7 +273,9 @@ fn found_at(tokens: &DefinitionTokens<'_>, locals: &Locals, token: usize) -> Opt
         )),
         Lexeme::Keyword(Keyword::If) => condition(spans, brackets, token),
         Lexeme::Keyword(Keyword::Return) => returned(spans, locals, token),
-        Lexeme::String | Lexeme::Character(_) => backslash(tokens, token),
+        Lexeme::String | Lexeme::Character(_) => backslash(tokens, token).or(statement(
+            spans, brackets, token,
+        )),
         Lexeme::CloseParen => end_compared(spans, brackets, token),
         _ => statement(spans, brackets, token),
     }

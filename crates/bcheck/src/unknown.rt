@@ -10,7 +10,7 @@ use crate::compiled::Extent;
 use crate::finding::{Finding, Place};
 use crate::foreign::{Foreign, foreign_word};
 use crate::kinds::{Like, is_ended, is_word};
-use crate::near::{Definitions, find_definitions, library_arguments, near};
+use crate::near::{find_definitions, library_arguments, near_library, near_token};
 use crate::spans::{SourceText, Spans, lexeme_at, place_of};
 use blang::Keyword;
 use blex::Lexeme;
@@ -97,8 +97,13 @@ pub(crate) fn unknown_name(
     ensures { matter_code result.matter ≡ codes "un" }
 {
     let defined = find_definitions(source, &name);
-    let other = like(spans, extent, &name, &defined);
     let is_label = lexeme_at(spans, token.wrapping_sub(1)) == Lexeme::Keyword(Keyword::Goto);
+    let own = near_token(spans, extent, &name, is_label);
+    let other = if is_label {
+        own
+    } else {
+        own.or(near_library(&name)).or(defined.near)
+    };
     let word = if is_label { None } else { foreign_word(&name) };
     let what = match (name.as_str(), word) {
         ("break" | "default", _) => Unknown::OtherEdition,
@@ -120,11 +125,6 @@ pub(crate) fn unknown_name(
     }
 }
 
-// A name like this one, of the function, of a definition or of the library.
-fn like(spans: &Spans, extent: Extent, name: &Name, defined: &Definitions) -> Option<Name> {
-    near(spans, extent.first, extent.end, name).or(defined.near)
-}
-
 /// What is said of the operand that the operator at this place wants the address of, on this line.
 pub(crate) fn without_address(
     source: SourceText<'_>,
@@ -137,13 +137,13 @@ pub(crate) fn without_address(
     let operand = operand_of(spans, operator);
     let place = place_of(spans, operand);
     let Lexeme::Name(name) = lexeme_at(spans, operand) else {
-        return Finding::new(
-            Matter::NotLvalue(ended_by(spans, operand)),
-            place_of(spans, operator),
-        );
+        return at_operator(spans, operator, ended_by(spans, operand));
     };
+    if lexeme_at(spans, operand.wrapping_add(1)) == Lexeme::OpenParen {
+        return at_operator(spans, operator, called(spans, operand));
+    }
     if place.line != line {
-        return Finding::new(Matter::NotLvalue(Lvalue::Other), place_of(spans, operator));
+        return at_operator(spans, operator, Lvalue::Other);
     }
     let defined = find_definitions(source, &name);
     let typed = pointer_of(spans, operand, &name);
@@ -159,6 +159,12 @@ pub(crate) fn without_address(
         place,
         related,
     }
+}
+
+fn at_operator(spans: &Spans, operator: usize, what: Lvalue) -> Finding
+    ensures { matter_code result.matter ≡ codes "lv" }
+{
+    Finding::new(Matter::NotLvalue(what), place_of(spans, operator))
 }
 
 // Where a name stands before a token after a type of C and a `*`.
@@ -193,10 +199,15 @@ fn ended_by(spans: &Spans, last: usize) -> Lvalue {
     if lexeme_at(spans, last) != Lexeme::CloseParen {
         return Lvalue::Other;
     }
-    let Some(opener) = opener_of(spans, last) else {
-        return Lvalue::Other;
-    };
-    let callee = lexeme_at(spans, opener.wrapping_sub(1));
+    match opener_of(spans, last) {
+        Some(opener) => called(spans, opener.wrapping_sub(1)),
+        None => Lvalue::Other,
+    }
+}
+
+// What a call of this token is, or parentheses after it.
+fn called(spans: &Spans, callee: usize) -> Lvalue {
+    let callee = lexeme_at(spans, callee);
     if is_word(&callee, "char") {
         Lvalue::Character
     } else if Like::Name.fits(&callee) {

@@ -1,0 +1,5 @@
+main() {
+    auto p, s;
+    s = "ab";
+    p = &char(s, 0);
+}

@@ -1,0 +1,9 @@
+f(s) {
+    return(s);
+}
+
+main() {
+    auto s;
+    s = "ab";
+    ++f(s);
+}

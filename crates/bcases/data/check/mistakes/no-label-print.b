@@ -1,0 +1,9 @@
+main() {
+    auto n;
+    n = 3;
+again:
+    printn(n--, 10);
+    if(n)
+        goto again;
+    goto print;
+}
