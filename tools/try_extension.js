@@ -74,7 +74,7 @@ const vscode = {
     window: { showErrorMessage: (text) => said.push(text) },
     workspace: {
         textDocuments: [],
-        getConfiguration: () => ({ get: (name) => ({ program: "b", edition: 1, python: "python3" })[name] }),
+        getConfiguration: () => ({ get: (name) => ({ program: "b", edition: 1, python: "" })[name] }),
         onDidOpenTextDocument: hear("open"),
         onDidChangeTextDocument: hear("change"),
         onDidCloseTextDocument: hear("close"),

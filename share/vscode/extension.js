@@ -152,7 +152,8 @@ function start(all) {
         const told = `The language server of B doesn't run: ${reason}. It needs Python 3.8 or later.`;
         vscode.window.showErrorMessage(told);
     };
-    return new Client(setting("python"), words, hear, ended);
+    const python = process.platform === "win32" ? "python" : "python3";
+    return new Client(setting("python") || python, words, hear, ended);
 }
 
 let running;
