@@ -133,8 +133,8 @@ origins_asked : (from : OriginAsked) → map origin_of
     ≡ from ∷ from ∷ from ∷ from_source ∷ from_source ∷ from_source ∷ from_source ∷ from_source ∷ from_source ∷ []
 origins_asked from = refl
 
--- What the shelf holds under the names that were asked for is compiled, run or told of, in the edition and for the steps
--- that were asked for.
+-- What the shelf holds under the names that were asked for is compiled, run or told of, in the edition and for the
+-- steps that were asked for.
 module _ (shelf : Holdings) (source : SourceAsked) (edition : Edition) (steps : ℕ) (ends : RunEnds) (status : ℕ) where
   input_compiled : Does shelf (compile edition []) ends status
       → Compiles (compiling edition ends.input ends.input_after ends status)

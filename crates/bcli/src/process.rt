@@ -51,11 +51,12 @@ where
     I: Read + Drop,
     O: Write + Drop,
     D: Write + Drop,
-    ensures serves { ServesProcess (opened R.File.remaining) (option_map (λ v. map_each string_bytes v.items) words) (result.output ≢ None) (record {
-      input = I.remaining streams.input;
-      line = D.contents streams.diag;
-      line_after = D.contents result.diag;
-    }) result.status }
+    ensures serves { ServesProcess (opened R.File.remaining)
+        (option_map (λ v. map_each string_bytes v.items) words) (result.output ≢ None) (record {
+          input = I.remaining streams.input;
+          line = D.contents streams.diag;
+          line_after = D.contents result.diag;
+        }) result.status }
 {
     let Streams {
         input,
