@@ -152,7 +152,7 @@ def linux(pack):
     copy(folder, *(SHARE / it for it in ("install.sh", "uninstall.sh", "Dockerfile")))
     manual(folder / "share")
     copy(folder / "share/zsh/site-functions", TOP / "share/completions/_b")
-    copy(folder / "share/b", *(TOP / "share" / it for it in ("lsp", "vim", "vscode")))
+    copy(folder / "share/b", *(TOP / "share" / it for it in ("kate", "lsp", "vim", "vscode")))
     copy(folder / "share/b/python", *(TOP / "share/python" / it for it in ("b.py", *FOR_AUTHORS)))
     if pack.part("web"):
         copy(folder / "share/b/web", pack.part("web") / "b.html", pack.part("web") / "b.wasm")
@@ -173,7 +173,7 @@ def windows(pack):
     folder = pack.begin(top)
     texts(folder)
     copy(folder, part / "b.exe")
-    copy(folder / "share", *(TOP / "share" / it for it in ("lsp", "vim", "vscode")))
+    copy(folder / "share", *(TOP / "share" / it for it in ("kate", "lsp", "vim", "vscode")))
     if pack.part("web"):
         copy(folder, pack.part("web") / "b.html")
     tell(pack, folder, [part.name])
@@ -232,7 +232,7 @@ def deb(pack, processor):
     manual(usr / "share")
     copy(usr / "share/zsh/vendor-completions", TOP / "share/completions/_b")
     copy(usr / "share/b/lib", *(TOP / "lib").glob("*.b"))
-    copy(usr / "share/b", *(TOP / "share" / it for it in ("lsp", "vim", "vscode")))
+    copy(usr / "share/b", *(TOP / "share" / it for it in ("kate", "lsp", "vim", "vscode")))
     copy(usr / "share/b/python", *(TOP / "share/python" / it for it in FOR_AUTHORS))
     copy(doc, TOP / "README.md", *(TOP / it for it in ("examples", "class", "docs")))
     if c:
