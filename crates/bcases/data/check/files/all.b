@@ -1,0 +1,1 @@
+/* the whole file

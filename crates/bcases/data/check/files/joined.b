@@ -1,0 +1,1 @@
+main() say('x');/* the end

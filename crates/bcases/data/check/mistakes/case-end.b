@@ -1,0 +1,6 @@
+main() {
+    switch getchar() {
+        case end:
+            putchar('e');
+    }
+}

@@ -1,0 +1,2 @@
+main() putchar('a');
+é

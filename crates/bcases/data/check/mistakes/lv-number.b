@@ -1,0 +1,5 @@
+main() {
+    auto n;
+    n = 3;
+    putchar(1 = n);
+}

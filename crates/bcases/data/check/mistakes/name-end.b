@@ -1,0 +1,6 @@
+main() {
+    auto n, end;
+    end = 5;
+    n = end);
+    printn(n, 10);
+}

@@ -1,0 +1,2 @@
+f(n) { return(n ? f : 0); }
+main() printn(f(1), 10);
