@@ -17,22 +17,16 @@ use Rattle.btrace.specs.RowTexts.{Legend, legend_in}
 use Rattle.btrace.specs.Locates.{Locates, TellsSite, located, unlocated}
 
 module _ (edition : Edition) (source : List ℕ) (files : Files) (n : ℕ) (ends : RunEnds) (status : ℕ) (ds : List Definition) (image : Image) (p : Paused) (result : Outcome) where
-  runs_whole : HasProgram edition source ds image → IsUnstarted image p → RunGives (steps_from p) n ends.input ends.input_after ends.out ends.out_after result
-      → RunGives (machine ds) n ends.input ends.input_after ends.out ends.out_after result
-  runs_whole is begins gives =
-      run_of_loaded ds image is.loaded n ends.input ends.input_after ends.out ends.out_after result
-      (same_run (run image) (steps_from p) n ends.input ends.input_after ends.out ends.out_after result (run_from image p begins) gives)
-
   -- a run whose place was told
   pub located_whole : (told : Outgoing) (legend : Legend) (lines : List ℕ) (answer : ℕ) (active : Active) (made : ℕ) → HasProgram edition source ds image → HasLines edition source lines → legend ≡ legend_in ds lines files → IsUnstarted image p
       → RunGives (steps_from p) n ends.input ends.input_after ends.out ends.out_after result → Finishes result ends.line told answer → located_status result ≡ Some answer
       → IsOverAt (steps_from p) n ends.input ends.input_after result active made → TellsSite legend source result active made answer told ends.line_after status → Locates edition source files n ends status
   located_whole told legend lines answer active made is lined same begins gives finishes at stops tells =
-      located told ds image lines result answer active made is lined (runs_whole is begins gives) finishes at
+      located told ds image lines result answer active made is lined (runs_whole ds image p is.loaded begins n ends.input ends.input_after result ends.out ends.out_after gives) finishes at
       (stops_run ds image p is.loaded begins n ends.input ends.input_after result active made stops)
       (subst (λ (x : Legend). TellsSite x source result active made answer told ends.line_after status) same tells)
 
   -- a run that has no place
   pub unlocated_whole : HasProgram edition source ds image → IsUnstarted image p → RunGives (steps_from p) n ends.input ends.input_after ends.out ends.out_after result
       → Finishes result ends.line ends.line_after status → (located_status result ≡ Some status → ⊥) → Locates edition source files n ends status
-  unlocated_whole is begins gives finishes unplaced = unlocated ds image result is (runs_whole is begins gives) finishes unplaced
+  unlocated_whole is begins gives finishes unplaced = unlocated ds image result is (runs_whole ds image p is.loaded begins n ends.input ends.input_after result ends.out ends.out_after gives) finishes unplaced
