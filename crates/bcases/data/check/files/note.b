@@ -1,0 +1,2 @@
+main() say('x'); /* the
+ end */

@@ -1,0 +1,2 @@
+say(c) putchar(c);
+/* goes on

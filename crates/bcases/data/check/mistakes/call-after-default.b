@@ -1,0 +1,5 @@
+main() {
+    switch getchar() {
+        default: putchar 'A';
+    }
+}

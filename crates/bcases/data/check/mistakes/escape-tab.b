@@ -1,0 +1,4 @@
+main() {
+    auto s;
+    s = "a*	b";
+}

@@ -1,0 +1,6 @@
+main() {
+    auto i;
+    i = 3;
+    printn(
+        (i + 1) * 2, 10;
+}

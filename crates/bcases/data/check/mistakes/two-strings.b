@@ -1,0 +1,5 @@
+main() {
+    auto s;
+    s = "ab" "cd";
+    putchar(char(s, 0));
+}
