@@ -78,6 +78,9 @@ mark { background: var(--new); color: inherit; font-weight: bold; text-decoratio
 #right { position: relative }\n\
 #arrows { position: absolute; top: 0; left: 0; z-index: 2; overflow: visible; pointer-events: none }\n\
 #arrows path { fill: none; stroke: currentColor; stroke-width: 1.5 }\n\
+#ask { background: var(--aim); border: 1px solid var(--line); margin: .2rem 0; padding: .2rem .4rem }\n\
+#ask input { font: inherit; width: 10rem; min-height: 2rem }\n\
+#asked:empty { display: none }\n\
 #about { position: sticky; bottom: 0; z-index: 1; background: var(--ground); border-top: 1px solid var(--line) }\n\
 #about:empty { display: none }\n\
 ol { margin: 0; padding-left: 1.6rem }\n\
@@ -147,6 +150,13 @@ th, td { border: 1px solid var(--line); padding: 0 .4rem; text-align: left; vert
 <button data-go=\"on\" hidden>Step</button>\n\
 <label><input id=\"single\" type=\"checkbox\"> Instructions</label>\n\
 <label><input id=\"all-arrows\" type=\"checkbox\"> Arrows</label>\n\
+<label><input id=\"asks\" type=\"checkbox\"> Ask me</label>\n\
+<div id=\"ask\" hidden>\n\
+<label><span id=\"question\"></span> <input id=\"answer\" autocomplete=\"off\"></label>\n\
+<button id=\"reply\">Answer</button>\n\
+<button id=\"tell\">Tell me</button>\n\
+</div>\n\
+<p id=\"asked\" role=\"status\"></p>\n\
 </div>\n\
 <div id=\"parts\">\n\
 <div id=\"left\">\n\
@@ -164,8 +174,9 @@ or a character that was read or that stands so in its line. That goes by the ste
 here, by what lies at that address. A word can always be meant otherwise: a click on it tells all that it can be. Marked\n\
 is what was stored since the position shown before. Below a vector stand its indices, and the words used as one.</p>\n\
 <p id=\"keys\">Keys: Left and Right a line, or a step of instructions, with Shift ten; Home, End; P and L previous and\n\
-next line, O over calls, U out of this call, S next stop, W to the next write, I instructions, A arrows. A click on the\n\
-number of a line makes it a stop.</p>\n\
+next line, O over calls, U out of this call, S next stop, W to the next write, I instructions, A arrows, Q ask me. A\n\
+click on the number of a line makes it a stop. <em>Ask me</em> asks at each stop, or at each line where there are no\n\
+stops, what comes before it is shown. An address may be told as &amp;x, and a character as 'a'.</p>\n\
 <p id=\"about\" aria-live=\"polite\"></p>\n\
 <svg id=\"arrows\" width=\"1\" height=\"1\" aria-hidden=\"true\"></svg>\n\
 </div>\n\
@@ -862,6 +873,7 @@ function show(to, shown_before = Infinity) {\n\
 \x20 showStreams(since);\n\
 \x20 scrollRows();\n\
 \x20 aim();\n\
+\x20 showQuestion();\n\
 }\n\
 // A visit of a line begins where another line begins, or another call goes on.\n\
 const visits = [...rows.keys()].filter(k => k === 0 || k < made\n\
@@ -889,27 +901,101 @@ const go = {\n\
 \x20 stop: () => nextVisit(row => stops.has(row.line)),\n\
 \x20 write: () => next(k => rows[k - 1].written !== \"\"),\n\
 };\n\
+// Goes to a position: not past a question that isn't answered.\n\
+function move(to, shown_before) {\n\
+\x20 show(to > at ? Math.min(to, visits.find(k => k >= at && isOpen(k)) ?? to) : to, shown_before);\n\
+\x20 if (!$(\"ask\").hidden) $(\"answer\").focus();\n\
+}\n\
+// What is asked at the visit of a line: the word that it stores, what its function returns, or what it writes.\n\
+function questionAt(visit) {\n\
+\x20 const to = visits.find(k => k > visit) ?? made, row = rows[visit], steps = rows.slice(visit, to);\n\
+\x20 const where = place(row.line), calls = [rows[to] ?? rows[to - 1], row];\n\
+\x20 const isOwn = ({ address, stored, kept }) => kept[0] === ADDRESS && unsigned(stored[0]) === address + 1;\n\
+\x20 const store = steps.findLast(it => it.stored.length && !isOwn(it) && nameIn(calls, it.address));\n\
+\x20 if (store) {\n\
+\x20   const k = store.stored.length - 1, name = nameIn(calls, store.address + k);\n\
+\x20   return { text: `After ${where}, what is ${name}?`, word: store.stored[k], kind: store.kept[k] };\n\
+\x20 }\n\
+\x20 const { code, operands, kinds } = steps.at(-1);\n\
+\x20 if (code === \"r\" && row.depth > 0 && /\\breturn\\b/.test(sourceLines[row.line - 1])) {\n\
+\x20   return { text: `What does ${row.name} return in ${where}?`, word: operands.at(-1), kind: kinds.at(-1) };\n\
+\x20 }\n\
+\x20 const output = steps.map(it => it.written).join(\"\");\n\
+\x20 return output && { text: `What does ${where} write?`, output };\n\
+}\n\
+// The name of a word in the call that goes on, or in the one that made the line, or of a definition.\n\
+function nameIn(calls, address) {\n\
+\x20 const names = calls.map(call => inFrame(call, address)).map(name => name.replace(/^@.*/, \"\"));\n\
+\x20 const spot = spots.find(it => it.from <= address && address < it.texts && !it.isFunction);\n\
+\x20 if (names[0] || names[1]) return names[0] || `${names[1]} of ${calls[1].name}`;\n\
+\x20 return spot ? nameAt(address) : \"\";\n\
+}\n\
+// The visits that were answered, and whether at once.\n\
+const answered = new Map();\n\
+let misses = 0;\n\
+const isAsking = () => $(\"asks\").checked === true;\n\
+const isChosen = line => stops.size === 0 || stops.has(line);\n\
+const isOpen = k => isAsking() && k < made && !answered.has(k) && isChosen(rows[k].line) && !!questionAt(k);\n\
+function isRight({ output, word, kind }, text) {\n\
+\x20 const plain = it => it.replace(/\\s+/g, \" \").trim();\n\
+\x20 if (output !== undefined) return plain(text) === plain(shown(output));\n\
+\x20 const a = unsigned(word), name = kind === ADDRESS ? \"&\" + nameAt(a) : constantText(a);\n\
+\x20 return [String(word), String(a), name].includes(text.trim());\n\
+}\n\
+function showQuestion() {\n\
+\x20 const isPending = visits.includes(at) && isOpen(at);\n\
+\x20 $(\"ask\").hidden = !isPending;\n\
+\x20 $(\"question\").textContent = isPending ? questionAt(at).text : \"\";\n\
+\x20 $(\"all\").hidden = isAsking();\n\
+\x20 if (!isAsking()) $(\"asked\").textContent = \"\";\n\
+\x20 if (isAsking() && stops.size) $(\"link\").href = \"#ask=\" + [...stops].join(\",\");\n\
+}\n\
+// Ends a question, since its answer is right or is told. Then the line is made.\n\
+function settle(isKnown) {\n\
+\x20 const { output, word, kind } = questionAt(at);\n\
+\x20 const told = output === undefined ? `${word} ${meant(word, kind)}`.trim() : shown(output).trim() || \"blanks\";\n\
+\x20 answered.set(at, isKnown && misses === 0);\n\
+\x20 misses = 0;\n\
+\x20 $(\"answer\").value = \"\";\n\
+\x20 const all = [...answered.values()], count = `${all.filter(Boolean).length} of ${all.length} at once`;\n\
+\x20 move(visits.find(k => k > at) ?? made, at);\n\
+\x20 $(\"asked\").textContent = `${isKnown ? \"Right\" : \"It is\"}: ${told}. ${count}.`;\n\
+}\n\
+function reply() {\n\
+\x20 const text = $(\"answer\").value.trim();\n\
+\x20 if (text && isRight(questionAt(at), text)) settle(true);\n\
+\x20 else if (text) {\n\
+\x20   misses++;\n\
+\x20   $(\"asked\").textContent = `${text} isn't right. Look at the words, and try again.`;\n\
+\x20 }\n\
+}\n\
+$(\"reply\").addEventListener(\"click\", reply);\n\
+$(\"answer\").addEventListener(\"keydown\", event => event.key === \"Enter\" && reply());\n\
+$(\"tell\").addEventListener(\"click\", () => settle(false));\n\
+$(\"asks\").addEventListener(\"change\", () => show(at));\n\
+\n\
 const keys = {\n\
 \x20 Home: \"first\", End: \"last\", l: \"line\", p: \"previous\", o: \"over\", u: \"out\", s: \"stop\", w: \"write\",\n\
 };\n\
 const arrows = { ArrowLeft: [\"previous\", \"back\"], ArrowRight: [\"line\", \"on\"] };\n\
 document.addEventListener(\"keydown\", event => {\n\
-\x20 if (event.ctrlKey || event.altKey || event.metaKey) return;\n\
+\x20 if (event.ctrlKey || event.altKey || event.metaKey || event.target === $(\"answer\")) return;\n\
 \x20 const key = event.key.length > 1 ? event.key : event.key.toLowerCase();\n\
-\x20 if (key === \"i\" || key === \"a\") {\n\
+\x20 const box = { i: \"single\", a: \"all-arrows\", q: \"asks\" }[key];\n\
+\x20 if (box) {\n\
 \x20   event.preventDefault();\n\
-\x20   $(key === \"i\" ? \"single\" : \"all-arrows\").click();\n\
+\x20   $(box).click();\n\
 \x20 }\n\
 \x20 const name = arrows[key]?.[Number($(\"single\").checked)] ?? keys[key];\n\
 \x20 if (!name) return;\n\
 \x20 event.preventDefault();\n\
-\x20 show(go[name + (event.shiftKey && name + \"10\" in go ? \"10\" : \"\")](), at);\n\
+\x20 move(go[name + (event.shiftKey && name + \"10\" in go ? \"10\" : \"\")](), at);\n\
 });\n\
 for (const button of document.querySelectorAll(\"[data-go]\")) {\n\
-\x20 button.addEventListener(\"click\", () => show(go[button.dataset.go](), at));\n\
+\x20 button.addEventListener(\"click\", () => move(go[button.dataset.go](), at));\n\
 }\n\
-$(\"at\").addEventListener(\"input\", () => show(Number($(\"at\").value)));\n\
-$(\"visit\").addEventListener(\"input\", () => show(visits[Number($(\"visit\").value)] ?? 0));\n\
+$(\"at\").addEventListener(\"input\", () => move(Number($(\"at\").value)));\n\
+$(\"visit\").addEventListener(\"input\", () => move(visits[Number($(\"visit\").value)] ?? 0));\n\
 $(\"single\").addEventListener(\"change\", () => {\n\
 \x20 const single = $(\"single\").checked;\n\
 \x20 for (const id of [\"at\", \"gloss\", \"single-parts\"]) $(id).hidden = !single;\n\
@@ -922,6 +1008,7 @@ $(\"source\").addEventListener(\"click\", event => {\n\
 \x20 if (!line) return;\n\
 \x20 if (!stops.delete(line)) stops.add(line);\n\
 \x20 number.setAttribute(\"aria-pressed\", String(stops.has(line)));\n\
+\x20 showQuestion();\n\
 });\n\
 for (const type of [\"pointerover\", \"focusin\", \"click\"]) {\n\
 \x20 $(\"right\").addEventListener(type, event => {\n\
@@ -945,8 +1032,20 @@ $(\"input-part\").hidden = !facts.given && !facts.heard;\n\
 $(\"view\").hidden = false;\n\
 $(\"all\").open = false;\n\
 \n\
-// A link leads to a step by its number.\n\
+// A comment that begins with `ask` chooses its line, and so does a link that ends in #ask=5,7. Then the page asks.\n\
+function askAt(chosen) {\n\
+\x20 for (const line of chosen) {\n\
+\x20   stops.add(line);\n\
+\x20   lines[line - 1]?.firstChild.setAttribute(\"aria-pressed\", \"true\");\n\
+\x20 }\n\
+\x20 if (chosen.length) $(\"asks\").checked = true;\n\
+}\n\
+askAt(sourceLines.map((text, k) => /\\/\\*\\s*ask\\b.*\\*\\//.test(text) ? k + 1 : 0).filter(Boolean));\n\
+\n\
+// A link leads to a step by its number, or chooses lines.\n\
 function showLinked() {\n\
+\x20 const chosen = /^#ask=([\\d,]+)$/.exec(location.hash)?.[1] ?? \"\";\n\
+\x20 askAt(chosen.split(\",\").map(Number).filter(line => line > 0 && line <= lines.length));\n\
 \x20 const step = Number(/^#s=(\\d+)$/.exec(location.hash)?.[1] ?? 0), k = rows.findIndex(row => row.step >= step);\n\
 \x20 show(step && k < 0 ? made : k);\n\
 }\n\
