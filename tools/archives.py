@@ -153,6 +153,7 @@ def linux(pack):
     manual(folder / "share")
     copy(folder / "share/zsh/site-functions", TOP / "share/completions/_b")
     copy(folder / "share/b", *(TOP / "share" / it for it in ("kate", "lsp", "vim", "vscode")))
+    copy(folder / "share/b/autograder", *(TOP / "share/class").iterdir())
     copy(folder / "share/b/python", *(TOP / "share/python" / it for it in ("b.py", *FOR_AUTHORS)))
     if pack.part("web"):
         copy(folder / "share/b/web", pack.part("web") / "b.html", pack.part("web") / "b.wasm")

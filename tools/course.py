@@ -236,6 +236,9 @@ def exercise(folder, reader):
         else:
             lib = folder.parent.parent / f"lib/{value}.b" if re.fullmatch(r"\w+", value) else folder / value
             made["libs"][lib.name] = latin(lib)
+    for part in ("start", "asks"):
+        if (folder / f"{part}.b").exists():
+            made[part] = (folder / f"{part}.b").read_text()
     text = (folder / "task.md").read_text()
     made["html"] = Chapter(folder.name, "", text.split("\n", 1)[1], reader).made()["html"]
     made["tests"] = list(tests_of(folder))

@@ -56,6 +56,7 @@ class Box {
   }
   addEventListener() {}
   after() {}
+  focus() {}
 }
 
 function made(page) {
@@ -76,7 +77,7 @@ function made(page) {
     addEventListener() {},
   };
   const script = page.split("<script>")[1].split("</script>")[0];
-  const asks = "return { rows, made, visits, go, seek, show, stops, gloss, box: $ };";
+  const asks = "return { rows, made, visits, go, seek, show, stops, gloss, questionAt, isRight, move, shown, box: $ };";
   const place = { hash: "", protocol: "file:" };
   return new Function("document", "location", "addEventListener", script + asks)(document, place, () => {});
 }
@@ -120,4 +121,16 @@ const seen = page.visits.map(at => {
     looked: looked.map(marked).join(""), calls: within(calls, it => it.tag === "code").map(it => it.textContent),
   };
 });
-console.log(JSON.stringify({ visits: page.visits, moves, seen, glosses: page.rows.map(page.gloss) }));
+// What the page asks at each visit, how an answer is judged, and where it goes on with a question open.
+page.box("asks").checked = true;
+page.stops.clear();
+const asked = page.visits.slice(0, -1).map(at => {
+  page.show(at);
+  const question = page.questionAt(at);
+  if (!question) return null;
+  const { text, word, output } = question, answer = output === undefined ? String(word) : page.shown(output);
+  page.move(page.made);
+  return { at, text, answer, stays: page.box("visit").value, isRight: page.isRight(question, answer),
+    isWrong: !page.isRight(question, `${answer}1`) };
+});
+console.log(JSON.stringify({ visits: page.visits, moves, seen, asked, glosses: page.rows.map(page.gloss) }));

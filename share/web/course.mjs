@@ -5,7 +5,7 @@ import {sentence} from './exercises.mjs';
 const plural = (n, what) => `${n} ${what}${n === 1 ? '' : 's'}`;
 
 export class Course {
-  /** `acts` has what a press of a button does: open, run, command, write, grade, handIn. */
+  /** `acts` has what a press of a button does: open, run, command, write, grade, stepThrough, handIn. */
   constructor(data, store, acts) {
     Object.assign(this, {data, store, acts});
     this.results = new Map(data.exercises.map(it => [it.name, store.get(`result:${it.name}`)]));
@@ -115,8 +115,9 @@ export class Course {
     box.prepend(element('h3', {}, 'Exercise ', element('em', {}, name)));
     const result = element('div', {className: 'result', role: 'status'});
     box.append(element('p', {className: 'row'},
-      button(`Write ${name}.b`, () => this.acts.write(exercise)),
+      button(`${exercise.start ? 'Open' : 'Write'} ${name}.b`, () => this.acts.write(exercise)),
       button(count === 1 ? 'Try the test' : `Try the ${count} tests`, () => this.acts.grade(exercise)),
+      ...exercise.asks ? [button('Step through it', () => this.acts.stepThrough(exercise))] : [],
       button('Hand in ..', () => this.acts.handIn())), result);
     this.fill(result, exercise, this.results.get(name));
     return box;

@@ -1,5 +1,6 @@
 // The tests of an exercise, and what comes of them: the verdict is that of class/grade, word for word.
 import {bytesOf, bytesOfLatin} from './dom.mjs';
+import {withoutMain} from './mains.mjs';
 
 const SOURCE_BYTES = 65536; // the longest hand-in
 const OUTPUT_BYTES = 65536; // how much more than the wanted output a run may write
@@ -38,7 +39,9 @@ function firstDifference(output, wanted) {
 export class Grading {
   constructor(machine, exercise, text) {
     Object.assign(this, {machine, exercise, text, name: `${exercise.name}.b`});
-    this.files = {[this.name]: bytesOf(text), [END_NAME]: bytesOf(END)};
+    this.hasMains = exercise.tests.some(it => it.source);
+    this.source = this.hasMains ? withoutMain(text) : text;
+    this.files = {[this.name]: bytesOf(this.source), [END_NAME]: bytesOf(END)};
     for (const [name, lib] of Object.entries(exercise.libs)) this.files[name] = bytesOfLatin(lib);
     for (const it of exercise.tests) if (it.source) this.files[`${it.name}.b`] = bytesOfLatin(it.source);
   }
@@ -71,12 +74,13 @@ export class Grading {
     if (this.files[this.name].length > SOURCE_BYTES) {
       return {refused: `the file has more than ${SOURCE_BYTES} bytes`, results: []};
     }
-    const results = [], checked = await this.run(this.words('check', ['--json']));
+    const [first] = this.exercise.tests, results = [];
+    const checked = await this.run(this.words('check', ['--json'], this.hasMains ? first : null));
     for (const test of this.exercise.tests) {
       results.push(checked.status === 1 ? {test, result: 'fault'} : await this.tryTest(test));
       if (this.isStopped) return null;
     }
-    return {results};
+    return {results, note: this.source === this.text ? '' : 'Your main is left out: the tests have one of their own.'};
   }
 
   async tryTest(test) {
@@ -86,7 +90,8 @@ export class Grading {
     if (!difference && ran.status === (test.status ?? 0)) return {test, result: 'ok'};
     const result = line ? plain(line) : difference ? 'wrong' : `status ${ran.status}`;
     const libs = Object.keys(this.exercise.libs).map(it => `lib/${it}`).join(', ');
-    return {test, result, status: ran.status, difference, libs, place: this.placeIn(ran.told)};
+    const {steps} = this.exercise, place = this.placeIn(ran.told);
+    return {test, result, status: ran.status, difference, libs, place, steps};
   }
 
   placeIn(told) {
@@ -98,13 +103,17 @@ export class Grading {
 const inputOf = text => text.length <= 40 && !text.trimEnd().includes('\n') && text.trimEnd();
 
 /** A sentence on a test that failed. */
-export function sentence({test, result, why, difference, place, status, libs}) {
+export function sentence({test, result, why, difference, place, status, libs, steps}) {
   if (result === 'fault') return 'the program has a fault, which stands below the editor';
   if (why) return why;
   const given = inputOf(test.input ?? ''), start = test.source ? '' : given ? `for ${given} `
     : test.input ? `for the input ${JSON.stringify(test.input)} ` : 'input' in test ? 'without an input ' : '';
+  if (place && result === 'limit') {
+    return `${start}it didn't end within ${steps} steps, which it made in line ${place.line} of ${place.file} last`;
+  }
   if (place) return `${start}it ends with ${result}, ${place.means}, in line ${place.line} of ${place.file}`;
   if (/^rd main\b/.test(result)) return 'the tests have a main of their own, so take yours out';
+  if (result === 'load 4') return 'there is no function main, with which a run begins';
   if (result === 'load 3') return `a name isn't defined: the tests put ${libs || 'no file'} after it`;
   if (result !== 'wrong' && !result.startsWith('status')) return `it can't be run with the tests: ${result}`;
   if (!difference) return `${start}it ends with status ${status}, and not ${test.status ?? 0}`;

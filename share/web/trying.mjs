@@ -13,7 +13,7 @@ let grading, course;
 export const exerciseOf = file => file?.place === 'exercise' && data.exercises.find(it => `${it.name}.b` === file.name);
 
 function startOf(exercise) {
-  const text = `/* ${exercise.name} */\n`;
+  const text = exercise.start ?? `/* ${exercise.name} */\n`;
   const libs = Object.keys(exercise.libs).map(it => it.replace(/\.b$/, '')).filter(it => it !== 'test');
   return {place: 'exercise', name: `${exercise.name}.b`, text, base: text, edition: exercise.edition, libs};
 }
@@ -28,7 +28,7 @@ export async function grade(exercise) {
   const file = files.all.get(`exercise/${exercise.name}.b`);
   if (!file) {
     write(exercise);
-    say(`Write ${exercise.name}.b first.`);
+    say(exercise.start ? `Change ${exercise.name}.b first.` : `Write ${exercise.name}.b first.`);
     return;
   }
   if (grading) return;
@@ -46,11 +46,12 @@ export async function grade(exercise) {
   else say('Stopped.', 'bad');
 }
 
-function sayGraded(exercise, {passed, of, failed, refused}, {results}) {
+function sayGraded(exercise, {passed, of, failed, refused}, {results, note = ''}) {
   const isRight = passed === of;
   const first = failed[0] ? `: ${failed[0][1]}.` : isRight ? ': well done.' : '.';
   say(refused ? `${exercise.name} isn't taken: ${refused}.` : `${passed} of ${of}${first}`, isRight ? 'good' : 'bad');
-  output.put(results.map(it => `${it.test.name}: ${it.result === 'ok' ? 'ok' : sentence(it)}\n`).join(''));
+  const told = results.map(it => `${it.test.name}: ${it.result === 'ok' ? 'ok' : sentence(it)}\n`).join('');
+  output.put(note ? `${note}\n${told}` : told);
 }
 
 const exercises = () => data.exercises.map(it => files.all.get(`exercise/${it.name}.b`)).filter(it => it?.isChanged);
@@ -96,6 +97,10 @@ export function begin() {
       await runs.run();
     },
     command: (line, set) => runs.command(`b ${line}`, commandOf(line, set)),
+    async stepThrough({name, asks}) {
+      openAll([{place: 'asks', name: `${name}-asks.b`, text: asks, base: asks}]);
+      await runs.step();
+    },
     write, grade, handIn,
   });
   return course;

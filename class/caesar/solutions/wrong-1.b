@@ -1,4 +1,5 @@
 /* Wrong: after z come other characters than letters. */
+/* Told: wrote  z{|} */
 main() {
     auto c;
 

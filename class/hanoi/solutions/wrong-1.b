@@ -1,4 +1,5 @@
 /* Wrong: nothing ends the calls. */
+/* Told: This means: more than 4096 active calls. */
 main()
     move(getchar() - '0', 1, 3);
 

@@ -1,4 +1,5 @@
 /* Wrong: x takes the place of a word, which is lost. */
+/* Told: given[2] is 20 and not 10 */
 insert(v, n, x) {
     auto p;
 

@@ -1,20 +1,14 @@
 /* Wrong: capitals are no letters here. */
+/* Told: Test capital: wrong */
 main() {
     auto c;
 
     c = getchar();
-    if(c >= 'a' & c <= 'z') {
-        putchar('le');
-        putchar('tt');
-        putchar('er');
-    } else if(c >= '0' & c <= '9') {
-        putchar('di');
-        putchar('gi');
-        putchar('t');
-    } else {
-        putchar('ot');
-        putchar('he');
-        putchar('r');
-    }
+    if(c >= 'a' & c <= 'z')
+        putstr("letter");
+    else if(c >= '0' & c <= '9')
+        putstr("digit");
+    else
+        putstr("other");
     putchar('*n');
 }

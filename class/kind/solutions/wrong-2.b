@@ -1,17 +1,13 @@
 /* Wrong: the condition assigns, so everything is a letter. */
+/* Told: this condition assigns */
 main() {
     auto c, isdigit;
 
     c = getchar();
     isdigit = c >= '0' & c <= '9';
-    if(isdigit = 0) {
-        putchar('di');
-        putchar('gi');
-        putchar('t');
-    } else {
-        putchar('le');
-        putchar('tt');
-        putchar('er');
-    }
+    if(isdigit = 0)
+        putstr("digit");
+    else
+        putstr("letter");
     putchar('*n');
 }

@@ -1,4 +1,5 @@
 /* Wrong: there is no ; after the second printn. */
+/* Told: has no ; at its end */
 main() {
     printn(7 * 24 * 60, 10);
     putchar('*n');

@@ -6,10 +6,10 @@ main() {
     order(&x, &y);
     test("the word at p", x, 4);
     test("the word at q", y, 9);
-    x = 0;
-    y = 1;
-    order(&x, &y);
-    test("the word at p", x, 0);
-    test("the word at q", y, 1);
+    x = 9;
+    y = 4;
+    order(&y, &x);
+    test("words in order already, p the higher address: the word at p", y, 4);
+    test("the word at q", x, 9);
     tests();
 }

@@ -1,4 +1,5 @@
 /* Wrong: a string ends with *e, which is 4, and not with 0. */
+/* Told: a string ends with '*e', 4, and not with 0 */
 palin(s) {
     auto first, last;
 

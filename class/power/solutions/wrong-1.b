@@ -1,4 +1,5 @@
 /* Wrong: it begins with b, so power(b, 0) is b. */
+/* Told: power(5, 0) is 5 and not 1 */
 power(b, n) {
     auto product;
 

@@ -1,4 +1,5 @@
 /* Wrong: it goes through the whole vector, and so turns it round twice. */
+/* Told: all is as it was, so nothing was turned, or twice */
 reverse(v, n) {
     auto i, old;
 

@@ -4,6 +4,6 @@ main() {
     extrn given;
 
     reverse(given, 4);
-    testvec("given", given, 4, 8, 1, 7, 2);
+    testvec(given[0] == 2 ? "all is as it was, so nothing was turned, or twice: given" : "given", given, 4, 8, 1, 7, 2);
     tests();
 }

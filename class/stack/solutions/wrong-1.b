@@ -1,4 +1,5 @@
 /* Wrong: pop gives the number that came first. */
+/* Told: the first pop is 1 and not 3 */
 numbers[99];
 first;
 many;

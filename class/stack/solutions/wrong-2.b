@@ -1,4 +1,5 @@
 /* Wrong: pop doesn't ask whether there is a number, and push not whether there is room. */
+/* Told: push to a full one is 1 and not 0 */
 numbers[99];
 many;
 

@@ -1,4 +1,5 @@
 /* Wrong: nothing is added to row, so the loop doesn't end. */
+/* Told: It never ends: the same comes again */
 main() {
     auto steps, row, i;
 

@@ -1,4 +1,5 @@
 /* Wrong: the stair begins at the left. */
+/* Told: wrote  * */
 main() {
     auto steps, row, i;
 

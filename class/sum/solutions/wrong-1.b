@@ -1,4 +1,5 @@
 /* Wrong: where there is no number, it divides by 0. */
+/* Told: This means: a division by 0. */
 main() {
     auto n, count, sum;
 

@@ -1,4 +1,5 @@
 /* Wrong: sum=-n is sum =- n, which takes n away. */
+/* Told: wrote  4 -100 -25 */
 main() {
     auto n, count, sum;
 

@@ -909,7 +909,7 @@ function move(to, shown_before) {\n\
 // What is asked at the visit of a line: the word that it stores, what its function returns, or what it writes.\n\
 function questionAt(visit) {\n\
 \x20 const to = visits.find(k => k > visit) ?? made, row = rows[visit], steps = rows.slice(visit, to);\n\
-\x20 const where = place(row.line), calls = [rows[to] ?? rows[to - 1], row];\n\
+\x20 const where = place(row.line), calls = [row, rows[to] ?? rows[to - 1]];\n\
 \x20 const isOwn = ({ address, stored, kept }) => kept[0] === ADDRESS && unsigned(stored[0]) === address + 1;\n\
 \x20 const store = steps.findLast(it => it.stored.length && !isOwn(it) && nameIn(calls, it.address));\n\
 \x20 if (store) {\n\
@@ -923,12 +923,11 @@ function questionAt(visit) {\n\
 \x20 const output = steps.map(it => it.written).join(\"\");\n\
 \x20 return output && { text: `What does ${where} write?`, output };\n\
 }\n\
-// The name of a word in the call that goes on, or in the one that made the line, or of a definition.\n\
-function nameIn(calls, address) {\n\
-\x20 const names = calls.map(call => inFrame(call, address)).map(name => name.replace(/^@.*/, \"\"));\n\
+// The name of a word in the call that makes the line, or in the one that goes on then, or of a definition.\n\
+function nameIn([row, next], address) {\n\
+\x20 const [own, other] = [row, next].map(call => inFrame(call, address).replace(/^@.*/, \"\"));\n\
 \x20 const spot = spots.find(it => it.from <= address && address < it.texts && !it.isFunction);\n\
-\x20 if (names[0] || names[1]) return names[0] || `${names[1]} of ${calls[1].name}`;\n\
-\x20 return spot ? nameAt(address) : \"\";\n\
+\x20 return own || other && `${other} of ${next.name}` || (spot ? nameAt(address) : \"\");\n\
 }\n\
 // The visits that were answered, and whether at once.\n\
 const answered = new Map();\n\

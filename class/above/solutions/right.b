@@ -1,0 +1,12 @@
+/* How many of the first n words of v are above their mean. */
+above(v, n) {
+    auto i, sum, count;
+
+    sum = count = i = 0;
+    while(i < n)
+        sum =+ v[i++];
+    i = 0;
+    while(i < n)
+        count =+ v[i++] > sum / n;
+    return(count);
+}

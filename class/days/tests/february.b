@@ -1,0 +1,4 @@
+main() {
+    test("days(2)", days(2), 28);
+    tests();
+}

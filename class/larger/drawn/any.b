@@ -1,0 +1,6 @@
+/* Two digits. */
+main() {
+    putchar('0' + draw(10));
+    putchar('0' + draw(10));
+    putchar('*n');
+}

@@ -1,0 +1,5 @@
+main() {
+    test("length of hello", length("hello"), 5);
+    test("length of two words", length("two words"), 9);
+    tests();
+}

@@ -1,0 +1,16 @@
+/* Wrong: the comparison assigns. */
+/* Told: this condition assigns */
+middle(a, b, c) {
+    if(a > b) {
+        if(b > c)
+            return(b);
+        if(a > c)
+            return(c);
+        return(a);
+    }
+    if(a > c)
+        return(a);
+    if(b = c)
+        return(c);
+    return(b);
+}

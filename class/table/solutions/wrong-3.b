@@ -1,0 +1,14 @@
+/* Wrong: the last number is missing. */
+/* Told: wrote  9 18 27 36 */
+main() {
+    auto n, i;
+
+    n = getchar() - '0';
+    i = 1;
+    while(i < 5) {
+        printn(n * i, 10);
+        putchar(' ');
+        i++;
+    }
+    putchar('*n');
+}

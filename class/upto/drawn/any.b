@@ -1,0 +1,3 @@
+/* A digit. */
+main()
+    putchar('0' + draw(10));

@@ -1,0 +1,15 @@
+/* Wrong: it writes the sum in each turn. */
+/* Told: wrote  1 */
+main() {
+    auto n, i, sum;
+
+    n = getchar() - '0';
+    i = 1;
+    sum = 0;
+    while(i <= n) {
+        sum = sum + i;
+        i++;
+        printn(sum, 10);
+        putchar('*n');
+    }
+}

@@ -1,0 +1,7 @@
+main() {
+    auto c;
+
+    c = getchar();
+    if(c = 'x')
+        putchar('y');
+}
