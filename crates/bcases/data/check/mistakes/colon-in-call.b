@@ -1,0 +1,5 @@
+main() {
+    auto a;
+    a = getchar();
+    printn(a ? 1, 10);
+}

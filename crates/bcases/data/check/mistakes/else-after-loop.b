@@ -1,0 +1,9 @@
+main() {
+    auto n;
+    n = 3;
+    while(n) {
+        n--;
+    }
+    else
+        putchar('a');
+}
