@@ -8,8 +8,8 @@
 (add-to-list 'eglot-server-programs (list 'b-mode (getenv "SERVER")))
 
 (defun try-wait-for (count)
-  "Waits until there are COUNT findings, for at most ten seconds, and gives their first lines."
-  (let ((end (+ (float-time) 10)))
+  "Waits until there are COUNT findings, for at most thirty seconds, and gives their first lines."
+  (let ((end (+ (float-time) 30)))
     (while (and (/= (length (flymake-diagnostics)) count) (< (float-time) end))
       (accept-process-output nil .05)))
   (vconcat (mapcar (lambda (it) (car (split-string (flymake-diagnostic-text it) "\n"))) (flymake-diagnostics))))

@@ -9,7 +9,7 @@ local function shown()
 end
 
 local function wait_for(count)
-  vim.wait(10000, function() return #vim.diagnostic.get(0) == count end, 50)
+  vim.wait(30000, function() return #vim.diagnostic.get(0) == count end, 50)
   return shown()
 end
 
@@ -33,7 +33,7 @@ vim.api.nvim_win_set_cursor(0, { 12, 18 })
 seen.hover = ask("textDocument/hover").contents.value
 seen.uses = #ask("textDocument/references", { context = { includeDeclaration = true } })
 vim.lsp.buf.rename("thrice")
-vim.wait(10000, function() return vim.fn.search("thrice", "nw") > 0 end, 50)
+vim.wait(30000, function() return vim.fn.search("thrice", "nw") > 0 end, 50)
 seen.renamed = vim.fn.getline(3)
 vim.fn.writefile({ vim.fn.json_encode(seen) }, vim.env.SEEN)
 vim.cmd("qall!")
