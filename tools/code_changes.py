@@ -2,7 +2,8 @@
 import re
 
 TOKEN = re.compile(
-    r'//[^\n]*|b?"(?:\\.|[^"\\])*"|b?\'(?:\\.[^\']*|[^\'\\])\'|\'\w+|\d\w*|\w+|==|!=|<=|>=|&&|\|\||=>|->|::|\.\.=?|\s+|.', re.S
+    r'//[^\n]*|b?"(?:\\.|[^"\\])*"|b?\'(?:\\.[^\']*|[^\'\\])\'|\'\w+|\d\w*|\w+|==|!=|<=|>=|&&|\|\||=>|->|::|\.\.=?'
+    r"|\s+|.", re.S
 )
 FUNCTION = re.compile(r"^( *)(?:pub(?:\(crate\))? )?fn (\w+)", re.M)
 TABLE = re.compile(r"^const ([A-Z_]+): \[(.*?); \d+\] = \[\n(.*?)^\];", re.M | re.S)
@@ -20,8 +21,10 @@ OTHER_EDITION = "match {} {{ Edition::One => Edition::Two, Edition::Two => Editi
 HANDED = {
     "edition": (OTHER_EDITION, "Edition::One", "Edition::Two"),
     "steps": ("{}.saturating_add(1)", "10000000", "1000"),
-    "files": ("SourceFiles {{ first: bsources::SourceFile::new({0}.first.name, b\"\"), rest: {0}.rest }}",
-              "SourceFiles {{ first: bsources::SourceFile {{ name: \"?\", lines: {0}.first.lines }}, rest: {0}.rest }}"),
+    "files": (
+        "SourceFiles {{ first: bsources::SourceFile::new({0}.first.name, b\"\"), rest: {0}.rest }}",
+        "SourceFiles {{ first: bsources::SourceFile {{ name: \"?\", lines: {0}.first.lines }}, rest: {0}.rest }}",
+    ),
     "name": ("None",), "function": ("None",), "is_check": ("!{}",), "for_editor": ("!{}",), "rows": ("Rows::From(1)",),
     "source": ("SourceNames {{ edition: Edition::One, ..{} }}",),
 }
@@ -210,7 +213,8 @@ def calls_changed(body):
         if "=>" in body[start:body.find("\n", start)] or body[:start].endswith("mut ") or whole == "lib.name":
             continue
         # A field of a record that has the name of its value.
-        is_field = re.fullmatch(rf"{word},", line) and re.search(r"\w+ \{\s*(?:[^{}()]*(?:\([^()]*\))?[^{}()]*)$", body[:start])
+        in_record = re.search(r"\w+ \{\s*(?:[^{}()]*(?:\([^()]*\))?[^{}()]*)$", body[:start])
+        is_field = re.fullmatch(rf"{word},", line) and in_record
         for new in HANDED.get(word, ()):
             text = new.format(whole)
             given = f"{word}: {text}" if is_field else text
