@@ -159,6 +159,8 @@ class Function(Definition):
     def to(self, letter, place, *parts):
         """An instruction that leads to a place, to a new one where none is given, which it answers."""
         place = Place() if place is None else place
+        if not isinstance(place, Place):
+            number(f"a place of {self.name}", place, 0, self.here)
         self.add(letter, *parts, place)
         return place
 
@@ -175,6 +177,8 @@ class Function(Definition):
         self.add("s", self.string(text))
 
     def label_value(self, label):
+        if label not in self.labels:
+            self.fail("this label is none of the function")
         self.add("l", label.index)
 
     def load(self):

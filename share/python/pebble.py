@@ -1,7 +1,7 @@
 """Compiles Pebble, a small language, for the machine of B: `python3 pebble.py FILE` writes FILE.code and FILE.lines.
 
-docs/AUTHORS.md tells how it was made. PRINT.code, beside this file or the path after FILE, is the code text of B's
-`lib/print.b`, whose `putstr` writes a text."""
+docs/AUTHORS.md tells how it was made. `print.code` beside this file, or the file that is named after FILE, is the code
+text of B's `lib/print.b`, whose `putstr` writes a text."""
 import pathlib
 import re
 import sys
@@ -37,7 +37,7 @@ class Line:
 
 class Compiler:
     def __init__(self):
-        self.code, self.function, self.open = Code(), None, []
+        self.code, self.function, self.names, self.open = Code(), None, {}, []
 
     def compile(self, source):
         for at, text in enumerate(source.splitlines(), 1):
@@ -64,6 +64,8 @@ class Compiler:
         return self.function
 
     def take_def(self, line):
+        if self.function:
+            raise CodeError("a def stands within another one")
         name, names = line.take(), []
         line.take("(")
         while line.next != ")":
@@ -73,7 +75,7 @@ class Compiler:
         line.take(")")
         self.function = self.code.function(name, len(names))
         self.names = {it: index for index, it in enumerate(names)}
-        self.open.append(self.end_def)
+        self.open.append(("def", self.end_def))
 
     def end_def(self):
         self.function = None
@@ -91,12 +93,14 @@ class Compiler:
     def take_if(self, line):
         self.expression(line)
         place = self.inside.jump_if_zero()
-        self.open.append(lambda: self.function.put(place))
+        self.open.append(("if", lambda: self.function.put(place)))
 
     def take_else(self, line):
+        if not self.open or self.open[-1][0] != "if":
+            raise CodeError("there is no if for this else")
         place = self.inside.jump()
-        self.open.pop()()
-        self.open.append(lambda: self.function.put(place))
+        self.open.pop()[1]()
+        self.open.append(("else", lambda: self.function.put(place)))
 
     def take_while(self, line):
         top = self.inside.here
@@ -107,12 +111,12 @@ class Compiler:
             self.function.jump(top)
             self.function.put(place)
 
-        self.open.append(end_while)
+        self.open.append(("while", end_while))
 
     def take_end(self, line):
         if not self.open:
             raise CodeError("there is nothing to end")
-        self.open.pop()()
+        self.open.pop()[1]()
 
     def take_print(self, line):
         if line.next.startswith('"'):
@@ -179,8 +183,12 @@ def main(source, library=pathlib.Path(__file__).with_name("print.code")):
         code = compiler.code.text()
     except CodeError as fault:
         sys.exit(f"{source}:{fault.line or compiler.code.line}: {fault}")
+    except OSError as fault:
+        sys.exit(f"{fault.filename}: {fault.strerror}")
     source.with_suffix(".code").write_bytes(code)
     source.with_suffix(".lines").write_bytes(compiler.code.lines())
 
 
+if not 2 <= len(sys.argv) <= 3:
+    sys.exit("usage: python3 pebble.py FILE [print.code]")
 main(*sys.argv[1:])

@@ -176,6 +176,7 @@ class FunctionDefinition extends Definition {
   /** An instruction that leads to a place, to a new one where none is given, which it answers. */
   to(letter, place, ...parts) {
     const target = place ?? new Place();
+    if (!(target instanceof Place)) number(`a place of ${this.name}`, target, 0, this.here);
     this.add(letter, ...parts, target);
     return target;
   }
@@ -189,7 +190,10 @@ class FunctionDefinition extends Definition {
   external(name) { this.add('x', this.code.use(name)); }
   automatic(index) { this.add('a', number(`a word of the frame of ${this.name}`, index, 0, this.frame - 1)); }
   text(text) { this.add('s', this.string(text)); }
-  labelValue(label) { this.add('l', label.index); }
+  labelValue(label) {
+    if (!this.labels.includes(label)) this.fail('this label is none of the function');
+    this.add('l', label.index);
+  }
   load() { this.add('v'); }
   store() { this.add('w'); }
   binary(sign) { this.operator('b', sign); }
