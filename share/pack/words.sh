@@ -3,7 +3,7 @@
 # --with the path of its file in the folder `library`; and for a FILE `-` of a command that runs no source, standard
 # input. A path, as each word with a slash or a point is one, stays, and so do the values of --made and --lines, and all
 # else. `format --write FILE` it does whole, by the program that `program` names.
-b_command=${1-} b_with='' b_over='' b_at=0 b_words='' b_some='' b_write='' b_file='' b_files=0
+b_command=${1-} b_with='' b_over='' b_at=0 b_words='' b_some='' b_write='' b_clash='' b_file='' b_files=0
 
 b_fail() {
     printf 'error: %s\n' "$1" >&2
@@ -90,7 +90,7 @@ b_lib() {
 
 if [ "$b_command" = format ]; then
     b_look "$@"
-    [ -z "$b_write" ] || [ -z "${b_clash-}" ] || [ "$b_clash" != --check ] ||
+    [ -z "$b_write" ] || [ "$b_clash" != --check ] ||
         b_fail "the argument '--write' cannot be used with '--check'
 
 For more information, try '--help'." 135
@@ -123,4 +123,4 @@ compile | go | list | map | check | trace | count | show | format)
     ;;
 esac
 # Where there isn't one FILE, the program tells it.
-if [ -n "$b_write" ] && [ "$b_files" = 1 ] && [ -z "${b_clash-}" ]; then b_replace "$@"; fi
+if [ -n "$b_write" ] && [ "$b_files" = 1 ] && [ -z "$b_clash" ]; then b_replace "$@"; fi
