@@ -90,7 +90,8 @@ function tryCases() {
 function tryRuns() {
   const bytes = text => Buffer.from(text ?? '', 'latin1'), runs = JSON.parse(fs.readFileSync(runsFile, 'utf8'));
   for (const it of runs) {
-    const files = it.file === null ? {} : {FILE: bytes(it.file)}, words = [it.command, ...it.args, ...Object.keys(files)];
+    const files = it.file === null ? {} : {FILE: bytes(it.file)};
+    const words = [it.command, ...it.args, ...Object.keys(files)];
     const got = run(b, words, () => ({files, input: inputOf(bytes(it.stdin))}));
     const is = (written, wanted) => (wanted === null ? written.length > 0 : same(written, bytes(wanted)));
     const isRight = got.status === it.status && is(got.out, it.stdout) && is(got.line, it.stderr);

@@ -55,8 +55,8 @@ uint8_t b_run(const uint8_t *code, size_t code_size, const uint8_t *input, size_
               uint8_t *out, size_t out_size, uint8_t *line, size_t line_size, struct b_written *written);
 
 /* The same. After the line comes where the code text went wrong: after a trap or at the limit the function, the place,
- * the line of the code text, and what it means; after `code n` what could come in line n; after `load n` the name. It takes
- * 300 bytes of room, and as many as that line of the code text has. */
+ * the line of the code text, and what it means; after `code n` what could come in line n; after `load n` the name. It
+ * takes 300 bytes of room, and as many as that line of the code text has. */
 uint8_t b_run_where(const uint8_t *code, size_t code_size, const uint8_t *input, size_t input_size, uint64_t steps,
                     uint8_t *out, size_t out_size, uint8_t *line, size_t line_size, struct b_written *written);
 

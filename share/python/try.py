@@ -2,7 +2,8 @@
 
   B_LIBRARY=LIBRARY PYTHONPATH=FOLDER python3 try.py CASES VERSION
 
-CASES is the folder of kept cases, whose README.md tells their files, and VERSION what the program `b` says of its own."""
+CASES is the folder of kept cases, whose README.md tells their files, and VERSION what the program `b` says of its
+own."""
 import pathlib
 import sys
 
