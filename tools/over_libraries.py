@@ -8,8 +8,8 @@ isn't proved again: rattle checks its own crate alone, which it does before each
                                            this where there is a TARGET, one of the kit's
 
 `./b --prove` and `rt check` leave libraries with a stamp of their sources, and `rt ci` some without one, which fit
-only each other. So a note of the stamp is put beside the latter. Where a source has changed since, or libraries of both
-kinds stand, those below CRATE are proved first, as `rt lib` does it.
+only each other. So a note of the stamp is put beside the latter. Where a source has changed since, or libraries with
+and without a stamp stand, those below CRATE are proved first, as `rt lib` does it.
 
 Other scripts import `kit`, `crate_of` and `build`."""
 import os
@@ -22,7 +22,7 @@ import threading
 
 # What is used of the kit's module, and of its crates.
 OF_MODULE = ("Crate", "KEPT", "KIT", "RATTLE", "crates_below", "guarded", "lock", "stop_on_links")
-OF_CRATE = ("below", "build_rlib", "call", "count", "is_built", "run", "stamp", "words")
+OF_CRATE = ("below", "build_rlib", "call", "count", "has_kept", "is_built", "run", "stamp", "words")
 TOP = pathlib.Path(__file__).resolve().parent.parent
 
 
