@@ -92,7 +92,7 @@ def of_list(place, variable):
 
 
 def of_variants(place, variable, kind, names, at_head):
-    """The next variant of the type in place of each one, by a function at the head of the file."""
+    """The next variant of the type in place of each one, by a function before the block of the definition."""
     spelled = names.spelled(kind)
     for variant, held, others in names.context.variants(kind):
         if variant in spelled and others and others[0] in spelled:
@@ -123,14 +123,19 @@ def result_of(text, definition):
     return " ".join(head.rpartition(" : ")[2].split()) if " : " in head else " ".join(head.split())
 
 
+def block_start(text, start):
+    """Returns where the block begins that a definition belongs to, at the first column."""
+    start = text.rfind("\n\n", 0, start) + 2
+    return start if not text[start].isspace() else block_start(text, start - 2)
+
+
 def value_changes_of(module, text, names, wanted):
     """Returns the changes of this kind of a file, in order."""
     found, seen = [], {text}
-    at_head = min(it.start for it in definitions_in(text))
-    at_head = text.rfind("\n\n", 0, at_head) + 2
     for definition in definitions_in(text):
         if definition.believed_as not in wanted or is_claimed(module, text, definition):
             continue
+        at_head = block_start(text, definition.start)
         for clause in (it for it in definition.clauses if it.right):
             place = Place(module, text, clause, result_of(text, definition))
             kinds = [kind for _, kind in definition.arguments]
