@@ -1,4 +1,4 @@
-/* What comes? Put your answer in place of each 0. */
+/* What comes? Put your answer in place of each 0. The tests have say. */
 answers() {
     say(1, 0);  /* the address of n */
     say(2, 0);  /* the address of x */

@@ -16,11 +16,18 @@ export function programOf(file, {text = file.text, lib} = {}) {
   return {name: file.name, words, files: given, input: file.input, ends: file.ends};
 }
 
+/** The functions that the tests of an exercise have: they lack in a program for it, and that is no fault. */
+function testedWith(file) {
+  const exercise = file.place === 'exercise' && data.exercises.find(it => `${it.name}.b` === file.name);
+  return (exercise && exercise.tests[0].source || '').match(/^\w+(?=\()/gm) ?? [];
+}
+
 /** What `check` finds in a program. */
 export async function check(file, change) {
-  const {words, files: given} = programOf(file, change);
+  const {words, files: given} = programOf(file, change), known = testedWith(file);
   const ended = await checker.ask(['check', '--json', ...words], {files: given});
-  return ended.output ? parsed(textOf(ended.output)) : null;
+  const lacks = it => /^nothing defines (\w+)$/.exec(it.message)?.[1];
+  return ended.output ? parsed(textOf(ended.output)).filter(it => !known.includes(lacks(it))) : null;
 }
 
 /** The words of a command of a lesson, and the files of its chapter, as they are now. */
