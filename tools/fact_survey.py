@@ -12,7 +12,7 @@ from antt_values import Unknown
 from changes import ROOT, read, types_of_code
 from evaluator import Evaluator
 
-CRATES = ("bword", "blang")
+CRATES = ("bword", "blang", "bfacts")
 # A fact may come to so many clauses more than it does as the definitions stand.
 MORE = 300_000
 
