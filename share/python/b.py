@@ -93,7 +93,7 @@ def _fitting(function, *words, room, **how):
     room = _number("room", room, 0, 1 << 62)
     while True:
         status, out, line = _call(function, *words, room=room, **how)
-        if status != FAILED:
+        if status != FAILED or len(out) < room:
             return status, out, line
         room = 8 * max(room, 1)
 

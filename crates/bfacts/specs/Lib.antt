@@ -1,1 +1,2 @@
 pub mod FurtherRows
+pub mod UnitFacts

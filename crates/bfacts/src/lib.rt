@@ -1,2 +1,2 @@
-//! Closed facts on what the language is, for which no other crate has to wait. Nothing here runs.
+//! Closed facts on definitions of other crates, for which none of these has to wait. Nothing here runs.
 #![tactic(auto)]
