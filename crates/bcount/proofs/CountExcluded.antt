@@ -1,5 +1,5 @@
 -- What no counts are.
-use Rattle.std.proofs.Common.{◌≡◌, ◌∙◌, ℕ, zero, suc, List, [], ◌∷◌, ◌++◌, ap, arith, map, refl, subst}
+use Rattle.std.proofs.Common.{◌≡◌, ◌∙◌, ℕ, zero, suc, List, [], ◌∷◌, ◌++◌, ap, arith, map, refl}
 use Rattle.bword.specs.declared.edition.Edition.{Edition}
 use Rattle.bword.specs.ByteEnds.{Incoming, outgoing_of}
 use Rattle.blang.specs.declared.code.Definition.{Definition}
@@ -11,15 +11,14 @@ use Rattle.blang.specs.Cut.{tokens_from}
 use Rattle.blang.specs.Reports.{RunEnds}
 use Rattle.blang.specs.Machine.{image_of, machine}
 use Rattle.blang.specs.Text.{IsCodeText}
-use Rattle.bcode.proofs.FaultLaws.{unique_code}
 use Rattle.bmach.specs.Readings.{LeftBySteps}
-use Rattle.bmach.proofs.Readings.{left_by, none_at_first, run_left}
+use Rattle.bmach.proofs.Readings.{left_by, run_left}
 use Rattle.btools.specs.Functions.{Placed, functions_of}
 use Rattle.btools.specs.Origins.{Code, Source}
 use Rattle.btools.specs.PlaceLines.{CodeText}
 use Rattle.btools.specs.ProgramsExcluded.{code_in}
 use Rattle.btools.specs.Programs.{nothing_written}
-use Rattle.btools.proofs.Unasked.{program_left, untaken}
+use Rattle.btools.proofs.Unasked.{left_by_code, program_left, untaken, untaken_by_code}
 use Rattle.bwatch.specs.Sights.{Sights, sights_of}
 use Rattle.bwatch.specs.Watches.{Watches}
 use Rattle.bcount.specs.Counts as count
@@ -73,20 +72,14 @@ module _ (edition : Edition) (source : List ℕ) (r : Compilation) (g : Compiles
       (left_by (machine ds) asked.steps ends.input ends.input_after read)
 
 module _ (c : CodeText) (ds : List Definition) (is : IsCodeText c.code ds) (source : List ℕ) (asked : Asked) (ends : RunEnds) (status : ℕ) where
-  untaken_by_code : ends.input_after ≡ ends.input → LeftBySteps (machine ds) asked.steps ends.input ends.input_after
-  untaken_by_code still = left_by (machine ds) asked.steps ends.input ends.input_after (none_at_first (image_of ds) asked.steps ends.input ends.input_after still)
-
-  left_by_code : (other : List Definition) → IsCodeText c.code other → LeftBySteps (machine other) asked.steps ends.input ends.input_after → LeftBySteps (machine ds) asked.steps ends.input ends.input_after
-  left_by_code other has = subst (λ (x : List Definition). LeftBySteps (machine x) asked.steps ends.input ends.input_after) (unique_code c.code other ds has is)
-
   asked_by_code : Counts (record asked { origin = Code c }) source ends status → LeftBySteps (machine ds) asked.steps ends.input ends.input_after
   asked_by_code (count.counted other image result made tallies lines told has counts own reported tells) =
-      left_by_code other has.text (run_left (machine other) asked.steps ends.input ends.input_after nothing_written (outgoing_of counts.output) result counts.gives)
+      left_by_code c.code ds is asked.steps ends.input ends.input_after other has.text (run_left (machine other) asked.steps ends.input ends.input_after nothing_written (outgoing_of counts.output) result counts.gives)
   asked_by_code (count.unread other image output has still gives same answer) =
-      left_by_code other has.text (run_left (machine other) asked.steps ends.input ends.input_after nothing_written (outgoing_of output) outcome.Device gives)
-  asked_by_code (count.not_begun other image result has never told quiet) = untaken_by_code quiet.unread
-  asked_by_code (count.stopped none quiet) = untaken_by_code quiet.unread
-  asked_by_code (count.no_memory other image has still same read answer) = left_by_code other has.text (left_by (machine other) asked.steps ends.input ends.input_after read)
+      left_by_code c.code ds is asked.steps ends.input ends.input_after other has.text (run_left (machine other) asked.steps ends.input ends.input_after nothing_written (outgoing_of output) outcome.Device gives)
+  asked_by_code (count.not_begun other image result has never told quiet) = untaken_by_code c.code ds is asked.steps ends.input ends.input_after quiet.unread
+  asked_by_code (count.stopped none quiet) = untaken_by_code c.code ds is asked.steps ends.input ends.input_after quiet.unread
+  asked_by_code (count.no_memory other image has still same read answer) = left_by_code c.code ds is asked.steps ends.input ends.input_after other has.text (left_by (machine other) asked.steps ends.input ends.input_after read)
 
 pub excluded : CountsExcluded
 excluded = record {
