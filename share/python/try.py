@@ -40,7 +40,7 @@ def texts_and_numbers():
     source = b"main() { printn(6*7, 10); }"
     for text in (source.decode(), bytearray(source), memoryview(source)):
         yield b.go(text), (b"42", 0)
-    yield b.go("main() { putchar('\u00e9'); }"), ("\u00e9".encode(), 0)
+    yield b.go("main() { /* \u00e9 */ printn(42, 10); }"), (b"42", 0)
     yield b.go(ECHO, "\u20ac"), ("\u20ac".encode(), 3)
     yield b.go(b"main() { auto n; n = 40000; while(n--) { putchar('ab'); putchar('cd'); } }"), (b"abcd" * 40000, 0)
     for steps in (-1, 2**64):
