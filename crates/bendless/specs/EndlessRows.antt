@@ -39,7 +39,8 @@ reading =
 at_the_end_of_the_input : ComesAgain reading 10 15
 at_the_end_of_the_input = record { later = omega arith; runs = tt; same = refl }
 
-input_left : map (λ n. (state_world (reading n)).input) (0 ∷ 5 ∷ 10 ∷ 15 ∷ []) ≡ (97 ∷ 10 ∷ []) ∷ (10 ∷ []) ∷ [] ∷ [] ∷ []
+input_left : map (λ n. (state_world (reading n)).input) (0 ∷ 5 ∷ 10 ∷ 15 ∷ [])
+    ≡ (97 ∷ 10 ∷ []) ∷ (10 ∷ []) ∷ [] ∷ [] ∷ []
 input_left = refl
 
 -- A byte that is left makes another state.
