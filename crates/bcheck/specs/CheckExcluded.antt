@@ -59,7 +59,8 @@ pub record BeginsWith (c : Check) (line text file : List ℕ) (row column : ℕ)
   pub severity : Severity
   pub is : text ≡ shown_in_form c.form line ++ (finding_head c.form severity file row column ++ rest)
 
--- No check of a source of one file keeps its promise that tells such a finding first, where it comes to this diagnostic.
+-- No check of a source of one file keeps its promise that tells such a finding first, where it comes to this
+-- diagnostic.
 abbrev pub NeverOf : ((c : Check) → (d : Diagnostic) → (row column : ℕ) → (rest : List ℕ) → Type 0) → Type 0
 NeverOf Wrong = (c : Check) (line : List ℕ) (status : ℕ) (text : List ℕ) (to : ComesTo c line status) (d : Diagnostic)
     → to.outcome.stop ≡ Some d → IsTold c text → c.files.rest ≡ [] → (row column : ℕ) (rest : List ℕ)
@@ -110,13 +111,14 @@ pub record Excluded : Type 0 where
       × (s ≢ severity_of status) × (c.files.rest ≡ [])
       × (text ≡ shown_in_form c.form line ++ (findings_text c.form status c.files before
       ++ (finding_head c.form s (file_of c) row column ++ rest))))
-  -- of a fault, for people, a finding of another file than the one of each line up to its own, or on another line of it,
-  -- where colons are in no name
-  pub other_file : (c : Check) (line : List ℕ) (status : ℕ) (text : List ℕ) (to : ComesTo c line status) (d : Diagnostic)
-      → to.outcome.stop ≡ Some d → IsTold c text → c.form ≡ form.Text → (file : List ℕ) (row column : ℕ) (rest : List ℕ)
+  -- of a fault, for people, a finding of another file than the one of each line up to its own, or on another line of
+  -- it, where colons are in no name
+  pub other_file : (c : Check) (line : List ℕ) (status : ℕ) (text : List ℕ) (to : ComesTo c line status)
+      → (d : Diagnostic) → to.outcome.stop ≡ Some d → IsTold c text → c.form ≡ form.Text → (file : List ℕ) (row column : ℕ) (rest : List ℕ)
       → BeginsWith c line text file row column rest → IsTrue (has_no_colon (file_text file))
       → ((n : ℕ) → IsTrue (has_no_colon (file_text (file_at c n))))
-      → ((n : ℕ) → n ≤ d.line → file_text file ≡ file_text (file_at c n) → decimal row ≢ decimal (own_line c.files n).line)
+      → ((n : ℕ) → n ≤ d.line → file_text file ≡ file_text (file_at c n)
+      → decimal row ≢ decimal (own_line c.files n).line)
       → Checks c → ⊥
   -- of a fault a finding on another line, where a token comes after each place before its own line; or on a later one
   pub other_line : NeverOf (λ c d row column rest. (decimal row ≢ decimal d.line)
@@ -151,7 +153,8 @@ pub record Excluded : Type 0 where
       (count : ℕ) → newlines text ≢ newlines (shown_in_form c.form line) + count * finding_lines c.form)
   -- a byte that can't be printed, where the line and the name of the file have none
   pub other_bytes : Never (λ c line status text.
-      IsTrue (is_printed (shown_in_form c.form line)) × ((n : ℕ) → IsTrue (is_printed (finding_start c.form (file_at c n))))
+      IsTrue (is_printed (shown_in_form c.form line))
+      × ((n : ℕ) → IsTrue (is_printed (finding_start c.form (file_at c n))))
       × (is_printed text ≡ false))
   -- 133 where no write failed; 134 after something written where no write was refused memory; another status above
   pub no_failure : (c : Check) (line : List ℕ) (status : ℕ) → ComesTo c line status → c.status ≡ DEVICE

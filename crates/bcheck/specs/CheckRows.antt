@@ -72,8 +72,9 @@ load_codes : (code : List ℕ) → (Reason editions.Two None (Some fault.TooLarg
 load_codes code = (λ reason. reason, λ reason. reason)
 
 -- one finding of a diagnostic and of data that are too many; and of names that nothing defines one for each
-whole_of_faults : (On : Subject → ℕ → Type 0) (d : Diagnostic) (f : Option LoadFault) (ds : List Definition) (told : List ℕ)
-    → (IsWhole On (Some d) f ds told → length told ≡ 1) × (IsWhole On None (Some fault.TooLarge) ds told → length told ≡ 1)
+whole_of_faults : (On : Subject → ℕ → Type 0) (d : Diagnostic) (f : Option LoadFault) (ds : List Definition)
+    (told : List ℕ) → (IsWhole On (Some d) f ds told → length told ≡ 1)
+    × (IsWhole On None (Some fault.TooLarge) ds told → length told ≡ 1)
 whole_of_faults On d f ds told = (λ is. is, λ is. is)
 
 whole_of_names : (On : Subject → ℕ → Type 0) (name : List ℕ) (ds : List Definition) (told : List ℕ)
@@ -201,7 +202,8 @@ in_next_file_for_editors = refl
 second_texts : map (second_text {source = codes "n 5;\nf() ;"} (alone (codes "x.b")))
     (None ∷ Some (record { before = []; after = codes "n 5;\nf() ;"; split = refl })
     ∷ Some (record { before = codes "n 5;\nf"; after = codes "() ;"; split = refl }) ∷ [])
-    ≡ ([] ∷ codes ",\"related\":{\"line\":1,\"column\":1,\"utf16_column\":1}" ∷ codes ",\"related\":{\"line\":2,\"column\":2,\"utf16_column\":2}" ∷ [])
+    ≡ ([] ∷ codes ",\"related\":{\"line\":1,\"column\":1,\"utf16_column\":1}"
+    ∷ codes ",\"related\":{\"line\":2,\"column\":2,\"utf16_column\":2}" ∷ [])
 unfolding digits
 second_texts = refl
 
@@ -239,7 +241,8 @@ warning_for_people = refl
 
 error_for_editors : finding_text form.Json severity.Error (alone (codes "x.b")) again
     ≡ codes "{\"file\":\"x.b\",\"line\":2,\"column\":9,\"severity\":\"error\",\"code\":\"r\\\"d\","
-    ++ codes "\"message\":\"\\\"size\\\" \\\\ again\",\"fix\":\"a \\\"b\\\"\",\"end\":13,\"utf16_column\":9,\"utf16_end\":13,"
+    ++ codes "\"message\":\"\\\"size\\\" \\\\ again\",\"fix\":\"a \\\"b\\\"\","
+    ++ codes "\"end\":13,\"utf16_column\":9,\"utf16_end\":13,"
     ++ codes "\"related\":{\"line\":2,\"column\":1,\"utf16_column\":1}}\n"
 unfolding digits
 error_for_editors = refl
@@ -282,9 +285,11 @@ wrong_token_on_line = refl
 
 -- the last byte of a wrong constant, and the one after it
 in_wrong_token : is_in_token editions.One 1 (codes "'ab") (codes "c'") ≡ true
-unfolding pieces_from longest greatest whole word_token keyword_of number_in operator_of other_of fixed_of escape_of with_quoted_byte
+unfolding pieces_from longest greatest whole word_token keyword_of number_in operator_of other_of fixed_of escape_of
+    with_quoted_byte
 in_wrong_token = refl
 
 after_wrong_token : is_in_token editions.One 1 (codes "'abc") (codes "'") ≡ false
-unfolding pieces_from longest greatest whole word_token keyword_of number_in operator_of other_of fixed_of escape_of with_quoted_byte
+unfolding pieces_from longest greatest whole word_token keyword_of number_in operator_of other_of fixed_of escape_of
+    with_quoted_byte
 after_wrong_token = refl

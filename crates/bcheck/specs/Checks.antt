@@ -296,8 +296,8 @@ AreFindings form o status files text =
     × (text ≡ findings_text form status files findings)
 
 -- A text and then findings were told with this status; or memory was refused, and nothing was written.
-pub data TellsFirst (form : FindingForm) (o : Outcome) (files : Files) (first : List ℕ) (status : ℕ) (old new : Outgoing)
-    (result : ℕ) : Type 0 where
+pub data TellsFirst (form : FindingForm) (o : Outcome) (files : Files) (first : List ℕ) (status : ℕ)
+    (old new : Outgoing) (result : ℕ) : Type 0 where
   told : (more : List ℕ) → AreFindings form o status files more → Reported (first ++ more) status old new result
       → TellsFirst form o files first status old new result
   no_memory : new ≡ old → result ≡ MEMORY → TellsFirst form o files first status old new result

@@ -37,7 +37,8 @@ pub(crate) fn explain(
     requires stop { IsStopOf source.edition source.text.now judgement.now.verdict }
     requires compiled { IsCompiled source.edition source.text.now judgement.now.compiled }
     ensures { IfOk result (λ said. EachOutcome source.entry.edition source.entry.text.now
-        (λ o. AreFindings asked.entry.form o (status_told judgement.now.verdict) (files_shown asked.entry.files) said)) }
+        (λ o. AreFindings asked.entry.form o (status_told judgement.now.verdict) (files_shown asked.entry.files)
+        said)) }
 {
     let mut said = Text::new(alloc);
     let findings = findings(alloc, source, &asked.files, judgement)?;

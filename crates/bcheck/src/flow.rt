@@ -6,7 +6,7 @@ use crate::locals::Locals;
 use crate::spans::{Spans, is_joined, lexeme_at, name_at};
 use blang::Keyword;
 use blex::Lexeme;
-use bword::BinOp;
+use bword::{BinOp, Name};
 
 /// How far the judgement of a function has come.
 #[derive(Clone, Copy)]
@@ -20,7 +20,9 @@ pub(crate) struct Judgement {
     branch_first: usize,
     branch_end: usize,
     /// The automatic to which a value is assigned just now.
-    pending: Option<usize>,
+    pending: Option<Name>,
+    /// How many brackets and how many `?` with no `:` are open in this value.
+    open: u64,
 }
 
 impl Judgement {
@@ -32,6 +34,7 @@ impl Judgement {
             branch_first: 0,
             branch_end: 0,
             pending: None,
+            open: 0,
         }
     }
 
@@ -44,9 +47,8 @@ impl Judgement {
         token: usize,
     ) -> bool {
         if let Some(name) = name_at(spans, token) {
-            let place = locals.place(&name);
             self.is_over = self.is_over || is_label(spans, token);
-            return self.meets(spans, locals, token, place);
+            return self.meets(spans, locals, token, name);
         }
         match lexeme_at(spans, token) {
             Lexeme::Keyword(Keyword::While) if token >= self.loop_end => {
@@ -61,12 +63,25 @@ impl Judgement {
             Lexeme::Keyword(Keyword::Switch) if token >= self.branch_end => {
                 self.leaves_out(spans, brackets, brace_after(spans, token));
             }
-            Lexeme::Question => {
-                self.settle(locals);
-                if token >= self.branch_end {
-                    self.leaves_out(spans, brackets, token);
-                }
+            Lexeme::Question if token >= self.branch_end => {
+                self.leaves_out(spans, brackets, token);
             }
+            _ => {}
+        }
+        self.goes_on(&lexeme_at(spans, token), locals);
+        false
+    }
+
+    // Goes on past a token of a value that is assigned, perhaps.
+    fn goes_on(&mut self, lexeme: &Lexeme, locals: &mut Locals) {
+        match lexeme {
+            Lexeme::OpenParen | Lexeme::OpenBracket | Lexeme::Question => {
+                self.open = self.open.saturating_add(1);
+            }
+            Lexeme::CloseParen | Lexeme::CloseBracket | Lexeme::Colon if self.open > 0 => {
+                self.open = self.open.saturating_sub(1);
+            }
+            Lexeme::Comma if self.open > 0 => {}
             Lexeme::Semicolon
             | Lexeme::Comma
             | Lexeme::CloseParen
@@ -74,7 +89,6 @@ impl Judgement {
             | Lexeme::Colon => self.settle(locals),
             _ => {}
         }
-        false
     }
 
     // Takes note of a statement that begins with this token and isn't done on each way.
@@ -83,24 +97,18 @@ impl Judgement {
         self.branch_end = statement_end(spans, brackets, first);
     }
 
-    // What a mention of a local does, and whether nothing has set it before.
-    fn meets(
-        &mut self,
-        spans: &Spans,
-        locals: &mut Locals,
-        token: usize,
-        place: Option<usize>,
-    ) -> bool {
-        let Some(place) = place else {
+    // What a mention of a name does, and whether it is an automatic that nothing has set before.
+    fn meets(&mut self, spans: &Spans, locals: &mut Locals, token: usize, name: Name) -> bool {
+        let Some(local) = locals.find(&name) else {
             return false;
         };
-        if locals.is_set(place) || self.is_over {
+        if local.is_set || self.is_over {
             return false;
         }
         let is_left_out = token >= self.branch_first && token < self.branch_end;
         let is_in_loop = token >= self.loop_first && token < self.loop_end;
-        if is_left_out && is_in_loop && locals.is_set_somewhere(place) {
-            locals.set(place);
+        if is_left_out && is_in_loop && local.sets > 0 {
+            locals.set(&name);
             return false;
         }
         if is_address(spans, token) {
@@ -109,17 +117,18 @@ impl Judgement {
         }
         if is_target(spans, token) {
             self.settle(locals);
-            self.pending = Some(place);
+            self.pending = Some(name);
+            self.open = 0;
             return false;
         }
-        locals.set(place);
+        locals.set(&name);
         true
     }
 
     // The assignment is over.
     fn settle(&mut self, locals: &mut Locals) {
-        if let Some(place) = self.pending {
-            locals.set(place);
+        if let Some(name) = self.pending {
+            locals.set(&name);
         }
         self.pending = None;
     }

@@ -23,12 +23,12 @@ pub(crate) enum NameRole {
 pub(crate) struct Local {
     pub name: Name,
     pub role: NameRole,
-    /// How often the function has it, but for the declaration.
-    pub uses: u64,
-    /// How often it is followed by an index.
-    pub indexed: u64,
-    /// How often something is stored in it, or it is compared with a constant.
-    pub as_word: u64,
+    /// Whether the function has it, but for the declaration.
+    pub is_used: bool,
+    /// Whether an index comes after it somewhere.
+    pub is_indexed: bool,
+    /// Whether something is stored in it somewhere, or it is compared with a constant.
+    pub is_word: bool,
     /// How often a value is assigned to it, or its address is taken.
     pub sets: u64,
     /// How often a character of the input is assigned to it, one of a string, and a string.
@@ -42,12 +42,12 @@ pub(crate) struct Local {
 impl Local {
     // Counts the mention at this token.
     fn count(&mut self, spans: &Spans, token: usize) {
-        self.uses = self.uses.saturating_add(1);
+        self.is_used = true;
         if lexeme_at(spans, token.wrapping_add(1)) == Lexeme::OpenBracket {
-            self.indexed = self.indexed.saturating_add(1);
+            self.is_indexed = true;
         }
         if is_as_word(spans, token) {
-            self.as_word = self.as_word.saturating_add(1);
+            self.is_word = true;
         }
         if is_target(spans, token) || is_address(spans, token) {
             self.sets = self.sets.saturating_add(1);
@@ -159,9 +159,9 @@ impl Locals {
         self.all.push(Local {
             name,
             role,
-            uses: 0,
-            indexed: 0,
-            as_word: 0,
+            is_used: false,
+            is_indexed: false,
+            is_word: false,
             sets: 0,
             inputs: 0,
             characters: 0,
@@ -175,15 +175,13 @@ impl Locals {
         if name.as_str() == "default" {
             self.defaults = self.defaults.saturating_add(1);
         }
-        if let Some(place) = self.place(name) {
-            if let Some(local) = self.all.get_mut(place) {
-                local.count(spans, token);
-            }
+        if let Some(local) = self.find_mut(name) {
+            local.count(spans, token);
         }
     }
 
-    /// The place of a name among them.
-    pub(crate) fn place(&self, name: &Name) -> Option<usize> {
+    // The place of a name among them.
+    fn place(&self, name: &Name) -> Option<usize> {
         for place in 0..self.all.len() {
             if let Some(local) = self.all.get(place) {
                 if local.name == *name {
@@ -199,25 +197,14 @@ impl Locals {
         self.all.get(self.place(name)?).copied()
     }
 
-    /// Whether anything sets one, in the place where it is read or in another one.
-    pub(crate) fn is_set_somewhere(&self, place: usize) -> bool {
-        match self.all.get(place) {
-            Some(local) => local.sets > 0,
-            None => true,
-        }
+    fn find_mut(&mut self, name: &Name) -> Option<&mut Local> {
+        let place = self.place(name)?;
+        self.all.get_mut(place)
     }
 
-    /// Whether one is set; one that isn't there is.
-    pub(crate) fn is_set(&self, place: usize) -> bool {
-        match self.all.get(place) {
-            Some(local) => local.is_set,
-            None => true,
-        }
-    }
-
-    /// Takes one as set from now on.
-    pub(crate) fn set(&mut self, place: usize) {
-        if let Some(local) = self.all.get_mut(place) {
+    /// Takes the one of this name as set from now on.
+    pub(crate) fn set(&mut self, name: &Name) {
+        if let Some(local) = self.find_mut(name) {
             local.is_set = true;
         }
     }

@@ -119,9 +119,20 @@ pub(crate) fn find(
     let spans = tokens.spans;
     Found::add(outside(tokens, definition.first), spans, findings)?;
     if is_function(spans, definition) {
-        find_in(alloc, tokens, definition, findings)?;
+        return find_in(alloc, tokens, definition, findings);
+    }
+    for token in definition.first..definition.end {
+        Found::add(in_value(tokens, token), spans, findings)?;
     }
     Ok(())
+}
+
+// What is found of a token of an external.
+fn in_value(tokens: &DefinitionTokens<'_>, token: usize) -> Option<Found> {
+    match lexeme_at(tokens.spans, token) {
+        Lexeme::String | Lexeme::Character(_) => backslash(tokens, token),
+        _ => None,
+    }
 }
 
 // Adds what is found in a function.
@@ -174,10 +185,10 @@ fn declared(tokens: &DefinitionTokens<'_>, locals: &Locals, token: usize) -> Opt
         return None;
     };
     let local = locals.find(&name)?;
-    if local.uses == 0 {
+    if !local.is_used {
         return Found::of_name(token, Warning::NeverUsed, name);
     }
-    if matches!(local.role, NameRole::Vector(_)) && local.indexed == 0 && local.as_word > 0 {
+    if matches!(local.role, NameRole::Vector(_)) && !local.is_indexed && local.is_word {
         return Found::of_name(token, Warning::VectorForWord, name);
     }
     if let Some(definition) = tokens.defined.find(&name) {
@@ -417,7 +428,7 @@ fn indexed(
     name: Name,
 ) -> Option<Found> {
     let local = locals.find(&name)?;
-    if local.role != NameRole::External || local.as_word > 0 {
+    if local.role != NameRole::External || local.is_word {
         return past_vector(tokens, locals, token, name);
     }
     match tokens.defined.find(&name)?.what {

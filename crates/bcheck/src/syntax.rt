@@ -253,6 +253,8 @@ const SEMICOLON_COLON: Like = Like::Either(Lexeme::Semicolon, Lexeme::Colon);
 
 const OPEN_BRACKET: Like = Like::Is(Lexeme::OpenBracket);
 
+const CLOSE_BRACKET: Like = Like::Is(Lexeme::CloseBracket);
+
 const CLOSE_BRACKETS: Like = Like::Either(Lexeme::CloseParen, Lexeme::CloseBracket);
 
 const OPEN_BRACE: Like = Like::Is(Lexeme::OpenBrace);
@@ -286,12 +288,14 @@ const BEGINNINGS: [Mistake; 10] = [
 
 /// Externals and the parameters of a function.
 #[rattlefmt::skip]
-const OUTSIDE: [Mistake; 14] = [
+const OUTSIDE: [Mistake; 15] = [
     Mistake(EXTERNAL, If::Prototype, [Like::Type, ANY, Like::Name, OPEN_PAREN, ANY], Syntax::Prototype, Marking::First),
     Mistake(HEADER, If::Prototype, [ANY, ANY, Like::Type, Like::Name, ANY], Syntax::Prototype, Marking::Before),
     Mistake(EXTERNAL, If::Always, [Like::Type, ANY, ANY, ANY, ANY], Syntax::TypeFirst, Marking::First),
     Mistake(EXTERNAL, If::Second, [ANY, ANY, Like::Name, COLON, ANY], Syntax::LabelOutside, Marking::First),
     Mistake(EXTERNAL, If::NextLine, [ANY, ANY, Like::Ended, Like::Name, ANY], Syntax::SemicolonMissing, Marking::Here),
+    Mistake(EXTERNAL, If::Always, [ANY, CLOSE_BRACKET, Like::Name, OPEN_PAREN, ANY], Syntax::SemicolonBefore,
+        Marking::Before),
     Mistake(EXTERNAL, If::Always, [ANY, ANY, Like::Name, OPEN_PAREN, ANY], Syntax::TypeFirst, Marking::First),
     Mistake(EXTERNAL, If::Always, [ANY, ANY, ANY, Like::Assigns, ANY], Syntax::EqualsOutside, Marking::Here),
     Mistake(EXTERNAL, If::Always, [ANY, ANY, ANY, SUB, ANY], Syntax::SignOutside, Marking::Here),
@@ -369,7 +373,8 @@ const STATEMENTS: [Mistake; 7] = [
     Mistake(BODY, If::IfBrace, [ANY, ANY, STATEMENT_END, ELSE, ANY], Syntax::ElseInBraces, Marking::Here),
     Mistake(BODY, If::NextLine, [ANY, ANY, Like::Ended, ELSE, ANY], Syntax::SemicolonMissing, Marking::Here),
     Mistake(BODY, If::Always, [ANY, ANY, STATEMENT_END, ELSE, ANY], Syntax::ElseAlone, Marking::Here),
-    Mistake(BODY, If::LineStart, [Like::Name, ANY, CLOSE_PAREN, OPEN_BRACE, ANY], Syntax::FunctionInside, Marking::First),
+    Mistake(BODY, If::LineStart, [Like::Name, ANY, CLOSE_PAREN, OPEN_BRACE, ANY], Syntax::FunctionInside,
+        Marking::First),
     Mistake(BODY, If::Always, [Like::Name, ANY, CLOSE_PAREN, OPEN_BRACE, ANY], Syntax::CallBody, Marking::First),
 ];
 

@@ -2,7 +2,8 @@
 ghost use Rattle.std.specs.Int.{is_in_range};
 ghost use Rattle.std.specs.List.{list_all};
 ghost use Rattle.std.specs.Prelude.{◌≡◌, ◌≤◌, drop, length, take};
-ghost use Rattle.bcheck.specs.Units.{after_first, can_follow, first_unit, followers, greatest_second, least_second, next_unit, tail_length, units_after, units_of};
+ghost use Rattle.bcheck.specs.Units.{after_first, can_follow, first_unit, followers, greatest_second, least_second};
+ghost use Rattle.bcheck.specs.Units.{next_unit, tail_length, units_after, units_of};
 
 /// A column in units of UTF-16, and how many bytes follow of a character that has begun before it.
 #[derive(Clone, Copy)]
