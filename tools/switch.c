@@ -1,7 +1,7 @@
 /* Chooses a change in the program that tools/change-code builds, and notes to which functions the program comes.
    CHANGE is the number of the change, and PLACES the file for the numbers of the functions. CHANGES is a file of
-   numbers in the place of one: with each of them a process does the work of the program anew, with the file INPUT for
-   its input and with so many SECONDS of processor at most; the file SEEN gets the status with no change, as `wait`
+   numbers in the place of one: where the program comes to the first function, a process for each of them does the rest
+   of its work, with so many SECONDS of processor at most; the file SEEN gets the status with no change, as `wait`
    tells it, and the numbers with which the answer is another one. A start with none of these, as rt makes one, keeps
    the program at PROGRAM, for which the script writes a path here. */
 #define _GNU_SOURCE
@@ -16,22 +16,18 @@
 #include <sys/wait.h>
 #include <unistd.h>
 
-enum { MOST_PLACES = 65536, MOST_CHANGES = 65536 };
+enum { MOST_PLACES = 65536, MOST_CHANGES = 65536, MOST_FILES = 64 };
 
 static uint32_t chosen;
 static unsigned char comes_to[MOST_PLACES];
 static uint32_t changes[MOST_CHANGES];
+static int waits_for_changes;
+static off_t offsets[MOST_FILES];
 
 /* What a process answers: its status, and the files of its two streams. */
 struct answer {
     int status, out, line;
 };
-
-/* The number of the change, for a function that may be changed. */
-uint32_t chosen_change(uint32_t place) {
-    comes_to[place % MOST_PLACES] = 1;
-    return chosen;
-}
 
 /* The path of the program, which rt starts by way of the loader. */
 static char *own_path(void) {
@@ -72,7 +68,8 @@ static void empty(int file) {
 
 static void begin_change(uint32_t number, const struct answer *answer) {
     chosen = number;
-    dup2(open(getenv("INPUT"), O_RDONLY), 0);
+    for (int file = 0; file < MOST_FILES; file++)
+        if (offsets[file] >= 0) lseek(file, offsets[file], SEEK_SET);
     dup2(answer->out, 1);
     dup2(answer->line, 2);
     limit(RLIMIT_CPU, (rlim_t)atoi(getenv("SECONDS")));
@@ -125,6 +122,7 @@ static void try_changes(void) {
     struct answer right = {0, memfd_create("out", 0), memfd_create("line", 0)};
     struct answer other = {0, memfd_create("out", 0), memfd_create("line", 0)};
     size_t count = read_changes(getenv("CHANGES"));
+    for (int file = 0; file < MOST_FILES; file++) offsets[file] = lseek(file, 0, SEEK_CUR);
     FILE *seen = fopen(getenv("SEEN"), "w");
     setvbuf(seen, 0, _IONBF, 0);
     if (does_work(0, &right)) return;
@@ -136,10 +134,20 @@ static void try_changes(void) {
     _exit(0);
 }
 
+/* The number of the change, for a function that may be changed. */
+uint32_t chosen_change(uint32_t place) {
+    comes_to[place % MOST_PLACES] = 1;
+    if (waits_for_changes) {
+        waits_for_changes = 0;
+        try_changes();
+    }
+    return chosen;
+}
+
 __attribute__((constructor)) static void begin(void) {
     const char *number = getenv("CHANGE");
     if (getenv("CHANGES"))
-        try_changes();
+        waits_for_changes = 1;
     else if (number)
         chosen = (uint32_t)atoi(number);
     else
