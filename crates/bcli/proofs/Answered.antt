@@ -1,5 +1,5 @@
 -- What is answered where memory was refused, and what is done for a job.
-use Rattle.std.proofs.Common.{ap, ◌∙◌, subst, ◌≡◌, ◌⊎◌, ℕ, List, [], ◌∷◌, map, length, refl, true, false, sym, inl, inr}
+use Rattle.std.proofs.Common.{ap, ◌∙◌, subst, ◌≡◌, ◌⊎◌, ℕ, List, [], ◌∷◌, map, length, refl, false, sym, inl, inr}
 use Rattle.clap.specs.declared.error.kind.ErrorKind.{ErrorKind}
 use Rattle.clap.specs.declared.error.kind.ErrorKind.TheVariants as kind
 use Rattle.blang.specs.declared.status.TheConstants.{DEVICE, MEMORY}
@@ -10,20 +10,21 @@ use Rattle.bword.specs.declared.edition.Edition.{Edition}
 use Rattle.brun.specs.OneRun.{unread}
 use Rattle.std.specs.Borrow.{Bor}
 use Rattle.blang.specs.Compiles.{CompileHeadline, Compiles}
-use Rattle.bcommand.specs.CommandLine.{OriginAsked, Question, SourceAsked, ask, compile, asked_of, go, from_made, question_of}
+use Rattle.bcommand.specs.CommandLine.{OriginAsked, Question, SourceAsked, ask, compile, asked_of, go, from_code, from_made, from_source, question_of}
 use Rattle.bcommand.specs.declared.job.Job.{Job}
 use Rattle.bcommand.specs.declared.job.Question.{Question as Questioned}
 use Rattle.clap.specs.Words.{Text}
 use Rattle.bsources.specs.Files.{Files, Followed, file_shown}
-use Rattle.bcli.specs.declared.sources.LibFault.{LibFault}
+use Rattle.bcli.specs.declared.sources.NamedFault.{NamedFault}
 use Rattle.bcli.specs.declared.sources.Whole.{Whole}
 use Rattle.bcli.specs.declared.sources.Unread.TheVariants as read_faults
-use Rattle.bcli.specs.Reading.{HasReadLibs, HasReadSource, IsUnread, LibIsUnread}
+use Rattle.bcli.specs.declared.origins.OriginTexts.{OriginTexts}
+use Rattle.bcli.specs.Reading.{HasReadLibs, HasReadOrigin, HasReadSource, IsNamed, IsUnread, LibIsUnread, OriginIsUnread, origin_read}
 use Rattle.bshow.specs.Shows.{Shows}
 use Rattle.bshow.specs.Shows.{Asked as PageAsked}
 use Rattle.bwatch.specs.declared.trail.TraceRows.{TraceRows as Traced}
 use Rattle.std.specs.Prelude.{◌==◌, None, Option, Some, option_map}
-use Rattle.btools.specs.Origins.{Origin, Code}
+use Rattle.btools.specs.Origins.{Origin}
 use Rattle.bcli.specs.Serves.{OnOrigin, ShowsRun, CompilesJoined, NamesLib, NamesLibOf, compiling, files_read, origin_of, whole, Answers, AnswersOf, Does, HasNoFile, IsHelp, NamesFile, SaysNothing, RefusesWords}
 use Rattle.bcli.specs.declared.shelf.FileFault.{FileFault}
 use Rattle.bcli.specs.declared.shelf.FileFault.TheVariants as file_fault
@@ -45,22 +46,9 @@ done shelf job same ends status is does = subst (λ (j : Job). Does shelf (asked
 pub answered : (origin : Origin) (edition : Edition) (files : Files) (text : List ℕ) (question same : Questioned) (ends : RunEnds) (status : ℕ) → question ≡ same → AnswersOf origin edition files text (question_of same) ends status → AnswersOf origin edition files text (question_of question) ends status
 answered origin edition files text question same ends status is answers = subst (λ (q : Questioned). AnswersOf origin edition files text (question_of q) ends status) (sym is) answers
 
--- what is asked is answered of the program of this origin
-pub answers_on : (shelf : Holdings) (edition : Edition) (files : Files) (text : List ℕ) (question : Question) (asked : OriginAsked) (ends : RunEnds) (status : ℕ) → asked ≡ origin_of question
-    → OnOrigin shelf edition text asked (λ origin. AnswersOf origin edition files text question) ends status → Answers shelf edition files text question ends status
-answers_on shelf edition files text question asked ends status is answers =
-    subst (λ (o : OriginAsked). OnOrigin shelf edition text o (λ origin. AnswersOf origin edition files text question) ends status) is answers
-
 -- the text that is given is the one that was read
 pub held : (shelf : Holdings) (file : Text) (given read : List ℕ) → given ≡ read → shelf.holds file read → shelf.holds file given
 held shelf file given read same holds = subst (λ t. shelf.holds file t) (sym same) holds
-
--- a code text and its lines were read
-pub made_read : (shelf : Holdings) (edition : Edition) (text : List ℕ) (made lined code read lines counted : List ℕ) (does : Origin → RunEnds → ℕ → Type 0) (ends : RunEnds) (status : ℕ)
-    → code ≡ read → shelf.holds made read → lines ≡ counted → shelf.holds lined counted → does (Code (record { code = code; lines = Some lines })) ends status
-    → OnOrigin shelf edition text (from_made made lined) does ends status
-made_read shelf edition text made lined code read lines counted does ends status same holds equal keeps answers =
-    inr (code, held shelf made code read same holds, inr (lines, held shelf lined lines counted equal keeps, answers))
 
 pub not_read : (reason : Type 0) (fault : FileFault) (ends : RunEnds) (status : ℕ) → HasNotRun ends → ends.line_after ≡ ends.line → (fault ≡ file_fault.Device → reason)
     → (fault ≡ file_fault.Device) × (status ≡ DEVICE) ⊎ (status ≡ MEMORY) → HasNoFile reason ends status
@@ -70,6 +58,53 @@ not_read reason fault ends status still silent why (inr memory) = inr (record { 
 pub named_for : (reason other : Type 0) (file : Text) (ends : RunEnds) (status : ℕ) → (reason → other) → NamesFile reason file ends status → NamesFile other file ends status
 named_for reason other file ends status why (inl named) = inl (why named.0, named.1, named.2)
 named_for reason other file ends status why (inr silent) = inr silent
+
+-- what is asked is answered of the program that is read from these texts
+on_origin : (shelf : Holdings) (edition : Edition) (text : List ℕ) (asked : OriginAsked) (it : OriginTexts)
+    (does : Origin → RunEnds → ℕ → Type 0) (ends : RunEnds) (status : ℕ) → HasReadOrigin shelf asked it
+    → does (origin_read it edition text) ends status → OnOrigin shelf edition text asked does ends status
+on_origin shelf edition text from_source it does ends status is answers =
+    subst (λ (o : OriginTexts). does (origin_read o edition text) ends status) is answers
+on_origin shelf edition text from_code it does ends status is answers =
+    subst (λ (o : OriginTexts). does (origin_read o edition text) ends status) is answers
+on_origin shelf edition text (from_made made lined) it does ends status h answers = inr (
+  h.0.code.items,
+  h.1.0,
+  inr (h.0.lines.items, h.1.1, subst (λ (o : OriginTexts). does (origin_read o edition text) ends status) h.2 answers),
+)
+
+pub answers_from : (shelf : Holdings) (edition : Edition) (files : Files) (text : List ℕ) (question : Question) (asked : OriginAsked)
+    (it : OriginTexts) (origin : Origin) (ends : RunEnds) (status : ℕ) → asked ≡ origin_of question
+    → HasReadOrigin shelf asked it → origin ≡ origin_read it edition text
+    → AnswersOf origin edition files text question ends status → Answers shelf edition files text question ends status
+answers_from shelf edition files text question asked it origin ends status asks read is answers =
+    subst (λ (a : OriginAsked). OnOrigin shelf edition text a (λ o. AnswersOf o edition files text question) ends status) asks
+    (on_origin shelf edition text asked it (λ o. AnswersOf o edition files text question) ends status read
+    (subst (λ (o : Origin). AnswersOf o edition files text question ends status) is answers))
+
+-- the file that could not be read is one of these
+named_as : (shelf : Holdings) (name : Text) (it : NamedFault) (ends : RunEnds) (status : ℕ) → IsNamed shelf name it
+    → NamesFile (it.fault ≡ file_fault.Device) it.name.now ends status → NamesFile (shelf.lacks name) name ends status
+named_as shelf name it ends status h told =
+    subst (λ (n : Text). NamesFile (shelf.lacks name) n ends status) h.0 (named_for _ _ _ _ _ h.1 told)
+
+origin_named : (shelf : Holdings) (edition : Edition) (text : List ℕ) (asked : OriginAsked) (it : NamedFault)
+    (does : Origin → RunEnds → ℕ → Type 0) (ends : RunEnds) (status : ℕ) → OriginIsUnread shelf asked it
+    → NamesFile (it.fault ≡ file_fault.Device) it.name.now ends status → OnOrigin shelf edition text asked does ends status
+origin_named shelf edition text from_source it does ends status h told = absurd h
+origin_named shelf edition text from_code it does ends status h told = absurd h
+origin_named shelf edition text (from_made made lined) it does ends status (inl code) told =
+    inl (named_as shelf made it ends status code told)
+origin_named shelf edition text (from_made made lined) it does ends status (inr lines) told =
+    inr (lines.0, lines.1, inl (named_as shelf lined it ends status lines.2 told))
+
+-- the code text or its lines could not be read
+pub answers_named : (shelf : Holdings) (edition : Edition) (files : Files) (text : List ℕ) (question : Question) (asked : OriginAsked)
+    (it : NamedFault) (ends : RunEnds) (status : ℕ) → asked ≡ origin_of question → OriginIsUnread shelf asked it
+    → NamesFile (it.fault ≡ file_fault.Device) it.name.now ends status → Answers shelf edition files text question ends status
+answers_named shelf edition files text question asked it ends status asks unread told =
+    subst (λ (a : OriginAsked). OnOrigin shelf edition text a (λ o. AnswersOf o edition files text question) ends status) asks
+    (origin_named shelf edition text asked it (λ o. AnswersOf o edition files text question) ends status unread told)
 
 -- a source over an end in memory
 pub gone : (shelf : Holdings) (source : SourceAsked) (steps : ℕ) (it : Whole) (given : List ℕ) (first following : Unread) (ends : RunEnds) (status : ℕ)
@@ -100,7 +135,7 @@ asked_of_source shelf source it files given question ends status h same first re
     cong₂ {f} {g} p q = rw (p, q) refl
 
 -- a file that follows the first one wasn't read
-pub lib_named : (shelf : Holdings) (names : List Text) (it : LibFault) (ends : RunEnds) (status : ℕ) → LibIsUnread shelf names it
+pub lib_named : (shelf : Holdings) (names : List Text) (it : NamedFault) (ends : RunEnds) (status : ℕ) → LibIsUnread shelf names it
     → NamesFile (it.fault ≡ file_fault.Device) it.name.now ends status → NamesLib shelf names ends status
 lib_named shelf names it ends status h told = record {
   before = h.before;
@@ -112,7 +147,7 @@ lib_named shelf names it ends status h told = record {
 }
 
 -- the same of a source, whose first one was read
-pub lib_named_of : (shelf : Holdings) (source : SourceAsked) (it : LibFault) (ends : RunEnds) (status : ℕ) → IsUnread shelf source (read_faults.Lib it)
+pub lib_named_of : (shelf : Holdings) (source : SourceAsked) (it : NamedFault) (ends : RunEnds) (status : ℕ) → IsUnread shelf source (read_faults.Lib it)
     → NamesFile (it.fault ≡ file_fault.Device) it.name.now ends status → NamesLibOf shelf source ends status
 lib_named_of shelf source it ends status h told = (h.0, h.1, lib_named shelf source.libs it ends status h.2 told)
 

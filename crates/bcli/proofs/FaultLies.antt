@@ -1,13 +1,12 @@
 -- What is told of a source with a fault by the commands that tell of a run.
-use Rattle.std.proofs.Common.{◌≡◌, ◌∙◌, ℕ, List, [], ◌++◌, true, Option, Some, None, arith, refl, subst, sym}
+use Rattle.std.proofs.Common.{◌≡◌, ◌∙◌, ℕ, List, [], true, Option, Some, None, arith, refl, subst, sym}
 use Rattle.bword.specs.ByteEnds.{Outgoing, Writes}
 use Rattle.bword.specs.declared.edition.Edition.{Edition}
 use Rattle.blang.specs.declared.code.Definition.{Definition}
 use Rattle.blang.specs.declared.token.Diagnostic.{Diagnostic}
 use Rattle.blang.specs.Machine.{Image}
-use Rattle.blang.specs.Reports.{Reported, RunEnds}
+use Rattle.blang.specs.Reports.{RunEnds}
 use Rattle.bgrammar.proofs.GoesLaws.{each_source_comes}
-use Rattle.brun.specs.OneRun.{unread}
 use Rattle.btools.specs.FaultPlaces.{fault_lines}
 use Rattle.btools.specs.Programs.{HasFault, HasProgram, NoProgram}
 use Rattle.btools.proofs.ProgramsExcluded as programs

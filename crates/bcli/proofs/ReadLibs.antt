@@ -10,7 +10,7 @@ use Rattle.bsources.specs.Files.{Followed, NamedText, file_of, file_shown, follo
 use Rattle.bcommand.specs.CommandLine.{SourceAsked}
 use Rattle.bcli.specs.Serves.{ReadsLibs}
 use Rattle.bcli.specs.declared.shelf.FileFault.TheVariants as file_fault
-use Rattle.bcli.specs.declared.sources.LibFault.{LibFault}
+use Rattle.bcli.specs.declared.sources.NamedFault.{NamedFault}
 use Rattle.bcli.specs.declared.sources.Whole.{Whole}
 use Rattle.bcli.specs.Reading.{HasReadLibs, HasReadSource, LibIsUnread}
 use Rattle.bcli.specs.Shelves.{Holdings}
@@ -42,7 +42,7 @@ reads_next shelf names i d text libs more lt h holds push =
     subst (λ (ns : List Text). HasReadLibs shelf ns more) next (reads_more shelf (shown (take i names)) one text h.0 holds, push h.0.texts h.1)
 
 -- the files before one were read, and that one could not be
-pub unread_in_turn : (shelf : Holdings) (names : List (Bor Text)) (i : ℕ) (d : Bor Text) (libs : Followed) (it : LibFault) → i < length names
+pub unread_in_turn : (shelf : Holdings) (names : List (Bor Text)) (i : ℕ) (d : Bor Text) (libs : Followed) (it : NamedFault) → i < length names
     → HasReadLibs shelf (shown (take i names)) libs → it.name.now ≡ (slice_index_or names i d).now
     → (it.fault ≡ file_fault.Device → shelf.lacks it.name.now) → LibIsUnread shelf (shown names) it
 unread_in_turn shelf names i d libs it lt h is why = record {

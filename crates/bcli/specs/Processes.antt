@@ -10,7 +10,8 @@ use Rattle.bcli.specs.Shelves.{Holdings}
 -- what is done for the words of a process over these files; the words can't be read where one isn't UTF-8
 abbrev pub AnswersWords : Holdings → Option (List Text) → RunEnds → ℕ → Type 0
 AnswersWords files (Some words) ends status = Serves files words ends status
-AnswersWords files None ends status = HasNotRun ends × Reported unread_line WRONG_COMMAND ends.line ends.line_after status
+AnswersWords files None ends status =
+    HasNotRun ends × Reported unread_line WRONG_COMMAND ends.line ends.line_after status
 
 -- What is known of the streams of a process: the bytes of its input, and those that its writer of lines took, before
 -- and after.
@@ -27,8 +28,8 @@ reader_end bytes = streamed_of (record { left = bytes; is_over = false; failures
 abbrev pub writer_end : Option (List ℕ) → Outgoing
 writer_end bytes = record { written = bytes; failures = 0; refusals = 0 }
 
--- A task was performed over new ends of a process, and gave the status `told`. What was held of the output was shown, or
--- the status is that of a failed write. No contract knows the bytes of the output.
+-- A task was performed over new ends of a process, and gave the status `told`. What was held of the output was shown,
+-- or the status is that of a failed write. No contract knows the bytes of the output.
 pub record Performed (does : RunEnds → ℕ → Type 0) (shown : Type 0) (known : KnownStreams) (status : ℕ) : Type 0 where
   pub ends : RunEnds
   pub told : ℕ

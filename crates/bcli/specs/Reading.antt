@@ -1,10 +1,15 @@
--- Inner words: what was read of the files of a source, and why they could not be.
-use Rattle.std.specs.Prelude.{◌≡◌, ℕ, List, ◌∷◌, ◌++◌}
+-- Inner words: what was read of the files of a source and of its code text, and why they could not be.
+use Rattle.std.specs.Prelude.{◌≡◌, ◌⊎◌, ℕ, List, ◌∷◌, ◌++◌, Some, None}
 use Rattle.clap.specs.Words.{Text}
 use Rattle.bsources.specs.Files.{Followed, file_of, file_shown, followed}
-use Rattle.bcommand.specs.CommandLine.{SourceAsked}
+use Rattle.bword.specs.declared.edition.Edition.{Edition}
+use Rattle.bcommand.specs.CommandLine.{OriginAsked, SourceAsked, from_code, from_made, from_source}
+use Rattle.btools.specs.Origins.{Code, Origin, Source}
+use Rattle.bcli.specs.declared.origins.MadeTexts.{MadeTexts}
+use Rattle.bcli.specs.declared.origins.OriginTexts.{OriginTexts}
+use Rattle.bcli.specs.declared.origins.OriginTexts.TheVariants as texts
 use Rattle.bcli.specs.declared.shelf.FileFault.TheVariants as file_fault
-use Rattle.bcli.specs.declared.sources.LibFault.{LibFault}
+use Rattle.bcli.specs.declared.sources.NamedFault.{NamedFault}
 use Rattle.bcli.specs.declared.sources.Unread.{Unread}
 use Rattle.bcli.specs.declared.sources.Unread.TheVariants as unread
 use Rattle.bcli.specs.declared.sources.Whole.{Whole}
@@ -22,7 +27,7 @@ pub record HasReadSource (shelf : Holdings) (source : SourceAsked) (it : Whole) 
   pub libs : it.libs ≡ followed reads.libs.texts
 
 -- Of these files those before one were read. That one could not be, or there was no memory for it.
-pub record LibIsUnread (shelf : Holdings) (names : List Text) (it : LibFault) : Type 0 where
+pub record LibIsUnread (shelf : Holdings) (names : List Text) (it : NamedFault) : Type 0 where
   pub before : List Text
   pub after : List Text
   pub in_turn : names ≡ before ++ it.name.now ∷ after
@@ -33,3 +38,33 @@ abbrev pub IsUnread : Holdings → SourceAsked → Unread → Type 0
 IsUnread shelf source (unread.File fault) = fault ≡ file_fault.Device → shelf.lacks source.file
 IsUnread shelf source (unread.Lib it) =
     (text : List ℕ) × shelf.holds source.file text × LibIsUnread shelf source.libs it
+
+-- the program that is read from these texts, of a source in this edition and of this text
+abbrev pub origin_read : OriginTexts → Edition → (text : List ℕ) → Origin
+origin_read texts.Source edition text = Source edition
+origin_read texts.Code edition text = Code (record { code = text; lines = None })
+origin_read (texts.Made made) edition text = Code (record { code = made.code.items; lines = Some made.lines.items })
+
+-- a code text and its lines were read
+abbrev pub HasReadMade : Holdings → (made lined : Text) → MadeTexts → Type 0
+HasReadMade shelf made lined it = shelf.holds made it.code.items × shelf.holds lined it.lines.items
+
+abbrev pub HasReadOrigin : Holdings → OriginAsked → OriginTexts → Type 0
+HasReadOrigin shelf from_source it = it ≡ texts.Source
+HasReadOrigin shelf from_code it = it ≡ texts.Code
+HasReadOrigin shelf (from_made made lined) it =
+    (read : MadeTexts) × HasReadMade shelf made lined read × (it ≡ texts.Made read)
+
+-- It is the file of this name that could not be read, or there was no memory for it.
+abbrev pub IsNamed : Holdings → Text → NamedFault → Type 0
+IsNamed shelf name it = (it.name.now ≡ name) × (it.fault ≡ file_fault.Device → shelf.lacks name)
+
+-- The code text could not be read, or it was read and its lines could not be.
+abbrev pub MadeIsUnread : Holdings → (made lined : Text) → NamedFault → Type 0
+MadeIsUnread shelf made lined it =
+    IsNamed shelf made it ⊎ ((code : List ℕ) × shelf.holds made code × IsNamed shelf lined it)
+
+abbrev pub OriginIsUnread : Holdings → OriginAsked → NamedFault → Type 0
+OriginIsUnread shelf from_source it = ⊥
+OriginIsUnread shelf from_code it = ⊥
+OriginIsUnread shelf (from_made made lined) it = MadeIsUnread shelf made lined it

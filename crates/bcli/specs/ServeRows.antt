@@ -1,7 +1,7 @@
 -- Closed facts: how an option changes what is asked, what is read of the files of a source, and that each answer is one
 -- for the edition, the files and the steps that were asked for.
 use Rattle.std.proofs.Common.{inr}
-use Rattle.std.specs.Prelude.{◌≡◌, ◌⊎◌, ℕ, Bool, true, false, List, [], ◌∷◌, Option, Some, None, codes}
+use Rattle.std.specs.Prelude.{◌≡◌, ℕ, Bool, true, false, List, [], ◌∷◌, Option, Some, None, codes}
 use Rattle.std.specs.Prelude.{map, refl}
 use Rattle.clap.specs.Words.{Text}
 use Rattle.bword.specs.ByteEnds.{Unread, incoming_of}
@@ -31,7 +31,7 @@ use Rattle.bcommand.specs.CommandLine.{map as layout, run, show, trace}
 use Rattle.bcommand.specs.declared.job.Rows.TheVariants as which
 use Rattle.bsources.specs.Files.{Files, NamedText, followed}
 use Rattle.bcli.specs.Shelves.{Holdings}
-use Rattle.bcli.specs.Serves.{Answers, AnswersOf, CompilesJoined, Does, OnOrigin, Reads, ReadsLibs, ShowsRun, compiling}
+use Rattle.bcli.specs.Serves.{Answers, AnswersOf, CompilesJoined, Does, OnOrigin, Reads, ReadsLibs, compiling}
 use Rattle.bcli.specs.Serves.{files_read, form_of, no_file_line, origin_of, style_of, telling_ends, traced_rows, whole}
 
 -- findings and counts for an editor, and for people

@@ -126,7 +126,8 @@ pub record Excluded (shelf : Holdings) : Type 0 where
       → AnswersOf (Code (record { code = code; lines = Some lines })) edition
       (record { first = file_of file a; rest = [] }) a question ends status ⊎ SaysNothing ends status MEMORY
   pub lines_later : (made lined text : List ℕ) (edition : Edition) (files : Files) (question : Question)
-      (ends : RunEnds) (status : ℕ) → ((code : List ℕ) → shelf.holds made code → ⊥) → origin_of question ≡ from_made made lined
+      (ends : RunEnds) (status : ℕ) → ((code : List ℕ) → shelf.holds made code → ⊥)
+      → origin_of question ≡ from_made made lined
       → Answers shelf edition files text question ends status → NamesFile (shelf.lacks made) made ends status
   -- by a command that tells of a run other lines of a fault than its own and, if it lies in a file after the first one,
   -- that of its place

@@ -1,5 +1,6 @@
 //! Bytes of output on their way to a writer.
-ghost use Rattle.std.specs.Prelude.{◌≡◌, ◌++◌, List, ℕ, [], if◌then◌else◌, length, nat_le, IfOk, MatchResult, OnErr, OnOk};
+ghost use Rattle.std.specs.Prelude.{◌≡◌, ◌++◌, List, ℕ, [], if◌then◌else◌, length, nat_le};
+ghost use Rattle.std.specs.Prelude.{IfOk, MatchResult, OnErr, OnOk};
 ghost use Rattle.std.specs.Io.KnownBytes.{Appends};
 ghost use Rattle.bcli.specs.Blocks.{HandsOn, HandsSome, PassesOn, TakesPiece, WritesOn, has_room};
 

@@ -2,6 +2,7 @@
 #![tactic(auto)]
 
 mod block;
+mod origins;
 mod process;
 mod serving;
 mod shelf;

@@ -103,7 +103,8 @@ struct Answering<'a, R> {
 }
 
 impl<R: AllocGlobal + Files, B: Buffered + Drop> Task<B> for Answering<'_, R> {
-    ghost does = { λ it. AnswersWords (opened R.File.remaining) (option_map (λ v. map_each string_bytes v.items) it.words) };
+    ghost does = { λ it. AnswersWords (opened R.File.remaining)
+        (option_map (λ v. map_each string_bytes v.items) it.words) };
 
     fn perform<I: ByteIn, D: ByteOut>(
         self,

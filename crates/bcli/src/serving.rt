@@ -1,23 +1,25 @@
 //! Serving a command line.
 ghost use Rattle.std.specs.Prelude.{◌≡◌, ◌≢◌, ◌⊎◌, [], IfOk, map as map_each, option_map, string_bytes};
-ghost use Rattle.clap.specs.Words.{kind_of, subcommand_rows_of};
+ghost use Rattle.clap.specs.Words.{kind_of};
 ghost use Rattle.bword.specs.ByteEnds.{Incoming, Outgoing};
 ghost use Rattle.blang.specs.declared.status.TheConstants.{DEVICE, MEMORY, WRONG_COMMAND};
 ghost use Rattle.blang.specs.Reports.{Reported, run_ends};
-ghost use Rattle.bcommand.specs.CommandLine.{OriginAsked, ask, asked, asked_of, compile, from_made, go, locate_code, origin_shown as asked_origin, question_of, run, source_shown};
+ghost use Rattle.bcommand.specs.CommandLine.{ask, asked_of, compile, go, question_of, source_shown};
+ghost use Rattle.bcommand.specs.CommandLine.{origin_shown as asked_origin};
 ghost use Rattle.bcli.specs.ShellExcluded.{Excluded, FileIsRead};
 ghost use Rattle.bshow.specs.Shows.{asked_of as page_of};
 ghost use Rattle.bsources.specs.Files.{file_shown, files_shown};
 ghost use Rattle.btools.specs.Origins.{origin_shown};
-ghost use Rattle.bcli.specs.Serves.{Answers, AnswersOf, CompilesJoined, Does, NamesFile, OnOrigin, RefusesWords, SaysNothing, Serves, ShowsRun, form_of, origin_of, style_of, traced_rows, no_file_line, unread_line};
+ghost use Rattle.bcli.specs.Serves.{Answers, AnswersOf, CompilesJoined, Does, NamesFile, RefusesWords, Serves, ShowsRun};
+ghost use Rattle.bcli.specs.Serves.{form_of, origin_of, style_of, traced_rows, no_file_line, unread_line};
 ghost use Rattle.bcli.specs.Shelves.{opened};
 
+use crate::origins::read_origin;
 use crate::shelf::{FileFault, MemFile, Shelf, SystemFiles};
 use crate::sources::{Unread, Whole, read_libs, read_source};
 use bcheck::{FindingForm, Request, check};
 use bcommand::{
-    Display, Job, MadeNames, OriginNames, Question, Rows, SourceNames, UNREAD, clash_text, job_of,
-    parse,
+    Display, Job, OriginNames, Question, Rows, SourceNames, UNREAD, clash_text, job_of, parse,
 };
 use bcount::{CountStyle, Counting, count};
 use bdraw::draw;
@@ -28,12 +30,12 @@ use bparse::compile_edition;
 use brun::{go_edition, migrate, run_text};
 use bshow::show;
 use bsources::{Following, JoinedIn, SourceFile, SourceFiles};
-use btools::{CodeText, Origin, tell};
+use btools::{Origin, tell};
 use btrace::{TraceRequest, locate, trace};
 use bwhere::locate_code;
 use bword::{ByteIn, ByteOut, Edition, MemIn};
+use clap::Error;
 use clap::error::ErrorKind;
-use clap::{ArgMatches, Error};
 use std::alloc::{AllocError, Global};
 use std::rt::Files;
 
@@ -80,28 +82,9 @@ pub fn serve_with<S: Shelf, I: ByteIn, O: ByteOut, D: ByteOut>(
     ensures diag_lender { D.lender diag.new ≡ D.lender diag.old }
 {
     match parse(alloc, words) {
-        Ok(found) => perform_found(alloc, shelf, &found, input, out, diag),
+        Ok(found) => perform(alloc, shelf, job_of(&found), input, out, diag),
         Err(error) => refuse(alloc, error, out, diag),
     }
-}
-
-// Does what is asked for by what was found in the words.
-fn perform_found<S: Shelf, I: ByteIn, O: ByteOut, D: ByteOut>(
-    alloc: Global,
-    shelf: &S,
-    found: &ArgMatches<'_>,
-    input: &mut I,
-    out: &mut O,
-    diag: &mut D,
-) -> Status
-    ensures does { Does (S.holdings shelf.now) (asked (subcommand_rows_of found.now)) (run_ends
-        (I.incoming input.old) (I.incoming input.new) (O.outgoing out.old) (O.outgoing out.new)
-        (D.outgoing diag.old) (D.outgoing diag.new)) result }
-    ensures input_lender { I.lender input.new ≡ I.lender input.old }
-    ensures out_lender { O.lender out.new ≡ O.lender out.old }
-    ensures diag_lender { D.lender diag.new ≡ D.lender diag.old }
-{
-    perform(alloc, shelf, job_of(found), input, out, diag)
 }
 
 // Does what is asked for.
@@ -124,8 +107,14 @@ fn perform<S: Shelf, I: ByteIn, O: ByteOut, D: ByteOut>(
         Job::Compile(edition, libs) => {
             compile_input(alloc, shelf, edition, libs, input, out, diag)
         }
-        Job::Run(file, steps) => run_file(alloc, shelf, file, steps, input, out, diag),
-        Job::LocateCode(file, steps) => locate_file(alloc, shelf, file, steps, input, out, diag),
+        Job::Run(file, steps) => match shelf.read(alloc, file) {
+            Ok(code) => run_text(alloc, code.as_slice(), input, out, diag, steps),
+            Err(fault) => status_of(fault),
+        },
+        Job::LocateCode(file, steps) => match shelf.read(alloc, file) {
+            Ok(code) => locate_code(alloc, code.as_slice(), input, out, diag, steps),
+            Err(fault) => name_file(alloc, file, fault, diag),
+        },
         Job::Go(source, steps) => go_file(alloc, shelf, source, steps, input, out, diag),
         Job::Migrate => migrate(alloc, input, out, diag),
         Job::Ask(source, question) => ask_file(alloc, shelf, source, question, input, out, diag),
@@ -179,52 +168,6 @@ fn compile_joined<I: ByteIn, O: ByteOut, D: ByteOut>(
     let status = compile_edition(alloc, &mut source, out, diag, edition);
     let _ = source.into_first();
     status
-}
-
-// Runs the code text in a file.
-fn run_file<S: Shelf, I: ByteIn, O: ByteOut, D: ByteOut>(
-    alloc: Global,
-    shelf: &S,
-    file: &str,
-    steps: u64,
-    input: &mut I,
-    out: &mut O,
-    diag: &mut D,
-) -> Status
-    ensures does { Does (S.holdings shelf.now) (run file.now steps) (run_ends
-        (I.incoming input.old) (I.incoming input.new) (O.outgoing out.old) (O.outgoing out.new)
-        (D.outgoing diag.old) (D.outgoing diag.new)) result }
-    ensures input_lender { I.lender input.new ≡ I.lender input.old }
-    ensures out_lender { O.lender out.new ≡ O.lender out.old }
-    ensures diag_lender { D.lender diag.new ≡ D.lender diag.old }
-{
-    match shelf.read(alloc, file) {
-        Ok(code) => run_text(alloc, code.as_slice(), input, out, diag, steps),
-        Err(fault) => status_of(fault),
-    }
-}
-
-// Runs the code text in a file, and tells where it went wrong.
-fn locate_file<S: Shelf, I: ByteIn, O: ByteOut, D: ByteOut>(
-    alloc: Global,
-    shelf: &S,
-    file: &str,
-    steps: u64,
-    input: &mut I,
-    out: &mut O,
-    diag: &mut D,
-) -> Status
-    ensures does { Does (S.holdings shelf.now) (locate_code file.now steps) (run_ends
-        (I.incoming input.old) (I.incoming input.new) (O.outgoing out.old) (O.outgoing out.new)
-        (D.outgoing diag.old) (D.outgoing diag.new)) result }
-    ensures input_lender { I.lender input.new ≡ I.lender input.old }
-    ensures out_lender { O.lender out.new ≡ O.lender out.old }
-    ensures diag_lender { D.lender diag.new ≡ D.lender diag.old }
-{
-    match shelf.read(alloc, file) {
-        Ok(code) => locate_code(alloc, code.as_slice(), input, out, diag, steps),
-        Err(fault) => name_file(alloc, file, fault, diag),
-    }
 }
 
 // Compiles the source in a file and runs it.
@@ -307,7 +250,8 @@ fn ask_read<S: Shelf, I: ByteIn, O: ByteOut, D: ByteOut>(
     out: &mut O,
     diag: &mut D,
 ) -> Status
-    ensures answers { Answers (S.holdings shelf.now) edition (record { first = file_shown first.entry; rest = libs.now.files }) text.now (question_of question.entry) (run_ends
+    ensures answers { Answers (S.holdings shelf.now) edition
+        (record { first = file_shown first.entry; rest = libs.now.files }) text.now (question_of question.entry) (run_ends
         (I.incoming input.old) (I.incoming input.new) (O.outgoing out.old) (O.outgoing out.new)
         (D.outgoing diag.old) (D.outgoing diag.new)) result }
     ensures input_lender { I.lender input.new ≡ I.lender input.old }
@@ -315,23 +259,14 @@ fn ask_read<S: Shelf, I: ByteIn, O: ByteOut, D: ByteOut>(
     ensures diag_lender { D.lender diag.new ≡ D.lender diag.old }
 {
     let files = SourceFiles { first, rest: libs };
-    match origin_of(question) {
-        OriginNames::Source => {
-            let origin = Origin::Source(edition);
+    match read_origin(alloc, shelf, origin_of(question)) {
+        Ok(texts) => {
+            let origin = texts.origin(edition, text);
             answer(
                 alloc, origin, edition, files, text, question, input, out, diag,
             )
         }
-        OriginNames::Code => {
-            let lines = None;
-            let origin = Origin::Code(CodeText { code: text, lines });
-            answer(
-                alloc, origin, edition, files, text, question, input, out, diag,
-            )
-        }
-        OriginNames::Made(names) => answer_made(
-            alloc, shelf, names, edition, files, text, question, input, out, diag,
-        ),
+        Err(made) => name_file(alloc, made.name, made.fault, diag),
     }
 }
 
@@ -351,46 +286,6 @@ fn origin_of(question: Question<'_>) -> OriginNames<'_>
     }
 }
 
-// Answers what is asked of the code text in a file, which another compiler made of a source.
-fn answer_made<S: Shelf, I: ByteIn, O: ByteOut, D: ByteOut>(
-    alloc: Global,
-    shelf: &S,
-    names: MadeNames<'_>,
-    edition: Edition,
-    files: SourceFiles<'_>,
-    text: &[u8],
-    question: Question<'_>,
-    input: &mut I,
-    out: &mut O,
-    diag: &mut D,
-) -> Status
-    ensures answers { OnOrigin (S.holdings shelf.now) edition text.now (from_made names.entry.code.now names.entry.lines.now)
-        (λ origin. AnswersOf origin edition (files_shown files.entry) text.now (question_of question.entry)) (run_ends
-        (I.incoming input.old) (I.incoming input.new) (O.outgoing out.old) (O.outgoing out.new)
-        (D.outgoing diag.old) (D.outgoing diag.new)) result }
-    ensures input_lender { I.lender input.new ≡ I.lender input.old }
-    ensures out_lender { O.lender out.new ≡ O.lender out.old }
-    ensures diag_lender { D.lender diag.new ≡ D.lender diag.old }
-{
-    let code = match shelf.read(alloc, names.code) {
-        Ok(code) => code,
-        Err(fault) => return name_file(alloc, names.code, fault, diag),
-    };
-    let lines = match shelf.read(alloc, names.lines) {
-        Ok(lines) => lines,
-        Err(fault) => return name_file(alloc, names.lines, fault, diag),
-    };
-    let made = code.as_slice();
-    let lined = lines.as_slice();
-    let origin = Origin::Code(CodeText {
-        code: made,
-        lines: Some(lined),
-    });
-    answer(
-        alloc, origin, edition, files, text, question, input, out, diag,
-    )
-}
-
 // Answers what is asked of a source of these files and of this text, or of the code text that is its origin.
 fn answer<I: ByteIn, O: ByteOut, D: ByteOut>(
     alloc: Global,
@@ -403,7 +298,8 @@ fn answer<I: ByteIn, O: ByteOut, D: ByteOut>(
     out: &mut O,
     diag: &mut D,
 ) -> Status
-    ensures answers { AnswersOf (origin_shown origin.entry) edition (files_shown files.entry) text.now (question_of question.entry) (run_ends
+    ensures answers { AnswersOf (origin_shown origin.entry) edition (files_shown files.entry) text.now
+        (question_of question.entry) (run_ends
         (I.incoming input.old) (I.incoming input.new) (O.outgoing out.old) (O.outgoing out.new)
         (D.outgoing diag.old) (D.outgoing diag.new)) result }
     ensures input_lender { I.lender input.new ≡ I.lender input.old }
@@ -459,7 +355,8 @@ fn show_run<I: ByteIn, O: ByteOut, D: ByteOut>(
     out: &mut O,
     diag: &mut D,
 ) -> Status
-    ensures shows { ShowsRun edition (files_shown files.entry) text.now display.entry.steps (traced_rows display.entry.rows) (option_map (λ t. t.now) display.entry.input) (run_ends
+    ensures shows { ShowsRun edition (files_shown files.entry) text.now display.entry.steps
+        (traced_rows display.entry.rows) (option_map (λ t. t.now) display.entry.input) (run_ends
         (I.incoming input.old) (I.incoming input.new) (O.outgoing out.old) (O.outgoing out.new)
         (D.outgoing diag.old) (D.outgoing diag.new)) result }
     ensures input_lender { I.lender input.new ≡ I.lender input.old }
@@ -484,7 +381,12 @@ fn page_of<'a>(
     display: Display<'_>,
     given: &'a [u8],
 ) -> bshow::PageRequest<'a>
-    ensures { page_of result ≡ record { steps = display.entry.steps; which = traced_rows display.entry.rows; files = files_shown files.entry; given = given.now } }
+    ensures { page_of result ≡ record {
+      steps = display.entry.steps;
+      which = traced_rows display.entry.rows;
+      files = files_shown files.entry;
+      given = given.now;
+    } }
 {
     bshow::PageRequest {
         steps: display.steps,
@@ -525,7 +427,8 @@ fn form_of(for_editor: bool) -> FindingForm
 
 // Names a file that can't be opened or read, unless there was no memory for it.
 fn name_file<D: ByteOut>(alloc: Global, file: &str, fault: FileFault, diag: &mut D) -> Status
-    ensures names { (unread : Incoming) (out : Outgoing) → NamesFile (fault ≡ FileFault.Device) file.now (run_ends unread unread out out (D.outgoing diag.old) (D.outgoing diag.new)) result }
+    ensures names { (unread : Incoming) (out : Outgoing) → NamesFile (fault ≡ FileFault.Device) file.now
+        (run_ends unread unread out out (D.outgoing diag.old) (D.outgoing diag.new)) result }
     ensures diag_lender { D.lender diag.new ≡ D.lender diag.old }
 {
     match fault {
@@ -574,7 +477,9 @@ fn refuse_with<D: ByteOut>(text: &str, diag: &mut D) -> Status
 
 // Writes help to the output, and what is wrong beside it.
 fn refuse<O: ByteOut, D: ByteOut>(alloc: Global, error: Error, out: &mut O, diag: &mut D) -> Status
-    ensures refuses { (unread : Incoming) → RefusesWords (kind_of error) (run_ends unread unread (O.outgoing out.old) (O.outgoing out.new) (D.outgoing diag.old) (D.outgoing diag.new)) result }
+    ensures refuses { (unread : Incoming) → RefusesWords (kind_of error)
+        (run_ends unread unread (O.outgoing out.old) (O.outgoing out.new)
+        (D.outgoing diag.old) (D.outgoing diag.new)) result }
     ensures out_lender { O.lender out.new ≡ O.lender out.old }
     ensures diag_lender { D.lender diag.new ≡ D.lender diag.old }
 {

@@ -18,9 +18,9 @@ pub(crate) struct Whole<'a> {
     pub libs: Following<'a>,
 }
 
-/// Why a file that follows the first one of a source was not read.
+/// A file that was not read, and why.
 #[derive(Clone, Copy)]
-pub(crate) struct LibFault<'a> {
+pub(crate) struct NamedFault<'a> {
     pub name: &'a str,
     pub fault: FileFault,
 }
@@ -29,7 +29,7 @@ pub(crate) struct LibFault<'a> {
 #[derive(Clone, Copy)]
 pub(crate) enum Unread<'a> {
     File(FileFault),
-    Lib(LibFault<'a>),
+    Lib(NamedFault<'a>),
 }
 
 /// Reads the files of a source.
@@ -61,7 +61,7 @@ pub(crate) fn read_libs<'a, S: Shelf>(
     alloc: Global,
     shelf: &S,
     names: &'a [&'a str],
-) -> Result<Following<'a>, LibFault<'a>>
+) -> Result<Following<'a>, NamedFault<'a>>
     ensures ok { IfOk result (HasReadLibs (S.holdings shelf.now) (map_each (λ n. n.now) names.now)) }
     ensures err { IfErr result (LibIsUnread (S.holdings shelf.now) (map_each (λ n. n.now) names.now)) }
 {
@@ -69,12 +69,12 @@ pub(crate) fn read_libs<'a, S: Shelf>(
     for name in names {
         let text = match shelf.read(alloc, name) {
             Ok(text) => text,
-            Err(fault) => return Err(LibFault { name, fault }),
+            Err(fault) => return Err(NamedFault { name, fault }),
         };
         match libs.push(name, text.as_slice()) {
             Ok(()) => {}
             Err(_) => {
-                return Err(LibFault {
+                return Err(NamedFault {
                     name,
                     fault: FileFault::Memory,
                 });
