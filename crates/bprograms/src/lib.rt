@@ -23,5 +23,3 @@ mod program_tests;
 mod run_tests;
 #[cfg(test)]
 mod source_tests;
-#[cfg(test)]
-mod trace_tests;

@@ -1,16 +1,16 @@
 -- The places of a run, one after another.
-use Rattle.std.proofs.Common.{◌≡◌, ◌∙◌, ℕ, zero, suc, ◌+◌, ◌<◌, None, Some, add-one, arith, List, [], ◌∷◌, ◌++◌, ap, append-nil, append_assoc, codes, length, map, min, nat_lt, refl, sym, take, if◌then◌else◌}
+use Rattle.std.proofs.Common.{◌≡◌, ◌∙◌, ℕ, zero, suc, ◌+◌, ◌<◌, ◌≤◌, Bool, true, false, None, Some, add-one, arith, List, [], ◌∷◌, ◌++◌, ap, append_assoc, codes, drop, length, map, min, nat_lt, sym, if◌then◌else◌}
 use Rattle.std.specs.List.{flat_map, range_with_len}
 use Rattle.btools.specs.Columns.{left}
 use Rattle.btools.proofs.AddedTexts.{piece}
 use Rattle.std.specs.Prelude.{option_map, slice_get}
-use Rattle.std.proofs.lemmas.List.{flat_map_more, map-append}
+use Rattle.std.proofs.lemmas.List.{flat_map_more}
 use Rattle.std.proofs.lemmas.List.FromFn.{length-map-range_with_len, map-range_with_len_more}
 use Rattle.blang.specs.Machine.{Call}
 use Rattle.bmach.specs.Stops.{active_of}
 use Rattle.bmach.specs.declared.machine.Active.{Active}
 use Rattle.btools.specs.Characters.{signed_text}
-use Rattle.btrace.specs.RowTexts.{Legend, first_words, has_more, parameter_at, place_text, places_text, waiting, words_text}
+use Rattle.btrace.specs.RowTexts.{Legend, caller_text, callers_text, count_before, ended_text, first_words, has_more, is_same_place, parameter_at, words_text}
 
 -- the words of the first parameters, where so many are shown
 pub words_shown : (old text new store : List ℕ) (call : Active) (count : ℕ) → count ≡ min call.parameters 6 → text ≡ (old ++ (if nat_lt 0 count then codes "  with" else [])) ++ flat_map (λ w. codes " " ++ signed_text w) (map (parameter_at store call) (range_with_len 0 count))
@@ -36,39 +36,39 @@ one_word start text t1 t2 store call index word is before e1 e2 =
     ∙ flat_map_more f start words word ∙ ap (λ w. start ++ flat_map f (words ++ w ∷ [])) is
     ∙ ap (λ ws. start ++ flat_map f ws) (sym (map-range_with_len_more (parameter_at store call) 0 index index (omega arith)))
 
--- the place alone
-pub first_place : (old t1 t2 shown : List ℕ) → t1 ≡ old ++ codes "at     " → t2 ≡ t1 ++ shown → t2 ≡ old ++ (codes "at     " ++ shown ++ [])
-first_place old t1 t2 shown e1 e2 =
-    e2 ∙ ap (λ x. x ++ shown) e1 ∙ append_assoc old (codes "at     ") shown ∙ ap (λ x. old ++ x) (sym (append-nil (codes "at     " ++ shown)))
+within_count : (again : Bool) (count : ℕ) → (if again then count else 0) ≤ count
+within_count true count = omega arith
+within_count false count = omega arith
 
-one_caller : (legend : Legend) (store : List ℕ) (call caller : Active) (below : List Active) (old text t1 t2 : List ℕ)
-    → text ≡ old ++ places_text legend store call below → t1 ≡ text ++ codes "called " → t2 ≡ t1 ++ place_text legend store (waiting caller) → t2 ≡ old ++ places_text legend store call (below ++ caller ∷ [])
-one_caller legend store call caller below old text t1 t2 before e1 e2 =
-    let f : Active → List ℕ = λ c. codes "called " ++ place_text legend store (waiting c) in
-    let first = codes "at     " ++ place_text legend store call in
-    e2 ∙ ap (λ x. x ++ place_text legend store (waiting caller)) e1 ∙ append_assoc text (codes "called ") (place_text legend store (waiting caller))
-    ∙ ap (λ x. x ++ f caller) (before ∙ sym (append_assoc old first (flat_map f below))) ∙ flat_map_more f (old ++ first) below caller
-    ∙ append_assoc old first (flat_map f (below ++ caller ∷ []))
+pub before_within : (last : Active) (count : ℕ) (caller : Active) → count_before last count caller ≤ count
+before_within last count caller = within_count (is_same_place last caller) count
 
--- the call with a number
-next_caller : (below : List Call) (number : ℕ) (active : Active) → Some active ≡ option_map active_of (slice_get below number)
-    → (c : Call) × (take (suc number) below ≡ take number below ++ c ∷ []) × (active ≡ active_of c)
-next_caller [] number active is = cc
-next_caller (c ∷ below) zero active is = (c, refl, (cc))
-next_caller (c ∷ below) (suc number) active is =
-    let next = next_caller below number active is in
-    (next.0, ap (λ rest. c ∷ rest) next.1, next.2)
+-- one call more
+pub one_more : (legend : Legend) (store all text t1 t2 : List ℕ) (last caller : Active) (count before : ℕ) (calls rest : List Active)
+    → calls ≡ caller ∷ rest → all ≡ text ++ callers_text legend store last count calls → before ≡ count_before last count caller
+    → t1 ≡ text ++ ended_text last count caller → t2 ≡ t1 ++ caller_text legend store caller before
+    → all ≡ t2 ++ callers_text legend store caller (before + 1) rest
+one_more legend store all text t1 t2 last caller count before calls rest is told counts e1 e2 =
+    let shown : ℕ → List ℕ = caller_text legend store caller in
+    let after : ℕ → List ℕ = λ n. callers_text legend store caller (n + 1) rest in
+    let ended = ended_text last count caller in
+    let n = count_before last count caller in
+    told ∙ ap (λ cs. text ++ callers_text legend store last count cs) is
+    ∙ sym (append_assoc text (ended ++ shown n) (after n)) ∙ ap (λ x. x ++ after n) (sym (append_assoc text ended (shown n)))
+    ∙ ap (λ k. ((text ++ ended) ++ shown k) ++ after k) (sym counts)
+    ∙ ap (λ x. (x ++ shown before) ++ after before) (sym e1) ∙ ap (λ x. x ++ after before) (sym e2)
 
-pub one_more : (legend : Legend) (store : List ℕ) (call caller waits : Active) (below : List Call) (number : ℕ) (old text t1 t2 : List ℕ) → Some caller ≡ option_map active_of (slice_get below number) → waits ≡ waiting caller
-    → text ≡ old ++ places_text legend store call (map active_of (take number below)) → t1 ≡ text ++ codes "called " → t2 ≡ t1 ++ place_text legend store waits
-    → t2 ≡ old ++ places_text legend store call (map active_of (take (number + 1) below))
-one_more legend store call caller waits below number old text t1 t2 is at before e1 e2 =
-    let next = next_caller below number caller is in
-    let told : map active_of (take (number + 1) below) ≡ map active_of (take number below) ++ caller ∷ [] =
-    ap (λ n. map active_of (take n below)) (add-one number) ∙ ap (map active_of) next.1 ∙ map-append active_of (take number below) (next.0 ∷ [])
-    ∙ ap (λ c. map active_of (take number below) ++ c ∷ []) (sym next.2) in
-    one_caller legend store call caller (map active_of (take number below)) old text t1 t2 before e1 (e2 ∙ ap (λ c. t1 ++ place_text legend store c) at)
-    ∙ ap (λ calls. old ++ places_text legend store call calls) (sym told)
+-- the calls from here on, if the next one is known
+next_drop : (below : List Call) (number : ℕ) (active : Active) → Some active ≡ option_map active_of (slice_get below number)
+    → map active_of (drop number below) ≡ active ∷ map active_of (drop (suc number) below)
+next_drop [] number active is = cc
+next_drop (c ∷ below) zero active is = ap (λ a. a ∷ map active_of below) (sym (cc))
+next_drop (c ∷ below) (suc number) active is = next_drop below number active is
+
+pub next_caller : (below : List Call) (number : ℕ) (active : Active) → Some active ≡ option_map active_of (slice_get below number)
+    → map active_of (drop number below) ≡ active ∷ map active_of (drop (number + 1) below)
+next_caller below number active is =
+    next_drop below number active is ∙ ap (λ n. active ∷ map active_of (drop n below)) (sym (add-one number))
 
 pub some_caller : (below : List Call) (number : ℕ) → number < length below → None ≡ option_map active_of (slice_get below number) → ⊥
 some_caller [] number within is = omega arith

@@ -1,5 +1,5 @@
 -- No byte is taken of the input that no step asked for.
-use Rattle.std.proofs.Common.{◌≡◌, ℕ, List, [], Option}
+use Rattle.std.proofs.Common.{ℕ, List, [], Option}
 use Rattle.bword.specs.declared.edition.Edition.{Edition}
 use Rattle.bword.specs.ByteEnds.{outgoing_of}
 use Rattle.blang.specs.declared.code.Definition.{Definition}

@@ -1,5 +1,6 @@
 -- Closed facts: what stands in the rows of a trace, on small values.
-use Rattle.std.specs.Prelude.{◌≡◌, ℕ, true, false, [], ◌∷◌, ◌++◌, Some, None, codes, map, refl, replicate}
+use Rattle.std.specs.Prelude.{◌≡◌, ℕ, true, false, List, [], ◌∷◌, ◌++◌, Some, None, codes, map, refl, replicate}
+use Rattle.std.specs.List.{flat_map, range_with_len}
 use Rattle.std.specs.Fmt.{digits}
 use Rattle.blang.specs.declared.run.Outcome.TheVariants as outcome
 use Rattle.blang.specs.declared.run.Trap.TheVariants as trap
@@ -8,8 +9,8 @@ use Rattle.btrace.specs.Locates.{explanation, meaning, site_line, told_site}
 use Rattle.bmach.specs.declared.machine.Active.{Active}
 use Rattle.btools.specs.Columns.{instr_text}
 use Rattle.btools.specs.Characters.{signed_text}
-use Rattle.btrace.specs.RowTexts.{first_words, has_more, margin, operands_text, stored_text}
-use Rattle.btrace.specs.RowTexts.{word_row, words_text, written_byte, written_row}
+use Rattle.btrace.specs.RowTexts.{caller_text, callers_text, first_words, has_more, is_same_place, margin}
+use Rattle.btrace.specs.RowTexts.{operands_text, stored_text, word_row, words_text, written_byte, written_row}
 use Rattle.bsources.specs.Files.{Files}
 use Rattle.btrace.specs.RowTexts.{Legend, line_text}
 use Rattle.btrace.specs.Traces.{is_wanted, which_of}
@@ -192,6 +193,48 @@ site_with_step : site_line (lined 7) (a_place 15) 450016
     ≡ codes "at     in          place   15  line    5 of l.b  step 450016\n"
 unfolding digits
 site_with_step = refl
+
+-- Of calls from one place the nearest eight are told, one after another, and the others are counted.
+abbrev calls_at : (places : List ℕ) → List ℕ
+calls_at places = callers_text (lined 7) [] (a_place 0) 0 (map a_place places)
+
+abbrev each_told : (places : List ℕ) → List ℕ
+each_told places = flat_map (λ place. caller_text (lined 7) [] (a_place place) 0) places
+
+caller_told : calls_at (15 ∷ []) ≡ codes "called in          place   14  line    5 of l.b\n"
+unfolding digits
+caller_told = refl
+
+few_calls : map (λ n. calls_at (replicate n 4)) (range_with_len 0 9)
+    ≡ map (λ n. each_told (replicate n 4)) (range_with_len 0 9)
+few_calls = refl
+
+many_calls : map (λ n. calls_at (replicate n 4)) (9 ∷ 10 ∷ 4095 ∷ [])
+    ≡ map (λ n. each_told (replicate 8 4) ++ codes "       and " ++ n ++ codes " more from there\n")
+    (codes "1" ∷ codes "2" ∷ codes "4087" ∷ [])
+unfolding digits
+many_calls = refl
+
+-- Another place is counted anew, and so is one that comes again. The place of the running call counts for none.
+other_places : calls_at (replicate 9 4 ++ replicate 8 5 ++ replicate 10 4 ++ 5 ∷ [])
+    ≡ each_told (replicate 8 4) ++ codes "       and 1 more from there\n" ++ each_told (replicate 8 5 ++ replicate 8 4)
+    ++ codes "       and 2 more from there\n" ++ each_told (5 ∷ [])
+unfolding digits
+other_places = refl
+
+in_turn : calls_at (flat_map (λ i. 4 ∷ 5 ∷ []) (range_with_len 0 9))
+    ≡ each_told (flat_map (λ i. 4 ∷ 5 ∷ []) (range_with_len 0 9))
+in_turn = refl
+
+as_the_running_call : calls_at (replicate 9 0) ≡ each_told (replicate 8 0) ++ codes "       and 1 more from there\n"
+unfolding digits
+as_the_running_call = refl
+
+-- The same place of another function is another place, and another frame is none.
+same_places : map (is_same_place (a_call 2 1))
+    (a_call 2 1 ∷ a_call 3 2 ∷ record (a_call 2 1) { place = 1 } ∷ record (a_call 2 1) { strings = 10 } ∷ [])
+    ≡ true ∷ true ∷ false ∷ false ∷ []
+same_places = refl
 
 -- no step, and the greatest number of steps
 site_without_step : site_line (lined 1) (a_place 0) 0

@@ -1,6 +1,6 @@
 -- Inner words: the texts of the rows of a trace.
 use Rattle.std.specs.Prelude.{◌≡◌, ℕ, Bool, ◌-◌, List, [], ◌∷◌, ◌++◌, Option, Some, None, codes, decimal, drop}
-use Rattle.std.specs.Prelude.{◌+◌, ◌/◌, ◌%◌, ◌==◌, ◌||◌, length, map, min, nat_lt, refl, replicate, reverse}
+use Rattle.std.specs.Prelude.{◌+◌, ◌/◌, ◌%◌, ◌==◌, ◌||◌, ◌&&◌, length, map, min, nat_lt, refl, replicate, reverse}
 use Rattle.std.specs.Prelude.{slice_index, if◌then◌else◌}
 use Rattle.std.specs.Char.{digit_char}
 use Rattle.std.specs.List.{flat_map, range_with_len}
@@ -14,7 +14,7 @@ use Rattle.btools.specs.Functions.{Placed, entries_of, function_with, functions_
 use Rattle.btools.specs.ProgramLines.{FunctionLines, line_at, lined_functions, lines_shown}
 use Rattle.btools.specs.Quoting.{file_text}
 use Rattle.btrace.specs.declared.legend as told
-use Rattle.btrace.specs.declared.places.TheConstants.{SHOWN_PARAMETERS}
+use Rattle.btrace.specs.declared.places.TheConstants.{SHOWN_CALLS, SHOWN_PARAMETERS}
 use Rattle.btrace.specs.declared.rows.TheConstants.{MARGIN, SHOWN_OPERANDS}
 
 -- what is told of a program: its functions, the lines of their instructions, and the files of its source
@@ -130,8 +130,38 @@ place_text l store call = site_text l call ++ words_text (first_words store call
 abbrev pub waiting : Active → Active
 waiting call = record call { place = call.place - 1 }
 
+abbrev pub is_same_place : Active → Active → Bool
+is_same_place a b = (a.strings == b.strings) && (a.place == b.place)
+
+calls_shown : SHOWN_CALLS ≡ 8
+calls_shown = refl
+
+-- a call that led there, if not too many came from its place before it
+abbrev pub caller_text : Legend → (store : List ℕ) → Active → (before : ℕ) → List ℕ
+caller_text l store caller before =
+    if nat_lt before SHOWN_CALLS then codes "called " ++ place_text l store (waiting caller) else []
+
+-- of so many calls from the same place those that were not told
+abbrev pub more_text : (count : ℕ) → List ℕ
+more_text count =
+    if nat_lt SHOWN_CALLS count
+    then codes "       and " ++ decimal (count - SHOWN_CALLS) ++ codes " more from there\n" else []
+
+-- How many calls came from the place of this one right before it, after the last one, with which so many did.
+abbrev pub count_before : (last : Active) (count : ℕ) → Active → ℕ
+count_before last count caller = if is_same_place last caller then count else 0
+
+-- what is said of the calls before this one, if it comes from another place
+abbrev pub ended_text : (last : Active) (count : ℕ) → Active → List ℕ
+ended_text last count caller = if is_same_place last caller then [] else more_text count
+
+-- the calls after the last one, with which so many came from the same place
+abbrev pub callers_text : Legend → (store : List ℕ) → (last : Active) (count : ℕ) → List Active → List ℕ
+callers_text l store last count [] = more_text count
+callers_text l store last count (caller ∷ below) =
+    ended_text last count caller ++ caller_text l store caller (count_before last count caller)
+    ++ callers_text l store caller (count_before last count caller + 1) below
+
 -- where a run was over, and the calls that led there, the nearest first
 abbrev pub places_text : Legend → (store : List ℕ) → Active → (below : List Active) → List ℕ
-places_text l store call below =
-    codes "at     " ++ place_text l store call
-    ++ flat_map (λ caller. codes "called " ++ place_text l store (waiting caller)) below
+places_text l store call below = codes "at     " ++ place_text l store call ++ callers_text l store call 0 below

@@ -1,5 +1,5 @@
 -- Promise: what the contracts of `trace` and `locate` exclude.
-use Rattle.std.specs.Prelude.{◌≡◌, ℕ, ◌<◌, List, [], ◌∷◌, ◌++◌, Option, Some, None, codes, map}
+use Rattle.std.specs.Prelude.{◌≡◌, ℕ, ◌<◌, List, [], Option, Some, None, codes}
 use Rattle.bword.specs.declared.edition.Edition.{Edition}
 use Rattle.bword.specs.ByteEnds.{Grew}
 use Rattle.blang.specs.declared.code.Definition.{Definition}

@@ -1,8 +1,8 @@
 //! The places where a run was.
-ghost use Rattle.std.specs.Prelude.{◌≡◌, [], ◌++◌, OnOk, map, if◌then◌else◌};
+ghost use Rattle.std.specs.Prelude.{◌≡◌, [], ◌++◌, IfOk, OnOk, map, if◌then◌else◌};
 ghost use Rattle.bmach.specs.Stops.{active_of};
-ghost use Rattle.btrace.specs.RowTexts.{first_words, has_more, legend_of, place_line, place_text, places_text, site_text};
-ghost use Rattle.btrace.specs.RowTexts.{waiting, words_text};
+ghost use Rattle.btrace.specs.RowTexts.{caller_text, count_before, ended_text, first_words, has_more, legend_of, more_text};
+ghost use Rattle.btrace.specs.RowTexts.{place_line, place_text, places_text, site_text, waiting, words_text};
 
 use crate::legend::{Legend, push_line};
 use crate::rows::frame_address;
@@ -14,7 +14,10 @@ use std::alloc::AllocError;
 /// How many parameters are shown.
 const SHOWN_PARAMETERS: u16 = 6;
 
-/// Adds the place where a run ended: the call that ran, and the calls that led there.
+/// How many calls from the same place are told, one after another. The others are counted.
+const SHOWN_CALLS: usize = 8;
+
+/// Adds the place where a run ended: the call that ran, and the calls that led there, the nearest first.
 pub fn push_places<S: Store + Drop>(
     text: &mut Text,
     legend: &Legend<'_, '_, '_>,
@@ -26,13 +29,63 @@ pub fn push_places<S: Store + Drop>(
 {
     text.push(b"at     ")?;
     push_place(text, legend, stepper, call)?;
+    let mut last = call;
+    let mut count = 0;
     for number in 0..stepper.callers() {
         if let Some(caller) = stepper.caller(number) {
-            text.push(b"called ")?;
-            push_place(text, legend, stepper, waiting(caller))?;
+            let before = end_place(text, last, count, caller)?;
+            push_caller(text, legend, stepper, caller, before)?;
+            last = caller;
+            count = before + 1;
         }
     }
-    Ok(())
+    push_more(text, count)
+}
+
+// Tells how many calls came from the place of this one right before it. Those from another place are over.
+fn end_place(
+    text: &mut Text,
+    last: Active,
+    count: usize,
+    caller: Active,
+) -> Result<usize, AllocError>
+    ensures told { OnOk result (text.new ≡ text.old ++ ended_text last count caller) }
+    ensures counts { IfOk result (λ before. before ≡ count_before last count caller) }
+{
+    if last.strings == caller.strings && last.place == caller.place {
+        return Ok(count);
+    }
+    push_more(text, count)?;
+    Ok(0)
+}
+
+// A call that led there, unless too many came from its place before it.
+fn push_caller<S: Store + Drop>(
+    text: &mut Text,
+    legend: &Legend<'_, '_, '_>,
+    stepper: &Stepper<'_, S>,
+    caller: Active,
+    before: usize,
+) -> Result<(), AllocError>
+    ensures { OnOk result (text.new ≡ text.old ++ caller_text (legend_of legend.now) stepper.now.store caller before) }
+{
+    if before >= SHOWN_CALLS {
+        return Ok(());
+    }
+    text.push(b"called ")?;
+    push_place(text, legend, stepper, waiting(caller))
+}
+
+// Of so many calls from the same place those that were not told.
+fn push_more(text: &mut Text, count: usize) -> Result<(), AllocError>
+    ensures { OnOk result (text.new ≡ text.old ++ more_text count) }
+{
+    if count <= SHOWN_CALLS {
+        return Ok(());
+    }
+    text.push(b"       and ")?;
+    text.push_number((count - SHOWN_CALLS) as u64)?;
+    text.push(b" more from there\n")
 }
 
 // The place of a call that waits is after the instruction that called; this is that instruction.

@@ -1,9 +1,11 @@
-use Rattle.std.proofs.Common.{◌≡◌, ◌++◌, map, take}
+use Rattle.std.proofs.Common.{◌≡◌, ◌≤◌, ◌++◌, drop, map}
 use Rattle.bmach.specs.Stops.{active_of}
-use Rattle.btrace.specs.RowTexts.{legend_of, places_text}
+use Rattle.btrace.specs.RowTexts.{callers_text, legend_of, places_text}
 use Rattle.btrace.proofs.places.push_places.Given as goal
 
--- the place, and those of the nearest callers
+-- what is told so far, with what the calls from here on will add
 abbrev pub invariant-loop-number : goal.invariant-loop-number
 invariant-loop-number g l =
-    l.text ≡ l.fn.text ++ places_text (legend_of l.legend) l.stepper.store l.fn.call (map active_of (take l.number l.stepper.below))
+    (l.count ≤ l.number)
+    × (l.fn.text ++ places_text (legend_of l.legend) l.stepper.store l.fn.call (map active_of l.stepper.below)
+    ≡ l.text ++ callers_text (legend_of l.legend) l.stepper.store l.last l.count (map active_of (drop l.number l.stepper.below)))
