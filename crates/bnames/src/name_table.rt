@@ -1,15 +1,16 @@
 //! Names with their values, found by binary search.
-ghost use Rattle.std.specs.Prelude.{◌≡◌, ℕ, ◌+◌, ◌^◌, ◌<◌, ◌≤◌, min, List, [], ◌∷◌, ◌++◌, length, take, drop, insert, MatchResult, OnOk, OnErr, IfOk, Some, None, is_none, slice_get, if◌then◌else◌};
+ghost use Rattle.std.specs.Prelude.{◌≡◌, ℕ, ◌+◌, ◌^◌, ◌<◌, ◌≤◌, min, List, [], ◌∷◌, ◌++◌, length, take, drop, insert, MatchResult, OnOk, OnErr, IfOk, Some, None, is_none, IsTrue, MatchOption, false, slice_get, if◌then◌else◌};
 ghost use Rattle.std.specs.Ordering.{nat_cmp, is_lt};
 ghost use Rattle.std.specs.Cmp.Lexicographic.{slice_cmp};
 ghost use Rattle.std.specs.Bool.{OnTrue};
 ghost use Rattle.std.specs.Global.{Vec};
 ghost use Rattle.bword.specs.ByteEnds.{most};
 ghost use Rattle.bnames.specs.declared.name_table.Entry.{Entry};
-ghost use Rattle.bnames.specs.NameTables.{IsFoundAt, IsGapAt, Ascends, AreFilled, IsPieceFor, AreFull, InPiece, Gains, Stays, KnowsOneMore, value_in, with_name};
+ghost use Rattle.bnames.specs.NameTables.{IsFoundAt, IsGapAt, Ascends, AreFilled, IsPieceFor, AreFull, InPiece, Gains, Stays, KnowsOneMore, IsTable, BelongsAt, joined_entries, entries_of, value_in, with_name};
 
 use bword::{Name, NoMemory};
 use std::alloc::Global;
+use std::cell::Cell;
 use std::cmp::Ordering;
 use std::marker::Model;
 
@@ -65,6 +66,13 @@ struct Entry {
     value: u32,
 }
 
+/// A place of a piece.
+#[derive(Clone, Copy)]
+struct Gap {
+    piece: usize,
+    place: usize,
+}
+
 /// Names with their values, in the order of their bytes.
 ///
 /// They are in pieces of at most 511, of which all but the last have at least 256.
@@ -73,6 +81,8 @@ pub struct NameTable {
     alloc: Global,
     pieces: Vec<Vec<Entry>>,
     len: usize,
+    // Where the name that wasn't found last would stand, which is put in next as a rule. No contract speaks of it.
+    gap: Cell<Gap>,
 }
 
 impl Model for NameTable {
@@ -95,6 +105,7 @@ impl NameTable {
             alloc,
             pieces: Vec::new(alloc),
             len: 0,
+            gap: Cell::new(Gap { piece: 0, place: 0 }),
         }
     }
 
@@ -119,7 +130,10 @@ impl NameTable {
         let entries = self.pieces[piece].as_slice();
         match search(entries, name, probes) {
             Ok(place) => Some(entries[place].value),
-            Err(_) => None,
+            Err(place) => {
+                self.gap.set(Gap { piece, place });
+                None
+            }
         }
     }
 
@@ -144,17 +158,53 @@ impl NameTable {
             self.len = 1;
             return Ok(true);
         }
-        let mut probes = Probes::new();
-        let index = piece_for(self.pieces.as_slice(), &name, &mut probes);
-        let entries = self.pieces[index].as_slice();
-        match search(entries, &name, &mut probes) {
-            Ok(_) => Ok(false),
-            Err(place) => {
-                put(self.alloc, &mut self.pieces, index, place, entry)?;
-                self.len += 1;
-                Ok(true)
-            }
-        }
+        let Some(gap) = gap_of(self.pieces.as_slice(), self.gap.get(), &name) else {
+            return Ok(false);
+        };
+        put(self.alloc, &mut self.pieces, gap.piece, gap.place, entry)?;
+        self.len += 1;
+        Ok(true)
+    }
+}
+
+// Where a name would stand that isn't there: at this gap if that is right, or where a search ends.
+fn gap_of(pieces: &[Vec<Entry>], gap: Gap, name: &Name) -> Option<Gap>
+    requires some { 0 < length pieces.now }
+    requires table { IsTable pieces.now (length (joined_entries pieces.now)) }
+    ensures { MatchOption result (is_none (value_in name.now (entries_of pieces.now)) ≡ false)
+        (λ gap. BelongsAt pieces.now name.now gap.piece gap.place) }
+{
+    if is_between(pieces, gap, name) {
+        return Some(gap);
+    }
+    let mut probes = Probes::new();
+    let piece = piece_for(pieces, name, &mut probes);
+    match search(pieces[piece].as_slice(), name, &mut probes) {
+        Ok(_) => None,
+        Err(place) => Some(Gap { piece, place }),
+    }
+}
+
+// Whether a name is above the entry before a place, and below the one there, if the place isn't the end.
+fn is_between(pieces: &[Vec<Entry>], gap: Gap, name: &Name) -> bool
+    requires { IsTable pieces.now (length (joined_entries pieces.now)) }
+    ensures { IsTrue result → BelongsAt pieces.now name.now gap.piece gap.place }
+{
+    let Some(piece) = pieces.get(gap.piece) else {
+        return false;
+    };
+    let Some(last) = gap.place.checked_sub(1) else {
+        return false;
+    };
+    let Some(before) = piece.get(last) else {
+        return false;
+    };
+    if !name.cmp(&before.name).is_gt() {
+        return false;
+    }
+    match piece.get(gap.place) {
+        Some(following) => name.cmp(&following.name).is_lt(),
+        None => gap.piece + 1 == pieces.len(),
     }
 }
 
