@@ -4,6 +4,7 @@ ghost use Rattle.bsources.specs.Files.{beyond_first, file_of, file_shown, files_
 ghost use Rattle.bsources.specs.OwnLines.{LinesLieInTheirFiles};
 
 use crate::Following;
+use memchr::memchr_iter;
 
 /// A file of a source: its name, and how many lines it has.
 #[derive(Clone, Copy)]
@@ -34,7 +35,7 @@ impl<'a> SourceFile<'a> {
     {
         SourceFile {
             name,
-            lines: text.iter().filter(|byte| **byte == b'\n').count() as u64 + 1,
+            lines: memchr_iter(b'\n', text).count() as u64 + 1,
         }
     }
 }
