@@ -174,10 +174,10 @@ fn gap_of(pieces: &[Vec<Entry>], gap: Gap, name: &Name) -> Option<Gap>
     ensures { MatchOption result (is_none (value_in name.now (entries_of pieces.now)) ≡ false)
         (λ gap. BelongsAt pieces.now name.now gap.piece gap.place) }
 {
-    if is_between(pieces, gap, name) {
+    let mut probes = Probes::new();
+    if is_between(pieces, gap, name, &mut probes) {
         return Some(gap);
     }
-    let mut probes = Probes::new();
     let piece = piece_for(pieces, name, &mut probes);
     match search(pieces[piece].as_slice(), name, &mut probes) {
         Ok(_) => None,
@@ -186,7 +186,7 @@ fn gap_of(pieces: &[Vec<Entry>], gap: Gap, name: &Name) -> Option<Gap>
 }
 
 // Whether a name is above the entry before a place, and below the one there, if the place isn't the end.
-fn is_between(pieces: &[Vec<Entry>], gap: Gap, name: &Name) -> bool
+fn is_between(pieces: &[Vec<Entry>], gap: Gap, name: &Name, probes: &mut Probes) -> bool
     requires { IsTable pieces.now (length (joined_entries pieces.now)) }
     ensures { IsTrue result → BelongsAt pieces.now name.now gap.piece gap.place }
 {
@@ -199,11 +199,11 @@ fn is_between(pieces: &[Vec<Entry>], gap: Gap, name: &Name) -> bool
     let Some(before) = piece.get(last) else {
         return false;
     };
-    if !name.cmp(&before.name).is_gt() {
+    if !probes.compare(name, &before.name).is_gt() {
         return false;
     }
     match piece.get(gap.place) {
-        Some(following) => name.cmp(&following.name).is_lt(),
+        Some(following) => probes.compare(name, &following.name).is_lt(),
         None => gap.piece + 1 == pieces.len(),
     }
 }

@@ -33,10 +33,10 @@ returns-in-Some-get-2 c is =
     let next : suc last ≡ c.args.gap.place = (let some = s.0 in let less = s.1 in omega (arith, some, less)) in
     let before = c.in-Some-get.before.now in
     let g = entry piece c.deref.result.now last before c.deref.ensures.value c.in-Some-get.ensures.lookup.0 c.in-Some-get.ensures.lookup.1 in
-    let above = greater_from_is_gt (slice_cmp nat_cmp x before.name) (ap is_gt (sym c.cmp.ensures) ∙ sym c.is_gt.ensures ∙ c.if-not-is_gt.false) in
+    let above = greater_from_is_gt (slice_cmp nat_cmp x before.name) (ap is_gt (sym c.compare.ensures.order) ∙ sym c.is_gt.ensures ∙ c.if-not-is_gt.false) in
     let following = c.in-Some-get-2.following.now in
     let f = entry piece c.deref-2.result.now c.args.gap.place following c.deref-2.ensures.value c.in-Some-get-2.ensures.lookup.0 c.in-Some-get-2.ensures.lookup.1 in
-    let below = less_from_is_lt (slice_cmp nat_cmp x following.name) (ap is_lt (sym c.cmp-in-Some-get-2.ensures) ∙ sym c.is_lt.ensures ∙ is) in
+    let below = less_from_is_lt (slice_cmp nat_cmp x following.name) (ap is_lt (sym c.compare-in-Some-get-2.ensures.order) ∙ sym c.is_lt.ensures ∙ is) in
     subst (λ n. BelongsAt ps x i n) next
     (between ps (length (joined_entries ps)) i last piece before x c.requires at g above
     (next_below ps i (suc last) piece following x at (ap (slice_get piece.items) next ∙ f) below))
@@ -53,7 +53,7 @@ returns-in-None c is =
     let next : suc last ≡ c.args.gap.place = (let some = s.0 in let less = s.1 in omega (arith, some, less)) in
     let before = c.in-Some-get.before.now in
     let g = entry piece c.deref.result.now last before c.deref.ensures.value c.in-Some-get.ensures.lookup.0 c.in-Some-get.ensures.lookup.1 in
-    let above = greater_from_is_gt (slice_cmp nat_cmp x before.name) (ap is_gt (sym c.cmp.ensures) ∙ sym c.is_gt.ensures ∙ c.if-not-is_gt.false) in
+    let above = greater_from_is_gt (slice_cmp nat_cmp x before.name) (ap is_gt (sym c.compare.ensures.order) ∙ sym c.is_gt.ensures ∙ c.if-not-is_gt.false) in
     let end = c.in-None.ensures.lookup.3 in
     let short : length piece.items ≤ suc last = omega (arith, end, next, ap (λ (l : List Entry). length l) c.deref-2.ensures.value) in
     subst (λ n. BelongsAt ps x i n) next
