@@ -10,7 +10,7 @@ use Rattle.bcode.specs.Ahead.{Ahead, TakesBytes, TakesText, ReadsLine, RefusesLi
 use Rattle.blang.specs.CodeParts.{sizes_of}
 use Rattle.bcode.specs.Headers.{header_of, header_text, IsHeaderWithin}
 use Rattle.bcode.specs.Stopping.{LineKind, value, target, string, instruction, IsOfKind, LineState, expects, kinds_after, state_after, IsStuckAfter}
-use Rattle.blang.specs.Text.{joined, header_line, body_lines, lines_of, definition_text, end_text, ended_lines, target_line, string_line, ival_line, instr_line, IsWithinRanges}
+use Rattle.blang.specs.Text.{joined, header_line, body_lines, lines_of, definition_text, ended_lines, target_line, string_line, ival_line, instr_line, IsWithinRanges}
 use Rattle.blang.specs.declared.code.Definition.{Definition}
 use Rattle.blang.specs.declared.code.Definition.TheVariants as definition
 use Rattle.bcode.specs.declared.fault.CodeFault.TheVariants as fault
@@ -243,10 +243,8 @@ not_end (definition.Simple f) e = cc
 not_end (definition.Vector f) e = cc
 
 pub state_of : (h : Header) → (h ≡ header.End → ⊥) → state_after h ≡ expects (kinds_after h)
-state_of (header.Function name parameters s) more = refl
-state_of (header.Simple name values strings) more = refl
-state_of (header.Vector name words values strings) more = refl
 state_of header.End more = absurd (more refl)
+state_of _ more = refl
 
 -- a definition's text as its header and what is after it
 pub text_header : (d : Definition) (rest : List ℕ) → definition_text d ++ rest ≡ header_text (header_of d) ++ (joined (body_lines d) ++ rest)
@@ -299,9 +297,6 @@ header_exit old now (Err f) e same gives = subst (λ (s : CodeStop). DefinitionG
     exit (stop.Fault (fault.Line n)) gives = header_stops n gives
     exit (stop.Fault fault.Memory) gives = absurd gives
     exit stop.Device gives = header_breaks gives
-
-pub reads_end : {old new : Ahead} → ReadsLine header_text IsHeaderWithin old header.End new → TakesText old end_text 1 new
-reads_end r = r.passes
 
 pub reads_definition : {old mid new : Ahead} (h : Header) (d : Definition) → ReadsLine header_text IsHeaderWithin old h mid → ReadsBody h mid d new → ReadsDefinition old d new
 reads_definition {old} {mid} {new} h d r b = record {

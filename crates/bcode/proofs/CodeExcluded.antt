@@ -1,12 +1,13 @@
 -- What no writer of a code text, no call of `read_code` and no reader does.
-use Rattle.std.proofs.Common.{subst, ◌≡◌, ℕ, suc, ◌≤◌, true, false, if◌then◌else◌, List, [], ◌∷◌, ◌++◌, length, sym, ap, ◌∙◌, arith, append_assoc, append-nil, Option, Some, None, refl, ◌⊎◌, inl, inr}
+use Rattle.std.proofs.Common.{subst, ◌≡◌, ℕ, suc, ◌≤◌, true, List, [], ◌∷◌, ◌++◌, length, sym, ap, ◌∙◌, arith, append_assoc, append-nil, Option, Some, None, refl, ◌⊎◌, inl, inr}
 use Rattle.std.specs.Prelude.{All, codes}
 use Rattle.std.specs.List.{flat_map}
-use Rattle.std.specs.Io.KnownBytes.{Appends, Consumes}
+use Rattle.std.specs.Io.KnownBytes.{Appends}
 use Rattle.bword.specs.declared.edition.Edition.{Edition}
 use Rattle.bword.specs.declared.edition.Edition.TheVariants as editions
 use Rattle.std.proofs.lemmas.List.{append_cancel_right}
 use Rattle.std.proofs.lemmas.List.Elements.{All-head, All-tail}
+use Rattle.bword.proofs.Taking.{consumed}
 use Rattle.bcode.specs.CodeExcluded.{Excluded}
 use Rattle.bcode.specs.Faults.{IsFaultLine, HasHeader}
 use Rattle.bcode.specs.Headers.{header_of}
@@ -20,9 +21,9 @@ use Rattle.blang.specs.declared.code.Definition.{Definition}
 use Rattle.blang.specs.declared.limits.TheConstants.{LINE_LEN}
 use Rattle.bcode.specs.declared.header.Header.TheVariants as header
 use Rattle.bcode.proofs.AheadLaws.{both_empty}
-use Rattle.bcode.proofs.BodyLaws.{not_end}
+use Rattle.bcode.proofs.BodyLaws.{not_end, text_header}
 use Rattle.bcode.proofs.CodeLaws.{code_path, header_of-text, header_of-within}
-use Rattle.bcode.proofs.FaultLaws.{definitions_text, no_opening, same_body, same_rest, unended_code}
+use Rattle.bcode.proofs.FaultLaws.{no_opening, same_body, same_rest, unended_code}
 use Rattle.bcode.proofs.FaultRows.{stops, stops_at}
 use Rattle.bcode.proofs.HeaderLaws.{header_at-exact, end_within}
 use Rattle.bcode.proofs.StoppingLaws.{same_spelling, no_path}
@@ -88,11 +89,6 @@ appended None b text bytes e f h = cc
 appended (Some a) None text bytes e f h = cc
 appended (Some a) (Some b) text bytes e f h = let p : a ≡ [] = cc in let q : b ≡ bytes = cc in sym q ∙ h ∙ ap (λ l. l ++ text) p
 
-consumed : (a b : Option (List ℕ)) (taken x y : List ℕ) → a ≡ Some x → b ≡ Some y → Consumes a b taken → x ≡ taken ++ y
-consumed None b taken x y e f h = cc
-consumed (Some a) None taken x y e f h = cc
-consumed (Some a) (Some b) taken x y e f h = let p : a ≡ x = cc in let q : b ≡ y = cc in sym p ∙ h ∙ ap (λ l. taken ++ l) q
-
 abbrev zero_first : List ℕ
 zero_first = codes "X n 1 0\nc 007\nE\n"
 
@@ -113,7 +109,7 @@ same_line text n m f g =
 -- a last line is no definition's first
 not_first : (d : Definition) (rest : List ℕ) → IsWithinRanges d → codes "E\n" ≡ definition_text d ++ rest → ⊥
 not_first d rest inside e =
-    not_end d (sym (same_spelling header_at-exact header.End (header_of d) [] (joined (body_lines d) ++ rest) end_within (header_of-within d inside) (e ∙ definitions_text d rest)).0)
+    not_end d (sym (same_spelling header_at-exact header.End (header_of d) [] (joined (body_lines d) ++ rest) end_within (header_of-within d inside) (e ∙ text_header d rest)).0)
 
 no_header : HasHeader (codes "E\n") → ⊥
 no_header h = at h.edition h.definitions h.within h.same
@@ -164,7 +160,7 @@ held_back before old new h d rest inside e = (both_empty rest h.more (sym (same_
     one : (header_of h.next ≡ header_of d) × (joined (body_lines h.next) ++ [] ≡ joined (body_lines d) ++ (rest ++ h.more))
     one =
         same_spelling header_at-exact (header_of h.next) (header_of d) (joined (body_lines h.next) ++ []) (joined (body_lines d) ++ (rest ++ h.more)) (header_of-within h.next h.inside) (header_of-within d inside)
-        (sym (definitions_text h.next []) ∙ append-nil (definition_text h.next) ∙ whole ∙ definitions_text d (rest ++ h.more))
+        (sym (text_header h.next []) ∙ append-nil (definition_text h.next) ∙ whole ∙ text_header d (rest ++ h.more))
 
 other_edition : (before : List Definition) (old new : CodeReader) (rest : List ℕ) → old.first.edition ≡ editions.One → old.first.source.left ≡ Some (edition_line ++ rest) → new.ahead.end.left ≡ Some [] → TextEnded before old new → ⊥
 other_edition before old new rest first e f h =

@@ -142,12 +142,6 @@ module _ {X : Type 0} (spell : X → List ℕ) (within : X → Type 0) (kind : L
       stops_among xs count ks rest (omega arith) (All-tail within x xs all) none,
     )
 
-    pub stops_among_last : (xs : List X) (count : ℕ) (rest : List ℕ) → length xs < count → All within xs
-        → ((x : X) (following : List ℕ) → within x → rest ≡ spell x ++ following → ⊥)
-        → IsStuckAfter (length xs) (expects (replicate count kind)) (flat_map spell xs ++ rest)
-    stops_among_last xs count rest fewer all none =
-        subst (λ (ks : List LineKind). IsStuckAfter (length xs) (expects ks) (flat_map spell xs ++ rest)) (append-nil (replicate count kind)) (stops_among xs count [] rest fewer all none)
-
 pub of_value : (strings : ℕ) (x : Ival) → IsIvalWithin strings x → IsOfKind (value strings) (ival_line x)
 of_value strings x h = (x, h, refl)
 

@@ -241,22 +241,19 @@ code_text-joined (d ∷ ds) =
     ∙ ap (λ l. l ++ end_text) (sym (append_assoc (header_line d) (joined (body_lines d)) (flat_map definition_text ds)))
 
 -- The texts of definitions without a last line are no code text.
-pub definitions_text : (d : Definition) (rest : List ℕ) → definition_text d ++ rest ≡ header_text (header_of d) ++ (joined (body_lines d) ++ rest)
-definitions_text d rest = append_assoc (header_line d) (joined (body_lines d)) rest ∙ ap (λ l. l ++ (joined (body_lines d) ++ rest)) (sym (header_of-text d))
-
 unended_lines : (ds es : List Definition) → All IsWithinRanges ds → All IsWithinRanges es → flat_map definition_text ds ≡ joined (ended_lines es) → ⊥
 unended_lines [] es in_d in_e same =
     let l : 0 ≡ length (flat_map definition_text es) + 2 = ap length (same ∙ code_text-joined es) ∙ length-append (flat_map definition_text es) end_text in
     omega (arith, l)
 unended_lines (d ∷ ds) [] in_d in_e same =
     let one = same_spelling header_at-exact (header_of d) header.End (joined (body_lines d) ++ flat_map definition_text ds) [] (header_of-within d (All-head IsWithinRanges d ds in_d)) end_within
-    (sym (definitions_text d (flat_map definition_text ds)) ∙ same) in
+    (sym (text_header d (flat_map definition_text ds)) ∙ same) in
     not_end d one.0
 unended_lines (d ∷ ds) (e ∷ es) in_d in_e same =
     let d_in = All-head IsWithinRanges d ds in_d in
     let e_in = All-head IsWithinRanges e es in_e in
     let one = same_spelling header_at-exact (header_of d) (header_of e) (joined (body_lines d) ++ flat_map definition_text ds) (joined (body_lines e) ++ joined (ended_lines es))
-    (header_of-within d d_in) (header_of-within e e_in) (sym (definitions_text d (flat_map definition_text ds)) ∙ same ∙ code_text e es) in
+    (header_of-within d d_in) (header_of-within e e_in) (sym (text_header d (flat_map definition_text ds)) ∙ same ∙ code_text e es) in
     let first = same_body d e (flat_map definition_text ds) (joined (ended_lines es)) d_in e_in one.0 one.1 in
     unended_lines ds es (All-tail IsWithinRanges d ds in_d) (All-tail IsWithinRanges e es in_e) first.1
 

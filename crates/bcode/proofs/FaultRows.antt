@@ -1,6 +1,7 @@
 -- The line of the fault of some texts, which is after the whole lines that are right.
 use Rattle.std.proofs.Common.{◌≡◌, ℕ, zero, suc, ◌^◌, Bool, true, false, ◌&&◌, List, [], ◌∷◌, ◌++◌, Option, Some, None, refl, sym, ap, ◌∙◌, arith, drop, if◌then◌else◌, inl, inr}
 use Rattle.std.specs.Prelude.{codes}
+use Rattle.std.proofs.lemmas.Bool.{and_parts}
 use Rattle.bcode.specs.Faults.{IsFaultLine}
 use Rattle.bcode.specs.Headers.{header_text}
 use Rattle.bcode.specs.LineReading.{header_at, any_header_at, sizes_at, function_header_at, simple_header_at, vector_header_at, line_ended, instr_at, ival_line_at, number_line_at, operand_at, name_operand_at, operator_at, less_at, greater_at, increment_at, case_at, LineReader, IsExact}
@@ -177,14 +178,10 @@ abbrev stop_there : List Row → Bool
 stop_there [] = true
 stop_there (r ∷ rs) = stops_at r.1 opens r.0 && stop_there rs
 
-both : (a b : Bool) → (a && b) ≡ true → (a ≡ true) × (b ≡ true)
-both true b e = (refl, e)
-both false b e = absurd (cc)
-
 faults_there : (rows : List Row) → stop_there rows ≡ true → AreFaults rows
 faults_there [] e = tt
 faults_there (r ∷ rs) e =
-    let h = both (stops_at r.1 opens r.0) (stop_there rs) e in
+    let h = and_parts (stops_at r.1 opens r.0) (stop_there rs) e in
     (fault_line r.0 r.1 (stops r.1 opens r.0 tt h.0), faults_there rs h.1)
 
 abbrev rows : List Row

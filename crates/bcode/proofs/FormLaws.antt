@@ -1,5 +1,5 @@
 -- The forms of the lines of a code text.
-use Rattle.std.proofs.Common.{◌≡◌, ◌≢◌, ℕ, ◌^◌, ◌<◌, ◌≤◌, ◌∷◌, [], decimal, arith}
+use Rattle.std.proofs.Common.{◌≢◌, ℕ, ◌^◌, ◌<◌, ◌≤◌, ◌∷◌, [], decimal, arith}
 use Rattle.blang.specs.CodeParts.{IsInstrWithin, IsIvalWithin}
 use Rattle.blang.specs.Text.{line, instr_line, ival_line}
 use Rattle.blang.specs.declared.code.Sizes.{Sizes}

@@ -1,13 +1,13 @@
 -- What is read as a line is its text, and its text is read as it.
 use Rattle.std.proofs.Common.{subst, length, drop, ◌≡◌, ℕ, ◌^◌, ◌<◌, ◌≤◌, Bool, true, false, cond, eqb, List, [], ◌∷◌, ◌++◌, decimal, Option, Some, None, refl, sym, ap, ◌∙◌, arith, append_assoc, IsTrue}
-use Rattle.bword.specs.Words.{is_name}
+use Rattle.std.proofs.lemmas.Bool.{eqb-true}
+use Rattle.bword.specs.Words.{is_name, operator_text}
 use Rattle.bword.specs.declared.operators.BinOp.{BinOp}
 use Rattle.bword.specs.declared.operators.BinOp.TheVariants as op
 use Rattle.blang.specs.CodeParts.{IsWord, IsInstrWithin, IsIvalWithin}
 use Rattle.bcode.specs.LineReading.{LineReader, IsExact, FitSizes, counted_readers, mapped, choose, by_first, line_ended, operand_at, name_operand_at, less_at, greater_at, operator_at, operator_readers, increment_at, increment_readers, case_at, instr_at, instr_readers, ival_line_at, ival_readers, number_line_at}
 use Rattle.bcode.specs.Reading.{◌>>=◌, expect_byte, number_at, name_text_at}
 use Rattle.blang.specs.Text.{line, increment_text, instr_line, ival_line}
-use Rattle.bword.specs.Words.{operator_text}
 use Rattle.blang.specs.declared.code.Sizes.{Sizes}
 use Rattle.blang.specs.declared.code.Increment.{Increment}
 use Rattle.blang.specs.declared.code.Increment.TheVariants as increment
@@ -15,7 +15,7 @@ use Rattle.blang.specs.declared.code.Instr.{Instr}
 use Rattle.blang.specs.declared.code.Instr.TheVariants as instr
 use Rattle.blang.specs.declared.code.Ival.{Ival}
 use Rattle.blang.specs.declared.code.Ival.TheVariants as ival
-use Rattle.bcode.proofs.PartLaws.{bind_some, same_read, is_same, expect-sound, expect-again, number_at-sound, number_at-again, name_at-sound, name_at-again}
+use Rattle.bcode.proofs.PartLaws.{bind_some, same_read, expect-sound, expect-again, number_at-sound, number_at-again, name_at-sound, name_at-again}
 
 mapped_some : {X Y : Type 0} (f : X → Y) (o : Option (X × List ℕ)) (y : Y) (rest : List ℕ) → mapped f o ≡ Some (y, rest)
     → (x : X) × (o ≡ Some (x, rest)) × (f x ≡ y)
@@ -37,7 +37,7 @@ module _ {X : Type 0} (text : X → List ℕ) (within : X → Type 0) where
       → (choose rs byte bytes ≡ Some (x, rest) → within x × (byte ∷ bytes ≡ text x ++ rest))
       → (t : Bool) → eqb byte r.0 ≡ t → cond t (r.1 bytes) (choose rs byte bytes) ≡ Some (x, rest) → within x × (byte ∷ bytes ≡ text x ++ rest)
   choose-step r rs byte bytes x rest first others true same e =
-      let h = first bytes x rest e in (h.0, ap (λ b. b ∷ bytes) (is_same byte r.0 same) ∙ h.1)
+      let h = first bytes x rest e in (h.0, ap (λ b. b ∷ bytes) (eqb-true byte r.0 same) ∙ h.1)
   choose-step r rs byte bytes x rest first others false same e = others e
 
   choose-sound : (rs : List (ℕ × LineReader X)) → AllSound rs → (byte : ℕ) (bytes : List ℕ) (x : X) (rest : List ℕ)
@@ -57,10 +57,6 @@ ended-sound x y bytes rest e =
     let found = bind_some (expect_byte 10 bytes) _ (y, rest) e in
     let read = same_read (x, found.0) (y, rest) found.2 in
     (read.0, expect-sound 10 bytes found.0 found.1 ∙ ap (λ l. 10 ∷ l) read.1)
-
-ended-again : {X : Type 0} (x : X) (rest : List ℕ) → line_ended x (10 ∷ rest) ≡ Some (x, rest)
-unfolding line_ended
-ended-again x rest = rw (expect-again 10 rest) refl
 
 operand_at-sound : (below : ℕ) (bytes : List ℕ) (n : ℕ) (rest : List ℕ) → operand_at below bytes ≡ Some (n, rest)
     → (n < below) × (bytes ≡ 32 ∷ (decimal n ++ 10 ∷ [] ++ rest))

@@ -1,11 +1,11 @@
 -- Reading a text in memory from its beginning.
-use Rattle.std.proofs.Common.{subst, ◌≡◌, ℕ, ◌<◌, ◌≤◌, true, false, List, [], ◌∷◌, ◌++◌, Bool, Option, Some, None, Result, Ok, Err, IsErrAnd, refl, sym, ap, ◌∙◌, arith, append_assoc, append-nil, ◌⊎◌, inl, inr, ⊎_elim, if◌then◌else◌}
+use Rattle.std.proofs.Common.{subst, ◌≡◌, ℕ, ◌≤◌, true, false, List, [], ◌∷◌, ◌++◌, Bool, Option, Some, None, Result, Ok, Err, IsErrAnd, refl, sym, ap, ◌∙◌, arith, append_assoc, append-nil, ◌⊎◌, inl, inr, ⊎_elim, if◌then◌else◌}
 use Rattle.std.specs.Prelude.{IfErr}
 use Rattle.std.specs.List.{flat_map}
 use Rattle.std.specs.Io.KnownBytes.{Consumes}
 use Rattle.std.proofs.lemmas.List.Concat.{flat_map-append}
 use Rattle.std.proofs.lemmas.List.Elements.{All-pop}
-use Rattle.bword.specs.ByteEnds.{Incoming, Unread, Took, CanFollow, incoming_of}
+use Rattle.bword.specs.ByteEnds.{Incoming, Took, CanFollow, incoming_of}
 use Rattle.bword.specs.declared.edition.Edition.{Edition}
 use Rattle.bword.specs.declared.edition.Edition.TheVariants as editions
 use Rattle.bcode.specs.Ahead.{TakesBytes}
@@ -18,9 +18,7 @@ use Rattle.bcode.specs.declared.code_step.CodeStep.TheVariants as step
 use Rattle.bcode.specs.declared.fault.CodeFault.{CodeFault}
 use Rattle.bcode.specs.declared.fault.CodeFault.TheVariants as fault
 use Rattle.bcode.proofs.FaultLaws.{fault_line_in, no_opening_line, no_opening_code, no_opening, same_rest}
-use Rattle.bcode.proofs.ReaderLaws.{taken_none}
 use Rattle.bcode.proofs.StoppingLaws.{no_header}
-use Rattle.bcode.proofs.StreamLaws.{FailsAfter-counted}
 
 regroup : (a b c d e : List ℕ) → (a ++ (b ++ (c ++ d))) ++ e ≡ a ++ (b ++ (c ++ (d ++ e)))
 regroup a b c d e = simp append_assoc
@@ -81,9 +79,6 @@ pub record HasRead (text : List ℕ) (known : List Definition) (r : CodeReader) 
   pub since : HasTaken r known
   pub first : r.first ≡ over_text edition text
 
-pub read_none : (text : List ℕ) (edition : Edition) (r : CodeReader) → IsEditionOf text edition → r ≡ new (over_text edition text) → HasRead text [] r
-read_none text edition r is same = rw same record { edition = edition; is = is; since = taken_none (over_text edition text); first = refl }
-
 module _ {text : List ℕ} {known : List Definition} {old : CodeReader} (h : HasRead text known old) where
   left : (now : CodeReader) (taken : List ℕ) → TakesBytes (all_ahead old.first) taken now.ahead → (more : List ℕ) × (text ≡ taken ++ more) × CanFollow now.ahead.end more
   left now taken reads = follow text taken now.ahead.end now.ahead.end.left refl (subst (λ (s : ReaderStart). TakesBytes (all_ahead s) taken now.ahead) h.first reads).took
@@ -93,9 +88,6 @@ module _ {text : List ℕ} {known : List Definition} {old : CodeReader} (h : Has
 
   pub read_more : (now : CodeReader) (d : Definition) (more : List Definition) → StepGives old (step.Definition d) now → SameReader old now → more ≡ known ++ d ∷ [] → HasRead text more now
   read_more now d more gives same pushed = rw pushed record { edition = h.edition; is = h.is; since = (gives.1 known h.since).now; first = same.first ∙ h.first }
-
-  pub read_falls : (now : CodeReader) (d : Definition) → StepGives old (step.Definition d) now → now.ahead.end.bound < old.ahead.end.bound
-  read_falls now d gives = (gives.1 known h.since).falls
 
   pub read_whole : (now : CodeReader) → StepGives old step.End now → IsCodeText text known
   read_whole now gives =
@@ -140,16 +132,6 @@ module _ {text : List ℕ} {known : List Definition} {old : CodeReader} (h : Has
   pub read_fault : (now : CodeReader) (e : CodeFault) → StepGives old (step.Fault e) now → IsFaultOf text e
   read_fault now (fault.Line n) gives = read_stops now n gives
   read_fault now fault.Memory gives = read_header now gives
-
-  -- no read of a text in memory fails
-  pub read_breaks : (now : CodeReader) (m : Unread) → incoming_of m ≡ now.ahead.end → StepGives old step.Device now → ⊥
-  read_breaks now m same gives =
-      let counted = FailsAfter-counted (gives.1 known h.since).breaks.fails in
-      let none = ap (λ (e : Incoming). e.failures) same in
-      omega (arith, counted, none)
-
-  pub read_closed : (now : CodeReader) → StepGives old step.Closed now → ⊥
-  read_closed now gives = let still = h.since.is_open in let closed = gives.0 in cc
 
 opening_begun : (b : Bool) (edition : Edition) → (b ≡ false → ⊥) → (if b then opening edition else []) ≡ opening edition
 opening_begun true edition h = refl

@@ -9,9 +9,6 @@ use Rattle.bword.proofs.Putting.{gives_last, gives_same, Writes-none, Writes-app
 use Rattle.bcode.specs.Pages.{PageWritten, PageGives}
 use Rattle.blang.specs.Text.{line, joined}
 
-pub Passes-none : (a : Outgoing) (page : List ℕ) → PageWritten a page [] a page
-Passes-none a page = record { sent = []; written = Writes-none a; rest = append-nil page }
-
 pub Passes-append : {a b c : Outgoing} {p q r xs ys : List ℕ} → PageWritten a p xs b q → PageWritten b q ys c r → PageWritten a p (xs ++ ys) c r
 Passes-append {a} {b} {c} {p} {q} {r} {xs} {ys} h k = record {
   sent = h.sent ++ k.sent;

@@ -1,12 +1,12 @@
 -- What is read as a part of a line is its text, and its text is read as it.
-use Rattle.std.proofs.Common.{◌≡◌, ℕ, ◌+◌, ◌*◌, ◌-◌, ◌/◌, ◌%◌, ◌^◌, ◌<◌, ◌≤◌, Bool, true, false, cond, ◌&&◌, eqb, ltb, List, [], ◌∷◌, ◌++◌, length, take, drop, get_or, decimal, Option, Some, None, refl, sym, ap, ◌∙◌, arith, append_assoc, length-append, IsTrue}
+use Rattle.std.proofs.Common.{◌≡◌, ℕ, ◌+◌, ◌*◌, ◌-◌, ◌/◌, ◌%◌, ◌^◌, ◌<◌, ◌≤◌, Bool, true, false, cond, eqb, ltb, List, [], ◌∷◌, ◌++◌, length, take, drop, get_or, decimal, Option, Some, None, refl, sym, ap, ◌∙◌, arith, append_assoc, length-append, IsTrue}
 use Rattle.std.specs.Char.{is_ascii_digit}
 use Rattle.std.proofs.Math.Seq.{take-append_seam, drop-append-add}
 use Rattle.std.proofs.lemmas.List.{take-append-drop, drop_more}
 use Rattle.std.proofs.lemmas.List.Quantifiers.{position-Some}
 use Rattle.std.specs.List.{position, prefix_len, list_all}
 use Rattle.std.specs.Prelude.{◌==◌, not}
-use Rattle.std.proofs.lemmas.Bool.{false≢true}
+use Rattle.std.proofs.lemmas.Bool.{false≢true, and_parts, eqb-true, ltb-true}
 use Rattle.std.proofs.lemmas.Bool.Decides.{nat_tests}
 use Rattle.std.proofs.lemmas.Fmt.{decimal_digit, decimal_step, decimal_by_steps}
 use Rattle.bword.specs.Words.{is_name, is_name_start, is_name_byte}
@@ -20,12 +20,6 @@ bind_some None f y e = absurd (cc)
 pub same_read : {A B : Type 0} (x y : A × B) → Some x ≡ Some y → (x.0 ≡ y.0) × (x.1 ≡ y.1)
 same_read x y e = let same : x ≡ y = cc in (ap (λ p. p.0) same, ap (λ p. p.1) same)
 
-pub is_same : (a b : ℕ) → eqb a b ≡ true → a ≡ b
-is_same a b e = grind (arith, nat_tests)
-
-is_less : (a b : ℕ) → ltb a b ≡ true → a < b
-is_less a b e = grind (arith, nat_tests)
-
 digit_range : (b : ℕ) → is_ascii_digit b ≡ true → (48 ≤ b) × (b ≤ 57)
 digit_range b e = (grind (arith, nat_tests), grind (arith, nat_tests))
 
@@ -37,7 +31,7 @@ pub expect-sound : (byte : ℕ) (bytes rest : List ℕ) → expect_byte byte byt
 unfolding expect_byte
 expect-sound byte [] rest e = absurd (cc)
 expect-sound byte (b ∷ bs) rest e =
-    let h = only_if (eqb b byte) (Some bs) rest e in let same = is_same b byte h.0 in cc
+    let h = only_if (eqb b byte) (Some bs) rest e in let same = eqb-true b byte h.0 in cc
 
 eqb-same : (n : ℕ) → eqb n n ≡ true
 eqb-same n = grind (arith, nat_tests)
@@ -65,16 +59,16 @@ module _ (end below : ℕ) where
       → (n < below) × (decimal v ++ b ∷ bs ≡ decimal n ++ end ∷ rest)
   number_from-step b bs v n rest small further true is_zero ends zero e =
       let h = only_if (ltb v below) (Some (v, bs)) (n, rest) e in
-      let same = is_same b end ends in
+      let same = eqb-true b end ends in
       let read = same_read (v, bs) (n, rest) h.1 in
-      let less = is_less v below h.0 in
+      let less = ltb-true v below h.0 in
       (rw (← read.0) less, ap (λ x. decimal v ++ x ∷ bs) same ∙ ap (λ l. decimal v ++ end ∷ l) read.1 ∙ ap (λ m. decimal m ++ end ∷ rest) read.0)
   number_from-step b bs v n rest small further false true ends zero e = absurd (cc)
   number_from-step b bs v n rest small further false false ends zero e =
       let h = only_if (is_ascii_digit b) _ (n, rest) e in
       let k = only_if (ltb (v * 10 + (b - 48)) (2 ^ 16)) _ (n, rest) h.1 in
       let range = digit_range b h.0 in
-      let less = is_less (v * 10 + (b - 48)) (2 ^ 16) k.0 in
+      let less = ltb-true (v * 10 + (b - 48)) (2 ^ 16) k.0 in
       let some : 0 < v = grind (arith, nat_tests) in
       let digit : b - 48 ≤ 9 = omega arith in
       let same : 48 + (b - 48) ≡ b = omega arith in
@@ -146,10 +140,6 @@ module _ (end below : ℕ) where
         let test : ltb n below ≡ true = grind (arith, nat_tests) in
         reads_decimal n fits (end ∷ rest) ∙ rw (eqb-same end, test) refl
 
-both : (a b : Bool) → (a && b) ≡ true → (a ≡ true) × (b ≡ true)
-both true b e = (refl, e)
-both false b e = absurd (cc)
-
 pub name_at-sound : (end : ℕ) (bytes name rest : List ℕ) → name_text_at end bytes ≡ Some (name, rest) → IsTrue (is_name name) × (bytes ≡ name ++ end ∷ rest)
 unfolding name_text_at
 name_at-sound end bytes name rest e =
@@ -158,7 +148,7 @@ name_at-sound end bytes name rest e =
     let named = only_if (is_name (take n bytes)) _ (name, rest) found.2 in
     let read = same_read (take n bytes, drop (n + 1) bytes) (name, rest) named.1 in
     let there = position-Some (λ b. b == end) bytes n 0 found.1 in
-    let same = is_same (get_or bytes n 0) end there.1 in
+    let same = eqb-true (get_or bytes n 0) end there.1 in
     let all : bytes ≡ take n bytes ++ end ∷ drop (n + 1) bytes =
     sym (take-append-drop n bytes) ∙ ap (λ l. take n bytes ++ l) (drop_more bytes n 0 there.0 ∙ ap (λ b. b ∷ drop (n + 1) bytes) same) in
     (rw (← read.0) named.0, all ∙ ap (λ l. l ++ end ∷ drop (n + 1) bytes) read.0 ∙ ap (λ l. name ++ end ∷ l) read.1)
@@ -166,21 +156,21 @@ name_at-sound end bytes name rest e =
 module _ (end : ℕ) (not_in_name : is_name_byte end ≡ false) where
   other_byte : (b : ℕ) → is_name_byte b ≡ true → eqb b end ≡ false
   other_byte b e = elim (eqb b end) as (λ t. eqb b end ≡ t → t ≡ false) [
-    | true ↦ λ same. let ends = is_same b end same in absurd (false≢true (sym not_in_name ∙ ap is_name_byte (sym ends) ∙ e))
+    | true ↦ λ same. let ends = eqb-true b end same in absurd (false≢true (sym not_in_name ∙ ap is_name_byte (sym ends) ∙ e))
     | false ↦ λ _. refl
   ] refl
 
   first_end : (name rest : List ℕ) → list_all is_name_byte name ≡ true → prefix_len (λ b. not (b == end)) (name ++ end ∷ rest) ≡ length name
   first_end [] rest e = rw (eqb-same end) refl
   first_end (b ∷ bs) rest e =
-      let h = both (is_name_byte b) (list_all is_name_byte bs) e in
+      let h = and_parts (is_name_byte b) (list_all is_name_byte bs) e in
       rw (other_byte b h.0) (omega (arith, first_end bs rest h.1))
 
   name_bytes : (name : List ℕ) → is_name name ≡ true → list_all is_name_byte name ≡ true
   name_bytes [] e = absurd (cc)
   name_bytes (b ∷ bs) e =
-      let h = both (is_name_start b) _ e in
-      let k = both _ (list_all is_name_byte bs) h.1 in
+      let h = and_parts (is_name_start b) _ e in
+      let k = and_parts _ (list_all is_name_byte bs) h.1 in
       let first : is_name_byte b ≡ true = grind (arith, nat_tests) in
       rw (first, k.1) refl
 

@@ -5,9 +5,9 @@ use Rattle.std.proofs.lemmas.List.Elements.{All-nil, All-push}
 use Rattle.bword.specs.ByteEnds.{Incoming, CanFollow}
 use Rattle.bword.specs.declared.edition.Edition.{Edition}
 use Rattle.bword.specs.declared.edition.Edition.TheVariants as editions
-use Rattle.bcode.specs.Ahead.{Ahead, TakesBytes, TakesText, RefusesLine, ReadsDefinition, StopsInside, HasNext, BreaksInside, DefinitionGives, OpeningRead, OpeningGives, opening_line, BreaksNext, ReadsLast, NextDefinitionGives, EndingGives}
+use Rattle.bcode.specs.Ahead.{Ahead, TakesText, RefusesLine, ReadsDefinition, StopsInside, HasNext, BreaksInside, DefinitionGives, OpeningRead, OpeningGives, opening_line, BreaksNext, ReadsLast, NextDefinitionGives, EndingGives}
 use Rattle.bcode.specs.Faults.{IsFaultLineIn}
-use Rattle.bcode.specs.Readers.{ReaderStart, CodeReader, all_ahead, reader_of, opening_read, HasTaken, to_open, MoreCanBeRead, Gave, TextEnded, NoneWhole, StoppedAtLine, MemoryRefused, code_step, is_last_step, StepGives}
+use Rattle.bcode.specs.Readers.{ReaderStart, CodeReader, all_ahead, reader_of, opening_read, HasTaken, to_open, MoreCanBeRead, Gave, TextEnded, NoneWhole, StoppedAtLine, MemoryRefused, code_step, is_last_step, StepGives, reader_start}
 use Rattle.bcode.specs.Stopping.{expects, IsStuckAfter}
 use Rattle.blang.specs.Text.{edition_line, opening, opening_lines, lines_of, definition_text, end_text, IsTextOf, IsWithinRanges}
 use Rattle.bcode.specs.declared.code_step.CodeStep.{CodeStep}
@@ -31,16 +31,13 @@ abbrev After : ReaderStart → List Definition → Ahead → Type 0
 After start ds at =
     TakesText (all_ahead start) (opening start.edition ++ flat_map definition_text ds) (length (opening_lines start.edition) + length (flat_map lines_of ds)) at
 
-abbrev beginning : Edition → Incoming → List ℕ → ReaderStart
-beginning edition source lender = record { edition = edition; source = source; lender = lender }
-
-after_opening : (edition : Edition) (source : Incoming) (lender : List ℕ) (b : Bool) (at mid : Ahead) (ds : List Definition) → HasTaken (reader_of (beginning edition source lender) at b false) ds
-    → OpeningRead (to_open b edition) at mid → After (beginning edition source lender) ds mid
+after_opening : (edition : Edition) (source : Incoming) (lender : List ℕ) (b : Bool) (at mid : Ahead) (ds : List Definition) → HasTaken (reader_of (reader_start edition source lender) at b false) ds
+    → OpeningRead (to_open b edition) at mid → After (reader_start edition source lender) ds mid
 after_opening editions.One source lender true at mid ds s e = rw e s.passes
 after_opening editions.Two source lender true at mid ds s e = rw e s.passes
 after_opening editions.One source lender false at mid ds s e = rw e s.passes
 after_opening editions.Two source lender false at mid ds s p =
-    let start = beginning editions.Two source lender in
+    let start = reader_start editions.Two source lender in
     let none = s.unbegun refl in
     let first : TakesText (all_ahead start) [] (0 + 0) at = subst (λ (es : List Definition). TakesText (all_ahead start) ([] ++ flat_map definition_text es) (0 + length (flat_map lines_of es)) at) none s.passes in
     let all = Passes-append first p in
@@ -48,8 +45,8 @@ after_opening editions.Two source lender false at mid ds s p =
     subst (λ (es : List Definition). After start es mid) (sym none) (subst (λ (n : ℕ). TakesText (all_ahead start) edition_line n mid) count all)
 
 -- bytes were taken after those that were read before
-split_there : (edition : Edition) (source : Incoming) (lender : List ℕ) (b : Bool) (at : Ahead) (ds : List Definition) → HasTaken (reader_of (beginning edition source lender) at b false) ds → (taken : List ℕ)
-    → (following : List ℕ) × (opening edition ++ flat_map definition_text ds ++ taken ≡ opening_read (reader_of (beginning edition source lender) at b false) ++ flat_map definition_text ds ++ following)
+split_there : (edition : Edition) (source : Incoming) (lender : List ℕ) (b : Bool) (at : Ahead) (ds : List Definition) → HasTaken (reader_of (reader_start edition source lender) at b false) ds → (taken : List ℕ)
+    → (following : List ℕ) × (opening edition ++ flat_map definition_text ds ++ taken ≡ opening_read (reader_of (reader_start edition source lender) at b false) ++ flat_map definition_text ds ++ following)
 split_there edition source lender true at ds s taken = (taken, refl)
 split_there edition source lender false at ds s taken =
     (opening edition ++ flat_map definition_text ds ++ taken, ap (λ es. flat_map definition_text es ++ (opening edition ++ flat_map definition_text ds ++ taken)) (sym (s.unbegun refl)))
@@ -58,9 +55,9 @@ opens_bound : (opens : Bool) (old mid : Ahead) → OpeningRead opens old mid →
 opens_bound true old mid h = let l = h.reads.took.bound in omega arith
 opens_bound false old mid h = rw h (omega arith)
 
-module _ (edition : Edition) (source : Incoming) (lender : List ℕ) (b : Bool) (at : Ahead) (ds : List Definition) (s : HasTaken (reader_of (beginning edition source lender) at b false) ds) where
+module _ (edition : Edition) (source : Incoming) (lender : List ℕ) (b : Bool) (at : Ahead) (ds : List Definition) (s : HasTaken (reader_of (reader_start edition source lender) at b false) ds) where
   abbrev start : ReaderStart
-  start = beginning edition source lender
+  start = reader_start edition source lender
 
   abbrev before : CodeReader
   before = reader_of start at b false
@@ -144,9 +141,9 @@ module _ (edition : Edition) (source : Incoming) (lender : List ℕ) (b : Bool) 
   }
 
 -- none comes whole after what was read before, where none does in what was taken then
-none_whole : (edition : Edition) (source : Incoming) (lender : List ℕ) (b : Bool) (at : Ahead) (ds : List Definition) → HasTaken (reader_of (beginning edition source lender) at b false) ds → (taken : List ℕ)
+none_whole : (edition : Edition) (source : Incoming) (lender : List ℕ) (b : Bool) (at : Ahead) (ds : List Definition) → HasTaken (reader_of (reader_start edition source lender) at b false) ds → (taken : List ℕ)
     → ((d : Definition) (rest : List ℕ) → IsWithinRanges d → taken ≡ opening_line (to_open b edition) ++ (definition_text d ++ rest) → ⊥)
-    → NoneWhole edition (opening_read (reader_of (beginning edition source lender) at b false) ++ flat_map definition_text ds ++ taken) ds
+    → NoneWhole edition (opening_read (reader_of (reader_start edition source lender) at b false) ++ flat_map definition_text ds ++ taken) ds
 none_whole editions.One source lender true at ds s taken none d rest inside same = none d rest inside (same_rest (opening editions.One ++ flat_map definition_text ds) taken (definition_text d ++ rest) same)
 none_whole editions.Two source lender true at ds s taken none d rest inside same = none d rest inside (same_rest (opening editions.Two ++ flat_map definition_text ds) taken (definition_text d ++ rest) same)
 none_whole editions.One source lender false at ds s taken none d rest inside same = none d rest inside (same_rest (flat_map definition_text ds) taken (definition_text d ++ rest) same)
@@ -155,9 +152,9 @@ none_whole editions.Two source lender false at ds s taken none d rest inside sam
     none d rest inside (ap (λ t. t ++ taken) (sym nothing) ∙ same ∙ ap (λ t. opening editions.Two ++ t ++ (definition_text d ++ rest)) nothing)
 
 -- the line that the text begins with was refused
-stopped_opening : (edition : Edition) (source : Incoming) (lender : List ℕ) (b : Bool) (at new : Ahead) (ds : List Definition) (n : ℕ) → HasTaken (reader_of (beginning edition source lender) at b false) ds
+stopped_opening : (edition : Edition) (source : Incoming) (lender : List ℕ) (b : Bool) (at new : Ahead) (ds : List Definition) (n : ℕ) → HasTaken (reader_of (reader_start edition source lender) at b false) ds
     → to_open b edition ≡ true → RefusesLine {X = Unit {0}} (λ _. edition_line) (λ _. Unit {0}) at n new
-    → StoppedAtLine ds (reader_of (beginning edition source lender) at b false) n (reader_of (beginning edition source lender) new true true)
+    → StoppedAtLine ds (reader_of (reader_start edition source lender) at b false) n (reader_of (reader_start edition source lender) new true true)
 stopped_opening editions.One source lender true at new ds n s e r = absurd (cc)
 stopped_opening editions.Two source lender true at new ds n s e r = absurd (cc)
 stopped_opening editions.One source lender false at new ds n s e r = absurd (cc)
@@ -183,12 +180,12 @@ stopped_opening editions.Two source lender false at new ds n s e r = record {
     none more can rest same = r.none more can tt rest tt (ap (λ t. t ++ r.taken ++ more) (sym nothing) ∙ same)
 
 -- what a call answers and does
-pub next_gives : (edition : Edition) (source : Incoming) (lender : List ℕ) (b : Bool) (at new : Ahead) → MoreCanBeRead (reader_of (beginning edition source lender) at b false) → (r : Result (Option Definition) CodeStop)
+pub next_gives : (edition : Edition) (source : Incoming) (lender : List ℕ) (b : Bool) (at new : Ahead) → MoreCanBeRead (reader_of (reader_start edition source lender) at b false) → (r : Result (Option Definition) CodeStop)
     → NextDefinitionGives (to_open b edition) at r new
-    → let old = reader_of (beginning edition source lender) at b false in let now = reader_of (beginning edition source lender) new true (is_last_step (code_step r)) in
+    → let old = reader_of (reader_start edition source lender) at b false in let now = reader_of (reader_start edition source lender) new true (is_last_step (code_step r)) in
     StepGives old (code_step r) now × (is_last_step (code_step r) ≡ false → MoreCanBeRead now)
 next_gives edition source lender b at new is_open (Ok (Some d)) gives =
-    let given = λ (ds : List Definition) (s : HasTaken (reader_of (beginning edition source lender) at b false) ds). gave edition source lender b at ds s gives.0 new d gives.1 gives.2 in
+    let given = λ (ds : List Definition) (s : HasTaken (reader_of (reader_start edition source lender) at b false) ds). gave edition source lender b at ds s gives.0 new d gives.1 gives.2 in
     ((is_open, given), λ _. record { before = is_open.before ++ d ∷ []; since = (given is_open.before is_open.since).now })
 next_gives edition source lender b at new is_open (Ok None) gives =
     ((is_open, λ ds s. ended edition source lender b at ds s gives.0 new gives.1 gives.2), λ e. absurd (cc))
@@ -201,13 +198,13 @@ next_gives edition source lender b at new is_open (Err (stop.Fault fault.Memory)
 next_gives edition source lender b at new is_open (Err stop.Device) gives =
     ((is_open, λ ds s. record { breaks = gives.breaks; none = none_whole edition source lender b at ds s gives.breaks.taken gives.none; closed = refl }), λ e. absurd (cc))
 
-pub call_gives : (edition : Edition) (source : Incoming) (lender : List ℕ) (b closed : Bool) (at new : Ahead) → closed ≡ false → (closed ≡ false → MoreCanBeRead (reader_of (beginning edition source lender) at b closed))
+pub call_gives : (edition : Edition) (source : Incoming) (lender : List ℕ) (b closed : Bool) (at new : Ahead) → closed ≡ false → (closed ≡ false → MoreCanBeRead (reader_of (reader_start edition source lender) at b closed))
     → (opens : Bool) → opens ≡ to_open b edition → (r : Result (Option Definition) CodeStop) → NextDefinitionGives opens at r new
     → (answer : CodeStep) → answer ≡ code_step r → (last : Bool) → last ≡ is_last_step answer
-    → StepGives (reader_of (beginning edition source lender) at b closed) answer (reader_of (beginning edition source lender) new true last)
-    × (last ≡ false → MoreCanBeRead (reader_of (beginning edition source lender) new true last))
+    → StepGives (reader_of (reader_start edition source lender) at b closed) answer (reader_of (reader_start edition source lender) new true last)
+    × (last ≡ false → MoreCanBeRead (reader_of (reader_start edition source lender) new true last))
 call_gives edition source lender b closed at new closed_is is_open opens opens_is r gives answer answer_is last last_is =
-    let start = beginning edition source lender in
+    let start = reader_start edition source lender in
     let can_come = subst (λ (z : Bool). MoreCanBeRead (reader_of start at b z)) closed_is (is_open closed_is) in
     let base = next_gives edition source lender b at new can_come r (subst (λ (z : Bool). NextDefinitionGives z at r new) opens_is gives) in
     let P = λ (z : Bool) (s : CodeStep) (l : Bool). StepGives (reader_of start at b z) s (reader_of start new true l) × (l ≡ false → MoreCanBeRead (reader_of start new true l)) in
@@ -257,6 +254,3 @@ end_exit opens old mid end now (Err f) e h last same gives = subst (λ (s : Code
         inr (mid, h, subst (λ (k : ℕ). StopsInside mid k now) (sym gives.0) (end_stops gives.1.0 last gives.1.2 gives.1.3 gives.1.1))
     exit (stop.Fault fault.Memory) gives = absurd gives
     exit stop.Device gives = breaks_next opens old mid now h (end_breaks last gives)
-
-pub reads_last : (mid end now : Ahead) → TakesText mid end_text 1 end → TakesBytes end [] now × (now.end.is_over ≡ true) → ReadsLast mid now
-reads_last mid end now last h = record { reads = Reads-append last.reads h.0; over = h.1 }

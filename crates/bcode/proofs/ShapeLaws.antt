@@ -1,12 +1,12 @@
 -- The lines of code texts: each ends with its only newline and has 128 bytes at most.
-use Rattle.std.proofs.Common.{◌≡◌, ◌≢◌, ℕ, ◌+◌, ◌/◌, ◌%◌, ◌<◌, ◌≤◌, ◌^◌, Bool, true, false, ◌&&◌, List, [], ◌∷◌, ◌++◌, length, decimal, refl, sym, ap, ◌∙◌, arith, append_assoc, length-append, IsTrue}
+use Rattle.std.proofs.Common.{◌≡◌, ◌≢◌, ℕ, ◌+◌, ◌/◌, ◌%◌, ◌<◌, ◌≤◌, ◌^◌, true, List, [], ◌∷◌, ◌++◌, length, decimal, refl, sym, ap, ◌∙◌, arith, append_assoc, length-append, IsTrue}
 use Rattle.std.specs.Prelude.{codes, nat_le}
 use Rattle.std.specs.List.{list_all}
 use Rattle.std.proofs.lemmas.List.Elements.{All-nil, All-cons, All-push, All-append}
-use Rattle.std.proofs.lemmas.Bool.{false≢true}
+use Rattle.std.proofs.lemmas.Bool.{false≢true, and_parts}
 use Rattle.std.proofs.lemmas.Bool.Decides.{nat_tests}
 use Rattle.std.proofs.lemmas.Fmt.{decimal_by_steps, length-decimal-le, decimal_nonempty}
-use Rattle.bword.specs.Words.{is_name, is_name_start, is_name_byte}
+use Rattle.bword.specs.Words.{is_name, is_name_start, is_name_byte, operator_text}
 use Rattle.bword.specs.declared.operators.BinOp.{BinOp}
 use Rattle.bword.specs.declared.operators.BinOp.TheVariants as op
 use Rattle.blang.specs.CodeParts.{IsInstrWithin, IsIvalWithin}
@@ -14,7 +14,6 @@ use Rattle.bcode.specs.Headers.{header_text, IsHeaderWithin}
 use Rattle.bcode.specs.LineReading.{FitSizes}
 use Rattle.bcode.specs.Streams.{HasNoNewline, IsLine}
 use Rattle.blang.specs.Text.{line, edition_line, increment_text, instr_line, ival_line}
-use Rattle.bword.specs.Words.{operator_text}
 use Rattle.bcode.specs.declared.header.Header.{Header}
 use Rattle.bcode.specs.declared.header.Header.TheVariants as header
 use Rattle.blang.specs.declared.code.Sizes.{Sizes}
@@ -35,16 +34,12 @@ record IsPart (most : ℕ) (part : List ℕ) : Type 0 where
   some : 0 < length part
   few : length part ≤ most
 
-both : (a b : Bool) → (a && b) ≡ true → (a ≡ true) × (b ≡ true)
-both true b e = (refl, e)
-both false b e = absurd (cc)
-
 name_byte : (b : ℕ) → is_name_byte b ≡ true → b ≢ 10
 name_byte b e same = false≢true (ap is_name_byte (sym same) ∙ e)
 
 name_bytes : (bytes : List ℕ) → list_all is_name_byte bytes ≡ true → HasNoNewline bytes
 name_bytes [] e = All-nil Other
-name_bytes (b ∷ bs) e = let h = both (is_name_byte b) (list_all is_name_byte bs) e in All-cons Other b bs (name_byte b h.0) (name_bytes bs h.1)
+name_bytes (b ∷ bs) e = let h = and_parts (is_name_byte b) (list_all is_name_byte bs) e in All-cons Other b bs (name_byte b h.0) (name_bytes bs h.1)
 
 name_start : (b : ℕ) → is_name_start b ≡ true → b ≢ 10
 name_start b e same = false≢true (ap is_name_start (sym same) ∙ e)
@@ -52,8 +47,8 @@ name_start b e same = false≢true (ap is_name_start (sym same) ∙ e)
 name_part : (name : List ℕ) → IsTrue (is_name name) → IsPart 8 name
 name_part [] e = absurd (cc)
 name_part (b ∷ bs) e =
-    let h = both (is_name_start b) _ e in
-    let k = both _ (list_all is_name_byte bs) h.1 in
+    let h = and_parts (is_name_start b) _ e in
+    let k = and_parts _ (list_all is_name_byte bs) h.1 in
     record {
       clean = All-cons Other b bs (name_start b h.0) (name_bytes bs k.1);
       some = omega arith;

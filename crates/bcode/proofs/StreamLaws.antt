@@ -2,22 +2,22 @@
 use Rattle.std.proofs.Common.{subst, ◌≡◌, ◌≢◌, ℕ, eqb, take, drop, if◌then◌else◌, Bool, ◌+◌, ◌<◌, ◌≤◌, true, false, List, [], ◌∷◌, ◌++◌, length, Option, Some, None, Result, Ok, Err, IsErrAnd, refl, sym, ap, ◌∙◌, ◌-◌, arith, append_assoc, append-nil, length-append, length-take, ◌⊎◌, inl, inr}
 use Rattle.std.specs.Prelude.{is_some, not}
 use Rattle.std.proofs.lemmas.List.Concat.{flat_map-append}
-use Rattle.std.proofs.lemmas.Bool.{false≢true}
-use Rattle.std.proofs.lemmas.List.Elements.{All-nil, All-cons, All-push, All-head, All-tail, All-append}
+use Rattle.std.proofs.lemmas.Bool.{false≢true, eqb-true}
+use Rattle.std.proofs.lemmas.List.Elements.{All-nil, All-cons, All-head, All-tail, All-append}
 use Rattle.std.specs.Io.{StartsWith}
 use Rattle.std.proofs.lemmas.List.{take-take}
 use Rattle.std.proofs.Math.Seq.{take-append_seam}
 use Rattle.bword.specs.ByteEnds.{Incoming, Took, Fails, Grew, NextGives, CanFollow, TakesReady}
 use Rattle.bword.specs.declared.ends.Device.{Device}
 use Rattle.std.proofs.KnownBytes.{Consumes-nil, Consumes-kept}
-use Rattle.bword.proofs.Taking.{Took-none, Took-append, Took-next}
-use Rattle.bcode.specs.Ahead.{Ahead, ReadsLine, RefusesLine, LineGives, SeesEnd, EndGives}
+use Rattle.bword.proofs.Taking.{Took-append, Took-next}
+use Rattle.bcode.specs.Ahead.{Ahead, ReadsLine, RefusesLine, LineGives, SeesEnd}
 use Rattle.bcode.specs.LineReading.{LineReader, IsExact}
 use Rattle.bcode.specs.Streams.{HasNoNewline, IsLine, IsWholeLine, AreLines, IsLinePart, EndsInLine, TakesLine, FailsAfter, FailsInLine}
 use Rattle.blang.specs.declared.limits.TheConstants.{LINE_LEN}
 use Rattle.bcode.specs.declared.code_stop.CodeStop.{CodeStop}
 use Rattle.bcode.specs.declared.code_stop.CodeStop.TheVariants as stop
-use Rattle.bcode.proofs.PartLaws.{only_if, same_read, is_same}
+use Rattle.bcode.proofs.PartLaws.{only_if, same_read}
 use Rattle.bcode.proofs.ShapeLaws.{edition_line-shape}
 use Rattle.std.specs.Cmp.Lexicographic.{pointwise}
 use Rattle.std.proofs.lemmas.Bool.Decides.{Decides-eqb}
@@ -33,36 +33,7 @@ pub record InLine (old : Incoming) (bytes : List ℕ) (new : Incoming) : Type 0 
   pub failures : new.failures ≡ old.failures
   pub clean : HasNoNewline bytes
 
-pub InLine-none : (old : Incoming) → InLine old [] old
-InLine-none old = record { took = Took-none old; failures = refl; clean = All-nil Other }
-
-module _ {old mid new : Incoming} {bytes : List ℕ} where
-  pub InLine-more : (b : ℕ) (pushed : List ℕ) → InLine old bytes mid → NextGives mid (Ok (Some b)) new → (b ≢ 10) → pushed ≡ bytes ++ b ∷ [] → InLine old pushed new
-  InLine-more b pushed h next other e = rw e record {
-    took = Took-append h.took (Took-next mid new (Some b) next);
-    failures = next.failures ∙ h.failures;
-    clean = All-push Other bytes b h.clean other;
-  }
-
-  pub takes_line : (b : ℕ) (pushed : List ℕ) → InLine old bytes mid → NextGives mid (Ok (Some b)) new → b ≡ 10 → pushed ≡ bytes ++ b ∷ [] → TakesLine old pushed new
-  takes_line b pushed h next newline e = rw e record {
-    took = Took-append h.took (Took-next mid new (Some b) next);
-    failures = next.failures ∙ h.failures;
-    whole = inl (record { before = bytes; clean = h.clean; ends = ap (λ x. bytes ++ x ∷ []) newline });
-  }
-
-  pub takes_rest : InLine old bytes mid → NextGives mid (Ok None) new → TakesLine old bytes new
-  takes_rest h next = record {
-    took = (let t = Took-append h.took (Took-next mid new None next) in rw (append-nil bytes) at t);
-    failures = next.failures ∙ h.failures;
-    whole = inr (h.clean, inl next.over);
-  }
-
-  pub fails_in_line : (e : Device) → InLine old bytes mid → NextGives mid (Err e) new → FailsInLine old new
-  fails_in_line e h next = record { taken = bytes; clean = h.clean; fails = record { mid = mid; took = h.took; read = h.failures; failed = next } }
-
 -- a failed read
-
 Took-failed : {old new : Incoming} → Fails old new → Took old [] new
 Took-failed {old} {new} f = record {
   bytes = Consumes-kept old.left old.left new.left [] (Consumes-nil old.left) f.bytes;
@@ -139,7 +110,7 @@ part_of bytes new (inl whole) few = record { newline = inl whole; few = few }
 part_of bytes new (inr h) few = record { newline = inr h.0; few = few }
 
 byte_part : (b : ℕ) (is : Bool) → eqb b 10 ≡ is → IsLinePart (b ∷ [])
-byte_part b true e = record { newline = inl (record { before = []; clean = All-nil Other; ends = ap (λ x. x ∷ []) (is_same b 10 e) }); few = omega arith }
+byte_part b true e = record { newline = inl (record { before = []; clean = All-nil Other; ends = ap (λ x. x ∷ []) (eqb-true b 10 e) }); few = omega arith }
 byte_part b false e = record {
   newline = inr (All-cons Other b [] (λ same. false≢true (sym e ∙ ap (λ x. eqb x 10) same)) (All-nil Other));
   few = omega arith;
@@ -273,11 +244,6 @@ stream_breaks {X} {spell} {within} shape {old} {new} {lender} {lender'} line f s
     none x rest inside whole =
         let s = shape x inside in
         no_newline f.taken s.before rest f.clean (whole ∙ ap (λ l. l ++ rest) s.ends ∙ append_assoc s.before (10 ∷ []) rest)
-
--- the exit of a `?` where the end was not seen
-pub end_fails : {old new : Incoming} {lender lender' : List ℕ} (e : Device) (line : ℕ) → NextGives old (Err e) new → lender' ≡ lender
-    → EndGives (record { end = old; lender = lender; line = line }) (Err e) (record { end = new; lender = lender'; line = line })
-end_fails {old} e line next same = record { taken = []; fails = record { mid = old; took = Took-none old; read = refl; failed = next }; lender = same }
 
 pub sees_end : {old new : Incoming} {lender lender' : List ℕ} (o : Option ℕ) (b : Bool) (line : ℕ) → is_some o ≡ not b → NextGives old (Ok o) new → lender' ≡ lender
     → SeesEnd (at old lender line) b (at new lender' line)

@@ -11,7 +11,7 @@ use Rattle.blang.specs.declared.code.Instr.{Instr}
 use Rattle.blang.specs.declared.code.Instr.TheVariants as instr
 use Rattle.blang.specs.Trees.{Identifier, Stmt, Ival, Ival_constant, Ival_text, Ival_name, Definition, Simple, Vector, Function}
 use Rattle.blang.specs.WellFormed.{IsFormed}
-use Rattle.blang.specs.Walk.{Walk, NothingHere, Said, TextHere, Noted, Level, ◌▸◌, AutoHere, tokens_in, walk_size, walk_value, walk_commas, walk_list, walk_values, walk_parameter, walk_statement, walk_definition}
+use Rattle.blang.specs.Walk.{Walk, Level, ◌▸◌, AutoHere, tokens_in, walk_size, walk_value, walk_commas, walk_list, walk_values, walk_parameter, walk_statement, walk_definition}
 use Rattle.blang.specs.Scan.{name_fault, undefined, Scope, no_scope, function_scope, identifier_of, scanned}
 use Rattle.blang.specs.Code.{Environment, environment_of, ival_code, clean, vector_code, code_of, fault_of, vector_words, fragment}
 use Rattle.blang.specs.Lines.{Lines, no_lines, filled_to, noted_at, Origin, count, size_of, name_origins, statement_origins, value_origins, definition_origins, noted_by}
@@ -47,16 +47,13 @@ upto_append at t (suc m) n =
     ∙ ap (λ l. at t ∷ l) (upto_append at (suc t) m n ∙ ap (λ k. upto at (suc t) m ++ upto at k n) (let q : suc t + m ≡ t + suc m = omega arith in q))
 
 lines_are : (at : ℕ → ℕ) (w : Walk) (t : ℕ) (rest : List ℕ) → lines_in at w t rest ≡ upto at t (count w) ++ rest
-lines_are at NothingHere t rest = refl
-lines_are at (Said p) t rest = refl
-lines_are at (TextHere x) t rest = refl
-lines_are at (Noted e) t rest = refl
 lines_are at (Level o w a) t rest = ap (λ l. at t ∷ l) (lines_are at w (t + 1) rest ∙ ap (λ k. upto at k (count w) ++ rest) (add-one t))
 lines_are at (v ▸ w) t rest =
     lines_are at v t (lines_in at w (t + count v) rest)
     ∙ ap (λ l. upto at t (count v) ++ l) (lines_are at w (t + count v) rest)
     ∙ sym (append_assoc (upto at t (count v)) (upto at (t + count v) (count w)) rest)
     ∙ ap (λ l. l ++ rest) (sym (upto_append at t (count v) (count w)) ∙ ap (upto at t) (sym (length-append (tokens_in v) (tokens_in w))))
+lines_are at _ t rest = refl
 
 upto_shift : (at : ℕ → ℕ) (t n : ℕ) → upto at (suc t) n ≡ upto (λ k. at (suc k)) t n
 upto_shift at t zero = refl

@@ -18,11 +18,11 @@ use Rattle.bgrammar.specs.Fitting.{EachAfter, Sits, ival_words, values_words, Iv
 use Rattle.blang.specs.Scan.{fault, name_fault, undefined, Scope, no_scope, function_events, function_scope, inner_fault, scope_fault, identifier_of, scan}
 use Rattle.bword.specs.Words.{same_name}
 use Rattle.blang.specs.Code.{Environment, environment_of, ival_code, vector_words, clean, code_of, fits_limits, fault_of, or_too_large, Fragment, fragment}
-use Rattle.bgrammar.proofs.WalkLaws.{length-strings}
+use Rattle.bgrammar.proofs.WalkLaws.{length-strings, function_events_are}
 use Rattle.blang.specs.Walk.{walk_value}
 use Rattle.bgrammar.proofs.Fitting.{simple_strings, vector_strings, function_strings, formed_in}
 use Rattle.bgrammar.proofs.ScanSteps.{scanned-Err}
-use Rattle.bemit.specs.Drafts.{led, Made, Draft, Faulty, Going, no_made, fresh, within_room, with_made, stringed, offset_of, valued, worded, closed, numbered, draft_resolved, fault_in, started}
+use Rattle.bemit.specs.Drafts.{led, Made, Draft, Faulty, Going, no_made, fresh, within_room, stringed, offset_of, valued, worded, closed, numbered, draft_resolved, fault_in, started}
 use Rattle.bemit.specs.Drafts as drafts
 use Rattle.bemit.specs.Effects.{ival_done, values_done, definition_done, code_with}
 use Rattle.bcodegen.specs.Laws.{instructions_in, last_scope, pass_over, OnePass}
@@ -33,7 +33,6 @@ use Rattle.bcodegen.proofs.Breaks.{statement_breaks, fills_whole, statement_clos
 use Rattle.bcodegen.proofs.Trees.{statement_parts}
 use Rattle.bcodegen.proofs.StatementMakes.{done_makes}
 use Rattle.bcodegen.proofs.Numbered.{renumbered, names_renumbered, numbered_fragment, fragment_numbered}
-use Rattle.bgrammar.proofs.WalkLaws.{function_events_are}
 
 pub faulty_is : (r : Draft) (f : Diagnostic) → scope_of r ≡ Err f → r ≡ Faulty f
 faulty_is (Faulty g) f h = let e : g ≡ f = cc in ap (λ x. Faulty x) e

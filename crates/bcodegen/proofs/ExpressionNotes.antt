@@ -3,7 +3,7 @@ use Rattle.std.proofs.Common.{◌≡◌, ℕ, suc, ◌+◌, ◌-◌, ◌≤◌, 
 use Rattle.blang.specs.declared.code.Instr.{Instr}
 use Rattle.blang.specs.declared.code.Instr.TheVariants as instr
 use Rattle.blang.specs.declared.code.Increment.TheVariants as increment
-use Rattle.blang.specs.Trees.{Expr, Arguments, PrefixOp, PostfixOp, Negate, Not, Indirection, Address, PreIncrement, PreDecrement, PostIncrement, PostDecrement, Named, Literal, Text, Grouped, Indexed, Called, Postfixed, Prefixed, Binary, Conditional, Assigned, No_arguments, Another}
+use Rattle.blang.specs.Trees.{Expr, Arguments, PrefixOp, PostfixOp, Negate, Not, Indirection, Address, PreIncrement, PreDecrement, PostIncrement, PostDecrement, Named, Grouped, Indexed, Called, Postfixed, Prefixed, Binary, Conditional, Assigned, No_arguments, Another}
 use Rattle.blang.specs.WellFormed.{rvalue_rank, or_rank, conditional_rank, rank}
 use Rattle.blang.specs.Scan.{Scope, scanned}
 use Rattle.blang.specs.Walk.{◌▸◌, Event, LvalueWanted, walk, walk_arguments, comma_before_next}
@@ -125,9 +125,6 @@ module _ (names : Environment) where
 
   mutual
     pub held_notes : (e : Expr) (called : Bool) (loose k off room : ℕ) → Fits e loose k off → Held e (events_of called e) room off
-    held_notes (Named w) called loose k off room h = here
-    held_notes (Literal c) called loose k off room h = here
-    held_notes (Text bytes offset) called loose k off room h = here
     held_notes (Grouped e) called loose k off room h =
         let i = inside (λ j. Fits e rvalue_rank j off) k h in
         rescanned_notes (events_false e ∙ ended_twice (events e)) (renoted (only (held_code names (Grouped e)) (strings (Grouped e))) (λ at t rest. lines_in at (walk (Grouped e)) t rest) (origins names (Grouped e)) (λ p. le_refl _) (omega (arith, length-append (strings e) []))
@@ -180,6 +177,7 @@ module _ (names : Environment) where
         (renoted (only (held_code names (Assigned op line e f)) (strings (Assigned op line e f))) (λ at t rest. lines_in at (walk (Assigned op line e f)) t rest) (origins names (Assigned op line e f)) (λ p. longer (address_code names e p) (word_code names f _) _) (le_refl _) (λ at t rest. ap (λ c. lines_in at (walk e) t (at c ∷ lines_in at (walk f) (c + 1) rest)) (add-zero (t + count (walk e)))) (λ p t. ap (λ c. origins names e p t ++ origins names f (p + c) (t + count (walk e) + 1)) (held_is names e p))
         (by_address e line (events f) (only (word_code names f) (strings f))
         (notes_then (λ t. t + count (walk e)) (checked_held e line (held_makes names e false 0 k off room h.1)) (rescanned_notes (ap (λ l. l ++ LvalueWanted line e ∷ []) (events_false e)) (widened (LvalueWanted line e ∷ []) (held_notes e false 0 k off room h.1))) (past (word_notes f (held_notes f false rvalue_rank i.0 (off + words e) room i.1))) (expression_words e off))))
+    held_notes _ called loose k off room h = here
 
     pub passed_notes : (args : Arguments) (k off room : ℕ) → ArgumentsFit args k off → Notes names (trailed_arguments args) (argument_events args) room off (only (argument_code names args) (argument_strings args)) (λ at t rest. lines_in at (walk_arguments args) t rest) (argument_origins names args)
     passed_notes No_arguments k off room h = nothing_noted

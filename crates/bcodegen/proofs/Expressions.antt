@@ -4,8 +4,8 @@ use Rattle.blang.specs.declared.token.Diagnostic.{Diagnostic}
 use Rattle.bword.specs.declared.operators.BinOp.TheVariants as op
 use Rattle.blang.specs.declared.code.Instr.{Instr}
 use Rattle.blang.specs.declared.code.Instr.TheVariants as instr
-use Rattle.blang.specs.Trees.{Identifier, Expr, Arguments, Indirection, Named, Literal, Text, Grouped, Indexed, Called, Postfixed, Prefixed, Binary, Conditional, Assigned}
-use Rattle.blang.specs.Scan.{Entry, NameKind, Automatic, External, Unlabelled, Labelled, kind_of, Scope, scan_event, scanned, is_lvalue}
+use Rattle.blang.specs.Trees.{Identifier, Expr, Arguments, Indirection, Named, Literal, Text, Grouped, Indexed, Called, Prefixed, Binary, Conditional, Assigned}
+use Rattle.blang.specs.Scan.{Entry, NameKind, Automatic, kind_of, Scope, scan_event, scanned, is_lvalue}
 use Rattle.blang.specs.Walk.{Event, Mention, LvalueWanted}
 use Rattle.bgrammar.specs.Events.{events, argument_events}
 use Rattle.blang.specs.Scan as scan
@@ -33,17 +33,13 @@ meaning_form (At_label number) = Lone
 -- what an expression leaves, by what the names stand for
 abbrev pub form_by : Environment → Expr → Form
 form_by names (Named w) = meaning_form (names w.text)
-form_by names (Literal c) = Lone
-form_by names (Text bytes offset) = Lone
 form_by names (Grouped e) = grouped (form_by names e)
 form_by names (Indexed e f) = Place
-form_by names (Called e args) = Lone
-form_by names (Postfixed op line e) = Lone
 form_by names (Prefixed Indirection line e) = Place
-form_by names (Prefixed op line e) = Lone
 form_by names (Binary op line e f) = Joined
 form_by names (Conditional e f g) = Joined
 form_by names (Assigned op line e f) = Joined
+form_by names _ = Lone
 
 -- the address of a place, and the word of anything else
 abbrev pub held_code : Environment → Expr → ℕ → List Instr
@@ -122,9 +118,7 @@ rooted e called s s2 h = tt
 
 form_standing : (i : ℕ) (k : NameKind) → form_at (Some k) ≡ meaning_form (standing i k)
 form_standing i (Automatic word) = refl
-form_standing i External = refl
-form_standing i (Unlabelled line) = refl
-form_standing i (Labelled number) = refl
+form_standing i _ = refl
 
 form_is : (names : Environment) (e : Expr) (s : Scope) (made : Option Made) → Rooted s.names e → Agrees names s.names → form e (Going s made) ≡ form_by names e
 form_is names (Named w) s made r agree = ap form_at r.1 ∙ form_standing (entry_of w.text s.names) r.0 ∙ ap meaning_form (sym (agree w.text r.0 r.1))
@@ -139,9 +133,7 @@ is_place_form Joined = false
 
 kind_place : (k : NameKind) → is_place_form (form_at (Some k)) ≡ scan.is_place (Some k)
 kind_place (Automatic word) = refl
-kind_place External = refl
-kind_place (Unlabelled line) = refl
-kind_place (Labelled number) = refl
+kind_place _ = refl
 
 place_grouped : (f : Form) → is_place_form (grouped f) ≡ is_place_form f
 place_grouped Place = refl
@@ -163,9 +155,7 @@ put_only m i = λ j. record { code = m.code ++ i ∷ []; strings = sym (append-n
 
 standing_address : (x : List ℕ) (i : ℕ) (k : NameKind) → address_at x i (Some k) ≡ name_address_code (standing i k) x
 standing_address x i (Automatic word) = refl
-standing_address x i External = refl
-standing_address x i (Unlabelled line) = refl
-standing_address x i (Labelled number) = refl
+standing_address x i _ = refl
 
 pub names_makes : {names : Environment} {room off : ℕ} (called : Bool) (w : Identifier) → Makes names (named called w) (Mention called w ∷ []) room off (only (λ p. name_address_code (names w.text) w.text ∷ []) [])
 names_makes {names = names} called w = record {

@@ -4,8 +4,8 @@ use Rattle.std.specs.List.{position_from}
 use Rattle.std.proofs.lemmas.Iterator.Adapters.{position_from-zero}
 use Rattle.blang.specs.declared.token.Diagnostic.{Diagnostic}
 use Rattle.blang.specs.Trees.{Identifier}
-use Rattle.blang.specs.Scan.{Entry, NameKind, Automatic, External, Unlabelled, Labelled, kind_of, with_entry, with_declaration, with_mention, with_label, kind_mentioned, Scope, scan_event, scanned, automatic_words}
-use Rattle.blang.specs.Walk.{Event, AutoHere, ExtrnHere, Mention, LabelHere, CaseHere, DefaultHere, BreakHere, LvalueWanted, LoopBegins, LoopEnds, SwitchBegins, SwitchEnds}
+use Rattle.blang.specs.Scan.{Entry, NameKind, Automatic, External, Unlabelled, Labelled, kind_of, kind_mentioned, Scope, scan_event, scanned, automatic_words}
+use Rattle.blang.specs.Walk.{Event, AutoHere, ExtrnHere, Mention, LabelHere, CaseHere, DefaultHere, BreakHere, LvalueWanted}
 use Rattle.bword.specs.Words.{same_name}
 use Rattle.blang.specs.Scan as scope
 use Rattle.blang.specs.Code.{Environment, Referent, In_frame, Outside, At_label}
@@ -150,10 +150,7 @@ later_step (CaseHere line value) s s2 h = let d = selects line value s s2 h in l
 later_step (DefaultHere line) s s2 h = let d = defaults line s s2 h in later_at s s2 d.names d.frame
 later_step (LvalueWanted line e) s s2 h = subst (Later s) (sym (lvalues line e s s2 h).is) (later_at s s refl refl)
 later_step (BreakHere line) s s2 h = subst (Later s) (sym (breaks line s s2 h).is) (later_at s s refl refl)
-later_step LoopBegins s s2 h = later_same s _ s2 refl refl h
-later_step LoopEnds s s2 h = later_same s _ s2 refl refl h
-later_step SwitchBegins s s2 h = later_same s _ s2 refl refl h
-later_step SwitchEnds s s2 h = later_same s _ s2 refl refl h
+later_step _ s s2 h = later_same s _ s2 refl refl h
 
 extends_trans : (es fs gs : List Entry) → Extends es fs → Extends fs gs → Extends es gs
 extends_trans [] fs gs h k = tt

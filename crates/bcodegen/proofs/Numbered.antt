@@ -8,8 +8,8 @@ use Rattle.bword.specs.declared.operators.BinOp.{BinOp}
 use Rattle.bword.specs.declared.operators.BinOp.TheVariants as op
 use Rattle.blang.specs.declared.code.Instr.{Instr}
 use Rattle.blang.specs.declared.code.Instr.TheVariants as instr
-use Rattle.blang.specs.Trees.{Expr, Arguments, Negate, Not, Indirection, Address, PreIncrement, PreDecrement, PostIncrement, PostDecrement, Named, Literal, Text, Grouped, Indexed, Called, Postfixed, Prefixed, Binary, Conditional, Assigned, No_arguments, Another, Declared, Heading, Auto, Extrn, Label, Case, Default, Stmt, Stmts}
-use Rattle.blang.specs.Scan.{Entry, NameKind, Automatic, External, Unlabelled, Labelled, kind_of, undefined, undefined_at}
+use Rattle.blang.specs.Trees.{Expr, Arguments, Negate, Not, Indirection, Address, PreIncrement, PreDecrement, PostIncrement, PostDecrement, Named, Literal, Text, Grouped, Indexed, Called, Postfixed, Prefixed, Binary, Conditional, Assigned, No_arguments, Another, Declared, Heading, Auto, Stmt, Stmts}
+use Rattle.blang.specs.Scan.{Entry, NameKind, Unlabelled, Labelled, kind_of, undefined, undefined_at}
 use Rattle.blang.specs.Code.{Environment, Referent, In_frame, Outside, At_label, environment_of, referent_of, name_address_code, name_word_code, word_code, address_code, argument_code, argument_count, assignment, vector_code, Arms, default_in, tests_code, default_code, arms_code, heading_code, heading_targets, no_targets, Code, Fragment, Segment, empty_segment, of_code, put, ◌▹◌, keeping_arms, row, halves, heading_fragment, fragment, body_fragment}
 use Rattle.bgrammar.proofs.RowLaws.{IsLone, Goes, Returns, Drops, arms_segment, KeptBySegments, by_segments, body_by_segments}
 use Rattle.bgrammar.proofs.CodeLaws.{Anything}
@@ -49,10 +49,8 @@ label_is x es k h =
     ap (label_number es) place ∙ r.number_is
 
 defined_head : (x : List ℕ) (k : NameKind) (following : Option Diagnostic) → undefined_at x k following ≡ None → (following ≡ None) × ((line : ℕ) → k ≡ Unlabelled line → ⊥)
-defined_head x (Automatic word) following h = (h, λ line q. cc)
-defined_head x External following h = (h, λ line q. cc)
 defined_head x (Unlabelled line) following h = cc
-defined_head x (Labelled number) following h = (h, λ line q. cc)
+defined_head x _ following h = (h, λ line q. cc)
 
 all_labelled : (x : List ℕ) (es : List Entry) (line : ℕ) → undefined es ≡ None → kind_of x es ≡ Some (Unlabelled line) → ⊥
 all_labelled x [] line u h = cc
@@ -69,11 +67,9 @@ pub names_renumbered : (es : List Entry) → undefined es ≡ None → (x : List
 names_renumbered es u x = go (kind_of x es) refl
   where
     go : (o : Option NameKind) → kind_of x es ≡ o → renumbered es (standing_of (entry_of x es) (kind_of x es)) ≡ referent_of (kind_of x es)
-    go None q = rw q refl
-    go (Some (Automatic word)) q = rw q refl
-    go (Some External) q = rw q refl
     go (Some (Unlabelled line)) q = absurd (all_labelled x es line u q)
     go (Some (Labelled number)) q = rw q (ap (λ n. At_label n) (label_is x es (Labelled number) q))
+    go _ q = rw q refl
 
 -- code with these names becomes code with those
 module _ (es : List Entry) (names names2 : Environment) (renamed : (x : List ℕ) → renumbered es (names x) ≡ names2 x) where
@@ -180,10 +176,7 @@ module _ (es : List Entry) (names names2 : Environment) (renamed : (x : List ℕ
 
   pub heading_numbered : (h : Heading) → map (numbered es) (heading_code names h) ≡ heading_code names2 h
   heading_numbered (Auto ds) = vectors_numbered ds
-  heading_numbered (Extrn ws) = refl
-  heading_numbered (Label w) = refl
-  heading_numbered (Case line c) = refl
-  heading_numbered (Default line) = refl
+  heading_numbered _ = refl
 
   -- a fragment, with its labels by their numbers
   abbrev pub numbered_fragment : Fragment → Fragment

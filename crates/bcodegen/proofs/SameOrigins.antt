@@ -1,6 +1,6 @@
 -- Origins are the same whichever numbers labels have.
 use Rattle.std.proofs.Common.{◌≡◌, ℕ, ◌+◌, Bool, List, [], ◌∷◌, ◌++◌, length, refl, ap, ap₂, ◌∙◌, if◌then◌else◌, true, false}
-use Rattle.blang.specs.Trees.{Expr, Arguments, Indirection, Named, Literal, Text, Grouped, Indexed, Called, Postfixed, Prefixed, Binary, Conditional, Assigned, No_arguments, Another, Declared, Heading, Auto, Extrn, Label, Case, Default, Stmt, Headed, Compound, If, IfElse, While, Switch, Goto, Break, Return, ReturnValue, Evaluate, Empty, Stmts, Nothing, More}
+use Rattle.blang.specs.Trees.{Expr, Arguments, Indirection, Named, Grouped, Indexed, Called, Postfixed, Prefixed, Binary, Conditional, Assigned, No_arguments, Another, Declared, Heading, Auto, Stmt, Headed, Compound, If, IfElse, While, Switch, Goto, ReturnValue, Evaluate, Stmts, Nothing, More}
 use Rattle.blang.specs.Scan.{Entry}
 use Rattle.blang.specs.Walk.{walk, walk_arguments, comma_before_next, walk_declared, walk_heading, walk_statement, walk_body}
 use Rattle.blang.specs.Code.{Environment, Referent, In_frame, Outside, At_label, word_code, address_code, argument_code, vector_code, heading_code, Fragment, fragment, body_fragment}
@@ -39,9 +39,6 @@ module _ (es : List Entry) (names names2 : Environment) (renamed : (x : List ℕ
 
   mutual
     origins_same : (e : Expr) (p t : ℕ) → origins names e p t ≡ origins names2 e p t
-    origins_same (Named w) p t = refl
-    origins_same (Literal c) p t = refl
-    origins_same (Text bytes offset) p t = refl
     origins_same (Grouped e) p t = origins_same e p (t + 1)
     origins_same (Indexed e f) p t = two_same e f p t (t + count (walk e) + 1) (origins_same e p t) (λ q. origins_same f q (t + count (walk e) + 1))
     origins_same (Called e args) p t =
@@ -61,6 +58,7 @@ module _ (es : List Entry) (names names2 : Environment) (renamed : (x : List ℕ
     origins_same (Assigned op line e f) p t =
         let u = t + count (walk e) + 1 in
         ap₂ (λ a b. a ++ b) (origins_same e p t) (ap (λ n. origins names f (p + n) u) (held_same e p) ∙ origins_same f (p + held_length names2 e p) u)
+    origins_same _ p t = refl
 
     passed_same : (args : Arguments) (p t : ℕ) → argument_origins names args p t ≡ argument_origins names2 args p t
     passed_same No_arguments p t = refl
@@ -78,10 +76,7 @@ module _ (es : List Entry) (names names2 : Environment) (renamed : (x : List ℕ
 
   heading_same : (h : Heading) (p t : ℕ) → heading_origins names h p t ≡ heading_origins names2 h p t
   heading_same (Auto ds) p t = autos_same ds p (t + 1)
-  heading_same (Extrn ws) p t = refl
-  heading_same (Label w) p t = refl
-  heading_same (Case line c) p t = refl
-  heading_same (Default line) p t = refl
+  heading_same _ p t = refl
 
   end_same : (s : Stmt) (p : ℕ) → (fragment names s p).end ≡ (fragment names2 s p).end
   end_same s p = ap (λ (a : Fragment). a.end) (fragment_numbered es names names2 renamed s p)
@@ -120,11 +115,9 @@ module _ (es : List Entry) (names names2 : Environment) (renamed : (x : List ℕ
         ∙ ap (λ n. origins names e p (t + 1) ++ body_origins names body q u ++ origin n v ∷ origin n t ∷ []) (body_end_same body q)
         ∙ ap₂ (λ a b. a ++ b ++ origin ((body_fragment names2 body q).end) v ∷ origin ((body_fragment names2 body q).end) t ∷ []) (origins_same e p (t + 1)) (body_same body q u)
     statement_same (Goto e) p t = origins_same e p (t + 1)
-    statement_same (Break line) p t = refl
-    statement_same Return p t = refl
     statement_same (ReturnValue e) p t = ap (λ l. origin p t ∷ l) (origins_same e p (t + 2))
     statement_same (Evaluate e) p t = origins_same e p t
-    statement_same Empty p t = refl
+    statement_same _ p t = refl
 
     body_same : (ss : Stmts) (p t : ℕ) → body_origins names ss p t ≡ body_origins names2 ss p t
     body_same Nothing p t = refl

@@ -68,10 +68,6 @@ module _ (names : Environment) where
   abbrev AllDone : Stmts → (room off : ℕ) → Type 0
   AllDone ss room off = Notes names (trailed_body ss) (body_events ss) room off (body_parts names ss) (λ at t rest. lines_in at (walk_body ss) t rest) (body_origins names ss)
 
-  -- where the code of a statement ends
-  ends_at : (s : Stmt) (p q : ℕ) → p ≡ q → p + length ((fragment names s p).code 0) ≡ (fragment names s q).end
-  ends_at s p q e = statement_ends names s p 0 ∙ ap (λ c. (fragment names s c).end) e
-
   ways_origins : (e : Expr) (s other : Stmt) (p t : ℕ) → (let q = p + length (word_code names e p) + 1 in let u = t + 2 + count (walk e) + 1 in
       origins names e p (t + 2) ++ (statement_origins names s q u ++ statement_origins names other (q + length ((fragment names s q).code 0) + 1) (u + count (walk_statement s) + 1)))
       ≡ statement_origins names (IfElse e s other) p t

@@ -1,5 +1,5 @@
 -- Closed facts: what is full, labels by their numbers, frames, and the first fault of a draft.
-use Rattle.std.specs.Prelude.{◌≡◌, ℕ, ◌<◌, List, [], ◌∷◌, map, codes, Option, Some, None, refl}
+use Rattle.std.specs.Prelude.{◌≡◌, ◌<◌, List, [], ◌∷◌, map, codes, Option, Some, None, refl}
 use Rattle.std.proofs.Common.{arith}
 use Rattle.blang.specs.declared.limits.TheConstants.{MAX_INSTRUCTIONS}
 use Rattle.blang.specs.declared.token.Letters.TheVariants as letters

@@ -5,7 +5,7 @@ use Rattle.bword.specs.Words.{binary_of}
 use Rattle.blang.specs.declared.code.Instr.{Instr}
 use Rattle.blang.specs.declared.code.Instr.TheVariants as instr
 use Rattle.blang.specs.declared.run.Library.{Library}
-use Rattle.blang.specs.declared.run.Library.TheVariants.{Char, Lchar, Getchar, Putchar, Printn, Exit}
+use Rattle.blang.specs.declared.run.Library.TheVariants.{Getchar, Printn}
 use Rattle.blang.specs.declared.run.Trap.{Trap}
 use Rattle.blang.specs.declared.run.Trap.TheVariants.{BadBase}
 use Rattle.blang.specs.Layout.{label_target, World, Ending, Reply, Gives, Ends, word_at, with_word, with_words, parameter_words, next_byte, is_base, argument, printed, with_output, library, Trapped, Callee, NoFunction, OfLibrary, OfProgram, callee_of, refusal, first_world}
@@ -51,12 +51,9 @@ printn_alike true w bytes = (refl, refl)
 printn_alike false w bytes = (refl, refl)
 
 library_alike : (f : Library) (args : List ℕ) (w : World) → AreAlike (library f args (unwritten w)) (library f args w)
-library_alike Char args w = (refl, refl)
-library_alike Lchar args w = (refl, refl)
 library_alike Getchar args w = byte_alike w.input w
-library_alike Putchar args w = (refl, refl)
 library_alike Printn args w = printn_alike (is_base (argument args 1)) w (printed (argument args 0) (argument args 1))
-library_alike Exit args w = (refl, refl)
+library_alike _ args w = (refl, refl)
 
 words_alike : (vs : List ℕ) (a : ℕ) (w w' : World) → unwritten w ≡ unwritten w' → unwritten (with_words w a vs) ≡ unwritten (with_words w' a vs)
 words_alike [] a w w' same = same
@@ -87,11 +84,6 @@ call_alike w (OfProgram f) args caller below =
     called_alike w (refusal (1 + length below) (caller.start + caller.function.frame + f.frame)) f args (caller.start + caller.function.frame) caller below
 
 act_alike : (image : Image) (call : Call) (below : List Call) (w : World) (i : Instr) → silent (act image call below (unwritten w) i) ≡ silent (act image call below w i)
-act_alike image call below w (instr.Constant n) = refl
-act_alike image call below w (instr.External x) = refl
-act_alike image call below w (instr.Automatic k) = refl
-act_alike image call below w (instr.Text o) = refl
-act_alike image call below w (instr.Label k) = refl
 act_alike image call below w instr.Load = one_alike w call.operands _ _ (λ a rest. refl)
 act_alike image call below w instr.Store = two_alike w call.operands _ _ (λ a v rest. refl)
 act_alike image call below w (instr.Binary op) =
@@ -101,7 +93,6 @@ act_alike image call below w (instr.Modify op) =
 act_alike image call below w instr.Negate = one_alike w call.operands _ _ (λ x rest. refl)
 act_alike image call below w instr.Not = one_alike w call.operands _ _ (λ x rest. refl)
 act_alike image call below w (instr.Increment which) = one_alike w call.operands _ _ (λ a rest. refl)
-act_alike image call below w (instr.Jump t) = refl
 act_alike image call below w (instr.JumpIfZero t) = one_alike w call.operands _ _ (λ x rest. if_alike (x == 0) _ _ _ _ refl refl)
 act_alike image call below w instr.Goto =
     one_alike w call.operands _ _ (λ v rest. gone_alike w (label_target call.function.first_label call.function.targets v) call rest below)
@@ -110,6 +101,7 @@ act_alike image call below w (instr.Call n) =
     one_alike w (drop n call.operands) _ _ (λ f rest. call_alike w (callee_of image.functions f) (reverse (take n call.operands)) (at_place call (call.place + 1) rest) below)
 act_alike image call below w instr.Return = one_alike w call.operands _ _ (λ v rest. return_alike w v below)
 act_alike image call below w instr.Pop = one_alike w call.operands _ _ (λ v rest. refl)
+act_alike image call below w _ = refl
 
 act_if_alike : (image : Image) (call : Call) (below : List Call) (w : World) (i : Option Instr) → silent (act_if image call below (unwritten w) i) ≡ silent (act_if image call below w i)
 act_if_alike image call below w None = refl

@@ -1,7 +1,7 @@
 -- The pieces and tokens of a source that are still to come.
 use Rattle.std.proofs.Common.{◌≡◌, ◌≢◌, ◌∙◌, ℕ, zero, suc, ◌+◌, ◌<◌, ◌≤◌, Bool, true, false, List, [], ◌∷◌, ◌++◌, Option, Some, None, ap, append_assoc, append-nil, arith, drop, length, map, refl, subst, sym}
 use Rattle.std.proofs.lemmas.List.{drop_all}
-use Rattle.std.specs.Prelude.{if◌then◌else◌, is_some, not, slice_range}
+use Rattle.std.specs.Prelude.{if◌then◌else◌, is_some, slice_range}
 use Rattle.std.specs.List.{list_any}
 use Rattle.bword.specs.declared.edition.Edition.{Edition}
 use Rattle.blang.specs.Cut.{Piece, Space, Word, is_last, piece_first, tokens_from, whole}
@@ -11,17 +11,13 @@ use Rattle.blang.specs.declared.token.Token.TheVariants as token
 use Rattle.blang.specs.declared.token.Letters.TheVariants as letters
 use Rattle.blex.specs.declared.lexeme.Lexeme.{Lexeme}
 use Rattle.blex.specs.declared.lexeme.Lexeme.TheVariants as lexeme
-use Rattle.blex.specs.Places.{Finds, Scanner, after_blanks, line_at, next_piece, piece_end, piece_from, piece_lexeme}
+use Rattle.blex.specs.Places.{after_blanks, line_at, next_piece, piece_end, piece_from, piece_lexeme}
 use Rattle.blex.specs.declared.scanner.PlacedPiece.{PlacedPiece}
 use Rattle.blex.proofs.Cutting.{tokens_from-nil}
 use Rattle.blex.proofs.PlaceSteps.{end_piece, piece_grows, places_of_tokens, some_piece_from}
 use Rattle.bformat.specs.Formats.{has_wrong_token, is_wrong, tokens_of}
 use Rattle.bformat.specs.Pieces.{is_end, pieces_from, pieces_of}
 use Rattle.bformat.specs.Readings.{is_bad}
-
-pub not_false : (b : Bool) → not b ≡ false → b ≡ true
-not_false true e = refl
-not_false false e = cc
 
 pub fine_before : (t : Token) (ts : List Token) → is_last t ≡ false → list_any is_wrong (t ∷ ts) ≡ list_any is_wrong ts
 fine_before (token.Bad letters) ts e = cc
@@ -104,23 +100,16 @@ module _ (edition : Edition) (source : List ℕ) where
 
   fine_end : (o : Option Piece) (line : ℕ) (rest : List Placed) → is_end (piece_lexeme o) ≡ true → list_any is_wrong (without_lines (piece_first o line rest)) ≡ false
   fine_end (Some (Word token.End)) line rest e = refl
-  fine_end None line rest e = cc
-  fine_end (Some Space) line rest e = cc
-  fine_end (Some (Word _)) line rest e = cc
+  fine_end _ line rest e = cc
 
   wrong_first : (o : Option Piece) (line : ℕ) (rest : List Placed) → is_bad (piece_lexeme o) ≡ true → list_any is_wrong (without_lines (piece_first o line rest)) ≡ true
   wrong_first (Some (Word (token.Bad letters))) line rest e = refl
-  wrong_first None line rest e = cc
-  wrong_first (Some Space) line rest e = cc
-  wrong_first (Some (Word _)) line rest e = cc
+  wrong_first _ line rest e = cc
 
   -- a source is read up to a place: its pieces before, and whether one of its tokens is wrong is open
   pub record Reads (texts : List (List ℕ)) (at : ℕ) : Type 0 where
     pub all : texts ++ coming at ≡ pieces_of edition source
     pub undecided : list_any is_wrong (upcoming at) ≡ has_wrong_token edition source
-
-  pub reads_from : Reads [] 0
-  reads_from = record { all = refl; undecided = refl }
 
   module _ (texts : List (List ℕ)) (at : ℕ) (found : PlacedPiece) (is : found ≡ next_piece edition source at) (h : Reads texts at) where
     lexeme_is : found.lexeme ≡ piece_lexeme (piece_at at)
@@ -159,9 +148,7 @@ module _ (edition : Edition) (source : List ℕ) where
 
   tokens_end : (o : Option Piece) (line : ℕ) (rest : List Placed) → is_end (piece_lexeme o) ≡ true → without_lines (piece_first o line rest) ≡ token.End ∷ []
   tokens_end (Some (Word token.End)) line rest e = refl
-  tokens_end None line rest e = cc
-  tokens_end (Some Space) line rest e = cc
-  tokens_end (Some (Word _)) line rest e = cc
+  tokens_end _ line rest e = cc
 
   if_without : (b : Bool) (rest : List Placed) → without_lines (if b then [] else rest) ≡ (if b then [] else without_lines rest)
   if_without true rest = refl
@@ -210,8 +197,3 @@ pub compares_end : (edition : Edition) (text : List ℕ) (texts : List (List ℕ
     → is_end found.lexeme ≡ true → pieces_of edition text ≡ texts
 compares_end edition text texts at found is h e =
     sym h.all ∙ ap (λ ps. texts ++ ps) (coming_end edition text at (ap (λ (p : PlacedPiece). is_end p.lexeme) (sym is) ∙ e)) ∙ append-nil texts
-
--- what a scanner found
-pub found_in : (old new : Scanner) (found : PlacedPiece) (edition : Edition) (source : List ℕ) → Finds old found new → old.edition ≡ edition → old.source ≡ source
-    → found ≡ next_piece edition source old.at
-found_in old new found edition source h e f = h.found_is ∙ ap (λ x. next_piece x old.source old.at) e ∙ ap (λ s. next_piece edition s old.at) f

@@ -3,10 +3,10 @@ use Rattle.std.proofs.Common.{◌≡◌, ℕ, zero, suc, ◌+◌, List, [], ◌�
 use Rattle.blang.specs.declared.token.Token.TheVariants as token
 use Rattle.blang.specs.declared.token.Keyword.TheVariants as keyword
 use Rattle.blang.specs.declared.token.Placed.{Placed}
-use Rattle.blang.specs.Trees.{mark, Identifier, Number, Character, name_token, Stmt, Headed, Compound, If, IfElse, While, Empty, keyword_mark, Ival, Ival_constant, Ival_text, Ival_name, Definition, Simple, Vector, Function}
+use Rattle.blang.specs.Trees.{mark, Identifier, Number, name_token, Stmt, Headed, Compound, If, IfElse, While, Empty, keyword_mark, Ival, Ival_constant, Ival_text, Definition, Simple, Vector, Function}
 use Rattle.bgrammar.specs.Spelling.{list_spelling, spell_heading, spell_condition, spell_statement}
 use Rattle.blang.specs.Walk.{spell_definition, walk_commas, walk_list, walk_size, walk_value, walk_values, walk_parameter, walk_statement, walk_definition}
-use Rattle.blang.specs.WellFormed.{IsNonempty, IsFormed}
+use Rattle.blang.specs.WellFormed.{IsFormed}
 use Rattle.blang.specs.declared.limits.TheConstants.{MAX_NESTING}
 use Rattle.bgrammar.specs.Fitting.{words, EachAfter, statement_words, Sits, IvalFits}
 use Rattle.bgrammar.specs.Reading.{Got, ◌>>=◌, first, expect}
@@ -22,10 +22,9 @@ use Rattle.bgrammar.proofs.DefinitionFine.{ival_fine}
 use Rattle.bgrammar.proofs.Fitting.{formed_in, in_formed}
 
 ival_again : (before : List Ival) (v : Ival) (rest : List Placed) → IvalFits before v → ival before (onto (walk_value v) rest) ≡ Got v rest
-ival_again before (Ival_constant (Number n)) rest f = refl
-ival_again before (Ival_constant (Character n)) rest f = refl
 ival_again before (Ival_text bytes offset) rest f = ap (λ o. Got (Ival_text bytes o) rest) (sym f)
-ival_again before (Ival_name w) rest f = refl
+ival_again before (Ival_constant (Number n)) rest f = refl
+ival_again before _ rest f = refl
 
 ival_no_semicolon : (v : Ival) (rest : List Placed) → is_semicolon (first (onto (walk_value v) rest)) ≡ false
 ival_no_semicolon (Ival_constant (Number n)) rest = refl

@@ -4,7 +4,7 @@ use Rattle.std.specs.Prelude.{nat_le}
 use Rattle.std.specs.List.{list_any}
 use Rattle.std.proofs.lemmas.Bool.Decides.{nat_tests}
 use Rattle.std.proofs.lemmas.List.{length-map}
-use Rattle.bword.specs.Words.{is_name}
+use Rattle.bword.specs.Words.{is_name, same_name}
 use Rattle.blang.specs.CodeParts.{Function, IsWord, IsIvalWithin, sizes_of, IsFunctionWithinRanges}
 use Rattle.blang.specs.Text.{IsWithinRanges}
 use Rattle.blang.specs.declared.code.Sizes.{Sizes}
@@ -16,10 +16,9 @@ use Rattle.blang.specs.Trees.{Identifier, Stmt, Definition, Simple, Vector, Func
 use Rattle.blang.specs.WellFormed.{IsFormed}
 use Rattle.blang.specs.declared.limits.TheConstants.{MAX_NESTING}
 use Rattle.bgrammar.specs.Fitting.{Sits, statement_words}
-use Rattle.blang.specs.Scan.{NameKind, Automatic, External, Unlabelled, Labelled, kind_of, Scope, no_scope, scan, function_events, function_scope, scope_fault}
+use Rattle.blang.specs.Scan.{NameKind, Automatic, External, Labelled, kind_of, Scope, no_scope, scan, function_events, function_scope, scope_fault}
 use Rattle.bgrammar.specs.Spelling.{size_spelling, spell_statement, list_spelling}
 use Rattle.blang.specs.Walk.{spell_definition, Event, AutoHere, ExtrnHere, walk_list, events_in, walk_statement, walk_parameter, walk_value}
-use Rattle.bword.specs.Words.{same_name}
 use Rattle.blang.specs.Code.{Referent, In_frame, referent_of, environment_of, ival_code, vector_words, string_words_of, clean, code_of, fits_limits, or_too_large, fault_of, fragment}
 use Rattle.bgrammar.proofs.CodeLaws.{counts_words, statement_ends}
 use Rattle.bgrammar.proofs.Fitting.{simple_strings, vector_strings, function_strings, formed_in, statement_both}
@@ -42,11 +41,9 @@ three_fit a b c x y z h = (grind (arith, nat_tests), grind (arith, nat_tests), g
 
 -- What the names of a clean scan stand for.
 meaning_within : (sizes : Sizes) (o : Option NameKind) → ((k : NameKind) → o ≡ Some k → IsKindWithin sizes.frame sizes.labels k) → IsMeaningWithin sizes (referent_of o)
-meaning_within sizes None f = tt
 meaning_within sizes (Some (Automatic word)) f = f (Automatic word) refl
 meaning_within sizes (Some (Labelled number)) f = f (Labelled number) refl
-meaning_within sizes (Some External) f = tt
-meaning_within sizes (Some (Unlabelled line)) f = tt
+meaning_within sizes _ f = tt
 
 no_vector : (sizes : Sizes) (m : Referent) → IsVectorWithin sizes m None
 no_vector sizes (In_frame k) = tt

@@ -245,11 +245,8 @@ old_back [] qs h = h
 old_back (p ∷ ps) qs h = old_back ps qs h.1
 
 heading_old : (h : Heading) → AllOld (map bare (spell_heading h)) → IsOldHeading h
-heading_old (Auto declared) o = tt
-heading_old (Extrn names) o = tt
-heading_old (Label w) o = tt
-heading_old (Case line c) o = tt
 heading_old (Default line) o = let e = o.0 in cc
+heading_old _ o = tt
 
 mutual
   statement_old : (s : Stmt) → AllOld (map bare (spell_statement s)) → IsOld s

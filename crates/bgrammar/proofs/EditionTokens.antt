@@ -13,7 +13,7 @@ use Rattle.blang.specs.declared.token.Keyword.{Keyword}
 use Rattle.blang.specs.declared.token.Token.{Token}
 use Rattle.blang.specs.declared.token.Token.TheVariants as token
 use Rattle.blang.specs.declared.token.Placed.{Placed}
-use Rattle.blang.specs.Cut.{Piece, Space, Word, Quoted, Open, Starred, Closed, Wrong, Past, is_blank, is_digit, is_digit_of, digits_value, base_of, is_text, alone, piece_when, first_keywords, keyword_of, keyword_or_name, word_token, number_when, number_in, number_token, after_close, comment_of, quoted, quoted_constant, character_token, string_token, operator_of, assignment_of, others, other_of, fixed_of, fixed_or_stray, whole, longest, line_number_after, is_last, piece_first, cut, tokens_from}
+use Rattle.blang.specs.Cut.{Piece, Space, Word, Quoted, Closed, Past, is_blank, is_digit, is_digit_of, digits_value, base_of, is_text, alone, piece_when, first_keywords, keyword_of, keyword_or_name, word_token, number_when, number_in, number_token, after_close, comment_of, quoted, quoted_constant, character_token, string_token, operator_of, assignment_of, others, other_of, fixed_of, fixed_or_stray, whole, longest, line_number_after, is_last, piece_first, cut, tokens_from}
 use Rattle.blang.specs.Trees.{bare}
 use Rattle.bgrammar.specs.Editions.{is_new, AllOld, TokensOfOne}
 
@@ -55,10 +55,8 @@ old_number_of (b ∷ bs) = old_number_when (list_all (is_digit_of (base_of b)) (
 
 old_constant_of : (constant : List ℕ → Token) (q : Quoted) → ((characters : List ℕ) → IsOldToken (constant characters)) → IsOldPiece (quoted_constant constant q)
 old_constant_of constant (Closed characters) c = c characters
-old_constant_of constant (Open characters) c = refl
-old_constant_of constant (Starred characters) c = refl
-old_constant_of constant Wrong c = refl
 old_constant_of constant Past c = tt
+old_constant_of constant _ c = refl
 
 old_character_token : (characters : List ℕ) → IsOldToken (character_token characters)
 old_character_token [] = refl

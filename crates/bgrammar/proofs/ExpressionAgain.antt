@@ -69,7 +69,7 @@ rest_of room r off e = many (always (op_at (suc r))) (operation (chain (inner ro
 loop_at : (room r off : ℕ) → Loop closing (always (op_at (suc r))) (operation (chain (inner room) r) off)
 loop_at room r off = op_loop (inner room) (has_room room) r off
 
-good_at : (room : ℕ) → Good (inner (suc room))
+pub good_at : (room : ℕ) → Good (inner (suc room))
 good_at room = record { fine = reader_fine room; one_is = reader_one room }
 
 -- an expression is read again at each place where it fits
@@ -149,7 +149,7 @@ below_question = record { no_suffix = refl; no_operator = λ i le. refl }
 below_assign : (op : Option BinOp) → Below or_rank (token.Assign op)
 below_assign op = record { no_suffix = refl; no_operator = λ i le. refl }
 
-rank_positive : (o : BinOp) → 1 ≤ rank o
+pub rank_positive : (o : BinOp) → 1 ≤ rank o
 rank_positive op.Mul = omega arith
 rank_positive _ = omega arith
 
@@ -167,7 +167,7 @@ having_none i op lt = go (nat_eq (rank op) i) refl
 op_below : (op : BinOp) (j : ℕ) → rank op ≡ suc j → Below j (token.Operator op)
 op_below op j e = record { no_suffix = refl; no_operator = λ i le. having_none i op (omega arith) }
 
-no_rank_zero : (t : Token) → op_at 0 t ≡ None
+pub no_rank_zero : (t : Token) → op_at 0 t ≡ None
 no_rank_zero (token.Operator op) = having_none 0 op (omega (arith, rank_positive op))
 no_rank_zero _ = refl
 

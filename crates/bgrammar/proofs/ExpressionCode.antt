@@ -6,7 +6,7 @@ use Rattle.bword.specs.declared.operators.BinOp.{BinOp}
 use Rattle.blang.specs.CodeParts.{IsInstrWithin, IsWord}
 use Rattle.blang.specs.declared.code.Sizes.{Sizes}
 use Rattle.blang.specs.declared.code.Instr.{Instr}
-use Rattle.blang.specs.Trees.{Constant, Number, Character, Expr, Arguments, PrefixOp, PostfixOp, Negate, Not, Indirection, Address, PreIncrement, PreDecrement, PostIncrement, PostDecrement, Named, Literal, Text, Grouped, Indexed, Called, Postfixed, Prefixed, Binary, Conditional, Assigned, No_arguments, Another, constant_token, constant_value}
+use Rattle.blang.specs.Trees.{Constant, Number, Character, Expr, Arguments, PrefixOp, PostfixOp, Indirection, Address, PreIncrement, PreDecrement, PostIncrement, PostDecrement, Named, Literal, Text, Grouped, Indexed, Called, Postfixed, Prefixed, Binary, Conditional, Assigned, No_arguments, Another, constant_token, constant_value}
 use Rattle.blang.specs.Code.{Referent, In_frame, Outside, At_label, Environment, name_address_code, name_word_code, assignment, argument_count, word_code, address_code, argument_code}
 use Rattle.bgrammar.proofs.Holds.{Holds, Holds-nil, Holds-cons, Holds-append}
 use Rattle.bgrammar.proofs.Tokens.{IsSound}
@@ -36,17 +36,12 @@ module _ (names : Environment) where
     some_word_code (Grouped e) p = some_word_code e p
     some_word_code (Indexed e f) p = omega (arith, length-append {A = Instr}, some_word_code e p)
     some_word_code (Called e args) p = omega (arith, length-append {A = Instr}, some_word_code e p)
-    some_word_code (Postfixed PostIncrement line e) p = omega (arith, length-append {A = Instr})
-    some_word_code (Postfixed PostDecrement line e) p = omega (arith, length-append {A = Instr})
-    some_word_code (Prefixed Negate line e) p = omega (arith, length-append {A = Instr})
-    some_word_code (Prefixed Not line e) p = omega (arith, length-append {A = Instr})
-    some_word_code (Prefixed Indirection line e) p = omega (arith, length-append {A = Instr})
     some_word_code (Prefixed Address line e) p = some_address_code e p
-    some_word_code (Prefixed PreIncrement line e) p = omega (arith, length-append {A = Instr})
-    some_word_code (Prefixed PreDecrement line e) p = omega (arith, length-append {A = Instr})
     some_word_code (Binary op line e f) p = omega (arith, length-append {A = Instr}, some_word_code e p)
     some_word_code (Conditional e f g) p = omega (arith, length-append {A = Instr}, some_word_code e p)
     some_word_code (Assigned op line e f) p = omega (arith, length-append {A = Instr}, some_address_code e p)
+    some_word_code (Postfixed PostIncrement line e) p = omega (arith, length-append {A = Instr})
+    some_word_code _ p = omega (arith, length-append {A = Instr})
 
     some_address_code : (e : Expr) (p : ℕ) → 1 ≤ length (address_code names e p)
     some_address_code (Named w) p = omega arith
@@ -91,12 +86,10 @@ module _ (names : Environment) (sizes : Sizes) (meant : (x : List ℕ) → IsMea
   prefixed_within : (op : PrefixOp) (line : ℕ) (e : Expr) (p : ℕ) → (p + length (word_code names e p) < sizes.code → Within (word_code names e p))
       → (p + length (address_code names e p) < sizes.code → Within (address_code names e p)) → p + length (word_code names (Prefixed op line e) p) < sizes.code
       → Within (word_code names (Prefixed op line e) p)
-  prefixed_within Negate line e p w a l = Holds-append (w (omega (arith, length-append {A = Instr}))) (Holds-cons tt Holds-nil)
-  prefixed_within Not line e p w a l = Holds-append (w (omega (arith, length-append {A = Instr}))) (Holds-cons tt Holds-nil)
-  prefixed_within Indirection line e p w a l = Holds-append (w (omega (arith, length-append {A = Instr}))) (Holds-cons tt Holds-nil)
   prefixed_within Address line e p w a l = a l
   prefixed_within PreIncrement line e p w a l = Holds-append (a (omega (arith, length-append {A = Instr}))) (Holds-cons tt Holds-nil)
   prefixed_within PreDecrement line e p w a l = Holds-append (a (omega (arith, length-append {A = Instr}))) (Holds-cons tt Holds-nil)
+  prefixed_within _ line e p w a l = Holds-append (w (omega (arith, length-append {A = Instr}))) (Holds-cons tt Holds-nil)
 
   abbrev InWalk : Walk → Type 0
   InWalk w = IsWalkWithin sizes names w

@@ -137,9 +137,6 @@ module _ (inner : Inner) (room : Room inner) where
   operand_start : (off : ℕ) → Start closing Any (operand inner off)
   operand_start off = record { with_ = one ∷ []; value = one_tree; done = operand_one off; front = λ k h. tt }
 
-  after_prefix : ℕ → PrefixOp → Placed → Reader Expr
-  after_prefix off op t r = inner.read Operand off r >>= λ e. Got (Prefixed op t.line e)
-
   prefix_opened : (off : ℕ) (op : PrefixOp) (t : Placed) → Opened closing (prefixed inner off op) t
   prefix_opened off op t = go room
     where

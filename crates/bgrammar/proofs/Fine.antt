@@ -114,9 +114,6 @@ module _ (C : Closing) where
   pub map_fine : {A B : Type 0} (p : Reader A) (f : A → B) (ts : List Placed) → Fine C.Is p ts → Fine C.Is (λ x. p x >>= λ a. Got (f a)) ts
   map_fine p f ts fine = then_fine p (λ a. Got (f a)) (λ a. got_start (f a)) ts fine (λ a r. got_fine (f a) r)
 
-  pub map_start : {A B : Type 0} (Safe : Token → Type 0) (p : Reader A) (f : A → B) → Start Safe p → Start Safe (λ x. p x >>= λ a. Got (f a))
-  map_start Safe p f s = record { with_ = s.with_; value = f s.value; done = λ k h. ap (λ x. x >>= λ a. Got (f a)) (s.done k h); front = s.front }
-
   -- a token that must come, and what stands after it
   pub expect_then : {B : Type 0} (is : Token → Bool) (t : Token) → is t ≡ true → is token.End ≡ false → (f : Reader B) → Start Any f → ((ts : List Placed) → Fine C.Is f ts) → (ts : List Placed) → Fine C.Is (λ x. expect is x >>= λ o. f) ts
   expect_then is t yes_ end f s fine [] = halts [] [] refl (λ new e. rw (ap is e ∙ end) refl) (mark t ∷ s.with_) s.value (λ k h. rw yes_ (s.done k h))

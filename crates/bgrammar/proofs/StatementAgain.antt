@@ -23,7 +23,7 @@ use Rattle.bgrammar.proofs.FormLaws.{parts_again}
 use Rattle.blang.specs.Walk.{walk, walk_list, walk_size, walk_declared, walk_import, walk_heading, walk_statement, walk_body}
 
 -- a statement from what stands before it on
-abbrev following : ℕ → ℕ → Lead → Reader Stmt
+abbrev pub following : ℕ → ℕ → Lead → Reader Stmt
 following room off l r = stmt_after room (level room) off l.word r >>= λ s. Got (headed l.headings s)
 
 abbrev from : ℕ → ℕ → Lead → Reader Stmt
@@ -81,7 +81,7 @@ direct room off hs s ts rest n e =
     ap (λ x. x >>= following room off) (many_none lead_step lead_turn (after_headings hs) ts n)
     ∙ ap (λ x. x >>= λ s. Got (headed hs s)) e
 
-no_label : (w : Identifier) (t : Token) → is_colon t ≡ false → step_at (Some w) t ≡ None
+pub no_label : (w : Identifier) (t : Token) → is_colon t ≡ false → step_at (Some w) t ≡ None
 no_label w token.Colon h = cc
 no_label w _ h = refl
 

@@ -15,7 +15,7 @@ use Rattle.blang.specs.declared.token.Keyword.{Keyword}
 use Rattle.blang.specs.declared.token.Token.{Token}
 use Rattle.blang.specs.declared.token.Token.TheVariants as token
 use Rattle.blang.specs.declared.token.Placed.{Placed}
-use Rattle.blang.specs.Cut.{Piece, Space, Word, Quoted, Open, Starred, Closed, Wrong, Past, is_blank, is_digit, is_digit_of, digits_value, is_text, alone, piece_when, keyword_of, keyword_or_name, word_token, number_when, number_in, number_token, after_close, comment_of, plain_of, escapes, escape_of, with_character, with_quoted_byte, quoted, quoted_constant, character_token, string_token, operator_of, assignment_of, others, other_of, fixed_of, fixed_or_stray, whole, longest, line_number_after, is_last, piece_first, cut, tokens_from}
+use Rattle.blang.specs.Cut.{Piece, Space, Word, Quoted, Open, Starred, Closed, is_blank, is_digit, is_digit_of, digits_value, is_text, alone, piece_when, keyword_of, keyword_or_name, word_token, number_when, number_in, number_token, after_close, comment_of, plain_of, escapes, escape_of, with_character, with_quoted_byte, quoted, quoted_constant, character_token, string_token, operator_of, assignment_of, others, other_of, fixed_of, fixed_or_stray, whole, longest, line_number_after, is_last, piece_first, cut, tokens_from}
 use Rattle.bgrammar.proofs.Holds.{Holds, Holds-nil, Holds-cons, Holds-append}
 
 abbrev pub IsByte : ℕ → Type 0
@@ -85,9 +85,7 @@ sound-with_byte quote room (Open characters) b h =
     (λ _. cond_both (length characters == room) _ _ IsSoundQuoted (λ _. tt)
     (λ _. cond_both (b == 42) _ _ IsSoundQuoted (λ _. h) (λ _. sound-with_character characters (plain_of b) h (byte_plain_of b))))
 sound-with_byte quote room (Starred characters) b h = sound-with_character characters (escape_of b) h (byte_escape_of b)
-sound-with_byte quote room (Closed characters) b h = tt
-sound-with_byte quote room Wrong b h = tt
-sound-with_byte quote room Past b h = tt
+sound-with_byte quote room _ b h = tt
 
 sound-fold : (quote room : ℕ) (bytes : List ℕ) (q : Quoted) → IsSoundQuoted q → IsSoundQuoted (fold (with_quoted_byte quote room) q bytes)
 sound-fold quote room [] q h = h
@@ -95,10 +93,7 @@ sound-fold quote room (b ∷ bytes) q h = sound-fold quote room bytes (with_quot
 
 sound-constant_of : (constant : List ℕ → Token) (q : Quoted) → ((characters : List ℕ) → Holds IsByte characters → IsSound (constant characters)) → IsSoundQuoted q → IsSoundPiece (quoted_constant constant q)
 sound-constant_of constant (Closed characters) c h = c characters h
-sound-constant_of constant (Open characters) c h = tt
-sound-constant_of constant (Starred characters) c h = tt
-sound-constant_of constant Wrong c h = tt
-sound-constant_of constant Past c h = tt
+sound-constant_of constant _ c h = tt
 
 sound-character_token : (characters : List ℕ) → Holds IsByte characters → IsSound (character_token characters)
 sound-character_token [] h = tt

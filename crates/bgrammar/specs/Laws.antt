@@ -5,8 +5,7 @@ use Rattle.blang.specs.declared.token.Keyword.TheVariants as keyword
 use Rattle.blang.specs.declared.token.Placed.{Placed}
 use Rattle.bword.specs.declared.edition.Edition.{Edition}
 use Rattle.blang.specs.Cut.{tokens_from}
-use Rattle.blang.specs.Trees.{mark, kept_tokens, bare, Identifier, Expr, name_token, Stmt}
-use Rattle.blang.specs.Trees.{keyword_mark, Definition}
+use Rattle.blang.specs.Trees.{mark, kept_tokens, bare, Identifier, Expr, name_token, Stmt, keyword_mark, Definition}
 use Rattle.bgrammar.specs.Spelling.{spell, spell_statement}
 use Rattle.blang.specs.Walk.{spell_definition}
 use Rattle.blang.specs.WellFormed.{rvalue_rank, IsFormed}

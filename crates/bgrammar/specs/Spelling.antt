@@ -3,9 +3,8 @@ use Rattle.std.specs.Prelude.{List, [], ◌∷◌, ℕ, Option}
 use Rattle.blang.specs.declared.token.Placed.{Placed}
 use Rattle.blang.specs.Trees.{Identifier, Expr, Arguments, name_token, Declared, Heading, Stmt, Stmts, Ival}
 use Rattle.blang.specs.Walk.{Walk, tokens_in, walk_commas, walk_list, comma_before_next, walk, walk_arguments}
-use Rattle.blang.specs.Walk.{walk_size}
-use Rattle.blang.specs.Walk.{walk_declared, walk_heading, walk_parenthesized, walk_statement, walk_body, walk_value}
-use Rattle.blang.specs.Walk.{walk_values}
+use Rattle.blang.specs.Walk.{walk_size, walk_declared, walk_heading, walk_parenthesized, walk_statement, walk_body}
+use Rattle.blang.specs.Walk.{walk_value, walk_values}
 
 abbrev pub spell : Expr → List Placed
 spell e = tokens_in (walk e)

@@ -9,35 +9,31 @@ use Rattle.blang.specs.declared.token.Letters.TheVariants as letters
 use Rattle.blang.specs.declared.token.About.TheVariants as about
 use Rattle.blang.specs.declared.token.Diagnostic.{Diagnostic}
 use Rattle.blang.specs.Cut.{placed}
-use Rattle.blang.specs.Trees.{Identifier, Number, Negate, PostIncrement, Expr, Named, Literal, Text, Grouped, Indexed}
+use Rattle.blang.specs.Trees.{Identifier, Negate, PostIncrement, Expr, Named, Text, Grouped, Indexed}
 use Rattle.blang.specs.Trees.{Called, Postfixed, Prefixed, Binary, Conditional, Assigned, No_arguments, Another, Auto}
-use Rattle.blang.specs.Trees.{Extrn, Label, Stmt, Headed, Compound, If, IfElse, While, Switch}
-use Rattle.blang.specs.Trees.{Goto, ReturnValue, Evaluate, Empty, Nothing, More, Ival_text}
-use Rattle.blang.specs.Trees.{Simple, Function}
-use Rattle.blang.specs.WellFormed.{IsPostfix, Binds, is_open, StatementBinds, IsFormed}
-use Rattle.blang.specs.WellFormed.{AllFormed}
-use Rattle.blang.specs.WellFormed.{IsProgram, BeginsProgram, IsViable, fault_at, StopsAt, IsPart, packed}
+use Rattle.blang.specs.Trees.{Extrn, Label, Stmt, Headed, Compound, If, IfElse, While, Switch, Goto, ReturnValue}
+use Rattle.blang.specs.Trees.{Evaluate, Empty, Nothing, More, Ival_text, Simple, Function}
+use Rattle.blang.specs.WalkRows.{one}
+use Rattle.blang.specs.WellFormed.{IsPostfix, Binds, is_open, StatementBinds, IsFormed, AllFormed, IsProgram}
+use Rattle.blang.specs.WellFormed.{BeginsProgram, IsViable, fault_at, StopsAt, IsPart, packed}
 
-abbrev one : Expr
-one = Literal (Number 1)
-
-abbrev set : Expr
+abbrev pub set : Expr
 set = Assigned None 1 one one
 
-abbrev no_claim : Type 0
+abbrev pub no_claim : Type 0
 no_claim = Unit {0}
 
-abbrev pick : Expr
+abbrev pub pick : Expr
 pick = Conditional one one one
 
 abbrev join : Expr
 join = Binary op.Or 1 one one
 
 -- what these three ask where operators of this rank may be
-abbrev at : ℕ → Type 0
+abbrev pub at : ℕ → Type 0
 at loose = (9 ≤ loose) × no_claim × no_claim
 
-abbrev pick_at : ℕ → Type 0
+abbrev pub pick_at : ℕ → Type 0
 pick_at loose = (8 ≤ loose) × no_claim × no_claim × no_claim
 
 abbrev join_at : ℕ → Type 0

@@ -14,8 +14,7 @@ use Rattle.blang.specs.declared.token.Token.TheVariants as token
 use Rattle.blang.specs.Cut.{Piece, Space, Word, whole, is_digit, is_digit_of, base_of, plain_of, escape_of, keyword_of}
 use Rattle.blang.specs.Cut.{Quoted, Open, Starred, Closed, Wrong, Past, with_quoted_byte, character_token, string_token}
 use Rattle.blang.specs.Cut.{number_token, number_in, next_line, line_number_after, is_last, tokens_from, placed, cut}
-use Rattle.blang.specs.Cut.{longest, after_close}
-use Rattle.blang.specs.Cut.{greatest, keywords, word_token, operator_of, other_of, fixed_of}
+use Rattle.blang.specs.Cut.{longest, after_close, greatest, keywords, word_token, operator_of, other_of, fixed_of}
 
 abbrev bytes : List ℕ
 bytes = range_with_len 0 256

@@ -1,7 +1,6 @@
 -- Promise: what comes of a source: its code text and its diagnostic, and what the compiler writes and answers.
 use Rattle.std.specs.Prelude.{◌≡◌, ℕ, suc, List, [], ◌∷◌, ◌++◌, length, map, drop, codes, decimal, Option, Some, None}
-use Rattle.std.specs.Prelude.{◌≢◌, ◌≤◌, ◌<◌}
-use Rattle.std.specs.Prelude.{◌⊎◌, take}
+use Rattle.std.specs.Prelude.{◌≢◌, ◌≤◌, ◌<◌, ◌⊎◌, take}
 use Rattle.bword.specs.declared.edition.Edition.{Edition}
 use Rattle.bword.specs.declared.ends.EndFault.{EndFault}
 use Rattle.bword.specs.ByteEnds.{Incoming, Outgoing, Took, Grew, Writes, Refuses, CanFollow}

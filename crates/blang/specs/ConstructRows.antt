@@ -1,19 +1,15 @@
 -- Closed facts: the code of each construct at place 7. A part is often the choice `1?2:3`, whose jumps show its place.
-use Rattle.std.specs.Prelude.{◌≡◌, ◌+◌, ℕ, List, [], ◌∷◌, ◌++◌, map, codes, replicate, Option, Some, None}
-use Rattle.std.specs.Prelude.{refl}
+use Rattle.std.specs.Prelude.{◌≡◌, ◌+◌, ℕ, List, [], ◌∷◌, ◌++◌, map, codes, replicate, Option, Some, None, refl}
 use Rattle.bword.specs.declared.operators.BinOp.TheVariants as op
 use Rattle.blang.specs.declared.code.Instr.{Instr}
 use Rattle.blang.specs.declared.code.Instr.TheVariants as instr
 use Rattle.blang.specs.declared.code.Increment.TheVariants as increment
 use Rattle.blang.specs.Trees.{Identifier, Number, Character, Negate, Not, Indirection, Address, PreIncrement}
-use Rattle.blang.specs.Trees.{PreDecrement}
-use Rattle.blang.specs.Trees.{PostIncrement, PostDecrement, Expr, Named, Literal, Text, Grouped, Indexed, Called}
-use Rattle.blang.specs.Trees.{Postfixed}
-use Rattle.blang.specs.Trees.{Prefixed, Binary, Conditional, Assigned, No_arguments, Another, Auto, Extrn, Label, Case}
-use Rattle.blang.specs.Trees.{Default, Stmt, Headed, Compound, If, IfElse, While, Switch, Goto, Break, Return}
-use Rattle.blang.specs.Trees.{ReturnValue}
-use Rattle.blang.specs.Trees.{Evaluate, Empty, Stmts, Nothing, More}
-use Rattle.blang.specs.Trees.{Ival_constant, Ival_text, Ival_name, Simple, Vector, Function}
+use Rattle.blang.specs.Trees.{PreDecrement, PostIncrement, PostDecrement, Expr, Named, Literal, Text, Grouped, Indexed}
+use Rattle.blang.specs.Trees.{Called, Postfixed, Prefixed, Binary, Conditional, Assigned, No_arguments, Another, Auto}
+use Rattle.blang.specs.Trees.{Extrn, Label, Case, Default, Stmt, Headed, Compound, If, IfElse, While, Switch, Goto}
+use Rattle.blang.specs.Trees.{Break, Return, ReturnValue, Evaluate, Empty, Stmts, Nothing, More, Ival_constant}
+use Rattle.blang.specs.Trees.{Ival_text, Ival_name, Simple, Vector, Function}
 use Rattle.blang.specs.declared.code.Definition as coded
 use Rattle.blang.specs.declared.code.Definition.TheVariants as code
 use Rattle.blang.specs.declared.code.Ival.TheVariants as ival

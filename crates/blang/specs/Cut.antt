@@ -1,8 +1,7 @@
 -- Promise: the cut of a source into tokens: what a whole piece of it is, and each piece the longest at its place.
 use Rattle.std.specs.Prelude.{ℕ, ◌+◌, ◌-◌, ◌*◌, Bool, true, false, ◌&&◌, ◌||◌, ◌==◌, nat_le, nat_lt, List, [], ◌∷◌}
-use Rattle.std.specs.Prelude.{◌++◌, length}
-use Rattle.std.specs.Prelude.{take, drop, fold, codes, nat_eq, Option, Some, None, if◌then◌else◌, suc, zero, min}
-use Rattle.std.specs.Prelude.{is_some}
+use Rattle.std.specs.Prelude.{◌++◌, length, take, drop, fold, codes, nat_eq, Option, Some, None, if◌then◌else◌, suc}
+use Rattle.std.specs.Prelude.{zero, min, is_some}
 use Rattle.std.specs.List.{list_all, find}
 use Rattle.std.specs.Map.{lookup}
 use Rattle.std.specs.Option.{option_map, option_or}

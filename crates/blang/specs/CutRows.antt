@@ -8,9 +8,8 @@ use Rattle.bword.specs.declared.edition.Edition.TheVariants as editions
 use Rattle.bword.specs.declared.operators.BinOp.TheVariants as op
 use Rattle.blang.specs.declared.token.Token.{Token}
 use Rattle.blang.specs.Cut.{Word, whole, is_blank, word_token, keyword_of, number_in, with_quoted_byte, plain_of}
-use Rattle.blang.specs.Cut.{number_token, escape_of, operator_of, other_of, fixed_of, string_token, tokens_from}
-use Rattle.blang.specs.Cut.{placed, cut, longest}
-use Rattle.blang.specs.Cut.{greatest, is_last}
+use Rattle.blang.specs.Cut.{number_token, escape_of, operator_of, other_of, fixed_of, string_token, tokens_from, placed}
+use Rattle.blang.specs.Cut.{cut, longest, greatest, is_last}
 use Rattle.blang.specs.Cut as cut_rules
 use Rattle.blang.specs.declared.token.Token.TheVariants as token
 use Rattle.blang.specs.declared.token.Keyword.TheVariants as keyword

@@ -13,10 +13,9 @@ use Rattle.blang.specs.declared.run.Report.TheVariants as report
 use Rattle.blang.specs.declared.code.Increment.TheVariants.{PreIncrement, PreDecrement, PostIncrement, PostDecrement}
 use Rattle.blang.specs.declared.code.Ival.TheVariants as ival
 use Rattle.blang.specs.Layout.{World, word_at, with_word, with_words, Gives, Ends, Exited, Trapped, library, printed}
-use Rattle.blang.specs.Layout.{is_base}
-use Rattle.blang.specs.Layout.{argument, character_bytes, stepped, stored_word, left_word, label_target, callee_of}
-use Rattle.blang.specs.Layout.{NoFunction}
-use Rattle.blang.specs.Layout.{OfLibrary, OfProgram, refusal, parameter_words, value_word, padded}
+use Rattle.blang.specs.Layout.{is_base, argument, character_bytes, stepped, stored_word, left_word, label_target}
+use Rattle.blang.specs.Layout.{callee_of, NoFunction, OfLibrary, OfProgram, refusal, parameter_words, value_word}
+use Rattle.blang.specs.Layout.{padded}
 use Rattle.blang.specs.Reports.{report_text}
 use Rattle.blang.specs.Headline.{line_at, status_at}
 use Rattle.blang.specs.Value.{is_true}

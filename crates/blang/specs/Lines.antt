@@ -11,8 +11,7 @@ use Rattle.blang.specs.Walk.{Walk, tokens_in, walk, walk_arguments, comma_before
 use Rattle.blang.specs.Walk.{walk_heading, walk_list, walk_parameter, walk_statement, walk_body, spell_definition}
 use Rattle.blang.specs.Scan.{function_scope}
 use Rattle.blang.specs.Code.{Environment, Referent, In_frame, Outside, At_label, environment_of, clean, word_code}
-use Rattle.blang.specs.Code.{address_code, argument_code, vector_code, heading_code, fragment, body_fragment}
-use Rattle.blang.specs.Code.{code_of}
+use Rattle.blang.specs.Code.{address_code, argument_code, vector_code, heading_code, fragment, body_fragment, code_of}
 use Rattle.blang.specs.declared.code.Definition as coded
 use Rattle.blang.specs.declared.code.Definition.TheVariants as code
 

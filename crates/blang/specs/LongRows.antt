@@ -20,12 +20,10 @@ use Rattle.blang.specs.declared.code.Ival.TheVariants as ival
 use Rattle.blang.specs.declared.run.LoadFault.TheVariants as fault
 use Rattle.blang.specs.Trees as tree
 use Rattle.blang.specs.Trees.{Identifier, Expr, Named, Called, No_arguments, Arguments, Another, Stmt, Stmts, More}
-use Rattle.blang.specs.Trees.{Headed, Label}
-use Rattle.blang.specs.Trees.{Goto, Compound, ReturnValue, Function}
+use Rattle.blang.specs.Trees.{Headed, Label, Goto, Compound, ReturnValue, Function}
 use Rattle.blang.specs.Walk.{Event, AutoHere, ExtrnHere, Mention, LabelHere, CaseHere, DefaultHere, BreakHere}
 use Rattle.blang.specs.Walk.{LvalueWanted}
-use Rattle.blang.specs.Scan.{Entry, Automatic, External, Unlabelled, Labelled, Scope, no_scope, scan_event}
-use Rattle.blang.specs.Scan.{kind_of}
+use Rattle.blang.specs.Scan.{Entry, Automatic, External, Unlabelled, Labelled, Scope, no_scope, scan_event, kind_of}
 use Rattle.blang.specs.Scan.{undefined, scan, automatic_words, is_place, is_lvalue}
 use Rattle.blang.specs.WellFormed.{packed}
 use Rattle.blang.specs.Code.{Arms, arms_code, code_of}

@@ -3,27 +3,26 @@ use Rattle.std.specs.Prelude.{◌≡◌, ℕ, List, [], ◌∷◌, map, codes, r
 use Rattle.std.specs.Fmt.{digits}
 use Rattle.bword.specs.declared.operators.BinOp.TheVariants as op
 use Rattle.blang.specs.Trees.{Identifier, Number, Character, Expr, Arguments, Negate, Address, Indirection, Not}
-use Rattle.blang.specs.Trees.{PreIncrement, PreDecrement, PostIncrement}
-use Rattle.blang.specs.Trees.{PostDecrement, Named, Literal, Text, Grouped, Indexed, Called, Postfixed, Prefixed}
-use Rattle.blang.specs.Trees.{Binary, Conditional, Assigned, No_arguments, Another, Auto, Extrn, Label, Case, Default}
-use Rattle.blang.specs.Trees.{Stmt, Headed, Compound, If, IfElse, While, Switch, Goto, Break, Return, ReturnValue}
-use Rattle.blang.specs.Trees.{Evaluate, Empty}
-use Rattle.blang.specs.Trees.{Stmts, Nothing, More, Definition, Ival_constant}
+use Rattle.blang.specs.Trees.{PreIncrement, PreDecrement, PostIncrement, PostDecrement, Named, Literal, Text, Grouped}
+use Rattle.blang.specs.Trees.{Indexed, Called, Postfixed, Prefixed, Binary, Conditional, Assigned, No_arguments}
+use Rattle.blang.specs.Trees.{Another, Auto, Extrn, Label, Case, Default, Stmt, Headed, Compound, If, IfElse, While}
+use Rattle.blang.specs.Trees.{Switch, Goto, Break, Return, ReturnValue, Evaluate, Empty, Stmts, Nothing, More}
+use Rattle.blang.specs.Trees.{Definition, Ival_constant}
 use Rattle.blang.specs.declared.run.Trap.TheVariants.{ZeroDivisor, NotAFunction, NotALabel, NoRoom, TooDeep}
 use Rattle.blang.specs.Layout.{Ending, Exited, Trapped}
 use Rattle.blang.specs.Value.{Answer, Gives, Ends, Wants, is_true}
 use Rattle.blang.specs.Meaning.{meant, IsBeginningOf}
 
-abbrev word : List ℕ → Identifier
+abbrev pub word : List ℕ → Identifier
 word x = record { text = x; line = 1 }
 
-abbrev name : List ℕ → Expr
+abbrev pub name : List ℕ → Expr
 name x = Named (word x)
 
-abbrev number : ℕ → Expr
+abbrev pub number : ℕ → Expr
 number n = Literal (Number n)
 
-abbrev arguments_after : Arguments → List Expr → Arguments
+abbrev pub arguments_after : Arguments → List Expr → Arguments
 arguments_after before [] = before
 arguments_after before (e ∷ es) = arguments_after (Another before e) es
 

@@ -1,8 +1,7 @@
 -- Closed facts: each operator, letters and statement in each place where a rule hands it on: how it binds, its fault,
 -- its code, and the labels and cases in it.
-use Rattle.std.specs.Prelude.{◌≡◌, ◌≤◌, ◌+◌, ◌-◌, ◌*◌, ℕ, true, false, List, [], ◌∷◌, ◌++◌, map, length, codes}
-use Rattle.std.specs.Prelude.{Option, Some, None, replicate, Ok, Err, refl}
-use Rattle.std.specs.Prelude.{◌⊎◌}
+use Rattle.std.specs.Prelude.{◌≡◌, ◌≤◌, ◌+◌, ◌-◌, ◌*◌, ℕ, true, false, List, [], ◌∷◌, ◌++◌, map, length, codes, Option}
+use Rattle.std.specs.Prelude.{Some, None, replicate, Ok, Err, refl, ◌⊎◌}
 use Rattle.std.specs.List.{range_with_len, flat_map}
 use Rattle.bword.specs.declared.operators.BinOp.TheVariants as op
 use Rattle.blang.specs.declared.token.About.{About}
@@ -16,49 +15,28 @@ use Rattle.blang.specs.declared.code.Instr.{Instr}
 use Rattle.blang.specs.declared.code.Instr.TheVariants as instr
 use Rattle.blang.specs.declared.code.Ival.TheVariants as ival
 use Rattle.blang.specs.declared.code.Definition.TheVariants as code
-use Rattle.blang.specs.Trees.{Number, Character, Expr, Named, Literal, Grouped, Binary, Conditional}
-use Rattle.blang.specs.Trees.{Assigned, Auto, Label, Case, Stmt, Headed}
-use Rattle.blang.specs.Trees.{Return, Ival_constant, Ival_text}
-use Rattle.blang.specs.Trees.{Ival_name, Definition, Simple, Vector, Function}
-use Rattle.blang.specs.Trees.{bare, Break, Identifier}
-use Rattle.blang.specs.Trees.{Empty, While, If, IfElse, Switch, Nothing}
-use Rattle.blang.specs.Walk.{TextAt}
-use Rattle.blang.specs.Walk.{AutoHere, spell_definition}
-use Rattle.blang.specs.WellFormed.{Binds, is_open, packed, OffsetsFrom, AllFormed, IsProgram, BeginsProgram}
-use Rattle.blang.specs.WellFormed.{IsViable, StopsAt, fault_at}
-use Rattle.blang.specs.WellFormed.{IsPart, IsFormed}
-use Rattle.blang.specs.Scan.{Entry, External, fault, name_fault, word_fault, is_lvalue, scan_case}
-use Rattle.blang.specs.Scan.{scan_default, rest_of, scan, Around, no_scope}
-use Rattle.blang.specs.Scan.{with_declaration, scan_event, function_events, function_scope}
-use Rattle.blang.specs.Scan.{scanned, inner_fault, Automatic, Scope}
+use Rattle.blang.specs.Trees.{Number, Character, Named, Literal, Grouped, Binary, Assigned, Auto, Label, Case, Stmt}
+use Rattle.blang.specs.Trees.{Headed, Return, Ival_constant, Ival_text, Ival_name, Definition, Simple, Vector, Function}
+use Rattle.blang.specs.Trees.{bare, Break, Identifier, Empty, While, If, IfElse, Switch, Nothing}
+use Rattle.blang.specs.Walk.{TextAt, AutoHere, spell_definition}
+use Rattle.blang.specs.WellFormed.{Binds, is_open, packed, OffsetsFrom, AllFormed, IsProgram, BeginsProgram, IsViable}
+use Rattle.blang.specs.WellFormed.{StopsAt, fault_at, IsPart, IsFormed}
+use Rattle.blang.specs.Scan.{Entry, External, fault, name_fault, word_fault, is_lvalue, scan_case, scan_default}
+use Rattle.blang.specs.Scan.{rest_of, scan, Around, no_scope, with_declaration, scan_event, function_events}
+use Rattle.blang.specs.Scan.{function_scope, scanned, inner_fault, Automatic, Scope}
 use Rattle.blang.specs.Code.{Outside, In_frame, word_code, vector_code, heading_code, Fragment, fragment, ival_code}
 use Rattle.blang.specs.Code.{vector_constant, vector_words, code_of, or_too_large, fault_of}
+use Rattle.blang.specs.BindRows.{at, no_claim, pick, pick_at, set}
 use Rattle.blang.specs.TokenRows.{at_line, inner_ones, lines}
 use Rattle.blang.specs.VariantRows.{edges, operators}
-use Rattle.blang.specs.WalkRows.{word, one, statements, outer}
-use Rattle.blang.specs.WalkRows.{events}
+use Rattle.blang.specs.WalkRows.{word, one, statements, outer, events}
 
 -- a claim on each
 abbrev pub each : {A : Type 0} → (A → Type 0) → List A → Type 0
 each claim [] = Unit {0}
 each claim (x ∷ xs) = claim x × each claim xs
 
-abbrev no_claim : Type 0
-no_claim = Unit {0}
-
 -- How operators bind: a part that is an assignment, and one that is a conditional.
-abbrev set : Expr
-set = Assigned None 1 one one
-
-abbrev pick : Expr
-pick = Conditional one one one
-
-abbrev at : ℕ → Type 0
-at loose = (9 ≤ loose) × no_claim × no_claim
-
-abbrev pick_at : ℕ → Type 0
-pick_at loose = (8 ≤ loose) × no_claim × no_claim × no_claim
-
 operators_bind : each (λ op. Binds (Binary op 1 set pick) 3) operators
     ≡ each (λ r. (r ≤ 3) × at r × pick_at (r - 1))
     (7 ∷ 6 ∷ 5 ∷ 5 ∷ 4 ∷ 4 ∷ 4 ∷ 4 ∷ 3 ∷ 3 ∷ 2 ∷ 2 ∷ 1 ∷ 1 ∷ 1 ∷ [])

@@ -7,11 +7,9 @@ use Rattle.bword.specs.Words.{same_name}
 use Rattle.blang.specs.declared.token.Letters.{Letters}
 use Rattle.blang.specs.declared.token.Diagnostic.{Diagnostic}
 use Rattle.blang.specs.Trees.{Identifier, Expr, Indirection, Named, Grouped, Indexed, Prefixed, Stmt, Definition}
-use Rattle.blang.specs.Trees.{Simple}
-use Rattle.blang.specs.Trees.{Vector, Function}
+use Rattle.blang.specs.Trees.{Simple, Vector, Function}
 use Rattle.blang.specs.Walk.{Event, AutoHere, ExtrnHere, Mention, LabelHere, CaseHere, DefaultHere, BreakHere}
-use Rattle.blang.specs.Walk.{LvalueWanted}
-use Rattle.blang.specs.Walk.{LoopBegins, LoopEnds, SwitchBegins, SwitchEnds, events_in, walk_function}
+use Rattle.blang.specs.Walk.{LvalueWanted, LoopBegins, LoopEnds, SwitchBegins, SwitchEnds, events_in, walk_function}
 use Rattle.blang.specs.declared.limits.TheConstants.{MAX_NAMES, MAX_CASES}
 use Rattle.blang.specs.declared.token.About.{About}
 use Rattle.blang.specs.declared.token.Letters.TheVariants as letters

@@ -1,7 +1,6 @@
 -- Closed facts: what each event makes of a scope, or which fault it is.
 use Rattle.std.specs.Prelude.{◌≡◌, ℕ, List, [], ◌∷◌, ◌++◌, map, codes, replicate, true, false, Bool, Some, None, Ok}
-use Rattle.std.specs.Prelude.{Err, refl}
-use Rattle.std.specs.Prelude.{Result, Option}
+use Rattle.std.specs.Prelude.{Err, refl, Result, Option}
 use Rattle.blang.specs.declared.token.Letters.{Letters}
 use Rattle.blang.specs.declared.token.Letters.TheVariants as letters
 use Rattle.blang.specs.declared.token.About.{About}
@@ -10,11 +9,9 @@ use Rattle.blang.specs.declared.token.Diagnostic.{Diagnostic}
 use Rattle.blang.specs.Trees.{Identifier, Number, Negate, Indirection, Expr, Named, Literal, Grouped, Indexed, Prefixed}
 use Rattle.blang.specs.Trees.{Goto, Definition, Simple, Vector, Function}
 use Rattle.blang.specs.Walk.{Event, AutoHere, ExtrnHere, Mention, LabelHere, CaseHere, DefaultHere, BreakHere}
-use Rattle.blang.specs.Walk.{LvalueWanted}
-use Rattle.blang.specs.Walk.{LoopBegins, LoopEnds, SwitchBegins, SwitchEnds}
+use Rattle.blang.specs.Walk.{LvalueWanted, LoopBegins, LoopEnds, SwitchBegins, SwitchEnds}
 use Rattle.blang.specs.Scan.{Entry, NameKind, Automatic, External, Unlabelled, Labelled, Around, Scope, scan_event}
-use Rattle.blang.specs.Scan.{scanned}
-use Rattle.blang.specs.Scan.{no_scope, scope_fault, scan}
+use Rattle.blang.specs.Scan.{scanned, no_scope, scope_fault, scan}
 
 abbrev entry : List ℕ → NameKind → Entry
 entry name kind = record { name = name; kind = kind }

@@ -3,16 +3,14 @@ use Rattle.std.specs.Prelude.{◌≡◌, ℕ, List, [], ◌∷◌, ◌++◌, map
 use Rattle.bword.specs.declared.edition.Edition.TheVariants as editions
 use Rattle.bword.specs.declared.operators.BinOp.TheVariants as op
 use Rattle.blang.specs.Cut.{tokens_from, cut, longest, greatest, whole, word_token, keyword_of, number_in}
-use Rattle.blang.specs.Cut.{with_quoted_byte}
-use Rattle.blang.specs.Cut.{escape_of, operator_of, other_of, fixed_of}
+use Rattle.blang.specs.Cut.{with_quoted_byte, escape_of, operator_of, other_of, fixed_of}
 use Rattle.blang.specs.declared.token.Placed.{Placed}
 use Rattle.blang.specs.declared.token.Token.TheVariants as token
 use Rattle.blang.specs.Trees.{mark, kept_tokens, Identifier, Number, Character, Negate, Not, Indirection, Address}
-use Rattle.blang.specs.Trees.{PreIncrement, PreDecrement, PostIncrement, PostDecrement, Expr, Named, Literal}
-use Rattle.blang.specs.Trees.{Text, Grouped, Indexed, Called, Postfixed, Prefixed, Binary, Conditional, Assigned}
+use Rattle.blang.specs.Trees.{PreIncrement, PreDecrement, PostIncrement, PostDecrement, Expr, Named, Literal, Text}
+use Rattle.blang.specs.Trees.{Grouped, Indexed, Called, Postfixed, Prefixed, Binary, Conditional, Assigned}
 use Rattle.blang.specs.Trees.{No_arguments, Another, Auto, Extrn, Label, Case, Default, Stmt, Headed, Compound, If}
-use Rattle.blang.specs.Trees.{IfElse}
-use Rattle.blang.specs.Trees.{While, Switch, Goto, Break, Return, ReturnValue, Evaluate, Empty, Nothing, More}
+use Rattle.blang.specs.Trees.{IfElse, While, Switch, Goto, Break, Return, ReturnValue, Evaluate, Empty, Nothing, More}
 use Rattle.blang.specs.Trees.{Ival_constant, Ival_text, Ival_name, Definition, Simple, Vector, Function}
 use Rattle.blang.specs.Walk.{spell_definition, spell_all}
 

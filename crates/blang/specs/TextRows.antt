@@ -6,8 +6,7 @@ use Rattle.bword.specs.declared.edition.Edition.TheVariants as editions
 use Rattle.bword.specs.declared.operators.BinOp.TheVariants as op
 use Rattle.blang.specs.declared.code.Instr.{Instr}
 use Rattle.blang.specs.Text.{definition_text, code_lines, joined, opening, instr_line, ival_line, target_line}
-use Rattle.blang.specs.Text.{string_line}
-use Rattle.blang.specs.Text.{header_line, body_lines}
+use Rattle.blang.specs.Text.{string_line, header_line, body_lines}
 use Rattle.blang.specs.declared.code.Definition.TheVariants as definition
 use Rattle.blang.specs.declared.code.Increment.TheVariants as increment
 use Rattle.blang.specs.declared.code.Instr.TheVariants as instr

@@ -13,11 +13,10 @@ use Rattle.blang.specs.Layout.{address_in, LaidOut, stored_word, left_word}
 use Rattle.blang.specs.Scan.{Scope, function_scope}
 use Rattle.blang.specs.Code.{Targets, no_targets, both_targets, heading_targets, Environment, environment_of}
 use Rattle.blang.specs.Code.{Referent, In_frame, Outside, At_label, clean}
-use Rattle.blang.specs.Trees.{Stmt, Headed, Compound, If, IfElse, While, Switch, Stmts}
-use Rattle.blang.specs.Trees.{Nothing, More, Identifier, Expr, Arguments, Negate, Not, Indirection, Address}
-use Rattle.blang.specs.Trees.{PreIncrement, PreDecrement, PostIncrement, PostDecrement, Named, Literal, Text, Grouped}
-use Rattle.blang.specs.Trees.{Indexed, Called, Postfixed, Prefixed, Binary, Conditional, Assigned, No_arguments}
-use Rattle.blang.specs.Trees.{Another, constant_value}
+use Rattle.blang.specs.Trees.{Stmt, Headed, Compound, If, IfElse, While, Switch, Stmts, Nothing, More, Identifier, Expr}
+use Rattle.blang.specs.Trees.{Arguments, Negate, Not, Indirection, Address, PreIncrement, PreDecrement, PostIncrement}
+use Rattle.blang.specs.Trees.{PostDecrement, Named, Literal, Text, Grouped, Indexed, Called, Postfixed, Prefixed}
+use Rattle.blang.specs.Trees.{Binary, Conditional, Assigned, No_arguments, Another, constant_value}
 
 -- a result, an end of the run, or want of fuel, each with its world
 pub data Answer (A : Type 0) : Type 0 where

@@ -6,25 +6,12 @@ use Rattle.bword.specs.declared.operators.BinOp.TheVariants as op
 use Rattle.bword.specs.Words.{operators}
 use Rattle.blang.specs.declared.run.Trap.TheVariants.{ZeroDivisor, NotAFunction, NoRoom, TooDeep}
 use Rattle.blang.specs.Layout.{World, Exited, Trapped, word_at}
-use Rattle.blang.specs.Trees.{Identifier, Number, Character, Expr, Arguments, Negate, Not, Indirection, Address}
-use Rattle.blang.specs.Trees.{PreIncrement, PreDecrement, PostIncrement, PostDecrement, Named, Literal, Text, Grouped}
-use Rattle.blang.specs.Trees.{Indexed, Called, Auto, Stmt}
-use Rattle.blang.specs.Trees.{Postfixed, Prefixed, Binary, Conditional, Assigned, No_arguments, Another, Headed, Label}
-use Rattle.blang.specs.Trees.{Empty}
-use Rattle.blang.specs.Value.{Answer, Gives, Ends, Wants, SourceFunction, Program, Frame, Evaluator, value}
-use Rattle.blang.specs.Value.{values}
-
-abbrev edges : List ℕ
-edges = 0 ∷ 1 ∷ 4 ∷ 10 ∷ 13 ∷ 127 ∷ 128 ∷ 255 ∷ 256 ∷ 32767 ∷ 32768 ∷ 65534 ∷ 65535 ∷ []
-
-abbrev word : List ℕ → Identifier
-word x = record { text = x; line = 1 }
-
-abbrev name : List ℕ → Expr
-name x = Named (word x)
-
-abbrev number : ℕ → Expr
-number n = Literal (Number n)
+use Rattle.blang.specs.MachineRows.{edges, made}
+use Rattle.blang.specs.MeaningRows.{arguments_after, name, number, word}
+use Rattle.blang.specs.Trees.{Character, Expr, Arguments, Negate, Not, Indirection, Address, PreIncrement, PreDecrement}
+use Rattle.blang.specs.Trees.{PostIncrement, PostDecrement, Literal, Text, Grouped, Indexed, Called, Auto, Stmt}
+use Rattle.blang.specs.Trees.{Postfixed, Prefixed, Binary, Conditional, Assigned, No_arguments, Headed, Label, Empty}
+use Rattle.blang.specs.Value.{Answer, Gives, Ends, Wants, SourceFunction, Program, Frame, Evaluator, value, values}
 
 -- f(p, q) l: ; with string words from 30 on, and its label's value
 abbrev function : ℕ → SourceFunction
@@ -158,20 +145,7 @@ decrements_after : Counts (Postfixed PostDecrement 1) edges (65535 ∷ 0 ∷ 3 �
     ∷ 32767 ∷ 65533 ∷ 65534 ∷ [])
 decrements_after = refl
 
--- Each operator: two words, and what it makes of them.
-abbrev Made : Type 0
-Made = ℕ × ℕ × List ℕ
-
-abbrev made : List Made
-made =
-    (7, 2, 7 ∷ 2 ∷ 0 ∷ 1 ∷ 0 ∷ 0 ∷ 1 ∷ 1 ∷ 28 ∷ 1 ∷ 5 ∷ 9 ∷ 1 ∷ 14 ∷ 3 ∷ []) ∷
-    (2, 7, 7 ∷ 2 ∷ 0 ∷ 1 ∷ 1 ∷ 1 ∷ 0 ∷ 0 ∷ 256 ∷ 0 ∷ 65531 ∷ 9 ∷ 2 ∷ 14 ∷ 0 ∷ []) ∷
-    (65535, 2, 65535 ∷ 2 ∷ 0 ∷ 1 ∷ 1 ∷ 1 ∷ 0 ∷ 0 ∷ 65532 ∷ 16383 ∷ 65533 ∷ 1 ∷ 65535 ∷ 65534 ∷ 0 ∷ []) ∷
-    (7, 65535, 65535 ∷ 7 ∷ 0 ∷ 1 ∷ 0 ∷ 0 ∷ 1 ∷ 1 ∷ 0 ∷ 0 ∷ 8 ∷ 6 ∷ 0 ∷ 65529 ∷ 65529 ∷ []) ∷
-    (32768, 15, 32783 ∷ 0 ∷ 0 ∷ 1 ∷ 1 ∷ 1 ∷ 0 ∷ 0 ∷ 0 ∷ 1 ∷ 32753 ∷ 32783 ∷ 65528 ∷ 32768 ∷ 63352 ∷ []) ∷
-    (0, 1, 1 ∷ 0 ∷ 0 ∷ 1 ∷ 1 ∷ 1 ∷ 0 ∷ 0 ∷ 0 ∷ 0 ∷ 65535 ∷ 1 ∷ 0 ∷ 0 ∷ 0 ∷ []) ∷
-    []
-
+-- Each operator on two words, and what it makes of them.
 binaries : map (λ r. map (λ op. of_word (Binary op 1 (number r.0) (number r.1)) world) operators) made
     ≡ map (λ r. map (λ v. Gives v world) r.2) made
 binaries = refl
@@ -189,11 +163,6 @@ by_zero : map (λ op. of_word (Binary op 1 (number 5) (number 0)) world
     ∷ of_word (Assigned (Some op) 1 (name (codes "p")) (number 0)) world ∷ [])
     (op.Rem ∷ op.Div ∷ []) ≡ replicate 2 (replicate 2 (Ends (Trapped ZeroDivisor) world))
 by_zero = refl
-
--- Calls: each of twelve arguments, in order.
-abbrev arguments_after : Arguments → List Expr → Arguments
-arguments_after before [] = before
-arguments_after before (e ∷ es) = arguments_after (Another before e) es
 
 abbrev numbered : ℕ → Arguments
 numbered n = arguments_after No_arguments (map number (range_with_len 1 n))

@@ -7,13 +7,12 @@ use Rattle.blang.specs.Cut.{placed, string_token}
 use Rattle.blang.specs.declared.token.Keyword.TheVariants as keyword
 use Rattle.blang.specs.declared.token.Token.TheVariants as token
 use Rattle.blang.specs.Trees.{mark, keyword_mark, Identifier, constant_value, Expr, Arguments, PrefixOp, Negate, Not}
-use Rattle.blang.specs.Trees.{Indirection, Address, PreIncrement, PreDecrement, Named, Literal, Text, Grouped}
-use Rattle.blang.specs.Trees.{Indexed, Called, Postfixed, Prefixed, Binary}
-use Rattle.blang.specs.Trees.{Conditional, Assigned, No_arguments, Another, name_token, constant_token, prefix_token}
-use Rattle.blang.specs.Trees.{postfix_token, Declared, Heading, Auto, Extrn, Label, Case, Default, Stmt, Headed}
-use Rattle.blang.specs.Trees.{Compound, If, IfElse, While, Switch, Goto, Break, Return, ReturnValue, Evaluate, Empty}
-use Rattle.blang.specs.Trees.{Stmts, Nothing, More, Ival, Ival_constant, Ival_text, Ival_name, Definition, Simple}
-use Rattle.blang.specs.Trees.{Vector, Function}
+use Rattle.blang.specs.Trees.{Indirection, Address, PreIncrement, PreDecrement, Named, Literal, Text, Grouped, Indexed}
+use Rattle.blang.specs.Trees.{Called, Postfixed, Prefixed, Binary, Conditional, Assigned, No_arguments, Another}
+use Rattle.blang.specs.Trees.{name_token, constant_token, prefix_token, postfix_token, Declared, Heading, Auto, Extrn}
+use Rattle.blang.specs.Trees.{Label, Case, Default, Stmt, Headed, Compound, If, IfElse, While, Switch, Goto, Break}
+use Rattle.blang.specs.Trees.{Return, ReturnValue, Evaluate, Empty, Stmts, Nothing, More, Ival, Ival_constant}
+use Rattle.blang.specs.Trees.{Ival_text, Ival_name, Definition, Simple, Vector, Function}
 
 -- a string and its offset in the string words of its definition
 pub record TextAt : Type 0 where

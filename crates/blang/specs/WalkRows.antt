@@ -1,7 +1,6 @@
 -- Closed facts: what a walk meets at each kind of token, event, line and number, and each statement in each place of
 -- another one. Lists of more than a hundred parts.
-use Rattle.std.specs.Prelude.{◌≡◌, ℕ, List, [], ◌∷◌, ◌++◌, map, replicate, Some, None, true, false}
-use Rattle.std.specs.Prelude.{suc, refl}
+use Rattle.std.specs.Prelude.{◌≡◌, ℕ, List, [], ◌∷◌, ◌++◌, map, replicate, Some, None, true, false, suc, refl}
 use Rattle.std.specs.List.{range_with_len, flat_map}
 use Rattle.bword.specs.declared.operators.BinOp.TheVariants as op
 use Rattle.blang.specs.declared.token.Placed.{Placed}
@@ -9,17 +8,15 @@ use Rattle.blang.specs.declared.token.Token.{Token}
 use Rattle.blang.specs.declared.token.Keyword.TheVariants as keyword
 use Rattle.blang.specs.declared.token.Token.TheVariants as token
 use Rattle.blang.specs.Trees.{Identifier, Number, PrefixOp, Negate, Not, Indirection, Address, PreIncrement}
-use Rattle.blang.specs.Trees.{PreDecrement, PostIncrement, PostDecrement, Expr, Literal, Text, Postfixed}
-use Rattle.blang.specs.Trees.{Prefixed, Binary, Assigned, Declared, Auto, Extrn, Label, Case, Default, Stmt, Headed}
-use Rattle.blang.specs.Trees.{Compound, If, IfElse, While, Switch, Goto, Break, Return, ReturnValue, Evaluate, Empty}
-use Rattle.blang.specs.Trees.{Nothing, More, Ival_constant, Ival_text, Simple}
-use Rattle.blang.specs.Trees.{Vector, Ival, Function}
+use Rattle.blang.specs.Trees.{PreDecrement, PostIncrement, PostDecrement, Expr, Literal, Text, Postfixed, Prefixed}
+use Rattle.blang.specs.Trees.{Binary, Assigned, Declared, Auto, Extrn, Label, Case, Default, Stmt, Headed, Compound, If}
+use Rattle.blang.specs.Trees.{IfElse, While, Switch, Goto, Break, Return, ReturnValue, Evaluate, Empty, Nothing, More}
+use Rattle.blang.specs.Trees.{Ival_constant, Ival_text, Simple, Vector, Ival, Function}
 use Rattle.blang.specs.Walk.{Event, AutoHere, ExtrnHere, Mention, LabelHere, CaseHere, DefaultHere, BreakHere}
-use Rattle.blang.specs.Walk.{LvalueWanted, LoopBegins, LoopEnds, SwitchBegins, SwitchEnds, Said, TextHere}
-use Rattle.blang.specs.Walk.{Noted, Level, ◌▸◌, tokens_in, events_in, levels_in, plain, lined, name, text, level}
-use Rattle.blang.specs.Walk.{walk_commas, walk_list, prefix_events, walk, walk_size, walk_heading, walk_statement}
-use Rattle.blang.specs.Walk.{walk_value, walk_values, walk_function, spell_all}
-use Rattle.blang.specs.Walk.{spell_definition}
+use Rattle.blang.specs.Walk.{LvalueWanted, LoopBegins, LoopEnds, SwitchBegins, SwitchEnds, Said, TextHere, Noted, Level}
+use Rattle.blang.specs.Walk.{◌▸◌, tokens_in, events_in, levels_in, plain, lined, name, text, level, walk_commas}
+use Rattle.blang.specs.Walk.{walk_list, prefix_events, walk, walk_size, walk_heading, walk_statement, walk_value}
+use Rattle.blang.specs.Walk.{walk_values, walk_function, spell_all, spell_definition}
 use Rattle.blang.specs.TokenRows.{at_line, inner_ones, last_ones, lines}
 
 abbrev edges : List ℕ

@@ -10,8 +10,7 @@ use Rattle.blang.specs.Trees.{Another, Arguments, Assigned, Binary, Called, Cond
 use Rattle.blang.specs.Trees.{No_arguments, Postfixed, Prefixed, Auto, Compound, Evaluate, Extrn, Goto, Headed}
 use Rattle.blang.specs.Trees.{Heading, If, IfElse, More, Nothing, ReturnValue, Stmt, Stmts, Switch, While, Definition}
 use Rattle.blang.specs.Trees.{Function, kept, bare}
-use Rattle.blang.specs.Walk.{TextAt, levels_in, texts_in, walk_statement, walk_definition, spell_definition}
-use Rattle.blang.specs.Walk.{spell_all}
+use Rattle.blang.specs.Walk.{TextAt, levels_in, texts_in, walk_statement, walk_definition, spell_definition, spell_all}
 use Rattle.blang.specs.declared.limits.TheConstants.{MAX_NESTING}
 use Rattle.blang.specs.declared.token.Letters.{Letters}
 use Rattle.blang.specs.declared.token.Diagnostic.{Diagnostic}

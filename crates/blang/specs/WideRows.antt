@@ -19,11 +19,10 @@ use Rattle.blang.specs.declared.run.Outcome.TheVariants as outcome
 use Rattle.blang.specs.declared.run.Report.TheVariants as report
 use Rattle.blang.specs.declared.run.Trap.{Trap}
 use Rattle.blang.specs.declared.run.Trap.TheVariants.{ZeroDivisor, NotAFunction, NotALabel, NoRoom, TooDeep}
-use Rattle.blang.specs.Trees.{Number, PostDecrement, Expr, Named, Literal, Called, Postfixed, Binary}
-use Rattle.blang.specs.Trees.{Arguments, Assigned, No_arguments, Another, Declared, Auto, Label, Case, Stmt, Stmts}
-use Rattle.blang.specs.Trees.{Headed, Compound}
-use Rattle.blang.specs.Trees.{If, IfElse, While, Switch, Goto, Return, ReturnValue, Evaluate, Empty, Nothing, More}
-use Rattle.blang.specs.Trees.{Definition, Simple, Function}
+use Rattle.blang.specs.Trees.{Number, PostDecrement, Expr, Named, Literal, Called, Postfixed, Binary, Arguments}
+use Rattle.blang.specs.Trees.{Assigned, No_arguments, Another, Declared, Auto, Label, Case, Stmt, Stmts, Headed}
+use Rattle.blang.specs.Trees.{Compound, If, IfElse, While, Switch, Goto, Return, ReturnValue, Evaluate, Empty, Nothing}
+use Rattle.blang.specs.Trees.{More, Definition, Simple, Function}
 use Rattle.blang.specs.Code.{Referent, In_frame, At_label, Arms}
 use Rattle.blang.specs.Text.{line}
 use Rattle.blang.specs.Compiles.{compiled_text, compilation_with, compilation_of, next_text}
@@ -36,16 +35,15 @@ use Rattle.blang.specs.Machine.{gone_to_place, program_function_called, callee_c
 use Rattle.blang.specs.Headline.{line_at, status_at}
 use Rattle.blang.specs.Machine.{State, run}
 use Rattle.blang.specs.Reports.{state_outcome, called_by, report_text}
-use Rattle.blang.specs.Value.{Gives, Ends, operate, Remaining, Do, Loop_mark, Switch_mark, targets}
-use Rattle.blang.specs.Value.{SourceFunction, Program, Frame, body_value, call_value, name_address, name_value}
-use Rattle.blang.specs.Value.{Evaluator, store, increment, Wants}
-use Rattle.blang.specs.Value.{Answer}
+use Rattle.blang.specs.Value.{Gives, Ends, operate, Remaining, Do, Loop_mark, Switch_mark, targets, SourceFunction}
+use Rattle.blang.specs.Value.{Program, Frame, body_value, call_value, name_address, name_value, Evaluator, store}
+use Rattle.blang.specs.Value.{increment, Wants, Answer}
 use Rattle.blang.specs.Meaning.{with_vector, with_vectors, heading_passed, case_in, arm_selected, program_of}
 use Rattle.blang.specs.MeaningRows.{does}
 use Rattle.blang.specs.VariantRows.{edges, operators}
 use Rattle.blang.specs.WalkRows.{word, one, statements, outer}
 
-abbrev bytes : List ℕ
+abbrev pub bytes : List ℕ
 bytes = range_with_len 0 150
 
 -- Lines of a code text: long parts, empty ones, and many.
@@ -57,7 +55,7 @@ line_of_many : line (map (λ n. n ∷ []) bytes ++ codes "x" ∷ []) ≡ flat_ma
 line_of_many = refl
 
 -- What comes of definitions.
-abbrev many : List Definition
+abbrev pub many : List Definition
 many = map (λ n. Simple (word n) []) (range_with_len 0 150)
 
 abbrev diagnostic : Diagnostic
@@ -84,10 +82,10 @@ next_texts : next_text [] None ∷ next_text [] (Some diagnostic)
 next_texts = refl
 
 -- The store at each edge.
-abbrev addresses : List ℕ
+abbrev pub addresses : List ℕ
 addresses = 0 ∷ 1 ∷ 2 ∷ 254 ∷ 255 ∷ 256 ∷ 257 ∷ 32766 ∷ 32767 ∷ 32768 ∷ 32769 ∷ 65534 ∷ 65535 ∷ []
 
-abbrev world : World
+abbrev pub world : World
 world = record { store = zeros; input = []; output = codes "o" }
 
 abbrev empty : World
@@ -373,10 +371,10 @@ vectors_by_start : map (λ s. word_at (with_vector (In_frame 0) (Some 3) s world
 unfolding zeros
 vectors_by_start = refl
 
-abbrev by_number : List ℕ → Referent
+abbrev pub by_number : List ℕ → Referent
 by_number x = In_frame (slice_index x 1)
 
-abbrev vector : ℕ → Declared
+abbrev pub vector : ℕ → Declared
 vector n = record { word = word n; size = Some 1 }
 
 many_vectors : (with_vectors by_number (map vector (range_with_len 0 120)) 0
@@ -450,24 +448,24 @@ functions_of_many = refl
 
 -- Each statement done in each place of another one: f(){auto i, j; i=2; j=1; S putchar('z'); l: putchar('l');} where S
 -- is the statement, main(){printn(f(),10);}
-abbrev calls : List ℕ → List Expr → Expr
+abbrev pub calls : List ℕ → List Expr → Expr
 calls f es = Called (Named (record { text = f; line = 1 })) (arguments_after No_arguments es)
   where
     arguments_after : Arguments → List Expr → Arguments
     arguments_after before [] = before
     arguments_after before (e ∷ es) = arguments_after (Another before e) es
 
-abbrev number : ℕ → Expr
+abbrev pub number : ℕ → Expr
 number n = Literal (Number n)
 
-abbrev named : List ℕ → Expr
+abbrev pub named : List ℕ → Expr
 named x = Named (record { text = x; line = 1 })
 
-abbrev block : Stmts → List Stmt → Stmts
+abbrev pub block : Stmts → List Stmt → Stmts
 block before [] = before
 block before (s ∷ ss) = block (More before s) ss
 
-abbrev putchar : ℕ → Expr
+abbrev pub putchar : ℕ → Expr
 putchar n = calls (codes "putchar") (number n ∷ [])
 
 abbrev done : List Stmt

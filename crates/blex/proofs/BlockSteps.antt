@@ -1,6 +1,5 @@
 -- Runs that are taken from the bytes that an end shows.
 use Rattle.std.proofs.Common.{◌≡◌, ℕ, zero, suc, ◌+◌, ◌<◌, ◌≤◌, min, Bool, true, false, not, ◌&&◌, ◌==◌, List, [], ◌∷◌, ◌++◌, length, take, get_or, Option, Some, None, refl, sym, ap, ◌∙◌, arith, append_assoc, append-nil, if◌then◌else◌}
-use Rattle.std.proofs.lemmas.Bool.Decides.{nat_tests}
 use Rattle.std.proofs.lemmas.List.Folds.{list_all_more}
 use Rattle.std.specs.Prelude.{option_to_list}
 use Rattle.std.specs.List.{list_all, count_by}
@@ -9,6 +8,7 @@ use Rattle.std.specs.Io.{StartsWith}
 use Rattle.memchr.specs.Find.{IsFirstByte, is_byte}
 use Rattle.std.proofs.lemmas.List.{take-take}
 use Rattle.std.proofs.lemmas.List.Sums.{sum_by-cons}
+use Rattle.std.proofs.lemmas.Bool.{and_parts, not-true}
 use Rattle.bword.specs.declared.edition.Edition.{Edition}
 use Rattle.bword.specs.ByteEnds.{most, Incoming, TakesReady}
 use Rattle.blang.specs.Cut.{after_close, line_number_after, next_line}
@@ -17,10 +17,6 @@ use Rattle.blex.specs.Runs.{PassesRun, is_no_star}
 use Rattle.blex.proofs.Passing.{Passes-refl, Passes-append}
 use Rattle.blex.proofs.ByteSteps.{room-falls}
 use Rattle.blex.proofs.CommentSteps.{InComment, plain_step}
-
-pub and-true_both : (a b : Bool) → (a && b) ≡ true → (a ≡ true) × (b ≡ true)
-and-true_both true b e = (refl, e)
-and-true_both false b e = cc
 
 pub PassesRun-none : (p : ℕ → Bool) (s : Source) → PassesRun p s s
 PassesRun-none p s = record { run = []; passes = Passes-refl s; all = refl }
@@ -84,16 +80,12 @@ no_star_before bytes (suc n) l h =
     let more : list_all is_no_star (take (n + 1) bytes) ≡ (list_all is_no_star (take n bytes) && is_no_star (get_or bytes n 0)) = list_all_more is_no_star bytes n 0 (omega arith) in
     rw next at more ∙ rw (before, here) refl
 
-not_true : (b : Bool) → not b ≡ true → b ≡ false
-not_true true e = cc
-not_true false e = refl
-
 -- a comment doesn't end before a star
 starless : (run more : List ℕ) → list_all is_no_star run ≡ true → after_close (run ++ more) ≡ after_close more
 starless [] more e = refl
 starless (b ∷ bs) more e =
-    let both = and-true_both (is_no_star b) (list_all is_no_star bs) e in
-    let plain : (b == 42) ≡ false = not_true (b == 42) both.0 in
+    let both = and_parts (is_no_star b) (list_all is_no_star bs) e in
+    let plain : (b == 42) ≡ false = not-true (b == 42) both.0 in
     plain_step b (bs ++ more) ∙ rw plain (starless bs more both.1)
 
 pub comment_run : {a b c : Source} {s : Bool} → s ≡ false → InComment a s b → PassesRun is_no_star b c → InComment a s c
@@ -112,6 +104,3 @@ before_first_star bytes (Some m) n h e = rw e (no_star_before bytes m (omega (ar
 
 pub byte_less : {a b : Source} {byte : ℕ} → GoesAfter a (byte ∷ []) b → room b < room a
 byte_less {a} {b} {byte} h = omega (arith, room-falls h)
-
-pub other_than_star : (b : ℕ) → (b ≡ 42 → ⊥) → (b == 42) ≡ false
-other_than_star b h = grind (arith, nat_tests)

@@ -5,8 +5,8 @@ use Rattle.std.specs.List.{list_all}
 use Rattle.std.proofs.lemmas.List.Folds.{list_all-append}
 use Rattle.std.specs.Prelude.{option_to_list}
 use Rattle.blex.specs.Sources.{Source, GoesAfter, NextIs, StaysAtEnd, CanCome, room}
-use Rattle.blex.specs.Lexing.{EndsRun, TakesIf}
-use Rattle.blex.proofs.Passing.{Passes-append, CanCome-none, CanCome-some}
+use Rattle.blex.specs.Lexing.{TakesIf}
+use Rattle.blex.proofs.Passing.{Passes-append, CanCome-none}
 
 pub on_err : {A E P : Type 0} (r : Result A E) → P → OnErr r P
 on_err (Ok x) p = tt
@@ -26,20 +26,6 @@ Passes-then {a} {b} {c} {xs} h k = let p = Passes-append h k in rw append-nil at
 -- a peek and what it saw
 pub take_if : (p : ℕ → Bool) (a b c : Source) (byte : ℕ) → GoesAfter a [] b × NextIs (Some byte) b → ((x : ℕ) → NextIs (Some x) b → GoesAfter b (x ∷ []) c) → p byte ≡ true → TakesIf p a (Some byte) c
 take_if p a b c byte h k e = (Passes-append h.0 (k byte h.1), e)
-
-ends-nil : (p : ℕ → Bool) (xs : List ℕ) → xs ≡ [] → EndsRun p xs
-ends-nil p [] e = tt
-ends-nil p (x ∷ xs) e = cc
-
-ends-cons : (p : ℕ → Bool) (b : ℕ) (ys xs : List ℕ) → p b ≡ false → xs ≡ b ∷ ys → EndsRun p xs
-ends-cons p b ys [] h e = tt
-ends-cons p b ys (x ∷ xs) h e = let same : x ≡ b = cc in rw same h
-
-pub take_none : (p : ℕ → Bool) (a b : Source) → GoesAfter a [] b × NextIs None b → TakesIf p a None b
-take_none p a b h = (h.0, λ xs k. ends-nil p xs (CanCome-none b xs h.1 k))
-
-pub take_other : (p : ℕ → Bool) (a b : Source) (byte : ℕ) → GoesAfter a [] b × NextIs (Some byte) b → p byte ≡ false → TakesIf p a None b
-take_other p a b byte h e = (h.0, λ xs k. let c = CanCome-some b xs byte h.1 k in ends-cons p byte c.0 xs e c.1)
 
 -- the loop's turns take bytes
 pub taken_falls : (p : ℕ → Bool) (a b : Source) (o : Option ℕ) (byte : ℕ) → o ≡ Some byte → TakesIf p a o b → room b < room a

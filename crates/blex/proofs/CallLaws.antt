@@ -1,7 +1,8 @@
 -- Calls of a lexer give the first tokens of its source.
-use Rattle.std.proofs.Common.{◌≡◌, ℕ, suc, Bool, true, false, List, [], ◌∷◌, ◌++◌, length, Option, Some, None, Ok, refl, sym, ap, ◌∙◌, arith, append_assoc, append-nil, subst, ◌⊎◌, inl, inr, ⊎_elim}
+use Rattle.std.proofs.Common.{◌≡◌, ℕ, suc, false, List, [], ◌∷◌, ◌++◌, length, Option, Some, None, Ok, refl, sym, ap, ◌∙◌, arith, append_assoc, append-nil, subst, ⊎_elim}
 use Rattle.std.specs.Prelude.{is_some}
 use Rattle.std.specs.Io.KnownBytes.{Consumes}
+use Rattle.std.proofs.lemmas.Bool.{cases_Bool, both_ways}
 use Rattle.bword.specs.ByteEnds.{Incoming, Took, CanFollow}
 use Rattle.blex.specs.declared.lexeme.Last.{Last}
 use Rattle.blex.specs.declared.lexeme.Last.TheVariants as last
@@ -112,13 +113,6 @@ calls_gave (p ∷ ps) old after still calls =
     let gives : GivesAt progress.Open old (Ok p) calls.0 = subst (λ q. GivesAt q old (Ok p) calls.0) still calls.1 in
     gave_one p ps old calls.0 after gives.0 (last_of p.token) refl gives.1 calls.2 (λ h. calls_gave ps calls.0 after h calls.2)
 
-never : (b : Bool) → b ≡ true → b ≡ false → ⊥
-never b p q = cc
-
-either : (b : Bool) → (b ≡ true) ⊎ (b ≡ false)
-either true = inl refl
-either false = inr refl
-
 -- what is left of bytes that were told
 left_of : (x y : Option (List ℕ)) (taken bytes : List ℕ) → x ≡ Some bytes → Consumes x y taken
     → (more : List ℕ) × (bytes ≡ taken ++ more)
@@ -135,8 +129,8 @@ module _ (end after : Incoming) (taken : List ℕ) (took : Took end taken after)
       subst P (sym all) (any [] (λ o. refl)))
       (λ still.
       let rest = left_of end.left after.left taken bytes left took.bytes in
-      subst P (sym rest.1) (any rest.0 (λ over. absurd (never after.is_over over still))))
-      (either after.is_over)
+      subst P (sym rest.1) (any rest.0 (λ over. absurd (both_ways after.is_over still over))))
+      (cases_Bool after.is_over)
 
 pub calls_give_first : CallsGiveFirst
 calls_give_first edition end lender answers l calls =

@@ -1,12 +1,11 @@
 -- What the loop over a comment keeps, and what a slash gives.
-use Rattle.std.proofs.Common.{subst, ◌≡◌, ℕ, Bool, true, false, ◌&&◌, ◌==◌, ◌≢◌, List, [], ◌∷◌, ◌++◌, take, Option, Some, None, Result, Ok, Err, refl, sym, ap, ◌∙◌, arith, append_assoc, append-nil, if◌then◌else◌, ◌⊎◌, inl, inr}
-use Rattle.std.proofs.lemmas.Bool.Decides.{nat_tests}
-use Rattle.std.specs.Prelude.{option_to_list, is_some}
+use Rattle.std.proofs.Common.{subst, ◌≡◌, ℕ, Bool, true, false, ◌&&◌, ◌==◌, ◌≢◌, List, [], ◌∷◌, ◌++◌, take, Option, Some, None, Result, Ok, Err, refl, sym, ap, ◌∙◌, append_assoc, append-nil, if◌then◌else◌, ◌⊎◌, inl, inr}
+use Rattle.std.specs.Prelude.{option_to_list, is_some, IfOk}
 use Rattle.blang.specs.declared.token.Token.{Token}
 use Rattle.blang.specs.declared.token.Token.TheVariants as token
 use Rattle.blang.specs.declared.token.Letters.TheVariants as letters
-use Rattle.std.specs.Prelude.{IfOk}
 use Rattle.std.specs.Option.{option_map}
+use Rattle.std.proofs.lemmas.Bool.{true≢false, ne_eqb, eqb-true}
 use Rattle.bword.specs.declared.ends.Device.{Device}
 use Rattle.bword.specs.declared.edition.Edition.{Edition}
 use Rattle.blex.specs.declared.lexeme.Lexeme.{Lexeme}
@@ -54,12 +53,9 @@ piece_after {a} {b} {c} {first} {piece} h k = record {
   stops = λ xs m. subst (λ e. IsLongest e (first ∷ k.rest) xs) h.edition (k.stops xs m);
 }
 
-equal : (b : ℕ) → (b == 42) ≡ true → b ≡ 42
-equal b h = grind (arith, nat_tests)
-
 star_passed : (a b : Source) (o : Option ℕ) → is_some o ≡ true → TakesIf (λ b. b == 42) a o b → GoesAfter a (42 ∷ []) b
 star_passed a b None e h = cc
-star_passed a b (Some x) e h = let star : x ≡ 42 = equal x h.1 in rw star at h.0
+star_passed a b (Some x) e h = let star : x ≡ 42 = eqb-true x 42 h.1 in rw star at h.0
 
 pub star_breaks : (a b c : Source) (o : Option ℕ) → is_some o ≡ true → TakesIf (λ b. b == 42) a o b → SourceFails b c → SourceFails a c
 star_breaks a b c o e h k = Breaks-after (star_passed a b o e h) k
@@ -68,7 +64,7 @@ pub piece_comment : (a b c : Source) (o : Option ℕ) (ended : Bool) → is_some
 piece_comment a b c o ended e h k t =
     record { rest = 42 ∷ k.body; passes = Passes-append (star_passed a b o e h) k.passes; is = comment-is _ k.body (k.ends t); stops = λ xs m. comment-stops _ k.body xs (k.ends t) }
 
-stops-nil : (edition : Edition) (text xs : List ℕ) → xs ≡ [] → IsLongest edition text xs
+pub stops-nil : (edition : Edition) (text xs : List ℕ) → xs ≡ [] → IsLongest edition text xs
 stops-nil edition text [] e = tt
 stops-nil edition text (x ∷ xs) e = cc
 
@@ -90,15 +86,9 @@ pub plain_step : (b : ℕ) (more : List ℕ) → after_close (b ∷ more) ≡ af
 plain_step b [] = nothing (b == 42)
 plain_step b (c ∷ cs) = plain_cases (b == 42) b c cs refl
 
-not_slash : (b : ℕ) → (b ≡ 47 → ⊥) → (b == 47) ≡ false
-not_slash b h = grind (arith, nat_tests)
-
 comment_step : (s : Bool) (b : ℕ) (more : List ℕ) → (s ≡ true → b ≡ 47 → ⊥) → after_close (past_star s (b ∷ more)) ≡ after_close (past_star (b == 42) more)
-comment_step true b more h = rw (not_slash b (h refl)) (plain_step b more)
+comment_step true b more h = rw (ne_eqb b 47 (h refl)) (plain_step b more)
 comment_step false b more h = plain_step b more
-
-pub comment_none : (s : Source) → InComment s false s
-comment_none s = record { body = []; passes = Passes-refl s; rest = λ more. refl }
 
 pub comment_more : {a b c : Source} {s : Bool} (byte : ℕ) → InComment a s b → GoesAfter b (byte ∷ []) c → (s ≡ true → byte ≡ 47 → ⊥) → InComment a (byte == 42) c
 comment_more {a} {b} {c} {s} byte h k n = record {
@@ -106,9 +96,6 @@ comment_more {a} {b} {c} {s} byte h k n = record {
   passes = Passes-append h.passes k;
   rest = λ more. rw (append_assoc h.body (byte ∷ []) more) (h.rest (byte ∷ more) ∙ comment_step s byte more n);
 }
-
-differ : true ≡ false → ⊥
-differ e = cc
 
 slash_ends : (byte : ℕ) → byte ≡ 47 → after_close (42 ∷ byte ∷ []) ≡ Some []
 slash_ends byte e = rw e refl
@@ -118,7 +105,7 @@ comment_ends {a} {b} {c} byte h k e = record {
   body = h.body ++ byte ∷ [];
   passes = Passes-append h.passes k;
   ends = λ _. h.rest (byte ∷ []) ∙ slash_ends byte e;
-  endless = λ f. absurd (differ f);
+  endless = λ f. absurd (true≢false f);
 }
 
 pub not_both : (s : Bool) (byte : ℕ) → ((s ≡ true) × (byte ≢ 47)) ⊎ (s ≡ false) → s ≡ true → byte ≡ 47 → ⊥
@@ -130,7 +117,7 @@ comment_endless {a} {b} {c} {s} (Some x) n h k = cc
 comment_endless {a} {b} {c} {s} None n h k = record {
   body = h.body;
   passes = Passes-then h.passes k.0;
-  ends = λ f. absurd (differ (sym f));
+  ends = λ f. absurd (true≢false (sym f));
   endless = λ _. (sym (ap after_close (append-nil h.body)) ∙ h.rest [] ∙ sym (nothing s), λ xs m. CanCome-none c xs k.1 m);
 }
 

@@ -1,11 +1,12 @@
 -- No text of a table is longer than its longest row.
-use Rattle.std.proofs.Common.{◌≡◌, ℕ, ◌<◌, ◌≤◌, Bool, true, false, ◌&&◌, ◌||◌, ◌==◌, List, [], ◌∷◌, length, Option, Some, None, refl, ◌∙◌, arith, if◌then◌else◌}
+use Rattle.std.proofs.Common.{◌≡◌, ℕ, ◌<◌, ◌≤◌, Bool, true, false, ◌==◌, List, [], ◌∷◌, length, Option, Some, None, refl, ◌∙◌, arith, if◌then◌else◌}
 use Rattle.std.proofs.lemmas.Bool.Decides.{nat_tests}
 use Rattle.std.proofs.Math.Bool.{and-false}
 use Rattle.std.specs.Prelude.{nat_le}
 use Rattle.std.specs.List.{list_all, find}
 use Rattle.std.specs.Map.{lookup}
 use Rattle.std.specs.Option.{option_or}
+use Rattle.std.proofs.lemmas.Bool.{and_parts, or_parts}
 use Rattle.bword.specs.Words.{operators, operator_text}
 use Rattle.bword.specs.declared.operators.BinOp.{BinOp}
 use Rattle.bword.specs.declared.operators.BinOp.TheVariants as op
@@ -46,15 +47,11 @@ unfolding operator_of
 operator_of-long text h =
     find-none (λ o. is_text text (operator_text o)) operators (λ o. is_text-longer text (operator_text o) (omega (arith, operator_short o)))
 
-and-true-both : (a b : Bool) → (a && b) ≡ true → (a ≡ true) × (b ≡ true)
-and-true-both true b e = (refl, e)
-and-true-both false b e = cc
-
 lookup-long : {X : Type 0} (n : ℕ) (text : List ℕ) (rows : List (List ℕ × X)) → n < length text → list_all (λ row. nat_le (length row.0) n) rows ≡ true
     → lookup (is_text text) rows ≡ None
 lookup-long n text [] h e = refl
 lookup-long n text (row ∷ rows) h e =
-    let both = and-true-both (nat_le (length row.0) n) _ e in
+    let both = and_parts (nat_le (length row.0) n) _ e in
     let short : length row.0 ≤ n = grind (arith, nat_tests) in
     rw (is_text-longer text row.0 (omega arith)) (lookup-long n text rows h both.1)
 
@@ -100,13 +97,9 @@ pub none_unless_assignment : (first : ℕ) (second : Option ℕ) → (first == 6
 none_unless_assignment first None e = tt
 none_unless_assignment first (Some b) e = λ c. no_assignment first b c e
 
-or-false_both : (a b : Bool) → (a || b) ≡ false → (a ≡ false) × (b ≡ false)
-or-false_both true b e = cc
-or-false_both false b e = (refl, e)
-
 pub none_unless_two : (first b : ℕ) → begins_two b ≡ false → NoneOfThree first (Some b)
 none_unless_two first b e =
-    let p = or-false_both (b == 61) _ e in
-    let q = or-false_both (b == 33) _ p.1 in
-    let r = or-false_both (b == 60) _ q.1 in
+    let p = or_parts (b == 61) _ e in
+    let q = or_parts (b == 33) _ p.1 in
+    let r = or_parts (b == 60) _ q.1 in
     λ c. no_long_assignment first b c p.0 q.0 r.0 r.1

@@ -7,6 +7,8 @@ use Rattle.std.proofs.lemmas.List.Folds.{list_all_more}
 use Rattle.std.specs.Io.{StartsWith}
 use Rattle.std.specs.List.{list_all, prefix_len}
 use Rattle.std.specs.Option.{unwrap_or}
+use Rattle.std.proofs.lemmas.Bool.{and_parts}
+use Rattle.std.proofs.Math.Bool.{not-not}
 use Rattle.bword.specs.ByteEnds.{most, Incoming, TakesReady}
 use Rattle.bword.specs.Words.{is_name_byte}
 use Rattle.bword.specs.declared.edition.Edition.{Edition}
@@ -15,7 +17,7 @@ use Rattle.blex.specs.Lexing.{EndsRun}
 use Rattle.blex.specs.declared.spelling.Spelling.{Spelling}
 use Rattle.blex.specs.Sources.{Source}
 use Rattle.blang.specs.Cut.{is_blank, line_number_after, next_line}
-use Rattle.blex.proofs.BlockSteps.{and-true_both, take_shown, block_taken, block_passes}
+use Rattle.blex.proofs.BlockSteps.{take_shown, block_taken, block_passes}
 
 -- as many bytes as come before the first that doesn't pass
 run_len : (ℕ → Bool) → List ℕ → ℕ
@@ -49,14 +51,10 @@ run_end p bytes r n e f =
     let same : n ≡ run_len p bytes = f ∙ ap (λ o. unwrap_or o (length bytes)) e ∙ found_or_all (run_len p bytes) (length bytes) h.1 in
     rw same h
 
-twice_not : (b : Bool) → not (not b) ≡ b
-twice_not true = refl
-twice_not false = refl
-
 run_is : (p : ℕ → Bool) (bytes : List ℕ) → run_len p bytes ≡ prefix_len p bytes
 unfolding run_len
 run_is p [] = refl
-run_is p (b ∷ bs) = rw (twice_not (p b), run_is p bs) refl
+run_is p (b ∷ bs) = rw (not-not (p b), run_is p bs) refl
 
 pub run_place : (p : ℕ → Bool) (bytes : List ℕ) (r : Option ℕ) (n : ℕ) → r ≡ position (λ b. not (p b)) bytes → n ≡ unwrap_or r (length bytes) → n ≡ prefix_len p bytes
 unfolding run_len
@@ -66,7 +64,7 @@ run_place p bytes r n e f = f ∙ ap (λ o. unwrap_or o (length bytes)) e ∙ fo
 run_line : (p : ℕ → Bool) → ((b : ℕ) → p b ≡ true → (b == 10) ≡ false) → (line : ℕ) (bytes : List ℕ) → list_all p bytes ≡ true → line_number_after line bytes ≡ line
 run_line p other line [] e = refl
 run_line p other line (b ∷ bs) e =
-    let both = and-true_both (p b) (list_all p bs) e in
+    let both = and_parts (p b) (list_all p bs) e in
     let same : next_line line b ≡ line = rw (other b both.0) refl in
     ap (λ l. line_number_after l bs) same ∙ run_line p other line bs both.1
 

@@ -18,7 +18,7 @@ use Rattle.blex.specs.declared.lexeme.Lexeme.TheVariants as lexeme
 use Rattle.blex.specs.Lexemes.{token_of_lexeme}
 use Rattle.blex.specs.Lexing.{ComesAfter, IsLongest, PassesPiece, piece_of}
 use Rattle.blex.specs.declared.scanner.PlacedPiece.{PlacedPiece}
-use Rattle.blex.specs.Places.{Finds, PassesFirst, PlacesOfTokens, Scanner, after_blanks, line_at, piece_end, piece_from, piece_lexeme, placed_piece}
+use Rattle.blex.specs.Places.{Finds, PassesFirst, PlacesOfTokens, Scanner, after_blanks, line_at, piece_end, piece_from, piece_lexeme, placed_piece, next_piece}
 use Rattle.blex.specs.Sources.{Source, GoesAfter, StaysAtEnd, CanCome, HasLeft}
 use Rattle.blex.proofs.ByteSteps.{none_passed}
 use Rattle.blex.proofs.Cutting.{cut-fuel, longest-text, piece_first-same, shorter, tokens_from-piece, whole-nil}
@@ -237,3 +237,8 @@ piece_grows edition source first other = by (longest edition (drop first source)
     by : (n : ℕ) → longest edition (drop first source) ≡ n → first < first + n
     by zero e = absurd (other (ap (λ k. piece_lexeme (whole edition (slice_range source first (first + k)))) e ∙ ap (λ t. piece_lexeme (whole edition t)) (slice_first source first 0) ∙ ap piece_lexeme (whole-nil edition)))
     by (suc n) e = omega arith
+
+-- what a scanner found
+pub found_in : (old new : Scanner) (found : PlacedPiece) (edition : Edition) (source : List ℕ) → Finds old found new → old.edition ≡ edition → old.source ≡ source
+    → found ≡ next_piece edition source old.at
+found_in old new found edition source h e f = h.found_is ∙ ap (λ x. next_piece x old.source old.at) e ∙ ap (λ s. next_piece edition s old.at) f

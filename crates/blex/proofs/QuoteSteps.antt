@@ -2,19 +2,18 @@
 use Rattle.std.proofs.Common.{◌≡◌, ℕ, ◌<◌, Bool, true, false, ◌==◌, ◌≢◌, List, [], ◌∷◌, ◌++◌, length, fold, Option, Some, None, refl, sym, ap, ◌∙◌, arith}
 use Rattle.std.proofs.lemmas.Bool.Decides.{nat_tests}
 use Rattle.std.specs.Prelude.{option_to_list}
+use Rattle.std.proofs.lemmas.Bool.{ne_eqb, eq-eqb}
+use Rattle.blex.proofs.CommentSteps.{stops-nil}
 use Rattle.bword.specs.declared.edition.Edition.{Edition}
 use Rattle.blang.specs.declared.token.Token.{Token}
 use Rattle.blang.specs.declared.token.Token.TheVariants as token
 use Rattle.blang.specs.declared.token.Letters.TheVariants as letters
 use Rattle.blang.specs.Cut.{whole, Quoted, Open, Starred, Closed, Wrong, Past, quoted, with_quoted_byte, with_character, plain_of, escape_of, quoted_constant}
 use Rattle.blex.specs.Sources.{Source, GoesAfter, StaysAtEnd}
-use Rattle.blex.specs.Lexing.{PassesPiece, PassesCharacter, PassesQuoted, ReadsCharacter, IsCutOff, IsLongest}
+use Rattle.blex.specs.Lexing.{PassesPiece, PassesCharacter, PassesQuoted, ReadsCharacter, IsCutOff}
 use Rattle.blex.proofs.Passing.{Passes-refl, Passes-append}
 use Rattle.blex.proofs.ByteSteps.{Passes-then, byte_passed, none_passed}
 use Rattle.blex.proofs.EachPiece.{quoted-append, quoted-stops}
-
-not_equal : (a b : ℕ) → a ≢ b → (a == b) ≡ false
-not_equal a b e = grind (arith, nat_tests)
 
 -- One character.
 -- what an open constant does at a byte that isn't its quote, where there is room
@@ -26,7 +25,7 @@ open-star quote room characters e f = rw (e, f) refl
 open-plain : (quote room : ℕ) (characters : List ℕ) (b : ℕ) → (b == quote) ≡ false → (length characters == room) ≡ false → b ≢ 42
     → with_quoted_byte quote room (Open characters) b ≡ with_character characters (plain_of b)
 unfolding with_quoted_byte
-open-plain quote room characters b e f g = rw (e, f, not_equal b 42 g) refl
+open-plain quote room characters b e f g = rw (e, f, ne_eqb b 42 g) refl
 
 starred : (quote room : ℕ) (characters : List ℕ) (b : ℕ) → with_quoted_byte quote room (Starred characters) b ≡ with_character characters (escape_of b)
 unfolding with_quoted_byte
@@ -86,21 +85,18 @@ more_quoted : {quote room : ℕ} {a b : Source} {characters : List ℕ} (h : InQ
     → fold (with_quoted_byte quote room) (Open characters) xs ≡ now → quoted quote room (h.run ++ xs) ≡ now
 more_quoted {quote} {room} {a} {b} {characters} h xs now e = quoted-append quote room h.run xs ∙ ap (λ q. fold (with_quoted_byte quote room) q xs) h.is ∙ e
 
-equal : (a b : ℕ) → a ≡ b → (a == b) ≡ true
-equal a b e = grind (arith, nat_tests)
-
 pub quoted_closes : {quote room : ℕ} {a b c : Source} (characters : List ℕ) (byte : ℕ) (o : Option ℕ) → o ≡ Some byte → byte ≡ quote
     → InQuoted quote room a characters b → GoesAfter b (option_to_list o) c × StaysAtEnd o c → PassesQuoted quote room a true characters c
 quoted_closes {quote} {room} {a} {b} {c} characters byte o e f h k = record {
   run = h.run ++ byte ∷ [];
   passes = Passes-append h.passes (byte_passed o byte b c e k);
-  ends = more_quoted h (byte ∷ []) (Closed characters) (at_quote quote room characters byte (equal byte quote f));
+  ends = more_quoted h (byte ∷ []) (Closed characters) (at_quote quote room characters byte (eq-eqb byte quote f));
 }
 
 pub quoted_full : {quote room : ℕ} {a b c : Source} (characters : List ℕ) (byte : ℕ) (o : Option ℕ) → o ≡ Some byte → byte ≢ quote → length characters ≡ room
     → InQuoted quote room a characters b → GoesAfter b (option_to_list o) c × StaysAtEnd o c → PassesQuoted quote room a false characters c
 quoted_full {quote} {room} {a} {b} {c} characters byte o e f full h k =
-    let wrong = more_quoted h (byte ∷ []) Wrong (at_full quote room characters byte (not_equal byte quote f) (equal (length characters) room full)) in
+    let wrong = more_quoted h (byte ∷ []) Wrong (at_full quote room characters byte (ne_eqb byte quote f) (eq-eqb (length characters) room full)) in
     record {
       run = h.run ++ byte ∷ [];
       passes = Passes-append h.passes (byte_passed o byte b c e k);
@@ -120,7 +116,7 @@ module _ {quote room : ℕ} {a b m c : Source} (characters : List ℕ) (byte : �
   is_now = more_quoted h (byte ∷ p.rest) (fold (with_quoted_byte quote room) (Open characters) (byte ∷ p.rest)) refl
 
   reads : ReadsCharacter character characters (fold (with_quoted_byte quote room) (Open characters) (byte ∷ p.rest)) c
-  reads = p.reads quote room characters (not_equal byte quote f) room_left
+  reads = p.reads quote room characters (ne_eqb byte quote f) room_left
 
   pub quoted_more : (x : ℕ) (next : List ℕ) → character ≡ Some x → next ≡ characters ++ x ∷ [] → InQuoted quote room a next c
   quoted_more x next s n =
@@ -139,10 +135,6 @@ quoted_endless {quote} {room} {a} {b} {c} {characters} o e h k =
     record { run = h.run; passes = Passes-then h.passes none.0; ends = rw h.is none.1 }
 
 -- The constant.
-stops-nil : (edition : Edition) (text xs : List ℕ) → xs ≡ [] → IsLongest edition text xs
-stops-nil edition text [] e = tt
-stops-nil edition text (x ∷ xs) e = cc
-
 module _ (quote room : ℕ) (constant : List ℕ → Token) (whole_is : (edition : Edition) (bs : List ℕ) → whole edition (quote ∷ bs) ≡ quoted_constant constant (quoted quote room bs)) where
   closed_piece : {a b : Source} (characters run : List ℕ) → GoesAfter a run b → quoted quote room run ≡ Closed characters → PassesPiece quote a (Some (constant characters)) b
   closed_piece {a} {b} characters run p e = record {

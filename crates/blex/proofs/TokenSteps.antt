@@ -8,14 +8,14 @@ use Rattle.blang.specs.declared.token.Placed.{Placed}
 use Rattle.blang.specs.Cut.{Space, Word, whole, is_last, next_line, placed, piece_first, tokens_from}
 use Rattle.blex.specs.Sources.{Source, GoesAfter, SourceFails, StaysAtEnd, room}
 use Rattle.blex.specs.Lexing.{PassesPiece, PassesToken, piece_of, ComesAfter, IsLongest}
-use Rattle.blex.proofs.Passing.{Passes-refl, Passes-append, Breaks-after}
+use Rattle.blex.proofs.Passing.{Passes-append, Breaks-after}
 use Rattle.blex.proofs.ByteSteps.{Passes-then, room-falls, none_passed}
 use Rattle.blex.proofs.Cutting.{tokens_from-piece, tokens_from-nil, whole-nil}
 use Rattle.blex.proofs.EachPiece.{whole-blank, blank-stops}
-use Rattle.blex.proofs.BlockSteps.{and-true_both}
 use Rattle.blex.proofs.NameRuns.{run_keeps_line, space_blank, space_stays}
 use Rattle.blex.specs.Runs.{PassesRun, is_space}
 use Rattle.std.specs.List.{list_all}
+use Rattle.std.proofs.lemmas.Bool.{and_parts}
 
 -- space so far
 pub record InSpace (old : Source) (line : ℕ) (new : Source) : Type 0 where
@@ -23,9 +23,6 @@ pub record InSpace (old : Source) (line : ℕ) (new : Source) : Type 0 where
   pub passes : GoesAfter old bytes new
   pub line_is : line ≡ new.line
   pub cut : (xs : List ℕ) → tokens_from old.edition old.line (bytes ++ xs) ≡ tokens_from old.edition new.line xs
-
-pub space_none : (s : Source) (line : ℕ) → line ≡ s.line → InSpace s line s
-space_none s line e = record { bytes = []; passes = Passes-refl s; line_is = e; cut = λ xs. refl }
 
 -- space alone is followed by the end
 space_end : {a b : Source} {line : ℕ} (h : InSpace a line b) → tokens_from a.edition a.line h.bytes ≡ placed token.End line ∷ []
@@ -89,7 +86,7 @@ space_line b line e = rw (space_stays b e) refl
 space_cut : (edition : Edition) (line : ℕ) (run xs : List ℕ) → list_all is_space run ≡ true → tokens_from edition line (run ++ xs) ≡ tokens_from edition line xs
 space_cut edition line [] xs e = refl
 space_cut edition line (b ∷ bs) xs e =
-    let both = and-true_both (is_space b) (list_all is_space bs) e in
+    let both = and_parts (is_space b) (list_all is_space bs) e in
     let blank = space_blank b both.0 in
     tokens_from-piece edition line (b ∷ []) (bs ++ xs) Space (omega arith) (whole-blank edition b [] blank) (blank-stops edition b (bs ++ xs) blank)
     ∙ ap (λ l. tokens_from edition l (bs ++ xs)) (space_line b line both.0)

@@ -5,6 +5,7 @@ use Rattle.std.proofs.lemmas.List.Folds.{list_all-append}
 use Rattle.std.specs.Prelude.{nat_le}
 use Rattle.std.specs.Int.{bytes_high_first}
 use Rattle.std.specs.List.{list_all}
+use Rattle.std.proofs.lemmas.Bool.{and_parts}
 use Rattle.bword.specs.ByteEnds.{most}
 use Rattle.bword.specs.Words.{is_name, is_name_start, is_name_byte}
 use Rattle.bword.specs.declared.edition.Edition.{Edition}
@@ -19,7 +20,6 @@ use Rattle.blex.specs.Sources.{Source, GoesAfter}
 use Rattle.blex.specs.Lexing.{PassesPiece, TakesIf}
 use Rattle.blex.proofs.Passing.{Passes-refl, Passes-append}
 use Rattle.blex.proofs.ByteSteps.{Passes-then}
-use Rattle.blex.proofs.BlockSteps.{and-true_both}
 use Rattle.blex.proofs.NameRuns.{number_through-append}
 use Rattle.blex.proofs.EachPiece.{word-is, word-stops}
 
@@ -93,7 +93,7 @@ spelled : (text run : List ℕ) (n : ℕ) → bytes_high_first (length text) n �
     → bytes_high_first (length text + length run) (number_through n run) ≡ text ++ run
 spelled text [] n e f l = let same : length text + 0 ≡ length text = omega arith in rw (same, append-nil text) e
 spelled text (b ∷ bs) n e f l =
-    let both = and-true_both (is_name_byte b) (list_all is_name_byte bs) f in
+    let both = and_parts (is_name_byte b) (list_all is_name_byte bs) f in
     let one : bytes_high_first (suc (length text)) ((n * 256 + b) % 2 ^ 64) ≡ text ++ b ∷ [] =
     bytes_wrap (suc (length text)) (n * 256 + b) (omega (arith, l)) ∙ bytes_next (length text) n b (byte_fits b both.0) ∙ ap (λ t. t ++ b ∷ []) e in
     let size : length (text ++ b ∷ []) ≡ suc (length text) = omega (arith, length-append text (b ∷ [])) in

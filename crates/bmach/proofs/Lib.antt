@@ -17,7 +17,6 @@ pub mod Turning
 pub mod Digits
 pub mod Running
 pub mod Copying
-pub mod Told
 pub mod Losing
 pub mod MachineExcluded
 pub mod Stopping

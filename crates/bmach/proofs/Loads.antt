@@ -1,8 +1,9 @@
 -- What a load gives.
-use Rattle.std.proofs.Common.{◌≡◌, ℕ, Bool, true, false, List, [], ◌∷◌, ◌++◌, length, map, refl, sym, ap, ◌∙◌, subst, arith, Option, Some, None}
+use Rattle.std.proofs.Common.{◌≡◌, ℕ, Bool, true, false, List, [], ◌∷◌, ◌++◌, length, map, sym, ap, ◌∙◌, subst, arith, Option, Some, None}
 use Rattle.std.specs.Prelude.{flat_map, option_map, slice_get, not, ◌||◌, nat_lt, zip}
 use Rattle.std.specs.List.{list_any}
 use Rattle.std.proofs.lemmas.Option.{slice_get-map}
+use Rattle.std.proofs.lemmas.Bool.{not-true, not-false}
 use Rattle.blang.specs.declared.code.Definition.{Definition}
 use Rattle.blang.specs.declared.run.LoadFault.{LoadFault}
 use Rattle.blang.specs.declared.run.LoadFault.TheVariants as fault
@@ -21,14 +22,6 @@ fault_of duplicate too_large undefined has_main =
     ∷ some_if (not has_main) fault.NoMain
     ∷ [])
 
-not_true : (b : Bool) → not b ≡ true → b ≡ false
-not_true true e = sym e
-not_true false e = refl
-
-not_false : (b : Bool) → not b ≡ false → b ≡ true
-not_false true e = refl
-not_false false e = sym e
-
 module _ (ds : List Definition) where
   pub duplicate_first : (f : LoadFault) → IsFault f (option_map fault.Duplicate (duplicate_after [] (defined_names (map shape_of ds)))) → IsFault f (load_fault ds)
   duplicate_first f h = first_fault f _ _ h
@@ -36,12 +29,12 @@ module _ (ds : List Definition) where
   module _ (unique : duplicate_after [] (defined_names (map shape_of ds)) ≡ None) where
     pub too_large_next : fits_store (map shape_of ds) ≡ false → load_fault ds ≡ Some fault.TooLarge
     too_large_next large =
-        let e = not_false (nat_lt store_words (data_end (map shape_of ds)) || nat_lt 65535 (label_count (map shape_of ds))) large in
+        let e = not-false (nat_lt store_words (data_end (map shape_of ds)) || nat_lt 65535 (label_count (map shape_of ds))) large in
         λ i. fault_of (unique i) (e i) (first_undefined (address_in (addresses (map shape_of ds))) (flat_map names_in ds)) (list_any is_main ds)
 
     module _ (fit : fits_store (map shape_of ds) ≡ true) where
       small : (nat_lt store_words (data_end (map shape_of ds)) || nat_lt 65535 (label_count (map shape_of ds))) ≡ false
-      small = not_true (nat_lt store_words (data_end (map shape_of ds)) || nat_lt 65535 (label_count (map shape_of ds))) fit
+      small = not-true (nat_lt store_words (data_end (map shape_of ds)) || nat_lt 65535 (label_count (map shape_of ds))) fit
 
       pub undefined_next : (f : LoadFault) → IsFault f (undefined_fault (address_in (addresses (map shape_of ds))) (flat_map names_in ds)) → IsFault f (load_fault ds)
       undefined_next f h =

@@ -4,9 +4,10 @@ use Rattle.std.specs.Prelude.{zip, is_some, ◌||◌}
 use Rattle.std.specs.List.{list_any}
 use Rattle.std.specs.Option.{option_or}
 use Rattle.std.specs.Ordering.{nat_cmp}
-use Rattle.std.specs.Cmp.Lexicographic.{slice_cmp, texts_ties, nat_list_eq_equiv, bytes_decides}
+use Rattle.std.specs.Cmp.Lexicographic.{slice_cmp, nat_list_eq_equiv, bytes_decides}
 use Rattle.std.specs.BTreeMap.{is_at}
 use Rattle.std.specs.Map.{lookup}
+use Rattle.bnames.proofs.NameMembers.{same_name-is_at}
 use Rattle.bword.specs.Words.{same_name}
 use Rattle.blang.specs.Layout.{Addresses, address_in, duplicate_after}
 use Rattle.bmach.specs.Loading.{Knows}
@@ -31,9 +32,6 @@ is_some-lookup-zip test (k ∷ ks) (v ∷ vs) e =
     ]
 
 -- a map compares names as the layout does
-pub same_name-is_at : (x y : List ℕ) → is_at (slice_cmp nat_cmp x) y ≡ same_name x y
-same_name-is_at x y = sym (texts_ties x y)
-
 pub lookup-is_at : (x : List ℕ) (known : Addresses) → lookup (is_at (slice_cmp nat_cmp x)) known ≡ address_in known x
 lookup-is_at x known = λ i. lookup (λ y. same_name-is_at x y i) known
 

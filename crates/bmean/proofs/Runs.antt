@@ -6,7 +6,7 @@ use Rattle.bword.specs.Words.{binary_of}
 use Rattle.blang.specs.declared.code.Instr.{Instr}
 use Rattle.blang.specs.declared.code.Instr.TheVariants as instr
 use Rattle.blang.specs.declared.run.Library.{Library}
-use Rattle.blang.specs.declared.run.Library.TheVariants.{Char, Lchar, Getchar, Putchar, Printn, Exit}
+use Rattle.blang.specs.declared.run.Library.TheVariants.{Getchar, Putchar, Printn}
 use Rattle.blang.specs.declared.run.Trap.{Trap}
 use Rattle.blang.specs.Layout.{label_target, World, Reply, Gives, Ends, word_at, with_word, with_words, parameter_words, next_byte, is_base, argument, printed, with_output, library, Trapped, Callee, NoFunction, OfLibrary, OfProgram, callee_of, refusal}
 use Rattle.blang.specs.declared.run.Trap.TheVariants.{BadBase}
@@ -66,13 +66,11 @@ printn_writes true w bytes = (bytes, refl)
 printn_writes false w bytes = writes_nothing w
 
 library_writes : (f : Library) (args : List ℕ) (w : World) → IsWritten w (library f args w)
-library_writes Char args w = writes_nothing w
-library_writes Lchar args w = writes_nothing w
 library_writes Getchar args w = next_byte_writes w.input w
 library_writes Putchar args w = (_, refl)
 library_writes Printn args w =
     printn_writes (is_base (argument args 1)) w (printed (argument args 0) (argument args 1))
-library_writes Exit args w = writes_nothing w
+library_writes _ args w = writes_nothing w
 
 -- a state that has written w's output and perhaps more
 abbrev From : World → State → Type 0
@@ -114,11 +112,6 @@ call_from w (OfProgram f) args caller below =
     called_from w (refusal (1 + length below) (caller.start + caller.function.frame + f.frame)) f args (caller.start + caller.function.frame) caller below
 
 act_from : (image : Image) (call : Call) (below : List Call) (w : World) (i : Instr) → From w (act image call below w i)
-act_from image call below w (instr.Constant n) = writes_nothing w
-act_from image call below w (instr.External x) = writes_nothing w
-act_from image call below w (instr.Automatic k) = writes_nothing w
-act_from image call below w (instr.Text o) = writes_nothing w
-act_from image call below w (instr.Label k) = writes_nothing w
 act_from image call below w instr.Load = one_from w call.operands _ (λ a rest. writes_nothing w)
 act_from image call below w instr.Store = two_from w call.operands _ (λ a v rest. writes_nothing w)
 act_from image call below w (instr.Binary op) =
@@ -128,7 +121,6 @@ act_from image call below w (instr.Modify op) =
 act_from image call below w instr.Negate = one_from w call.operands _ (λ x rest. writes_nothing w)
 act_from image call below w instr.Not = one_from w call.operands _ (λ x rest. writes_nothing w)
 act_from image call below w (instr.Increment which) = one_from w call.operands _ (λ a rest. writes_nothing w)
-act_from image call below w (instr.Jump t) = writes_nothing w
 act_from image call below w (instr.JumpIfZero t) =
     one_from w call.operands _ (λ x rest. if_from w (x == 0) _ _ (writes_nothing w) (writes_nothing w))
 act_from image call below w instr.Goto =
@@ -139,6 +131,7 @@ act_from image call below w (instr.Call n) =
     one_from w (drop n call.operands) _ (λ f rest. call_from w (callee_of image.functions f) (reverse (take n call.operands)) (at_place call (call.place + 1) rest) below)
 act_from image call below w instr.Return = one_from w call.operands _ (λ v rest. return_from w v below)
 act_from image call below w instr.Pop = one_from w call.operands _ (λ v rest. writes_nothing w)
+act_from image call below w _ = writes_nothing w
 
 act_if_from : (image : Image) (call : Call) (below : List Call) (w : World) (i : Option Instr) → From w (act_if image call below w i)
 act_if_from image call below w None = writes_nothing w

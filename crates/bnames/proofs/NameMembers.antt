@@ -10,7 +10,7 @@ use Rattle.std.specs.Cmp.Lexicographic.{slice_cmp, texts_ties, nat_list_eq_equiv
 use Rattle.bword.specs.Words.{same_name}
 use Rattle.bnames.specs.NameTables.{KnowsOneMore, value_in}
 
-same_name-is_at : (x y : List ℕ) → is_at (slice_cmp nat_cmp x) y ≡ same_name x y
+pub same_name-is_at : (x y : List ℕ) → is_at (slice_cmp nat_cmp x) y ≡ same_name x y
 same_name-is_at x y = sym (texts_ties x y)
 
 -- a name has a value where it is one of the names

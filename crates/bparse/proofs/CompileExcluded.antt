@@ -1,5 +1,5 @@
 -- What the contract of compiling excludes.
-use Rattle.std.proofs.Common.{◌≡◌, ◌≢◌, ℕ, ◌+◌, ◌-◌, ◌<◌, ◌≤◌, Bool, List, [], ◌∷◌, ◌++◌, zero, suc, length, map, take, length-append, codes, Option, Some, None, true, false, refl, sym, ap, ◌∙◌, subst, arith, ◌⊎◌, inl, inr}
+use Rattle.std.proofs.Common.{◌≡◌, ◌≢◌, ℕ, ◌+◌, ◌-◌, ◌<◌, ◌≤◌, List, [], ◌∷◌, ◌++◌, zero, suc, length, map, take, length-append, codes, Option, Some, None, true, false, refl, sym, ap, ◌∙◌, subst, arith, ◌⊎◌, inl, inr}
 use Rattle.bword.specs.declared.edition.Edition.TheVariants as editions
 use Rattle.bword.specs.declared.ends.EndFault.TheVariants as end_fault
 use Rattle.bword.specs.ByteEnds.{Incoming, Outgoing, Grew, Writes, Refuses, CanFollow}
@@ -17,6 +17,7 @@ use Rattle.bword.proofs.Remaining.{Rest}
 use Rattle.std.specs.Io.KnownBytes.{Appends}
 use Rattle.std.specs.Fmt.{digits}
 use Rattle.std.proofs.Math.Seq.{drop-nil}
+use Rattle.std.proofs.lemmas.Bool.{both_ways}
 use Rattle.blang.specs.Text.{joined, opening}
 use Rattle.blang.specs.Trees.{bare}
 use Rattle.blang.specs.declared.token.Token.TheVariants as token
@@ -173,16 +174,13 @@ first_nothing (Some known) (Some mid) (Some all) xs ys e f h k =
     let middle : mid ≡ [] = nothing_taken mid ys (sym k ∙ at_last) in
     rest_nil known xs (sym h ∙ middle)
 
-open_or_over : (b : Bool) → b ≡ false → b ≡ true → ⊥
-open_or_over b e f = let no : false ≡ true = sym e ∙ f in cc
-
 -- Nothing was taken of a source without a byte, so where its end wasn't seen, a definition may follow.
 unseen : {code line : List ℕ} (run : Run) (o : Observed [] code line 0 run) (h : Compiles run) → run.source_after.is_over ≡ false → ⊥
 unseen run o h still =
     let rest = rest_of run.source run.source_after h.taken [] h.took o.source in
     let none : h.taken ≡ [] = nothing_taken h.taken rest.more rest.whole in
     let outcome = a_number in
-    let number = h.compiled o.status (codes "n 2000;") (λ over. absurd (open_or_over run.source_after.is_over still over)) outcome.outcome
+    let number = h.compiled o.status (codes "n 2000;") (λ over. absurd (both_ways run.source_after.is_over still over)) outcome.outcome
     (subst (λ e. CompilesTo [] (tokens_from e 1 (h.taken ++ codes "n 2000;")) outcome.outcome) (sym o.edition)
     (subst (λ t. CompilesTo [] (tokens_from editions.One 1 (t ++ codes "n 2000;")) outcome.outcome) (sym none) outcome.goes)) in
     let long = code_is run o h (codes "X n 1 0\nc 2000\nE\n") outcome.outcome outcome.code_is number.code in
@@ -257,10 +255,8 @@ blank_length = refl
 
 blank_ends : (k : ℕ) → k ≤ 2 → no_words (take (9 - k) (codes "a;a;b    ")) ≡ true
 unfolding whole word_token keyword_of number_in with_quoted_byte escape_of operator_of other_of fixed_of digits
-blank_ends zero h = refl
-blank_ends (suc zero) h = refl
-blank_ends (suc (suc zero)) h = refl
 blank_ends (suc (suc (suc k))) h = absurd (omega (arith, h))
+blank_ends _ h = refl
 
 past_blanks : {code line : List ℕ} (run : Run) (o : Observed (codes "a;a;b    ") code line 1 run) (h : Compiles run) → run.source_after.left ≡ Some [] → ⊥
 past_blanks run o h over =

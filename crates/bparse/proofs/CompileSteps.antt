@@ -1,13 +1,13 @@
 -- What compiling a whole source comes to, by its last call.
-use Rattle.std.proofs.Common.{◌≡◌, ℕ, ◌<◌, Bool, true, false, List, [], ◌∷◌, ◌++◌, length, map, take, drop, suc, Option, Some, None, refl, sym, ap, ◌∙◌, subst, length-append, arith, ◌⊎◌, inl, inr, if◌then◌else◌}
+use Rattle.std.proofs.Common.{◌≡◌, ℕ, ◌<◌, true, false, List, [], ◌∷◌, ◌++◌, length, map, take, drop, suc, Option, Some, None, refl, sym, ap, ◌∙◌, subst, length-append, arith, ◌⊎◌, inl, inr, if◌then◌else◌}
 use Rattle.std.proofs.Math.Seq.{drop-append_seam}
 use Rattle.bword.specs.declared.edition.Edition.{Edition}
 use Rattle.std.proofs.lemmas.List.{take-append-le, length-map}
+use Rattle.std.proofs.lemmas.Bool.{false_from_ne_true}
 use Rattle.bword.specs.ByteEnds.{Incoming, Outgoing, Took, Grew, Writes, Refuses}
 use Rattle.bword.specs.declared.ends.EndFault.{EndFault}
 use Rattle.bword.specs.declared.ends.EndFault.TheVariants as end_fault
 use Rattle.blex.proofs.Passing.{Took-none, Took-append}
-use Rattle.bword.proofs.Fetched.{bool_false}
 use Rattle.bword.proofs.Putting.{Refuses-following}
 use Rattle.blang.specs.Text.{joined, opening}
 use Rattle.blang.specs.declared.token.Diagnostic.{Diagnostic}
@@ -125,7 +125,7 @@ module _ (first last : Compiler) (d e : Outgoing) where
       where
         -- a text that doesn't begin hadn't begun
         not_begun : l.old.is_begun ≡ false
-        not_begun = bool_false l.old.is_begun (λ z. h.some (unopened_none l.old z))
+        not_begun = false_from_ne_true l.old.is_begun (λ z. h.some (unopened_none l.old z))
 
         to_open : unopened l.old ≡ opening first.first.edition
         to_open = unopened_all l.old not_begun ∙ ap (λ x. opening x.edition) l.keeps_old.first

@@ -1,17 +1,15 @@
 -- Answers that the contract of a compiler's calls excludes, whatever was written before.
-use Rattle.std.proofs.Common.{◌≡◌, ◌≢◌, ℕ, ◌<◌, List, [], ◌∷◌, ◌++◌, length, map, take, true, false, Option, Some, None, refl, sym, ap, ◌∙◌, subst, arith, append-nil, inl, inr, ◌⊎◌}
-use Rattle.std.specs.Io.KnownBytes.{Appends}
+use Rattle.std.proofs.Common.{◌≡◌, ◌≢◌, ℕ, ◌<◌, List, [], ◌∷◌, ◌++◌, length, map, take, true, false, Some, sym, ap, ◌∙◌, subst, arith, inl, inr, ◌⊎◌}
 use Rattle.std.proofs.lemmas.List.Concat.{flat_map-append}
-use Rattle.std.proofs.lemmas.List.{length-map, map-append}
-use Rattle.bword.specs.ByteEnds.{Grew, Outgoing, Refuses}
-use Rattle.bword.specs.declared.edition.Edition.TheVariants as editions
+use Rattle.std.proofs.lemmas.List.{map-append}
+use Rattle.bword.specs.ByteEnds.{Grew}
 use Rattle.bword.specs.declared.ends.EndFault.TheVariants as end_fault
 use Rattle.bword.proofs.Remaining.{Rest}
 use Rattle.bword.proofs.Taking.{Took-append}
 use Rattle.blang.specs.Compiles.{Compilation, CompilesTo, Tells, compiled_text, next_text}
 use Rattle.blang.specs.Cut.{tokens_from}
 use Rattle.blang.specs.Code.{code_of}
-use Rattle.blang.specs.Text.{definition_text, joined, opening}
+use Rattle.blang.specs.Text.{definition_text, joined}
 use Rattle.blang.specs.Trees.{Definition}
 use Rattle.blang.specs.declared.token.Diagnostic.{Diagnostic}
 use Rattle.blang.specs.declared.code.Definition as code

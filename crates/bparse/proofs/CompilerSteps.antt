@@ -2,7 +2,7 @@
 use Rattle.std.proofs.Common.{◌≡◌, ℕ, ◌<◌, Bool, true, false, List, [], ◌∷◌, ◌++◌, Option, Some, None, Result, Ok, Err, IsErrAnd, refl, sym, ap, ◌∙◌, subst, append_assoc, arith, inl, inr, if◌then◌else◌}
 use Rattle.bword.specs.declared.edition.Edition.{Edition}
 use Rattle.blang.specs.Text.{end_text, IsWithinRanges}
-use Rattle.bword.specs.ByteEnds.{Outgoing, Writes, Refuses}
+use Rattle.bword.specs.ByteEnds.{Outgoing, Writes, Refuses, CanFollow}
 use Rattle.bword.specs.declared.ends.EndFault.{EndFault}
 use Rattle.bword.specs.declared.ends.EndFault.TheVariants as fault
 use Rattle.bword.proofs.Putting.{Writes-none}
@@ -32,10 +32,8 @@ use Rattle.bemit.specs.Drafts.{started}
 use Rattle.bemit.specs.Trails.{no_lines, took, trail, trailed_definition, definition_trail}
 use Rattle.bparse.proofs.MadeSteps.{started_fresh}
 use Rattle.bread.specs.Tokens.{Tokens, lines_in, tokens_of, tokens_with, is_name, IsLoaded, IsSingle, Looks, LooksAt, Moves, work, TakesAhead, TokensFail}
-use Rattle.bword.specs.ByteEnds.{CanFollow}
 use Rattle.bread.proofs.TokenSteps.{Reads-append, LooksAt-append, CanFollow-append}
 use Rattle.bread.proofs.Moving.{single_here}
-use Rattle.blex.proofs.Passing.{Grew-after}
 use Rattle.bparse.specs.Locals.{Locals, locals_of}
 use Rattle.bparse.specs.Steps.{AreOfSource, Point, point, HasCode, Writing, Stopping, OutRefuses, PointGives, StandsAt, refused_step}
 use Rattle.bparse.specs.declared.step.Step.{Step}

@@ -5,7 +5,7 @@ use Rattle.bword.specs.Words.{same_name}
 use Rattle.blang.specs.declared.token.Diagnostic.{Diagnostic}
 use Rattle.blang.specs.Trees.{Definition, Simple, Vector, Function}
 use Rattle.blang.specs.Scan.{Entry, NameKind, Automatic, External, Unlabelled, Labelled, kind_of, with_kind, automatic_words, Scope, no_scope, scan_event, scanned, function_scope, function_events}
-use Rattle.blang.specs.Walk.{Event, AutoHere, ExtrnHere, Mention, LabelHere, CaseHere, DefaultHere, BreakHere, LvalueWanted, LoopBegins, LoopEnds, SwitchBegins, SwitchEnds}
+use Rattle.blang.specs.Walk.{Event, AutoHere, ExtrnHere, Mention, LabelHere, CaseHere, DefaultHere, BreakHere, LvalueWanted}
 use Rattle.blang.specs.Code.{clean, fault_of}
 use Rattle.bgrammar.proofs.ScanSteps.{Entered, Mentioned, LabelStands, Renamed, declares, imports, mentions, labels_here, selects, defaults, lvalues, breaks, by_steps}
 use Rattle.bemit.specs.Kinds.{kind_seen}
@@ -20,9 +20,7 @@ first_push (x ∷ es) e frame = ap (own_word x.kind) (first_push es e frame)
 
 words_with-append : (name : List ℕ) (k : NameKind) (following : ℕ) (xs ys : List NamedWord) → words_with name k following (xs ++ ys) ≡ words_with name k following xs ++ ys
 words_with-append name (Automatic word) following xs ys = refl
-words_with-append name External following xs ys = refl
-words_with-append name (Unlabelled line) following xs ys = refl
-words_with-append name (Labelled number) following xs ys = refl
+words_with-append name _ following xs ys = refl
 
 -- one name more
 words_push : (es : List Entry) (e : Entry) (frame : ℕ) → table_words (es ++ e ∷ []) frame ≡ table_words es (own_word e.kind frame) ++ words_with e.name e.kind frame []
@@ -124,10 +122,7 @@ goes_one (CaseHere line value) es s t u h more = let d = selects line value s t 
 goes_one (DefaultHere line) es s t u h more = let d = defaults line s t h in goes_on es s t u (same_at s t d.names d.frame) more
 goes_one (LvalueWanted line x) es s t u h more = let d = lvalues line x s t h in goes_on es s t u (same_at s t (ap (λ v. v.names) d.is) (ap (λ v. v.frame) d.is)) more
 goes_one (BreakHere line) es s t u h more = let d = breaks line s t h in goes_on es s t u (same_at s t (ap (λ v. v.names) d.is) (ap (λ v. v.frame) d.is)) more
-goes_one LoopBegins es s t u h more = goes_on es s t u (same_after s _ t refl refl h) more
-goes_one LoopEnds es s t u h more = goes_on es s t u (same_after s _ t refl refl h) more
-goes_one SwitchBegins es s t u h more = goes_on es s t u (same_after s _ t refl refl h) more
-goes_one SwitchEnds es s t u h more = goes_on es s t u (same_after s _ t refl refl h) more
+goes_one _ es s t u h more = goes_on es s t u (same_after s _ t refl refl h) more
 
 all_go : (es : List Event) (s : Scope) → scanned es (Ok no_scope) ≡ Ok s → table_words s.names s.frame ≡ named_from 0 es
 all_go es s h = by_steps Goes (λ t. sym (append-nil (table_words t.names t.frame))) goes_one es no_scope s h
@@ -149,9 +144,7 @@ word_more es e end offset k seen is =
 
 no_word : (es : List Entry) (name : List ℕ) (end : ℕ) (k : EntryKind) → ((offset : ℕ) → k ≡ kinds.Automatic offset → ⊥) → table_words es (own_word (kind_seen k) end) ++ words_with name (kind_seen k) end [] ≡ table_words es end
 no_word es name end (kinds.Automatic offset) not = absurd (not offset refl)
-no_word es name end kinds.External not = append-nil (table_words es end)
-no_word es name end (kinds.Unlabelled line) not = append-nil (table_words es end)
-no_word es name end (kinds.Label number) not = append-nil (table_words es end)
+no_word es name end _ not = append-nil (table_words es end)
 
 pub no_word_more : (es : List Entry) (e : Entry) (end : ℕ) (k : EntryKind) → kind_seen k ≡ e.kind → ((offset : ℕ) → k ≡ kinds.Automatic offset → ⊥) → table_words (es ++ e ∷ []) end ≡ table_words es end
 no_word_more es e end k seen not =

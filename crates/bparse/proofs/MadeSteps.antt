@@ -1,6 +1,6 @@
 -- What a pass made of a definition is what its tree has.
 use Rattle.std.proofs.Common.{◌≡◌, Bool, List, [], ◌∷◌, ◌++◌, length, true, false, Option, Some, None, refl, sym, ap, ◌∙◌, subst, arith, length-append, lt-ltb}
-use Rattle.std.specs.Prelude.{nat_lt, IfSome}
+use Rattle.std.specs.Prelude.{nat_lt}
 use Rattle.blang.specs.declared.token.Diagnostic.{Diagnostic}
 use Rattle.blang.specs.declared.token.Token.{Token}
 use Rattle.blang.specs.declared.token.Token.TheVariants as token
@@ -16,12 +16,12 @@ use Rattle.bgrammar.specs.DefinitionReader.{definition}
 use Rattle.bgrammar.specs.Reading.{Got}
 use Rattle.blang.specs.Scan.{identifier_of, name_fault, scan}
 use Rattle.bgrammar.proofs.LawProofs.{definition_read}
-use Rattle.bemit.specs.Drafts.{Draft, Faulty, Going, fault_in, draft_resolved, fresh, started}
+use Rattle.bemit.specs.Drafts.{Draft, Going, fault_in, draft_resolved, fresh, started}
 use Rattle.bemit.specs.Effects.{code_with, definition_done}
 use Rattle.bemit.specs.Views.{IfMade}
 use Rattle.bcodegen.proofs.Definitions.{one_pass}
 use Rattle.bcodegen.specs.Laws.{instructions_in}
-use Rattle.bparse.specs.Locals.{Locals, is_function, locals_in, locals_of}
+use Rattle.bparse.specs.Locals.{is_function, locals_in, locals_of}
 use Rattle.bparse.specs.Steps.{is_end}
 use Rattle.bread.specs.Definitions.{TookDefinition}
 use Rattle.bread.specs.Headers.{Heads}
@@ -48,12 +48,6 @@ end_of _ e = cc
 
 pub not_end : (t : Token) → is_end t ≡ false → t ≡ token.End → ⊥
 not_end t e h = let bad : true ≡ false = sym (ap is_end h) ∙ e in cc
-
--- what is so of what was made is so of the names that are noted
-pub localed : (d : Draft) (P : Locals → Type 0) → IfMade d (λ s m. P (record { is_function = nat_lt 0 (length m.code); names = s.names; frame = s.frame })) → IfSome (locals_in d) P
-localed (Faulty f) P h = tt
-localed (Going s None) P h = tt
-localed (Going s (Some m)) P h = h
 
 some_more : {A : Type 0} (xs : List A) (y : A) (ys : List A) → nat_lt 0 (length (xs ++ y ∷ ys)) ≡ true
 some_more xs y ys = lt-ltb 0 (length (xs ++ y ∷ ys)) (omega (arith, length-append xs (y ∷ ys)))

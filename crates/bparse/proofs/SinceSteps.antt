@@ -2,7 +2,7 @@
 use Rattle.std.proofs.Common.{◌≡◌, ℕ, zero, suc, ◌+◌, length-append, ◌≤◌, Bool, true, false, List, [], ◌∷◌, ◌++◌, length, map, take, drop, get_or, Option, Some, None, Result, Ok, Err, refl, sym, ap, ◌∙◌, subst, append_assoc, append-nil, arith, ◌⊎◌, inl, inr, if◌then◌else◌}
 use Rattle.std.proofs.lemmas.List.{map-append, length-map}
 use Rattle.std.proofs.Math.Seq.{drop-append_seam}
-use Rattle.bword.specs.ByteEnds.{Incoming, Outgoing, Took, Grew, Writes}
+use Rattle.bword.specs.ByteEnds.{Incoming, Outgoing, Took, Writes, CanFollow}
 use Rattle.bword.specs.declared.ends.EndFault.{EndFault}
 use Rattle.bword.specs.declared.ends.EndFault.TheVariants as end_fault
 use Rattle.bword.proofs.Putting.{Writes-none, Writes-append}
@@ -31,7 +31,6 @@ use Rattle.bemit.specs.Trails.{definition_trail}
 use Rattle.blang.specs.Lines.{lines_of, program_lines, lines_after}
 use Rattle.bcodegen.proofs.DefinitionNotes.{one_trail}
 use Rattle.bread.specs.Tokens.{lines_in, tokens_of, IsReady, LooksAt, last_ahead}
-use Rattle.bword.specs.ByteEnds.{CanFollow}
 use Rattle.bread.proofs.TokenSteps.{EndsWith-append}
 use Rattle.bparse.specs.Steps.{AreOfSource, Point, point, name_of, Writing, Stopping, Breaking, BreakingNear, ReadFails, OutRefuses, NamesRefuse, OpensAndGives, GivesNext, PointGives, refused_step, to_begin}
 use Rattle.bparse.specs.Compilers.{CompilerStart, Compiler, compiler_of, Spelled, GoesOnAfter, OpeningWritten, HasWrittenSince, MoreCanBeWritten, Wrote, StoppedAfter, BrokeOff, BrokeOffNear, TakenNear, GivesAfter, CompilerGives}
@@ -306,12 +305,8 @@ module _ (first : CompilerStart) (a b : Point) (lender lender' : List ℕ) (begu
 
 -- what is so after all definitions that can have been written is what the call does
 all_given : (answer : Step) (old new : Compiler) → MoreCanBeWritten old → ((before : List Definition) (since : HasWrittenSince old before) → GivesAfter since answer new) → CompilerGives old answer new
-all_given step.Written _ new o h = (o, h)
-all_given step.Finished _ new o h = (o, h)
-all_given (step.Fault fault) _ new o h = (o, h)
-all_given step.Device _ new o h = (o, h)
-all_given step.Memory _ new o h = (o, h)
 all_given step.Closed _ new o h = absurd (h o.before o.since)
+all_given _ _ new o h = (o, h)
 
 -- where the call found the compiler open
 module _ (first : CompilerStart) (a b : Point) (lender lender' : List ℕ) (begun closed : Bool) (open_now : closed ≡ false)

@@ -1,7 +1,6 @@
 -- What a watcher has kept, from call to call.
 use Rattle.std.proofs.Common.{◌≡◌, ◌⊎◌, inl, inr, ℕ, List, [], ◌∷◌, ◌++◌, Option, Some, None, refl, sym, ap, ◌∙◌, subst, append_assoc, append-nil, length, take, drop, get_or}
-use Rattle.bword.specs.declared.edition.Edition.{Edition}
-use Rattle.bword.specs.ByteEnds.{CanFollow, Incoming}
+use Rattle.bword.specs.ByteEnds.{CanFollow}
 use Rattle.blang.specs.Cut.{tokens_from}
 use Rattle.blang.specs.Trees.{Definition}
 use Rattle.blex.proofs.Passing.{Took-append}
@@ -118,12 +117,4 @@ kept_all kept mid now old last notes k gives w = record { taken = k.since.taken 
 
 pub watched : (kept mid now : Option Notes) (first old last : Compiler) (answer : Step) → SameCompiler first old → KeptSince kept old mid → CompilerGives old answer last → WatchGives mid answer (notes_by last) now → Watched first.first.edition first.first.source kept answer last.tokens.source.end now
 watched kept mid now first old last step.Finished same k gives w = subst (λ x. KeptAll x.edition x.source last.tokens.source.end kept now) same.first (kept_all kept mid now old last (notes_by last) k gives w)
-watched kept mid now first old last step.Written same k gives w = tt
-watched kept mid now first old last (step.Fault d) same k gives w = tt
-watched kept mid now first old last step.Device same k gives w = tt
-watched kept mid now first old last step.Memory same k gives w = tt
-watched kept mid now first old last step.Closed same k gives w = tt
-
--- the same between other names of the ends
-pub watched_as : (kept now : Option Notes) (answer : Step) {edition edition2 : Edition} {i i2 j j2 : Incoming} → edition ≡ edition2 → i ≡ i2 → j ≡ j2 → Watched edition i kept answer j now → Watched edition2 i2 kept answer j2 now
-watched_as kept now answer {edition} {edition2} {i} {i2} {j} {j2} e k l w = subst (λ x. Watched edition2 i2 kept answer x now) l (subst (λ x. Watched edition2 x kept answer j now) k (subst (λ x. Watched x i kept answer j now) e w))
+watched kept mid now first old last _ same k gives w = tt

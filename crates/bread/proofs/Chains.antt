@@ -2,8 +2,8 @@
 use Rattle.std.proofs.Common.{◌≡◌, ℕ, zero, suc, ◌+◌, ◌≤◌, ◌<◌, List, [], ◌∷◌, length, Bool, true, false, Option, Some, None, refl, sym, ap, ◌∙◌, subst, arith}
 use Rattle.std.specs.Prelude.{nat_eq, nat_le, if◌then◌else◌}
 use Rattle.std.proofs.lemmas.Bool.{eqb-true, eqb-false, eq-eqb, leb-true, leb-false}
+use Rattle.bgrammar.proofs.ExpressionAgain.{no_rank_zero}
 use Rattle.bword.specs.declared.operators.BinOp.{BinOp}
-use Rattle.bword.specs.declared.operators.BinOp.TheVariants as op
 use Rattle.blang.specs.declared.token.Token.{Token}
 use Rattle.blang.specs.declared.token.Token.TheVariants as token
 use Rattle.blang.specs.declared.token.Placed.{Placed}
@@ -31,23 +31,6 @@ abbrev Past : ℕ → List Placed → Type 0
 Past r ts = (i : ℕ) → i ≤ r → op_at i (first ts) ≡ None
 
 -- operators by their ranks
-pub rank_positive : (p : BinOp) → 1 ≤ rank p
-rank_positive op.Mul = omega arith
-rank_positive op.Div = omega arith
-rank_positive op.Rem = omega arith
-rank_positive op.Add = omega arith
-rank_positive op.Sub = omega arith
-rank_positive op.Shl = omega arith
-rank_positive op.Shr = omega arith
-rank_positive op.Lt = omega arith
-rank_positive op.Le = omega arith
-rank_positive op.Gt = omega arith
-rank_positive op.Ge = omega arith
-rank_positive op.Eq = omega arith
-rank_positive op.Ne = omega arith
-rank_positive op.And = omega arith
-rank_positive op.Or = omega arith
-
 having_other : (i : ℕ) (p : BinOp) → (rank p ≡ i → ⊥) → having_rank i p ≡ None
 having_other i p other = go (nat_eq (rank p) i) refl
   where
@@ -79,10 +62,6 @@ op_here j t p is h = ap (op_at (suc j)) is ∙ ap (λ b. if b then Some p else N
 
 op_past : (j : ℕ) (ts : List Placed) (p : BinOp) → first ts ≡ token.Operator p → rank p ≡ suc j → Past j ts
 op_past j ts p is h i le = ap (op_at i) is ∙ having_other i p (λ same. absurd (omega arith))
-
-no_rank_zero : (t : Token) → op_at 0 t ≡ None
-no_rank_zero (token.Operator p) = having_other 0 p (λ same. absurd (omega (arith, rank_positive p)))
-no_rank_zero _ = refl
 
 past_zero : (ts : List Placed) → Past 0 ts
 past_zero ts zero le = no_rank_zero (first ts)

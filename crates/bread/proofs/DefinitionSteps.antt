@@ -1,5 +1,5 @@
 -- How the calls that read definitions go on.
-use Rattle.std.proofs.Common.{◌≡◌, ℕ, ◌+◌, ◌<◌, min, max, Bool, true, false, List, [], ◌∷◌, ◌++◌, length, length-append, fold, Option, None, Result, Ok, Err, IsErrAnd, ◌⊎◌, inl, inr, refl, sym, ap, ◌∙◌, subst, arith, if◌then◌else◌}
+use Rattle.std.proofs.Common.{◌≡◌, ℕ, ◌+◌, min, max, Bool, true, false, List, [], ◌∷◌, ◌++◌, length, length-append, fold, Option, None, Result, Ok, Err, IsErrAnd, ◌⊎◌, inl, inr, refl, sym, ap, ◌∙◌, subst, arith, if◌then◌else◌}
 use Rattle.std.specs.Prelude.{nat_lt}
 use Rattle.std.proofs.lemmas.Bool.Decides.{nat_tests}
 use Rattle.blang.specs.declared.token.Token.{Token}
@@ -19,12 +19,11 @@ use Rattle.bgrammar.specs.Fitting.{values_words}
 use Rattle.bgrammar.specs.DefinitionReader.{ival_at, ival, valued, vector, function_body, function, after_name_at, after_name, definition}
 use Rattle.bgrammar.proofs.Fine.{Fine}
 use Rattle.bgrammar.proofs.ExpressionFine.{Closer}
-use Rattle.bemit.specs.Drafts.{Draft, emitted, stringed, offset_of, worded, started}
+use Rattle.bemit.specs.Drafts.{Draft, emitted, worded, started, place_of}
 use Rattle.bemit.specs.Drafts as drafts
 use Rattle.bemit.specs.Effects.{ival_done, done, values_done, parameters_done, definition_done}
-use Rattle.bemit.specs.Drafts.{place_of}
 use Rattle.bemit.specs.Trails.{Lines, Trail, trail, no_lines, first_line, took, took_size, noted_at, filled_to, made_to, value_place, trailed_list, trailed_value, trailed_values, trailed_parameters, trailed_statement, trailed_definition}
-use Rattle.bread.specs.Tokens.{with_noted, Tokens, IsLoaded, IsSingle, work, Runs, TokensFail, Advances}
+use Rattle.bread.specs.Tokens.{with_noted, Tokens, IsLoaded, IsSingle, Runs, TokensFail, Advances}
 use Rattle.bread.specs.Marks.{is_comma}
 use Rattle.bread.specs.Parsers.{Leads, Halts, Expected}
 use Rattle.bread.specs.declared.take.Word as take

@@ -1,5 +1,6 @@
 -- Each step of the parser, as a fact about what it read and what it made.
-use Rattle.std.proofs.Common.{◌≡◌, ℕ, zero, suc, ◌+◌, ◌-◌, ◌<◌, List, Bool, true, false, Option, Some, None, Result, Ok, Err, min, refl, sym, ap, ◌∙◌, subst, arith, add-one}
+use Rattle.std.proofs.Common.{◌≡◌, ℕ, suc, ◌+◌, ◌-◌, List, Bool, true, false, Option, Some, None, Result, Ok, Err, min, refl, sym, ap, ◌∙◌, subst, arith, add-one}
+use Rattle.bgrammar.proofs.ExpressionAgain.{good_at, rank_positive}
 use Rattle.bword.specs.declared.operators.BinOp.{BinOp}
 use Rattle.bword.specs.declared.operators.BinOp.TheVariants as op
 use Rattle.blang.specs.declared.token.Token.{Token}
@@ -17,13 +18,13 @@ use Rattle.blex.specs.Lexemes.{token_of_lexeme}
 use Rattle.blex.specs.declared.lexeme.Lexeme.{Lexeme}
 use Rattle.blex.specs.declared.lexeme.Lexeme.TheVariants as lexeme
 use Rattle.bgrammar.specs.ExpressionReader as reading
-use Rattle.bgrammar.specs.ExpressionReader.{is_close_paren, is_close_bracket, is_question, is_colon, op_at, suffix, Index, Call, Step, comma, always, prefix_op, Operand, Choice, Rvalue, Inner, primary, primary_at, another, arguments, call, postfix_with, postfix, operand, chain, choices, conditional, assigns, rvalue_from, inner, reader, is_operand}
+use Rattle.bgrammar.specs.ExpressionReader.{is_close_paren, is_close_bracket, is_question, is_colon, op_at, suffix, Index, Call, Step, comma, always, prefix_op, Choice, Rvalue, Inner, primary, primary_at, another, arguments, call, postfix_with, postfix, operand, chain, conditional, assigns, rvalue_from, inner, reader, is_operand}
 use Rattle.bgrammar.specs.StatementReader.{is_open_paren}
 use Rattle.blang.specs.Code.{argument_count, assignment}
 use Rattle.bgrammar.proofs.Fine.{many_none, many_some}
-use Rattle.bgrammar.proofs.ExpressionFine.{closing, has_room, Good, suffix_loop, comma_loop, reader_fine, reader_one}
+use Rattle.bgrammar.proofs.ExpressionFine.{closing, has_room, suffix_loop, comma_loop}
 use Rattle.bemit.specs.Drafts.{Draft, emitted, place_of, filled, stringed, offset_of, named, name_form, checked}
-use Rattle.blang.specs.Scan.{NameKind, Automatic, External, Unlabelled, Labelled, kind_of}
+use Rattle.blang.specs.Scan.{NameKind, kind_of, Automatic}
 use Rattle.bemit.specs.Drafts as drafts
 use Rattle.bemit.specs.Effects.{form, loads, loaded, held, passed, evaluated, stepping, prefixed, ways, most_arguments}
 use Rattle.bemit.specs.declared.form.Form.{Form}
@@ -31,8 +32,8 @@ use Rattle.bemit.specs.declared.form.Form.TheVariants.{Place, Lone, Joined}
 use Rattle.bread.specs.declared.halt.Halt.{Halt}
 use Rattle.bread.specs.declared.halt.Halt.TheVariants as halt
 use Rattle.bread.specs.Marks.{is_comma}
-use Rattle.bemit.specs.Trails.{Trail, trail, first_line, took, noted, noted_at, between_ways, trailed, trailed_arguments, past_comma}
-use Rattle.bread.specs.Tokens.{Tokens, with_noted, IsLoaded, IsSingle, Runs, TokensFail, Advances, AdvancesTo, work}
+use Rattle.bemit.specs.Trails.{Trail, first_line, took, noted, noted_at, between_ways, trailed, trailed_arguments, past_comma}
+use Rattle.bread.specs.Tokens.{Tokens, with_noted, IsLoaded, IsSingle, Runs, TokensFail, Advances, AdvancesTo}
 use Rattle.bread.specs.declared.operators.Prefix.{Prefix}
 use Rattle.bread.specs.declared.operators.Prefix.TheVariants as prefixes
 use Rattle.bread.specs.Parsers.{assigned_at, op_within, prefix_meant, prefix_form, called_at, Leads, Halts, ExpressionTaken, ExpressionAfter, Follows, Continues, TookWord, TookArguments, TakesCurrent, Expected}
@@ -40,7 +41,7 @@ use Rattle.bgrammar.proofs.Forms.{only_open_paren}
 use Rattle.bread.proofs.Lists.{is_a_comma, is_no_comma}
 use Rattle.bread.proofs.TokenSteps.{Moves-breaks, noted_moves, noted_loaded}
 use Rattle.bread.proofs.Moving.{again_marked, past, past_expected, noted_past, run_here, run_past, run_as, run_then, run_bind, halt_after, halt_bind, halt_as, bind_twice, halt_then, halt_device}
-use Rattle.bread.proofs.Chains.{climb, rank_positive, within_some, within_none, chain_climbs, climb_none, climb_some}
+use Rattle.bread.proofs.Chains.{climb, within_some, within_none, chain_climbs, climb_none, climb_some}
 
 -- what a loop has read and made so far
 pub record SoFar (whole : Reader Expr) (more : Expr → Reader Expr) (start : Draft) (called : Bool) (old new : Tokens) (draft : Draft) (found : Form) : Type 0 where
@@ -322,17 +323,9 @@ module _ (room k : ℕ) (p : tree.PrefixOp) (a b : Tokens) (enters : (room ≡ k
 
 pub prefix_leaves : (p : Prefix) (found : Form) → found ≡ prefix_form p → (e : Expr) (l : ℕ) (d : Draft) → found ≡ form (Prefixed (prefix_meant p) l e) d
 prefix_leaves prefixes.Negate found h e l d = h
-prefix_leaves prefixes.Not found h e l d = h
-prefix_leaves prefixes.Indirection found h e l d = h
-prefix_leaves prefixes.Address found h e l d = h
-prefix_leaves prefixes.Increment found h e l d = h
-prefix_leaves prefixes.Decrement found h e l d = h
+prefix_leaves _ found h e l d = h
 
 -- operators
-pub rank_up : (n : ℕ) → (n ≡ 0 → ⊥) → n ≡ suc (n - 1)
-rank_up zero h = absurd (h refl)
-rank_up (suc n) h = omega arith
-
 pub tighter_rank : (p : BinOp) (n : ℕ) → n ≡ rank p → rank p ≡ suc (n - 1)
 tighter_rank p n h = omega (arith, h, rank_positive p)
 
@@ -391,9 +384,6 @@ pub evaluate_took : (room : ℕ) (a b : Tokens) (start draft following : Draft) 
 evaluate_took room a b start draft following found t l = ((λ off. let x = t.0 off in record { tree = x.tree; runs = x.runs; made = word_is draft following start found false x.tree l x.made x.form_is; leads = x.leads }), t.1)
 
 -- arguments
-is_full : (k : ℕ) → Good (inner (suc k))
-is_full k = record { fine = reader_fine k; one_is = reader_one k }
-
 call_at : (k off : ℕ) (e : Expr) (u : List Placed) → call (inner (k + 1)) off e u ≡ call (inner (suc k)) off e u
 call_at k off e u = ap (λ i. call i off e u) (at_room (k + 1) k refl)
 
@@ -405,7 +395,7 @@ some_read k off e u h = rw h (bind_twice (reader k Rvalue (off + words e) u) (λ
 
 comma_read : (k off : ℕ) (e : Expr) (args : Arguments) (u : List Placed) → comma (first u) ≡ Some tt → more_arguments k off e args u ≡ (reader k Rvalue (off + words e + argument_words args) (after u) >>= λ f. more_arguments k off e (Another args f))
 comma_read k off e args u h =
-    ap (λ x. x >>= λ args r. expect is_close_paren r >>= λ o. Got (Called e args)) (many_some closing (always comma) (another (inner (suc k)) (off + words e)) (comma_loop (inner (suc k)) (has_room (suc k)) (is_full k) (off + words e)) tt args u h)
+    ap (λ x. x >>= λ args r. expect is_close_paren r >>= λ o. Got (Called e args)) (many_some closing (always comma) (another (inner (suc k)) (off + words e)) (comma_loop (inner (suc k)) (has_room (suc k)) (good_at k) (off + words e)) tt args u h)
     ∙ bind_twice (another (inner (suc k)) (off + words e) tt args u) (many (always comma) (another (inner (suc k)) (off + words e))) (λ args r. expect is_close_paren r >>= λ o. Got (Called e args))
     ∙ bind_twice (reader k Rvalue (off + words e + argument_words args) (after u)) (λ f. Got (Another args f)) (more_arguments k off e)
 
@@ -560,11 +550,8 @@ stands Lone = true
 stands Joined = false
 
 name_stands : (k : Option NameKind) → stands (drafts.form_at k) ≡ true
-name_stands None = refl
 name_stands (Some (Automatic w)) = refl
-name_stands (Some External) = refl
-name_stands (Some (Unlabelled l)) = refl
-name_stands (Some (Labelled n)) = refl
+name_stands _ = refl
 
 group_stands : (f : Form) → stands (drafts.grouped f) ≡ true
 group_stands Place = refl
@@ -573,21 +560,9 @@ group_stands Joined = refl
 
 operand_stands : (e : Expr) (d : Draft) → is_operand e ≡ stands (form e d)
 operand_stands (Named w) d = sym (name_stands (kind_of w.text (drafts.draft_names d)))
-operand_stands (Literal c) d = refl
-operand_stands (Text bytes offset) d = refl
 operand_stands (Grouped e) d = sym (group_stands (form e d))
-operand_stands (Indexed e f) d = refl
-operand_stands (Called e args) d = refl
-operand_stands (Postfixed op line e) d = refl
 operand_stands (Prefixed tree.Negate line e) d = refl
-operand_stands (Prefixed tree.Not line e) d = refl
-operand_stands (Prefixed tree.Indirection line e) d = refl
-operand_stands (Prefixed tree.Address line e) d = refl
-operand_stands (Prefixed tree.PreIncrement line e) d = refl
-operand_stands (Prefixed tree.PreDecrement line e) d = refl
-operand_stands (Binary op line e f) d = refl
-operand_stands (Conditional e f g) d = refl
-operand_stands (Assigned op line e f) d = refl
+operand_stands _ d = refl
 
 assigns_at : (e : Expr) (f : Form) (t : Token) → is_operand e ≡ stands f → assigns e t ≡ assigned_at f t
 assigns_at e Place (token.Assign op) h = rw h refl

@@ -4,12 +4,13 @@ use Rattle.blang.specs.declared.token.Token.{Token}
 use Rattle.blang.specs.declared.token.Token.TheVariants as token
 use Rattle.blang.specs.declared.token.Placed.{Placed}
 use Rattle.blang.specs.Trees.{Identifier, Heading, Auto, Extrn, Label, Case, Default, Stmt, Headed, Evaluate}
-use Rattle.bgrammar.specs.Reading.{Read, Got, Stop, Reader, ◌>>=◌, first, line_ahead, after, expect, turns, many}
+use Rattle.bgrammar.specs.Reading.{Read, Got, Stop, ◌>>=◌, first, line_ahead, after, expect, turns, many}
 use Rattle.bgrammar.specs.ExpressionReader.{is_colon}
 use Rattle.bgrammar.specs.Commas.{list_reader}
 use Rattle.bgrammar.specs.StatementReader.{is_semicolon, name, constant, declared, Headings, No_heading, Then, headed, Lead, no_lead, with_heading, Step, Declares, Imports, Selects, Defaults, Mentions, Labels, step_at, lead_step, lead_turn, lead, stmt_at, stmt_after, level, ended, statement}
 use Rattle.bgrammar.proofs.Fine.{many_some, many_none}
 use Rattle.bgrammar.proofs.StatementFine.{lasting, lead_loop}
+use Rattle.bgrammar.proofs.StatementAgain.{following as read_after, no_label as no_labels}
 use Rattle.bread.specs.Headings.{unheaded, IsHeadedBy, IsUnheaded, StopsHeading}
 
 -- headings after these
@@ -55,10 +56,6 @@ headed_after : (hs : Headings) (h : Heading) (s : Stmt) → headed (joined (Then
 headed_after No_heading h s = refl
 headed_after (Then before k) h s = headed_after before h (Headed k s)
 
--- what is read after headings
-abbrev read_after : ℕ → ℕ → Lead → Reader Stmt
-read_after room off l r = stmt_after room (level room) off l.word r >>= λ s. Got (headed l.headings s)
-
 heading_after : (room off : ℕ) (h : Heading) (x : Read Lead) → (put (Then No_heading h) x >>= read_after room off) ≡ ((x >>= read_after room off) >>= λ s. Got (Headed h s))
 heading_after room off h (Stop r) = refl
 heading_after room off h (Got l r) = go (stmt_after room (level room) off l.word r)
@@ -97,10 +94,6 @@ unheaded_at room off u o v e same = ap (λ x. x >>= read_after room off) e ∙ g
 
 pub no_heading : (u : List Placed) → step_at None (first u) ≡ None → IsUnheaded u u
 no_heading u h room off = unheaded_at room off u None u (many_none lead_step lead_turn no_lead u h) refl
-
-no_labels : (w : Identifier) (t : Token) → is_colon t ≡ false → step_at (Some w) t ≡ None
-no_labels w token.Colon h = cc
-no_labels w _ h = refl
 
 pub no_label : (x : List ℕ) (u : List Placed) → first u ≡ token.Name x → is_colon (first (after u)) ≡ false → IsUnheaded u u
 no_label x [] h k room off = cc

@@ -11,12 +11,11 @@ use Rattle.bgrammar.specs.Reading.{Read, Reader, Got, Stop, ◌>>=◌, first, li
 use Rattle.bgrammar.specs.ExpressionReader.{is_colon}
 use Rattle.bgrammar.specs.Commas.{list_reader}
 use Rattle.bgrammar.specs.StatementReader.{is_semicolon, name, size, constant, declared, no_lead, with_heading, Step, Declares, Imports, Selects, Defaults, step_at, lead_turn}
-use Rattle.bemit.specs.Drafts.{Draft, selected, defaulted, imported, labelled}
+use Rattle.bemit.specs.Drafts.{Draft, selected, defaulted, labelled, place_of}
 use Rattle.bemit.specs.Drafts as drafts
 use Rattle.bemit.specs.Effects.{headed}
-use Rattle.bemit.specs.Drafts.{place_of}
 use Rattle.bemit.specs.Trails.{trail, took, noted, trailed_declared, trailed_name, trailed_heading}
-use Rattle.bread.specs.Tokens.{Tokens, IsLoaded, work, Moves, Runs, TokensFail, Advances, LooksOn, Same, AreAfter, KeepsAhead, tokens_with}
+use Rattle.bread.specs.Tokens.{Tokens, IsLoaded, work, Runs, Advances, LooksOn, Same, AreAfter, KeepsAhead, tokens_with}
 use Rattle.bread.specs.Parsers.{Leads, Halts, Expected}
 use Rattle.bread.specs.declared.take.Word as take
 use Rattle.bread.specs.declared.halt.Halt.{Halt}
@@ -120,9 +119,6 @@ module _ {old mid : Tokens} {p : Reader Heading} (t : Turns old p) (a : Advances
 pub heading_err : (old : Tokens) (start : Draft) (r : Result Bool Halt) (new : Tokens) (draft : Draft) (why : Halt) → IsErrAnd r (λ y. y ≡ why) → FindsHeading old start (Err why) new draft → FindsHeading old start r new draft
 heading_err old start (Ok b) new draft why e h = absurd e
 heading_err old start (Err s) new draft why e h = subst (λ x. FindsHeading old start (Err x) new draft) (sym e) h
-
-pub heading_breaks : (old : Tokens) (start : Draft) (r : Result Bool Halt) (new : Tokens) (draft : Draft) (why : Halt) → IsErrAnd r (λ y. y ≡ why) → why ≡ halt.Device → TokensFail old new → FindsHeading old start r new draft
-heading_breaks old start r new draft why e d h = heading_err old start r new draft why e (subst (λ x. FindsHeading old start (Err x) new draft) (sym d) h)
 
 second_of : (ahead : List Placed) (edition : Edition) (line : ℕ) (bytes : List ℕ) (p q : Placed) (ps : List Placed) (x : List ℕ) → ahead ≡ p ∷ ps → after ahead ≡ q ∷ [] → first ahead ≡ token.Name x → first (after (tokens_with ahead edition line bytes)) ≡ first (after ahead)
 second_of [] edition line bytes p q ps x e k h = cc

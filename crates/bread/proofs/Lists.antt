@@ -14,11 +14,10 @@ use Rattle.bemit.specs.Drafts.{Draft}
 use Rattle.bemit.specs.Trails.{Trail, took, trailed_more, trailed_list}
 use Rattle.bread.specs.Tokens.{Tokens, IsSingle, work, Runs, TokensFail, Advances}
 use Rattle.bread.specs.Marks.{is_comma}
-use Rattle.bread.specs.Parsers.{Leads, Halts}
+use Rattle.bread.specs.Parsers.{Leads, Halts, Expects}
 use Rattle.bread.specs.declared.halt.Halt.{Halt}
 use Rattle.bread.specs.declared.halt.Halt.TheVariants as halt
 use Rattle.bread.specs.Compiling.{untold, PartTaken, CompilesPart}
-use Rattle.bread.specs.Parsers.{Expects}
 use Rattle.bread.proofs.TokenSteps.{Moves-breaks}
 use Rattle.bread.proofs.Moving.{past, past_expected, run_here, run_past, run_then, run_bind}
 use Rattle.bread.proofs.Steps.{began, went, halts_first, halts_then, device}
@@ -91,9 +90,6 @@ module _ {A : Type 0} (item : List A → Reader A) (fine : (before : List A) (ts
 
       pub list_halts : (new : Tokens) (why : Halt) → Halts (item s.items) mid why new → Halts (list_reader item) old why new
       list_halts new why k = halts_then old mid new (list_reader item) (λ v. item s.items v >>= λ x. Got (s.items ++ x ∷ [])) rest why past_comma (halts_first mid new (item s.items) (λ x. Got (s.items ++ x ∷ [])) why k)
-
-    pub list_breaks : {new : Tokens} → TokensFail now new → Halts (list_reader item) old halt.Device new
-    list_breaks h = Moves-breaks s.runs h
 
     abbrev pub list_ends : is_comma (first now.ahead) ≡ false → Runs old now (list_reader item) (λ v. Got s.items v)
     list_ends h = run_then s.runs (run_here s.single.0 (λ u e l. many_none (always comma) (comma_item item) s.items u (is_no_comma (first u) (ap is_comma e ∙ h))))

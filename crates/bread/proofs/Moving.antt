@@ -9,14 +9,13 @@ use Rattle.blex.specs.Lexemes.{token_of_lexeme}
 use Rattle.blex.specs.declared.lexeme.Lexeme.{Lexeme}
 use Rattle.blex.specs.declared.lexeme.Lexeme.TheVariants as lexeme
 use Rattle.bgrammar.specs.Reading.{Read, Reader, Got, Stop, ◌>>=◌, first, line_ahead, after}
-use Rattle.bemit.specs.Drafts.{Draft}
+use Rattle.bemit.specs.Drafts.{Draft, place_of}
 use Rattle.bemit.specs.declared.form.Form.{Form}
 use Rattle.bread.specs.declared.halt.Halt.{Halt}
 use Rattle.bread.specs.declared.halt.Halt.TheVariants as halt
-use Rattle.bemit.specs.Drafts.{place_of}
 use Rattle.bemit.specs.Trails.{Lines, Trail, trail, first_line, took, marked, noted, noted_at}
-use Rattle.bread.specs.Tokens.{Tokens, tokens_with, tokens_of, is_name, IsLoaded, IsSingle, Moves, Runs, TokensFail, Same, Advances, AdvancesTo, PassesOne}
-use Rattle.bread.specs.Parsers.{Leads, Halts, Follows, Continues, Evaluates, Passes, Expected}
+use Rattle.bread.specs.Tokens.{Tokens, tokens_with, tokens_of, is_name, IsLoaded, IsSingle, Runs, TokensFail, Advances, AdvancesTo, PassesOne}
+use Rattle.bread.specs.Parsers.{Leads, Halts, Follows, Continues, Passes, Expected}
 use Rattle.bread.proofs.TokenSteps.{Moves-append, Moves-as, Moves-breaks, stays_same}
 
 pub first_with : (ahead : List Placed) (edition : Edition) (line : ℕ) (bytes : List ℕ) (p : Placed) (ps : List Placed) → ahead ≡ p ∷ ps → first (tokens_with ahead edition line bytes) ≡ first ahead
@@ -45,9 +44,6 @@ run_here {A} {t} {f} {g} l k =
 -- reading goes on after the current token
 abbrev pub run_past : {A : Type 0} {n : Lines} {a b : Tokens} {f g : Reader A} → AdvancesTo n a b → ((u : List Placed) → first u ≡ first a.ahead → line_ahead u ≡ line_ahead a.ahead → f u ≡ g (after u)) → Runs a b f g
 run_past {A} {n} {a} {b} {f} {g} h k = Moves-as (λ u v. f u ≡ g v) (λ u v m. k u m.token m.line ∙ ap g (sym m.rest)) h.moves
-
-abbrev pub run_same : {A : Type 0} {a b : Tokens} (f : Reader A) → Moves a b Same → Runs a b f f
-run_same f h = Moves-as (λ u v. f u ≡ f v) (λ u v e. ap f e) h
 
 -- readers that agree everywhere
 abbrev pub run_as : {A : Type 0} {a b : Tokens} {f g h : Reader A} → ((u : List Placed) → f u ≡ g u) → Runs a b g h → Runs a b f h
@@ -98,10 +94,6 @@ follows_err reader called old new before draft (Err s) why h k = λ o. subst (λ
 pub continues_err : (reader : ℕ → Expr → Reader Expr) (was called : Bool) (given : Form) (old new : Tokens) (before draft : Draft) (r : Result Form Halt) (why : Halt) → IsErrAnd r (λ y. y ≡ why) → ((offset : ℕ) (e : Expr) → Halts (reader offset e) old why new) → Continues reader was given called old before r new draft
 continues_err reader was called given old new before draft (Ok x) why h k = absurd h
 continues_err reader was called given old new before draft (Err s) why h k = λ o e. subst (λ w. Halts (reader o e) old w new) (sym h) (k o e)
-
-pub evaluates_err : (reader : ℕ → Reader Expr) (old new : Tokens) (before draft : Draft) (r : Result (Unit {0}) Halt) (why : Halt) → IsErrAnd r (λ y. y ≡ why) → ((offset : ℕ) → Halts (reader offset) old why new) → Evaluates reader old before r new draft
-evaluates_err reader old new before draft (Ok x) why h k = absurd h
-evaluates_err reader old new before draft (Err s) why h k = λ o. subst (λ w. Halts (reader o) old w new) (sym h) (k o)
 
 pub passes_err : (reader : ℕ → Expr → Reader Expr) (old new : Tokens) (before draft : Draft) (r : Result ℕ Halt) (why : Halt) → IsErrAnd r (λ y. y ≡ why) → ((offset : ℕ) (e : Expr) → Halts (reader offset e) old why new) → Passes reader old before r new draft
 passes_err reader old new before draft (Ok x) why h k = absurd h

@@ -8,7 +8,7 @@ use Rattle.blang.specs.Scan.{identifier_of}
 use Rattle.blang.specs.declared.token.Placed.{Placed}
 use Rattle.bgrammar.specs.Reading.{Reader, Got, Stop, after}
 use Rattle.bgrammar.specs.DefinitionReader.{definition}
-use Rattle.bemit.specs.Drafts.{Draft, Faulty, started}
+use Rattle.bemit.specs.Drafts.{Draft, started}
 use Rattle.bemit.specs.Effects.{definition_done, form, held}
 use Rattle.bemit.specs.Trails.{Lines}
 use Rattle.bemit.specs.declared.form.Form.{Form}

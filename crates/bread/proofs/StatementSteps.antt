@@ -20,14 +20,13 @@ use Rattle.bemit.specs.Views.{IfMade}
 use Rattle.bemit.specs.Drafts.{Draft, Faulty, Going, emitted, filled, place_of, mark_of, begun, loop_begun, break_drafted as broken_here}
 use Rattle.bemit.specs.Effects.{evaluated, done, all_done}
 use Rattle.bemit.specs.Effects as effects
-use Rattle.bemit.specs.Trails.{Lines, Trail, trail, first_line, took, marked, noted, noted_at, between_ways, trailed, trailed_ended, trailed_condition, trailed_statement, trailed_body, trailed_through}
+use Rattle.bemit.specs.Trails.{Trail, trail, first_line, took, noted, noted_at, between_ways, trailed, trailed_ended, trailed_condition, trailed_statement, trailed_body, trailed_through}
 use Rattle.bread.specs.Tokens.{Tokens, with_noted, IsLoaded, IsSingle, work, Moves, Runs, Advances, AdvancesTo}
-use Rattle.bread.specs.Parsers.{Leads, Halts, TookWord}
+use Rattle.bread.specs.Parsers.{Leads, Halts, TookWord, Expects, ExpectsTo, Expected, ExpectedTo}
 use Rattle.bread.specs.declared.halt.Halt.{Halt}
 use Rattle.bread.specs.declared.halt.Halt.TheVariants as halt
 use Rattle.bread.specs.Headings.{unheaded, IsHeadedBy, IsUnheaded, StopsHeading}
 use Rattle.bread.specs.Compiling.{untold, PartTaken, PartAfter, CompilesPart, CompilesAfter, NoHeading, TookHeading, FindsHeading}
-use Rattle.bread.specs.Parsers.{Expects, ExpectsTo, Expected, ExpectedTo}
 use Rattle.bread.specs.Statements.{after_current, rvalue_ended, evaluated_to, break_after, return_value, condition, conditional_after, repeated, statements, closed_loop, closed_switch, after_keyword, after_parenthesis, after_first, Chooses}
 use Rattle.bread.proofs.TokenSteps.{Moves-append, Moves-as, Moves-breaks, noted_moves}
 use Rattle.bread.proofs.Moving.{run_here, run_past, run_then, notes, again_marked, past, past_expected, noted_past}

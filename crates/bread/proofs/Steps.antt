@@ -1,10 +1,9 @@
 -- How readings go on from call to call.
-use Rattle.std.proofs.Common.{◌≡◌, ℕ, ◌<◌, List, ◌∷◌, ◌++◌, Result, Ok, Err, IsErrAnd, refl, sym, subst}
-use Rattle.bword.specs.declared.edition.Edition.{Edition}
+use Rattle.std.proofs.Common.{◌≡◌, ℕ, ◌<◌, List, ◌++◌, Result, Ok, Err, IsErrAnd, refl, sym, subst}
 use Rattle.blang.specs.declared.token.Placed.{Placed}
 use Rattle.bgrammar.specs.Reading.{Reader, Got, ◌>>=◌, first, line_ahead}
 use Rattle.bemit.specs.Drafts.{Draft}
-use Rattle.bread.specs.Tokens.{Tokens, with_noted, tokens_of, tokens_with, IsLoaded, IsSingle, Moves, Runs, TokensFail, work}
+use Rattle.bread.specs.Tokens.{Tokens, with_noted, tokens_of, IsLoaded, IsSingle, Moves, Runs, TokensFail, work}
 use Rattle.bread.specs.declared.halt.Halt.{Halt}
 use Rattle.bread.specs.declared.halt.Halt.TheVariants as halt
 use Rattle.bread.specs.Parsers.{Halts}

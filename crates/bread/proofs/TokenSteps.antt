@@ -1,7 +1,9 @@
 -- How takings of tokens compose.
 use Rattle.std.proofs.Common.{◌≡◌, ℕ, ◌+◌, ◌<◌, ◌≤◌, Bool, true, false, List, [], ◌∷◌, ◌++◌, length, Option, Some, None, Ok, Err, refl, sym, ap, ◌∙◌, arith, append-nil, append_assoc, length-append, subst, if◌then◌else◌, ◌⊎◌, inl, inr}
 use Rattle.std.specs.Prelude.{is_some, Result, OnOk}
-use Rattle.blex.specs.Sources.{Source, CanCome, room}
+use Rattle.std.proofs.lemmas.Bool.{both_ways}
+use Rattle.bword.proofs.Taking.{nil-append}
+use Rattle.blex.specs.Sources.{Source, room}
 use Rattle.blex.specs.Lexing.{PassesToken}
 use Rattle.blex.specs.Lexemes.{token_of_lexeme}
 use Rattle.blex.specs.declared.lexeme.Lexeme.{Lexeme}
@@ -28,12 +30,9 @@ use Rattle.bread.specs.Tokens.{Tokens, with_noted, lines_in, both, is_string, is
 use Rattle.bword.specs.declared.edition.Edition.{Edition}
 use Rattle.bword.specs.ByteEnds.{CanFollow}
 
-nil_both : (xs ys : List ℕ) → xs ≡ [] → ys ≡ [] → xs ++ ys ≡ []
-nil_both xs ys h k = rw (h, k) refl
-
 -- what can follow after can follow before
 pub CanFollow-append : {a b c : Source} {xs ys : List ℕ} → TakesAhead a xs b → TakesAhead b ys c → (more : List ℕ) → CanFollow c.end more → CanFollow b.end (ys ++ more)
-CanFollow-append {a} {b} {c} {xs} {ys} h k more f = λ over. let o = k.took.over over in nil_both ys more o.0 (f o.1)
+CanFollow-append {a} {b} {c} {xs} {ys} h k more f = λ over. let o = k.took.over over in nil-append ys more o.0 (f o.1)
 
 pub Reads-none : (s : Source) → length s.ahead ≤ 2 → TakesAhead s [] s
 Reads-none s n = record { took = Took-none s.end; lender = refl; near = n }
@@ -59,7 +58,7 @@ LooksAt-append {a} {b} {c} {xs} {ys} h k = record {
   where
     first_ends : (p : Placed) → k.bytes ≡ [] → EndsWith a.source.edition p.token h.bytes ⊎ ((h.bytes ≡ []) × (last_ahead a.ahead ≡ Some p)) → EndsWith a.source.edition p.token (h.bytes ++ k.bytes) ⊎ ((h.bytes ++ k.bytes ≡ []) × (last_ahead a.ahead ≡ Some p))
     first_ends p none (inl e) = inl (subst (EndsWith a.source.edition p.token) (sym (append-nil h.bytes) ∙ ap (λ l. h.bytes ++ l) (sym none)) e)
-    first_ends p none (inr e) = inr (nil_both h.bytes k.bytes e.0 none, e.1)
+    first_ends p none (inr e) = inr (nil-append h.bytes k.bytes e.0 none, e.1)
 
     both_ends : (p : Placed) → EndsWith b.source.edition p.token k.bytes ⊎ ((k.bytes ≡ []) × (last_ahead b.ahead ≡ Some p)) → EndsWith a.source.edition p.token (h.bytes ++ k.bytes) ⊎ ((h.bytes ++ k.bytes ≡ []) × (last_ahead a.ahead ≡ Some p))
     both_ends p (inl e) = inl (EndsWith-append h.bytes (subst (λ x. EndsWith x p.token k.bytes) h.edition e))
@@ -95,10 +94,6 @@ none_of (Some x) e = cc
 
 after_open : (p : Progress) (at : Placed) → p ≡ progress_after (last_of at.token) at.line → is_last at.token ≡ false → p ≡ progress.Open
 after_open p at e h = e ∙ ap (λ o. progress_after o at.line) (none_of (last_of at.token) (sym (last_is at.token) ∙ h))
-
-true_or_false : (b : Bool) → b ≡ true → b ≡ false → ⊥
-true_or_false true h e = cc
-true_or_false false h e = cc
 
 pub name_goes_on : (t : Token) → is_name t ≡ true → is_last t ≡ false
 name_goes_on (token.Name text) h = refl
@@ -181,7 +176,7 @@ module _ (old new : Lexer) (at : Placed) (gives : LexGives old (Ok at) new) (nea
       passed = λ ls. ls;
       spans = λ more f. ap (λ ts. lines_in (token_first p.token p.line ts)) (comes more f);
     };
-    loaded = record { current = p; following = at ∷ []; ahead = refl; alone = λ e. absurd (true_or_false (is_name p.token) named e); ready = λ e. ready; near = near };
+    loaded = record { current = p; following = at ∷ []; ahead = refl; alone = λ e. absurd (both_ways (is_name p.token) e named); ready = λ e. ready; near = near };
     first_is = refl;
     line_is = refl;
     second = at;
@@ -236,9 +231,6 @@ alone_seen text current following h e = seen_none text following (h (name_seen t
 first_both : (p : Placed) (following : Option Placed) → first (both (Some p) following) ≡ p.token
 first_both p None = refl
 first_both p (Some q) = refl
-
-ahead_none : (current following : Option Placed) → current ≡ None → both current following ≡ []
-ahead_none current following e = ap (λ o. both o following) e
 
 -- where the view of a lexer and what is ahead is these tokens
 module _ {noted : Lines} (old : Tokens) (lexer : Lexer) (current following : Option Placed) (view : tokens_at noted lexer (both current following) ≡ old) (near : length lexer.source.ahead ≤ 2) where
@@ -358,13 +350,6 @@ module _ {noted : Lines} (old : Tokens) (lexer : Lexer) (current following : Opt
   pub advanced : IsLoaded old → is_last (first old.ahead) ≡ false → (o b : Option Placed) (new : Tokens) → o ≡ following → b ≡ None → Looks (tokens_at noted lexer (both o b)) new → Advances old new
   advanced l h o b new e k looks =
       subst (λ t. Advances t new) view (advanced_from current following new (here l) (goes h) (subst (λ x. Looks (tokens_at noted lexer (both x None)) new) e (subst (λ x. Looks (tokens_at noted lexer (both o x)) new) k looks)))
-
-  breaks_from : (o b : Option Placed) (new : Tokens) → IsLoaded (tokens_at noted lexer (both o b)) → is_last (first (both o b)) ≡ false → TokensFail (tokens_at noted lexer (both b None)) new → TokensFail (tokens_at noted lexer (both o b)) new
-  breaks_from o b new l h k = record { taken = k.taken; reads = k.reads; counted = k.counted }
-
-  pub advance_breaks : IsLoaded old → is_last (first old.ahead) ≡ false → (o b : Option Placed) (new : Tokens) → o ≡ following → b ≡ None → TokensFail (tokens_at noted lexer (both o b)) new → TokensFail old new
-  advance_breaks l h o b new e k breaks =
-      subst (λ t. TokensFail t new) view (breaks_from current following new (here l) (goes h) (subst (λ x. TokensFail (tokens_at noted lexer (both x None)) new) e (subst (λ x. TokensFail (tokens_at noted lexer (both o x)) new) k breaks)))
 
   pub advanced_ok : {T E : Type 0} → IsLoaded old → is_last (first old.ahead) ≡ false → (o b : Option Placed) (new : Tokens) → o ≡ following → b ≡ None → (r : Result T E) → OnOk r (Looks (tokens_at noted lexer (both o b)) new) → OnOk r (Advances old new)
   advanced_ok l h o b new e k (Ok x) looks = advanced l h o b new e k looks

@@ -1,6 +1,6 @@
 -- Closed facts: what one pass makes of small definitions.
-use Rattle.std.specs.Prelude.{◌≡◌, ℕ, List, [], ◌∷◌, codes, Option, Some, None, refl}
-use Rattle.blang.specs.Trees.{Identifier, Definition, Function, Stmt, Stmts, While, Switch, Break, Headed, Case, Empty}
+use Rattle.std.specs.Prelude.{◌≡◌, ℕ, List, [], ◌∷◌, codes, Some, refl}
+use Rattle.blang.specs.Trees.{Identifier, Definition, Function, Stmt, While, Switch, Break, Headed, Case, Empty}
 use Rattle.blang.specs.Trees.{More, Nothing, Evaluate, Called, Named, No_arguments, Literal, Number}
 use Rattle.blang.specs.Scan.{name_fault}
 use Rattle.blang.specs.declared.token.Letters.TheVariants as letters

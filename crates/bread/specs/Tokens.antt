@@ -1,12 +1,11 @@
 -- Inner words: the tokens of a source, of which some are ahead, and what taking them does.
 use Rattle.std.specs.Prelude.{◌≡◌, ℕ, ◌+◌, ◌≤◌, ◌⊎◌, Bool, true, false, List, [], ◌∷◌, ◌++◌, length, map, Option, Some, None}
 use Rattle.std.specs.Prelude.{if◌then◌else◌}
-use Rattle.bword.specs.ByteEnds.{Incoming, Grew}
+use Rattle.bword.specs.ByteEnds.{Incoming, Grew, Took}
 pub use Rattle.bword.specs.ByteEnds.{CanFollow}
 use Rattle.bword.specs.declared.edition.Edition.{Edition}
 use Rattle.std.specs.Option.{option_map}
 use Rattle.blex.specs.Sources.{Source, room}
-use Rattle.bword.specs.ByteEnds.{Took}
 use Rattle.blex.specs.Lexemes.{placed_of, token_of_lexeme}
 use Rattle.blang.specs.Cut.{is_last, token_first, tokens_from}
 use Rattle.blang.specs.Endings.{EndsWith}

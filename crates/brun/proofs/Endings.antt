@@ -7,7 +7,7 @@ use Rattle.blang.specs.declared.code.Definition.{Definition}
 use Rattle.blang.specs.declared.code.Instr.{Instr}
 use Rattle.blang.specs.declared.code.Instr.TheVariants as instr
 use Rattle.blang.specs.declared.run.Library.{Library}
-use Rattle.blang.specs.declared.run.Library.TheVariants.{Char, Lchar, Getchar, Putchar, Printn, Exit}
+use Rattle.blang.specs.declared.run.Library.TheVariants.{Getchar, Printn, Exit}
 use Rattle.blang.specs.declared.run.Outcome.{Outcome}
 use Rattle.blang.specs.declared.run.Outcome.TheVariants as outcome
 use Rattle.blang.specs.declared.run.Trap.{Trap}
@@ -49,12 +49,10 @@ printn_proper true w w' = tt
 printn_proper false w w' = λ e. cc
 
 library_proper : (f : Library) (args : List ℕ) (w : World) → EndsProperly (library f args w)
-library_proper Char args w = tt
-library_proper Lchar args w = tt
 library_proper Getchar args w = next_byte_proper w.input w
-library_proper Putchar args w = tt
 library_proper Printn args w = printn_proper (is_base (argument args 1)) w _
 library_proper Exit args w = omega arith
+library_proper _ args w = tt
 
 refusal_trap : (shallow long : Bool) → IsProperTrap (if shallow then (if long then Some trap.NoRoom else None) else Some trap.TooDeep)
 refusal_trap true true = λ e. cc
@@ -101,11 +99,6 @@ call_proper (OfProgram f) args caller below w =
     called_proper (refusal (1 + length below) (start + f.frame)) f args start caller below w (refusal_proper (1 + length below) (start + f.frame))
 
 act_proper : (image : Image) (call : Call) (below : List Call) (w : World) (i : Instr) → HaltsProperly (act image call below w i)
-act_proper image call below w (instr.Constant n) = tt
-act_proper image call below w (instr.External x) = tt
-act_proper image call below w (instr.Automatic k) = tt
-act_proper image call below w (instr.Text o) = tt
-act_proper image call below w (instr.Label k) = tt
 act_proper image call below w instr.Load = one_proper w call.operands _ (λ a rest. tt)
 act_proper image call below w instr.Store = two_proper w call.operands _ (λ a v rest. tt)
 act_proper image call below w (instr.Binary op) =
@@ -115,7 +108,6 @@ act_proper image call below w (instr.Modify op) =
 act_proper image call below w instr.Negate = one_proper w call.operands _ (λ x rest. tt)
 act_proper image call below w instr.Not = one_proper w call.operands _ (λ x rest. tt)
 act_proper image call below w (instr.Increment which) = one_proper w call.operands _ (λ a rest. tt)
-act_proper image call below w (instr.Jump t) = tt
 act_proper image call below w (instr.JumpIfZero t) = one_proper w call.operands _ (λ x rest. if_proper (x == 0) _ _ tt tt)
 act_proper image call below w instr.Goto =
     one_proper w call.operands _ (λ v rest. gone_proper (label_target call.function.first_label call.function.targets v) call rest below w)
@@ -124,6 +116,7 @@ act_proper image call below w (instr.Call n) =
     one_proper w (drop n call.operands) _ (λ f rest. call_proper (callee_of image.functions f) (reverse (take n call.operands)) (at_place call (call.place + 1) rest) below w)
 act_proper image call below w instr.Return = one_proper w call.operands _ (λ v rest. return_proper v below w)
 act_proper image call below w instr.Pop = one_proper w call.operands _ (λ v rest. tt)
+act_proper image call below w _ = tt
 
 act_if_proper : (image : Image) (call : Call) (below : List Call) (w : World) (i : Option Instr) → HaltsProperly (act_if image call below w i)
 act_if_proper image call below w None = tt

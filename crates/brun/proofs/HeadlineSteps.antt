@@ -20,7 +20,7 @@ use Rattle.blang.specs.declared.run.Outcome.{Outcome}
 use Rattle.blang.specs.declared.run.Outcome.TheVariants as outcome
 use Rattle.blang.specs.Meaning.{Loads}
 use Rattle.bmean.proofs.LawProofs.{code_agrees}
-use Rattle.blang.specs.Headline.{RunsProgram, RunsSource, GoesOff, NothingFailed, Says, line_at, status_at, IsEnd, IsLimit, RunAnswers, GoAnswers, Headline}
+use Rattle.blang.specs.Headline.{RunsProgram, GoesOff, NothingFailed, Says, line_at, status_at, IsEnd, IsLimit, RunAnswers, GoAnswers, Headline}
 use Rattle.blang.specs.Headline as going
 use Rattle.blang.specs.declared.run.Report.TheVariants as report
 use Rattle.bgrammar.proofs.GoesLaws.{each_source_comes}
@@ -39,11 +39,9 @@ is_told line answer o p status fails memory (inr r) = absurd (not_refused line o
 
 -- the line and the status of an outcome
 abbrev line_in : Outcome → List ℕ
-line_in (outcome.Exit n) = []
 line_in (outcome.Trap kind) = report_text (report.Trap kind)
 line_in outcome.Limit = report_text report.Limit
-line_in outcome.Device = []
-line_in outcome.Memory = []
+line_in _ = []
 
 abbrev status_in : Outcome → ℕ
 status_in (outcome.Exit n) = n

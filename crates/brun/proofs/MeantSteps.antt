@@ -62,11 +62,8 @@ module _ (ds : List Definition) (loads : Loads ds) where
         (λ w. (code_agrees ds loads at.0).never_stuck n w) (at.1 ∙ e)
 
     not_stuck : (result : Outcome) → Gives result → result ≢ outcome.Trap trap.Stuck
-    not_stuck (outcome.Exit status) h = λ e. cc
     not_stuck (outcome.Trap kind) h = not_stuck_at (outcome.Trap kind) h
-    not_stuck outcome.Limit h = λ e. cc
-    not_stuck outcome.Device h = λ e. cc
-    not_stuck outcome.Memory h = λ e. cc
+    not_stuck _ h = λ e. cc
 
     pub does_as_meant : (result : Outcome) → Gives result → IsOwnStatus result → DoesAsMeant ds n i j o p result
     does_as_meant result h own = record { made = h; meant = runs_as_meant; not_stuck = not_stuck result h; own_status = own }

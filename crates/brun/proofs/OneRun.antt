@@ -1,5 +1,5 @@
 -- What the headlines alone say of one program and one source, over streams in memory.
-use Rattle.std.proofs.Common.{◌≡◌, ℕ, List, [], ◌∷◌, ◌++◌, take, codes, Bool, true, false, Option, Some, None, refl, sym, ap, ◌∙◌, subst, arith, ◌⊎◌, inl, inr}
+use Rattle.std.proofs.Common.{◌≡◌, ℕ, List, [], ◌∷◌, take, codes, Bool, true, false, Option, Some, None, refl, sym, ap, ◌∙◌, subst, arith, ◌⊎◌, inl, inr}
 use Rattle.std.specs.Prelude.{◌==◌}
 use Rattle.std.specs.Fmt.{digits}
 use Rattle.std.proofs.lemmas.Bool.{eqb-true}
@@ -10,7 +10,7 @@ use Rattle.blang.specs.declared.token.Token.TheVariants as token
 use Rattle.blang.specs.declared.token.Diagnostic.{Diagnostic}
 use Rattle.blang.specs.WellFormed.{Parted}
 use Rattle.blang.specs.Compiles as compiled
-use Rattle.blang.specs.Compiles.{CompilesTo, Tells, IsUndisturbed, CompileAnswers, compilation_of, fault_text, fault_status}
+use Rattle.blang.specs.Compiles.{Tells, IsUndisturbed, compilation_of, fault_text, fault_status}
 use Rattle.blang.specs.Layout.{Exited}
 use Rattle.blang.specs.Machine as runs_at
 use Rattle.blang.specs.Meaning.{Loads}

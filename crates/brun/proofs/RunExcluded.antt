@@ -198,14 +198,8 @@ abbrev reads_after : List Definition
 reads_after = main (More (More Nothing (Evaluate (call (codes "putchar") (Another No_arguments (Literal (Character 97)))))) (Evaluate (call (codes "getchar") No_arguments)))
 
 quiet_before : (input : List ℕ) (made : ℕ) → made < 7 → AsksForByte (machine (map code_of reads_after) input made) → ⊥
-quiet_before input zero lt asks = cc
-quiet_before input (suc zero) lt asks = cc
-quiet_before input (suc (suc zero)) lt asks = cc
-quiet_before input (suc (suc (suc zero))) lt asks = cc
-quiet_before input (suc (suc (suc (suc zero)))) lt asks = cc
-quiet_before input (suc (suc (suc (suc (suc zero))))) lt asks = cc
-quiet_before input (suc (suc (suc (suc (suc (suc zero)))))) lt asks = cc
 quiet_before input (suc (suc (suc (suc (suc (suc (suc made))))))) lt asks = absurd (omega (arith, lt))
+quiet_before input _ lt asks = cc
 
 never_asks : (input : List ℕ) (made : ℕ) → AsksForByte (machine (map code_of nothing) input made) → ⊥
 never_asks input zero asks = cc

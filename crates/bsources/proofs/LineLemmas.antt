@@ -4,7 +4,7 @@ use Rattle.std.proofs.Math.Nat.{zero-add}
 use Rattle.std.proofs.lemmas.List.{get_or-map, length-map, map-append}
 use Rattle.std.proofs.lemmas.Bool.Decides.{nat_tests}
 use Rattle.std.proofs.lemmas.List.Recursion.{is_count_by}
-use Rattle.std.specs.Prelude.{nat_le, ◌==◌, unwrap_or}
+use Rattle.std.specs.Prelude.{nat_le, ◌==◌}
 use Rattle.bsources.specs.FileLines.{File, Line, NamedText, beyond_first_among, file_in, following, joined, later_shown, line_among, lines_in, own_line_among}
 use Rattle.bsources.specs.OwnLines.{HasEnds, IsPlaceOf, LinesLieInTheirFiles, all_lines, ends_from, ends_of, start_of, texts_joined}
 use Rattle.bsources.specs.declared.following.LaterFile.{LaterFile}
@@ -79,9 +79,6 @@ start_at files (suc k) d some le =
     let one : suc k - 1 ≡ k = omega arith in
     rw one (sym (end_at files k d (omega (arith, le))))
 
-pub start_after : (files : List LaterFile) (k : ℕ) (d : LaterFile) → k < length files → start_of (ends_of files) (k + 1) ≡ (get_or files k d).end
-start_after files k d lt = let one : k + 1 ≡ suc k = omega arith in rw one (end_at files k d lt)
-
 sum_next : (a b c : ℕ) → (a + b) + c ≡ a + (b + c)
 sum_next a b c = omega arith
 
@@ -132,24 +129,9 @@ told (f ∷ fs) lines line last place d h some is =
     high len (inl is) = inl (is ∙ sym len)
     high len (inr within) = let same = ap (λ ends. get_or ends place 0) h.ends in inr (omega (arith, within, same))
 
--- a line after the first file
-pub beyond : (file : File) (rest : List File) (line : ℕ) → file.lines < line → line_among rest (line - file.lines) ≡ beyond_first_among file rest line
-beyond file [] line h = refl
-beyond file (next ∷ rest) line h = let no : nat_le line file.lines ≡ false = grind (arith, nat_tests) in rw no refl
-
 pub not_beyond : (file : File) (rest : List File) (line : ℕ) → line ≤ file.lines → None ≡ beyond_first_among file rest line
 not_beyond file [] line h = refl
 not_beyond file (next ∷ rest) line h = let yes : nat_le line file.lines ≡ true = grind (arith, nat_tests) in rw yes refl
-
--- the file of a line, by whether it lies beyond the first one
-pub own_or_beyond : (file : File) (rest : List File) (line : ℕ) → own_line_among file rest line ≡ unwrap_or (beyond_first_among file rest line) (record { file = file.name; line = line })
-own_or_beyond file [] line = refl
-own_or_beyond file (next ∷ rest) line = by (nat_le line file.lines)
-  where
-    by : (test : Bool) → (if test then record { file = file.name; line = line } else own_line_among next rest (line - file.lines))
-        ≡ unwrap_or (if test then None else Some (own_line_among next rest (line - file.lines))) (record { file = file.name; line = line })
-    by true = refl
-    by false = refl
 
 -- How lines are counted along texts that are joined.
 newlines : List ℕ → ℕ

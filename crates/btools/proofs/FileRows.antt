@@ -1,5 +1,5 @@
 -- Closed facts: files of lines, and texts that are none.
-use Rattle.std.proofs.Common.{◌≡◌, ◌∙◌, ℕ, zero, suc, ◌+◌, ◌^◌, ◌<◌, ◌≤◌, List, [], ◌∷◌, ap, arith, codes, decimal, get_or, length, map, refl, sym, subst}
+use Rattle.std.proofs.Common.{◌≡◌, ◌∙◌, ℕ, suc, ◌+◌, ◌^◌, ◌<◌, ◌≤◌, List, [], ◌∷◌, ap, arith, codes, decimal, get_or, length, map, refl, sym, subst}
 use Rattle.std.specs.Fmt.{digits}
 use Rattle.std.specs.Str.Parse.{IsNumeral, digits_value}
 use Rattle.std.proofs.lemmas.Fmt.{decimal_is_IsNumeral}
@@ -14,10 +14,8 @@ IsNone file count = (ls : List ℕ) → IsLinesFile file count ls → ⊥
 
 -- the least and the greatest number, and one between
 within : (k d : ℕ) → k < 3 → get_or (12 ∷ 0 ∷ 18446744073709551615 ∷ []) k d ≤ most
-within zero d lt = omega arith
-within (suc zero) d lt = omega arith
-within (suc (suc zero)) d lt = omega arith
 within (suc (suc (suc k))) d lt = absurd (omega (arith, lt))
+within _ d lt = omega arith
 
 three_lines : IsLinesFile (codes "12\n0\n18446744073709551615\n") 3 (12 ∷ 0 ∷ 18446744073709551615 ∷ [])
 unfolding digits

@@ -1,19 +1,13 @@
 -- Numbers one after another, and the numbers of a file of lines.
-use Rattle.std.proofs.Common.{◌≡◌, ◌∙◌, ℕ, ◌+◌, ◌-◌, ◌^◌, ◌<◌, ◌≤◌, Bor, List, [], ◌∷◌, ◌++◌, Result, Ok, Err, ap, append_assoc, arith, decimal, get_or, length, map, refl, subst, sym}
+use Rattle.std.proofs.Common.{◌≡◌, ◌∙◌, ℕ, ◌+◌, ◌-◌, ◌^◌, ◌<◌, ◌≤◌, Bor, List, [], ◌∷◌, ◌++◌, Result, Ok, Err, ap, append_assoc, arith, decimal, get_or, length, map, subst, sym}
 use Rattle.std.specs.List.{All, range_with_len}
 use Rattle.std.specs.Str.{IsUtf8}
 use Rattle.std.specs.Str.Parse.{ParsesUnsigned}
 use Rattle.std.proofs.lemmas.Fmt.{IsAscii-decimal, parse-decimal}
-use Rattle.std.proofs.lemmas.List.{get_or-map, length-map, map-id}
-use Rattle.std.proofs.lemmas.List.FromFn.{map-range_with_len_more}
+use Rattle.std.proofs.lemmas.List.{get_or-map, length-map}
 use Rattle.std.proofs.lemmas.Str.{IsUtf8-from_ascii}
+use Rattle.btools.proofs.Ranges.{one_more}
 use Rattle.bword.specs.ByteEnds.{most}
-
--- one number more
-pub number_more : (first count : ℕ) → range_with_len first (count + 1) ≡ range_with_len first count ++ (first + count) ∷ []
-number_more first count =
-    sym (map-id (range_with_len first (count + 1))) ∙ map-range_with_len_more (λ (n : ℕ). n) first count (first + count) refl
-    ∙ ap (λ ns. ns ++ (first + count) ∷ []) (map-id (range_with_len first count))
 
 pub next_number : (first number : ℕ) (old lines new : List ℕ) → first ≤ number → lines ≡ old ++ range_with_len first (number - first) → new ≡ lines ++ number ∷ [] → new ≡ old ++ range_with_len first (number + 1 - first)
 next_number first number old lines new le before more =
@@ -21,7 +15,7 @@ next_number first number old lines new le before more =
     let longer : number + 1 - first ≡ k + 1 = omega (arith, le) in
     let last : first + k ≡ number = omega (arith, le) in
     more ∙ ap (λ t. t ++ number ∷ []) before ∙ append_assoc old (range_with_len first k) (number ∷ [])
-    ∙ ap (λ n. old ++ (range_with_len first k ++ n ∷ [])) (sym last) ∙ ap (λ t. old ++ t) (sym (number_more first k)) ∙ ap (λ n. old ++ range_with_len first n) (sym longer)
+    ∙ ap (λ n. old ++ (range_with_len first k ++ n ∷ [])) (sym last) ∙ ap (λ t. old ++ t) (sym (one_more first k)) ∙ ap (λ n. old ++ range_with_len first n) (sym longer)
 
 abbrev bytes : Bor (List ℕ) → List ℕ
 bytes t = t.now

@@ -67,11 +67,8 @@ module _ (lines : Diagnostic → List ℕ) (line line_after : Outgoing) where
   -- what is told of code that doesn't load: a line, or nothing where memory was refused
   pub by_line : (f : LoadFault) (status : ℕ) → TellsFault lines (why.Unloaded f) line line_after status
       → ((text : List ℕ) × (load_line f ≡ Some text) × Reported text 132 line line_after status) ⊎ (status ≡ 134)
-  by_line (load.Duplicate name) status told = inl (_, refl, told)
-  by_line load.TooLarge status told = inl (_, refl, told)
-  by_line (load.Undefined name) status told = inl (_, refl, told)
-  by_line load.NoMain status told = inl (_, refl, told)
   by_line load.Memory status told = inr told.1
+  by_line _ status told = inl (_, refl, told)
 
   told_status : (edition : Edition) (source : List ℕ) (fault : ProgramFault) (status : ℕ) → HasNoProgram edition source fault → TellsFault lines fault line line_after status → (status ≡ 1) ⊎ (status ≡ 132) ⊎ (status ≡ 133) ⊎ (status ≡ 134)
   told_status edition source (why.Faulty d) status is told = some_status (lines d) 1 line line_after status (inl refl) told

@@ -1,5 +1,5 @@
 -- How a code text comes to be a program.
-use Rattle.std.proofs.Common.{◌≡◌, ◌∙◌, List, [], None, Result, Ok, Err, IfOk, ap, sym, subst}
+use Rattle.std.proofs.Common.{◌≡◌, List, None, Result, Ok, Err, IfOk, sym, subst}
 use Rattle.std.specs.Prelude.{MatchResult}
 use Rattle.bcode.proofs.FaultLaws.{unique_code}
 use Rattle.blang.specs.declared.code.Definition.{Definition}
@@ -22,11 +22,9 @@ module _ (c : CodeText) (ds : List Definition) (is : IsCodeText c.code ds) where
     loads = subst (λ (x : List Definition). load_fault x ≡ None) (sym gives.0) gives.1;
     loaded = subst (λ (x : List Definition). IsLoadedFrom x p.image) (sym gives.0) gives.2;
   }
-  loaded (Err (why.Faulty d)) gives = absurd gives
-  loaded (Err (why.Unread n)) gives = absurd gives
-  loaded (Err (why.Unlined count)) gives = absurd gives
   loaded (Err (why.Unloaded f)) gives = (ds, is, gives)
   loaded (Err why.Memory) gives = tt
+  loaded _ gives = absurd gives
 
   -- its lines, whatever definitions it is said to have
   pub has_lines : (r : Result Program ProgramFault) (names : Names) → HasPlaceLines c ds names.lines.items → IfOk r (λ p. p.names ≡ names) → IfOk r (λ p. HasTextLines c p.names.lines.items)
@@ -34,7 +32,3 @@ module _ (c : CodeText) (ds : List Definition) (is : IsCodeText c.code ds) where
       subst (λ (x : List Definition). HasPlaceLines c x p.names.lines.items) (unique_code c.code ds es is text)
       (subst (λ (n : Names). HasPlaceLines c ds n.lines.items) (sym same) lines)
   has_lines (Err e) names lines same = tt
-
-pub no_frames : (r : Result Program ProgramFault) (names : Names) → names.frames.items ≡ [] → IfOk r (λ p. p.names ≡ names) → IfOk r (λ p. p.names.frames.items ≡ [])
-no_frames (Ok p) names none same = ap (λ (n : Names). n.frames.items) same ∙ none
-no_frames (Err e) names none same = tt

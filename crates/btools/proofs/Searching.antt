@@ -2,7 +2,7 @@
 use Rattle.std.proofs.Common.{◌≡◌, ◌∙◌, ℕ, zero, suc, ◌+◌, ◌<◌, ◌≤◌, ◌⊎◌, inl, inr, ⊎_elim, ap, List, [], ◌∷◌, ◌++◌, Some, None, arith, get_or, length, map, refl, subst, sym}
 use Rattle.std.specs.List.{All, AllPairs, find}
 use Rattle.std.specs.Prelude.{◌==◌}
-use Rattle.std.proofs.lemmas.Bool.{cases_order}
+use Rattle.std.proofs.lemmas.Bool.{cases_order, eq-eqb, ne_eqb}
 use Rattle.std.proofs.lemmas.List.{get_or_default}
 use Rattle.std.proofs.lemmas.List.Elements.{All-push}
 use Rattle.std.proofs.lemmas.List.Quantifiers.{all_pairs_push}
@@ -11,7 +11,6 @@ use Rattle.blang.specs.declared.code.Definition.{Definition}
 use Rattle.blang.specs.declared.code.Definition.TheVariants as definition
 use Rattle.btools.specs.Functions.{LiesAt}
 use Rattle.btools.specs.declared.tables.FunctionEntry.{FunctionEntry}
-use Rattle.btools.proofs.Finding.{other_number, same_number}
 
 at_or_before : (k m : ℕ) → k ≤ m → (k < m) ⊎ (k ≡ m)
 at_or_before zero zero le = inr refl
@@ -43,14 +42,14 @@ module _ {B : Type 0} (f : FunctionEntry → B) (key : B → ℕ) (same : (e : F
   pub with_none : (es : List FunctionEntry) → ((k : ℕ) (d : FunctionEntry) → k < length es → (get_or es k d).strings ≡ strings → ⊥) → find (λ b. key b == strings) (map f es) ≡ None
   with_none [] others = refl
   with_none (e ∷ es) others =
-      rw (ap (λ n. n == strings) (same e) ∙ other_number e.strings strings (others 0 e (omega arith))) (with_none es (λ k d lt. others (suc k) d (omega arith)))
+      rw (ap (λ n. n == strings) (same e) ∙ ne_eqb e.strings strings (others 0 e (omega arith))) (with_none es (λ k d lt. others (suc k) d (omega arith)))
 
   pub with_one : (es : List FunctionEntry) (i : ℕ) (d : FunctionEntry) → Ascend es → i < length es → (get_or es i d).strings ≡ strings → find (λ b. key b == strings) (map f es) ≡ Some (f (get_or es i d))
   with_one [] i d ascend lt is = absurd (omega arith)
-  with_one (e ∷ es) zero d ascend lt is = rw (ap (λ n. n == strings) (same e) ∙ same_number e.strings strings is) refl
+  with_one (e ∷ es) zero d ascend lt is = rw (ap (λ n. n == strings) (same e) ∙ eq-eqb e.strings strings is) refl
   with_one (e ∷ es) (suc i) d ascend lt is =
       let before = ascend 0 (suc i) d (omega arith) lt in
-      rw (ap (λ n. n == strings) (same e) ∙ other_number e.strings strings (λ at. omega (arith, before, at, is)))
+      rw (ap (λ n. n == strings) (same e) ∙ ne_eqb e.strings strings (λ at. omega (arith, before, at, is)))
       (with_one es i d (λ k l c less within. ascend (suc k) (suc l) c (omega arith) (omega arith)) (omega arith) is)
 
 -- each definition takes a word

@@ -45,7 +45,6 @@ module _ (I : Image) (f g : ℕ → State) (e : (n : ℕ) → g n ≡ state_reso
       }
 
   ends_at_same : (made n : ℕ) (r : Outcome) → EndsAt g n r active made → EndsAt f n r active made
-  ends_at_same made n (outcome.Exit status) h = tt
   ends_at_same made n (outcome.Trap kind) h = (
     h.0,
     h.1,
@@ -54,8 +53,7 @@ module _ (I : Image) (f g : ℕ → State) (e : (n : ℕ) → g n ≡ state_reso
     h.4,
   )
   ends_at_same made n outcome.Limit h = (stands_same n h.0, h.1)
-  ends_at_same made n outcome.Device h = tt
-  ends_at_same made n outcome.Memory h = tt
+  ends_at_same made n _ h = tt
 
 -- a run that was loaded and begun comes to the states of its definitions, resolved
 pub states_loaded : (ds : List Definition) (image : Image) (p : Paused) → IsLoadedFrom ds image → IsUnstarted image p → (input : List ℕ) (k : ℕ) → steps_from p input k ≡ state_resolved (image_of ds) (machine ds input k)

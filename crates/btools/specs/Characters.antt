@@ -1,16 +1,10 @@
 -- Inner words: bytes shown as characters, and words as numbers.
-use Rattle.std.specs.Prelude.{ℕ, ◌==◌, ◌/◌, ◌%◌, ◌&&◌, Bool, IsTrue, List, [], ◌∷◌, ◌++◌, codes, nat_le, nat_lt}
-use Rattle.std.specs.Prelude.{if◌then◌else◌}
-use Rattle.std.specs.List.{list_all}
+use Rattle.std.specs.Prelude.{ℕ, ◌==◌, ◌/◌, ◌%◌, ◌&&◌, Bool, List, [], ◌∷◌, ◌++◌, codes, nat_le, nat_lt, if◌then◌else◌}
 use Rattle.blang.specs.Layout.{printed}
 
 -- a printable character of ASCII
 abbrev pub is_printable : ℕ → Bool
 is_printable b = nat_le 32 b && nat_le b 126
-
--- each byte of a text is one, so the text has no newline
-abbrev pub IsPrintable : List ℕ → Type 0
-IsPrintable text = IsTrue (list_all is_printable text)
 
 -- a character, or the escape that stands for it; `.` for a byte that has none
 abbrev pub shown_byte : ℕ → List ℕ

@@ -1,6 +1,5 @@
 -- Inner words: lines and columns of a text.
-use Rattle.std.specs.Prelude.{◌≡◌, ℕ, ◌-◌, List, [], ◌++◌, length, replicate, refl, take}
-use Rattle.std.specs.Prelude.{Option, Some, None}
+use Rattle.std.specs.Prelude.{◌≡◌, ℕ, ◌-◌, List, [], ◌++◌, length, replicate, refl, take, Option, Some, None}
 use Rattle.blang.specs.Text.{instr_line}
 use Rattle.blang.specs.declared.code.Instr.{Instr}
 use Rattle.btools.specs.declared.text.TheConstants.{BLANKS}

@@ -1,6 +1,5 @@
 -- Promise: the names of the words of each frame of a program, and the name that is shown of a word.
-use Rattle.std.specs.Prelude.{◌≡◌, ℕ, ◌+◌, ◌==◌, ◌&&◌, ◌||◌, List, [], find, flat_map, map, Bool, Option}
-use Rattle.std.specs.Prelude.{nat_lt}
+use Rattle.std.specs.Prelude.{◌≡◌, ℕ, ◌+◌, ◌==◌, ◌&&◌, ◌||◌, List, [], find, flat_map, map, Bool, Option, nat_lt}
 use Rattle.std.specs.Option.{option_map}
 use Rattle.bword.specs.declared.edition.Edition.{Edition}
 use Rattle.blang.specs.Compiles.{Compilation, CompilesTo}

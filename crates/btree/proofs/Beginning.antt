@@ -1,8 +1,7 @@
 -- How statements and expressions begin: with no else, and with no name before a colon.
 use Rattle.std.proofs.Common.{◌≡◌, ap, append_assoc, false, List, [], ◌∷◌, ◌++◌, refl, subst, sym, true, Bool}
-use Rattle.blang.specs.Trees.{Expr, Named, Literal, Text, Grouped, Indexed, Called, Postfixed, Prefixed, Binary, Conditional, Assigned, Number, Character, Constant, PostfixOp, PrefixOp, constant_token, postfix_token, prefix_token, Headed, Compound, If, IfElse, While, Switch, Goto, Break, Return, ReturnValue, Evaluate, Empty, Stmt, Auto, Extrn, Label, Case, Default, Heading}
+use Rattle.blang.specs.Trees.{Expr, Named, Literal, Text, Grouped, Indexed, Called, Postfixed, Prefixed, Binary, Conditional, Assigned, Number, Character, Constant, PostfixOp, constant_token, postfix_token, Headed, Evaluate, Stmt, Auto, Heading}
 use Rattle.blang.specs.Walk.{callee, plain, walk, walk_arguments, walk_heading, walk_statement}
-use Rattle.btree.specs.declared.tags.Tag.{Tag}
 use Rattle.btree.specs.declared.tags.Tag.TheVariants as tag
 use Rattle.btree.specs.declared.tags.Construct.{Construct}
 use Rattle.btree.specs.declared.tags.Construct.TheVariants as construct
@@ -74,22 +73,10 @@ opens (Assigned op line e f) rest h = on (sorts (walk e)) _ rest (opens e _ refl
 
 heading_first : (h : Heading) (rest : List Sort) → is_else (first (sorts (walk_heading h) ++ rest)) ≡ false
 heading_first (Auto ds) rest = refl
-heading_first (Extrn names) rest = refl
-heading_first (Label w) rest = refl
-heading_first (Case line c) rest = refl
-heading_first (Default line) rest = refl
+heading_first _ rest = refl
 
 pub begins_well : (s : Stmt) (rest : List Sort) → is_else (first (sorts (walk_statement s) ++ rest)) ≡ false
 begins_well (Headed h s) rest =
     subst (λ (ss : List Sort). is_else (first ss) ≡ false) (sym (append_assoc (sorts (walk_heading h)) (sorts (walk_statement s)) rest)) (heading_first h _)
 begins_well (Evaluate e) rest = (on (sorts (walk e)) (sort.Semicolon ∷ []) rest (opens e _ refl)).no_else
-begins_well (Compound body) rest = refl
-begins_well (If e s) rest = refl
-begins_well (IfElse e s other) rest = refl
-begins_well (While e s) rest = refl
-begins_well (Switch e body) rest = refl
-begins_well (Goto e) rest = refl
-begins_well (Break line) rest = refl
-begins_well Return rest = refl
-begins_well (ReturnValue e) rest = refl
-begins_well Empty rest = refl
+begins_well _ rest = refl

@@ -1,24 +1,23 @@
 -- The tags of a program's tokens are those of its tree.
-use Rattle.std.proofs.Common.{◌≡◌, ◌≢◌, ◌∙◌, ap, append_assoc, append-nil, Bool, false, true, List, [], ◌∷◌, ◌++◌, map, refl, sym, subst}
+use Rattle.std.proofs.Common.{◌≡◌, ◌≢◌, ◌∙◌, ap, append_assoc, append-nil, false, true, List, [], ◌∷◌, ◌++◌, map, refl, sym}
 use Rattle.std.proofs.lemmas.List.{map-append}
 use Rattle.blang.specs.declared.token.Placed.{Placed}
 use Rattle.blang.specs.declared.token.Token.{Token}
 use Rattle.blang.specs.declared.token.Token.TheVariants as token
-use Rattle.blang.specs.Trees.{bare, Constant, Number, Character, Definition, Function, Identifier, Ival, Ival_constant, Ival_name, Ival_text, Simple, Stmt, Vector}
-use Rattle.blang.specs.Walk.{Walk, NothingHere, Said, TextHere, Noted, Level, ◌▸◌, plain, spell_all, spell_definition, tokens_in, walk_definition, walk_list, walk_parameter, walk_size, walk_statement, walk_value, walk_values}
-use Rattle.blang.specs.WellFormed.{AllFormed, IsFormed, StatementBinds, is_open}
+use Rattle.blang.specs.Trees.{bare, Definition, Function, Identifier, Ival, Simple, Vector, Number, Character, Ival_constant, Ival_name, Ival_text}
+use Rattle.blang.specs.Walk.{Walk, Said, Level, ◌▸◌, plain, spell_all, spell_definition, tokens_in, walk_definition, walk_list, walk_parameter, walk_size, walk_statement, walk_value, walk_values}
+use Rattle.blang.specs.WellFormed.{AllFormed, IsFormed, is_open}
 use Rattle.btree.specs.declared.tags.Tag.{Tag}
 use Rattle.btree.specs.declared.tags.Tag.TheVariants as tag
 use Rattle.btree.specs.declared.tags.Construct.{Construct}
 use Rattle.btree.specs.declared.tags.Construct.TheVariants as construct
-use Rattle.btree.specs.declared.tags.Phase.{Phase}
 use Rattle.btree.specs.declared.tags.Phase.TheVariants as phase
 use Rattle.btree.specs.declared.sorts.Sort.{Sort}
 use Rattle.btree.specs.declared.sorts.Sort.TheVariants as sort
 use Rattle.btree.specs.Laws.{TagsOfProgram}
 use Rattle.btree.specs.Machine.{first, named, run, sort_of}
 use Rattle.btree.specs.Reading.{AreTags}
-use Rattle.btree.specs.Tags.{definition_tags, program_tags, statement_tags, tokens, walk_parameters, within}
+use Rattle.btree.specs.Tags.{definition_tags, program_tags, statement_tags, tokens, walk_parameters}
 use Rattle.btree.proofs.Beginning.{is_else}
 use Rattle.btree.proofs.Moving.{Moves, bears_condition, bears_inside, moved, quiet_list, quiet_name, quiet_other, quiet_size, quiet_value}
 use Rattle.btree.proofs.Passing.{sorts}

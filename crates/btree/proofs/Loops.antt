@@ -1,7 +1,5 @@
 -- The loops of a reader end one construct after another.
-use Rattle.std.specs.Prelude.{unwrap_or}
-use Rattle.std.specs.List.{slice_get}
-use Rattle.std.proofs.Common.{drop, zero, suc, ◌≡◌, ◌∙◌, ap, append_assoc, append-nil, Bool, false, true, length, List, [], ◌∷◌, ◌++◌, ℕ, ◌<◌, arith, Option, Some, None, refl, subst, sym}
+use Rattle.std.proofs.Common.{◌≡◌, ◌∙◌, ap, append_assoc, false, true, length, List, [], ◌∷◌, ◌++◌, ◌<◌, arith, Some, refl, sym}
 use Rattle.btree.specs.declared.tags.Tag.{Tag}
 use Rattle.btree.specs.declared.tags.Construct.{Construct}
 use Rattle.btree.specs.declared.tags.Construct.TheVariants as construct
@@ -9,8 +7,8 @@ use Rattle.btree.specs.declared.tags.Phase.TheVariants as phase
 use Rattle.btree.specs.declared.reading.Reader.{Reader}
 use Rattle.btree.specs.declared.sorts.Sort.{Sort}
 use Rattle.btree.specs.declared.sorts.Sort.TheVariants as sort
-use Rattle.btree.specs.Machine.{Turn, begin, close, closings, ends, first, over, token_in, top_of, turn}
-use Rattle.btree.specs.Reading.{EndedOne, Ended, Took, after_over, end_tags, is_in_block, is_over, takes_else}
+use Rattle.btree.specs.Machine.{Turn, begin, close, closings, over, top_of, turn}
+use Rattle.btree.specs.Reading.{EndedOne, after_over, end_tags, is_in_block, is_over, takes_else}
 
 -- What is still to be made, now and before.
 pub record Goes (old : Reader) (t : Turn) (now : Reader) (u : Turn) : Type 0 where
@@ -18,27 +16,9 @@ pub record Goes (old : Reader) (t : Turn) (now : Reader) (u : Turn) : Type 0 whe
   pub phase : t.phase ≡ u.phase
   pub opens : t.opens ≡ u.opens
 
-pub here : (r : Reader) (t : Turn) → Goes r t r t
-here r t = record { tags = refl; phase = refl; opens = refl }
-
-pub took : (old now new : Reader) (t u : Turn) → Goes old t now u → Took now u new → Took old t new
-took old now new t u g h = record {
-  tags = h.tags ∙ sym g.tags;
-  phase = h.phase ∙ sym g.phase;
-  opens = h.opens ∙ sym g.opens;
-}
-
 -- the end of a construct, and then this
 abbrev pub ended : Construct → Turn → Turn
 ended c t = turn (end_tags c ++ t.tags) t.phase t.opens
-
-pub of_top : (l : List Construct) (c : Construct) → top_of l ≡ Some c → (opens : List Construct) × (l ≡ c ∷ opens)
-of_top [] c e = cc
-of_top (x ∷ l) c e = (l, cc)
-
-pub of_none : (l : List Construct) → top_of l ≡ None → l ≡ []
-of_none [] e = refl
-of_none (x ∷ l) e = cc
 
 -- a list whose top has a quality has a top
 pub has_top : (l : List Construct) (s : Sort) → is_over (top_of l) s ≡ true → (c : Construct) × ((opens : List Construct) × (l ≡ c ∷ opens))
@@ -65,18 +45,6 @@ ends_closings : (c : Construct) (opens : List Construct) → is_over (Some c) so
 ends_closings construct.Block opens e = cc
 ends_closings construct.Parens opens e = refl
 ends_closings _ opens e = refl
-
-pub stands_over : (opens : List Construct) (s n : Sort) → is_over (top_of opens) s ≡ false → over opens s n ≡ after_over opens s n
-stands_over [] s n e = refl
-stands_over (construct.Block ∷ opens) s n e = refl
-stands_over (construct.If ∷ opens) sort.Else n e = refl
-stands_over (construct.If ∷ opens) _ n e = cc
-stands_over (_ ∷ opens) s n e = cc
-
-pub stands_closings : (opens : List Construct) → is_over (top_of opens) sort.Other ≡ false → closings opens ≡ []
-stands_closings [] e = refl
-stands_closings (construct.Block ∷ opens) e = refl
-stands_closings (_ ∷ opens) e = cc
 
 -- one construct after another
 module _ (old now new : Reader) (t : Turn) (c : Construct) (opens : List Construct) (is : now.opens ≡ c ∷ opens) (h : EndedOne now new) where
@@ -121,16 +89,3 @@ begins_after [] s n e = refl
 begins_after (construct.If ∷ opens) sort.Else n e = cc
 begins_after (construct.If ∷ opens) _ n e = refl
 begins_after (_ ∷ opens) s n e = refl
-
-pub else_after : (opens : List Construct) (s n : Sort) → takes_else (top_of opens) s ≡ true
-    → (inner : List Construct) × (opens ≡ construct.If ∷ inner) × (after_over opens s n ≡ token_in phase.Start (construct.IfElse ∷ inner))
-else_after [] s n e = cc
-else_after (construct.If ∷ opens) sort.Else n e = (opens, refl, refl)
-else_after (construct.If ∷ opens) _ n e = cc
-else_after (_ ∷ opens) s n e = cc
-
-pub next_is : (ss : List Sort) (i : ℕ) → unwrap_or (slice_get ss i) sort.Other ≡ first (drop i ss)
-next_is [] zero = refl
-next_is [] (suc i) = refl
-next_is (s ∷ ss) zero = refl
-next_is (s ∷ ss) (suc i) = next_is ss i

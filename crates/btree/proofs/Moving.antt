@@ -3,9 +3,7 @@ use Rattle.std.proofs.Common.{◌≡◌, ◌∙◌, ap, append_assoc, List, [], 
 use Rattle.blang.specs.declared.token.Placed.{Placed}
 use Rattle.blang.specs.declared.token.Token.TheVariants as token
 use Rattle.blang.specs.Trees.{Constant, Declared, Expr, Identifier, Ival, Ival_constant, Ival_text, Ival_name, Number, Character, constant_token}
-use Rattle.blang.specs.Walk.{Event, Noted, Said, Walk, ◌▸◌, name, plain, walk, walk_commas, walk_declared, walk_list, walk_parenthesized, walk_size, walk_value, walk_values}
-use Rattle.btree.specs.declared.tags.Tag.{Tag}
-use Rattle.btree.specs.declared.tags.Tag.TheVariants as tag
+use Rattle.blang.specs.Walk.{Event, Said, Walk, ◌▸◌, name, plain, walk, walk_commas, walk_declared, walk_list, walk_parenthesized, walk_size, walk_value}
 use Rattle.btree.specs.declared.tags.Construct.{Construct}
 use Rattle.btree.specs.declared.tags.Construct.TheVariants as construct
 use Rattle.btree.specs.declared.tags.Phase.{Phase}
@@ -14,7 +12,7 @@ use Rattle.btree.specs.declared.sorts.Sort.{Sort}
 use Rattle.btree.specs.declared.sorts.Sort.TheVariants as sort
 use Rattle.btree.specs.Machine.{Turn, run, sort_of, token_in, unparen}
 use Rattle.btree.specs.Tags.{tokens}
-use Rattle.btree.proofs.Passing.{Passes, in_parens, passes, sorts}
+use Rattle.btree.proofs.Passing.{in_parens, passes, sorts}
 
 pub record Moves (w : Walk) (p : Phase) (opens : List Construct) (q : Phase) (after : List Construct) : Type 0 where
   pub goes : (rest : List Sort) → run p opens (sorts w ++ rest) ≡ tokens w ++ run q after rest

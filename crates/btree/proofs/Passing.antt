@@ -1,11 +1,10 @@
 -- What stands within constructs alone makes a tag for each token.
-use Rattle.std.proofs.Common.{◌≡◌, ◌∙◌, ap, append_assoc, false, List, [], ◌∷◌, ◌++◌, ℕ, Option, Some, None, refl, sym, true, Bool}
+use Rattle.std.proofs.Common.{◌≡◌, ◌∙◌, ap, append_assoc, false, List, [], ◌∷◌, ◌++◌, ℕ, refl, sym, true}
 use Rattle.blang.specs.declared.token.Placed.{Placed}
 use Rattle.blang.specs.declared.token.Token.TheVariants as token
-use Rattle.blang.specs.Trees.{Identifier, Expr, Arguments, Named, Literal, Text, Grouped, Indexed, Called, Postfixed, Prefixed, Binary, Conditional, Assigned, No_arguments, Another, Number, Character, PrefixOp, Negate, Not, Indirection, Address, PreIncrement, PreDecrement, PostIncrement, PostDecrement, mark, constant_token, Constant, prefix_token, postfix_token, PostfixOp}
+use Rattle.blang.specs.Trees.{Identifier, Expr, Arguments, Named, Literal, Text, Grouped, Indexed, Called, Postfixed, Prefixed, Binary, Conditional, Assigned, No_arguments, Another, Number, Character, PrefixOp, Negate, PostIncrement, PostDecrement, mark, constant_token, Constant, prefix_token, postfix_token, PostfixOp}
 use Rattle.blang.specs.Cut.{placed}
 use Rattle.blang.specs.Walk.{Event, LvalueWanted, Mention, Walk, prefix_events, text, NothingHere, Said, TextHere, Noted, Level, ◌▸◌, plain, level, name, walk, walk_arguments, comma_before_next, callee}
-use Rattle.btree.specs.declared.tags.Tag.{Tag}
 use Rattle.btree.specs.declared.tags.Tag.TheVariants as tag
 use Rattle.btree.specs.declared.tags.Construct.{Construct}
 use Rattle.btree.specs.declared.tags.Construct.TheVariants as construct
@@ -13,7 +12,7 @@ use Rattle.btree.specs.declared.tags.Phase.{Phase}
 use Rattle.btree.specs.declared.tags.Phase.TheVariants as phase
 use Rattle.btree.specs.declared.sorts.Sort.{Sort}
 use Rattle.btree.specs.declared.sorts.Sort.TheVariants as sort
-use Rattle.btree.specs.Machine.{first, heading_or, run, sort_of, token_in}
+use Rattle.btree.specs.Machine.{heading_or, run, sort_of, token_in}
 use Rattle.btree.specs.Tags.{tokens}
 
 -- the tokens of a walk
@@ -102,11 +101,7 @@ passes_text bytes offset = record { goes = passed_other }
 
 pub prefix_sort : (op : PrefixOp) → sort_of (prefix_token op) ≡ sort.Other
 prefix_sort Negate = refl
-prefix_sort Not = refl
-prefix_sort Indirection = refl
-prefix_sort Address = refl
-prefix_sort PreIncrement = refl
-prefix_sort PreDecrement = refl
+prefix_sort _ = refl
 
 pub postfix_sort : (op : PostfixOp) → sort_of (postfix_token op) ≡ sort.Other
 postfix_sort PostIncrement = refl

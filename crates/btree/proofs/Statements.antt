@@ -1,9 +1,8 @@
 -- The tags of a statement's tokens are those of its tree.
-use Rattle.std.proofs.Common.{◌≡◌, ◌∙◌, ap, append_assoc, Bool, false, true, List, [], ◌∷◌, ◌++◌, refl, sym}
+use Rattle.std.proofs.Common.{◌≡◌, ◌∙◌, ap, append_assoc, false, true, List, [], ◌∷◌, ◌++◌, refl, sym}
 use Rattle.std.proofs.lemmas.Bool.{both_ways}
-use Rattle.blang.specs.declared.token.Keyword.TheVariants as keyword
-use Rattle.blang.specs.Trees.{Expr, Heading, Auto, Extrn, Label, Case, Default, Number, Character, Constant, constant_token, Stmt, Headed, Compound, If, IfElse, While, Switch, Goto, Break, Return, ReturnValue, Evaluate, Empty, Stmts, Nothing, More, keyword_mark}
-use Rattle.blang.specs.Walk.{Walk, plain, walk, walk_body, walk_declared, walk_heading, walk_import, walk_list, walk_parenthesized, walk_statement}
+use Rattle.blang.specs.Trees.{Expr, Heading, Auto, Extrn, Label, Case, Default, Number, Character, Stmt, Headed, Compound, If, IfElse, While, Switch, Goto, Break, Return, ReturnValue, Evaluate, Empty, Stmts, Nothing, More}
+use Rattle.blang.specs.Walk.{Walk, walk, walk_body, walk_declared, walk_heading, walk_import, walk_parenthesized, walk_statement}
 use Rattle.blang.specs.WellFormed.{BodyBinds, StatementBinds, is_open}
 use Rattle.btree.specs.declared.tags.Tag.{Tag}
 use Rattle.btree.specs.declared.tags.Tag.TheVariants as tag
@@ -14,7 +13,7 @@ use Rattle.btree.specs.declared.sorts.Sort.{Sort}
 use Rattle.btree.specs.declared.sorts.Sort.TheVariants as sort
 use Rattle.btree.specs.Machine.{Turn, after_end, first, over, run, unparen, token_in}
 use Rattle.btree.specs.Tags.{body_tags, in_braces, statement_tags, tokens, within}
-use Rattle.btree.proofs.Beginning.{Opens, begins_well, is_else, opens}
+use Rattle.btree.proofs.Beginning.{begins_well, is_else, opens}
 use Rattle.btree.proofs.Moving.{Moves, bears_inside, quiet_declared, quiet_list, quiet_name, tested}
 use Rattle.btree.proofs.Passing.{Passes, in_construct, in_parentheses, passes, sorts}
 

@@ -1,18 +1,17 @@
 -- Closed facts: the tags of small trees, and of tokens that are no program's.
-use Rattle.std.specs.Prelude.{◌≡◌, codes, List, [], ◌∷◌, ◌++◌, None, Some, map, refl}
-use Rattle.bword.specs.declared.edition.Edition.TheVariants as editions
+use Rattle.std.specs.Prelude.{◌≡◌, codes, List, [], ◌∷◌, None, map, refl}
 use Rattle.blang.specs.declared.token.Token.{Token}
 use Rattle.blang.specs.declared.token.Token.TheVariants as token
 use Rattle.blang.specs.declared.token.Keyword.TheVariants as keyword
 use Rattle.blang.specs.Trees.{Compound, Default, Definition, Empty, Evaluate, Expr, Function, Headed, Identifier, If}
-use Rattle.blang.specs.Trees.{IfElse, Ival_constant, Label, Literal, More, Named, Nothing, Number, Return, Simple, Stmt}
+use Rattle.blang.specs.Trees.{IfElse, Ival_constant, Label, Literal, More, Named, Nothing, Number, Return, Simple}
 use Rattle.blang.specs.Trees.{Switch, Vector, While}
 use Rattle.btree.specs.declared.tags.Construct.TheVariants as construct
 use Rattle.btree.specs.declared.tags.Tag.{Tag}
 use Rattle.btree.specs.declared.tags.Tag.TheVariants as tag
 use Rattle.btree.specs.declared.tags.Phase.TheVariants as phase
 use Rattle.btree.specs.Machine.{run, sort_of}
-use Rattle.btree.specs.Tags.{definition_tags, program_tags, statement_tags}
+use Rattle.btree.specs.Tags.{definition_tags, statement_tags}
 
 abbrev a : Identifier
 a = record { text = codes "a"; line = 1 }

@@ -1,9 +1,9 @@
 -- Promise: the constructs of a program in a row of tags: a construct begins, a token, the innermost one ends.
 use Rattle.std.specs.Prelude.{List, [], ◌∷◌, ◌++◌}
-use Rattle.blang.specs.Trees.{Expr, Stmt, Headed, Compound, If, IfElse, While, Switch, Stmts, Nothing, More, Identifier}
+use Rattle.blang.specs.Trees.{Stmt, Headed, Compound, If, IfElse, While, Switch, Stmts, Nothing, More, Identifier}
 use Rattle.blang.specs.Trees.{Definition, Function}
 use Rattle.blang.specs.declared.token.Token.TheVariants as token
-use Rattle.blang.specs.Walk.{Walk, Said, TextHere, Level, ◌▸◌, plain, name, walk, walk_heading, walk_parenthesized}
+use Rattle.blang.specs.Walk.{Walk, Said, TextHere, Level, ◌▸◌, plain, walk, walk_heading, walk_parenthesized}
 use Rattle.blang.specs.Walk.{walk_statement, walk_list, walk_parameter, walk_definition}
 use Rattle.btree.specs.declared.tags.Tag.{Tag}
 use Rattle.btree.specs.declared.tags.Tag.TheVariants as tag

@@ -1,7 +1,7 @@
 -- Steps that are made and seen, one after another.
 use Rattle.std.proofs.Common.{◌≡◌, ◌∙◌, ℕ, ◌+◌, ◌<◌, List, [], ◌++◌, Err, Ok, Result, Some, ap, append-nil, append_assoc, arith, inl, map, refl, subst, sym, ⊎_elim}
 use Rattle.std.specs.Result.{OnErr}
-use Rattle.bword.specs.ByteEnds.{CanFollow, Grew, Incoming, Kept, Outgoing, Took, outgoing_of}
+use Rattle.bword.specs.ByteEnds.{CanFollow, Incoming, Kept, Outgoing, Took, outgoing_of}
 use Rattle.bword.proofs.Putting.{Writes-append}
 use Rattle.bword.proofs.Taking.{Took-append}
 use Rattle.blang.specs.declared.run.Outcome.{Outcome}
@@ -295,11 +295,8 @@ read_watched functions states n i j r made tells other w = run_read states n i j
 -- what is left in the end
 module _ (p : Paused) (seen awaits : Sights → ℕ → Type 0) (told : Sights → ℕ → Outcome → Type 0) (stop : Stop) where
   left_so : (r : Outcome) → (r ≡ outcome.Device → ⊥) → (sights : Sights) → (Ending p sights (seen sights) (awaits sights) r stop → told sights stop.steps r) → (awaits' : Sights → ℕ → Type 0) → Stands p seen awaits stop sights stop.steps r → Leaves awaits' told sights stop.steps r
-  left_so (outcome.Exit status) own sights so awaits' h = so h
-  left_so (outcome.Trap kind) own sights so awaits' h = so h
-  left_so outcome.Limit own sights so awaits' h = so h
   left_so outcome.Device own sights so awaits' h = absurd (own refl)
-  left_so outcome.Memory own sights so awaits' h = so h
+  left_so _ own sights so awaits' h = so h
 
   pub left_on : (first : Paused) (n : ℕ) (i j : Incoming) → (stop.outcome ≡ outcome.Device → ⊥) → ((sights : Sights) → Ending p sights (seen sights) (awaits sights) stop.outcome stop → told sights stop.steps stop.outcome) → (awaits' : Sights → ℕ → Type 0)
       → Watches first.image.functions (steps_from first) n i j stop.outcome stop.steps (Stands p seen awaits stop) → Watches first.image.functions (steps_from first) n i j stop.outcome stop.steps (Leaves awaits' told)
@@ -307,11 +304,8 @@ module _ (p : Paused) (seen awaits : Sights → ℕ → Type 0) (told : Sights �
       told_so first.image.functions (steps_from first) n i j stop.outcome stop.steps (Stands p seen awaits stop) (Leaves awaits' told) (λ sights. left_so stop.outcome own sights (so sights) awaits')
 
   unread_so : (r : Outcome) → r ≡ outcome.Device → (sights : Sights) → Stands p seen awaits stop sights stop.steps r → Leaves awaits told sights stop.steps r
-  unread_so (outcome.Exit status) is sights h = cc
-  unread_so (outcome.Trap kind) is sights h = cc
-  unread_so outcome.Limit is sights h = cc
   unread_so outcome.Device is sights h = h
-  unread_so outcome.Memory is sights h = cc
+  unread_so _ is sights h = cc
 
   -- where the next step could not read
   pub unread_on : (first : Paused) (n : ℕ) (i j : Incoming) → stop.outcome ≡ outcome.Device

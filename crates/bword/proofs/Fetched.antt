@@ -4,6 +4,7 @@ use Rattle.std.proofs.Math.Seq.{drop-cons, take-suc, take-nil}
 use Rattle.std.proofs.Math.ListN.{drop_of_length-le}
 use Rattle.std.proofs.lemmas.List.{get_or-take}
 use Rattle.std.specs.Io.KnownBytes.{Consumes, Keeps, prepend_known}
+use Rattle.std.proofs.lemmas.Bool.{both_ways}
 use Rattle.bword.specs.declared.ends.Device.{Device}
 use Rattle.bword.specs.ByteEnds.{most, Incoming, Streamed, streamed_of, Takes, TakesReady, NextGives, GivesReady}
 use Rattle.bword.proofs.Taking.{Took-none, Took-append, Took-next}
@@ -49,9 +50,6 @@ Consumes-kept-from (Some x) (Some y) (Some z) bs p q = sym p ∙ q
 none_of : (bytes : List ℕ) (count : ℕ) → bytes ≡ [] → take count bytes ≡ []
 none_of bytes count e = rw e (take-nil count)
 
-not_over_now : (b : Bool) → b ≡ false → b ≡ true → ⊥
-not_over_now b p q = cc
-
 pub buffer_takes : (bytes : List ℕ) (rest : Option (List ℕ)) (is_over : Bool) (failures given given' count : ℕ) → count ≤ length bytes → given' ≡ given + count → given' ≤ most
     → (is_over ≡ true → bytes ≡ [])
     → TakesReady (streamed_of (buffered bytes rest is_over failures given)) (take count bytes) (streamed_of (buffered (drop count bytes) rest is_over failures given'))
@@ -62,7 +60,7 @@ buffer_takes bytes rest is_over failures given given' count within more fits ove
         bytes = rw (take-append-drop count bytes) at front;
         bound = let n : length (take count bytes) ≡ count = length-take-le count bytes within in omega arith;
         over = λ o. (none_of bytes count (over o), o);
-        all = λ o p. absurd (not_over_now is_over o p);
+        all = λ o p. absurd (both_ways is_over o p);
       };
       over = refl;
       failures = refl;
@@ -94,7 +92,3 @@ pub fetched_keeps : (bytes front : List ℕ) (rest rest' : Option (List ℕ)) �
 fetched_keeps bytes front None rest' e h = tt
 fetched_keeps bytes front (Some xs) None e h = absurd h
 fetched_keeps bytes front (Some xs) (Some ys) e h = rw e (sym h)
-
-pub bool_false : (b : Bool) → (b ≡ true → ⊥) → b ≡ false
-bool_false true h = absurd (h refl)
-bool_false false h = refl

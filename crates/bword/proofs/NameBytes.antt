@@ -19,15 +19,8 @@ bytes_next zero n b h = let last : (n * 256 + b) % 256 ≡ b = omega arith in ap
 bytes_next (suc k) n b h = rw (byte_next k n b h, bytes_next k n b h) refl
 
 byte_wraps : (i n : ℕ) → i < 8 → byte_at i (n % 2 ^ 64) ≡ byte_at i n
-byte_wraps zero n h = omega arith
-byte_wraps (suc zero) n h = omega arith
-byte_wraps (suc (suc zero)) n h = omega arith
-byte_wraps (suc (suc (suc zero))) n h = omega arith
-byte_wraps (suc (suc (suc (suc zero)))) n h = omega arith
-byte_wraps (suc (suc (suc (suc (suc zero))))) n h = omega arith
-byte_wraps (suc (suc (suc (suc (suc (suc zero)))))) n h = omega arith
-byte_wraps (suc (suc (suc (suc (suc (suc (suc zero))))))) n h = omega arith
 byte_wraps (suc (suc (suc (suc (suc (suc (suc (suc i)))))))) n h = absurd (omega (arith, h))
+byte_wraps _ n h = omega arith
 
 -- the lowest eight bytes of a number are in a word of 64 bits
 pub bytes_wrap : (k n : ℕ) → k ≤ 8 → bytes_high_first k (n % 2 ^ 64) ≡ bytes_high_first k n

@@ -1,5 +1,5 @@
 -- Names as numbers, which have the same order.
-use Rattle.std.proofs.Common.{◌≡◌, ℕ, zero, suc, ◌+◌, ◌-◌, ◌*◌, ◌^◌, ◌<◌, ◌≤◌, Bool, true, false, ◌&&◌, List, [], ◌∷◌, ◌++◌, length, take, drop, replicate, refl, sym, ap, ◌∙◌, arith, w64}
+use Rattle.std.proofs.Common.{◌≡◌, ℕ, zero, suc, ◌+◌, ◌-◌, ◌*◌, ◌^◌, ◌<◌, ◌≤◌, true, List, [], ◌∷◌, ◌++◌, length, take, drop, replicate, refl, sym, ap, ◌∙◌, arith, w64}
 use Rattle.std.proofs.Math.Nat.{mul-le-mul_right, pow-succ'}
 use Rattle.std.proofs.lemmas.List.{take-append-drop}
 use Rattle.std.proofs.lemmas.Bool.Decides.{nat_tests}
@@ -12,6 +12,7 @@ use Rattle.std.specs.Cmp.{ranks, nat_cmp_is, unsigned_ties}
 use Rattle.std.specs.declared.cmp.Ordering.{Ordering}
 use Rattle.std.specs.declared.cmp.Ordering.TheVariants.{Less, Equal, Greater}
 use Rattle.std.specs.Cmp.Lexicographic.{pointwise, slice_cmp, nat_list_cmp_total, texts_ties}
+use Rattle.std.proofs.lemmas.Bool.{and_parts}
 use Rattle.bword.specs.Words.{is_name, is_name_start, is_name_byte, number_of_bytes}
 use Rattle.bword.proofs.NameLemmas.{is_name-length}
 
@@ -58,10 +59,6 @@ number_of_in_order (suc n) (x ∷ xs) (y ∷ ys) h k le less = by (λ later. num
         omega (arith, later, ap (λ z. z * 256 ^ n) r)
     by more Greater e r = let never : Greater ≡ Less = rest Greater e in cc
 
-both : (a b : Bool) → (a && b) ≡ true → (a ≡ true) × (b ≡ true)
-both true b e = (refl, e)
-both false b e = cc
-
 byte_fits : (b : ℕ) → is_name_byte b ≡ true → (0 < b) × (b < 256)
 byte_fits b e = (grind (arith, nat_tests), grind (arith, nat_tests))
 
@@ -70,13 +67,13 @@ start_fits b e = (grind (arith, nat_tests), grind (arith, nat_tests))
 
 all_bytes : (bs : List ℕ) → list_all is_name_byte bs ≡ true → AreBytes bs
 all_bytes [] e = tt
-all_bytes (b ∷ bs) e = let h = both _ _ e in let f = byte_fits b h.0 in (f.0, f.1, all_bytes bs h.1)
+all_bytes (b ∷ bs) e = let h = and_parts _ _ e in let f = byte_fits b h.0 in (f.0, f.1, all_bytes bs h.1)
 
 pub name_bytes : (bs : List ℕ) → is_name bs ≡ true → AreBytes bs
 name_bytes [] e = tt
 name_bytes (b ∷ bs) e =
-    let h = both (is_name_start b) _ e in
-    let k = both (nat_le (length bs) 7) _ h.1 in
+    let h = and_parts (is_name_start b) _ e in
+    let k = and_parts (nat_le (length bs) 7) _ h.1 in
     let f = start_fits b h.0 in (f.0, f.1, all_bytes bs k.1)
 
 -- a name's number is no zero
@@ -110,15 +107,7 @@ number_of-zeros (suc n) (b ∷ bs) k = ap (λ m. b * 256 ^ n + m) (number_of-zer
 
 eight : (bs : List ℕ) → length bs ≡ 8 → from_be_bytes w64 bs ≡ number_of_bytes 8 bs
 eight (a ∷ b ∷ c ∷ d ∷ e ∷ f ∷ g ∷ h ∷ []) size = omega arith
-eight (a ∷ b ∷ c ∷ d ∷ e ∷ f ∷ g ∷ h ∷ i ∷ bs) size = absurd (omega (arith, size))
-eight (a ∷ b ∷ c ∷ d ∷ e ∷ f ∷ g ∷ []) size = absurd (omega (arith, size))
-eight (a ∷ b ∷ c ∷ d ∷ e ∷ f ∷ []) size = absurd (omega (arith, size))
-eight (a ∷ b ∷ c ∷ d ∷ e ∷ []) size = absurd (omega (arith, size))
-eight (a ∷ b ∷ c ∷ d ∷ []) size = absurd (omega (arith, size))
-eight (a ∷ b ∷ c ∷ []) size = absurd (omega (arith, size))
-eight (a ∷ b ∷ []) size = absurd (omega (arith, size))
-eight (a ∷ []) size = absurd (omega (arith, size))
-eight [] size = absurd (omega (arith, size))
+eight _ size = absurd (omega (arith, size))
 
 -- of an array, of which the bytes after the name are zeros
 pub array_number : (bs : List ℕ) (n : ℕ) → length bs ≡ 8 → drop n bs ≡ replicate (8 - n) 0 → from_be_bytes w64 bs ≡ number_of_bytes 8 (take n bs)

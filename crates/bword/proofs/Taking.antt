@@ -1,16 +1,10 @@
 -- Several reads as one.
-use Rattle.std.proofs.Common.{◌≡◌, ℕ, Bool, true, false, List, [], ◌++◌, Option, Some, None, Ok, refl, sym, ◌∙◌, arith, append-nil, length-append, ◌⊎◌, inl, inr, ⊎_elim}
+use Rattle.std.proofs.Common.{ap, ◌≡◌, ℕ, List, [], ◌++◌, Option, Some, None, Ok, refl, sym, ◌∙◌, arith, append-nil, length-append, ⊎_elim}
 use Rattle.std.proofs.KnownBytes.{Consumes-nil, Consumes-trans, Consumes-kept}
 use Rattle.std.specs.Io.KnownBytes.{Consumes, Keeps, IsAtEnd}
 use Rattle.std.specs.Prelude.{option_to_list}
+use Rattle.std.proofs.lemmas.Bool.{cases_Bool, both_ways}
 use Rattle.bword.specs.ByteEnds.{Incoming, NextGives, Took}
-
-differ : (b : Bool) → b ≡ true → b ≡ false → ⊥
-differ b p q = cc
-
-over_or : (b : Bool) → (b ≡ true) ⊎ (b ≡ false)
-over_or true = inl refl
-over_or false = inr refl
 
 Consumes-at-end : (a b : Option (List ℕ)) → Keeps a b → IsAtEnd b → Consumes a (Some []) []
 Consumes-at-end None b h e = tt
@@ -24,7 +18,7 @@ pub nil-append : (xs ys : List ℕ) → xs ≡ [] → ys ≡ [] → xs ++ ys ≡
 nil-append xs ys h k = rw (h, k) refl
 
 pub Took-none : (a : Incoming) → Took a [] a
-Took-none a = record { bytes = Consumes-nil a.left; bound = omega arith; over = λ h. (refl, h); all = λ p q. absurd (differ _ q p) }
+Took-none a = record { bytes = Consumes-nil a.left; bound = omega arith; over = λ h. (refl, h); all = λ p q. absurd (both_ways _ p q) }
 
 pub Took-append : {a b c : Incoming} {xs ys : List ℕ} → Took a xs b → Took b ys c → Took a (xs ++ ys) c
 Took-append {a} {b} {c} {xs} {ys} h k = record {
@@ -34,7 +28,7 @@ Took-append {a} {b} {c} {xs} {ys} h k = record {
   all = λ o p. ⊎_elim
       (λ m. Consumes-no-more a.left xs ys (h.all o m) (k.over m).0)
       (λ m. Consumes-trans a.left b.left (Some []) xs ys h.bytes (k.all m p))
-      (over_or b.is_over);
+      (cases_Bool b.is_over);
 }
 
 -- what one call took
@@ -48,6 +42,12 @@ Took-next old new None h = record {
 Took-next old new (Some b) h = record {
   bytes = h.bytes;
   bound = let f = h.falls in omega arith;
-  over = λ o. absurd (differ _ o h.not_over);
-  all = λ o p. absurd (differ _ p h.still);
+  over = λ o. absurd (both_ways _ h.not_over o);
+  all = λ o p. absurd (both_ways _ h.still p);
 }
+
+-- what is left after a read that tells its bytes
+pub consumed : (a b : Option (List ℕ)) (taken x y : List ℕ) → a ≡ Some x → b ≡ Some y → Consumes a b taken → x ≡ taken ++ y
+consumed None b taken x y e f h = cc
+consumed (Some a) None taken x y e f h = cc
+consumed (Some a) (Some b) taken x y e f h = let p : a ≡ x = cc in let q : b ≡ y = cc in sym p ∙ h ∙ ap (λ l. taken ++ l) q

@@ -1,7 +1,6 @@
 -- Closed facts: which texts are names.
 use Rattle.std.specs.Prelude.{◌≡◌, ℕ, Bool, true, false, List, [], ◌∷◌, map, replicate, filter, codes, take, drop, ◌++◌}
-use Rattle.std.specs.Prelude.{◌+◌, ◌-◌}
-use Rattle.std.specs.Prelude.{refl}
+use Rattle.std.specs.Prelude.{◌+◌, ◌-◌, refl}
 use Rattle.std.specs.List.{range_with_len}
 use Rattle.bword.specs.Words.{is_name, is_name_start, is_name_byte, same_name}
 

@@ -3,9 +3,11 @@ use Rattle.std.proofs.lemmas.List.{map-append, take_more}
 use Rattle.std.proofs.Math.Seq.{take_all}
 use Rattle.std.specs.Cmp.Lexicographic.{bytes_decides}
 use Rattle.std.specs.Prelude.{slice_range}
+use Rattle.std.proofs.lemmas.Bool.{not-false}
+use Rattle.blex.proofs.PlaceSteps.{found_in}
 use Rattle.bformat.specs.declared.reading.SourceItem.{SourceItem}
 use Rattle.bformat.specs.Readings.{texts}
-use Rattle.bformat.proofs.Upcoming.{Compares, compares_end, compares_more, found_in, not_false}
+use Rattle.bformat.proofs.Upcoming.{Compares, compares_end, compares_more}
 use Rattle.bformat.proofs.reading.has_pieces.Goals as goal
 
 pub loop-piece-preserved : goal.loop-piece-preserved
@@ -14,7 +16,7 @@ loop-piece-preserved c =
     let found = found_in _ _ _ c.args.edition c.args.text.now c.next-found.ensures.finds i.edition i.source in
     let more = compares_more c.args.edition c.args.text.now _ _ c.next-found.result found i.compares (sym c.is_end.ensures ∙ c.if-is_end.false) in
     let piece : SourceItem = get_or c.args.pieces.now c.loop-piece.piece-index _ in
-    let same : slice_range c.args.text.now c.next-found.result.first c.next-found.result.end ≡ piece.text.now = (bytes_decides _ _).0 (not_false _ (sym c.ne.ensures ∙ c.if-ne.false)) in
+    let same : slice_range c.args.text.now c.next-found.result.first c.next-found.result.end ≡ piece.text.now = (bytes_decides _ _).0 (not-false _ (sym c.ne.ensures ∙ c.if-ne.false)) in
     let taken : texts (take (c.loop-piece.piece-index + 1) c.args.pieces.now) ≡ texts (take c.loop-piece.piece-index c.args.pieces.now) ++ slice_range c.args.text.now c.next-found.result.first c.next-found.result.end ∷ [] =
     ap texts (take_more c.args.pieces.now c.loop-piece.piece-index _ c.loop-piece-test.true) ∙ map-append (λ (p : SourceItem). p.text.now) (take c.loop-piece.piece-index c.args.pieces.now) (piece ∷ [])
     ∙ ap (λ t. texts (take c.loop-piece.piece-index c.args.pieces.now) ++ t ∷ []) (sym same) in

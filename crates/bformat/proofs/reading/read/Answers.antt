@@ -1,9 +1,10 @@
 use Rattle.std.proofs.Common.{◌∙◌, ◌≡◌, ◌++◌, ◌∷◌, [], ap, subst, sym}
 use Rattle.std.proofs.lemmas.List.{map-append}
 use Rattle.std.specs.Prelude.{slice_range}
+use Rattle.blex.proofs.PlaceSteps.{found_in}
 use Rattle.bformat.specs.declared.reading.SourceItem.{SourceItem}
 use Rattle.bformat.specs.Readings.{texts}
-use Rattle.bformat.proofs.Upcoming.{Reads, found_in, reads_end, reads_more, reads_wrong}
+use Rattle.bformat.proofs.Upcoming.{Reads, reads_end, reads_more, reads_wrong}
 use Rattle.bformat.proofs.reading.read.Goals as goal
 
 pub returns-then-is_end : goal.returns-then-is_end

@@ -1,6 +1,5 @@
-use Rattle.std.proofs.Common.{refl, sym, ◌∙◌}
+use Rattle.std.proofs.Common.{refl, sym, ◌∙◌, None}
 use Rattle.bread.specs.declared.halt.Halt.TheVariants as halt
-use Rattle.std.proofs.Common.{None}
 use Rattle.bgrammar.specs.ExpressionReader.{is_close_paren}
 use Rattle.bgrammar.specs.StatementReader.{name}
 use Rattle.bgrammar.proofs.StatementFine.{name_fine}

@@ -2,7 +2,6 @@ use Rattle.std.proofs.Common.{refl, sym, ◌∙◌}
 use Rattle.blang.specs.Trees.{Auto}
 use Rattle.bgrammar.specs.StatementReader.{is_semicolon, declared}
 use Rattle.bgrammar.proofs.StatementFine.{declared_fine}
-use Rattle.bemit.specs.Drafts.{imported}
 use Rattle.bemit.specs.Drafts as drafts
 use Rattle.bemit.specs.Effects.{headed}
 use Rattle.bemit.specs.Trails.{trailed_declared, trailed_heading}

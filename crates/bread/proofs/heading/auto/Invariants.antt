@@ -1,5 +1,4 @@
 use Rattle.bgrammar.specs.StatementReader.{declared}
-use Rattle.bemit.specs.Drafts.{imported}
 use Rattle.bemit.specs.Drafts as drafts
 use Rattle.bemit.specs.Trails.{trailed_declared}
 use Rattle.bread.specs.Tokens.{work}

@@ -1,6 +1,6 @@
 use Rattle.std.proofs.Common.{◌≡◌, ◌∙◌, ap, sym, true}
 use Rattle.btree.specs.Machine.{close, top_of}
-use Rattle.btree.specs.Reading.{is_in_block, is_over}
+use Rattle.btree.specs.Reading.{is_in_block}
 use Rattle.btree.proofs.Loops.{close_on, fewer, has_inner}
 use Rattle.btree.proofs.reading.Reader.close.Goals as goal
 

@@ -2,7 +2,7 @@ use Rattle.std.proofs.Common.{◌≡◌, ◌∙◌, ◌++◌, [], ap, sym, true}
 use Rattle.btree.specs.declared.tags.Phase.TheVariants as phase
 use Rattle.btree.specs.declared.sorts.Sort.TheVariants as sort
 use Rattle.btree.specs.Machine.{closings, token_in, top_of}
-use Rattle.btree.specs.Reading.{is_in_block, is_over}
+use Rattle.btree.specs.Reading.{is_over}
 use Rattle.btree.proofs.Loops.{closings_on, fewer, has_top}
 use Rattle.btree.proofs.reading.Reader.end_all.Goals as goal
 

@@ -1,6 +1,6 @@
 use Rattle.std.proofs.Common.{◌≡◌, ◌∙◌, ap, sym, true}
 use Rattle.btree.specs.Machine.{over, top_of}
-use Rattle.btree.specs.Reading.{is_in_block, is_over}
+use Rattle.btree.specs.Reading.{is_over}
 use Rattle.btree.proofs.Loops.{over_on, fewer, has_top}
 use Rattle.btree.proofs.reading.Reader.over.Goals as goal
 

@@ -1,8 +1,8 @@
 use Rattle.std.proofs.lemmas.Grind.{common_steps}
-use Rattle.std.proofs.Common.{arith, refl, ◌+◌, take}
+use Rattle.std.proofs.Common.{arith, refl, ◌+◌, take, length-take}
 use Rattle.std.proofs.KnownBytes.{Keeps-refl}
-use Rattle.std.proofs.Common.{length-take}
-use Rattle.bword.proofs.Fetched.{buffer_gives, fetched_keeps, no_bytes, bool_false}
+use Rattle.std.proofs.lemmas.Bool.{false_from_ne_true}
+use Rattle.bword.proofs.Fetched.{buffer_gives, fetched_keeps, no_bytes}
 use Rattle.bword.proofs.streams.ReadingByteIn.next.Goals as goal
 use Rattle.bword.proofs.streams.ReadingByteIn.next.Goals.{then-self+else-self-2+in-Ok, else-self}
 
@@ -17,7 +17,7 @@ returns-clause-gives g c = elim c.if-self.branch [
       (buffer_gives _ _ _ w.fill.new.buffer 0 w.in-Ok.count (s.fetched + w.in-Ok.count) _ s.failures s.is_over (fetched_keeps _ _ _ _ empty got.2) (omega arith) (omega arith) (omega arith) (omega arith) (omega arith) w.if-self-2.false)
   | else-self w ↦
       let s = c.self.inside in
-      let not_over = bool_false s.is_over (λ o. w.if-self.false (c.self.invariant.3 o).0) in
+      let not_over = false_from_ne_true s.is_over (λ o. w.if-self.false (c.self.invariant.3 o).0) in
       rw (w.self-inside-is, ← c.self.view_is)
       (buffer_gives _ _ _ s.buffer s.at s.filled s.fetched _ s.failures s.is_over (Keeps-refl _) (omega arith) (omega arith) (omega arith) (omega arith) refl not_over)
 ]
