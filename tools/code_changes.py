@@ -184,10 +184,10 @@ def condition_changes(tokens):
     for at, token in enumerate(tokens):
         if token == "if" and tokens[at + 2] != "let":
             end = at + 1
-            while tokens[end] != "{" and tokens[end] != "=>":
+            while tokens[end] not in ("{", "=>", ")"):
                 end = closing(tokens, end) if tokens[end] in "([" else end
                 end += 1
-            if tokens[end] == "{":
+            if tokens[end] != "=>":
                 for value in ("true", "false"):
                     yield f"{value}: {near(tokens, at)}", replaced(tokens, at + 1, end, f" {value} ")
 

@@ -2,8 +2,7 @@
    CHANGE is the number of the change, and PLACES the file for the numbers of the functions. CHANGES is a file of
    numbers in the place of one: where the program comes to the first function, a process for each of them does the rest
    of its work, with so many SECONDS of processor at most; the file SEEN gets the status with no change, as `wait`
-   tells it, and the numbers with which the answer is another one. A start with none of these, as rt makes one, keeps
-   the program at PROGRAM, for which the script writes a path here. */
+   tells it, and the numbers with which the answer is another one. */
 #define _GNU_SOURCE
 #include <fcntl.h>
 #include <stdint.h>
@@ -28,27 +27,6 @@ static off_t offsets[MOST_FILES];
 struct answer {
     int status, out, line;
 };
-
-/* The path of the program, which rt starts by way of the loader. */
-static char *own_path(void) {
-    static char line[4096];
-    unsigned long from, to, at = (unsigned long)&own_path;
-    FILE *maps = fopen("/proc/self/maps", "r");
-    while (maps && fgets(line, sizeof line, maps))
-        if (sscanf(line, "%lx-%lx", &from, &to) == 2 && from <= at && at < to) break;
-    line[strcspn(line, "\n")] = 0;
-    return strchr(line, '/');
-}
-
-static void keep(void) {
-    char room[65536];
-    size_t count;
-    FILE *own = fopen(own_path(), "rb");
-    FILE *kept = fopen("PROGRAM", "wb");
-    while ((count = fread(room, 1, sizeof room, own)) > 0) fwrite(room, 1, count, kept);
-    fclose(kept);
-    chmod("PROGRAM", 0755);
-}
 
 static void tell_places(void) {
     FILE *places = fopen(getenv("PLACES"), "w");
@@ -150,7 +128,5 @@ __attribute__((constructor)) static void begin(void) {
         waits_for_changes = 1;
     else if (number)
         chosen = (uint32_t)atoi(number);
-    else
-        keep();
     if (getenv("PLACES")) atexit(tell_places);
 }

@@ -1,0 +1,3 @@
+main() say('x');
+/* the
+end */

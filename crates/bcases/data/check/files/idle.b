@@ -1,0 +1,5 @@
+/* say(c) writes c */
+say(c) {
+    c;
+    putchar(c);
+}

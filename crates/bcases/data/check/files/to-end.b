@@ -1,0 +1,2 @@
+main() ;
+/* the end

@@ -1,0 +1,5 @@
+main() {
+    auto x;
+    x = 1 /* one;
+    putchar(x);
+}

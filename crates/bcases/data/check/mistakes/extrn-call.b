@@ -1,0 +1,7 @@
+main() {
+    extrn f;
+    f(1, 2);
+}
+f(a) {
+    putchar(a);
+}

@@ -1,0 +1,5 @@
+main() {
+    auto s;
+    s = "say \"hello\"";
+    putchar(char(s, 0));
+}

@@ -1,0 +1,6 @@
+main() {
+    auto x;
+    x =
+        'a'
+    putchar(x);
+}

@@ -1,0 +1,3 @@
+main() {
+    putchar(char("ab" 70000));
+}

@@ -1,0 +1,7 @@
+main() {
+    auto default;
+    on:
+    putchar('a');
+    while((default = getchar()) != '*e')
+        goto on;
+}
