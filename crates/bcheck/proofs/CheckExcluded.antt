@@ -28,7 +28,8 @@ use Rattle.bgrammar.proofs.SourceRows.{a_break_of_one, a_break_outside}
 use Rattle.bmach.proofs.Losing.{appended}
 use Rattle.bcheck.specs.Checks as checks
 use Rattle.bsources.specs.Files.{File, Files, Line, own_line, own_line_among}
-use Rattle.bcheck.specs.Checks.{IsAtToken, IsOver, Reason, StandsOn, code_keyword, column_after, diagnostic_code, finding_at}
+use Rattle.bcheck.specs.Checks.{IsAtToken, IsOver, Reason, StandsOn, code_keyword, diagnostic_code, finding_at}
+use Rattle.bplaces.specs.Columns.{column_after}
 use Rattle.btools.specs.Quoting.{file_text, json_text}
 use Rattle.bcheck.specs.Checks.{AreFindings, Check, Checks, FindingParts, Outcome, TellsFirst, finding_column, fix_and_places, finding_head, finding_line, finding_mark, finding_shown, finding_start, finding_text, IsWhole, Says, fault_in, outcome_of, findings_text, severity_of, shown_in_form, told_first}
 use Rattle.bcheck.specs.CheckExcluded.{BeginsWith, ComesTo, Excluded, IsTold, Never, NeverOf, file_at, file_of, finding_count, finding_lines, findings_of, has_no_colon, is_printed, newlines}

@@ -11,9 +11,10 @@ use Rattle.std.proofs.lemmas.List.Folds.{list_all-append}
 use Rattle.std.proofs.lemmas.List.Sums.{sum_by-append}
 use Rattle.blang.specs.Cut.{line_number_after}
 use Rattle.bsources.specs.Files.{Files, Line, own_line}
-use Rattle.bcheck.specs.Checks.{FindingParts, Second, column_after, fix_and_places, second_text, file_member, finding_at, finding_column, finding_end, finding_unit, finding_unit_end, end_words, ends_text, is_of_several, spot_words, finding_head, finding_line, finding_mark, finding_shown, finding_start, finding_text, finding_words, is_on_line, shown_text, severity_word}
+use Rattle.bcheck.specs.Checks.{FindingParts, Second, fix_and_places, second_text, file_member, finding_at, finding_column, finding_end, finding_unit, finding_unit_end, end_words, ends_text, is_of_several, spot_words, finding_head, finding_line, finding_mark, finding_shown, finding_start, finding_text, finding_words, is_on_line, shown_text, severity_word}
+use Rattle.bplaces.specs.Columns.{column_after}
 use Rattle.btools.specs.Quoting.{file_byte, file_text, json_byte, json_text}
-use Rattle.bcheck.specs.Units.{unit_column}
+use Rattle.bplaces.specs.Units.{unit_column}
 use Rattle.bcheck.specs.CheckExcluded.{finding_lines, has_no_colon, is_printed, newlines}
 use Rattle.bcheck.proofs.OnLine.{both, both_on_line, first, of_three, replicate_on_line, second, shown_on_line}
 use Rattle.bcheck.specs.declared.finding.Severity.{Severity}

@@ -11,4 +11,3 @@ pub mod ToldNames
 pub mod PlaceSteps
 pub mod FaultLines
 pub mod Reasons
-pub mod UnitSteps

@@ -16,34 +16,11 @@ use Rattle.blex.specs.Lexers as lexers
 use Rattle.blex.specs.declared.lexeme.Lexeme.TheVariants as lexeme
 use Rattle.blex.specs.declared.lexeme.Seen.{Seen}
 use Rattle.blex.proofs.CallLaws.{calls_give_first}
-use Rattle.bcheck.specs.Checks.{IsOver, StandsOn, column_after, next_column}
+use Rattle.bcheck.specs.Checks.{IsOver, StandsOn}
+use Rattle.bplaces.specs.Columns.{column_after, next_column}
 use Rattle.bcheck.specs.Findings.{IsMilestone}
-use Rattle.bcheck.specs.Units.{first_unit, units_after}
+use Rattle.bplaces.specs.Units.{first_unit, units_after}
 use Rattle.bcheck.specs.declared.places.Milestone.{Milestone}
-
-line_next : (line : ℕ) (bs : List ℕ) (i : ℕ) → i < length bs → line_number_after line (take (suc i) bs) ≡ next_line (line_number_after line (take i bs)) (get_or bs i 0)
-line_next line [] i h = absurd (omega (arith, h))
-line_next line (b ∷ bs) zero h = refl
-line_next line (b ∷ bs) (suc i) h = line_next (next_line line b) bs i (omega (arith, h))
-
-column_next : (column : ℕ) (bs : List ℕ) (i : ℕ) → i < length bs → column_after column (take (suc i) bs) ≡ next_column (column_after column (take i bs)) (get_or bs i 0)
-column_next column [] i h = absurd (omega (arith, h))
-column_next column (b ∷ bs) zero h = refl
-column_next column (b ∷ bs) (suc i) h = column_next (next_column column b) bs i (omega (arith, h))
-
--- a byte more
-pub line_more : (line now next : ℕ) (bs : List ℕ) (i : ℕ) → i < length bs → now ≡ line_number_after line (take i bs) → next ≡ next_line now (get_or bs i 0) → next ≡ line_number_after line (take (i + 1) bs)
-line_more line now next bs i h e f =
-    let one : i + 1 ≡ suc i = omega arith in
-    rw one (f ∙ ap (λ n. next_line n (get_or bs i 0)) e ∙ sym (line_next line bs i h))
-
-pub column_more : (column now next : ℕ) (bs : List ℕ) (i : ℕ) → i < length bs → now ≡ column_after column (take i bs) → next ≡ next_column now (get_or bs i 0) → next ≡ column_after column (take (i + 1) bs)
-column_more column now next bs i h e f =
-    let one : i + 1 ≡ suc i = omega arith in
-    rw one (f ∙ ap (λ n. next_column n (get_or bs i 0)) e ∙ sym (column_next column bs i h))
-
-pub column_some : (column b : ℕ) → 0 < next_column column b
-column_some column b = grind (arith, nat_tests)
 
 first_of : (p : Placed) (ts : List Placed) → first_tokens 1 ts ≡ p ∷ [] → (none : List Placed) × (ts ≡ p ∷ none)
 first_of p [] e = cc

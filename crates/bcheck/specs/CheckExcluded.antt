@@ -16,7 +16,8 @@ use Rattle.blang.specs.declared.run.LoadFault.TheVariants as fault
 use Rattle.blang.specs.Layout.{load_fault}
 use Rattle.blang.specs.declared.status.TheConstants.{DONE, DEVICE, MEMORY}
 use Rattle.bsources.specs.Files.{own_line}
-use Rattle.bcheck.specs.Checks.{Check, Checks, FindingParts, IsOver, column_after, finding_head}
+use Rattle.bcheck.specs.Checks.{Check, Checks, FindingParts, IsOver, finding_head}
+use Rattle.bplaces.specs.Columns.{column_after}
 use Rattle.bcheck.specs.Tokens.{has_token_on, is_in_token}
 use Rattle.bcheck.specs.UndefinedNames.{Tells, told_subjects}
 use Rattle.bcheck.specs.declared.mention.Subject.{Subject}

@@ -13,7 +13,7 @@ use Rattle.blang.specs.declared.code.Definition.{Definition}
 use Rattle.bcheck.specs.UndefinedNames.{told_subjects}
 use Rattle.bcheck.specs.declared.mention.Subject.{Subject}
 use Rattle.bcheck.specs.Checks.{FindingParts, IsWhole, Reason, finding_text, findings_text, is_in_line, is_on_line, second_text}
-use Rattle.bcheck.specs.Checks.{column_after, diagnostic_code, next_column, severity_of, severity_word, shown_byte}
+use Rattle.bcheck.specs.Checks.{diagnostic_code, severity_of, severity_word, shown_byte}
 use Rattle.bcheck.specs.Checks.{shown_in_form, told_first}
 use Rattle.bcheck.specs.CheckExcluded.{has_no_colon, is_printed, newlines}
 use Rattle.bcheck.specs.Findings.{warning_code}
@@ -104,17 +104,6 @@ warning_codes = refl
 -- the line and the column of a place after a text
 lines : map (line_number_after 1) ([] ∷ codes "a" ∷ codes "a\n" ∷ codes "\n\nab" ∷ []) ≡ (1 ∷ 1 ∷ 2 ∷ 3 ∷ [])
 lines = refl
-
-columns : map (column_after 1) ([] ∷ codes "a" ∷ codes "a\n" ∷ codes "\n\nab" ∷ []) ≡ (1 ∷ 2 ∷ 1 ∷ 3 ∷ [])
-columns = refl
-
--- a tab is one column, and the last column is that of all bytes after it but a newline
-next_columns : map (λ b. next_column 7 b) (9 ∷ 10 ∷ 97 ∷ 255 ∷ []) ≡ (8 ∷ 1 ∷ 8 ∷ 8 ∷ [])
-next_columns = refl
-
-last_columns : map (λ c. next_column c 97) (18446744073709551614 ∷ 18446744073709551615 ∷ [])
-    ≡ (18446744073709551615 ∷ 18446744073709551615 ∷ [])
-last_columns = refl
 
 shown_bytes : map shown_byte (0 ∷ 8 ∷ 9 ∷ 10 ∷ 31 ∷ 32 ∷ 126 ∷ 127 ∷ 128 ∷ 255 ∷ [])
     ≡ (63 ∷ 63 ∷ 32 ∷ 63 ∷ 63 ∷ 32 ∷ 126 ∷ 63 ∷ 63 ∷ 63 ∷ [])

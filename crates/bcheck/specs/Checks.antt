@@ -26,7 +26,8 @@ use Rattle.btools.specs.Quoting.{file_text, json_text}
 use Rattle.blang.specs.Reports.{Reported}
 use Rattle.bsources.specs.Files.{Files, Line, own_line}
 use Rattle.bcheck.specs.Tokens.{has_token_on, is_in_token}
-use Rattle.bcheck.specs.Units.{unit_column}
+use Rattle.bplaces.specs.Columns.{column_after}
+use Rattle.bplaces.specs.Units.{unit_column}
 use Rattle.bcheck.specs.UndefinedNames.{IsAtName, Tells, name_in, told_subjects}
 use Rattle.bcheck.specs.declared.mention.Subject.{Subject}
 use Rattle.bcheck.specs.declared.finding.Severity.{Severity}
@@ -92,15 +93,6 @@ severity_word severity.Warning = codes "warning"
 -- a text on one line: blanks, and letters, digits and signs of ASCII
 abbrev pub is_on_line : List ℕ → Bool
 is_on_line text = list_all (λ c. is_in_range 32 126 c) text
-
--- the column after a byte: a newline begins the next line
-abbrev pub next_column : ℕ → ℕ → ℕ
-next_column column byte = if byte == 10 then 1 else min (column + 1) most
-
--- the column after a text
-abbrev pub column_after : ℕ → List ℕ → ℕ
-column_after column [] = column
-column_after column (b ∷ bs) = column_after (next_column column b) bs
 
 -- no newline is among the bytes
 abbrev pub is_in_line : List ℕ → Bool

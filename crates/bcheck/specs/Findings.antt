@@ -6,7 +6,8 @@ use Rattle.bword.specs.ByteEnds.{most}
 use Rattle.blang.specs.Cut.{line_number_after}
 use Rattle.blang.specs.declared.token.Diagnostic.{Diagnostic}
 use Rattle.bsources.specs.Files.{Files, line_shown, own_line}
-use Rattle.bcheck.specs.Checks.{EachOutcome, FindingParts, IsAtToken, Outcome, Reason, StandsOn, TellsAll, column_after}
+use Rattle.bcheck.specs.Checks.{EachOutcome, FindingParts, IsAtToken, Outcome, Reason, StandsOn, TellsAll}
+use Rattle.bplaces.specs.Columns.{column_after}
 use Rattle.bcheck.specs.Checks.{diagnostic_code, fault_in, finding_text, is_in_line, is_of_several}
 use Rattle.bcheck.specs.UndefinedNames.{IsAtName, beginnings, ends_name, name_in}
 use Rattle.bcheck.specs.declared.mention.Subject.{Subject}
@@ -17,7 +18,7 @@ use Rattle.std.specs.Global.{Vec}
 use Rattle.std.specs.List.{list_any}
 use Rattle.blex.specs.declared.scanner.PlacedPiece.{PlacedPiece}
 use Rattle.bcheck.specs.Tokens.{has_token_on, is_on, pieces_of}
-use Rattle.bcheck.specs.Units.{first_unit, unit_column, units_after}
+use Rattle.bplaces.specs.Units.{first_unit, unit_column, units_after}
 use Rattle.bcheck.specs.declared.advice.Matter.{Matter}
 use Rattle.bcheck.specs.declared.advice.Matter.TheVariants as matter
 use Rattle.bcheck.specs.declared.warnings.Warning.{Warning}

@@ -7,5 +7,3 @@ pub mod Mentions
 pub mod Pieces
 pub mod UndefinedNames
 pub mod UndefinedRows
-pub mod UnitRows
-pub mod Units

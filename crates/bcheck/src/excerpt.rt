@@ -4,11 +4,11 @@ ghost use Rattle.std.specs.Prelude.{◌≡◌, ◌+◌, ◌-◌, ◌<◌, ◌≤
 ghost use Rattle.bword.specs.ByteEnds.{most};
 ghost use Rattle.bcheck.specs.Checks.{is_in_line};
 ghost use Rattle.bcheck.specs.Findings.{IsExcerpt, IsMilestone};
-ghost use Rattle.bcheck.specs.Units.{units_after};
+ghost use Rattle.bplaces.specs.Units.{units_after};
 
 use crate::finding::Place;
 use crate::places::{Milestone, parts, position};
-use crate::units::UnitPlace;
+use bplaces::UnitPlace;
 
 /// The most bytes of a line of the source that are shown.
 const SHOWN_BYTES: usize = 76;

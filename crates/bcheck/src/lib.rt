@@ -34,7 +34,6 @@ mod spans;
 mod syntax;
 mod text;
 mod undefined;
-mod units;
 mod unknown;
 mod verdict;
 mod warnings;

@@ -1,16 +1,17 @@
 //! Where a place stands in the source.
 ghost use Rattle.std.specs.List.{All};
 ghost use Rattle.std.specs.Prelude.{ℕ, List, OnOk, ◌≡◌, ◌<◌, ◌≤◌, ◌⊎◌, IfOk, IsTrue, drop, length, take, vec_items};
-ghost use Rattle.blang.specs.Cut.{line_number_after, next_line};
-ghost use Rattle.bcheck.specs.Checks.{IsAtToken, IsOver, StandsOn, column_after, next_column};
+ghost use Rattle.blang.specs.Cut.{line_number_after};
+ghost use Rattle.bcheck.specs.Checks.{IsAtToken, IsOver, StandsOn};
+ghost use Rattle.bplaces.specs.Columns.{column_after};
 ghost use Rattle.bcheck.specs.Findings.{Chooses, FindsOn, IsMilestone, IsSecond};
 ghost use Rattle.bcheck.specs.Tokens.{ends, is_on, is_token};
-ghost use Rattle.bcheck.specs.Units.{first_unit, units_after};
+ghost use Rattle.bplaces.specs.Units.{first_unit, units_after};
 ghost use Rattle.bsources.specs.Files.{files_shown};
 
 use crate::finding::{Place, SecondPlace};
-use crate::units::UnitPlace;
 use blex::{Lexeme, Lexer, PlacedPiece, Scanner};
+use bplaces::{UnitPlace, next_column, next_line};
 use bsources::SourceFiles;
 use bword::{Edition, MemIn};
 use std::alloc::{AllocError, Global};
@@ -136,28 +137,6 @@ pub(crate) fn spot_of<'a>(
         column,
         unit: units.column,
     })
-}
-
-// The line after a byte.
-fn next_line(line: u64, byte: u8) -> u64
-    ensures { result ≡ next_line line byte }
-{
-    if byte == b'\n' {
-        line.saturating_add(1)
-    } else {
-        line
-    }
-}
-
-// The column after a byte.
-fn next_column(column: usize, byte: u8) -> usize
-    ensures { result ≡ next_column column byte }
-{
-    if byte == b'\n' {
-        1
-    } else {
-        column.saturating_add(1)
-    }
 }
 
 /// The place, where it stands on this line and in a token of it, or on the line or before it and no token comes any

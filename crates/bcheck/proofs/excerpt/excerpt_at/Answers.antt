@@ -2,9 +2,9 @@ use Rattle.std.proofs.Common.{◌≡◌, ◌∙◌, ◌+◌, ◌-◌, ◌++◌, 
 use Rattle.std.specs.Prelude.{min}
 use Rattle.std.proofs.lemmas.List.{take-append-drop}
 use Rattle.bword.specs.ByteEnds.{most}
-use Rattle.bcheck.specs.Units.{first_unit, units_after}
-use Rattle.bcheck.specs.declared.units.UnitPlace.{UnitPlace}
-use Rattle.bcheck.proofs.UnitSteps.{units_marked}
+use Rattle.bplaces.specs.Units.{first_unit, units_after}
+use Rattle.bplaces.specs.declared.units.UnitPlace.{UnitPlace}
+use Rattle.bplaces.proofs.UnitSteps.{units_marked}
 use Rattle.bcheck.proofs.excerpt.excerpt_at.Goals as goal
 
 pub returns : goal.returns

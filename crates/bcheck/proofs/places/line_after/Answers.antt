@@ -1,4 +1,4 @@
-use Rattle.bcheck.proofs.PlaceSteps.{line_more}
+use Rattle.bplaces.proofs.ColumnSteps.{line_more}
 use Rattle.bcheck.proofs.places.line_after.Goals as goal
 
 pub loop-byte-preserved : goal.loop-byte-preserved

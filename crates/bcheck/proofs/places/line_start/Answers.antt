@@ -1,5 +1,6 @@
 use Rattle.std.proofs.Common.{◌<◌, arith}
-use Rattle.bcheck.proofs.PlaceSteps.{line_more, line_near}
+use Rattle.bcheck.proofs.PlaceSteps.{line_near}
+use Rattle.bplaces.proofs.ColumnSteps.{line_more}
 use Rattle.bcheck.proofs.places.line_start.Goals as goal
 
 pub loop-index-preserved : goal.loop-index-preserved

@@ -1,7 +1,7 @@
 use Rattle.std.proofs.Common.{◌<◌, arith, get_or, subst, sym}
-use Rattle.bcheck.proofs.PlaceSteps.{column_more, column_some, line_more}
-use Rattle.bcheck.proofs.UnitSteps.{units_more}
-use Rattle.bcheck.specs.Units.{first_unit}
+use Rattle.bplaces.proofs.ColumnSteps.{column_more, column_some, line_more}
+use Rattle.bplaces.proofs.UnitSteps.{units_more}
+use Rattle.bplaces.specs.Units.{first_unit}
 use Rattle.bcheck.proofs.places.milestones.Goals as goal
 
 pub loop-start-preserved : goal.loop-start-preserved

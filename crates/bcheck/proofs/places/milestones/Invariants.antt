@@ -1,9 +1,9 @@
 use Rattle.std.proofs.Common.{◌≡◌, ◌<◌, drop, take, vec_items}
 use Rattle.std.specs.List.{All}
 use Rattle.blang.specs.Cut.{line_number_after}
-use Rattle.bcheck.specs.Checks.{column_after}
+use Rattle.bplaces.specs.Columns.{column_after}
 use Rattle.bcheck.specs.Findings.{IsMilestone}
-use Rattle.bcheck.specs.Units.{first_unit, units_after}
+use Rattle.bplaces.specs.Units.{first_unit, units_after}
 use Rattle.bcheck.proofs.places.milestones.Given as goal
 
 abbrev pub invariant-loop-start : goal.invariant-loop-start

@@ -1,7 +1,8 @@
 use Rattle.std.proofs.Common.{◌<◌, get_or, length, subst, sym}
-use Rattle.bcheck.proofs.PlaceSteps.{below_min, column_more, column_some, line_more}
-use Rattle.bcheck.proofs.UnitSteps.{units_more}
-use Rattle.bcheck.specs.Units.{first_unit}
+use Rattle.bcheck.proofs.PlaceSteps.{below_min}
+use Rattle.bplaces.proofs.ColumnSteps.{column_more, column_some, line_more}
+use Rattle.bplaces.proofs.UnitSteps.{units_more}
+use Rattle.bplaces.specs.Units.{first_unit}
 use Rattle.bcheck.proofs.places.position.Goals as goal
 
 pub loop-index-preserved : goal.loop-index-preserved

@@ -1,7 +1,7 @@
 use Rattle.std.proofs.Common.{◌≡◌, ◌<◌, drop, take}
 use Rattle.blang.specs.Cut.{line_number_after}
-use Rattle.bcheck.specs.Checks.{column_after}
-use Rattle.bcheck.specs.Units.{first_unit, units_after}
+use Rattle.bplaces.specs.Columns.{column_after}
+use Rattle.bplaces.specs.Units.{first_unit, units_after}
 use Rattle.bcheck.proofs.places.position.Given as goal
 
 abbrev pub invariant-loop-index : goal.invariant-loop-index

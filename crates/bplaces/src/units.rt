@@ -2,26 +2,26 @@
 ghost use Rattle.std.specs.Int.{is_in_range};
 ghost use Rattle.std.specs.List.{list_all};
 ghost use Rattle.std.specs.Prelude.{◌≡◌, ◌≤◌, drop, length, take};
-ghost use Rattle.bcheck.specs.Units.{after_first, can_follow, first_unit, followers, greatest_second, least_second};
-ghost use Rattle.bcheck.specs.Units.{next_unit, tail_length, units_after, units_of};
+ghost use Rattle.bplaces.specs.Units.{after_first, can_follow, first_unit, followers, greatest_second, least_second};
+ghost use Rattle.bplaces.specs.Units.{next_unit, tail_length, units_after, units_of};
 
 /// A column in units of UTF-16, and how many bytes follow of a character that has begun before it.
 #[derive(Clone, Copy)]
-pub(crate) struct UnitPlace {
+pub struct UnitPlace {
     pub column: usize,
     pub tail: usize,
 }
 
 impl UnitPlace {
     /// Where a line begins.
-    pub(crate) fn first() -> Self
+    pub fn first() -> Self
         ensures { result ≡ first_unit }
     {
         UnitPlace { column: 1, tail: 0 }
     }
 
     /// The place after a byte, before this text.
-    pub(crate) fn after(self, byte: u8, rest: &[u8]) -> Self
+    pub fn after(self, byte: u8, rest: &[u8]) -> Self
         ensures { result ≡ next_unit self byte rest.now }
     {
         if byte == b'\n' {
@@ -47,7 +47,7 @@ impl UnitPlace {
     }
 
     /// The place after so many bytes of a text.
-    pub(crate) fn along(self, text: &[u8], count: usize) -> Self
+    pub fn along(self, text: &[u8], count: usize) -> Self
         requires { count ≤ length text.now }
         ensures { result ≡ units_after self (take count text.now) (drop count text.now) }
     {

@@ -3,8 +3,8 @@ use Rattle.std.proofs.Common.{◌≡◌, ◌∙◌, ◌+◌, ◌-◌, ◌<◌, �
 use Rattle.std.proofs.lemmas.List.{drop-append-le, drop_min, length-drop, take-append-drop, take-append-le, take_all, take_min}
 use Rattle.std.proofs.Math.Nat.{min-le_right}
 use Rattle.std.specs.Prelude.{min}
-use Rattle.bcheck.specs.Units.{next_unit, units_after}
-use Rattle.bcheck.specs.declared.units.UnitPlace.{UnitPlace}
+use Rattle.bplaces.specs.Units.{next_unit, units_after}
+use Rattle.bplaces.specs.declared.units.UnitPlace.{UnitPlace}
 
 unit_next : (u : UnitPlace) (bs : List ℕ) (i : ℕ) → i < length bs → units_after u (take (suc i) bs) (drop (suc i) bs) ≡ next_unit (units_after u (take i bs) (drop i bs)) (get_or bs i 0) (drop (suc i) bs)
 unit_next u [] i h = absurd (omega (arith, h))

@@ -4,7 +4,7 @@ use Rattle.std.specs.Prelude.{if◌then◌else◌}
 use Rattle.std.specs.Int.{is_in_range}
 use Rattle.std.specs.List.{list_all}
 use Rattle.bword.specs.ByteEnds.{most}
-use Rattle.bcheck.specs.declared.units.UnitPlace.{UnitPlace}
+use Rattle.bplaces.specs.declared.units.UnitPlace.{UnitPlace}
 
 -- how many bytes follow the first one of a character in UTF-8; 0 also for a byte that is the first of none
 abbrev pub followers : (first : ℕ) → ℕ

@@ -1,6 +1,6 @@
 -- Closed facts: characters in UTF-8 and bytes that are none, in units of UTF-16.
 use Rattle.std.specs.Prelude.{◌≡◌, ℕ, List, [], ◌∷◌, ◌++◌, codes, map, refl}
-use Rattle.bcheck.specs.Units.{tail_length, unit_column}
+use Rattle.bplaces.specs.Units.{tail_length, unit_column}
 
 -- the column after a text
 abbrev column_of : List ℕ → ℕ

@@ -1,6 +1,6 @@
 use Rattle.std.proofs.Common.{◌<◌, arith, length}
-use Rattle.bcheck.proofs.UnitSteps.{units_more}
-use Rattle.bcheck.proofs.units.UnitPlace.along.Goals as goal
+use Rattle.bplaces.proofs.UnitSteps.{units_more}
+use Rattle.bplaces.proofs.units.UnitPlace.along.Goals as goal
 
 pub loop-index-preserved : goal.loop-index-preserved
 loop-index-preserved c =

@@ -1,0 +1,4 @@
+pub mod ColumnRows
+pub mod Columns
+pub mod Units
+pub mod UnitRows
