@@ -1,0 +1,7 @@
+pub mod BindingSteps
+pub mod DefinitionNames
+pub mod KindLaws
+pub mod ReadingSteps
+pub mod SourceTokens
+pub mod TextSteps
+pub mod TreeNames

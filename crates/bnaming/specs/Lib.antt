@@ -1,0 +1,11 @@
+pub mod Spots
+pub mod Pieces
+pub mod Roles
+pub mod Rows
+pub mod Binding
+pub mod Fragments
+pub mod Texts
+pub mod Names
+pub mod Laws
+pub mod NameRows
+pub mod ObjectRows
