@@ -7,7 +7,11 @@ SEED = 1972
 FEW = ["a", "b", "c", "i", "v[i]", "e1", "e2", "0177", "'x'", "42", "1000", "*a"]
 OPERATORS = ["+", "-", "*", "&", "|", "<", "==", ">="]
 LOOP = """mix(a, b) { if (a & 1) return(a + b); return(a - b); }
-main() { auto i, s, v 100; i = s = 0; while (1) { v[i % 100] = mix(s, i); s =+ v[(i + 7) % 100] & 511; i = i + 1 & 1023; } }
+main() {
+    auto i, s, v 100;
+    i = s = 0;
+    while (1) { v[i % 100] = mix(s, i); s =+ v[(i + 7) % 100] & 511; i = i + 1 & 1023; }
+}
 """
 MAIN = "e1 1; e2 2;\nmain() return(0);\n"
 
