@@ -107,7 +107,7 @@ act_if_alike : (image : Image) (call : Call) (below : List Call) (w : World) (i 
 act_if_alike image call below w None = refl
 act_if_alike image call below w (Some i) = act_alike image call below w i
 
-step_alike : (image : Image) (s : State) → silent (step image (silent s)) ≡ silent (step image s)
+pub step_alike : (image : Image) (s : State) → silent (step image (silent s)) ≡ silent (step image s)
 step_alike image (Running call below w) = act_if_alike image call below w (slice_get call.function.code call.place)
 step_alike image (Halted e w) = refl
 step_alike image (Stuck w) = refl
@@ -133,7 +133,7 @@ as_it_was (Running call below w) runs = runs
 as_it_was (Halted e w) runs = runs
 as_it_was (Stuck w) runs = runs
 
-as_it_is : (s : State) → IsRunning (silent s) → IsRunning s
+pub as_it_is : (s : State) → IsRunning (silent s) → IsRunning s
 as_it_is (Running call below w) runs = runs
 as_it_is (Halted e w) runs = runs
 as_it_is (Stuck w) runs = runs

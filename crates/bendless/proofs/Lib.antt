@@ -1,2 +1,5 @@
 pub mod Again
 pub mod Wanting
+pub mod Standing
+pub mod Searching
+pub mod Words

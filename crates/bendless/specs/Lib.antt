@@ -1,2 +1,5 @@
 pub mod Endless
 pub mod EndlessRows
+pub mod Repeats
+pub mod Replays
+pub mod Keeps

@@ -1,8 +1,14 @@
-//! Runs that never end. A law alone: nothing here runs.
+//! Runs that never end.
 #![tactic(auto)]
+
+mod kept;
+mod replay;
+mod search;
 
 ghost use Rattle.bmean.specs.Laws.{OfCode};
 ghost use Rattle.bendless.specs.Endless.{NeverEnds, WantsForEver};
+
+pub use search::{Repeat, find_repeat};
 
 /// Where a state comes again, but for what was written, the machine halts after no number of steps, and the program of
 /// the code wants more fuel at every number.
