@@ -1,5 +1,5 @@
 -- The place that is told of a run is the one where the machine was.
-use Rattle.std.proofs.Common.{◌≡◌, ◌∙◌, ℕ, zero, suc, ◌+◌, ◌-◌, ◌≤◌, ⊎_elim, List, ◌++◌, Some, ap, arith, refl, subst, sym}
+use Rattle.std.proofs.Common.{◌≡◌, ◌∙◌, ℕ, zero, suc, ◌+◌, ◌-◌, ◌≤◌, ⊎_elim, List, [], ◌++◌, None, Option, Some, ap, arith, refl, subst, sym}
 use Rattle.std.proofs.lemmas.Bool.{cases_order}
 use Rattle.bword.specs.declared.edition.Edition.{Edition}
 use Rattle.blang.specs.declared.code.Definition.{Definition}
@@ -16,7 +16,9 @@ use Rattle.bmach.proofs.Running.{steps_add}
 use Rattle.bsources.specs.Files.{Files}
 use Rattle.btools.specs.Programs.{located_status}
 use Rattle.btrace.specs.Locates.{told_site}
-use Rattle.btrace.specs.PlacesTold.{PlacesTold, TellsPlaceOf}
+use Rattle.std.specs.Prelude.{IfSome}
+use Rattle.bendless.specs.declared.search.Repeat.{Repeat}
+use Rattle.btrace.specs.PlacesTold.{PlacesTold, RunsForEver, TellsPlaceOf}
 use Rattle.btrace.specs.RowTexts.{legend_in}
 use Rattle.btrace.proofs.TraceExcluded.{Stops, limit_is, line_in, stops_so}
 
@@ -61,33 +63,61 @@ trap_is outcome.Device e = cc
 trap_is outcome.Memory e = cc
 
 module _ (edition : Edition) (source : List ℕ) (files : Files) (ds : List Definition) (n : ℕ) (ends : RunEnds) (text : List ℕ) where
-  at_limit : (call : Active) → ((input : List ℕ) → RunsCall (machine ds input n) call) → Stops files edition source ds n text 131 → TellsPlaceOf edition source files ds n ends text (line_in files outcome.Limit) outcome.Limit call n
+  at_limit : (call : Active) → ((input : List ℕ) → RunsCall (machine ds input n) call) → Stops files edition source ds n ends text 131 → (again : Option Repeat) × TellsPlaceOf edition source files ds n ends text (line_in files outcome.Limit) outcome.Limit call n again
   at_limit call runs s =
       let limit = limit_is files s.result s.located in
       let e = subst (λ x. EndsAt (machine ds s.input) n x s.active s.made) limit s.stops in
       let same = one_call (machine ds s.input n) s.active call e.0 (runs s.input) in (
-        s.lines,
-        s.lined,
-        s.text_is ∙ (λ i. line_in files (limit i) ++ told_site (legend_in ds s.lines files) source (limit i) (same i) (e.1 i)),
+        s.again,
+        (
+          s.lines,
+          s.lined,
+          s.text_is ∙ (λ i. line_in files (limit i) ++ told_site (legend_in ds s.lines files) source (limit i) (same i) (e.1 i) s.again),
+        ),
       )
 
+  endless_told : Stops files edition source ds n ends text 131 → (call : Active) × (again : Option Repeat) × TellsPlaceOf edition source files ds n ends text (line_in files outcome.Limit) outcome.Limit call n again × IfSome again (λ r. RunsForEver (machine ds) ends.input ends.input_after)
+  endless_told s =
+      let limit = limit_is files s.result s.located in
+      let e = subst (λ x. EndsAt (machine ds s.input) n x s.active s.made) limit s.stops in (
+        s.active,
+        s.again,
+        (
+          s.lines,
+          s.lined,
+          s.text_is ∙ (λ i. line_in files (limit i) ++ told_site (legend_in ds s.lines files) source (limit i) s.active (e.1 i) s.again),
+        ),
+        s.endless,
+      )
+
+  -- a run with a trap doesn't run for ever
+  none_again : (again : Option Repeat) (last : ℕ) (kind : Trap) → ((input : List ℕ) → state_outcome (machine ds input last) ≡ outcome.Trap kind) → IfSome again (λ r. RunsForEver (machine ds) ends.input ends.input_after) → again ≡ None
+  none_again None last kind over endless = refl
+  none_again (Some r) last kind over endless =
+      let runs = endless.runs [] (λ e. refl) last in
+      let bad : outcome.Limit ≡ outcome.Trap kind = sym runs ∙ over (endless.taken ++ []) in
+      cc
+
   at_trap : (call : Active) (last : ℕ) (kind : Trap) → ((input : List ℕ) → RunsCall (machine ds input last) call) → ((input : List ℕ) → state_outcome (machine ds input (last + 1)) ≡ outcome.Trap kind)
-      → Stops files edition source ds n text 130 → TellsPlaceOf edition source files ds n ends text (line_in files (outcome.Trap kind)) (outcome.Trap kind) call (last + 1)
+      → Stops files edition source ds n ends text 130 → TellsPlaceOf edition source files ds n ends text (line_in files (outcome.Trap kind)) (outcome.Trap kind) call (last + 1) None
   at_trap call last kind runs over s =
       let t = trap_is s.result s.located in
       let e = subst (λ x. EndsAt (machine ds s.input) n x s.active s.made) t.1 s.stops in
       let here : e.0 ≡ last = one_trap ds s.input e.0 last s.active call t.0 kind e.2 (runs s.input) e.3 (over s.input) in
       let same = one_call (machine ds s.input last) s.active call (subst (λ m. RunsCall (machine ds s.input m) s.active) here e.2) (runs s.input) in
       let result : s.result ≡ outcome.Trap kind = t.1 ∙ sym (subst (λ m. state_outcome (machine ds s.input (m + 1)) ≡ outcome.Trap t.0) here e.3) ∙ over s.input in
-      let made : s.made ≡ last + 1 = e.4 ∙ ap (λ m. m + 1) here in (
+      let made : s.made ≡ last + 1 = e.4 ∙ ap (λ m. m + 1) here in
+      let none = none_again s.again (last + 1) kind over s.endless in (
         s.lines,
         s.lined,
-        s.text_is ∙ (λ i. line_in files (result i) ++ told_site (legend_in ds s.lines files) source (result i) (same i) (made i)),
+        s.text_is ∙ (λ i. line_in files (result i) ++ told_site (legend_in ds s.lines files) source (result i) (same i) (made i) (none i)),
       )
 
 pub places_told : PlacesTold
 places_told edition source files ds n ends text = record {
   at_limit = λ call runs h. at_limit edition source files ds n ends text call runs
+      (stops_so files edition source ds h.compiles n ends LIMIT (omega arith) h.begins text h.before h.after h.some h.locates);
+  never_ends = λ h. endless_told edition source files ds n ends text
       (stops_so files edition source ds h.compiles n ends LIMIT (omega arith) h.begins text h.before h.after h.some h.locates);
   at_trap = λ call last kind within runs over h. at_trap edition source files ds n ends text call last kind runs over
       (stops_so files edition source ds h.compiles n ends TRAP (omega arith) h.begins text h.before h.after h.some h.locates);

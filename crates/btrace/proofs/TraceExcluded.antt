@@ -17,7 +17,12 @@ use Rattle.blang.specs.declared.status.TheConstants.{DONE, LIMIT, MEMORY, TRAP, 
 use Rattle.blang.specs.Compiles as compiled
 use Rattle.blang.specs.Compiles.{code_text}
 use Rattle.blang.specs.declared.token.Diagnostic.{Diagnostic}
-use Rattle.blang.specs.Machine.{Image, image_of, machine, run}
+use Rattle.blang.specs.Machine.{Halted, Image, Running, State, Stuck, image_of, machine, run}
+use Rattle.std.specs.Prelude.{IfSome}
+use Rattle.bendless.specs.Endless.{IsRunning}
+use Rattle.bendless.specs.Repeats.{ComesBack}
+use Rattle.bendless.specs.declared.search.Repeat.{Repeat}
+use Rattle.bendless.proofs.Again.{never_ends}
 use Rattle.blang.specs.Reports.{Finishes, Reported, RunEnds, RunGives, report_text, state_outcome}
 use Rattle.blang.specs.Text.{IsCodeText}
 use Rattle.bcode.proofs.FaultLaws.{unique_code}
@@ -37,6 +42,7 @@ use Rattle.btools.proofs.ProgramsExcluded as programs
 use Rattle.btrace.specs.TraceExcluded.{ComesAlways, IsCodeIn, IsSourceOf, LocatesExcluded, TracesExcluded, status_of}
 use Rattle.btrace.specs.Locates as locates
 use Rattle.btrace.specs.Locates.{Locates, TellsSite, told_site}
+use Rattle.btrace.specs.PlacesTold.{RunsForEver}
 use Rattle.btrace.specs.RowTexts.{Legend, legend_in}
 use Rattle.btrace.specs.Traces as traces
 use Rattle.btrace.specs.Traces.{Traces, ending_text, rows_text}
@@ -45,6 +51,26 @@ use Rattle.bwatch.specs.declared.trail.TraceRows.{TraceRows}
 use Rattle.bwatch.specs.Sights.{sights_of}
 use Rattle.bwatch.proofs.Origins.{loaded_in}
 use Rattle.btrace.proofs.Unasked.{by_code, by_place, by_trace}
+
+running_on : (s : State) → IsRunning s → state_outcome s ≡ outcome.Limit
+running_on (Running call below w) runs = refl
+running_on (Halted e w) runs = absurd runs
+running_on (Stuck w) runs = absurd runs
+
+-- a machine of which a state comes again runs for ever, and so does the one that was loaded so
+module _ (ds : List Definition) (image : Image) (loaded : IsLoadedFrom ds image) (i j : Incoming) where
+  endless_one : (r : Repeat) → ComesBack (run image) i j r → RunsForEver (machine ds) i j
+  endless_one r c = record {
+    taken = c.taken;
+    took = c.took;
+    runs = λ more can n.
+        (shows_loaded ds image loaded (c.taken ++ more) n).0
+        ∙ running_on (run image (c.taken ++ more) n) (never_ends image (c.taken ++ more) r.first r.again (c.repeats more can).0 n);
+  }
+
+  endless_so : (again : Option Repeat) → IfSome again (ComesBack (run image) i j) → IfSome again (λ r. RunsForEver (machine ds) i j)
+  endless_so None comes = tt
+  endless_so (Some r) comes = endless_one r comes
 
 module _ (files : Files) where
   some_same : {A : Type 0} (a b : A) → Some a ≡ Some b → a ≡ b
@@ -208,7 +234,7 @@ module _ (files : Files) where
   line_in result = []
 
   -- a run that is told with its place: the line of its outcome, and where the machine was
-  pub record Stops (edition : Edition) (source : List ℕ) (ds : List Definition) (steps : ℕ) (text : List ℕ) (status : ℕ) : Type 0 where
+  pub record Stops (edition : Edition) (source : List ℕ) (ds : List Definition) (steps : ℕ) (ends : RunEnds) (text : List ℕ) (status : ℕ) : Type 0 where
     pub result : Outcome
     pub located : located_status result ≡ Some status
     pub active : Active
@@ -217,7 +243,9 @@ module _ (files : Files) where
     pub stops : EndsAt (machine ds input) steps result active made
     pub lines : List ℕ
     pub lined : HasLines edition source lines
-    pub text_is : text ≡ line_in result ++ told_site (legend_in ds lines files) source result active made
+    pub again : Option Repeat
+    pub endless : IfSome again (λ r. RunsForEver (machine ds) ends.input ends.input_after)
+    pub text_is : text ≡ line_in result ++ told_site (legend_in ds lines files) source result active made again
 
   line_told : (result : Outcome) (answer : ℕ) (mid following : Outgoing) → located_status result ≡ Some answer → Finishes result mid following answer → Writes mid (line_in result) following
   line_told (outcome.Exit n) answer mid following e f = cc
@@ -226,9 +254,9 @@ module _ (files : Files) where
   line_told outcome.Device answer mid following e f = cc
   line_told outcome.Memory answer mid following e f = cc
 
-  site_told : (legend : Legend) (source : List ℕ) (result : Outcome) (call : Active) (number answer : ℕ) (old new : Outgoing) (status : ℕ) → status < 132 → TellsSite legend source result call number answer old new status → Writes old (told_site legend source result call number) new × (status ≡ answer)
-  site_told legend source result call number answer old new status less (inl t) = told _ answer old new status (omega arith) t
-  site_told legend source result call number answer old new status less (inr t) = let bad : status ≡ 134 = t.1 in absurd (omega arith)
+  site_told : (legend : Legend) (source : List ℕ) (result : Outcome) (call : Active) (number : ℕ) (again : Option Repeat) (answer : ℕ) (old new : Outgoing) (status : ℕ) → status < 132 → TellsSite legend source result call number again answer old new status → Writes old (told_site legend source result call number again) new × (status ≡ answer)
+  site_told legend source result call number again answer old new status less (inl t) = told _ answer old new status (omega arith) t
+  site_told legend source result call number again answer old new status less (inr t) = let bad : status ≡ 134 = t.1 in absurd (omega arith)
 
   -- a run without a place that wrote something
   not_alone : (result : Outcome) (mid following : Outgoing) (status : ℕ) (text : List ℕ) → status < 132 → Finishes result mid following status → (located_status result ≡ Some status → ⊥) → mid.written ≡ Some [] → following.written ≡ Some text → (text ≡ [] → ⊥) → ⊥
@@ -244,12 +272,12 @@ module _ (files : Files) where
         begins ds image result ends.line ends.line_after status less starts (subst (λ x. IsLoadedFrom x image) (only edition source ds is other image program) program.loaded) never f
 
     -- the place is told
-    pub stops_so : (text : List ℕ) → ends.line.written ≡ Some [] → ends.line_after.written ≡ Some text → (text ≡ [] → ⊥) → Locates edition source files steps ends status → Stops edition source ds steps text status
-    stops_so text before following some (locates.located out other image lines result answer active made program lined gives f located stops tells) =
+    pub stops_so : (text : List ℕ) → ends.line.written ≡ Some [] → ends.line_after.written ≡ Some text → (text ≡ [] → ⊥) → Locates edition source files steps ends status → Stops edition source ds steps ends text status
+    stops_so text before following some (locates.located out other image lines result answer active made again program lined gives f located stops comes tells) =
         let same = only edition source ds is other image program in
-        let site = site_told (legend_in other lines files) source result active made answer out ends.line_after status less tells in
+        let site = site_told (legend_in other lines files) source result active made again answer out ends.line_after status less tells in
         let whole = Writes-append (line_told result answer ends.line out located f) site.0 in
-        let here : Stops edition source other steps text status = record {
+        let here : Stops edition source other steps ends text status = record {
           result = result;
           located = located ∙ ap Some (sym site.1);
           active = active;
@@ -258,9 +286,11 @@ module _ (files : Files) where
           stops = stops.ends [] (λ e. refl);
           lines = lines;
           lined = lined;
+          again = again;
+          endless = endless_so other image program.loaded ends.input ends.input_after again comes;
           text_is = wrote ends.line ends.line_after [] _ text before following whole;
         } in
-        subst (λ x. Stops edition source x steps text status) same here
+        subst (λ x. Stops edition source x steps ends text status) same here
     stops_so text before following some (locates.unlocated other image result program gives f unplaced) =
         absurd (not_alone result ends.line ends.line_after status text less f unplaced before following some)
     stops_so text before following some (locates.not_begun other image result program never f quiet) = absurd (never_begun other image result program never f)
@@ -268,9 +298,9 @@ module _ (files : Files) where
 
     -- the status is that of the machine's outcome
     came_to : (result : Outcome) → ComesAlways ds steps result → Locates edition source files steps ends status → status ≡ status_of result
-    came_to result comes (locates.located out other image lines r answer active made program lined gives f located stops tells) =
+    came_to result comes (locates.located out other image lines r answer active made again program lined gives f located stops back tells) =
         let same = only edition source ds is other image program in
-        let site = site_told (legend_in other lines files) source r active made answer out ends.line_after status less tells in
+        let site = site_told (legend_in other lines files) source r active made again answer out ends.line_after status less tells in
         let c = came other steps ends.input ends.input_after ends.out ends.out_after ends.line out answer (omega (arith, site.1)) r gives f in
         let at_end = subst (λ x. state_outcome (machine x c.1.0 steps) ≡ r) same c.1.1 in
         site.1 ∙ c.0 ∙ ap status_of (sym at_end ∙ comes c.1.0)
@@ -303,16 +333,16 @@ module _ (files : Files) where
   trap_ends trap.BadBase text = refl
   trap_ends trap.Stuck text = refl
 
-  trap_alone : (result : Outcome) (kind : Trap) (legend : Legend) (source : List ℕ) (call : Active) (number : ℕ) → located_status result ≡ Some 130 → report_text (report.Trap kind) ≡ line_in result ++ told_site legend source result call number → ⊥
-  trap_alone (outcome.Exit n) kind legend source call number e is = cc
-  trap_alone (outcome.Trap other) kind legend source call number e is =
+  trap_alone : (result : Outcome) (kind : Trap) (legend : Legend) (source : List ℕ) (call : Active) (number : ℕ) (again : Option Repeat) → located_status result ≡ Some 130 → report_text (report.Trap kind) ≡ line_in result ++ told_site legend source result call number again → ⊥
+  trap_alone (outcome.Exit n) kind legend source call number again e is = cc
+  trap_alone (outcome.Trap other) kind legend source call number again e is =
       let nothing_more : at 8 (report_text (report.Trap kind)) ≡ 0 = ap (at 8) (sym (append-nil (report_text (report.Trap kind)))) ∙ trap_ends kind [] in
-      let more : at 8 (report_text (report.Trap other) ++ told_site legend source (outcome.Trap other) call number) ≡ 97 = trap_ends other (told_site legend source (outcome.Trap other) call number) in
+      let more : at 8 (report_text (report.Trap other) ++ told_site legend source (outcome.Trap other) call number again) ≡ 97 = trap_ends other (told_site legend source (outcome.Trap other) call number again) in
       let bad : 0 ≡ 97 = sym nothing_more ∙ ap (at 8) is ∙ more in
       omega (arith, bad)
-  trap_alone outcome.Limit kind legend source call number e is = let bad : 131 ≡ 130 = some_same 131 130 e in omega (arith, bad)
-  trap_alone outcome.Device kind legend source call number e is = cc
-  trap_alone outcome.Memory kind legend source call number e is = cc
+  trap_alone outcome.Limit kind legend source call number again e is = let bad : 131 ≡ 130 = some_same 131 130 e in omega (arith, bad)
+  trap_alone outcome.Device kind legend source call number again e is = cc
+  trap_alone outcome.Memory kind legend source call number again e is = cc
 
   located_read : (ds : List Definition) (steps : ℕ) (i j : Incoming) (o p : Outgoing) (result : Outcome) (answer : ℕ) → located_status result ≡ Some answer → RunGives (machine ds) steps i j o p result → j.failures ≡ i.failures
   located_read ds steps i j o p (outcome.Exit n) answer e h = cc
@@ -322,7 +352,7 @@ module _ (files : Files) where
   located_read ds steps i j o p outcome.Memory answer e h = cc
 
   place_read : (edition : Edition) (source : List ℕ) (steps : ℕ) (ends : RunEnds) → (ends.input_after.failures ≡ ends.input.failures → ⊥) → Locates edition source files steps ends MEMORY → ⊥
-  place_read edition source steps ends failed (locates.located out ds image lines result answer active made program lined gives f located stops tells) =
+  place_read edition source steps ends failed (locates.located out ds image lines result answer active made again program lined gives f located stops comes tells) =
       failed (located_read ds steps ends.input ends.input_after ends.out ends.out_after result answer located gives)
   place_read edition source steps ends failed (locates.unlocated ds image result program gives f unplaced) =
       read_whole ds steps ends.input ends.input_after ends.out ends.out_after ends.line ends.line_after result failed gives f
@@ -333,12 +363,12 @@ module _ (files : Files) where
   places_excluded = record {
     limit_alone = λ ds steps starts edition source ends is before following h.
         let s = stops_so edition source ds is steps ends LIMIT (omega arith) starts (codes "limit\n") before following (λ e. cc) h in
-        let limit = s.text_is ∙ ap (λ x. line_in x ++ told_site (legend_in ds s.lines files) source x s.active s.made) (limit_is s.result s.located) in
+        let limit = s.text_is ∙ ap (λ x. line_in x ++ told_site (legend_in ds s.lines files) source x s.active s.made s.again) (limit_is s.result s.located) in
         let bad : 0 ≡ 97 = ap (at 6) limit in
         omega (arith, bad);
     trap_alone = λ ds steps kind starts edition source ends is before following h.
         let s = stops_so edition source ds is steps ends TRAP (omega arith) starts (report_text (report.Trap kind)) before following (λ e. cc) h in
-        trap_alone s.result kind (legend_in ds s.lines files) source s.active s.made s.located s.text_is;
+        trap_alone s.result kind (legend_in ds s.lines files) source s.active s.made s.again s.located s.text_is;
     other_status = λ ds steps result status starts comes wrong less edition source ends is h.
         wrong (came_to edition source ds is steps ends status less starts result comes h);
     read_failed = λ edition source steps ends failed h. place_read edition source steps ends failed h;

@@ -34,7 +34,7 @@ module _ (edition : Edition) (source : List ℕ) (r : Compilation) (g : Compiles
       program_left edition source r g steps ends.input ends.input_after ds image has (left_by (machine ds) steps ends.input ends.input_after read)
 
   pub by_place : Locates edition source files steps ends status → LeftBySteps (machine (code_in edition source r g)) steps ends.input ends.input_after
-  by_place (locates.located told ds image lines result answer active made has lined gives finishes at over tells) =
+  by_place (locates.located told ds image lines result answer active made again has lined gives finishes at over comes tells) =
       program_left edition source r g steps ends.input ends.input_after ds image has
       (run_left (machine ds) steps ends.input ends.input_after ends.out ends.out_after result gives)
   by_place (locates.unlocated ds image result has gives finishes unplaced) =

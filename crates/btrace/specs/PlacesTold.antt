@@ -1,5 +1,7 @@
 -- Promise: which place is told where a run was over, for each program.
-use Rattle.std.specs.Prelude.{◌≡◌, ℕ, ◌+◌, ◌<◌, List, [], ◌++◌, Some}
+use Rattle.std.specs.Prelude.{◌≡◌, ℕ, ◌+◌, ◌<◌, List, [], ◌++◌, Option, Some, None, IfSome}
+use Rattle.bword.specs.ByteEnds.{CanFollow, Incoming, Took}
+use Rattle.bendless.specs.declared.search.Repeat.{Repeat}
 use Rattle.bword.specs.declared.edition.Edition.{Edition}
 use Rattle.blang.specs.declared.code.Definition.{Definition}
 use Rattle.blang.specs.declared.run.Outcome.{Outcome}
@@ -7,7 +9,7 @@ use Rattle.blang.specs.declared.run.Outcome.TheVariants as outcome
 use Rattle.blang.specs.declared.run.Report.TheVariants as report
 use Rattle.blang.specs.declared.run.Trap.{Trap}
 use Rattle.blang.specs.declared.status.TheConstants.{LIMIT, TRAP}
-use Rattle.blang.specs.Machine.{machine}
+use Rattle.blang.specs.Machine.{States, machine}
 use Rattle.blang.specs.Reports.{RunEnds, report_text, state_outcome}
 use Rattle.bmach.specs.Stops.{RunsCall}
 use Rattle.bmach.specs.declared.machine.Active.{Active}
@@ -16,6 +18,13 @@ use Rattle.btools.specs.ProgramLines.{HasLines}
 use Rattle.btrace.specs.Locates.{Locates, told_site}
 use Rattle.btrace.specs.RowTexts.{legend_in}
 use Rattle.btrace.specs.TraceExcluded.{ComesAlways, IsSourceOf}
+
+-- It runs after every number of steps, on each input that begins with the bytes that were taken, or on the one whose end
+-- was seen.
+pub record RunsForEver (states : States) (i j : Incoming) : Type 0 where
+  pub taken : List ℕ
+  pub took : Took i taken j
+  pub runs : (more : List ℕ) → CanFollow j more → (n : ℕ) → state_outcome (states (taken ++ more) n) ≡ outcome.Limit
 
 module _ (edition : Edition) (source : List ℕ) (files : Files) (ds : List Definition) (steps : ℕ) (ends : RunEnds)
     (text : List ℕ) where
@@ -29,19 +38,25 @@ module _ (edition : Edition) (source : List ℕ) (files : Files) (ds : List Defi
     pub locates : Locates edition source files steps ends status
 
   -- It is this line, and then the place of this call, with the line of the source, after so many steps.
-  abbrev pub TellsPlaceOf : (line : List ℕ) → Outcome → Active → (number : ℕ) → Type 0
-  TellsPlaceOf line result call number =
+  abbrev pub TellsPlaceOf : (line : List ℕ) → Outcome → Active → (number : ℕ) → Option Repeat → Type 0
+  TellsPlaceOf line result call number again =
       (lines : List ℕ) × HasLines edition source lines
-      × (text ≡ line ++ told_site (legend_in ds lines files) source result call number)
+      × (text ≡ line ++ told_site (legend_in ds lines files) source result call number again)
 
-  -- At the limit the call that runs after all steps is told, and after a trap the one that ran before its step.
+  -- At the limit the call that runs after all steps is told, and after a trap the one that ran before its step. Where it is
+  -- told that a state comes again, the machine has not halted after any number of steps.
   pub record PlaceIsTold : Type 0 where
     pub at_limit : (call : Active) → ((input : List ℕ) → RunsCall (machine ds input steps) call)
-        → IsLocated LIMIT → TellsPlaceOf (report_text report.Limit) outcome.Limit call steps
+        → IsLocated LIMIT
+        → (again : Option Repeat) × TellsPlaceOf (report_text report.Limit) outcome.Limit call steps again
+    pub never_ends : IsLocated LIMIT
+        → (call : Active) × (again : Option Repeat)
+        × TellsPlaceOf (report_text report.Limit) outcome.Limit call steps again
+        × IfSome again (λ r. RunsForEver (machine ds) ends.input ends.input_after)
     pub at_trap : (call : Active) (last : ℕ) (kind : Trap) → last < steps
         → ((input : List ℕ) → RunsCall (machine ds input last) call)
         → ((input : List ℕ) → state_outcome (machine ds input (last + 1)) ≡ outcome.Trap kind)
-        → IsLocated TRAP → TellsPlaceOf (report_text (report.Trap kind)) (outcome.Trap kind) call (last + 1)
+        → IsLocated TRAP → TellsPlaceOf (report_text (report.Trap kind)) (outcome.Trap kind) call (last + 1) None
 
 -- for each source, each program and each run
 abbrev pub PlacesTold : Type 0

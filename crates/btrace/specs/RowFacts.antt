@@ -248,14 +248,23 @@ unfolding digits
 site_with_most_steps = refl
 
 -- after the place the line of the source, and what the outcome means
-told_trap : told_site (lined 2) (codes "main()\n  f(1 / 0); \n") (outcome.Trap trap.ZeroDivisor) (a_place 3) 7
+told_trap : told_site (lined 2) (codes "main()\n  f(1 / 0); \n") (outcome.Trap trap.ZeroDivisor) (a_place 3) 7 None
     ≡ codes "at     in          place    3  line    2  step 7\n      f(1 / 0);\n  means: a division by 0\n"
 unfolding digits
 told_trap = refl
 
-told_limit : explanation (codes "main() f();") outcome.Limit 1
+told_limit : explanation (codes "main() f();") outcome.Limit None 1
     ≡ codes "    main() f();\n  means: no end within so many steps; --steps N or --no-limit gives more\n"
 told_limit = refl
+
+-- where a state comes again: after how many steps, and the place of its call, in its own file
+told_repeat : told_site (lined 7) (codes "1\n2\n3\n4\n5\n6\nwhile(1) ;\n") outcome.Limit (a_place 3) 100
+    (Some (record { first = 9; again = 11; call = a_place 2 }))
+    ≡ codes "at     in          place    3  line    5 of l.b  step 100\n    while(1) ;\n"
+    ++ codes "  means: it never ends: after 11 steps all is as it was after 9\n"
+    ++ codes "loop   in          place    2  line    5 of l.b\n    while(1) ;\n"
+unfolding digits
+told_repeat = refl
 
 -- what each trap and the limit means; an end, a failure and want of memory have no place
 meanings_told : map meaning

@@ -1,17 +1,21 @@
 //! Telling where a run was over.
-ghost use Rattle.std.specs.Prelude.{◌≡◌, IfOk};
+ghost use Rattle.std.specs.Prelude.{◌≡◌, ◌≤◌, ◌++◌, List, ℕ, IfOk, IfSome, OnOk, length};
+ghost use Rattle.blang.specs.Machine.{run};
+ghost use Rattle.bendless.specs.Repeats.{Repeats};
 ghost use Rattle.blang.specs.Reports.{run_ends};
 ghost use Rattle.btrace.specs.TraceExcluded.{LocatesExcluded};
 ghost use Rattle.bsources.specs.Files.{Files, files_shown};
 ghost use Rattle.btrace.specs.PlacesTold.{PlacesTold};
 ghost use Rattle.btrace.specs.RowTexts.{legend_of};
-ghost use Rattle.btrace.specs.Locates.{Locates, TellsSite, meaning, told_site};
+ghost use Rattle.btrace.specs.Locates.{Locates, TellsSite, loop_site, loop_text, meaning, meaning_text};
+ghost use Rattle.btrace.specs.Locates.{repeat_text, told_site};
 
 use crate::legend::Legend;
 use crate::places::{line_of, push_site};
+use bendless::{Repeat, find_repeat};
 use blang::status::{self, Status};
 use blang::{Outcome, Trap};
-use bmach::{Stepper, Stop};
+use bmach::{Active, Image, Stepper, Stop};
 use bpages::PagedStore;
 use brun::finish;
 use bsources::SourceFiles;
@@ -67,8 +71,25 @@ pub fn locate<I: ByteIn, O: ByteOut, D: ByteOut>(
     };
     let told = finish(stop.outcome, diag);
     match located_status(stop.outcome) {
-        Some(status) if status == told => tell_site(alloc, &legend, source, stop, told, diag),
+        Some(status) if status == told => match repeat_of(alloc, image, stop.outcome) {
+            Ok(again) => tell_site(alloc, &legend, source, stop, again, told, diag),
+            Err(_) => status::MEMORY,
+        },
         _ => told,
+    }
+}
+
+// The state that comes again in a run which came to its limit, if one is found before the program reads.
+fn repeat_of(alloc: Global, image: &Image, outcome: Outcome) -> Result<Option<Repeat>, AllocError>
+    requires { length image.now.words ≤ 65536 }
+    ensures { IfOk result (λ again. IfSome again (λ r. (input : List ℕ) → Repeats (run image.now input) r)) }
+{
+    match outcome {
+        Outcome::Limit => match PagedStore::new(alloc) {
+            Ok(store) => find_repeat(alloc, image, store, &[], false),
+            Err(_) => Err(AllocError),
+        },
+        Outcome::Exit(_) | Outcome::Trap(_) | Outcome::Device | Outcome::Memory => Ok(None),
     }
 }
 
@@ -95,14 +116,15 @@ fn tell_site<D: ByteOut>(
     legend: &Legend<'_, '_, '_>,
     source: &[u8],
     stop: Stop,
+    again: Option<Repeat>,
     status: Status,
     diag: &mut D,
 ) -> Status
     ensures tells { TellsSite (legend_of legend.now) source.now stop.outcome stop.call stop.steps
-        status (D.outgoing diag.old) (D.outgoing diag.new) result }
+        again status (D.outgoing diag.old) (D.outgoing diag.new) result }
     ensures same { D.lender diag.new ≡ D.lender diag.old }
 {
-    match told_site(alloc, legend, source, stop) {
+    match told_site(alloc, legend, source, stop, again) {
         Ok(text) => tell(text.as_slice(), status, diag),
         Err(_) => status::MEMORY,
     }
@@ -113,8 +135,10 @@ fn told_site(
     legend: &Legend<'_, '_, '_>,
     source: &[u8],
     stop: Stop,
+    again: Option<Repeat>,
 ) -> Result<Text, AllocError>
-    ensures { IfOk result (λ text. text ≡ told_site (legend_of legend.now) source.now stop.outcome stop.call stop.steps) }
+    ensures { IfOk result (λ text. text
+        ≡ told_site (legend_of legend.now) source.now stop.outcome stop.call stop.steps again) }
 {
     let mut text = Text::new(alloc);
     text.push(b"at     ")?;
@@ -124,9 +148,57 @@ fn told_site(
     text.push(b"\n    ")?;
     push_source_line(&mut text, line_at(source, line_of(legend, stop.call)))?;
     text.push(b"\n  means: ")?;
-    text.push(meaning(stop.outcome).as_bytes())?;
+    push_meaning(&mut text, stop.outcome, again)?;
     text.push(b"\n")?;
+    push_loop(&mut text, legend, source, again)?;
     Ok(text)
+}
+
+fn push_meaning(text: &mut Text, outcome: Outcome, again: Option<Repeat>) -> Result<(), AllocError>
+    ensures { OnOk result (text.new ≡ text.old ++ meaning_text outcome again) }
+{
+    match again {
+        None => text.push(meaning(outcome).as_bytes()),
+        Some(repeat) => push_repeat(text, repeat),
+    }
+}
+
+fn push_repeat(text: &mut Text, repeat: Repeat) -> Result<(), AllocError>
+    ensures { OnOk result (text.new ≡ text.old ++ repeat_text repeat) }
+{
+    text.push(b"it never ends: after ")?;
+    text.push_number(repeat.again)?;
+    text.push(b" steps all is as it was after ")?;
+    text.push_number(repeat.first)
+}
+
+fn push_loop(
+    text: &mut Text,
+    legend: &Legend<'_, '_, '_>,
+    source: &[u8],
+    again: Option<Repeat>,
+) -> Result<(), AllocError>
+    ensures { OnOk result (text.new ≡ text.old ++ loop_text (legend_of legend.now) source.now again) }
+{
+    match again {
+        None => Ok(()),
+        Some(repeat) => push_loop_site(text, legend, source, repeat.call),
+    }
+}
+
+fn push_loop_site(
+    text: &mut Text,
+    legend: &Legend<'_, '_, '_>,
+    source: &[u8],
+    call: Active,
+) -> Result<(), AllocError>
+    ensures { OnOk result (text.new ≡ text.old ++ loop_site (legend_of legend.now) source.now call) }
+{
+    text.push(b"loop   ")?;
+    push_site(text, legend, call)?;
+    text.push(b"\n    ")?;
+    push_source_line(text, line_at(source, line_of(legend, call)))?;
+    text.push(b"\n")
 }
 
 /// No run is answered by its trap or its limit without the place, or by the status of other steps.

@@ -1,4 +1,4 @@
-use Rattle.std.proofs.Common.{◌∙◌, Some, ap, refl, sym}
+use Rattle.std.proofs.Common.{◌∙◌, None, Some, ap, inr, refl, sym}
 use Rattle.bsources.specs.Files.{files_shown}
 use Rattle.btools.specs.Functions.{entries_of}
 use Rattle.btools.specs.ProgramLines.{lines_shown}
@@ -7,7 +7,8 @@ use Rattle.btools.specs.declared.program.ProgramFault.TheVariants.{Memory}
 use Rattle.btools.specs.Origins.{Source}
 use Rattle.btools.proofs.Functions.{data_fit}
 use Rattle.btools.proofs.Stopped.{no_other, not_none}
-use Rattle.btrace.proofs.Located.{located_whole, unlocated_whole}
+use Rattle.blang.specs.Machine.{run}
+use Rattle.btrace.proofs.Located.{comes_back, located_whole, store_fits, unlocated_whole}
 use Rattle.btrace.proofs.locating.locate.Goals as goal
 use Rattle.btrace.proofs.locating.locate.Goals.{in_default-located_status-2, in_default-located_status}
 
@@ -42,11 +43,29 @@ returns-clause-locates g c =
           (not_none _ _ (sym c.located_status.ensures ∙ w.in_default-located_status.is)))
     ]
 
+pub repeat_of-requires : goal.repeat_of-requires
+repeat_of-requires g c = store_fits c.in-Ok.program.definitions.items c.in-Ok.program.image c.in-Ok.ensures.program.loads c.in-Ok.ensures.program.loaded
+
+pub returns-in-Ok-repeat_of-clause-locates : goal.returns-in-Ok-repeat_of-clause-locates
+returns-in-Ok-repeat_of-clause-locates g c =
+    let files = files_shown c.args.files in
+    let tables = c.in-Ok-new.tables in
+    let ran = c.run-stop in
+    let stop = ran.result in
+    located_whole c.args.edition c.args.source.now files c.args.steps _ c.tell_site.result c.in-Ok.program.definitions.items c.in-Ok.program.image c.in-Ok-begin.stepper stop.outcome
+    (g.D.ByteOut.outgoing c.finish-told.new.diag) (record { functions = entries_of tables; lines = lines_shown tables; files = files }) c.in-Ok.program.names.lines.items c.finish-told.result stop.call stop.steps c.in-Ok-repeat_of.again
+    c.in-Ok.ensures.program c.in-Ok.ensures.lines (λ i. record { functions = c.in-Ok-new.ensures.functions i; lines = c.in-Ok-new.ensures.lines i; files = files }) c.in-Ok-begin.ensures ran.ensures.gives c.finish-told.ensures.gives
+    (sym c.located_status.ensures ∙ c.in-Some.is ∙ ap Some c.if-status-told.true) ran.ensures.stops
+    (comes_back (run c.in-Ok.program.image) (g.I.ByteIn.incoming c.args.input.now) (g.I.ByteIn.incoming ran.new.input) ran.ensures.stops.taken ran.ensures.stops.took c.in-Ok-repeat_of.again c.in-Ok-repeat_of.ensures)
+    c.tell_site.ensures.tells
+
 pub returns-in-Some-clause-locates : goal.returns-in-Some-clause-locates
 returns-in-Some-clause-locates g c =
     let files = files_shown c.args.files in
     let tables = c.in-Ok-new.tables in
-    located_whole c.args.edition c.args.source.now files c.args.steps _ c.tell_site.result c.in-Ok.program.definitions.items c.in-Ok.program.image c.in-Ok-begin.stepper c.run-stop.result.outcome
-    (g.D.ByteOut.outgoing c.finish-told.new.diag) (record { functions = entries_of tables; lines = lines_shown tables; files = files }) c.in-Ok.program.names.lines.items c.finish-told.result c.run-stop.result.call c.run-stop.result.steps
-    c.in-Ok.ensures.program c.in-Ok.ensures.lines (λ i. record { functions = c.in-Ok-new.ensures.functions i; lines = c.in-Ok-new.ensures.lines i; files = files }) c.in-Ok-begin.ensures c.run-stop.ensures.gives c.finish-told.ensures.gives
-    (sym c.located_status.ensures ∙ c.in-Some.is ∙ ap Some c.if-status-told.true) c.run-stop.ensures.stops c.tell_site.ensures.tells
+    let ran = c.run-stop in
+    let stop = ran.result in
+    located_whole c.args.edition c.args.source.now files c.args.steps _ _ c.in-Ok.program.definitions.items c.in-Ok.program.image c.in-Ok-begin.stepper stop.outcome
+    (g.D.ByteOut.outgoing c.finish-told.new.diag) (record { functions = entries_of tables; lines = lines_shown tables; files = files }) c.in-Ok.program.names.lines.items c.finish-told.result stop.call stop.steps None
+    c.in-Ok.ensures.program c.in-Ok.ensures.lines (λ i. record { functions = c.in-Ok-new.ensures.functions i; lines = c.in-Ok-new.ensures.lines i; files = files }) c.in-Ok-begin.ensures ran.ensures.gives c.finish-told.ensures.gives
+    (sym c.located_status.ensures ∙ c.in-Some.is ∙ ap Some c.if-status-told.true) ran.ensures.stops tt (inr (refl, refl))

@@ -1,7 +1,7 @@
-use Rattle.std.proofs.Common.{◌∙◌, ◌++◌, List, ℕ, ap, codes, decimal}
+use Rattle.std.proofs.Common.{◌≡◌, ◌∙◌, ◌++◌, List, ℕ, ap, codes, decimal}
 use Rattle.btools.specs.SourceLines.{line_at, shown_line}
 use Rattle.btools.proofs.AddedTexts.{piece}
-use Rattle.btrace.specs.Locates.{meaning, told_site}
+use Rattle.btrace.specs.Locates.{explanation, loop_text, meaning_text, site_line, told_site}
 use Rattle.btrace.specs.RowTexts.{legend_of, place_line, site_text}
 use Rattle.btrace.proofs.PlaceParts.{told_parts}
 use Rattle.btrace.proofs.locating.told_site.Goals as goal
@@ -15,7 +15,9 @@ returns c =
     let line = place_line legend stop.call in
     let site = site_text legend stop.call in
     let shown = shown_line (line_at source line) in
-    let means = meaning stop.outcome in
+    let again = c.args.again in
+    let means = meaning_text stop.outcome again in
+    let again_at = loop_text legend source again in
     let placed = codes "at     " ++ site in
     let stepped = placed ++ codes "  step " in
     let whole = stepped ++ decimal stop.steps in
@@ -30,7 +32,10 @@ returns c =
     let p5 = piece start c.push_number.new.self t5 whole (codes "\n    ") p4 c.in_ok-push-3.ensures in
     let p6 = piece start t5 c.push_source_line.new.text ended shown p5 (c.in_ok-push_source_line.ensures ∙ ap (λ (l : List ℕ). t5 ++ shown_line l) (c.line_at.ensures ∙ ap (line_at source) c.line_of.ensures)) in
     let p7 = piece start c.push_source_line.new.text t7 with_line (codes "\n  means: ") p6 c.in_ok-push-4.ensures in
-    let p8 = piece start t7 c.push-5.new.self named means p7 (c.in_ok-push-5.ensures ∙ ap (λ (m : List ℕ). t7 ++ m) (c.as_bytes.ensures.value ∙ c.meaning.ensures)) in
-    let p9 = piece start c.push-5.new.self c.push-6.new.self (named ++ means) (codes "\n") p8 c.in_ok-push-6.ensures in
-    p9 ∙ ap (λ (t : List ℕ). start ++ t) (told_parts whole (codes "\n") (codes "    ") shown (codes "\n  means: ") means (codes "\n"))
-    ∙ ap (λ (t : List ℕ). t ++ told_site legend source stop.outcome stop.call stop.steps) c.new-text.ensures
+    let p8 = piece start t7 c.push_meaning.new.text named means p7 c.in_ok-push_meaning.ensures in
+    let p9 = piece start c.push_meaning.new.text c.push-5.new.self (named ++ means) (codes "\n") p8 c.in_ok-push-5.ensures in
+    let before = site_line legend stop.call stop.steps ++ explanation source stop.outcome again line in
+    let p10 : c.push-5.new.self ≡ start ++ before =
+    p9 ∙ ap (λ (t : List ℕ). start ++ t) (told_parts whole (codes "\n") (codes "    ") shown (codes "\n  means: ") means (codes "\n")) in
+    piece start c.push-5.new.self c.push_loop.new.text before again_at p10 c.in_ok-push_loop.ensures
+    ∙ ap (λ (t : List ℕ). t ++ told_site legend source stop.outcome stop.call stop.steps again) c.new-text.ensures

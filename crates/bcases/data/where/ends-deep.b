@@ -1,0 +1,2 @@
+main() printn(sum(300), 10);
+sum(n) return(n ? n + sum(n - 1) : 0);
