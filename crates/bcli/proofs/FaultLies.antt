@@ -53,7 +53,7 @@ module _ (edition : Edition) (text : List ℕ) (d : Diagnostic) (faulty : HasFau
   by_trace files steps shown name ends (traces.no_memory ds image has still same read e) = absurd (no_program ds image has)
 
   by_place : (files : Files) (steps : ℕ) (ends : RunEnds) → Locates edition text files steps ends 1 → Writes ends.line (fault_lines files d) ends.line_after
-  by_place files steps ends (locates.located told ds image lines result answer active made has lined gives finishes at over tells) = absurd (no_program ds image has)
+  by_place files steps ends (locates.located told ds image lines result answer active made again has lined gives finishes at over comes tells) = absurd (no_program ds image has)
   by_place files steps ends (locates.unlocated ds image result has gives finishes none) = absurd (no_program ds image has)
   by_place files steps ends (locates.not_begun ds image result has never finishes quiet) = absurd (no_program ds image has)
   by_place files steps ends (locates.stopped why quiet) = why_told files ends.line ends.line_after why
