@@ -1,0 +1,4 @@
+pub mod Rules
+pub mod Notices
+pub mod Fold
+pub mod NoticeRows

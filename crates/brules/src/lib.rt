@@ -1,0 +1,9 @@
+//! Rules about the expressions of a program that compiles: what is probably a mistake, and at which token.
+#![tactic(auto)]
+
+mod noticing;
+mod parts;
+mod rules;
+
+pub use noticing::notices_of;
+pub use rules::{Notice, Rule};
