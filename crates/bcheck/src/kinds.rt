@@ -37,8 +37,6 @@ pub(crate) enum Like {
     Compares,
     /// `<`, `<=`, `>` and `>=`.
     Relates,
-    /// `&` and `|`.
-    Bits,
     /// `)`, `]`, `,`, `;`, `:` and `}`.
     Closes,
 }
@@ -82,7 +80,6 @@ impl Like {
                 lexeme,
                 Lexeme::Operator(BinOp::Lt | BinOp::Le | BinOp::Gt | BinOp::Ge)
             ),
-            Like::Bits => matches!(lexeme, Lexeme::Operator(BinOp::And | BinOp::Or)),
             Like::Closes => closes(lexeme),
         }
     }

@@ -30,6 +30,7 @@ mod outside;
 mod patterns;
 mod pieces;
 mod places;
+mod ruled;
 mod spans;
 mod syntax;
 mod text;

@@ -5,7 +5,6 @@ use crate::brackets::Brackets;
 use crate::compiled::Extent;
 use crate::conditions::condition;
 use crate::defined::{Defined, What, is_function};
-use crate::effects::statement;
 use crate::ends::{end_compared, loop_end};
 use crate::finding::{Finding, MOST_FINDINGS, Place};
 use crate::flow::Judgement;
@@ -13,6 +12,7 @@ use crate::kinds::{ANY, CLOSE_PAREN, COMMA, Like, OPEN_PAREN, STRING};
 use crate::locals::{Locals, NameRole};
 use crate::near::library_arguments;
 use crate::outside::outside;
+use crate::ruled::Ruled;
 use crate::spans::{Spans, is_joined, lexeme_at, name_at, place_of};
 use crate::warnings::Warning;
 use blang::Keyword;
@@ -144,6 +144,7 @@ fn find_in(
 ) -> Result<(), AllocError> {
     let spans = tokens.spans;
     let mut locals = Locals::new(alloc, spans, function)?;
+    let ruled = Ruled::new(alloc, spans, function)?;
     let mut flow = Judgement::new();
     let mut declares = None;
     let body = tokens
@@ -158,7 +159,7 @@ fn find_in(
         let found = match declares {
             Some(Lexeme::Keyword(Keyword::Auto)) => declared(tokens, &locals, token),
             Some(_) => None,
-            None => found_at(tokens, &locals, token),
+            None => found_at(tokens, &locals, &ruled, token),
         };
         Found::add(found, spans, findings)?;
         if declares.is_none() && flow.step(spans, tokens.brackets, &mut locals, token) {
@@ -217,15 +218,13 @@ enum If {
     Large,
 }
 
-/// The two tokens before, a token and the two after it; what else is so, and what is said, if anything.
+/// The two tokens before, a token and the two after it; what else is so, and what is said.
 #[derive(Clone, Copy)]
-struct Row([Like; 5], If, Option<Warning>);
+struct Row([Like; 5], If, Warning);
 
 const AND: Like = Like::Is(Lexeme::Operator(BinOp::And));
 
 const MUL: Like = Like::Is(Lexeme::Operator(BinOp::Mul));
-
-const NOT: Like = Like::Is(Lexeme::Not);
 
 const EIGHT: Like = Like::Is(Lexeme::Number(8));
 
@@ -241,34 +240,33 @@ const PUTCHAR: Like = Like::Word("putchar");
 
 /// The first row that fits is the one.
 #[rattlefmt::skip]
-const ROWS: [Row; 23] = [
-    Row([ANY, ANY, AND, AND, ANY], If::Joined, Some(Warning::AndAnd)),
-    Row([ANY, Like::Ended, MUL, MUL, ANY], If::Joined, Some(Warning::Power)),
-    Row([ANY, ANY, Like::Is(Lexeme::Assign(Some(BinOp::Sub))), ANY, ANY], If::Joined, Some(Warning::OperatorAssigns)),
-    Row([ANY, ANY, Like::Is(Lexeme::Assign(Some(BinOp::Mul))), ANY, ANY], If::Joined, Some(Warning::OperatorAssigns)),
-    Row([ANY, ANY, Like::Is(Lexeme::Assign(Some(BinOp::And))), ANY, ANY], If::Joined, Some(Warning::OperatorAssigns)),
-    Row([ANY, ANY, Like::Bits, Like::Constant, Like::Compares], If::Always, Some(Warning::BitsCompared)),
-    Row([Like::Relates, Like::Operand, Like::Relates, ANY, ANY], If::Always, Some(Warning::ComparesTwice)),
-    Row([Like::Compares, Like::Operand, Like::Compares, ANY, ANY], If::Always, Some(Warning::ComparesTwice)),
-    Row([NOT, Like::Operand, Like::Compares, NOT, ANY], If::Always, None),
-    Row([NOT, Like::Operand, Like::Compares, ANY, ANY], If::Always, Some(Warning::NotCompared)),
-    Row([NOT, Like::Operand, Like::Relates, ANY, ANY], If::Always, Some(Warning::NotCompared)),
-    Row([ANY, Like::Relates, Like::Constant, ANY, ANY], If::Large, Some(Warning::NegativeNumber)),
-    Row([ANY, ANY, Like::Constant, Like::Relates, ANY], If::Large, Some(Warning::NegativeNumber)),
-    Row([PRINTN, OPEN_PAREN, EIGHT, COMMA, Like::Name], If::Always, Some(Warning::SwappedArguments)),
-    Row([PRINTN, OPEN_PAREN, TEN, COMMA, Like::Name], If::Always, Some(Warning::SwappedArguments)),
-    Row([CHAR, OPEN_PAREN, Like::Constant, COMMA, ANY], If::Always, Some(Warning::SwappedArguments)),
-    Row([LCHAR, OPEN_PAREN, Like::Constant, COMMA, ANY], If::Always, Some(Warning::SwappedArguments)),
-    Row([PRINTN, OPEN_PAREN, STRING, Like::Closes, ANY], If::Always, Some(Warning::StringForNumber)),
-    Row([PUTCHAR, OPEN_PAREN, STRING, CLOSE_PAREN, ANY], If::Short, Some(Warning::StringForCharacter)),
-    Row([PUTCHAR, OPEN_PAREN, STRING, CLOSE_PAREN, ANY], If::Always, Some(Warning::StringPut)),
-    Row([ANY, Like::Compares, STRING, ANY, ANY], If::Short, Some(Warning::StringForCharacter)),
-    Row([ANY, Like::Compares, STRING, ANY, ANY], If::Always, Some(Warning::StringCompared)),
-    Row([ANY, ANY, STRING, Like::Compares, ANY], If::Always, Some(Warning::StringCompared)),
+const ROWS: [Row; 17] = [
+    Row([ANY, ANY, AND, AND, ANY], If::Joined, Warning::AndAnd),
+    Row([ANY, Like::Ended, MUL, MUL, ANY], If::Joined, Warning::Power),
+    Row([ANY, ANY, Like::Is(Lexeme::Assign(Some(BinOp::Sub))), ANY, ANY], If::Joined, Warning::OperatorAssigns),
+    Row([ANY, ANY, Like::Is(Lexeme::Assign(Some(BinOp::Mul))), ANY, ANY], If::Joined, Warning::OperatorAssigns),
+    Row([ANY, ANY, Like::Is(Lexeme::Assign(Some(BinOp::And))), ANY, ANY], If::Joined, Warning::OperatorAssigns),
+    Row([ANY, Like::Relates, Like::Constant, ANY, ANY], If::Large, Warning::NegativeNumber),
+    Row([ANY, ANY, Like::Constant, Like::Relates, ANY], If::Large, Warning::NegativeNumber),
+    Row([PRINTN, OPEN_PAREN, EIGHT, COMMA, Like::Name], If::Always, Warning::SwappedArguments),
+    Row([PRINTN, OPEN_PAREN, TEN, COMMA, Like::Name], If::Always, Warning::SwappedArguments),
+    Row([CHAR, OPEN_PAREN, Like::Constant, COMMA, ANY], If::Always, Warning::SwappedArguments),
+    Row([LCHAR, OPEN_PAREN, Like::Constant, COMMA, ANY], If::Always, Warning::SwappedArguments),
+    Row([PRINTN, OPEN_PAREN, STRING, Like::Closes, ANY], If::Always, Warning::StringForNumber),
+    Row([PUTCHAR, OPEN_PAREN, STRING, CLOSE_PAREN, ANY], If::Short, Warning::StringForCharacter),
+    Row([PUTCHAR, OPEN_PAREN, STRING, CLOSE_PAREN, ANY], If::Always, Warning::StringPut),
+    Row([ANY, Like::Compares, STRING, ANY, ANY], If::Short, Warning::StringForCharacter),
+    Row([ANY, Like::Compares, STRING, ANY, ANY], If::Always, Warning::StringCompared),
+    Row([ANY, ANY, STRING, Like::Compares, ANY], If::Always, Warning::StringCompared),
 ];
 
 // What is found of a token that declares nothing.
-fn found_at(tokens: &DefinitionTokens<'_>, locals: &Locals, token: usize) -> Option<Found> {
+fn found_at(
+    tokens: &DefinitionTokens<'_>,
+    locals: &Locals,
+    ruled: &Ruled,
+    token: usize,
+) -> Option<Found> {
     let (spans, brackets) = (tokens.spans, tokens.brackets);
     if let Some(warning) = by_row(tokens, token) {
         return Found::new(token, warning);
@@ -284,11 +282,9 @@ fn found_at(tokens: &DefinitionTokens<'_>, locals: &Locals, token: usize) -> Opt
         )),
         Lexeme::Keyword(Keyword::If) => condition(spans, brackets, token),
         Lexeme::Keyword(Keyword::Return) => returned(spans, locals, token),
-        Lexeme::String | Lexeme::Character(_) => backslash(tokens, token).or(statement(
-            spans, brackets, token,
-        )),
+        Lexeme::String | Lexeme::Character(_) => backslash(tokens, token).or(ruled.at(token)),
         Lexeme::CloseParen => end_compared(spans, brackets, token),
-        _ => statement(spans, brackets, token),
+        _ => ruled.at(token),
     }
 }
 
@@ -296,7 +292,7 @@ fn by_row(tokens: &DefinitionTokens<'_>, token: usize) -> Option<Warning> {
     let window = window(tokens.spans, token);
     for row in &ROWS {
         if Like::fit(&row.0, &window) && holds(row.1, tokens, token) {
-            return row.2;
+            return Some(row.2);
         }
     }
     None
