@@ -8,7 +8,8 @@ use Rattle.blang.specs.declared.token.Token.TheVariants as token
 use Rattle.blang.specs.Trees.{Address, Another, Assigned, Auto, Binary, Break, Called, Case, Character, Compound}
 use Rattle.blang.specs.Trees.{Conditional, Default, Empty, Evaluate, Expr, Extrn, Function, Goto, Grouped}
 use Rattle.blang.specs.Trees.{Headed, Identifier, If, IfElse, Indexed, Indirection, Ival_constant, Label, Literal, More}
-use Rattle.blang.specs.Trees.{Named, Negate, No_arguments, Not, Nothing, Number, PostDecrement, PostIncrement, Postfixed}
+use Rattle.blang.specs.Trees.{Named, Negate, No_arguments, Not, Nothing, Number, PostDecrement, PostIncrement}
+use Rattle.blang.specs.Trees.{Postfixed}
 use Rattle.blang.specs.Trees.{PreDecrement, PreIncrement, Prefixed, Return, ReturnValue, Simple, Switch, Text}
 use Rattle.blang.specs.Trees.{Vector, While}
 use Rattle.blex.specs.Lexemes.{lexeme_of}
@@ -69,7 +70,8 @@ operators =
     ∷ (op.Le, 4) ∷ (op.Gt, 4) ∷ (op.Ge, 4) ∷ (op.Eq, 5) ∷ (op.Ne, 5) ∷ (op.And, 6) ∷ (op.Or, 7) ∷ []
 
 -- a+a, and so on
-binaries : map (λ p. nodes (Binary p.0 1 x x)) operators ≡ map (λ p. t ∷ n ∷ t ∷ t ∷ n ∷ m (node.Binary p.0) ∷ []) operators
+binaries : map (λ p. nodes (Binary p.0 1 x x)) operators
+    ≡ map (λ p. t ∷ n ∷ t ∷ t ∷ n ∷ m (node.Binary p.0) ∷ []) operators
 binaries = refl
 
 -- a=a   a=+a, and so on   a?a:a
@@ -122,8 +124,9 @@ statements : map statement_nodes (Evaluate x ∷ If x Empty ∷ IfElse x Empty E
 statements = refl
 
 -- auto a 1,a;a;   extrn a;a;   a:a;   case 1:a;   default:a;   {a;;}
-headings : map statement_nodes (Headed (Auto (record { word = a; size = Some 1 } ∷ record { word = a; size = None } ∷ []))
-    (Evaluate x) ∷ Headed (Extrn (a ∷ [])) (Evaluate x) ∷ Headed (Label a) (Evaluate x)
+headings : map statement_nodes
+    (Headed (Auto (record { word = a; size = Some 1 } ∷ record { word = a; size = None } ∷ [])) (Evaluate x)
+    ∷ Headed (Extrn (a ∷ [])) (Evaluate x) ∷ Headed (Label a) (Evaluate x)
     ∷ Headed (Case 1 (Number 1)) (Evaluate x) ∷ Headed (Default 1) (Evaluate x)
     ∷ Compound (More (More Nothing (Evaluate x)) Empty) ∷ [])
     ≡ (t ∷ t ∷ t ∷ t ∷ t ∷ t ∷ t ∷ n ∷ t ∷ v ∷ []) ∷ (t ∷ t ∷ t ∷ t ∷ n ∷ t ∷ v ∷ []) ∷ (t ∷ t ∷ t ∷ n ∷ t ∷ v ∷ [])
