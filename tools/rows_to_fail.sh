@@ -32,6 +32,7 @@ row 'map --svg' "$reading"
 row 'map --steps 9' "$reading" x
 row check "$reading"
 row 'check --json' "$reading"
+row 'names --json' "$reading"
 row trace "$reading" x
 row 'trace --steps 12 --from 8 --function f' "$reading" x
 row list 'main() { printn(n, 10); }'

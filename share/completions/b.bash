@@ -3,12 +3,12 @@ _b() {
     local words=''
     COMPREPLY=()
     if [ "$COMP_CWORD" -eq 1 ]; then
-        words='compile run go migrate list map check trace count show format help --help --version'
+        words='compile run go migrate list map check names trace count show format help --help --version'
         mapfile -t COMPREPLY < <(compgen -W "$words" -- "${COMP_WORDS[COMP_CWORD]}")
         return
     fi
     if [ "${COMP_WORDS[1]}" = help ]; then
-        words='compile run go migrate list map check trace count show format'
+        words='compile run go migrate list map check names trace count show format'
         [ "$COMP_CWORD" -gt 2 ] || mapfile -t COMPREPLY < <(compgen -W "$words" -- "${COMP_WORDS[COMP_CWORD]}")
         return
     fi
@@ -39,6 +39,7 @@ _b() {
     list) words='--edition --with --code --made --lines --help' ;;
     map) words='--edition --with --svg --steps --help' ;;
     check) words='--edition --with --json --help' ;;
+    names) words='--edition --with --json --help' ;;
     trace) words='--edition --with --code --made --lines --steps --from --last --function --help' ;;
     count) words='--edition --with --code --made --lines --steps --no-limit --json --help' ;;
     show) words='--edition --with --steps --from --last --input --help' ;;

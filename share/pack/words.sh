@@ -97,7 +97,7 @@ For more information, try '--help'." 135
 fi
 
 case $b_command in
-compile | go | list | map | check | trace | count | show | format)
+compile | go | list | map | check | names | trace | count | show | format)
     for b_word; do
         b_at=$((b_at + 1))
         b_put="\${$b_at}"
@@ -113,7 +113,7 @@ compile | go | list | map | check | trace | count | show | format)
         "$b_command:--made" | "$b_command:--lines") b_with='file' ;;
         "$b_command:--with="*) b_lib "${b_word#--with=}" "\${$b_at#--with=}" --with= ;;
         format:--write) b_put='' ;;
-        list:- | map:- | check:- | format:-) b_put=/dev/stdin ;;
+        list:- | map:- | check:- | names:- | format:-) b_put=/dev/stdin ;;
         esac
         # A long text is seldom copied, so that many words are quick.
         b_some="$b_some${b_put:+ \"$b_put\"}"

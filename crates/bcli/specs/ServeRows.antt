@@ -17,6 +17,7 @@ use Rattle.bdraw.specs.Draws.{Draws}
 use Rattle.bformat.specs.Formats.{Formats}
 use Rattle.blist.specs.Listings.{Lists}
 use Rattle.blist.specs.Maps.{Maps}
+use Rattle.bnaming.specs.Names.{Names}
 use Rattle.brun.specs.OneRun.{unread}
 use Rattle.brun.specs.Runs.{RunsText}
 use Rattle.bshow.specs.Shows.{Shows}
@@ -27,7 +28,7 @@ use Rattle.bwatch.specs.declared.trail.TraceRows.TheVariants as traced
 use Rattle.bwhere.specs.Wheres.{LocatesCode}
 use Rattle.bcommand.specs.CommandLine.{OriginAsked, Question, SourceAsked, from_code, from_made, from_source}
 use Rattle.bcommand.specs.CommandLine.{ask, check, compile, count, draw, format, go, list, locate, locate_code}
-use Rattle.bcommand.specs.CommandLine.{map as layout, run, show, trace}
+use Rattle.bcommand.specs.CommandLine.{map as layout, run, show, tell_names, trace}
 use Rattle.bcommand.specs.declared.job.Rows.TheVariants as which
 use Rattle.bsources.specs.Files.{Files, NamedText, followed}
 use Rattle.bcli.specs.Shelves.{Holdings}
@@ -86,6 +87,17 @@ module _ (origin : Origin) (edition : Edition) (files : Files) (text : List ℕ)
       })
   checked for_editor a = a
 
+  named : answered tell_names
+      → (ends.input_after ≡ ends.input) × (ends.line_after ≡ ends.line) × Names (record {
+        edition = edition;
+        files = files;
+        source = text;
+        out = ends.out;
+        out_after = ends.out_after;
+        status = status;
+      })
+  named a = a
+
   traced_from : (from : OriginAsked) (steps number : ℕ) (function : Option Text)
       → answered (trace from steps (which.From number) function)
       → Traces origin text steps (traced.From number) files function ends status
@@ -129,8 +141,9 @@ module _ (origin : Origin) (edition : Edition) (files : Files) (text : List ℕ)
 -- what each question asks a program to be read from
 origins_asked : (from : OriginAsked) → map origin_of
     (list from None ∷ trace from 3 (which.Last 2) None ∷ count from 3 true ∷ layout ∷ draw None ∷ check true
-    ∷ locate 3 ∷ show 3 (which.From 1) None ∷ format true ∷ [])
-    ≡ from ∷ from ∷ from ∷ from_source ∷ from_source ∷ from_source ∷ from_source ∷ from_source ∷ from_source ∷ []
+    ∷ tell_names ∷ locate 3 ∷ show 3 (which.From 1) None ∷ format true ∷ [])
+    ≡ from ∷ from ∷ from ∷ from_source ∷ from_source ∷ from_source ∷ from_source ∷ from_source ∷ from_source
+    ∷ from_source ∷ []
 origins_asked from = refl
 
 -- What the shelf holds under the names that were asked for is compiled, run or told of, in the edition and for the

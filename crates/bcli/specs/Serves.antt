@@ -20,6 +20,7 @@ use Rattle.bcheck.specs.declared.form.FindingForm.{FindingForm}
 use Rattle.bcheck.specs.declared.form.FindingForm.TheVariants as forms
 use Rattle.blist.specs.Listings.{Lists}
 use Rattle.blist.specs.Maps.{Maps}
+use Rattle.bnaming.specs.Names.{Names}
 use Rattle.btools.specs.Origins.{Origin, Source, Code}
 use Rattle.btools.specs.Programs.{ToldEnds}
 use Rattle.bdraw.specs.Draws.{Draws}
@@ -36,7 +37,7 @@ use Rattle.bwhere.specs.Wheres.{LocatesCode}
 use Rattle.bcommand.specs.CommandLine.{Asked, OriginAsked, Question, SourceAsked, asked, clash_line, command_line}
 use Rattle.bcommand.specs.CommandLine.{from_source, from_code, from_made}
 use Rattle.bcommand.specs.CommandLine.{compile, run, locate_code, go, migrate, ask, contradiction}
-use Rattle.bcommand.specs.CommandLine.{list, map, draw, check, trace, locate, count, show, format}
+use Rattle.bcommand.specs.CommandLine.{list, map, draw, check, tell_names, trace, locate, count, show, format}
 use Rattle.bcommand.specs.declared.job.Rows.{Rows}
 use Rattle.bcommand.specs.declared.job.Rows.TheVariants as which
 use Rattle.bcli.specs.Shelves.{Holdings}
@@ -179,6 +180,16 @@ AnswersOf origin edition files text (check for_editor) ends status =
     × Checks (record {
       edition = edition;
       form = form_of for_editor;
+      files = files;
+      source = text;
+      out = ends.out;
+      out_after = ends.out_after;
+      status = status;
+    })
+AnswersOf origin edition files text tell_names ends status =
+    (ends.input_after ≡ ends.input) × (ends.line_after ≡ ends.line)
+    × Names (record {
+      edition = edition;
       files = files;
       source = text;
       out = ends.out;

@@ -26,6 +26,7 @@ use bdraw::draw;
 use bformat::{House, format};
 use blang::status::{self, Status};
 use blist::{list, map};
+use bnaming::tell_names;
 use bparse::compile_edition;
 use brun::{go_edition, migrate, run_text};
 use bshow::show;
@@ -280,6 +281,7 @@ fn origin_of(question: Question<'_>) -> OriginNames<'_>
         Question::Map
         | Question::Draw(_)
         | Question::Check(_)
+        | Question::Names
         | Question::Locate(_)
         | Question::Show(_)
         | Question::Format(_) => OriginNames::Source,
@@ -318,6 +320,7 @@ fn answer<I: ByteIn, O: ByteOut, D: ByteOut>(
             };
             check(alloc, text, request, out)
         }
+        Question::Names => tell_names(alloc, text, edition, &files, out),
         Question::Trace(walk) => {
             let wanted = TraceRequest {
                 steps: walk.steps,

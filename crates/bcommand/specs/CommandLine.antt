@@ -84,6 +84,10 @@ check_rule = flag_rule (codes "check")
 abbrev pub json_rule : Rule
 json_rule = flag_rule (codes "json")
 
+-- the same, which has to be there
+abbrev pub needed_json_rule : Rule
+needed_json_rule = record json_rule { required = true }
+
 abbrev pub svg_rule : Rule
 svg_rule = flag_rule (codes "svg")
 
@@ -142,6 +146,9 @@ map_command = with_rule (with_rule (telling (new_app (codes "map"))) svg_rule) s
 abbrev pub check_command : App
 check_command = with_rule (telling (new_app (codes "check"))) json_rule
 
+abbrev pub names_command : App
+names_command = with_rule (telling (new_app (codes "names"))) needed_json_rule
+
 -- a command with the options of which steps are shown
 abbrev pub with_rows : App → App
 with_rows command = with_rule (with_rule (with_rule command steps_rule) from_rule) last_rule
@@ -167,9 +174,9 @@ bare_line = on_top (λ s. record s { has_version = true; subcommand_required = t
 abbrev pub command_line : App
 command_line =
     with_subcommand (with_subcommand (with_subcommand (with_subcommand (with_subcommand (with_subcommand
-    (with_subcommand (with_subcommand (with_subcommand (with_subcommand (with_subcommand bare_line
+    (with_subcommand (with_subcommand (with_subcommand (with_subcommand (with_subcommand (with_subcommand bare_line
     compile_command.top) run_command.top) go_command.top) migrate_command.top) list_command.top) map_command.top)
-    check_command.top) trace_command.top) count_command.top) show_command.top) format_command.top
+    check_command.top) names_command.top) trace_command.top) count_command.top) show_command.top) format_command.top
 
 -- the digits of a number that a u64 holds
 abbrev pub is_number : Text → Bool
@@ -272,15 +279,17 @@ abbrev pub source_in : List Row → SourceAsked
 source_in rows = record { file = file_in rows; libs = libs_in rows; edition = edition_in rows }
 
 -- What is asked of a source: its code, or that of its definitions of a name; its layout; a picture of its memory, after
--- so many steps if there is a number; its faults, for an editor or for people; the steps of its program among so many,
--- which of them are shown, and of which function; a run of so many steps, and where it is over; how many steps each
--- line takes in such a run, for an editor or for people; a page of a run, with this input if there is one; the source
--- in one style, or whether it is in that. Its code, its steps and those of its lines may be asked of a code text, too.
+-- so many steps if there is a number; its faults, for an editor or for people; its names; the steps of its program
+-- among so many, which of them are shown, and of which function; a run of so many steps, and where it is over; how many
+-- steps each line takes in such a run, for an editor or for people; a page of a run, with this input if there is one;
+-- the source in one style, or whether it is in that. Its code, its steps and those of its lines may be asked of a code
+-- text, too.
 pub data Question : Type 0 where
   list : OriginAsked → (name : Option Text) → Question
   map : Question
   draw : (steps : Option ℕ) → Question
   check : (for_editor : Bool) → Question
+  tell_names : Question
   trace : OriginAsked → (steps : ℕ) (shown : Rows) (function : Option Text) → Question
   locate : (steps : ℕ) → Question
   count : OriginAsked → (steps : ℕ) (for_editor : Bool) → Question
@@ -367,11 +376,12 @@ asked_by name rows = if bytes_eq name (codes "run") then run_in rows
     else (if bytes_eq name (codes "list") then list_in rows
     else (if bytes_eq name (codes "map") then ask (source_in rows) (map_in rows)
     else (if bytes_eq name (codes "check") then ask (source_in rows) (check (is_set_in (codes "json") rows))
+    else (if bytes_eq name (codes "names") then ask (source_in rows) tell_names
     else (if bytes_eq name (codes "trace") then trace_in rows
     else (if bytes_eq name (codes "count") then count_in rows
     else (if bytes_eq name (codes "show") then show_in rows
     else (if bytes_eq name (codes "format") then ask (source_in rows) (format (is_set_in (codes "check") rows))
-    else compile (edition_in rows) (libs_in rows))))))))))
+    else compile (edition_in rows) (libs_in rows)))))))))))
 
 abbrev pub asked : Option (Text × List Row) → Asked
 asked None = compile editions.One []
@@ -403,6 +413,7 @@ question_of (questioned.List origin name) = list (origin_shown origin) (option_m
 question_of questioned.Map = map
 question_of (questioned.Draw steps) = draw steps
 question_of (questioned.Check for_editor) = check for_editor
+question_of questioned.Names = tell_names
 question_of (questioned.Trace walk) = walk_shown walk
 question_of (questioned.Locate steps) = locate steps
 question_of (questioned.Count origin steps for_editor) = count (origin_shown origin) steps for_editor

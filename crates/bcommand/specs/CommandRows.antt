@@ -7,7 +7,7 @@ use Rattle.bword.specs.declared.edition.Edition.TheVariants as editions
 use Rattle.bword.specs.declared.edition.Edition.{Edition}
 use Rattle.bcommand.specs.CommandLine.{Asked, SourceAsked, asked, command_line}
 use Rattle.bcommand.specs.CommandLine.{compile, run, locate_code, go, migrate, ask, contradiction}
-use Rattle.bcommand.specs.CommandLine.{list, map, draw, check, trace, locate, count, show, format}
+use Rattle.bcommand.specs.CommandLine.{list, map, draw, check, tell_names, trace, locate, count, show, format}
 use Rattle.bcommand.specs.CommandLine.{from_source}
 use Rattle.bcommand.specs.declared.job.Clash.TheVariants as clash
 use Rattle.bcommand.specs.declared.job.Rows.TheVariants as which
@@ -148,6 +148,26 @@ checks_for_editors = (refl, refl)
 checks_no_file : fault_of command_line (codes "b" ∷ codes "check" ∷ []) ≡ kind.MissingRequiredArgument ∷ []
 unfolding clap_on_literals
 checks_no_file = refl
+
+names_told : Asks (codes "b" ∷ codes "names" ∷ codes "--json" ∷ codes "x" ∷ []) (ask (x editions.One) tell_names)
+unfolding clap_on_literals
+names_told = (refl, refl)
+
+names_told_of_all : Asks (codes "b" ∷ codes "names" ∷ codes "x" ∷ codes "--with=l" ∷ codes "--edition=2"
+    ∷ codes "--json" ∷ []) (ask (record { file = codes "x"; libs = codes "l" ∷ []; edition = editions.Two }) tell_names)
+unfolding clap_on_literals
+names_told_of_all = (refl, refl)
+
+-- there is no form of them but for an editor
+names_need_json : fault_of command_line (codes "b" ∷ codes "names" ∷ codes "x" ∷ [])
+    ≡ kind.MissingRequiredArgument ∷ []
+unfolding clap_on_literals
+names_need_json = refl
+
+names_no_file : fault_of command_line (codes "b" ∷ codes "names" ∷ codes "--json" ∷ [])
+    ≡ kind.MissingRequiredArgument ∷ []
+unfolding clap_on_literals
+names_no_file = refl
 
 traces : Asks (codes "b" ∷ codes "trace" ∷ codes "x" ∷ [])
     (ask (x editions.One) (trace from_source 1000 (which.From 1) None))

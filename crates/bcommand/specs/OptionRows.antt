@@ -5,7 +5,8 @@ use Rattle.clap.proofs.OnLiterals.{clap_on_literals}
 use Rattle.bword.specs.declared.edition.Edition.TheVariants as editions
 use Rattle.bcommand.specs.CommandLine.{Asked, SourceAsked, asked, command_line}
 use Rattle.bcommand.specs.CommandLine.{compile, run, locate_code, go, ask, contradiction}
-use Rattle.bcommand.specs.CommandLine.{list, map as layout, draw, check, trace, locate, count, show, format}
+use Rattle.bcommand.specs.CommandLine.{list, map as layout, draw, check, tell_names, trace, locate, count}
+use Rattle.bcommand.specs.CommandLine.{show, format}
 use Rattle.bcommand.specs.CommandLine.{from_source}
 use Rattle.bcommand.specs.declared.job.Clash.TheVariants as clash
 use Rattle.bcommand.specs.declared.job.Rows.TheVariants as which
@@ -55,6 +56,12 @@ map_takes = refl
 check_takes : taken (codes "check") x ≡ codes "--edition=2" ∷ codes "--with=l" ∷ codes "--json" ∷ []
 unfolding clap_on_literals
 check_takes = refl
+
+-- and both with it, without which there is a fault
+names_takes : (taken (codes "names") x ≡ codes "--json" ∷ [])
+    × (taken (codes "names") (codes "--json" ∷ x) ≡ codes "--edition=2" ∷ codes "--with=l" ∷ [])
+unfolding clap_on_literals
+names_takes = (refl, refl)
 
 trace_takes : taken (codes "trace") x
     ≡ codes "--edition=2" ∷ codes "--with=l" ∷ codes "--steps=5" ∷ codes "--from=5" ∷ codes "--last=5"
@@ -128,10 +135,12 @@ of_both name more = asked_by_words (name ∷ codes "--edition=2" ∷ codes "--wi
 files_of_each :
     of_both (codes "go") [] ∷ of_both (codes "go") (codes "--where" ∷ []) ∷ of_both (codes "list") []
     ∷ of_both (codes "map") [] ∷ of_both (codes "map") (codes "--svg" ∷ []) ∷ of_both (codes "check") []
-    ∷ of_both (codes "trace") [] ∷ of_both (codes "count") [] ∷ of_both (codes "show") [] ∷ []
+    ∷ of_both (codes "names") (codes "--json" ∷ []) ∷ of_both (codes "trace") [] ∷ of_both (codes "count") []
+    ∷ of_both (codes "show") [] ∷ []
     ≡ go both 10000000 ∷ ask both (locate 10000000) ∷ ask both (list from_source None) ∷ ask both layout
-    ∷ ask both (draw None) ∷ ask both (check false) ∷ ask both (trace from_source 1000 (which.From 1) None)
-    ∷ ask both (count from_source 10000000 false) ∷ ask both (show 2000 (which.From 1) None) ∷ []
+    ∷ ask both (draw None) ∷ ask both (check false) ∷ ask both tell_names
+    ∷ ask both (trace from_source 1000 (which.From 1) None) ∷ ask both (count from_source 10000000 false)
+    ∷ ask both (show 2000 (which.From 1) None) ∷ []
 unfolding clap_on_literals
 files_of_each = refl
 

@@ -8,7 +8,7 @@ use Rattle.bcommand.specs.declared.commands.GivenAs.{GivenAs}
 use Rattle.bcommand.specs.declared.commands.GivenAs.TheVariants.{Flag, Number, Text as Texted, Repeated, Positional}
 
 abbrev pub rule_by : GivenAs → Text → Rule
-rule_by Flag id = flag_rule id
+rule_by (Flag is_required) id = record (flag_rule id) { required = is_required }
 rule_by (Number most) id = number_rule id most
 rule_by (Texted name) id = text_rule id
 rule_by (Repeated name) id = repeated_rule id

@@ -6,7 +6,7 @@ ghost use Rattle.bcommand.specs.Rows.{command_in, line_in, rule_in};
 
 use crate::texts::{
     ABOUT, CHECK_HELP, COMPILE_HELP, COUNT_HELP, FORMAT_HELP, GO_HELP, HELP, LIST_HELP, MAP_HELP,
-    MIGRATE_HELP, RUN_HELP, SHOW_HELP, TRACE_HELP, VERSION,
+    MIGRATE_HELP, NAMES_HELP, RUN_HELP, SHOW_HELP, TRACE_HELP, VERSION,
 };
 use clap::{Arg, ArgAction, Command, value_parser};
 use std::alloc::{AllocError, Global};
@@ -32,7 +32,8 @@ pub(crate) struct ArgumentRow {
 /// How an option, a flag or an argument is given.
 #[derive(Clone, Copy)]
 pub(crate) enum GivenAs {
-    Flag,
+    /// A flag, and whether it has to be there.
+    Flag(bool),
     /// An option with a number from 1 to this one.
     Number(u32),
     /// An option with a text, and how its help calls the text.
@@ -96,7 +97,7 @@ const INPUT: ArgumentRow = ArgumentRow {
 
 const CHECK: ArgumentRow = ArgumentRow {
     id: "check",
-    kind: GivenAs::Flag,
+    kind: GivenAs::Flag(false),
     help: "Writes nothing, and ends with 2 where it would change",
 };
 
@@ -108,31 +109,37 @@ const FUNCTION: ArgumentRow = ArgumentRow {
 
 const NO_LIMIT: ArgumentRow = ArgumentRow {
     id: "no-limit",
-    kind: GivenAs::Flag,
+    kind: GivenAs::Flag(false),
     help: "Makes as many steps as the run takes",
 };
 
 const WHERE: ArgumentRow = ArgumentRow {
     id: "where",
-    kind: GivenAs::Flag,
+    kind: GivenAs::Flag(false),
     help: "Tells where a trap or the limit came, and what it means",
 };
 
 const CODE_WHERE: ArgumentRow = ArgumentRow {
     id: "where",
-    kind: GivenAs::Flag,
+    kind: GivenAs::Flag(false),
     help: "Tells where the text or its run went wrong, and why",
 };
 
 const JSON: ArgumentRow = ArgumentRow {
     id: "json",
-    kind: GivenAs::Flag,
+    kind: GivenAs::Flag(false),
     help: "Writes one object on each line, for an editor",
+};
+
+const NEEDED_JSON: ArgumentRow = ArgumentRow {
+    id: "json",
+    kind: GivenAs::Flag(true),
+    help: "Writes one object on each line, for an editor; always needed",
 };
 
 const SVG: ArgumentRow = ArgumentRow {
     id: "svg",
-    kind: GivenAs::Flag,
+    kind: GivenAs::Flag(false),
     help: "Draws a picture, an SVG file",
 };
 
@@ -144,7 +151,7 @@ const WITH: ArgumentRow = ArgumentRow {
 
 const CODE: ArgumentRow = ArgumentRow {
     id: "code",
-    kind: GivenAs::Flag,
+    kind: GivenAs::Flag(false),
     help: "FILE is a code text, not a source",
 };
 
@@ -178,7 +185,7 @@ const NAME: ArgumentRow = ArgumentRow {
     help: "The definition to list; all if not given",
 };
 
-const COMMANDS: [CommandRow; 11] = [
+const COMMANDS: [CommandRow; 12] = [
     CommandRow {
         name: "compile",
         about: "Compiles the source on standard input to code text on standard output",
@@ -227,6 +234,13 @@ const COMMANDS: [CommandRow; 11] = [
         usage: None,
         help: CHECK_HELP,
         arguments: &[EDITION, FILE_OR_INPUT, WITH, JSON],
+    },
+    CommandRow {
+        name: "names",
+        about: "Tells an editor what each name of the source in FILE is, and where",
+        usage: None,
+        help: NAMES_HELP,
+        arguments: &[EDITION, FILE_OR_INPUT, WITH, NEEDED_JSON],
     },
     CommandRow {
         name: "trace",
@@ -333,7 +347,10 @@ fn argument_of<'a>(alloc: Global, row: ArgumentRow) -> Arg<'a>
 {
     let arg = Arg::new(alloc, row.id).help(row.help);
     match row.kind {
-        GivenAs::Flag => arg.long(row.id).action(ArgAction::SetTrue),
+        GivenAs::Flag(is_required) => arg
+            .long(row.id)
+            .required(is_required)
+            .action(ArgAction::SetTrue),
         GivenAs::Number(most) => arg
             .long(row.id)
             .value_name("N")

@@ -46,6 +46,8 @@ pub enum Question<'a> {
     Draw(Option<u64>),
     /// Its faults, and whether an editor reads them.
     Check(bool),
+    /// What each of its names is, and where it stands.
+    Names,
     Trace(Walk<'a>),
     /// Where a run of so many steps at most is over.
     Locate(u64),

@@ -44,6 +44,7 @@ pub fn job_of<'m, 'a: 'm>(matches: &'m ArgMatches<'a>) -> Job<'m>
         "list" => list_of(given),
         "map" => Job::Ask(source_of(given), map_of(given)),
         "check" => Job::Ask(source_of(given), Question::Check(is_set(given, "json"))),
+        "names" => Job::Ask(source_of(given), Question::Names),
         "trace" => trace_of(given),
         "count" => count_of(given),
         "show" => show_of(given),

@@ -85,6 +85,7 @@ Examples:
   b show hello.b > run.html           writes a page that shows its run
   b count hello.b                     counts the steps of each line
   b check hello.b                     tells what is wrong, where, how to fix it
+  b names --json hello.b              tells an editor what each name is
   b format hello.b > new.b            lays it out in one style
   b go --help                         tells more about a command
 
@@ -99,8 +100,8 @@ with the line B 2 if it is of edition 2.
 before each. LIB is input, numbers, print, strings, test or vectors, which the
 library has; or it is a path, with a slash or a point in it. The source is then
 all of these bytes, and its lines are counted from the first one of FILE on.
-check, trace, count, show and go --where tell a line of LIB by its own number
-and the name of its file.
+check, names, trace, count, show and go --where tell a line of LIB by its own
+number and the name of its file.
 
 The status is 0 if a source compiles. After a run it is the exit status of the
 program. These are the other statuses, with their line on standard error:
@@ -255,6 +256,25 @@ Examples:
 Statuses: 0 no fault, 1 a fault of the source, 132 code that doesn't load,
 133 a failed read or write, 134 out of memory, 135 a wrong command line.
 b --help explains the letters.";
+
+pub(crate) const NAMES_HELP: &str = "\
+Each line is an object of JSON. First comes one for each comment. Then come, in
+the order of the source, one where each construct begins, one where it ends, and
+one for each token. A name is told with its role in this place: function,
+external, parameter, automatic, extrn, label, mention or value. Its kind is the
+role in which it is declared, and the place of that is told, too. A name that
+this source doesn't declare is undefined.
+
+A place has the file, the line in it, and the column, in bytes and in units of
+UTF-16; end is the place after the last byte. A source at fault has its names,
+too. What is wrong is no token.
+
+Examples:
+  b names --json hello.b
+  b names --json --edition 2 --with print menu.b
+
+Statuses: 0 written, 133 a failed read or write, 134 out of memory, 135 a wrong
+command line.";
 
 pub(crate) const RUN_HELP: &str = "\
 FILE is a code text, as b compile writes it; b go takes a source. A code text

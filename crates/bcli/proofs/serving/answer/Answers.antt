@@ -35,6 +35,10 @@ returns-in-Check-clause-answers g c =
       })) c.form_of.ensures c.check.ensures.checks,
     )
 
+pub returns-in-Names-clause-answers : goal.returns-in-Names-clause-answers
+returns-in-Names-clause-answers g c =
+    answered _ _ _ _ c.args.question questions.Names _ _ c.in-Names.is (refl, refl, c.tell_names.ensures.names)
+
 pub returns-in-Trace-clause-answers : goal.returns-in-Trace-clause-answers
 returns-in-Trace-clause-answers g c =
     answered _ _ _ _ c.args.question (questions.Trace c.in-Trace.walk) _ _ c.in-Trace.is

@@ -1,0 +1,3 @@
+/* after it */
+say(x) putchar(x);
+n 'n';
