@@ -3,7 +3,6 @@ ghost use Rattle.std.specs.Prelude.{[], true, Some};
 
 use crate::command_tests::{answer_to, serves};
 use crate::program_tests::STEPS;
-use crate::run_tests::all_stop;
 use crate::source_tests::compares;
 use bparse::{Status, compile};
 use brun::{go, migrate, run_text};
@@ -587,60 +586,4 @@ fn each_command_can_not_read(rt: HostRuntime) -> Result<(), Fail> {
         compares(&rt, words, &out, output, &line, "");
     }
     remove_readings(&rt)
-}
-
-// What no text begins with, and code that lacks an operand or an instruction.
-#[test]
-fn hostile_texts(rt: HostRuntime) {
-    let refused = "\
-F main 0 0 0 0 1
-a 0
-E
-~code 2
-@
-F main 0 0 0 0 1
-b ^
-E
-~code 2
-@
-F main 0 0 0 0 1
-x abcdefghi
-E
-~code 2
-@
-F main 0 0 1 0 1
-t 1
-r
-E
-~code 2
-@
-F main 0 0 129 0 1
-r
-E
-~code 1
-";
-    all_stop(&rt, refused, 132);
-    let stuck = "\
-F main 0 0 0 0 2
-c 1
-b +
-E
-~trap sk
-@
-F main 0 0 0 0 1
-e 1 0
-E
-~trap sk
-@
-F main 0 0 0 0 1
-k 0
-E
-~trap sk
-@
-F main 0 0 0 0 1
-c 1
-E
-~trap sk
-";
-    all_stop(&rt, stuck, 130);
 }

@@ -1,4 +1,4 @@
-//! Tests of the program: sources, code texts, runs and command lines, each with what comes of it.
+//! Tests of the program: long sources, streams that fail and command lines, each with what comes of it.
 //!
 //! They stand in a crate of their own since a check of a crate with its tests proves the crate once more.
 #![tactic(auto)]
@@ -19,7 +19,5 @@ mod migrate_tests;
 mod process_tests;
 #[cfg(test)]
 mod program_tests;
-#[cfg(test)]
-mod run_tests;
 #[cfg(test)]
 mod source_tests;

@@ -1,0 +1,1 @@
+main(){switch 2 {case 1: putchar('1'); default: putchar('d'); case 2: putchar('2');}}

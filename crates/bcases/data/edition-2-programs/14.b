@@ -1,0 +1,1 @@
+main(){auto i; i=0; while(i<2) { switch i { case 0: break; default: putchar('x'); } i++; }}

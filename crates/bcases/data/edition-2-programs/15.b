@@ -1,0 +1,1 @@
+main(){auto i; i=0; while(i<1) { i++; break; while(1) ; } putchar('k');}

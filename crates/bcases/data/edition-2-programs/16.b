@@ -1,0 +1,1 @@
+main(){goto in; switch 1 { case 1: in: break; } putchar('k');}

@@ -1,0 +1,1 @@
+f(a) while(a) { a--; break; }

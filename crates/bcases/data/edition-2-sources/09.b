@@ -1,0 +1,1 @@
+f(a) switch a { case 1: break; default: a=2; }

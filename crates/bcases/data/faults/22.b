@@ -1,0 +1,1 @@
+f() switch 1 { case 1: switch 2 { case 1: ; } case 1: ; }

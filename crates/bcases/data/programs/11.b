@@ -1,0 +1,1 @@
+main(){printn(1<<16,10);printn(5,2);}

@@ -1,0 +1,1 @@
+p(x){putchar(x);return(x);} main(){p('a')-p('b');}

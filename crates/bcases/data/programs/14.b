@@ -1,0 +1,1 @@
+f(a,b) return(b); main(){printn(f(1),10);}

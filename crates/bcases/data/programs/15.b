@@ -1,0 +1,1 @@
+n 5; v[1]; main() { extrn n, v; printn(&n,10); putchar(' '); printn(v,10); }

@@ -1,0 +1,1 @@
+main(){switch 9 {case 1: putchar('1'); case 2: putchar('2'); case 3: putchar('3');}}

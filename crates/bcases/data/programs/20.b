@@ -1,0 +1,1 @@
+main(){auto s; s="hi"; lchar(s,0,'H'); putchar(char(s,0)); putchar(char(s,1));}

@@ -1,0 +1,1 @@
+printn(n,b) { extrn putchar; auto a; if(a=n/b) printn(a, b); putchar(n%b + '0'); } main() { printn(1972,10); }

@@ -1,0 +1,1 @@
+main(){auto i; i=0; L: putchar('a'+i); i++; if(i<3) goto L;}

@@ -1,0 +1,1 @@
+main(){auto c; while((c=getchar())!='*e') putchar(c);}

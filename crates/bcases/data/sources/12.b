@@ -1,0 +1,1 @@
+f() while(1) if(2) 3; else 4;

@@ -1,0 +1,1 @@
+f(l){goto l;} main(){f(x); x: ;}

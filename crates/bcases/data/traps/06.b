@@ -1,0 +1,1 @@
+main(){extrn n; n();} n 0;

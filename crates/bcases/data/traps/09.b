@@ -1,0 +1,1 @@
+main(){auto v 32000; main();}
