@@ -4,6 +4,9 @@ main() {
     inside(2);
     given(2);
     before(2);
+    early(2);
+    either(2);
+    next(2);
 }
 chosen(a) {
     auto x;
@@ -17,8 +20,8 @@ last(a) {
 }
 inside(a) {
     auto x, y;
-    x = (a) + x;
-    y = char(a, 0) - y;
+    x = ((a)) + x;
+    y = a[0] + y;
     printn(x + y, 10);
 }
 given(a) {
@@ -31,4 +34,25 @@ before(a) {
     a ? (x = 1) : (x = 2);
     y = a ? (a = 1) : 2;
     printn(x + y, 10);
+}
+early(a) {
+    auto x;
+    while(a ? x : 0)
+        x = a--;
+}
+either(a) {
+    auto x;
+    while(a--)
+        if(a == 1)
+            printn(x, 10);
+        else
+            x = 1;
+}
+next(a) {
+    auto x;
+    while(a--)
+        putchar('a');
+    if(a)
+        printn(x, 10);
+    x = 1;
 }
