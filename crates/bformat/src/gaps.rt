@@ -41,8 +41,6 @@ pub(crate) fn role_of(kind: ItemKind, before: Role) -> Role {
         ItemKind::Step if before == Role::Operand => Role::Operand,
         ItemKind::Step => Role::Prefix,
         ItemKind::Sign | ItemKind::Operator | ItemKind::Question | ItemKind::Colon => Role::Infix,
-        ItemKind::Comment | ItemKind::Semicolon | ItemKind::OpenBrace | ItemKind::CloseBrace =>
-            Role::Infix,
         _ => Role::Keyword,
     }
 }
@@ -50,9 +48,11 @@ pub(crate) fn role_of(kind: ItemKind, before: Role) -> Role {
 /// What stands before a token of this role, within a statement.
 pub(crate) fn gap_before(before: Role, kind: ItemKind, role: Role) -> Gap {
     match kind {
-        ItemKind::Comma | ItemKind::Semicolon | ItemKind::CloseParen | ItemKind::CloseBracket =>
-            Gap::Nothing,
-        ItemKind::OpenBracket if before == Role::Operand => Gap::Nothing,
+        ItemKind::Comma
+        | ItemKind::Semicolon
+        | ItemKind::CloseParen
+        | ItemKind::OpenBracket
+        | ItemKind::CloseBracket => Gap::Nothing,
         ItemKind::OpenParen if before == Role::Operand || before == Role::Keyword => Gap::Nothing,
         ItemKind::Step if role == Role::Operand => Gap::Nothing,
         _ if role == Role::Infix => Gap::Soft,
@@ -65,11 +65,10 @@ pub(crate) fn gap_before(before: Role, kind: ItemKind, role: Role) -> Gap {
 }
 
 /// Whether a token that ends with the one byte and a token that begins with the other one need a blank between them.
+/// No other bytes are side by side: a blank is around an operator of two operands.
 pub(crate) fn joins(last: u8, first: u8) -> bool {
     match (last, first) {
-        (b'=' | b'!' | b'<' | b'>', b'=') => true,
-        (b'+', b'+') | (b'-', b'-') | (b'<', b'<') | (b'>', b'>') | (b'/', b'*') => true,
-        (b'=', b'!' | b'<' | b'>' | b'-' | b'+' | b'*' | b'/' | b'%' | b'&' | b'|') => true,
+        (b'+', b'+') | (b'-', b'-') => true,
         _ => is_name_byte(last) && is_name_byte(first),
     }
 }

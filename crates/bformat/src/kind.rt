@@ -53,8 +53,6 @@ impl ItemKind {
             Keyword::If => ItemKind::If,
             Keyword::Else => ItemKind::Else,
             Keyword::Case | Keyword::Default => ItemKind::Arm,
-            // It stands alone, as a name does.
-            Keyword::Break => ItemKind::Word,
             _ => ItemKind::Keyword,
         }
     }

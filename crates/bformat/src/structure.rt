@@ -103,8 +103,8 @@ struct Structure {
     start: Start,
     // The level of the line on which the statement began.
     level: usize,
-    // How many `?` are open in it.
-    questions: usize,
+    // Whether it has a `?`.
+    has_question: bool,
     // The token before, unless a construct has ended after it.
     latest: Option<ItemKind>,
     // The token before, and its role.
@@ -119,7 +119,7 @@ impl Structure {
             begun: None,
             start: Start::Plain,
             level: 0,
-            questions: 0,
+            has_question: false,
             latest: None,
             before: None,
             role: Role::Infix,
@@ -177,7 +177,7 @@ impl Structure {
 
     fn begin_line(&mut self, kind: ItemKind, level: usize) {
         self.level = level;
-        self.questions = 0;
+        self.has_question = false;
         self.role = role_of(kind, Role::Infix);
     }
 
@@ -202,9 +202,7 @@ impl Structure {
 
     fn line_gap(&self) -> Gap {
         match self.before {
-            Some(ItemKind::Semicolon | ItemKind::CloseBrace) if self.start == Start::Plain => {
-                Gap::Paragraph
-            }
+            Some(ItemKind::Semicolon | ItemKind::CloseBrace) => Gap::Paragraph,
             _ => Gap::Line,
         }
     }
@@ -221,14 +219,8 @@ impl Structure {
     fn see_further(&mut self, kind: ItemKind) -> TokenLayout {
         let outside = self.outside();
         match kind {
-            ItemKind::CloseBrace => {
-                self.begin_line(kind, outside);
-                TokenLayout::new(Gap::Line, outside, self.inside())
-            }
-            ItemKind::Else => {
-                self.begin_line(kind, outside);
-                TokenLayout::new(self.else_gap(), outside, outside)
-            }
+            ItemKind::CloseBrace => TokenLayout::new(Gap::Line, outside, self.inside()),
+            ItemKind::Else => TokenLayout::new(self.else_gap(), outside, outside),
             _ => self.go_on(kind),
         }
     }
@@ -249,24 +241,16 @@ impl Structure {
             _ => role_of(kind, before),
         };
         let gap = match kind {
-            ItemKind::Colon if self.questions == 0 => Gap::Nothing,
+            ItemKind::Colon if !self.has_question => Gap::Nothing,
             _ => gap_before(before, kind, self.role),
         };
-        self.count_questions(kind);
+        self.has_question = self.has_question || kind == ItemKind::Question;
         let further = match around {
             Some(Construct::If | Construct::While) => FURTHER_IN_CONDITION,
             _ => FURTHER,
         };
         let level = self.level.saturating_add(further);
         TokenLayout::new(gap, level, level)
-    }
-
-    fn count_questions(&mut self, kind: ItemKind) {
-        match kind {
-            ItemKind::Question => self.questions = self.questions.saturating_add(1),
-            ItemKind::Colon => self.questions = self.questions.saturating_sub(1),
-            _ => {}
-        }
     }
 
     // The level of the line on which the innermost construct begins.
