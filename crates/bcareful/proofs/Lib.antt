@@ -1,0 +1,4 @@
+pub mod Loaded
+pub mod Looking
+pub mod Steps
+pub mod Whole

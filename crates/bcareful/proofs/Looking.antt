@@ -1,0 +1,70 @@
+-- Looking for the function of a call, the external of a name, and the thing of a word.
+use Rattle.std.proofs.Common.{◌≡◌, ◌∙◌, ℕ, zero, suc, ◌+◌, ◌-◌, ◌<◌, ◌≤◌, Bool, true, false, min, List, [], ◌∷◌, ◌++◌, ◌%◌, append_assoc, Option, None, Some, ap, arith, drop, get_or, length, map, refl, sym}
+use Rattle.std.specs.Prelude.{◌==◌, ◌&&◌, nat_lt, slice_get, if◌then◌else◌}
+use Rattle.std.proofs.lemmas.List.{at_drop_more, drop_more}
+use Rattle.std.proofs.lemmas.Option.{get_or_from_slice_get, slice_get_within}
+use Rattle.std.specs.Option.{option_map}
+use Rattle.bcareful.specs.Tellings.{holder, holds}
+use Rattle.bword.specs.Words.{same_name}
+use Rattle.blang.specs.declared.code.Definition.{Definition}
+use Rattle.blang.specs.Layout.{shape_of, size_of}
+use Rattle.blang.specs.Machine.{Call}
+use Rattle.bmach.specs.Stops.{active_of}
+use Rattle.bmach.specs.declared.machine.Active.{Active}
+use Rattle.btools.specs.FrameNames.{frame_seen, word_seen}
+use Rattle.btools.specs.Functions.{placed_entry}
+use Rattle.btools.specs.declared.names.Frame.{Frame}
+use Rattle.btools.specs.declared.names.FrameWord.{FrameWord}
+use Rattle.btools.specs.declared.tables.FunctionEntry.{FunctionEntry}
+use Rattle.bcareful.specs.Marks.{data_marks, shape_marks}
+use Rattle.bcareful.specs.Things.{Atlas, Site, ends_string, external_words, located, next_offset, own_words, string_words, thing_among}
+use Rattle.bcareful.specs.declared.thing.Mark.{Mark}
+
+-- what stands from an index on in tables of functions and frames
+abbrev pub located_from : (strings : ℕ) → List FunctionEntry → List Frame → Option Site
+located_from strings es fs = located (map placed_entry es) (map frame_seen fs) strings
+
+-- a function that isn't the one
+pub missed : (s : ℕ) (es : List FunctionEntry) (fs : List Frame) (i : ℕ) (e : FunctionEntry) → i < length es → i < length fs → ((get_or es i e).strings == s) ≡ false
+    → located_from s (drop i es) (drop i fs) ≡ located_from s (drop (i + 1) es) (drop (i + 1) fs)
+missed s [] fs i e lt within other = absurd (omega (arith, lt))
+missed s (x ∷ es) [] i e lt within other = absurd (omega (arith, within))
+missed s (x ∷ es) (y ∷ fs) zero e lt within other = rw other refl
+missed s (x ∷ es) (y ∷ fs) (suc i) e lt within other =
+    let more : suc i + 1 ≡ suc (i + 1) = omega arith in
+    missed s es fs i e (omega (arith, lt)) (omega (arith, within)) other ∙ ap (λ k. located_from s (drop k (x ∷ es)) (drop k (y ∷ fs))) (sym more)
+
+no_frames : (s : ℕ) (es : List FunctionEntry) → located_from s es [] ≡ None
+no_frames s [] = refl
+no_frames s (e ∷ es) = refl
+
+-- none is left
+pub none_left : (s : ℕ) (es : List FunctionEntry) (fs : List Frame) (n : ℕ) → min (length es) (length fs) ≤ n → located_from s (drop n es) (drop n fs) ≡ None
+none_left s [] fs zero le = refl
+none_left s [] fs (suc n) le = refl
+none_left s (x ∷ es) [] zero le = refl
+none_left s (x ∷ es) [] (suc n) le = no_frames s (drop n es)
+none_left s (x ∷ es) (y ∷ fs) zero le = absurd (omega (arith, le))
+none_left s (x ∷ es) (y ∷ fs) (suc n) le = none_left s es fs n (omega (arith, le))
+
+-- the marks of one definition more
+pub one_definition : (a : Atlas) (address : ℕ) (ds : List Definition) (i : ℕ) (d : Definition) → i < length ds → d ≡ get_or ds i d → (before after whole : List Mark) (size : ℕ) → after ≡ before ++ shape_marks a address (shape_of d)
+    → size ≡ size_of (shape_of d) → before ++ data_marks a address (drop i ds) ≡ whole → after ++ data_marks a ((address + size) % 65536) (drop (i + 1) ds) ≡ whole
+one_definition a address ds i d lt is before after whole size added sized so_far =
+    let first : drop i ds ≡ d ∷ drop (i + 1) ds = drop_more ds i d lt ∙ ap (λ x. x ∷ drop (i + 1) ds) (sym is) in
+    (λ k. added k ++ data_marks a ((address + sized k) % 65536) (drop (i + 1) ds))
+    ∙ append_assoc before (shape_marks a address (shape_of d)) (data_marks a ((address + size_of (shape_of d)) % 65536) (drop (i + 1) ds))
+    ∙ ap (λ xs. before ++ data_marks a address xs) (sym first) ∙ so_far
+
+-- one call
+pub at_call : (a : Atlas) (address : ℕ) (xs : List Active) (n : ℕ) (call : Active) → slice_get xs n ≡ Some call → holder a (drop n xs) address ≡ (if holds a address call then Some call else holder a (drop (n + 1) xs) address)
+at_call a address xs n call is = ap (λ ys. holder a ys address) (drop_more xs n call (slice_get_within xs n call is) ∙ ap (λ x. x ∷ drop (n + 1) xs) (get_or_from_slice_get xs n call call is))
+
+-- there is one where there are more
+pub is_there : (below : List Call) (n : ℕ) → n < length below → (found : Option Active) → found ≡ option_map active_of (slice_get below n) → found ≡ None → ⊥
+is_there [] n lt found gives is = omega (arith, lt)
+is_there (c ∷ below) zero lt found gives is = none (sym gives ∙ is)
+  where
+    none : Some (active_of c) ≡ None → ⊥
+    none e = cc
+is_there (c ∷ below) (suc n) lt found gives is = is_there below n (omega (arith, lt)) found gives is

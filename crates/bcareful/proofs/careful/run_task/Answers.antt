@@ -1,0 +1,51 @@
+use Rattle.std.proofs.Common.{map, refl, unwrap_or}
+use Rattle.bsources.specs.Files.{files_shown}
+use Rattle.btools.specs.FrameNames.{frame_seen}
+use Rattle.btools.specs.Programs.{steps_from}
+use Rattle.btools.specs.declared.program.ProgramFault.TheVariants.{Memory}
+use Rattle.btrace.specs.RowTexts.{legend_of}
+use Rattle.bcareful.specs.Runs.{not_begun, stopped}
+use Rattle.bcareful.specs.Things.{atlas_of}
+use Rattle.bcareful.proofs.Whole.{counted, found_whole, unfound_whole}
+use Rattle.bcareful.proofs.careful.run_task.Goals as goal
+
+pub returns-in_default-clause-runs : goal.returns-in_default-clause-runs
+returns-in_default-clause-runs g c edition is named lined = stopped (Memory, tt, (refl, refl)) (record { unread = refl; silent = refl })
+
+pub returns-in-Err-clause-runs : goal.returns-in-Err-clause-runs
+returns-in-Err-clause-runs g c edition is named lined =
+    not_begun c.args.task.program.now.definitions.items c.args.task.program.now.image c.in-Err.outcome is c.in-Err.ensures c.finish.ensures.gives
+    (record { unread = refl; silent = refl })
+
+pub returns-in-Over-clause-runs : goal.returns-in-Over-clause-runs
+returns-in-Over-clause-runs g c edition is named lined =
+    let program = c.args.task.program.now in
+    unfound_whole edition c.args.task.source.now (files_shown c.args.task.files) c.args.steps _ c.finish-in-Over.result program.definitions.items program.image program.names.frames.items
+    c.in-Ok-begin.stepper c.careful_steps.new.stepper is named c.in-Ok-begin.ensures (atlas_of (record { program = c.args.task.program; tables = c.args.task.tables }))
+    (λ k. record {
+      definitions = program.definitions.items;
+      functions = c.requires.functions k;
+      frames = map frame_seen program.names.frames.items;
+      address_of = λ x. unwrap_or (is.loaded.addresses x k) 0;
+    })
+    c.in-Over.outcome c.in-Over.ensures.gives c.finish-in-Over.ensures.gives
+
+pub tell_found-requires : goal.tell_found-requires
+tell_found-requires g c =
+    counted (atlas_of (record { program = c.args.task.program; tables = c.args.task.tables })) c.in-Ok-begin.stepper.image.functions (steps_from c.in-Ok-begin.stepper) c.args.steps _ _
+    c.careful_steps.new.stepper c.in-Found.found c.ranges.steps.fits c.in-Found.ensures.gives.1
+
+pub returns-clause-runs : goal.returns-clause-runs
+returns-clause-runs g c edition is named lined =
+    let program = c.args.task.program.now in
+    let files = files_shown c.args.task.files in
+    found_whole edition c.args.task.source.now files c.args.steps _ c.tell_found.result program.definitions.items program.image program.names.frames.items c.in-Ok-begin.stepper
+    c.careful_steps.new.stepper is named c.in-Ok-begin.ensures (atlas_of (record { program = c.args.task.program; tables = c.args.task.tables }))
+    (λ k. record {
+      definitions = program.definitions.items;
+      functions = c.requires.functions k;
+      frames = map frame_seen program.names.frames.items;
+      address_of = λ x. unwrap_or (is.loaded.addresses x k) 0;
+    })
+    c.in-Found.found program.names.lines.items (legend_of (record { tables = c.args.task.tables; files = c.args.task.files })) lined
+    (λ k. record { functions = c.requires.functions k; lines = c.requires.lines k; files = files }) c.in-Found.ensures.gives c.tell_found.ensures.told

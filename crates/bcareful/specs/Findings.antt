@@ -1,0 +1,78 @@
+-- Promise: what is found at a step.
+use Rattle.std.specs.Prelude.{ℕ, zero, suc, ◌+◌, ◌==◌, ◌&&◌, ◌||◌, Bool, true, false, List, [], Option, Some, None, is_some, nat_le, nat_lt}
+use Rattle.std.specs.Prelude.{option_and_then, option_map, slice_get, if◌then◌else◌}
+use Rattle.std.specs.Option.{option_map_or}
+use Rattle.blang.specs.declared.code.Instr.{Instr}
+use Rattle.blang.specs.declared.code.Instr.TheVariants as instr
+use Rattle.bmach.specs.declared.machine.Active.{Active}
+use Rattle.blang.specs.Machine.{Loaded, States}
+use Rattle.bwatch.specs.Sights.{Sight, Sights, sights_of}
+use Rattle.bcareful.specs.Things.{Atlas, is_outside}
+use Rattle.bcareful.specs.Marks.{Marks}
+use Rattle.bcareful.specs.Effects.{Moment, Step, argument_mark, character_address, mark, marks_at, operand, step_in, word_mark}
+use Rattle.bcareful.specs.declared.finding.Finding.{Finding}
+use Rattle.bcareful.specs.declared.finding.Finding.TheVariants.{Index, Low, Never}
+use Rattle.bcareful.specs.declared.finding.Touched.{Touched}
+use Rattle.bcareful.specs.declared.thing.Mark.{Mark}
+use Rattle.bcareful.specs.declared.thing.Mark.TheVariants.{Of, Plain, Unset}
+
+abbrev pub is_unset : Mark → Bool
+is_unset Unset = true
+is_unset mark = false
+
+module _ (m : Moment) where
+  -- the word that a call of the library reads or stores; the functions `char` and `lchar` have the values 1 and 2
+  abbrev pub call_touch : (count callee : ℕ) → Option Touched
+  call_touch count callee =
+      if callee == 1 || callee == 2
+      then Some (record {
+        address = character_address m count;
+        origin = argument_mark m count 0;
+        reads = callee == 1;
+      })
+      else None
+
+  -- the word of memory that an instruction reads or stores, and the mark of its address
+  abbrev pub touch : Instr → Option Touched
+  touch instr.Load = Some (record { address = operand m 0; origin = mark m 0; reads = true })
+  touch instr.Store = Some (record { address = operand m 1; origin = mark m 1; reads = false })
+  touch (instr.Modify op) = Some (record { address = operand m 1; origin = mark m 1; reads = true })
+  touch (instr.Increment which) = Some (record { address = operand m 0; origin = mark m 0; reads = true })
+  touch (instr.Call n) = call_touch n (operand m n)
+  touch i = None
+
+  -- the address after the last frame
+  abbrev pub frames_end : ℕ
+  frames_end = m.call.start + m.site.function.frame
+
+  -- a word past the last frame; or one that is read and that nothing has set
+  abbrev pub word_finding : Touched → Option Finding
+  word_finding t =
+      if nat_le frames_end t.address then Some (Low t.address)
+      else if t.reads && is_unset (word_mark m t.address) then Some (Never t.address) else None
+
+  -- an address that has left its thing; or one of the first words, of which nobody knows what it was made of
+  abbrev pub touch_finding : Mark → Touched → Option Finding
+  touch_finding (Of thing) t = if is_outside thing t.address then Some (Index thing t.address) else word_finding t
+  touch_finding origin t = if nat_lt t.address 7 then Some (Low t.address) else word_finding t
+
+  abbrev pub instr_finding : Instr → Option Finding
+  instr_finding i = option_and_then (λ t. touch_finding t.origin t) (touch i)
+
+-- what is found at a step, if there is one
+abbrev pub finding_of : Option Step → Option Finding
+finding_of step = option_and_then (λ t. instr_finding t.moment t.instr) step
+
+-- what is found at the step after so many
+abbrev pub finding_at : Atlas → Sights → (made : ℕ) → Option Finding
+finding_at a sights made = finding_of (step_in a (sights made) (marks_at a sights made))
+
+-- how many of so many steps a careful run makes: it stays at its first finding
+abbrev pub made_by : Atlas → Sights → (steps : ℕ) → ℕ
+made_by a sights zero = 0
+made_by a sights (suc n) =
+    if is_some (finding_at a sights (made_by a sights n)) then made_by a sights n else made_by a sights n + 1
+
+-- A machine that stays where the run has its first finding, and else makes the steps of this one with these functions.
+abbrev pub careful : Atlas → List Loaded → States → States
+careful a functions states input n = states input (made_by a (sights_of functions states input) n)

@@ -1,0 +1,10 @@
+pub mod Things
+pub mod Marks
+pub mod Effects
+pub mod Findings
+pub mod Carefuls
+pub mod CarefulRows
+pub mod Tellings
+pub mod Runs
+pub mod Stays
+pub mod TellingRows

@@ -1,0 +1,109 @@
+-- Promise: the things of a program to which the words of its memory belong.
+use Rattle.std.specs.Prelude.{ℕ, ◌+◌, ◌-◌, ◌/◌, ◌%◌, ◌==◌, ◌||◌, ◌&&◌, Bool, List, [], ◌∷◌, Option, Some, None, drop, length}
+use Rattle.std.specs.Prelude.{map, max, nat_le, nat_lt, unwrap_or, if◌then◌else◌}
+use Rattle.bword.specs.Words.{same_name}
+use Rattle.blang.specs.CodeParts.{Function, function_of}
+use Rattle.blang.specs.declared.code.Definition.{Definition}
+use Rattle.blang.specs.declared.code.Ival.{Ival}
+use Rattle.blang.specs.Layout.{DefinitionKind, Simple, address_in, addresses, shape_of, store_words}
+use Rattle.bmach.specs.declared.machine.Active.{Active}
+use Rattle.bparse.specs.Locals.{NamedWord}
+use Rattle.btools.specs.FrameNames.{frame_seen, word_seen}
+use Rattle.btools.specs.Functions.{Placed, entries_of, functions_of}
+use Rattle.btools.specs.declared.names.Frame.{Frame}
+use Rattle.bcareful.specs.declared.atlas as told
+use Rattle.bcareful.specs.declared.thing.Thing.{Thing}
+
+-- whether an address is none of its words
+abbrev pub is_outside : Thing → (address : ℕ) → Bool
+is_outside t address = nat_lt address t.start || nat_le t.words (address - t.start)
+
+-- A string ends with the word that has a byte 4.
+abbrev pub ends_string : ℕ → Bool
+ends_string word = word % 256 == 4 || word / 256 == 4
+
+-- how many words the string has that begins these
+abbrev pub string_words : List ℕ → ℕ
+string_words [] = 0
+string_words (w ∷ ws) = if ends_string w then 1 else string_words ws + 1
+
+-- the string that begins at an offset among these words, the first of which has this address
+abbrev pub string_at : (first : ℕ) → (words : List ℕ) → (offset : ℕ) → Thing
+string_at first words offset =
+    record { start = (first + offset) % store_words; words = string_words (drop offset words) }
+
+-- the offset of the next word that has a name, or the frame's end
+abbrev pub next_offset : List NamedWord → (frame : ℕ) → ℕ
+next_offset [] frame = frame
+next_offset (w ∷ ws) frame = w.offset
+
+-- A word of a frame is one of the vector after whose own word it comes, or else a thing by itself.
+abbrev pub thing_among : (start : ℕ) → List NamedWord → (frame offset : ℕ) → Thing
+thing_among start [] frame offset = record { start = (start + offset) % store_words; words = 1 }
+thing_among start (w ∷ ws) frame offset =
+    if nat_lt w.offset offset && nat_lt offset (next_offset ws frame)
+    then record {
+      start = (start + (w.offset + 1)) % store_words;
+      words = next_offset ws frame - (w.offset + 1);
+    }
+    else thing_among start ws frame offset
+
+-- The parameters of a call are one thing.
+abbrev pub frame_thing : Active → List NamedWord → (frame offset : ℕ) → Thing
+frame_thing call words frame offset =
+    if nat_lt offset call.parameters
+    then record { start = call.start % store_words; words = call.parameters }
+    else thing_among call.start words frame offset
+
+-- how many words the name of an external stands for
+abbrev pub own_words : DefinitionKind → List Ival → ℕ
+own_words Simple values = max 1 (length values)
+own_words kind values = 1
+
+-- the same by its name; an external of the library has one word
+abbrev pub external_words : List Definition → (name : List ℕ) → ℕ
+external_words [] name = 1
+external_words (d ∷ ds) name =
+    if same_name (shape_of d).name name then own_words (shape_of d).kind (shape_of d).values else external_words ds name
+
+-- a function, and the words of its frame that have names
+pub record Site : Type 0 where
+  pub function : Function
+  pub words : List NamedWord
+
+-- the one that has its string words there
+abbrev pub located : List Placed → List (List NamedWord) → (strings : ℕ) → Option Site
+located (f ∷ fs) (ws ∷ frames) strings =
+    if f.strings == strings then Some (record { function = f.function; words = ws }) else located fs frames strings
+located fs frames strings = None
+
+-- what is known of a program: its definitions, its functions, the words of their frames, and where its names lie
+pub record Atlas : Type 0 where
+  pub definitions : List Definition
+  pub functions : List Placed
+  pub frames : List (List NamedWord)
+  pub address_of : List ℕ → ℕ
+
+-- that of definitions, whose frames have these names
+abbrev pub atlas_in : List Definition → List Frame → Atlas
+atlas_in ds frames = record {
+  definitions = ds;
+  functions = functions_of ds;
+  frames = map frame_seen frames;
+  address_of = λ x. unwrap_or (address_in (addresses (map shape_of ds)) x) 0;
+}
+
+abbrev pub atlas_of : told.Atlas.Atlas → Atlas
+atlas_of a = record {
+  definitions = a.program.now.definitions.items;
+  functions = entries_of a.tables.now;
+  frames = map frame_seen a.program.now.names.frames.items;
+  address_of = λ x. unwrap_or (address_in a.program.now.image.addresses x) 0;
+}
+
+abbrev pub site_of : told.Site.Site → Site
+site_of s = record { function = function_of s.parts.now; words = map word_seen s.words.now }
+
+-- the thing that the external of this name is
+abbrev pub external_thing : Atlas → (name : List ℕ) → Thing
+external_thing a name = record { start = a.address_of name; words = external_words a.definitions name }

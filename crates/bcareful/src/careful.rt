@@ -1,0 +1,114 @@
+//! Running a source carefully.
+ghost use Rattle.std.specs.Prelude.{◌≡◌};
+ghost use Rattle.blang.specs.Reports.{run_ends};
+ghost use Rattle.bsources.specs.Files.{files_shown};
+ghost use Rattle.btools.specs.FrameNames.{HasNames};
+ghost use Rattle.btools.specs.Functions.{entries_of, functions_of};
+ghost use Rattle.btools.specs.ProgramLines.{HasLines, lined_functions, lines_shown};
+ghost use Rattle.btools.specs.Programs.{IsThisProgram};
+ghost use Rattle.bword.specs.declared.edition.Edition.{Edition};
+ghost use Rattle.bcareful.specs.Runs.{Runs};
+
+use crate::atlas::Atlas;
+use crate::telling::tell_found;
+use crate::watching::{Ended, careful_steps};
+use blang::status::{self, Status};
+use bmach::Stepper;
+use bpages::PagedStore;
+use brun::finish;
+use bsources::SourceFiles;
+use btools::{Origin, Program, Tables, read_program, tell_placed};
+use btrace::Legend;
+use bword::{ByteIn, ByteOut, Edition};
+use std::alloc::Global;
+
+/// Compiles a source, and runs its program for at most so many steps, up to the first one with a finding.
+///
+/// A program without a finding has the output, the line and the status of `go_edition`. A finding is told in the place
+/// of its line, with the status of a trap: first its kind, then the function, the place in it, the number of the line
+/// of the source and that of the step, this line of the source, and what is wrong. What was written before stays.
+pub fn go_careful<I: ByteIn, O: ByteOut, D: ByteOut>(
+    alloc: Global,
+    source: &[u8],
+    edition: Edition,
+    files: SourceFiles<'_>,
+    steps: u64,
+    input: &mut I,
+    out: &mut O,
+    diag: &mut D,
+) -> Status
+    ensures runs { Runs edition source.now (files_shown files.entry) steps (run_ends
+        (I.incoming input.old) (I.incoming input.new) (O.outgoing out.old) (O.outgoing out.new)
+        (D.outgoing diag.old) (D.outgoing diag.new)) result }
+    ensures input_lender { I.lender input.new ≡ I.lender input.old }
+    ensures out_lender { O.lender out.new ≡ O.lender out.old }
+    ensures diag_lender { D.lender diag.new ≡ D.lender diag.old }
+{
+    let program = match read_program(alloc, source, Origin::Source(edition)) {
+        Ok(program) => program,
+        Err(fault) => return tell_placed(alloc, &fault, files, diag),
+    };
+    let Ok(tables) = Tables::new(alloc, &program) else {
+        return status::MEMORY;
+    };
+    let task = Task {
+        program: &program,
+        tables: &tables,
+        source,
+        files,
+    };
+    run_task(alloc, task, steps, input, out, diag)
+}
+
+// A program that is run, with its source.
+#[derive(Clone, Copy)]
+struct Task<'a> {
+    program: &'a Program,
+    tables: &'a Tables<'a>,
+    source: &'a [u8],
+    files: SourceFiles<'a>,
+}
+
+// Runs a program for at most so many steps, up to its first finding.
+fn run_task<I: ByteIn, O: ByteOut, D: ByteOut>(
+    alloc: Global,
+    task: Task<'_>,
+    steps: u64,
+    input: &mut I,
+    out: &mut O,
+    diag: &mut D,
+) -> Status
+    requires functions { entries_of task.tables.now ≡ functions_of task.program.now.definitions.items }
+    requires lines { lines_shown task.tables.now ≡ lined_functions task.program.now.definitions.items task.program.now.names.lines.items }
+    ensures runs { (edition : Edition) → IsThisProgram edition task.entry.source.now task.entry.program.now
+        → HasNames edition task.entry.source.now task.entry.program.now.names.frames.items
+        → HasLines edition task.entry.source.now task.entry.program.now.names.lines.items
+        → Runs edition task.entry.source.now (files_shown task.entry.files) steps (run_ends
+        (I.incoming input.old) (I.incoming input.new) (O.outgoing out.old) (O.outgoing out.new)
+        (D.outgoing diag.old) (D.outgoing diag.new)) result }
+    ensures input_lender { I.lender input.new ≡ I.lender input.old }
+    ensures out_lender { O.lender out.new ≡ O.lender out.old }
+    ensures diag_lender { D.lender diag.new ≡ D.lender diag.old }
+{
+    let Ok(store) = PagedStore::new(alloc) else {
+        return status::MEMORY;
+    };
+    let mut stepper = match Stepper::begin(alloc, &task.program.image, store) {
+        Ok(stepper) => stepper,
+        Err(outcome) => return finish(outcome, diag),
+    };
+    let atlas = Atlas {
+        program: task.program,
+        tables: task.tables,
+    };
+    match careful_steps(alloc, &atlas, &mut stepper, steps, input, out) {
+        Ended::Over(outcome) => finish(outcome, diag),
+        Ended::Found(found) => {
+            let legend = Legend {
+                tables: task.tables,
+                files: task.files,
+            };
+            tell_found(alloc, &atlas, &legend, task.source, &stepper, found, diag)
+        }
+    }
+}

@@ -1,0 +1,121 @@
+//! What is found at a step.
+ghost use Rattle.std.specs.Prelude.{◌≡◌};
+ghost use Rattle.bcareful.specs.Effects.{mark, moment_of, operand};
+ghost use Rattle.bcareful.specs.Findings.{call_touch, instr_finding, is_unset, touch, touch_finding, word_finding};
+
+use crate::moment::Moment;
+use crate::thing::{Mark, Thing};
+use blang::Instr;
+
+/// What is wrong with a step.
+#[derive(Clone, Copy)]
+pub enum Finding {
+    /// It reads this word, which nothing has set.
+    Never(u16),
+    /// It reads or stores a word through an address that has left the thing of which it was made.
+    Index(Thing, u16),
+    /// It reads or stores one of the first words or one past the last frame.
+    Low(u16),
+}
+
+/// A word of memory that a step reads or stores.
+#[derive(Clone, Copy)]
+pub struct Touched {
+    pub address: u16,
+    /// The mark of its address.
+    pub origin: Mark,
+    pub reads: bool,
+}
+
+// The word of memory that an instruction reads or stores.
+fn touch(moment: &Moment<'_>, instr: Instr) -> Option<Touched>
+    ensures { result ≡ touch (moment_of moment.now) instr }
+{
+    match instr {
+        Instr::Load | Instr::Increment(_) => Some(touch_through(moment, 0, true)),
+        Instr::Store => Some(touch_through(moment, 1, false)),
+        Instr::Modify(_) => Some(touch_through(moment, 1, true)),
+        Instr::Call(count) => call_touch(moment, usize::from(count)),
+        _ => None,
+    }
+}
+
+// The word at the address that has so many operands above it.
+fn touch_through(moment: &Moment<'_>, above: usize, reads: bool) -> Touched
+    ensures { result ≡ record {
+      address = operand (moment_of moment.now) above;
+      origin = mark (moment_of moment.now) above;
+      reads = reads;
+    } }
+{
+    Touched {
+        address: moment.operand(above),
+        origin: moment.marks.operand(above),
+        reads,
+    }
+}
+
+fn call_touch(moment: &Moment<'_>, count: usize) -> Option<Touched>
+    ensures { result ≡ call_touch (moment_of moment.now) count (operand (moment_of moment.now) count) }
+{
+    let callee = moment.operand(count);
+    if callee == 1 || callee == 2 {
+        Some(Touched {
+            address: moment.character_address(count),
+            origin: moment.argument_mark(count, 0),
+            reads: callee == 1,
+        })
+    } else {
+        None
+    }
+}
+
+/// What is found at an instruction.
+pub fn instr_finding(moment: &Moment<'_>, instr: Instr) -> Option<Finding>
+    ensures { result ≡ instr_finding (moment_of moment.now) instr }
+{
+    match touch(moment, instr) {
+        Some(touch) => touch_finding(moment, touch),
+        None => None,
+    }
+}
+
+fn touch_finding(moment: &Moment<'_>, touch: Touched) -> Option<Finding>
+    ensures { result ≡ touch_finding (moment_of moment.now) touch.origin touch }
+{
+    match touch.origin {
+        Mark::Of(thing) => {
+            if thing.is_outside(touch.address) {
+                return Some(Finding::Index(thing, touch.address));
+            }
+        }
+        Mark::Unset | Mark::Plain => {
+            if touch.address < 7 {
+                return Some(Finding::Low(touch.address));
+            }
+        }
+    }
+    word_finding(moment, touch)
+}
+
+fn word_finding(moment: &Moment<'_>, touch: Touched) -> Option<Finding>
+    ensures { result ≡ word_finding (moment_of moment.now) touch }
+{
+    let end = u64::from(moment.call.start) + u64::from(moment.site.parts.frame);
+    if u64::from(touch.address) >= end {
+        return Some(Finding::Low(touch.address));
+    }
+    if touch.reads && is_unset(moment.marks.word(touch.address)) {
+        return Some(Finding::Never(touch.address));
+    }
+    None
+}
+
+fn is_unset(mark: Mark) -> bool
+    ensures { result ≡ is_unset mark }
+{
+    match mark {
+        Mark::Unset => true,
+        Mark::Plain | Mark::Of(_) => false,
+    }
+}
