@@ -3,3 +3,4 @@ pub mod Wanting
 pub mod Standing
 pub mod Searching
 pub mod Words
+pub mod Recordings

@@ -3,3 +3,4 @@ pub mod EndlessRows
 pub mod Repeats
 pub mod Replays
 pub mod Keeps
+pub mod Recordings

@@ -2,12 +2,14 @@
 #![tactic(auto)]
 
 mod kept;
+mod recorder;
 mod replay;
 mod search;
 
 ghost use Rattle.bmean.specs.Laws.{OfCode};
 ghost use Rattle.bendless.specs.Endless.{NeverEnds, WantsForEver};
 
+pub use recorder::{Extent, Record, RecordedRun, run_recorded};
 pub use search::{Repeat, find_repeat};
 
 /// Where a state comes again, but for what was written, the machine halts after no number of steps, and the program of

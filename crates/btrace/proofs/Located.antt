@@ -23,17 +23,6 @@ use Rattle.btools.proofs.Stopped.{runs_whole, stops_run}
 use Rattle.btrace.specs.RowTexts.{Legend, legend_in}
 use Rattle.btrace.specs.Locates.{Locates, TellsSite, located, unlocated}
 
--- What is found without input is so on each.
-pub on_all : (image : Image) (again : Option Repeat) → IfSome again (λ r. (more : List ℕ) → (false ≡ true → more ≡ []) → Repeats (run image ([] ++ more)) r)
-    → IfSome again (λ r. (input : List ℕ) → Repeats (run image input) r)
-on_all image None found = tt
-on_all image (Some r) found = λ input. found input (λ e. cc)
-
--- What comes again on each input does so on that of a run.
-pub comes_back : (states : States) (i j : Incoming) (taken : List ℕ) → Took i taken j → (again : Option Repeat) → IfSome again (λ r. (input : List ℕ) → Repeats (states input) r) → IfSome again (ComesBack states i j)
-comes_back states i j taken took None repeats = tt
-comes_back states i j taken took (Some r) repeats = record { taken = taken; took = took; repeats = λ more can. repeats (taken ++ more) }
-
 -- The words of an image that was loaded lie within the store.
 pub store_fits : (ds : List Definition) (image : Image) → load_fault ds ≡ None → IsLoadedFrom ds image → length image.words ≤ 65536
 store_fits ds image loads l =

@@ -1,6 +1,7 @@
 //! Telling where a run was over.
-ghost use Rattle.std.specs.Prelude.{◌≡◌, ◌≤◌, ◌++◌, List, ℕ, IfOk, IfSome, OnOk, length};
+ghost use Rattle.std.specs.Prelude.{◌≡◌, ◌≤◌, ◌++◌, List, ℕ, IfOk, IfSome, OnOk, [], length, true};
 ghost use Rattle.blang.specs.Machine.{run};
+ghost use Rattle.bendless.specs.Recordings.{is_whole};
 ghost use Rattle.bendless.specs.Repeats.{Repeats};
 ghost use Rattle.blang.specs.Reports.{run_ends};
 ghost use Rattle.btrace.specs.TraceExcluded.{LocatesExcluded};
@@ -12,7 +13,7 @@ ghost use Rattle.btrace.specs.Locates.{repeat_text, told_site};
 
 use crate::legend::Legend;
 use crate::places::{line_of, push_site};
-use bendless::{Repeat, find_repeat};
+use bendless::{Extent, Record, Repeat, find_repeat, run_recorded};
 use blang::status::{self, Status};
 use blang::{Outcome, Trap};
 use bmach::{Active, Image, Stepper, Stop};
@@ -64,14 +65,15 @@ pub fn locate<I: ByteIn, O: ByteOut, D: ByteOut>(
         Ok(stepper) => stepper,
         Err(outcome) => return finish(outcome, diag),
     };
-    let stop = stepper.run(input, out, steps);
+    let ran = run_recorded(alloc, stepper, input, out, steps);
+    let stop = ran.stop;
     let legend = Legend {
         tables: &tables,
         files,
     };
     let told = finish(stop.outcome, diag);
     match located_status(stop.outcome) {
-        Some(status) if status == told => match repeat_of(alloc, image, stop.outcome) {
+        Some(status) if status == told => match repeat_of(alloc, image, &ran.record, stop.outcome) {
             Ok(again) => tell_site(alloc, &legend, source, stop, again, told, diag),
             Err(_) => status::MEMORY,
         },
@@ -79,17 +81,25 @@ pub fn locate<I: ByteIn, O: ByteOut, D: ByteOut>(
     }
 }
 
-// The state that comes again in a run which came to its limit, if one is found before the program reads.
-fn repeat_of(alloc: Global, image: &Image, outcome: Outcome) -> Result<Option<Repeat>, AllocError>
+// The state that comes again in a run which came to its limit, if one is found.
+fn repeat_of(
+    alloc: Global,
+    image: &Image,
+    read: &Record,
+    outcome: Outcome,
+) -> Result<Option<Repeat>, AllocError>
     requires { length image.now.words ≤ 65536 }
-    ensures { IfOk result (λ again. IfSome again (λ r. (input : List ℕ) → Repeats (run image.now input) r)) }
+    ensures whole { IfOk result (λ again. IfSome again (λ r. is_whole read.now.extent ≡ true)) }
+    ensures repeats { IfOk result (λ again. IfSome again (λ r. (more : List ℕ) → (read.now.is_over ≡ true → more ≡ [])
+        → Repeats (run image.now (read.now.bytes.items ++ more)) r)) }
 {
-    match outcome {
-        Outcome::Limit => match PagedStore::new(alloc) {
-            Ok(store) => find_repeat(alloc, image, store, &[], false),
+    match (outcome, read.extent) {
+        (Outcome::Limit, Extent::Whole) => match PagedStore::new(alloc) {
+            Ok(store) => find_repeat(alloc, image, store, read.bytes.as_slice(), read.is_over),
             Err(_) => Err(AllocError),
         },
-        Outcome::Exit(_) | Outcome::Trap(_) | Outcome::Device | Outcome::Memory => Ok(None),
+        (Outcome::Limit, Extent::Refused) => Err(AllocError),
+        _ => Ok(None),
     }
 }
 

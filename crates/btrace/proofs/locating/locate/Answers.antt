@@ -8,7 +8,9 @@ use Rattle.btools.specs.Origins.{Source}
 use Rattle.btools.proofs.Functions.{data_fit}
 use Rattle.btools.proofs.Stopped.{no_other, not_none}
 use Rattle.blang.specs.Machine.{run}
-use Rattle.btrace.proofs.Located.{comes_back, located_whole, store_fits, unlocated_whole}
+use Rattle.bendless.specs.Recordings.{is_whole}
+use Rattle.bendless.proofs.Recordings.{comes_back}
+use Rattle.btrace.proofs.Located.{located_whole, store_fits, unlocated_whole}
 use Rattle.btrace.proofs.locating.locate.Goals as goal
 use Rattle.btrace.proofs.locating.locate.Goals.{in_default-located_status-2, in_default-located_status}
 
@@ -31,15 +33,15 @@ returns-in-Err-begin-clause-locates g c =
 
 pub returns-clause-locates : goal.returns-clause-locates
 returns-clause-locates g c =
-    let outcome = c.run-stop.result.outcome in
+    let outcome = c.run_recorded-ran.result.stop.outcome in
     elim c.match-located_status.branch [
       | in_default-located_status-2 w ↦
           rw w.result-is
-          (unlocated_whole c.args.edition c.args.source.now _ c.args.steps _ c.finish-told.result c.in-Ok.program.definitions.items c.in-Ok.program.image c.in-Ok-begin.stepper outcome c.in-Ok.ensures.program c.in-Ok-begin.ensures c.run-stop.ensures.gives c.finish-told.ensures.gives
+          (unlocated_whole c.args.edition c.args.source.now _ c.args.steps _ c.finish-told.result c.in-Ok.program.definitions.items c.in-Ok.program.image c.in-Ok-begin.stepper outcome c.in-Ok.ensures.program c.in-Ok-begin.ensures c.run_recorded-ran.ensures.gives c.finish-told.ensures.gives
           (no_other _ _ _ (sym c.located_status.ensures ∙ w.in-Some.is) w.if-status-told.false))
       | in_default-located_status w ↦
           rw w.result-is
-          (unlocated_whole c.args.edition c.args.source.now _ c.args.steps _ c.finish-told.result c.in-Ok.program.definitions.items c.in-Ok.program.image c.in-Ok-begin.stepper outcome c.in-Ok.ensures.program c.in-Ok-begin.ensures c.run-stop.ensures.gives c.finish-told.ensures.gives
+          (unlocated_whole c.args.edition c.args.source.now _ c.args.steps _ c.finish-told.result c.in-Ok.program.definitions.items c.in-Ok.program.image c.in-Ok-begin.stepper outcome c.in-Ok.ensures.program c.in-Ok-begin.ensures c.run_recorded-ran.ensures.gives c.finish-told.ensures.gives
           (not_none _ _ (sym c.located_status.ensures ∙ w.in_default-located_status.is)))
     ]
 
@@ -50,21 +52,21 @@ pub returns-in-Ok-repeat_of-clause-locates : goal.returns-in-Ok-repeat_of-clause
 returns-in-Ok-repeat_of-clause-locates g c =
     let files = files_shown c.args.files in
     let tables = c.in-Ok-new.tables in
-    let ran = c.run-stop in
-    let stop = ran.result in
+    let ran = c.run_recorded-ran in
+    let stop = ran.result.stop in
     located_whole c.args.edition c.args.source.now files c.args.steps _ c.tell_site.result c.in-Ok.program.definitions.items c.in-Ok.program.image c.in-Ok-begin.stepper stop.outcome
     (g.D.ByteOut.outgoing c.finish-told.new.diag) (record { functions = entries_of tables; lines = lines_shown tables; files = files }) c.in-Ok.program.names.lines.items c.finish-told.result stop.call stop.steps c.in-Ok-repeat_of.again
     c.in-Ok.ensures.program c.in-Ok.ensures.lines (λ i. record { functions = c.in-Ok-new.ensures.functions i; lines = c.in-Ok-new.ensures.lines i; files = files }) c.in-Ok-begin.ensures ran.ensures.gives c.finish-told.ensures.gives
     (sym c.located_status.ensures ∙ c.in-Some.is ∙ ap Some c.if-status-told.true) ran.ensures.stops
-    (comes_back (run c.in-Ok.program.image) (g.I.ByteIn.incoming c.args.input.now) (g.I.ByteIn.incoming ran.new.input) ran.ensures.stops.taken ran.ensures.stops.took c.in-Ok-repeat_of.again c.in-Ok-repeat_of.ensures)
+    (comes_back (run c.in-Ok.program.image) (g.I.ByteIn.incoming c.args.input.now) (g.I.ByteIn.incoming ran.new.input) ran.result.record.bytes.items (is_whole ran.result.record.extent) ran.result.record.is_over c.in-Ok-repeat_of.again ran.ensures.taken ran.ensures.over c.in-Ok-repeat_of.ensures.whole c.in-Ok-repeat_of.ensures.repeats)
     c.tell_site.ensures.tells
 
 pub returns-in-Some-clause-locates : goal.returns-in-Some-clause-locates
 returns-in-Some-clause-locates g c =
     let files = files_shown c.args.files in
     let tables = c.in-Ok-new.tables in
-    let ran = c.run-stop in
-    let stop = ran.result in
+    let ran = c.run_recorded-ran in
+    let stop = ran.result.stop in
     located_whole c.args.edition c.args.source.now files c.args.steps _ _ c.in-Ok.program.definitions.items c.in-Ok.program.image c.in-Ok-begin.stepper stop.outcome
     (g.D.ByteOut.outgoing c.finish-told.new.diag) (record { functions = entries_of tables; lines = lines_shown tables; files = files }) c.in-Ok.program.names.lines.items c.finish-told.result stop.call stop.steps None
     c.in-Ok.ensures.program c.in-Ok.ensures.lines (λ i. record { functions = c.in-Ok-new.ensures.functions i; lines = c.in-Ok-new.ensures.lines i; files = files }) c.in-Ok-begin.ensures ran.ensures.gives c.finish-told.ensures.gives

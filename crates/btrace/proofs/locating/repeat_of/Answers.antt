@@ -1,6 +1,10 @@
-use Rattle.std.proofs.lemmas.Result.{IfOk-weaker}
-use Rattle.btrace.proofs.Located.{on_all}
+use Rattle.std.proofs.Common.{◌≡◌, List, ℕ, ◌++◌, [], subst, true}
+use Rattle.std.specs.Prelude.{IfOk, IfSome}
+use Rattle.blang.specs.Machine.{run}
+use Rattle.bendless.specs.Repeats.{Repeats}
 use Rattle.btrace.proofs.locating.repeat_of.Goals as goal
 
-pub returns-in-Ok : goal.returns-in-Ok
-returns-in-Ok c = IfOk-weaker c.find_repeat.result _ _ (λ found h. on_all c.args.image.now found h) c.find_repeat.ensures
+pub returns-in-Ok-clause-repeats : goal.returns-in-Ok-clause-repeats
+returns-in-Ok-clause-repeats c =
+    subst (λ (bytes : List ℕ). IfOk c.find_repeat.result (λ again. IfSome again (λ r. (more : List ℕ) → (c.args.read.now.is_over ≡ true → more ≡ []) → Repeats (run c.args.image.now (bytes ++ more)) r)))
+    c.as_slice.ensures.value c.find_repeat.ensures
