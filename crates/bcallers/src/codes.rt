@@ -1,5 +1,5 @@
 use bcode::{CodeFault, CodeReader, CodeStep, read_code, write_begin, write_definition, write_end};
-use bword::{ByteOut, Edition, MemIn, MemOut};
+use bword::{ByteIn, ByteOut, Edition, MemIn, MemOut};
 use std::test::Fail;
 
 const CODE: &str = "X n 1 0\nc 2000\nE\n";
@@ -32,6 +32,7 @@ fn readers(rt: HostRuntime) {
     let mut owned = CodeReader::new(rt.alloc(), MemIn::new(CODE.as_bytes()), Edition::One);
     assert!(rt; matches!(owned.next(), CodeStep::Definition(_)));
     assert!(rt; matches!(owned.next(), CodeStep::End));
+    assert!(rt; owned.into_end().next() == Ok(None));
     let mut input = MemIn::new(CODE.as_bytes());
     let mut lent = CodeReader::new(rt.alloc(), &mut input, Edition::Two);
     assert!(rt; matches!(lent.next(), CodeStep::Fault(CodeFault::Line(1))));

@@ -1,4 +1,7 @@
-use bparse::{Compiler, Step, compile, compile_edition};
+use bparse::{
+    Compiler, Step, Unwatched, compile, compile_definitions, compile_edition, compile_list,
+    compile_watched,
+};
 use bword::{Edition, MemIn, MemOut};
 use std::test::Fail;
 
@@ -45,4 +48,48 @@ fn whole_sources(rt: HostRuntime) {
     );
     assert_eq!(rt; status, 0);
     assert_eq!(rt; out.bytes(), b"B 2\nE\n".as_slice());
+}
+
+#[test]
+fn watched_sources(rt: HostRuntime) {
+    let (mut out, mut diag) = (MemOut::new(rt.alloc()), MemOut::new(rt.alloc()));
+    let status = compile_watched(
+        rt.alloc(),
+        &mut MemIn::new(b"a;"),
+        &mut out,
+        &mut diag,
+        &mut Unwatched,
+        Edition::One,
+    );
+    assert_eq!(rt; status, 0);
+    let mut source = MemIn::new(b"#");
+    let status = compile_watched(
+        rt.alloc(),
+        &mut &mut source,
+        &mut &mut out,
+        &mut &mut diag,
+        &mut Unwatched,
+        Edition::One,
+    );
+    assert_eq!(rt; status, 1);
+    assert_eq!(rt; out.bytes(), b"X a 0 0\nE\n".as_slice());
+    assert_eq!(rt; diag.bytes(), b"ch 1\n".as_slice());
+}
+
+#[test]
+fn definitions_of_sources(rt: HostRuntime) {
+    let mut diag = MemOut::new(rt.alloc());
+    let mut source = MemIn::new(b"a;v[2];");
+    let (status, code) = compile_list(rt.alloc(), &mut source, &mut diag, Edition::One);
+    assert!(rt; status == 0 && code.len() == 2);
+    let mut source = MemIn::new(b"a;a;");
+    let (status, _) = compile_list(rt.alloc(), &mut &mut source, &mut &mut diag, Edition::Two);
+    assert_eq!(rt; status, 1);
+    assert_eq!(rt; diag.bytes(), b"rd a 1\n".as_slice());
+    let mut source = MemIn::new(b"f(){}");
+    let (last, code) = compile_definitions(rt.alloc(), &mut source, &mut Unwatched, Edition::One);
+    assert!(rt; matches!(last, Step::Finished) && code.len() == 1);
+    let mut source = MemIn::new(b"f(){");
+    let (last, _) = compile_definitions(rt.alloc(), &mut &mut source, &mut Unwatched, Edition::One);
+    assert!(rt; matches!(last, Step::Fault(_)));
 }

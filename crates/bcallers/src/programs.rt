@@ -1,6 +1,6 @@
 use bcode::read_code;
 use blang::Outcome;
-use bmach::{load, run};
+use bmach::{Stepper, load, load_slice, run};
 use bpages::PagedStore;
 use brun::{go, go_edition, migrate, run_text};
 use bword::{Edition, FlatStore, MemIn, MemOut, Name};
@@ -29,6 +29,32 @@ fn images(rt: HostRuntime) -> Result<(), Fail> {
     );
     assert!(rt; answer == Outcome::Limit);
     assert_eq!(rt; out.bytes(), b"hihi".as_slice());
+    Ok(())
+}
+
+// The first three steps, and then the others.
+#[test]
+fn steps(rt: HostRuntime) -> Result<(), Fail> {
+    let code = read_code(rt.alloc(), HI.as_bytes())?;
+    let image = load_slice(rt.alloc(), code.as_slice())?;
+    let store = FlatStore::new(rt.alloc())?;
+    let begun = Stepper::begin(rt.alloc(), &image, store);
+    let mut stepper = begun.ok().ok_or("a run")?;
+    let (mut input, mut out) = (MemIn::new(b""), MemOut::new(rt.alloc()));
+    assert!(rt; stepper.step(&mut input, &mut out) == Ok(()));
+    assert!(rt; stepper.step(&mut &mut input, &mut &mut out) == Ok(()));
+    assert!(rt; stepper.step(&mut input, &mut out) == Ok(()));
+    assert_eq!(rt; stepper.operands(), [4, 26729].as_slice());
+    assert!(rt; stepper.top().place == 3 && stepper.top().parameters == 0);
+    assert!(rt; stepper.callers() == 0 && stepper.caller(0).is_none());
+    assert!(rt; stepper.word(7) == 7 && stepper.stored().is_empty());
+    let stop = stepper.run(&mut input, &mut out, 9);
+    assert!(rt; stop.outcome == Outcome::Exit(0) && stop.steps == 4);
+    assert_eq!(rt; out.bytes(), b"hi".as_slice());
+    let pages = Stepper::begin(rt.alloc(), &image, PagedStore::new(rt.alloc())?);
+    let stepper = pages.ok().ok_or("a run")?;
+    let stop = stepper.run(&mut &mut input, &mut &mut out, 2);
+    assert!(rt; stop.outcome == Outcome::Limit && stop.call.place == 2);
     Ok(())
 }
 

@@ -1,52 +1,37 @@
-//! Comments that begin in one file of a source and end in another one.
+//! The comment that begins in the first file of a source and ends in another one.
 use crate::finding::Place;
-use crate::spans::{SourceText, is_last};
-use blex::{PlacedPiece, Scanner};
+use crate::spans::SourceText;
+use blex::{Lexeme, PlacedPiece, Scanner};
 use bsources::SourceFiles;
-use std::alloc::{AllocError, Global};
 
-/// The comments of a source that begin in one file and end in another one.
-pub(crate) fn comments_across(
-    alloc: Global,
-    source: SourceText<'_>,
-    files: &SourceFiles<'_>,
-) -> Result<Vec<Place>, AllocError> {
-    let mut found = Vec::new(alloc);
+/// The comment that begins in the first file and ends in another one, if there is one: it is the last of that file.
+pub(crate) fn comment_across(source: SourceText<'_>, files: &SourceFiles<'_>) -> Option<Place> {
     if files.rest.is_empty() {
-        return Ok(found);
+        return None;
     }
     let mut scanner = Scanner::new(source.text, source.edition);
     for _ in 0..=source.text.len() {
         let piece = scanner.next();
         match piece.lexeme {
-            None => add_comment(source.text, files, &piece, &mut found)?,
-            Some(lexeme) if is_last(&lexeme) => break,
-            Some(_) => {}
+            None if goes_on(source.text, files, &piece) => {
+                return Some(Place {
+                    line: piece.line,
+                    start: piece.first,
+                    len: 2,
+                });
+            }
+            Some(Lexeme::End) => return None,
+            _ => {}
         }
     }
-    Ok(found)
+    None
 }
 
-// Adds a comment that begins in one file and ends in another one.
-fn add_comment(
-    text: &[u8],
-    files: &SourceFiles<'_>,
-    comment: &PlacedPiece,
-    found: &mut Vec<Place>,
-) -> Result<(), AllocError> {
-    let line = comment.line;
-    let last = line.saturating_add(newlines(text, comment.first, comment.end));
-    if files.beyond_first(line).is_none()
-        && last > line
-        && files.own_line(line).file != files.own_line(last).file
-    {
-        found.push(Place {
-            line,
-            start: comment.first,
-            len: 2,
-        })?;
-    }
-    Ok(())
+fn goes_on(text: &[u8], files: &SourceFiles<'_>, comment: &PlacedPiece) -> bool {
+    let last = comment
+        .line
+        .saturating_add(newlines(text, comment.first, comment.end));
+    files.beyond_first(comment.line).is_none() && files.beyond_first(last).is_some()
 }
 
 // How many newlines are between two places.

@@ -51,13 +51,11 @@ pub(crate) fn look_around(spans: &Spans, extent: Extent, token: usize) -> Around
             found.first = at.saturating_add(1);
             is_first = true;
         }
-        if depth == 0 && !is_first {
-            match lexeme {
-                Lexeme::Colon => colons = colons.saturating_add(1),
-                Lexeme::Question if colons == 0 => found.is_asked = true,
-                Lexeme::Question => colons = colons.saturating_sub(1),
-                _ => {}
-            }
+        match lexeme {
+            Lexeme::Colon => colons = colons.saturating_add(1),
+            Lexeme::Question if colons == 0 => found.is_asked = true,
+            Lexeme::Question => colons = colons.saturating_sub(1),
+            _ => {}
         }
         if closes_bracket(&lexeme) {
             depth = depth.saturating_add(1);
@@ -100,7 +98,7 @@ fn part_of(spans: &Spans, extent: Extent, token: usize) -> Region {
         return Region::Start;
     }
     let second = extent.first.saturating_add(1);
-    if token <= second || lexeme_at(spans, second) != Lexeme::OpenParen {
+    if lexeme_at(spans, second) != Lexeme::OpenParen {
         return Region::External;
     }
     for at in second..token {

@@ -144,21 +144,15 @@ fn number_of(text: &[u8]) -> Constant {
 fn quoted_at(text: &[u8], place: &Place) -> (Constant, Place) {
     let quote = text.get(0).copied().unwrap_or(b'"');
     let mut is_escaped = false;
-    let mut count: usize = 0;
     for index in 1..text.len() {
         let byte = text[index];
         if !is_escaped && byte == quote {
-            return (counted(quote, count), *place);
+            return (closed_at(quote, index), *place);
         }
         if let Some(wrong) = wrong_in(byte, is_escaped) {
             return (wrong, within(place, text, index, wrong));
         }
         is_escaped = !is_escaped && byte == b'*';
-        count = if is_escaped {
-            count
-        } else {
-            count.saturating_add(1)
-        };
     }
     (Constant::Unclosed, *place)
 }
@@ -190,10 +184,10 @@ fn within(place: &Place, text: &[u8], index: usize, wrong: Constant) -> Place {
     }
 }
 
-// What is wrong with so many characters between quotes.
-fn counted(quote: u8, count: usize) -> Constant {
-    match (quote, count) {
-        (b'\'', 0) => Constant::Characterless,
+// What is wrong with characters that a quote ends at this place after the first quote.
+fn closed_at(quote: u8, index: usize) -> Constant {
+    match (quote, index) {
+        (b'\'', 1) => Constant::Characterless,
         (b'\'', _) => Constant::Characters,
         _ => Constant::Long,
     }

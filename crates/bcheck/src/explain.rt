@@ -6,7 +6,7 @@ ghost use Rattle.bcheck.specs.Checks.{AreFindings, EachOutcome, Judged, status_t
 ghost use Rattle.bcheck.specs.Findings.{AreWhole, IsCompiled, IsReasoned, IsStopOf, TellsFault};
 ghost use Rattle.bcheck.specs.declared.verdict.Verdict.TheVariants as verdict;
 
-use crate::across::comments_across;
+use crate::across::comment_across;
 use crate::advice::Matter;
 use crate::brackets::Brackets;
 use crate::compiled::{Compiled, Extent};
@@ -14,7 +14,7 @@ use crate::defined::Defined;
 use crate::excerpt::excerpt_at;
 use crate::finding::{Finding, Told};
 use crate::form::{FindingForm, Request};
-use crate::patterns::{DefinitionTokens, add_comments, find};
+use crate::patterns::{DefinitionTokens, add_comment, find};
 use crate::places::{milestones, place_on, spot_of};
 use crate::spans::{SourceText, SpanReader, Spans, place_of};
 use crate::undefined::undefined_names;
@@ -161,20 +161,14 @@ fn warnings(
     ends: &[usize],
 ) -> Result<Vec<Finding>, AllocError> {
     let defined = Defined::read(alloc, source, ends)?;
-    let comments = comments_across(alloc, source, files)?;
     let mut findings = Vec::new(alloc);
     let mut reader = SpanReader::new(source);
     let mut spans = Spans::new(alloc);
-    let (mut first, mut last) = (0, 0);
-    for index in 0..ends.len() {
-        let extent = Extent {
-            first,
-            end: ends[index],
-        };
+    let mut first = 0;
+    for end in ends {
+        let extent = Extent { first, end: *end };
         first = extent.end;
         spans.refill(&mut reader, extent)?;
-        add_comments(comments.as_slice(), last, reader.end, &mut findings)?;
-        last = reader.end;
         let brackets = Brackets::new(alloc, &spans)?;
         let tokens = DefinitionTokens {
             source: source.text,
@@ -189,6 +183,8 @@ fn warnings(
             find(alloc, &tokens, extent, &mut findings)?;
         }
     }
-    add_comments(comments.as_slice(), last, usize::MAX, &mut findings)?;
+    if let Some(place) = comment_across(source, files) {
+        add_comment(place, &mut findings)?;
+    }
     Ok(findings)
 }

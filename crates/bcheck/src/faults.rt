@@ -166,12 +166,9 @@ fn definition_of(source: SourceText<'_>, compiled: &Compiled, name: Name) -> Ear
     }
 }
 
-// Whether so many tokens are the parameters of a function and a `;`.
+// Whether the first `)` of so many tokens is the last but one of them.
 fn is_prototype(reader: &mut SpanReader<'_>, count: usize) -> bool {
-    if reader.next().lexeme != Lexeme::OpenParen {
-        return false;
-    }
-    for passed in 2..count {
+    for passed in 1..count {
         if reader.next().lexeme == Lexeme::CloseParen {
             return passed.saturating_add(1) == count;
         }

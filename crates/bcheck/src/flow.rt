@@ -16,12 +16,12 @@ pub(crate) struct Judgement {
     /// The tokens of the loop around.
     loop_first: usize,
     loop_end: usize,
-    /// The tokens of this loop that a turn may leave out.
+    /// Tokens in this loop that a turn may leave out.
     branch_first: usize,
     branch_end: usize,
     /// The automatic to which a value is assigned just now.
     pending: Option<Name>,
-    /// How many brackets and how many `?` with no `:` are open in this value.
+    /// How many brackets are open in this value.
     open: u64,
 }
 
@@ -56,14 +56,14 @@ impl Judgement {
                 self.loop_end = statement_end(spans, brackets, self.loop_first);
             }
             Lexeme::Keyword(Keyword::Goto) if token < self.loop_end => self.is_over = true,
-            Lexeme::Keyword(Keyword::If | Keyword::While) if token >= self.branch_end => {
+            Lexeme::Keyword(Keyword::If | Keyword::While) if self.may_branch(token) => {
                 let body = brackets.mate(token.wrapping_add(1)).saturating_add(1);
                 self.leaves_out(spans, brackets, body);
             }
-            Lexeme::Keyword(Keyword::Switch) if token >= self.branch_end => {
+            Lexeme::Keyword(Keyword::Switch) if self.may_branch(token) => {
                 self.leaves_out(spans, brackets, brace_after(spans, token));
             }
-            Lexeme::Question if token >= self.branch_end => {
+            Lexeme::Question if self.may_branch(token) => {
                 self.leaves_out(spans, brackets, token);
             }
             _ => {}
@@ -75,23 +75,24 @@ impl Judgement {
     // Goes on past a token of a value that is assigned, perhaps.
     fn goes_on(&mut self, lexeme: &Lexeme, locals: &mut Locals) {
         match lexeme {
-            Lexeme::OpenParen | Lexeme::OpenBracket | Lexeme::Question => {
-                self.open = self.open.saturating_add(1);
-            }
-            Lexeme::CloseParen | Lexeme::CloseBracket | Lexeme::Colon if self.open > 0 => {
+            Lexeme::OpenParen | Lexeme::OpenBracket => self.open = self.open.saturating_add(1),
+            Lexeme::CloseParen | Lexeme::CloseBracket if self.open > 0 => {
                 self.open = self.open.saturating_sub(1);
             }
             Lexeme::Comma if self.open > 0 => {}
-            Lexeme::Semicolon
-            | Lexeme::Comma
-            | Lexeme::CloseParen
-            | Lexeme::CloseBracket
-            | Lexeme::Colon => self.settle(locals),
+            Lexeme::Semicolon | Lexeme::Comma | Lexeme::CloseParen | Lexeme::CloseBracket => {
+                self.settle(locals);
+            }
             _ => {}
         }
     }
 
-    // Takes note of a statement that begins with this token and isn't done on each way.
+    // Whether a turn of the loop comes to this token, after which a part may be left out.
+    fn may_branch(&self, token: usize) -> bool {
+        token >= self.loop_first && token < self.loop_end && token >= self.branch_end
+    }
+
+    // Takes note of a statement that begins with this token and that a turn may leave out.
     fn leaves_out(&mut self, spans: &Spans, brackets: &Brackets, first: usize) {
         self.branch_first = first;
         self.branch_end = statement_end(spans, brackets, first);
@@ -106,8 +107,7 @@ impl Judgement {
             return false;
         }
         let is_left_out = token >= self.branch_first && token < self.branch_end;
-        let is_in_loop = token >= self.loop_first && token < self.loop_end;
-        if is_left_out && is_in_loop && local.sets > 0 {
+        if is_left_out && local.sets > 0 {
             locals.set(&name);
             return false;
         }

@@ -26,8 +26,8 @@ pub(crate) fn outside(tokens: &DefinitionTokens<'_>, token: usize) -> Option<Fou
 
 // Whether a name is like `main`, which no function has.
 fn is_for_main(tokens: &DefinitionTokens<'_>, name: &Name) -> bool {
-    match Name::new("main") {
-        Some(main) => is_near(name, &main) && tokens.defined.find(&main).is_none(),
-        None => false,
-    }
+    matches!(
+        Name::new("main"),
+        Some(main) if is_near(name, &main) && tokens.defined.find(&main).is_none()
+    )
 }

@@ -80,22 +80,8 @@ impl Found {
     }
 }
 
-/// Adds those of the comments that go on into another file which begin between two places.
-pub(crate) fn add_comments(
-    comments: &[Place],
-    from: usize,
-    end: usize,
-    findings: &mut Vec<Finding>,
-) -> Result<(), AllocError> {
-    for place in comments {
-        if from <= place.start && place.start < end {
-            add_comment(*place, findings)?;
-        }
-    }
-    Ok(())
-}
-
-fn add_comment(place: Place, findings: &mut Vec<Finding>) -> Result<(), AllocError> {
+/// Adds a comment that goes on into another file.
+pub(crate) fn add_comment(place: Place, findings: &mut Vec<Finding>) -> Result<(), AllocError> {
     if findings.len() >= MOST_FINDINGS {
         return Ok(());
     }
@@ -146,28 +132,24 @@ fn find_in(
     let mut locals = Locals::new(alloc, spans, function)?;
     let ruled = Ruled::new(alloc, spans, function)?;
     let mut flow = Judgement::new();
-    let mut declares = None;
+    let mut declares = false;
     let body = tokens
         .brackets
         .mate(function.first.saturating_add(1))
         .saturating_add(1);
     for token in body..function.end {
         let lexeme = lexeme_at(spans, token);
-        if let Lexeme::Keyword(Keyword::Auto | Keyword::Extrn) = lexeme {
-            declares = Some(lexeme);
-        }
-        let found = match declares {
-            Some(Lexeme::Keyword(Keyword::Auto)) => declared(tokens, &locals, token),
-            Some(_) => None,
-            None => found_at(tokens, &locals, &ruled, token),
+        declares = declares || lexeme == Lexeme::Keyword(Keyword::Auto);
+        let found = if declares {
+            declared(tokens, &locals, token)
+        } else {
+            found_at(tokens, &locals, &ruled, token)
         };
         Found::add(found, spans, findings)?;
-        if declares.is_none() && flow.step(spans, tokens.brackets, &mut locals, token) {
+        if !declares && flow.step(spans, tokens.brackets, &mut locals, token) {
             Found::add(unset(spans, token), spans, findings)?;
         }
-        if lexeme == Lexeme::Semicolon {
-            declares = None;
-        }
+        declares = declares && lexeme != Lexeme::Semicolon;
     }
     Ok(())
 }
@@ -336,7 +318,7 @@ fn is_short(text: &[u8]) -> bool {
 // A backslash before what is an escape in C.
 fn backslash(tokens: &DefinitionTokens<'_>, token: usize) -> Option<Found> {
     let text = text_of(tokens, token);
-    for index in 1..text.len().saturating_sub(2) {
+    for index in 1..text.len() {
         let next = text.get(index.saturating_add(1));
         if text.get(index) == Some(&b'\\')
             && matches!(next, Some(b'n' | b't' | b'r' | b'0' | b'\\'))

@@ -46,8 +46,7 @@ pub(crate) struct SourceText<'a> {
 pub(crate) struct SpanReader<'a> {
     text: &'a [u8],
     scanner: Scanner<'a>,
-    /// The place after the token that was given last.
-    pub end: usize,
+    /// The end, once it has been given.
     last: Option<Span>,
 }
 
@@ -56,19 +55,17 @@ impl<'a> SpanReader<'a> {
         SpanReader {
             text: source.text,
             scanner: Scanner::new(source.text, source.edition),
-            end: 0,
             last: None,
         }
     }
 
-    /// The next token. After the last one it comes again.
+    /// The next token. After the end it comes again.
     pub(crate) fn next(&mut self) -> Span {
         if let Some(last) = self.last {
             return last;
         }
         let span = self.next_span();
-        self.end = span.end();
-        if is_last(&span.lexeme) {
+        if span.lexeme == Lexeme::End {
             self.last = Some(span);
         }
         span
@@ -135,7 +132,7 @@ impl Spans {
         for _ in extent.first..extent.end {
             let span = reader.next();
             self.all.push(span)?;
-            if is_last(&span.lexeme) {
+            if span.lexeme == Lexeme::End {
                 break;
             }
         }
@@ -150,11 +147,6 @@ impl Spans {
     pub(crate) fn end(&self) -> usize {
         self.first.saturating_add(self.all.len())
     }
-}
-
-/// Whether no token comes after this one.
-pub(crate) fn is_last(lexeme: &Lexeme) -> bool {
-    matches!(lexeme, Lexeme::Bad(_) | Lexeme::End)
 }
 
 /// The token at a place among the tokens, or the end of the source.
@@ -175,18 +167,18 @@ pub(crate) fn name_at(spans: &Spans, token: usize) -> Option<Name> {
 
 /// Whether the next token stands directly after this one.
 pub(crate) fn is_joined(spans: &Spans, token: usize) -> bool {
-    match (spans.get(token), spans.get(token.wrapping_add(1))) {
-        (Some(span), Some(next)) => span.end() == next.place.start,
-        _ => false,
-    }
+    matches!(
+        (spans.get(token), spans.get(token.wrapping_add(1))),
+        (Some(span), Some(next)) if span.end() == next.place.start
+    )
 }
 
 /// Whether the next token stands on another line.
 pub(crate) fn is_next_line(spans: &Spans, token: usize) -> bool {
-    match (spans.get(token), spans.get(token.wrapping_add(1))) {
-        (Some(span), Some(next)) => span.place.line != next.place.line,
-        _ => false,
-    }
+    matches!(
+        (spans.get(token), spans.get(token.wrapping_add(1))),
+        (Some(span), Some(next)) if span.place.line != next.place.line
+    )
 }
 
 /// Where a token stands. The end of the source stands after the token before it.
@@ -226,5 +218,5 @@ pub(crate) fn utf8_length(text: &[u8]) -> usize {
             return index;
         }
     }
-    text.len().min(4).max(1)
+    text.len().min(4)
 }

@@ -6,7 +6,7 @@ ghost use Rattle.bcheck.specs.Checks.{is_on_line};
 use crate::around::{Around, Region, opener_of};
 use crate::foreign::Foreign;
 use crate::kinds::{ANY, CLOSE_PAREN, COMMA, Like, OPEN_PAREN, STRING};
-use crate::spans::{Spans, is_joined, is_next_line, lexeme_at};
+use crate::spans::{Spans, is_joined, is_next_line, lexeme_at, place_of};
 use blang::Keyword;
 use blex::Lexeme;
 use bword::BinOp;
@@ -367,11 +367,10 @@ const OPERANDS: [Mistake; 20] = [
 
 /// Statements that begin or end at the wrong place.
 #[rattlefmt::skip]
-const STATEMENTS: [Mistake; 7] = [
+const STATEMENTS: [Mistake; 6] = [
     Mistake(BODY, If::ParenOpen, [ANY, ANY, Like::Ended, Like::Keyword, ANY], Syntax::ParenOpen, Marking::Here),
     Mistake(BODY, If::Always, [SWITCH, ANY, Like::Ended, ANY, ANY], Syntax::SwitchBraces, Marking::Here),
     Mistake(BODY, If::IfBrace, [ANY, ANY, STATEMENT_END, ELSE, ANY], Syntax::ElseInBraces, Marking::Here),
-    Mistake(BODY, If::NextLine, [ANY, ANY, Like::Ended, ELSE, ANY], Syntax::SemicolonMissing, Marking::Here),
     Mistake(BODY, If::Always, [ANY, ANY, STATEMENT_END, ELSE, ANY], Syntax::ElseAlone, Marking::Here),
     Mistake(BODY, If::LineStart, [Like::Name, ANY, CLOSE_PAREN, OPEN_BRACE, ANY], Syntax::FunctionInside,
         Marking::First),
@@ -509,26 +508,21 @@ fn is_prototype(spans: &Spans, token: usize) -> bool {
 
 // Whether the condition of an `if` ends with this token.
 fn is_after_if(spans: &Spans, closer: usize) -> bool {
-    match opener_of(spans, closer) {
-        Some(opener) => IF.fits(&lexeme_at(spans, opener.wrapping_sub(1))),
-        None => false,
-    }
+    matches!(
+        opener_of(spans, closer),
+        Some(opener) if IF.fits(&lexeme_at(spans, opener.wrapping_sub(1)))
+    )
 }
 
 fn is_line_start(source: &[u8], spans: &Spans, token: usize) -> bool {
-    match spans.get(token) {
-        Some(span) => matches!(
-            source.get(span.place.start.wrapping_sub(1)),
-            None | Some(b'\n')
-        ),
-        None => false,
-    }
+    let before = place_of(spans, token).start.wrapping_sub(1);
+    matches!(source.get(before), None | Some(b'\n'))
 }
 
 // Whether the last character of a string is a backslash.
 fn ends_with_backslash(source: &[u8], spans: &Spans, token: usize) -> bool {
-    match spans.get(token) {
-        Some(span) => source.get(span.end().wrapping_sub(2)) == Some(&b'\\'),
-        None => false,
-    }
+    matches!(
+        spans.get(token),
+        Some(span) if source.get(span.end().wrapping_sub(2)) == Some(&b'\\')
+    )
 }

@@ -108,7 +108,7 @@ impl Warning {
                 ("st", "this compares addresses, and no characters",
                  "a loop compares char(s, i) and char(t, i), as in examples/copy.b"),
             Warning::NameAlone => ("no", "this statement does nothing", "a call has parentheses: f();"),
-            Warning::ComparesAlone => ("no", "this statement compares, and does nothing more", "= assigns: x = 4;"),
+            Warning::ComparesAlone => ("no", "nothing is done with this comparison", "= assigns: x = 4;"),
             Warning::NoEffect => ("no", "this statement does nothing", "assign its value, x = a + b; or take it out"),
             Warning::Backslash =>
                 ("bs", "a backslash in quotes is a character like others", "* begins an escape: '*n' is a newline"),

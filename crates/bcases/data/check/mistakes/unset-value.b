@@ -5,6 +5,7 @@ main() {
     given(2);
     before(2);
     early(2);
+    within(2);
     either(2);
     next(2);
 }
@@ -39,6 +40,14 @@ early(a) {
     auto x;
     while(a ? x : 0)
         x = a--;
+}
+within(a) {
+    auto x;
+    if(a)
+        while(a--) {
+            printn(x, 10);
+            x = 1;
+        }
 }
 either(a) {
     auto x;

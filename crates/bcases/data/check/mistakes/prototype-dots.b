@@ -1,0 +1,4 @@
+main() {
+    int printf(char *format, ...);
+    putchar('a');
+}
