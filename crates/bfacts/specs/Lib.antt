@@ -1,2 +1,3 @@
 pub mod FurtherRows
+pub mod NoticeFacts
 pub mod UnitFacts

@@ -1,0 +1,118 @@
+-- Closed facts: what is said between each operator and each node, and of which expressions nothing comes.
+use Rattle.std.specs.Prelude.{◌≡◌, true, false, List, [], ◌∷◌, ◌++◌, None, Option, Some, codes, map, refl, replicate}
+use Rattle.bword.specs.declared.operators.BinOp.{BinOp}
+use Rattle.bword.specs.declared.operators.BinOp.TheVariants as op
+use Rattle.blang.specs.Trees.{Address, Another, Assigned, Binary, Called, Conditional, Expr, Grouped, Indexed}
+use Rattle.blang.specs.Trees.{Indirection, Literal, Named, Negate, No_arguments, Not, Number, PostDecrement}
+use Rattle.blang.specs.Trees.{PostIncrement, Postfixed, PreDecrement, Prefixed, PreIncrement, Text}
+use Rattle.btree.specs.declared.nodes.Node.{Node}
+use Rattle.btree.specs.declared.nodes.Node.TheVariants as node
+use Rattle.brules.specs.declared.rules.Rule.{Rule}
+use Rattle.brules.specs.declared.rules.Rule.TheVariants as rule
+use Rattle.brules.specs.Notices.{acts}
+use Rattle.brules.specs.Rules.{is_comparison, of_idle, told_between}
+
+-- | & == != < <= > >= << >> - + % * /
+abbrev operators : List BinOp
+operators =
+    op.Or ∷ op.And ∷ op.Eq ∷ op.Ne ∷ op.Lt ∷ op.Le ∷ op.Gt ∷ op.Ge ∷ op.Shl ∷ op.Shr ∷ op.Sub ∷ op.Add ∷ op.Rem ∷ op.Mul
+    ∷ op.Div ∷ []
+
+-- each node that has no operator of two sides
+abbrev nodes : List Node
+nodes =
+    node.Name ∷ node.Constant ∷ node.Indexed ∷ node.Indirection ∷ node.Text ∷ node.Grouped ∷ node.NoArguments
+    ∷ node.Argument ∷ node.Called ∷ node.PostIncrement ∷ node.PostDecrement ∷ node.Negate ∷ node.Address
+    ∷ node.PreIncrement ∷ node.PreDecrement ∷ node.Conditional ∷ node.Assigned None ∷ node.Assigned (Some op.Eq)
+    ∷ node.Evaluated ∷ node.Tested ∷ node.Switched ∷ node.Returned ∷ node.Target ∷ []
+
+abbrev silent : List (Option Rule)
+silent = map (λ n. None) nodes
+
+-- between two names nothing is said
+between_names : map (λ o. told_between o node.Name node.Name) operators ≡ map (λ o. None) operators
+between_names = refl
+
+-- a & a == a and a | a == a, and no other operator before or after
+before_equals : map (λ o. told_between o node.Name (node.Binary op.Eq)) operators
+    ≡ Some rule.BitsCompared ∷ Some rule.BitsCompared ∷ replicate 13 None
+before_equals = refl
+
+after_bits : map (λ o. map (λ outer. told_between outer node.Name (node.Binary o)) (op.Or ∷ op.And ∷ [])) operators
+    ≡ replicate 2 (None ∷ None ∷ []) ++ replicate 2 (Some rule.BitsCompared ∷ Some rule.BitsCompared ∷ [])
+    ++ replicate 11 (None ∷ None ∷ [])
+after_bits = refl
+
+-- which parts are words of any value
+words_beside_bits : map (λ n. told_between op.And n (node.Binary op.Ne)) nodes
+    ≡ replicate 4 (Some rule.BitsCompared) ++ replicate 19 None
+words_beside_bits = refl
+
+no_word_beside_bits : map (λ n. told_between op.Or n (node.Binary op.Ne))
+    (node.Not ∷ map (λ o. node.Binary o) operators) ≡ replicate 16 None
+no_word_beside_bits = refl
+
+-- !a before each operator, with a word and with another ! on the other side
+after_not : map (λ o. told_between o node.Not node.Name) operators
+    ≡ replicate 2 None ++ replicate 6 (Some rule.NotCompared) ++ replicate 7 None
+after_not = refl
+
+between_nots : map (λ o. told_between o node.Not node.Not) operators
+    ≡ replicate 4 None ++ replicate 4 (Some rule.NotCompared) ++ replicate 7 None
+between_nots = refl
+
+before_not : map (λ o. told_between o node.Name node.Not) operators ≡ map (λ o. None) operators
+before_not = refl
+
+-- a comparison of what each operator gives: == and != with each other, < <= > >= with each other
+abbrev twice : List (Option Rule)
+twice = replicate 4 (Some rule.ComparesTwice)
+
+compared_again : map (λ o. map (λ outer. told_between outer (node.Binary o) node.Name) (op.Eq ∷ op.Ne ∷ [])) operators
+    ≡ replicate 2 (None ∷ None ∷ []) ++ replicate 2 (Some rule.ComparesTwice ∷ Some rule.ComparesTwice ∷ [])
+    ++ replicate 11 (None ∷ None ∷ [])
+compared_again = refl
+
+related_again : map (λ o. map (λ outer. told_between outer (node.Binary o) node.Name)
+    (op.Lt ∷ op.Le ∷ op.Gt ∷ op.Ge ∷ [])) operators
+    ≡ replicate 4 (replicate 4 None) ++ replicate 4 twice ++ replicate 7 (replicate 4 None)
+related_again = refl
+
+other_parts : map (λ o. map (λ n. told_between o n node.Name) nodes) operators ≡ map (λ o. silent) operators
+other_parts = refl
+
+-- which operators compare, and how a statement is named that does nothing
+comparisons : map (λ o. is_comparison (node.Binary o)) operators
+    ≡ replicate 2 false ++ replicate 6 true ++ replicate 7 false
+comparisons = refl
+
+no_comparisons : map is_comparison (node.Not ∷ nodes) ≡ replicate 24 false
+no_comparisons = refl
+
+idle_nodes : map of_idle nodes ≡ rule.NameAlone ∷ replicate 22 rule.NoEffect
+idle_nodes = refl
+
+abbrev x : Expr
+x = Named (record { text = codes "x"; line = 1 })
+
+abbrev f : Expr
+f = Called x No_arguments
+
+-- x 1 "" (x) x[x] -x !x *x &x x+x x?x:x
+inert : map acts (x ∷ Literal (Number 1) ∷ Text [] 0 ∷ Grouped x ∷ Indexed x x ∷ Prefixed Negate 1 x
+    ∷ Prefixed Not 1 x ∷ Prefixed Indirection 1 x ∷ Prefixed Address 1 x ∷ Binary op.Add 1 x x ∷ Conditional x x x ∷ [])
+    ≡ replicate 11 false
+inert = refl
+
+-- f() f(x) x++ x-- ++x --x x=x x=+x
+active : map acts (f ∷ Called x (Another No_arguments x) ∷ Postfixed PostIncrement 1 x ∷ Postfixed PostDecrement 1 x
+    ∷ Prefixed PreIncrement 1 x ∷ Prefixed PreDecrement 1 x ∷ Assigned None 1 x x ∷ Assigned (Some op.Add) 1 x x ∷ [])
+    ≡ replicate 8 true
+active = refl
+
+-- (f()) f()[x] x[f()] -f() !f() *f() &f() f()+x x+f() f()?x:x x?f():x x?x:f()
+active_inside : map acts (Grouped f ∷ Indexed f x ∷ Indexed x f ∷ Prefixed Negate 1 f ∷ Prefixed Not 1 f
+    ∷ Prefixed Indirection 1 f ∷ Prefixed Address 1 f ∷ Binary op.Add 1 f x ∷ Binary op.Add 1 x f ∷ Conditional f x x
+    ∷ Conditional x f x ∷ Conditional x x f ∷ [])
+    ≡ replicate 12 true
+active_inside = refl
