@@ -1,0 +1,6 @@
+main() {
+    auto a;
+    a = 0;
+    while(a + (a)) ;
+    putchar('n');
+}
