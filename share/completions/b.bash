@@ -34,7 +34,7 @@ _b() {
     case ${COMP_WORDS[1]} in
     compile) words='--edition --with --help' ;;
     run) words='--steps --no-limit --where --help' ;;
-    go) words='--edition --steps --no-limit --where --with --help' ;;
+    go) words='--edition --steps --no-limit --where --careful --with --help' ;;
     migrate) words='--help' ;;
     list) words='--edition --with --code --made --lines --help' ;;
     map) words='--edition --with --svg --steps --help' ;;

@@ -9,6 +9,7 @@ use Rattle.bword.specs.declared.edition.Edition.{Edition}
 use Rattle.blang.specs.Compiles.{CompileHeadline, Compiles}
 use Rattle.blang.specs.Headline.{GoesOff, Headline}
 use Rattle.blang.specs.Reports.{RunEnds}
+use Rattle.bcareful.specs.Runs.{Runs}
 use Rattle.bcheck.specs.Checks.{Checks}
 use Rattle.bcheck.specs.declared.form.FindingForm.TheVariants as forms
 use Rattle.bcount.specs.declared.table.CountStyle.TheVariants as styles
@@ -27,7 +28,8 @@ use Rattle.btrace.specs.Traces.{Traces}
 use Rattle.bwatch.specs.declared.trail.TraceRows.TheVariants as traced
 use Rattle.bwhere.specs.Wheres.{LocatesCode}
 use Rattle.bcommand.specs.CommandLine.{OriginAsked, Question, SourceAsked, from_code, from_made, from_source}
-use Rattle.bcommand.specs.CommandLine.{ask, check, compile, count, draw, format, go, list, locate, locate_code}
+use Rattle.bcommand.specs.CommandLine.{ask, check, compile, count, draw, format, go, go_careful, list, locate}
+use Rattle.bcommand.specs.CommandLine.{locate_code}
 use Rattle.bcommand.specs.CommandLine.{map as layout, run, show, tell_names, trace}
 use Rattle.bcommand.specs.declared.job.Rows.TheVariants as which
 use Rattle.bsources.specs.Files.{Files, NamedText, followed}
@@ -111,6 +113,9 @@ module _ (origin : Origin) (edition : Edition) (files : Files) (text : List ℕ)
   located : (steps : ℕ) → answered (locate steps) → Locates edition text files steps ends status
   located steps a = a
 
+  gone_carefully : (steps : ℕ) → answered (go_careful steps) → Runs edition text files steps ends status
+  gone_carefully steps a = a
+
   counted : (from : OriginAsked) (steps : ℕ) (for_editor : Bool) → answered (count from steps for_editor)
       → Counts (record { origin = origin; steps = steps; files = files; style = style_of for_editor }) text ends status
   counted from steps for_editor a = a
@@ -141,9 +146,9 @@ module _ (origin : Origin) (edition : Edition) (files : Files) (text : List ℕ)
 -- what each question asks a program to be read from
 origins_asked : (from : OriginAsked) → map origin_of
     (list from None ∷ trace from 3 (which.Last 2) None ∷ count from 3 true ∷ layout ∷ draw None ∷ check true
-    ∷ tell_names ∷ locate 3 ∷ show 3 (which.From 1) None ∷ format true ∷ [])
+    ∷ tell_names ∷ locate 3 ∷ go_careful 3 ∷ show 3 (which.From 1) None ∷ format true ∷ [])
     ≡ from ∷ from ∷ from ∷ from_source ∷ from_source ∷ from_source ∷ from_source ∷ from_source ∷ from_source
-    ∷ from_source ∷ []
+    ∷ from_source ∷ from_source ∷ []
 origins_asked from = refl
 
 -- What the shelf holds under the names that were asked for is compiled, run or told of, in the edition and for the

@@ -26,6 +26,7 @@ use Rattle.btools.specs.Programs.{ToldEnds}
 use Rattle.bdraw.specs.Draws.{Draws}
 use Rattle.btrace.specs.Locates.{Locates}
 use Rattle.btrace.specs.Traces.{Traces}
+use Rattle.bcareful.specs.Runs.{Runs}
 use Rattle.bwatch.specs.declared.trail.TraceRows.{TraceRows as Traced}
 use Rattle.bwatch.specs.declared.trail.TraceRows.TheVariants as traced
 use Rattle.bcount.specs.Counts.{Counts}
@@ -37,7 +38,7 @@ use Rattle.bwhere.specs.Wheres.{LocatesCode}
 use Rattle.bcommand.specs.CommandLine.{Asked, OriginAsked, Question, SourceAsked, asked, clash_line, command_line}
 use Rattle.bcommand.specs.CommandLine.{from_source, from_code, from_made}
 use Rattle.bcommand.specs.CommandLine.{compile, run, locate_code, go, migrate, ask, contradiction}
-use Rattle.bcommand.specs.CommandLine.{list, map, draw, check, tell_names, trace, locate, count, show, format}
+use Rattle.bcommand.specs.CommandLine.{list, map, draw, check, tell_names, trace, locate, go_careful, count, show, format}
 use Rattle.bcommand.specs.declared.job.Rows.{Rows}
 use Rattle.bcommand.specs.declared.job.Rows.TheVariants as which
 use Rattle.bcli.specs.Shelves.{Holdings}
@@ -199,6 +200,7 @@ AnswersOf origin edition files text tell_names ends status =
 AnswersOf origin edition files text (trace asked steps shown function) ends status =
     Traces origin text steps (traced_rows shown) files function ends status
 AnswersOf origin edition files text (locate steps) ends status = Locates edition text files steps ends status
+AnswersOf origin edition files text (go_careful steps) ends status = Runs edition text files steps ends status
 AnswersOf origin edition files text (count asked steps for_editor) ends status =
     Counts (record { origin = origin; steps = steps; files = files; style = style_of for_editor }) text ends status
 AnswersOf origin edition files text (show steps shown input) ends status =

@@ -61,7 +61,7 @@ pub record NothingFails (edition : Edition) (rest : List ℕ) (ends : RunEnds) (
   pub counted : AreCounted rest ends
   pub undisturbed : IsUndisturbed (compiling edition ends.input ends.input_after ends status)
 
--- the questions that tell of a run of a source, but for a picture
+-- the questions that tell of a run of a source, but for a picture and a careful run
 abbrev pub tells_run : Question → Bool
 tells_run (trace from_source steps shown function) = true
 tells_run (locate steps) = true

@@ -17,6 +17,7 @@ ghost use Rattle.bcli.specs.Shelves.{opened};
 use crate::origins::read_origin;
 use crate::shelf::{FileFault, MemFile, Shelf, SystemFiles};
 use crate::sources::{Unread, Whole, read_libs, read_source};
+use bcareful::go_careful;
 use bcheck::{FindingForm, Request, check};
 use bcommand::{
     Display, Job, OriginNames, Question, Rows, SourceNames, UNREAD, clash_text, job_of, parse,
@@ -283,6 +284,7 @@ fn origin_of(question: Question<'_>) -> OriginNames<'_>
         | Question::Check(_)
         | Question::Names
         | Question::Locate(_)
+        | Question::GoCareful(_)
         | Question::Show(_)
         | Question::Format(_) => OriginNames::Source,
     }
@@ -331,6 +333,9 @@ fn answer<I: ByteIn, O: ByteOut, D: ByteOut>(
             trace(alloc, text, origin, wanted, input, out, diag)
         }
         Question::Locate(steps) => locate(alloc, text, edition, files, steps, input, out, diag),
+        Question::GoCareful(steps) => {
+            go_careful(alloc, text, edition, files, steps, input, out, diag)
+        }
         Question::Count(_, steps, for_editor) => {
             let counting = Counting {
                 origin,

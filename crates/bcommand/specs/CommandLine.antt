@@ -72,6 +72,9 @@ no_limit_rule = flag_rule (codes "no-limit")
 abbrev pub where_rule : Rule
 where_rule = flag_rule (codes "where")
 
+abbrev pub careful_rule : Rule
+careful_rule = flag_rule (codes "careful")
+
 abbrev pub last_rule : Rule
 last_rule = number_rule (codes "last") MOST_STEPS
 
@@ -123,8 +126,8 @@ abbrev pub run_command : App
 run_command = with_rule (with_run_options (new_app (codes "run"))) where_rule
 
 abbrev pub go_command : App
-go_command =
-    with_rule (with_rule (with_run_options (with_rule (new_app (codes "go")) edition_rule)) where_rule) with_lib_rule
+go_command = with_rule (with_rule (with_rule
+    (with_run_options (with_rule (new_app (codes "go")) edition_rule)) where_rule) careful_rule) with_lib_rule
 
 abbrev pub migrate_command : App
 migrate_command = new_app (codes "migrate")
@@ -280,10 +283,10 @@ source_in rows = record { file = file_in rows; libs = libs_in rows; edition = ed
 
 -- What is asked of a source: its code, or that of its definitions of a name; its layout; a picture of its memory, after
 -- so many steps if there is a number; its faults, for an editor or for people; its names; the steps of its program
--- among so many, which of them are shown, and of which function; a run of so many steps, and where it is over; how many
--- steps each line takes in such a run, for an editor or for people; a page of a run, with this input if there is one;
--- the source in one style, or whether it is in that. Its code, its steps and those of its lines may be asked of a code
--- text, too.
+-- among so many, which of them are shown, and of which function; a run of so many steps, and where it is over; the same
+-- up to the first step with a finding; how many steps each line takes in such a run, for an editor or for people; a page
+-- of a run, with this input if there is one; the source in one style, or whether it is in that. Its code, its steps and
+-- those of its lines may be asked of a code text, too.
 pub data Question : Type 0 where
   list : OriginAsked → (name : Option Text) → Question
   map : Question
@@ -292,6 +295,7 @@ pub data Question : Type 0 where
   tell_names : Question
   trace : OriginAsked → (steps : ℕ) (shown : Rows) (function : Option Text) → Question
   locate : (steps : ℕ) → Question
+  go_careful : (steps : ℕ) → Question
   count : OriginAsked → (steps : ℕ) (for_editor : Bool) → Question
   show : (steps : ℕ) (shown : Rows) (input : Option Text) → Question
   format : (is_check : Bool) → Question
@@ -314,10 +318,12 @@ run_asked file false (Some steps) = run file steps
 run_asked file true (Some steps) = locate_code file steps
 run_asked file is_located None = contradiction clash.Limits
 
-abbrev pub go_asked : SourceAsked → (is_located : Bool) → Option ℕ → Asked
-go_asked source false (Some steps) = go source steps
-go_asked source true (Some steps) = ask source (locate steps)
-go_asked source is_located None = contradiction clash.Limits
+-- A careful run tells its place, too.
+abbrev pub go_asked : SourceAsked → (is_located is_careful : Bool) → Option ℕ → Asked
+go_asked source false false (Some steps) = go source steps
+go_asked source true false (Some steps) = ask source (locate steps)
+go_asked source is_located true (Some steps) = ask source (go_careful steps)
+go_asked source is_located is_careful None = contradiction clash.Limits
 
 -- a picture is asked for by its flag, or by a number of steps
 abbrev pub map_asked : Bool → Option ℕ → Question
@@ -350,7 +356,8 @@ abbrev pub run_in : List Row → Asked
 run_in rows = run_asked (file_in rows) (is_set_in (codes "where") rows) (steps_in rows)
 
 abbrev pub go_in : List Row → Asked
-go_in rows = go_asked (source_in rows) (is_set_in (codes "where") rows) (steps_in rows)
+go_in rows =
+    go_asked (source_in rows) (is_set_in (codes "where") rows) (is_set_in (codes "careful") rows) (steps_in rows)
 
 abbrev pub map_in : List Row → Question
 map_in rows = map_asked (is_set_in (codes "svg") rows) (option_number (codes "steps") rows)
@@ -416,6 +423,7 @@ question_of (questioned.Check for_editor) = check for_editor
 question_of questioned.Names = tell_names
 question_of (questioned.Trace walk) = walk_shown walk
 question_of (questioned.Locate steps) = locate steps
+question_of (questioned.GoCareful steps) = go_careful steps
 question_of (questioned.Count origin steps for_editor) = count (origin_shown origin) steps for_editor
 question_of (questioned.Show it) = display_shown it
 question_of (questioned.Format is_check) = format is_check

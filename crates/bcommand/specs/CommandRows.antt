@@ -7,7 +7,7 @@ use Rattle.bword.specs.declared.edition.Edition.TheVariants as editions
 use Rattle.bword.specs.declared.edition.Edition.{Edition}
 use Rattle.bcommand.specs.CommandLine.{Asked, SourceAsked, asked, command_line}
 use Rattle.bcommand.specs.CommandLine.{compile, run, locate_code, go, migrate, ask, contradiction}
-use Rattle.bcommand.specs.CommandLine.{list, map, draw, check, tell_names, trace, locate, count, show, format}
+use Rattle.bcommand.specs.CommandLine.{list, map, draw, check, tell_names, trace, locate, go_careful, count, show, format}
 use Rattle.bcommand.specs.CommandLine.{from_source}
 use Rattle.bcommand.specs.declared.job.Clash.TheVariants as clash
 use Rattle.bcommand.specs.declared.job.Rows.TheVariants as which
@@ -69,6 +69,21 @@ locates_within_limits : Asks (codes "b" ∷ codes "go" ∷ codes "--where" ∷ c
     ∷ codes "x" ∷ []) (contradiction clash.Limits)
 unfolding clap_on_literals
 locates_within_limits = (refl, refl)
+
+goes_careful : Asks (codes "b" ∷ codes "go" ∷ codes "--careful" ∷ codes "x" ∷ codes "--steps" ∷ codes "50" ∷ [])
+    (ask (x editions.One) (go_careful 50))
+unfolding clap_on_literals
+goes_careful = (refl, refl)
+
+goes_careful_where : Asks (codes "b" ∷ codes "go" ∷ codes "x" ∷ codes "--where" ∷ codes "--careful" ∷ [])
+    (ask (x editions.One) (go_careful 10000000))
+unfolding clap_on_literals
+goes_careful_where = (refl, refl)
+
+goes_careful_within_limits : Asks (codes "b" ∷ codes "go" ∷ codes "--careful" ∷ codes "--no-limit" ∷ codes "--steps=5"
+    ∷ codes "x" ∷ []) (contradiction clash.Limits)
+unfolding clap_on_literals
+goes_careful_within_limits = (refl, refl)
 
 locates_in_code : Asks (codes "b" ∷ codes "run" ∷ codes "--where" ∷ codes "x" ∷ []) (locate_code (codes "x") 10000000)
 unfolding clap_on_literals

@@ -5,8 +5,8 @@ use Rattle.clap.proofs.OnLiterals.{clap_on_literals}
 use Rattle.bword.specs.declared.edition.Edition.TheVariants as editions
 use Rattle.bcommand.specs.CommandLine.{Asked, SourceAsked, asked, command_line}
 use Rattle.bcommand.specs.CommandLine.{compile, run, locate_code, go, ask, contradiction}
-use Rattle.bcommand.specs.CommandLine.{list, map as layout, draw, check, tell_names, trace, locate, count}
-use Rattle.bcommand.specs.CommandLine.{show, format}
+use Rattle.bcommand.specs.CommandLine.{list, map as layout, draw, check, tell_names, trace, locate, go_careful}
+use Rattle.bcommand.specs.CommandLine.{count, show, format}
 use Rattle.bcommand.specs.CommandLine.{from_source}
 use Rattle.bcommand.specs.declared.job.Clash.TheVariants as clash
 use Rattle.bcommand.specs.declared.job.Rows.TheVariants as which
@@ -14,9 +14,9 @@ use Rattle.bcommand.specs.declared.job.Rows.TheVariants as which
 -- one of each option
 abbrev options : List Text
 options =
-    codes "--edition=2" ∷ codes "--with=l" ∷ codes "--steps=5" ∷ codes "--no-limit" ∷ codes "--where" ∷ codes "--json"
-    ∷ codes "--svg" ∷ codes "--from=5" ∷ codes "--last=5" ∷ codes "--function=f" ∷ codes "--input=i" ∷ codes "--check"
-    ∷ codes "--code" ∷ codes "--made=c" ∷ codes "--lines=l" ∷ []
+    codes "--edition=2" ∷ codes "--with=l" ∷ codes "--steps=5" ∷ codes "--no-limit" ∷ codes "--where"
+    ∷ codes "--careful" ∷ codes "--json" ∷ codes "--svg" ∷ codes "--from=5" ∷ codes "--last=5" ∷ codes "--function=f"
+    ∷ codes "--input=i" ∷ codes "--check" ∷ codes "--code" ∷ codes "--made=c" ∷ codes "--lines=l" ∷ []
 
 abbrev of_code : List Text
 of_code = codes "--code" ∷ codes "--made=c" ∷ codes "--lines=l" ∷ []
@@ -37,7 +37,8 @@ unfolding clap_on_literals
 run_takes = refl
 
 go_takes : taken (codes "go") x
-    ≡ codes "--edition=2" ∷ codes "--with=l" ∷ codes "--steps=5" ∷ codes "--no-limit" ∷ codes "--where" ∷ []
+    ≡ codes "--edition=2" ∷ codes "--with=l" ∷ codes "--steps=5" ∷ codes "--no-limit" ∷ codes "--where"
+    ∷ codes "--careful" ∷ []
 unfolding clap_on_literals
 go_takes = refl
 
@@ -133,11 +134,13 @@ of_both name more = asked_by_words (name ∷ codes "--edition=2" ∷ codes "--wi
 
 -- each command that tells of a source takes its edition and the files after it
 files_of_each :
-    of_both (codes "go") [] ∷ of_both (codes "go") (codes "--where" ∷ []) ∷ of_both (codes "list") []
+    of_both (codes "go") [] ∷ of_both (codes "go") (codes "--where" ∷ [])
+    ∷ of_both (codes "go") (codes "--careful" ∷ []) ∷ of_both (codes "list") []
     ∷ of_both (codes "map") [] ∷ of_both (codes "map") (codes "--svg" ∷ []) ∷ of_both (codes "check") []
     ∷ of_both (codes "names") (codes "--json" ∷ []) ∷ of_both (codes "trace") [] ∷ of_both (codes "count") []
     ∷ of_both (codes "show") [] ∷ []
-    ≡ go both 10000000 ∷ ask both (locate 10000000) ∷ ask both (list from_source None) ∷ ask both layout
+    ≡ go both 10000000 ∷ ask both (locate 10000000) ∷ ask both (go_careful 10000000)
+    ∷ ask both (list from_source None) ∷ ask both layout
     ∷ ask both (draw None) ∷ ask both (check false) ∷ ask both tell_names
     ∷ ask both (trace from_source 1000 (which.From 1) None) ∷ ask both (count from_source 10000000 false)
     ∷ ask both (show 2000 (which.From 1) None) ∷ []
@@ -160,13 +163,14 @@ steps_of_each :
     of_x (codes "run" ∷ codes "--no-limit" ∷ []) ∷ of_x (codes "run" ∷ codes "--no-limit" ∷ codes "--steps=5" ∷ [])
     ∷ of_x (codes "run" ∷ codes "--where" ∷ codes "--no-limit" ∷ [])
     ∷ of_x (codes "go" ∷ codes "--steps=5" ∷ []) ∷ of_x (codes "go" ∷ codes "--where" ∷ codes "--no-limit" ∷ [])
+    ∷ of_x (codes "go" ∷ codes "--careful" ∷ codes "--no-limit" ∷ [])
     ∷ of_x (codes "trace" ∷ codes "--steps=5" ∷ []) ∷ of_x (codes "trace" ∷ codes "--from=5" ∷ [])
     ∷ of_x (codes "count" ∷ codes "--steps=5" ∷ []) ∷ of_x (codes "count" ∷ codes "--json" ∷ [])
     ∷ of_x (codes "show" ∷ codes "--steps=5" ∷ []) ∷ of_x (codes "show" ∷ codes "--steps=5" ∷ codes "--from=7" ∷ [])
     ∷ of_x (codes "show" ∷ codes "--steps=5" ∷ codes "--last=7" ∷ []) ∷ []
     ≡ run (codes "x") 18446744073709551615 ∷ contradiction clash.Limits
     ∷ locate_code (codes "x") 18446744073709551615
-    ∷ go alone 5 ∷ ask alone (locate 18446744073709551615)
+    ∷ go alone 5 ∷ ask alone (locate 18446744073709551615) ∷ ask alone (go_careful 18446744073709551615)
     ∷ ask alone (trace from_source 5 (which.From 1) None) ∷ ask alone (trace from_source 1000 (which.From 5) None)
     ∷ ask alone (count from_source 5 false) ∷ ask alone (count from_source 10000000 true)
     ∷ ask alone (show 5 (which.From 1) None) ∷ ask alone (show 5 (which.From 7) None)

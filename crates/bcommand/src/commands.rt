@@ -119,6 +119,12 @@ const WHERE: ArgumentRow = ArgumentRow {
     help: "Tells where a trap or the limit came, and what it means",
 };
 
+const CAREFUL: ArgumentRow = ArgumentRow {
+    id: "careful",
+    kind: GivenAs::Flag(false),
+    help: "Stops at a word never set, or an index off its vector",
+};
+
 const CODE_WHERE: ArgumentRow = ArgumentRow {
     id: "where",
     kind: GivenAs::Flag(false),
@@ -205,7 +211,7 @@ const COMMANDS: [CommandRow; 12] = [
         about: "Compiles the source in FILE and runs it",
         usage: None,
         help: GO_HELP,
-        arguments: &[EDITION, STEPS, NO_LIMIT, FILE, WHERE, WITH],
+        arguments: &[EDITION, STEPS, NO_LIMIT, FILE, WHERE, CAREFUL, WITH],
     },
     CommandRow {
         name: "migrate",

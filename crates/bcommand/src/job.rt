@@ -51,6 +51,8 @@ pub enum Question<'a> {
     Trace(Walk<'a>),
     /// Where a run of so many steps at most is over.
     Locate(u64),
+    /// A run of so many steps at most, up to the first one with a finding.
+    GoCareful(u64),
     /// The steps of each of its lines in a run of so many at most, and whether an editor reads them.
     Count(OriginNames<'a>, u64, bool),
     Show(Display<'a>),

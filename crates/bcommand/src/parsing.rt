@@ -68,9 +68,10 @@ fn go_of<'m, 'a: 'm>(given: &'m ArgMatches<'a>) -> Job<'m>
     ensures { asked_of result ≡ go_in (rows_of (found_of given.now)) }
 {
     let source = source_of(given);
-    let steps = steps_of(given);
-    match (steps, is_set(given, "where")) {
-        (Some(steps), true) => Job::Ask(source, Question::Locate(steps)),
+    let is_located = is_set(given, "where");
+    match (steps_of(given), is_set(given, "careful")) {
+        (Some(steps), true) => Job::Ask(source, Question::GoCareful(steps)),
+        (Some(steps), false) if is_located => Job::Ask(source, Question::Locate(steps)),
         (Some(steps), false) => Job::Go(source, steps),
         (None, _) => Job::Contradiction(Clash::Limits),
     }

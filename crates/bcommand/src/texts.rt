@@ -73,6 +73,7 @@ Examples:
   b go hello.b                        compiles a source and runs it
   b go --edition 2 menu.b             the same with a source of edition 2
   b go --where hello.b                tells where a trap came
+  b go --careful hello.b              stays at a word never set or off a vector
   b go --with print sum.b             puts a second source after the first one
   b compile < hello.b > hello.code    writes its code text into a file
   b run hello.code                    runs the code text
@@ -120,7 +121,8 @@ program. These are the other statuses, with their line on standard error:
          >s  the 129th name of a function
          >c  the 257th case of a function
          >e  a definition past a limit of size
-  130  a trap: the run can't go on. The line is trap and two letters
+  130  a finding of b go --careful, of which its help tells; or a trap: the run
+       can't go on, and the line is trap and two letters
          dz  a division by 0
          fn  a call of something that is no function
          gt  a goto to something that is no label of the function
@@ -304,15 +306,24 @@ steps were made. Then come this line of the source, and what the trap means.
 b trace --last N shows the steps before it. Where a fault is in a LIB, the
 second line tells the line there and the name of LIB.
 
+With --careful, the run stays at the first step with a finding. The line is
+  careful set     the step reads a word that nothing has set
+  careful index   its address has left the vector, the name, the parameters or
+                  the string that it was made of
+  careful low     no word of the program has its address
+Then come the place, as with --where, and the names of the words.
+
 Examples:
   b go --steps 1000 hello.b
   b go --edition 2 menu.b
   b go --where hello.b
+  b go --careful hello.b
   b go --with print --with input sum.b
 
-Statuses: 0 to 127 the program's own, 1 also a fault of the source, 130 a trap,
-131 the limit of steps, 132 code that doesn't load, 133 a failed read or write,
-134 out of memory, 135 a wrong command line. b --help explains the letters.";
+Statuses: 0 to 127 the program's own, 1 also a fault of the source, 130 a trap
+or a finding, 131 the limit of steps, 132 code that doesn't load, 133 a failed
+read or write, 134 out of memory, 135 a wrong command line. b --help explains
+the letters.";
 
 pub(crate) const COUNT_HELP: &str = "\
 Beside each line of the source stand how often its first instruction was made

@@ -48,6 +48,10 @@ pub returns-in-Locate-clause-answers : goal.returns-in-Locate-clause-answers
 returns-in-Locate-clause-answers g c =
     answered _ _ _ _ c.args.question (questions.Locate c.in-Locate.steps) _ _ c.in-Locate.is c.locate.ensures.locates
 
+pub returns-in-GoCareful-clause-answers : goal.returns-in-GoCareful-clause-answers
+returns-in-GoCareful-clause-answers g c =
+    answered _ _ _ _ c.args.question (questions.GoCareful c.in-GoCareful.steps) _ _ c.in-GoCareful.is c.go_careful.ensures.runs
+
 pub returns-in-Count-clause-answers : goal.returns-in-Count-clause-answers
 returns-in-Count-clause-answers g c =
     answered _ _ _ _ c.args.question (questions.Count c.in-Count.field-0 c.in-Count.steps c.in-Count.for_editor) _ _ c.in-Count.is

@@ -1,0 +1,5 @@
+main() {
+    auto x;
+    f(x);
+}
+f(a) ;

@@ -1,0 +1,4 @@
+main() {
+    auto v 1;
+    store(v, 2);
+}

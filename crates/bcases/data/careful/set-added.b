@@ -1,0 +1,5 @@
+main() {
+    auto n;
+    n =+ 5;
+    printn(n, 10);
+}

@@ -1,0 +1,6 @@
+main() {
+    auto n;
+    putchar('a');
+    n++;
+    printn(n, 10);
+}

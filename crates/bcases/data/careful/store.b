@@ -1,0 +1,3 @@
+/* Stores 7. */
+store(v, i)
+    v[i] = 7;
