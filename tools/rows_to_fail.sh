@@ -42,6 +42,11 @@ row 'map --svg' 'f() ;'
 row trace 'main() putchar(getchar());'
 row 'trace --last 2' 'main() printn(1 / 0, 10);'
 row 'go --where' "$reading" x
+row try "$reading" x
+row try 'main() { auto v 1; 5; putchar(getchar()); v[2] = 5; }' x
+row try 'main() { printn(n, 10); }'
+row try 'f() ;'
+row 'try --steps 9' 'main() while(1) ;'
 row 'go --careful' "$reading" x
 row 'go --careful' 'main() { auto v 1; putchar(getchar()); v[2] = 5; }' x
 row 'go --careful --steps 40' 'main() { auto c; while((c = getchar()) != 4) printn(c, 10); }' xyz
@@ -67,6 +72,7 @@ row "count --with $lib" 'main() f(getchar());' x
 row "show --with $lib" 'main() f(getchar());' x
 row "compile --with $lib" 'main() f(1);'
 row "go --where --with $lib" 'main() {'
+row "try --with $lib" 'main() f(getchar());' x
 row "go --careful --with $lib" 'main() { auto x; f(x); }'
 row "trace --with $lib" 'main() {'
 row "count --with $lib" 'main() {'

@@ -97,7 +97,7 @@ For more information, try '--help'." 135
 fi
 
 case $b_command in
-compile | go | list | map | check | names | trace | count | show | format)
+compile | go | try | list | map | check | names | trace | count | show | format)
     for b_word; do
         b_at=$((b_at + 1))
         b_put="\${$b_at}"

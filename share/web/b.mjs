@@ -278,7 +278,7 @@ export async function load(given) {
 
 // ---- The command line, for Node alone ----
 
-const WITH_SOURCE = ['compile', 'go', 'list', 'map', 'check', 'trace', 'count', 'show', 'format'];
+const WITH_SOURCE = ['compile', 'go', 'try', 'list', 'map', 'check', 'trace', 'count', 'show', 'format'];
 const READS_INPUT = ['list', 'map', 'check', 'format'];
 
 /** The words, with the path of its file for a name of the library, and standard input for the FILE `-`. */

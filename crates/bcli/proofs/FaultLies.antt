@@ -21,7 +21,7 @@ use Rattle.btrace.specs.Locates.{Locates}
 use Rattle.btrace.specs.Traces as traces
 use Rattle.btrace.specs.Traces.{Traces}
 use Rattle.bwatch.specs.declared.trail.TraceRows.{TraceRows}
-use Rattle.bcommand.specs.CommandLine.{Question, check, count, draw, format, from_code, from_made, from_source, go_careful, list, locate, map, show, tell_names, trace}
+use Rattle.bcommand.specs.CommandLine.{Question, check, count, draw, format, from_code, from_made, from_source, go_careful, list, locate, map, show, tell_names, trace, try_out}
 use Rattle.btools.specs.Origins.{NoProgramOf, Origin, ProgramOf, Source}
 use Rattle.bsources.specs.Files.{Files}
 use Rattle.bcli.specs.ShellExcluded.{tells_run}
@@ -85,6 +85,7 @@ fault_told shelf edition files text (trace from_code steps shown function) ends 
 fault_told shelf edition files text (trace (from_made made lined) steps shown function) ends d faulty tells answers = cc
 fault_told shelf edition files text (locate steps) ends d faulty tells answers = by_place edition text d faulty files steps ends answers
 fault_told shelf edition files text (go_careful steps) ends d faulty tells answers = cc
+fault_told shelf edition files text (try_out steps) ends d faulty tells answers = cc
 fault_told shelf edition files text (count from_source steps for_editor) ends d faulty tells answers = by_count edition text d faulty _ refl ends answers
 fault_told shelf edition files text (count from_code steps for_editor) ends d faulty tells answers = cc
 fault_told shelf edition files text (count (from_made made lined) steps for_editor) ends d faulty tells answers = cc

@@ -5,3 +5,4 @@ mod ReadLibs
 mod FaultLies
 mod Processes
 mod Showing
+mod TriedSources

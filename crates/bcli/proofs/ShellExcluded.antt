@@ -26,6 +26,7 @@ use Rattle.blang.specs.Cut.{tokens_from}
 use Rattle.bsources.specs.Files.{Files, NamedText, file_in, file_of, following}
 use Rattle.bcli.proofs.FaultLies.{fault_told}
 use Rattle.bcli.proofs.Joined.{failed_joined, joined_answers}
+use Rattle.bcli.proofs.TriedSources.{tried_unread}
 use Rattle.btools.specs.Origins.{Code, Origin}
 use Rattle.bcli.specs.Serves.{OnOrigin, origin_of, CompilesJoined, NamesLib, Reads, ReadsLibs, compiling, files_read, whole, Answers, AnswersOf, Does, HasNoFile, IsHelp, NamesFile, RefusesWords, SaysNothing, Serves, did, refused, no_memory}
 use Rattle.bcli.specs.ShellExcluded.{AreWrong, Excluded, FileIsRead, HoldsOne, NothingFails, alone, files_alone, in_file, with_lib}
@@ -351,6 +352,7 @@ module _ (shelf : Holdings) where
     made_alone = made_alone;
     lines_later = lines_later;
     fault_told = fault_told shelf;
+    tried_unread = tried_unread;
     compiled_joined = compiled_joined;
     failed_joined = λ edition rest ends it counted none. failed_joined edition rest ends 133 it counted none refl;
     both_done = λ clash ends does. not_done _ 135 ends.line ends.line_after (λ e. omega (arith, e)) does.1;

@@ -5,3 +5,4 @@ pub mod Reading
 pub mod Serves
 pub mod ServeRows
 pub mod Shelves
+pub mod Tries

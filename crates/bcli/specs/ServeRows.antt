@@ -29,11 +29,12 @@ use Rattle.bwatch.specs.declared.trail.TraceRows.TheVariants as traced
 use Rattle.bwhere.specs.Wheres.{LocatesCode}
 use Rattle.bcommand.specs.CommandLine.{OriginAsked, Question, SourceAsked, from_code, from_made, from_source}
 use Rattle.bcommand.specs.CommandLine.{ask, check, compile, count, draw, format, go, go_careful, list, locate}
-use Rattle.bcommand.specs.CommandLine.{locate_code}
+use Rattle.bcommand.specs.CommandLine.{locate_code, try_out}
 use Rattle.bcommand.specs.CommandLine.{map as layout, run, show, tell_names, trace}
 use Rattle.bcommand.specs.declared.job.Rows.TheVariants as which
 use Rattle.bsources.specs.Files.{Files, NamedText, followed}
 use Rattle.bcli.specs.Shelves.{Holdings}
+use Rattle.bcli.specs.Tries.{Tries, next_text}
 use Rattle.bcli.specs.Serves.{Answers, AnswersOf, CompilesJoined, Does, OnOrigin, Reads, ReadsLibs, compiling}
 use Rattle.bcli.specs.Serves.{files_read, form_of, no_file_line, origin_of, style_of, telling_ends, traced_rows, whole}
 
@@ -47,6 +48,26 @@ styles_asked = refl
 -- the steps from a number on, and the last ones
 traced_asked : map traced_rows (which.From 3 ∷ which.Last 3 ∷ []) ≡ traced.From 3 ∷ traced.Last 3 ∷ []
 traced_asked = refl
+
+-- what comes next after each status, where the source has no fault
+next_of_runs : map (next_text 0) (0 ∷ 1 ∷ 127 ∷ 130 ∷ 131 ∷ 132 ∷ 133 ∷ 134 ∷ [])
+    ≡ codes "next: no finding; b show in place of b try, with > run.html, shows each step\n"
+    ∷ codes "next: no finding; the status is the one that the program gave to exit\n"
+    ∷ codes "next: no finding; the status is the one that the program gave to exit\n"
+    ∷ codes "next: b trace --last 20 in place of b try shows the steps that led there\n"
+    ∷ codes "next: b count in place of b try shows which lines take so many steps\n"
+    ∷ codes "next: write a function main, with which a run begins\n"
+    ∷ codes "next: a read or a write failed; look at the input and at the output\n"
+    ∷ codes "next: memory ran out; end other programs, and try it again\n" ∷ []
+next_of_runs = refl
+
+-- and where it has one, or could not be checked
+next_of_checks : map (λ status. next_text status status) (1 ∷ 132 ∷ 133 ∷ 134 ∷ [])
+    ≡ codes "next: do what stands after fix, and try it again\n"
+    ∷ codes "next: do what stands after fix, and try it again\n"
+    ∷ codes "next: a read or a write failed; look at the input and at the output\n"
+    ∷ codes "next: memory ran out; end other programs, and try it again\n" ∷ []
+next_of_checks = refl
 
 -- a file that can't be read is told by its own name
 no_file_told : no_file_line (codes "l.b") ≡ codes "error: the file 'l.b' can't be read\n"
@@ -116,6 +137,9 @@ module _ (origin : Origin) (edition : Edition) (files : Files) (text : List ℕ)
   gone_carefully : (steps : ℕ) → answered (go_careful steps) → Runs edition text files steps ends status
   gone_carefully steps a = a
 
+  tried : (steps : ℕ) → answered (try_out steps) → Tries edition files text steps ends status
+  tried steps a = a
+
   counted : (from : OriginAsked) (steps : ℕ) (for_editor : Bool) → answered (count from steps for_editor)
       → Counts (record { origin = origin; steps = steps; files = files; style = style_of for_editor }) text ends status
   counted from steps for_editor a = a
@@ -146,9 +170,9 @@ module _ (origin : Origin) (edition : Edition) (files : Files) (text : List ℕ)
 -- what each question asks a program to be read from
 origins_asked : (from : OriginAsked) → map origin_of
     (list from None ∷ trace from 3 (which.Last 2) None ∷ count from 3 true ∷ layout ∷ draw None ∷ check true
-    ∷ tell_names ∷ locate 3 ∷ go_careful 3 ∷ show 3 (which.From 1) None ∷ format true ∷ [])
+    ∷ tell_names ∷ locate 3 ∷ go_careful 3 ∷ try_out 3 ∷ show 3 (which.From 1) None ∷ format true ∷ [])
     ≡ from ∷ from ∷ from ∷ from_source ∷ from_source ∷ from_source ∷ from_source ∷ from_source ∷ from_source
-    ∷ from_source ∷ from_source ∷ []
+    ∷ from_source ∷ from_source ∷ from_source ∷ []
 origins_asked from = refl
 
 -- What the shelf holds under the names that were asked for is compiled, run or told of, in the edition and for the

@@ -36,12 +36,13 @@ use Rattle.bshow.specs.Shows.{Shows}
 use Rattle.bformat.specs.Formats.{Formats}
 use Rattle.bwhere.specs.Wheres.{LocatesCode}
 use Rattle.bcommand.specs.CommandLine.{Asked, OriginAsked, Question, SourceAsked, asked, clash_line, command_line}
-use Rattle.bcommand.specs.CommandLine.{from_source, from_code, from_made}
+use Rattle.bcommand.specs.CommandLine.{from_source, from_code, from_made, try_out}
 use Rattle.bcommand.specs.CommandLine.{compile, run, locate_code, go, migrate, ask, contradiction}
 use Rattle.bcommand.specs.CommandLine.{list, map, draw, check, tell_names, trace, locate, go_careful, count, show, format}
 use Rattle.bcommand.specs.declared.job.Rows.{Rows}
 use Rattle.bcommand.specs.declared.job.Rows.TheVariants as which
 use Rattle.bcli.specs.Shelves.{Holdings}
+use Rattle.bcli.specs.Tries.{Tries}
 
 -- the message for words that aren't UTF-8
 abbrev pub unread_line : List ℕ
@@ -201,6 +202,7 @@ AnswersOf origin edition files text (trace asked steps shown function) ends stat
     Traces origin text steps (traced_rows shown) files function ends status
 AnswersOf origin edition files text (locate steps) ends status = Locates edition text files steps ends status
 AnswersOf origin edition files text (go_careful steps) ends status = Runs edition text files steps ends status
+AnswersOf origin edition files text (try_out steps) ends status = Tries edition files text steps ends status
 AnswersOf origin edition files text (count asked steps for_editor) ends status =
     Counts (record { origin = origin; steps = steps; files = files; style = style_of for_editor }) text ends status
 AnswersOf origin edition files text (show steps shown input) ends status =

@@ -19,6 +19,7 @@ use Rattle.brun.specs.OneRun.{nothing_written, one_run_ends, unread}
 use Rattle.brun.specs.Runs.{RunsText}
 use Rattle.bcommand.specs.CommandLine.{Question, SourceAsked, ask, asked, command_line, compile, contradiction, go, run}
 use Rattle.bcommand.specs.CommandLine.{count, from_code, from_made, from_source, locate, locate_code, show, trace}
+use Rattle.bcommand.specs.CommandLine.{try_out}
 use Rattle.bsources.specs.Files.{Files, file_of}
 use Rattle.bsources.specs.JoinedEnds.{joined_in}
 use Rattle.btools.specs.Origins.{Code}
@@ -61,7 +62,7 @@ pub record NothingFails (edition : Edition) (rest : List ℕ) (ends : RunEnds) (
   pub counted : AreCounted rest ends
   pub undisturbed : IsUndisturbed (compiling edition ends.input ends.input_after ends status)
 
--- the questions that tell of a run of a source, but for a picture and a careful run
+-- the questions that tell of a run of a source, but for a picture and careful runs
 abbrev pub tells_run : Question → Bool
 tells_run (trace from_source steps shown function) = true
 tells_run (locate steps) = true
@@ -135,6 +136,10 @@ pub record Excluded (shelf : Holdings) : Type 0 where
       (d : Diagnostic) → HasFault edition text d → tells_run question ≡ true
       → Answers shelf edition files text question ends FAULT
       → Writes ends.line (fault_lines files d) ends.line_after
+  -- a source with a fault that is tried, after which something of the input was read
+  pub tried_unread : (edition : Edition) (files : Files) (text : List ℕ) (steps : ℕ) (ends : RunEnds) (status : ℕ)
+      (d : Diagnostic) → HasFault edition text d → Answers shelf edition files text (try_out steps) ends status
+      → ends.input_after ≡ ends.input
   -- the input and a file that are compiled as other bytes, or that get 133 or 134 where nothing failed
   pub compiled_joined : (lib b input : List ℕ) (edition : Edition) (ends : RunEnds) (status : ℕ) → HoldsOne shelf lib b
       → Tells ends.input input → NothingFails edition (10 ∷ b) ends status

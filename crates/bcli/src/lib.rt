@@ -7,6 +7,7 @@ mod process;
 mod serving;
 mod shelf;
 mod sources;
+mod trying;
 
 pub use process::{Served, Streams, serve_process, wrong_processes_are_excluded};
 pub use serving::{files_are_read, refuse_words, serve, serve_with, wrong_answers_are_excluded};

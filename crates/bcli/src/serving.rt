@@ -17,6 +17,7 @@ ghost use Rattle.bcli.specs.Shelves.{opened};
 use crate::origins::read_origin;
 use crate::shelf::{FileFault, MemFile, Shelf, SystemFiles};
 use crate::sources::{Unread, Whole, read_libs, read_source};
+use crate::trying::{Attempt, try_source};
 use bcareful::go_careful;
 use bcheck::{FindingForm, Request, check};
 use bcommand::{
@@ -285,6 +286,7 @@ fn origin_of(question: Question<'_>) -> OriginNames<'_>
         | Question::Names
         | Question::Locate(_)
         | Question::GoCareful(_)
+        | Question::Try(_)
         | Question::Show(_)
         | Question::Format(_) => OriginNames::Source,
     }
@@ -335,6 +337,15 @@ fn answer<I: ByteIn, O: ByteOut, D: ByteOut>(
         Question::Locate(steps) => locate(alloc, text, edition, files, steps, input, out, diag),
         Question::GoCareful(steps) => {
             go_careful(alloc, text, edition, files, steps, input, out, diag)
+        }
+        Question::Try(steps) => {
+            let attempt = Attempt {
+                edition,
+                files,
+                text,
+                steps,
+            };
+            try_source(alloc, attempt, input, out, diag)
         }
         Question::Count(_, steps, for_editor) => {
             let counting = Counting {

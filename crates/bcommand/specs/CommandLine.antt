@@ -129,6 +129,9 @@ abbrev pub go_command : App
 go_command = with_rule (with_rule (with_rule
     (with_run_options (with_rule (new_app (codes "go")) edition_rule)) where_rule) careful_rule) with_lib_rule
 
+abbrev pub try_command : App
+try_command = with_rule (with_run_options (with_rule (new_app (codes "try")) edition_rule)) with_lib_rule
+
 abbrev pub migrate_command : App
 migrate_command = new_app (codes "migrate")
 
@@ -177,9 +180,10 @@ bare_line = on_top (λ s. record s { has_version = true; subcommand_required = t
 abbrev pub command_line : App
 command_line =
     with_subcommand (with_subcommand (with_subcommand (with_subcommand (with_subcommand (with_subcommand
-    (with_subcommand (with_subcommand (with_subcommand (with_subcommand (with_subcommand (with_subcommand bare_line
-    compile_command.top) run_command.top) go_command.top) migrate_command.top) list_command.top) map_command.top)
-    check_command.top) names_command.top) trace_command.top) count_command.top) show_command.top) format_command.top
+    (with_subcommand (with_subcommand (with_subcommand (with_subcommand (with_subcommand (with_subcommand
+    (with_subcommand bare_line compile_command.top) run_command.top) go_command.top) try_command.top)
+    migrate_command.top) list_command.top) map_command.top) check_command.top) names_command.top) trace_command.top)
+    count_command.top) show_command.top) format_command.top
 
 -- the digits of a number that a u64 holds
 abbrev pub is_number : Text → Bool
@@ -284,7 +288,7 @@ source_in rows = record { file = file_in rows; libs = libs_in rows; edition = ed
 -- What is asked of a source: its code, or that of its definitions of a name; its layout; a picture of its memory, after
 -- so many steps if there is a number; its faults, for an editor or for people; its names; the steps of its program
 -- among so many, which of them are shown, and of which function; a run of so many steps, and where it is over; the same
--- up to the first step with a finding; how many steps each line takes in such a run, for an editor or for people; a page
+-- up to the first step with a finding; its faults, and such a run where there is none; how many steps each line takes in such a run, for an editor or for people; a page
 -- of a run, with this input if there is one; the source in one style, or whether it is in that. Its code, its steps and
 -- those of its lines may be asked of a code text, too.
 pub data Question : Type 0 where
@@ -296,6 +300,7 @@ pub data Question : Type 0 where
   trace : OriginAsked → (steps : ℕ) (shown : Rows) (function : Option Text) → Question
   locate : (steps : ℕ) → Question
   go_careful : (steps : ℕ) → Question
+  try_out : (steps : ℕ) → Question
   count : OriginAsked → (steps : ℕ) (for_editor : Bool) → Question
   show : (steps : ℕ) (shown : Rows) (input : Option Text) → Question
   format : (is_check : Bool) → Question
@@ -324,6 +329,10 @@ go_asked source false false (Some steps) = go source steps
 go_asked source true false (Some steps) = ask source (locate steps)
 go_asked source is_located true (Some steps) = ask source (go_careful steps)
 go_asked source is_located is_careful None = contradiction clash.Limits
+
+abbrev pub try_asked : SourceAsked → Option ℕ → Asked
+try_asked source (Some steps) = ask source (try_out steps)
+try_asked source None = contradiction clash.Limits
 
 -- a picture is asked for by its flag, or by a number of steps
 abbrev pub map_asked : Bool → Option ℕ → Question
@@ -359,6 +368,9 @@ abbrev pub go_in : List Row → Asked
 go_in rows =
     go_asked (source_in rows) (is_set_in (codes "where") rows) (is_set_in (codes "careful") rows) (steps_in rows)
 
+abbrev pub try_in : List Row → Asked
+try_in rows = try_asked (source_in rows) (steps_in rows)
+
 abbrev pub map_in : List Row → Question
 map_in rows = map_asked (is_set_in (codes "svg") rows) (option_number (codes "steps") rows)
 
@@ -379,6 +391,7 @@ show_in rows = show_asked (source_in rows) (option_number (codes "steps") rows) 
 abbrev pub asked_by : Text → List Row → Asked
 asked_by name rows = if bytes_eq name (codes "run") then run_in rows
     else (if bytes_eq name (codes "go") then go_in rows
+    else (if bytes_eq name (codes "try") then try_in rows
     else (if bytes_eq name (codes "migrate") then migrate
     else (if bytes_eq name (codes "list") then list_in rows
     else (if bytes_eq name (codes "map") then ask (source_in rows) (map_in rows)
@@ -388,7 +401,7 @@ asked_by name rows = if bytes_eq name (codes "run") then run_in rows
     else (if bytes_eq name (codes "count") then count_in rows
     else (if bytes_eq name (codes "show") then show_in rows
     else (if bytes_eq name (codes "format") then ask (source_in rows) (format (is_set_in (codes "check") rows))
-    else compile (edition_in rows) (libs_in rows)))))))))))
+    else compile (edition_in rows) (libs_in rows))))))))))))
 
 abbrev pub asked : Option (Text × List Row) → Asked
 asked None = compile editions.One []
@@ -424,6 +437,7 @@ question_of questioned.Names = tell_names
 question_of (questioned.Trace walk) = walk_shown walk
 question_of (questioned.Locate steps) = locate steps
 question_of (questioned.GoCareful steps) = go_careful steps
+question_of (questioned.Try steps) = try_out steps
 question_of (questioned.Count origin steps for_editor) = count (origin_shown origin) steps for_editor
 question_of (questioned.Show it) = display_shown it
 question_of (questioned.Format is_check) = format is_check

@@ -8,7 +8,7 @@ use Rattle.bword.specs.declared.edition.Edition.{Edition}
 use Rattle.bcommand.specs.CommandLine.{Asked, SourceAsked, asked, command_line}
 use Rattle.bcommand.specs.CommandLine.{compile, run, locate_code, go, migrate, ask, contradiction}
 use Rattle.bcommand.specs.CommandLine.{list, map, draw, check, tell_names, trace, locate, go_careful, count, show, format}
-use Rattle.bcommand.specs.CommandLine.{from_source}
+use Rattle.bcommand.specs.CommandLine.{from_source, try_out}
 use Rattle.bcommand.specs.declared.job.Clash.TheVariants as clash
 use Rattle.bcommand.specs.declared.job.Rows.TheVariants as which
 
@@ -84,6 +84,24 @@ goes_careful_within_limits : Asks (codes "b" ∷ codes "go" ∷ codes "--careful
     ∷ codes "x" ∷ []) (contradiction clash.Limits)
 unfolding clap_on_literals
 goes_careful_within_limits = (refl, refl)
+
+tries : Asks (codes "b" ∷ codes "try" ∷ codes "x" ∷ []) (ask (x editions.One) (try_out 10000000))
+unfolding clap_on_literals
+tries = (refl, refl)
+
+tries_so_long : Asks (codes "b" ∷ codes "try" ∷ codes "--edition=2" ∷ codes "x" ∷ codes "--steps" ∷ codes "50" ∷ [])
+    (ask (x editions.Two) (try_out 50))
+unfolding clap_on_literals
+tries_so_long = (refl, refl)
+
+tries_within_limits : Asks (codes "b" ∷ codes "try" ∷ codes "--no-limit" ∷ codes "--steps=5" ∷ codes "x" ∷ [])
+    (contradiction clash.Limits)
+unfolding clap_on_literals
+tries_within_limits = (refl, refl)
+
+tries_no_file : fault_of command_line (codes "b" ∷ codes "try" ∷ []) ≡ kind.MissingRequiredArgument ∷ []
+unfolding clap_on_literals
+tries_no_file = refl
 
 locates_in_code : Asks (codes "b" ∷ codes "run" ∷ codes "--where" ∷ codes "x" ∷ []) (locate_code (codes "x") 10000000)
 unfolding clap_on_literals

@@ -6,7 +6,7 @@ use Rattle.bword.specs.declared.edition.Edition.TheVariants as editions
 use Rattle.bcommand.specs.CommandLine.{Asked, SourceAsked, asked, command_line}
 use Rattle.bcommand.specs.CommandLine.{compile, run, locate_code, go, ask, contradiction}
 use Rattle.bcommand.specs.CommandLine.{list, map as layout, draw, check, tell_names, trace, locate, go_careful}
-use Rattle.bcommand.specs.CommandLine.{count, show, format}
+use Rattle.bcommand.specs.CommandLine.{count, show, format, try_out}
 use Rattle.bcommand.specs.CommandLine.{from_source}
 use Rattle.bcommand.specs.declared.job.Clash.TheVariants as clash
 use Rattle.bcommand.specs.declared.job.Rows.TheVariants as which
@@ -41,6 +41,11 @@ go_takes : taken (codes "go") x
     ∷ codes "--careful" ∷ []
 unfolding clap_on_literals
 go_takes = refl
+
+try_takes : taken (codes "try") x
+    ≡ codes "--edition=2" ∷ codes "--with=l" ∷ codes "--steps=5" ∷ codes "--no-limit" ∷ []
+unfolding clap_on_literals
+try_takes = refl
 
 migrate_takes : taken (codes "migrate") [] ≡ []
 unfolding clap_on_literals
@@ -90,7 +95,8 @@ abbrev refused : (names : List Text) → (option : Text) → List Text
 refused names option = filter (λ name. length (fault_of command_line (codes "b" ∷ name ∷ option ∷ x)) == 1) names
 
 abbrev with_steps : List Text
-with_steps = codes "run" ∷ codes "go" ∷ codes "map" ∷ codes "trace" ∷ codes "count" ∷ codes "show" ∷ []
+with_steps =
+    codes "run" ∷ codes "go" ∷ codes "try" ∷ codes "map" ∷ codes "trace" ∷ codes "count" ∷ codes "show" ∷ []
 
 abbrev with_rows : List Text
 with_rows = codes "trace" ∷ codes "show" ∷ []
@@ -113,8 +119,8 @@ most_last = refl
 
 abbrev with_edition : List Text
 with_edition =
-    codes "go" ∷ codes "list" ∷ codes "map" ∷ codes "check" ∷ codes "trace" ∷ codes "count" ∷ codes "show"
-    ∷ codes "format" ∷ []
+    codes "go" ∷ codes "try" ∷ codes "list" ∷ codes "map" ∷ codes "check" ∷ codes "trace" ∷ codes "count"
+    ∷ codes "show" ∷ codes "format" ∷ []
 
 editions_alone : map (refused with_edition) (codes "--edition=1" ∷ codes "--edition=0" ∷ codes "--edition=3" ∷ [])
     ≡ [] ∷ with_edition ∷ with_edition ∷ []
@@ -135,12 +141,12 @@ of_both name more = asked_by_words (name ∷ codes "--edition=2" ∷ codes "--wi
 -- each command that tells of a source takes its edition and the files after it
 files_of_each :
     of_both (codes "go") [] ∷ of_both (codes "go") (codes "--where" ∷ [])
-    ∷ of_both (codes "go") (codes "--careful" ∷ []) ∷ of_both (codes "list") []
+    ∷ of_both (codes "go") (codes "--careful" ∷ []) ∷ of_both (codes "try") [] ∷ of_both (codes "list") []
     ∷ of_both (codes "map") [] ∷ of_both (codes "map") (codes "--svg" ∷ []) ∷ of_both (codes "check") []
     ∷ of_both (codes "names") (codes "--json" ∷ []) ∷ of_both (codes "trace") [] ∷ of_both (codes "count") []
     ∷ of_both (codes "show") [] ∷ []
     ≡ go both 10000000 ∷ ask both (locate 10000000) ∷ ask both (go_careful 10000000)
-    ∷ ask both (list from_source None) ∷ ask both layout
+    ∷ ask both (try_out 10000000) ∷ ask both (list from_source None) ∷ ask both layout
     ∷ ask both (draw None) ∷ ask both (check false) ∷ ask both tell_names
     ∷ ask both (trace from_source 1000 (which.From 1) None) ∷ ask both (count from_source 10000000 false)
     ∷ ask both (show 2000 (which.From 1) None) ∷ []
@@ -163,7 +169,7 @@ steps_of_each :
     of_x (codes "run" ∷ codes "--no-limit" ∷ []) ∷ of_x (codes "run" ∷ codes "--no-limit" ∷ codes "--steps=5" ∷ [])
     ∷ of_x (codes "run" ∷ codes "--where" ∷ codes "--no-limit" ∷ [])
     ∷ of_x (codes "go" ∷ codes "--steps=5" ∷ []) ∷ of_x (codes "go" ∷ codes "--where" ∷ codes "--no-limit" ∷ [])
-    ∷ of_x (codes "go" ∷ codes "--careful" ∷ codes "--no-limit" ∷ [])
+    ∷ of_x (codes "go" ∷ codes "--careful" ∷ codes "--no-limit" ∷ []) ∷ of_x (codes "try" ∷ codes "--no-limit" ∷ [])
     ∷ of_x (codes "trace" ∷ codes "--steps=5" ∷ []) ∷ of_x (codes "trace" ∷ codes "--from=5" ∷ [])
     ∷ of_x (codes "count" ∷ codes "--steps=5" ∷ []) ∷ of_x (codes "count" ∷ codes "--json" ∷ [])
     ∷ of_x (codes "show" ∷ codes "--steps=5" ∷ []) ∷ of_x (codes "show" ∷ codes "--steps=5" ∷ codes "--from=7" ∷ [])
@@ -171,6 +177,7 @@ steps_of_each :
     ≡ run (codes "x") 18446744073709551615 ∷ contradiction clash.Limits
     ∷ locate_code (codes "x") 18446744073709551615
     ∷ go alone 5 ∷ ask alone (locate 18446744073709551615) ∷ ask alone (go_careful 18446744073709551615)
+    ∷ ask alone (try_out 18446744073709551615)
     ∷ ask alone (trace from_source 5 (which.From 1) None) ∷ ask alone (trace from_source 1000 (which.From 5) None)
     ∷ ask alone (count from_source 5 false) ∷ ask alone (count from_source 10000000 true)
     ∷ ask alone (show 5 (which.From 1) None) ∷ ask alone (show 5 (which.From 7) None)

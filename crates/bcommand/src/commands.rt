@@ -6,7 +6,7 @@ ghost use Rattle.bcommand.specs.Rows.{command_in, line_in, rule_in};
 
 use crate::texts::{
     ABOUT, CHECK_HELP, COMPILE_HELP, COUNT_HELP, FORMAT_HELP, GO_HELP, HELP, LIST_HELP, MAP_HELP,
-    MIGRATE_HELP, NAMES_HELP, RUN_HELP, SHOW_HELP, TRACE_HELP, VERSION,
+    MIGRATE_HELP, NAMES_HELP, RUN_HELP, SHOW_HELP, TRACE_HELP, TRY_HELP, VERSION,
 };
 use clap::{Arg, ArgAction, Command, value_parser};
 use std::alloc::{AllocError, Global};
@@ -191,7 +191,7 @@ const NAME: ArgumentRow = ArgumentRow {
     help: "The definition to list; all if not given",
 };
 
-const COMMANDS: [CommandRow; 12] = [
+const COMMANDS: [CommandRow; 13] = [
     CommandRow {
         name: "compile",
         about: "Compiles the source on standard input to code text on standard output",
@@ -212,6 +212,13 @@ const COMMANDS: [CommandRow; 12] = [
         usage: None,
         help: GO_HELP,
         arguments: &[EDITION, STEPS, NO_LIMIT, FILE, WHERE, CAREFUL, WITH],
+    },
+    CommandRow {
+        name: "try",
+        about: "Checks the source in FILE, runs it carefully, and tells what to do next",
+        usage: None,
+        help: TRY_HELP,
+        arguments: &[EDITION, STEPS, NO_LIMIT, FILE, WITH],
     },
     CommandRow {
         name: "migrate",

@@ -53,6 +53,8 @@ pub enum Question<'a> {
     Locate(u64),
     /// A run of so many steps at most, up to the first one with a finding.
     GoCareful(u64),
+    /// Its faults, such a run where there is none, and what to do next.
+    Try(u64),
     /// The steps of each of its lines in a run of so many at most, and whether an editor reads them.
     Count(OriginNames<'a>, u64, bool),
     Show(Display<'a>),

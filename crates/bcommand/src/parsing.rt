@@ -2,7 +2,7 @@
 ghost use Rattle.std.specs.Prelude.{◌≡◌, [], IfOk, IfErr, map, option_map, string_bytes};
 ghost use Rattle.clap.specs.Words.{HasKind, fault_of, first_of, found_of, rows_of, subcommand_of, subcommand_rows_of};
 ghost use Rattle.bcommand.specs.CommandLine.{asked, asked_of, command_line, edition_in, file_in, is_set_in, libs_in, option_number, question_of, source_in, source_shown, steps_in};
-ghost use Rattle.bcommand.specs.CommandLine.{count_in, go_in, list_in, map_in, origin_asked, origin_in, origin_or_clash, rows_asked, run_in, show_in, shown_steps, trace_in, trace_steps};
+ghost use Rattle.bcommand.specs.CommandLine.{count_in, go_in, list_in, map_in, origin_asked, origin_in, origin_or_clash, rows_asked, run_in, show_in, shown_steps, trace_in, trace_steps, try_in};
 
 use crate::commands::command;
 use crate::job::{Clash, Display, Job, MadeNames, OriginNames, Question, Rows, SourceNames, Walk};
@@ -40,6 +40,7 @@ pub fn job_of<'m, 'a: 'm>(matches: &'m ArgMatches<'a>) -> Job<'m>
     match name {
         "run" => run_of(given),
         "go" => go_of(given),
+        "try" => try_of(given),
         "migrate" => Job::Migrate,
         "list" => list_of(given),
         "map" => Job::Ask(source_of(given), map_of(given)),
@@ -74,6 +75,15 @@ fn go_of<'m, 'a: 'm>(given: &'m ArgMatches<'a>) -> Job<'m>
         (Some(steps), false) if is_located => Job::Ask(source, Question::Locate(steps)),
         (Some(steps), false) => Job::Go(source, steps),
         (None, _) => Job::Contradiction(Clash::Limits),
+    }
+}
+
+fn try_of<'m, 'a: 'm>(given: &'m ArgMatches<'a>) -> Job<'m>
+    ensures { asked_of result ≡ try_in (rows_of (found_of given.now)) }
+{
+    match steps_of(given) {
+        Some(steps) => Job::Ask(source_of(given), Question::Try(steps)),
+        None => Job::Contradiction(Clash::Limits),
     }
 }
 

@@ -70,6 +70,7 @@ pub(crate) const ABOUT: &str =
 
 pub(crate) const HELP: &str = "\
 Examples:
+  b try hello.b                       checks a source and runs it carefully
   b go hello.b                        compiles a source and runs it
   b go --edition 2 menu.b             the same with a source of edition 2
   b go --where hello.b                tells where a trap came
@@ -101,8 +102,8 @@ with the line B 2 if it is of edition 2.
 before each. LIB is input, numbers, print, strings, test or vectors, which the
 library has; or it is a path, with a slash or a point in it. The source is then
 all of these bytes, and its lines are counted from the first one of FILE on.
-check, names, trace, count, show and go --where tell a line of LIB by its own
-number and the name of its file.
+check, try, names, trace, count, show, and go with --where or --careful tell a
+line of LIB by its own number and the name of its file.
 
 The status is 0 if a source compiles. After a run it is the exit status of the
 program. These are the other statuses, with their line on standard error:
@@ -138,7 +139,8 @@ program. These are the other statuses, with their line on standard error:
          3   a name isn't defined
          4   there is no function main
   133  a read or a write failed, or a file can't be read. There is no line where
-       run or go, without --where, can't read FILE; else the line names the file
+       run or go, without --where or --careful, can't read FILE; else the line
+       names the file
   134  out of memory. There is no line
   135  a wrong command line. The lines tell what is wrong with it";
 
@@ -319,6 +321,23 @@ Examples:
   b go --where hello.b
   b go --careful hello.b
   b go --with print --with input sum.b
+
+Statuses: 0 to 127 the program's own, 1 also a fault of the source, 130 a trap
+or a finding, 131 the limit of steps, 132 code that doesn't load, 133 a failed
+read or write, 134 out of memory, 135 a wrong command line. b --help explains
+the letters.";
+
+pub(crate) const TRY_HELP: &str = "\
+The first command for a program of your own. It tells what b check tells. If
+that has no fault, it runs the program as b go --careful does, with the same
+line and place. The last line tells what to do next; it begins with next. The
+program reads standard input and writes standard output, where the warnings of
+b check come before it. The line and what comes next go to standard error.
+
+Examples:
+  b try hello.b
+  b try --edition 2 menu.b
+  b try --with print --with input sum.b < numbers
 
 Statuses: 0 to 127 the program's own, 1 also a fault of the source, 130 a trap
 or a finding, 131 the limit of steps, 132 code that doesn't load, 133 a failed

@@ -52,6 +52,10 @@ pub returns-in-GoCareful-clause-answers : goal.returns-in-GoCareful-clause-answe
 returns-in-GoCareful-clause-answers g c =
     answered _ _ _ _ c.args.question (questions.GoCareful c.in-GoCareful.steps) _ _ c.in-GoCareful.is c.go_careful.ensures.runs
 
+pub returns-in-Try-clause-answers : goal.returns-in-Try-clause-answers
+returns-in-Try-clause-answers g c =
+    answered _ _ _ _ c.args.question (questions.Try c.in-Try.steps) _ _ c.in-Try.is c.try_source.ensures.tries
+
 pub returns-in-Count-clause-answers : goal.returns-in-Count-clause-answers
 returns-in-Count-clause-answers g c =
     answered _ _ _ _ c.args.question (questions.Count c.in-Count.field-0 c.in-Count.steps c.in-Count.for_editor) _ _ c.in-Count.is

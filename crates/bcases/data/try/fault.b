@@ -1,0 +1,6 @@
+main() {
+    auto days;
+
+    days = 7
+    printn(days * 24, 10);
+}

@@ -1,0 +1,4 @@
+main() {
+    putchar('x');
+    exit(3);
+}

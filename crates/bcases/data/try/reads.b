@@ -1,0 +1,4 @@
+main() {
+    auto c;
+    while((c = getchar()) != '*e') putchar(c);
+}

@@ -1,0 +1,4 @@
+main() {
+    putchar('a');
+    printn(1 / 0, 10);
+}

@@ -1,0 +1,5 @@
+square(n)
+    return(n * n);
+main() {
+    printn(sqare(5), 10);
+}

@@ -1,0 +1,6 @@
+main() {
+    auto n;
+    n = getchar();
+    if(n = 'x')
+        putchar('y');
+}

@@ -1,0 +1,57 @@
+-- Promise: what comes of a source that is tried: it is checked, it is run carefully where that finds no fault, and what to
+-- do next is told.
+use Rattle.std.specs.Prelude.{◌≡◌, ℕ, ◌==◌, ◌||◌, Bool, true, false, List, codes, if◌then◌else◌}
+use Rattle.bword.specs.ByteEnds.{Outgoing}
+use Rattle.bword.specs.declared.edition.Edition.{Edition}
+use Rattle.blang.specs.Reports.{HasNotRun, Reported, RunEnds}
+use Rattle.blang.specs.declared.status.TheConstants.{DEVICE, DONE, FAULT, LIMIT, MEMORY, REFUSED, TRAP}
+use Rattle.bsources.specs.Files.{Files}
+use Rattle.bcareful.specs.Runs.{Runs}
+use Rattle.bcheck.specs.Checks.{Checks}
+use Rattle.bcheck.specs.declared.form.FindingForm.TheVariants as forms
+
+-- what to do after a run, by its status
+abbrev pub next_after : (ran : ℕ) → List ℕ
+next_after ran =
+    if ran == DONE then codes "next: no finding; b show in place of b try, with > run.html, shows each step\n"
+    else (if ran == TRAP then codes "next: b trace --last 20 in place of b try shows the steps that led there\n"
+    else (if ran == LIMIT then codes "next: b count in place of b try shows which lines take so many steps\n"
+    else (if ran == REFUSED then codes "next: write a function main, with which a run begins\n"
+    else (if ran == DEVICE then codes "next: a read or a write failed; look at the input and at the output\n"
+    else (if ran == MEMORY then codes "next: memory ran out; end other programs, and try it again\n"
+    else codes "next: no finding; the status is the one that the program gave to exit\n")))))
+
+-- what to do next, by the status of the check and that of the run
+abbrev pub next_text : (checked ran : ℕ) → List ℕ
+next_text checked ran =
+    if checked == FAULT || checked == REFUSED then codes "next: do what stands after fix, and try it again\n"
+    else next_after ran
+
+-- Where the check found no fault, the program was run carefully. Else nothing was read or written, and the status is that
+-- of the check.
+abbrev pub RunsWhere : (is_done : Bool) → (checked : ℕ) → Edition → Files → (text : List ℕ) → (steps : ℕ) → RunEnds → ℕ
+    → Type 0
+RunsWhere true checked edition files text steps ends status = Runs edition text files steps ends status
+RunsWhere false checked edition files text steps ends status =
+    HasNotRun ends × (ends.line_after ≡ ends.line) × (status ≡ checked)
+
+-- The source was checked, with this status, and after that its output stands here. Then its program was run carefully,
+-- with that status, and its line stands there. What to do next was told after it.
+pub record Tries (edition : Edition) (files : Files) (text : List ℕ) (steps : ℕ) (ends : RunEnds) (status : ℕ)
+    : Type 0 where
+  pub checked : ℕ
+  pub out : Outgoing
+  pub checks : Checks (record {
+    edition = edition;
+    form = forms.Text;
+    files = files;
+    source = text;
+    out = ends.out;
+    out_after = out;
+    status = checked;
+  })
+  pub ran : ℕ
+  pub line : Outgoing
+  pub runs : RunsWhere (checked == DONE) checked edition files text steps
+      (record ends { out = out; line_after = line }) ran
+  pub next : Reported (next_text checked ran) ran line ends.line_after status

@@ -1,0 +1,107 @@
+//! Trying a source: its check, its careful run, and what to do next.
+ghost use Rattle.std.specs.Prelude.{◌≡◌, ◌==◌};
+ghost use Rattle.blang.specs.Reports.{run_ends};
+ghost use Rattle.blang.specs.declared.status.TheConstants.{DONE};
+ghost use Rattle.bsources.specs.Files.{files_shown};
+ghost use Rattle.bcli.specs.Tries.{RunsWhere, Tries, next_after, next_text};
+
+use bcareful::go_careful;
+use bcheck::{FindingForm, Request, check};
+use blang::status::{self, Status};
+use bsources::SourceFiles;
+use btools::tell;
+use bword::{ByteIn, ByteOut, Edition};
+use std::alloc::Global;
+
+/// A source that is tried, and the most steps of its run.
+#[derive(Clone, Copy)]
+pub(crate) struct Attempt<'a> {
+    pub edition: Edition,
+    pub files: SourceFiles<'a>,
+    pub text: &'a [u8],
+    pub steps: u64,
+}
+
+/// Checks a source, runs its program carefully where that finds no fault, and tells what to do next.
+pub(crate) fn try_source<I: ByteIn, O: ByteOut, D: ByteOut>(
+    alloc: Global,
+    attempt: Attempt<'_>,
+    input: &mut I,
+    out: &mut O,
+    diag: &mut D,
+) -> Status
+    ensures tries { Tries attempt.entry.edition (files_shown attempt.entry.files) attempt.entry.text.now
+        attempt.entry.steps (run_ends
+        (I.incoming input.old) (I.incoming input.new) (O.outgoing out.old) (O.outgoing out.new)
+        (D.outgoing diag.old) (D.outgoing diag.new)) result }
+    ensures input_lender { I.lender input.new ≡ I.lender input.old }
+    ensures out_lender { O.lender out.new ≡ O.lender out.old }
+    ensures diag_lender { D.lender diag.new ≡ D.lender diag.old }
+{
+    let request = Request {
+        edition: attempt.edition,
+        files: attempt.files,
+        form: FindingForm::Text,
+    };
+    let checked = check(alloc, attempt.text, request, out);
+    let ran = run_checked(alloc, attempt, checked, input, out, diag);
+    tell(next_text(checked, ran).as_bytes(), ran, diag)
+}
+
+// Runs a source carefully, where its check had the status of one without a fault.
+fn run_checked<I: ByteIn, O: ByteOut, D: ByteOut>(
+    alloc: Global,
+    attempt: Attempt<'_>,
+    checked: Status,
+    input: &mut I,
+    out: &mut O,
+    diag: &mut D,
+) -> Status
+    ensures runs { RunsWhere (checked == DONE) checked attempt.entry.edition (files_shown attempt.entry.files)
+        attempt.entry.text.now attempt.entry.steps (run_ends
+        (I.incoming input.old) (I.incoming input.new) (O.outgoing out.old) (O.outgoing out.new)
+        (D.outgoing diag.old) (D.outgoing diag.new)) result }
+    ensures input_lender { I.lender input.new ≡ I.lender input.old }
+    ensures out_lender { O.lender out.new ≡ O.lender out.old }
+    ensures diag_lender { D.lender diag.new ≡ D.lender diag.old }
+{
+    if checked != status::DONE {
+        return checked;
+    }
+    let Attempt {
+        edition,
+        files,
+        text,
+        steps,
+    } = attempt;
+    go_careful(alloc, text, edition, files, steps, input, out, diag)
+}
+
+// What to do next, by the status of the check and that of the run.
+fn next_text(checked: Status, ran: Status) -> &'static str
+    ensures { result.now ≡ next_text checked ran }
+{
+    if checked == status::FAULT || checked == status::REFUSED {
+        "next: do what stands after fix, and try it again\n"
+    } else {
+        next_after(ran)
+    }
+}
+
+// What to do after a run, by its status.
+fn next_after(ran: Status) -> &'static str
+    ensures { result.now ≡ next_after ran }
+{
+    match ran {
+        status::DONE => {
+            "next: no finding; b show in place of b try, with > run.html, shows each step\n"
+        }
+        status::TRAP =>
+            "next: b trace --last 20 in place of b try shows the steps that led there\n",
+        status::LIMIT => "next: b count in place of b try shows which lines take so many steps\n",
+        status::REFUSED => "next: write a function main, with which a run begins\n",
+        status::DEVICE => "next: a read or a write failed; look at the input and at the output\n",
+        status::MEMORY => "next: memory ran out; end other programs, and try it again\n",
+        _ => "next: no finding; the status is the one that the program gave to exit\n",
+    }
+}
