@@ -27,9 +27,10 @@ class Tried:
 class Session:
     """A client of the language server."""
 
-    def __init__(self, folder, name=FILE):
+    def __init__(self, folder, name=FILE, words=()):
         self.uri, self.number = (folder / name).as_uri(), 0
-        self.server = subprocess.Popen([TOP / "share/lsp/b-lsp"], stdin=subprocess.PIPE, stdout=subprocess.PIPE)
+        command = [TOP / "share/lsp/b-lsp", *words]
+        self.server = subprocess.Popen(command, stdin=subprocess.PIPE, stdout=subprocess.PIPE)
 
     def send(self, **message):
         body = json.dumps({"jsonrpc": "2.0", **message}).encode()

@@ -13,6 +13,7 @@ use Rattle.std.proofs.lemmas.Option.{slice_get-get_or, slice_get_within}
 use Rattle.bword.specs.Words.{same_name}
 use Rattle.bnames.specs.NameTables.{KnowsOneMore, value_in, with_name}
 use Rattle.bnaming.specs.Binding.{AreWithin, Enters, HasPut, IsIndex, declaration, declares, declares_name, ends, is_declared, reached, row_at}
+use Rattle.bnaming.specs.Rows.{opens_after}
 use Rattle.bnaming.specs.declared.binding.Reach.{Reach}
 use Rattle.bnaming.specs.declared.binding.Reach.TheVariants as reach
 use Rattle.bnaming.specs.declared.roles.Role.{Role}
@@ -66,16 +67,18 @@ module _ (rows : List Row) (reach : Reach) (part rest : List Row) (r : Row) (pla
     within = λ x v f. inside x (value_in x old) (value_in x new) (is_declared reach x r) v refl (entered x) f;
   }
 
--- Rows are reached as far as no definition begins.
-pub reached_end : (reach : Reach) (r : Row) (rs : List Row) → ends reach r ≡ true → reached reach (r ∷ rs) ≡ []
-reached_end reach r rs e = ap (λ b. if b then [] else r ∷ reached reach rs) e
+-- Rows are reached as far as a construct is open.
+pub reached_end : (reach : Reach) (n : ℕ) (rs : List Row) → ends reach n ≡ true → reached reach n rs ≡ []
+reached_end reach n [] e = refl
+reached_end reach n (r ∷ rs) e = ap (λ b. if b then [] else r ∷ reached reach (opens_after n r.content) rs) e
 
-pub reached_more : (reach : Reach) (r : Row) (rs : List Row) → ends reach r ≡ false → reached reach (r ∷ rs) ≡ r ∷ reached reach rs
-reached_more reach r rs e = ap (λ b. if b then [] else r ∷ reached reach rs) e
+pub reached_more : (reach : Reach) (n : ℕ) (r : Row) (rs : List Row) → ends reach n ≡ false
+    → reached reach n (r ∷ rs) ≡ r ∷ reached reach (opens_after n r.content) rs
+reached_more reach n r rs e = ap (λ b. if b then [] else r ∷ reached reach (opens_after n r.content) rs) e
 
-pub reached_source : (rs : List Row) → reached reach.Source rs ≡ rs
-reached_source [] = refl
-reached_source (r ∷ rs) = ap (λ l. r ∷ l) (reached_source rs)
+pub reached_source : (n : ℕ) (rs : List Row) → reached reach.Source n rs ≡ rs
+reached_source n [] = refl
+reached_source n (r ∷ rs) = ap (λ l. r ∷ l) (reached_source (opens_after n r.content) rs)
 
 -- what is entered of a row
 same_at : (x y : List ℕ) → is_at (slice_cmp nat_cmp x) y ≡ same_name y x

@@ -1,13 +1,11 @@
 -- The names of a source's tokens begin with those of its definitions.
-use Rattle.std.proofs.Common.{◌≡◌, ◌≢◌, ◌∙◌, ap, append-nil, append_assoc, false, true, Bool, List, [], ◌∷◌, ◌++◌, ℕ, Option, Some, None, map, refl, sym}
+use Rattle.std.proofs.Common.{◌≡◌, ◌∙◌, ap, append-nil, append_assoc, false, true, Bool, List, [], ◌∷◌, ◌++◌, ℕ, Option, Some, None, map, refl, sym}
 use Rattle.std.specs.Prelude.{flat_map}
 use Rattle.std.specs.List.{cons_option, filter_map}
 use Rattle.std.proofs.lemmas.List.{map-append}
 use Rattle.blang.specs.declared.token.Token.{Token}
-use Rattle.blang.specs.declared.token.Token.TheVariants as token
 use Rattle.blang.specs.Trees.{Definition, Function, Identifier, Ival, Ival_constant, Ival_name, Ival_text, Number, Character, Simple, Vector, bare}
-use Rattle.blang.specs.Walk.{Level, Walk, ◌▸◌, plain, spell_all, spell_definition, tokens_in, walk_definition, walk_function, walk_list, walk_parameter, walk_size, walk_statement, walk_value, walk_values}
-use Rattle.blang.specs.WellFormed.{AllFormed}
+use Rattle.blang.specs.Walk.{Level, Walk, ◌▸◌, spell_all, spell_definition, tokens_in, walk_definition, walk_list, walk_parameter, walk_size, walk_value, walk_values}
 use Rattle.blex.specs.declared.lexeme.Lexeme.{Lexeme}
 use Rattle.blex.specs.declared.lexeme.Lexeme.TheVariants as lexeme
 use Rattle.blex.specs.Lexemes.{lexeme_of, token_of_lexeme}
@@ -15,9 +13,8 @@ use Rattle.btree.specs.declared.tags.Construct.TheVariants as construct
 use Rattle.btree.specs.declared.tags.Phase.TheVariants as phase
 use Rattle.btree.specs.declared.tags.Tag.{Tag}
 use Rattle.btree.specs.declared.tags.Tag.TheVariants as tag
-use Rattle.btree.specs.declared.sorts.Sort.TheVariants as sort
 use Rattle.btree.specs.Machine.{first, run, sort_of, sort_of_lexeme}
-use Rattle.btree.specs.Tags.{definition_tags, program_tags, statement_tags, tokens, walk_parameters, within}
+use Rattle.btree.specs.Tags.{definition_tags, program_tags, statement_tags, tokens, within}
 use Rattle.btree.specs.Laws.{TagsOfProgram}
 use Rattle.bnaming.specs.declared.places.Spot.{Spot}
 use Rattle.bnaming.specs.declared.reading.PlacedToken.{PlacedToken}
@@ -25,13 +22,12 @@ use Rattle.bnaming.specs.declared.roles.Mode.{Mode}
 use Rattle.bnaming.specs.declared.roles.Mode.TheVariants as mode
 use Rattle.bnaming.specs.declared.roles.Role.TheVariants as role
 use Rattle.bnaming.specs.declared.rows.Row.{Row}
-use Rattle.bnaming.specs.Laws.{NamedAs, NamesOfProgram, content_name, definition_names, event_name, names_after, names_in, parameter_name, value_name}
-use Rattle.bnaming.specs.Names.{rows_of}
+use Rattle.bnaming.specs.Laws.{AreDefined, NamedAs, NamesOfProgram, content_name, definition_names, names_in, parameter_name, value_name}
 use Rattle.bnaming.specs.Pieces.{sort_in}
 use Rattle.bnaming.specs.Roles.{defined_as, mode_after, mode_in, mode_of_definition}
 use Rattle.bnaming.specs.Rows.{content_of, is_before_paren, row, rows_from}
 use Rattle.bnaming.specs.Spots.{first_spot}
-use Rattle.bnaming.proofs.TreeNames.{Says, found, is_before, is_told, lexes, list_of, names_from, says_as, says_both, says_list, says_within, token_says}
+use Rattle.bnaming.proofs.TreeNames.{Says, is_before, is_told, lexes, list_of, names_from, says_as, says_both, says_list, says_within}
 
 -- the tokens of a walk, by their tokens
 lexes_are : (w : Walk) → lexes w ≡ map lexeme_of (map bare (tokens_in w))
@@ -91,7 +87,7 @@ says_size : (size : Option ℕ) → Says mode.Values (lexes (walk_size size)) (t
 says_size None = record { goes = λ ls tags. refl }
 says_size (Some n) = record { goes = λ ls tags. refl }
 
-definition_says : (d : Definition) (m : Mode) → Says m (lexes (walk_definition d)) (definition_tags d) (definition_names d) mode.Statement
+pub definition_says : (d : Definition) (m : Mode) → Says m (lexes (walk_definition d)) (definition_tags d) (definition_names d) mode.Statement
 definition_says (Simple w values) m = headed w false (no_paren values) (says_values values) m
 definition_says (Vector w size values) m =
     let opening : Says mode.Values (lexeme.OpenBracket ∷ []) (tag.Token ∷ []) [] mode.Values = record { goes = λ ls tags. refl } in
@@ -107,7 +103,7 @@ definition_says (Function w parameters body) m =
     (says_tags (ap (λ l. tag.Token ∷ l) (sym (append_assoc (tokens list) (tag.Token ∷ []) (statement_tags body))))
     (says_both opening (says_both named (says_both closing (is_told body mode.Statement))))) m
 
-abbrev all_lexes : List Definition → List Lexeme
+abbrev pub all_lexes : List Definition → List Lexeme
 all_lexes [] = []
 all_lexes (d ∷ ds) = lexes (walk_definition d) ++ all_lexes ds
 
@@ -124,10 +120,10 @@ all_lexes_are (d ∷ ds) =
     ∙ ap (map lexeme_of) (sym (map-append bare (spell_definition d) (spell_all ds)))
 
 -- the names in rows are those of the tokens
-abbrev lexemes : List PlacedToken → List Lexeme
+abbrev pub lexemes : List PlacedToken → List Lexeme
 lexemes ts = map (λ t. t.lexeme) ts
 
-cons_is : (o : Option NamedAs) (ns : List NamedAs) → cons_option o ns ≡ list_of o ++ ns
+pub cons_is : (o : Option NamedAs) (ns : List NamedAs) → cons_option o ns ≡ list_of o ++ ns
 cons_is None ns = refl
 cons_is (Some n) ns = refl
 
@@ -138,7 +134,7 @@ before_is : (ts : List PlacedToken) → is_before_paren ts ≡ is_before (lexeme
 before_is [] = refl
 before_is (t ∷ ts) = refl
 
-names_are : (m : Mode) (last : Spot) (ts : List PlacedToken) (tags : List Tag) → names_in (rows_from m last ts tags) ≡ names_from m (lexemes ts) tags
+pub names_are : (m : Mode) (last : Spot) (ts : List PlacedToken) (tags : List Tag) → names_in (rows_from m last ts tags) ≡ names_from m (lexemes ts) tags
 names_are m last ts [] = refl
 names_are m last ts (tag.Begins c ∷ tags) = names_are (mode_in c) last ts tags
 names_are m last ts (tag.Ends ∷ tags) = names_are mode.Statement last ts tags
@@ -174,19 +170,31 @@ sorts_of_tokens : (ts : List Token) → map sort_of ts ≡ map sort_of_lexeme (m
 sorts_of_tokens [] = refl
 sorts_of_tokens (t ∷ ts) = ap (λ l. sort_of t ∷ l) (sorts_of_tokens ts)
 
-pub names_of_program : TagsOfProgram → NamesOfProgram
-names_of_program tags_of_program ds own more formed spelled no_else =
+-- the tags of tokens that begin with those of whole definitions
+pub tagged : TagsOfProgram → (ds : List Definition) (own more : List PlacedToken) → AreDefined ds own more
+    → run phase.Start [] (map sort_in (own ++ more)) ≡ program_tags ds ++ run phase.Over [] (map sort_in more)
+tagged tags_of_program ds own more are =
     let spelled_tokens = map bare (spell_all ds) in
-    let tags = program_tags ds ++ run phase.Over [] (map sort_in more) in
     let own_sorts : map sort_in own ≡ map sort_of spelled_tokens =
-    sorts_of_lexemes own ∙ ap (map sort_of_lexeme) spelled ∙ sym (sorts_of_tokens spelled_tokens) in
-    let tagged : run phase.Start [] (map sort_in (own ++ more)) ≡ tags =
+    sorts_of_lexemes own ∙ ap (map sort_of_lexeme) are.same ∙ sym (sorts_of_tokens spelled_tokens) in
     ap (run phase.Start []) (map-append sort_in own more ∙ ap (λ l. l ++ map sort_in more) own_sorts
     ∙ ap (λ l. map sort_of spelled_tokens ++ l) (sym (sorts_again more)) ∙ sym (map-append sort_of spelled_tokens (map a_token more)))
-    ∙ tags_of_program ds spelled_tokens (map a_token more) formed refl (λ e. no_else (ap first (sym (sorts_again more)) ∙ e))
-    ∙ ap (λ ss. program_tags ds ++ run phase.Over [] ss) (sorts_again more) in
-    ap (λ ts. names_in (rows_from mode.Statement first_spot (own ++ more) ts)) tagged
-    ∙ names_are mode.Statement first_spot (own ++ more) tags
-    ∙ ap (λ ls. names_from mode.Statement ls tags) (map-append (λ (t : PlacedToken). t.lexeme) own more ∙ ap (λ ls. ls ++ lexemes more) (spelled ∙ sym (all_lexes_are ds)))
-    ∙ (all_say ds).goes (lexemes more) (run phase.Over [] (map sort_in more))
-    ∙ ap (λ ns. flat_map definition_names ds ++ ns) (sym (names_are mode.Statement first_spot more (run phase.Over [] (map sort_in more))))
+    ∙ tags_of_program ds spelled_tokens (map a_token more) are.formed refl (λ e. are.no_else (ap first (sym (sorts_again more)) ∙ e))
+    ∙ ap (λ ss. program_tags ds ++ run phase.Over [] ss) (sorts_again more)
+
+-- their lexemes
+pub front_lexemes : (ds : List Definition) (own more : List PlacedToken) → AreDefined ds own more → lexemes own ≡ all_lexes ds
+front_lexemes ds own more are = are.same ∙ sym (all_lexes_are ds)
+
+pub lexemes_defined : (ds : List Definition) (own more : List PlacedToken) → AreDefined ds own more → lexemes (own ++ more) ≡ all_lexes ds ++ lexemes more
+lexemes_defined ds own more are =
+    map-append (λ (t : PlacedToken). t.lexeme) own more ∙ ap (λ ls. ls ++ lexemes more) (front_lexemes ds own more are)
+
+pub names_of_program : TagsOfProgram → NamesOfProgram
+names_of_program tags_of_program ds own more are =
+    let after = run phase.Over [] (map sort_in more) in
+    ap (λ ts. names_in (rows_from mode.Statement first_spot (own ++ more) ts)) (tagged tags_of_program ds own more are)
+    ∙ names_are mode.Statement first_spot (own ++ more) (program_tags ds ++ after)
+    ∙ ap (λ ls. names_from mode.Statement ls (program_tags ds ++ after)) (lexemes_defined ds own more are)
+    ∙ (all_say ds).goes (lexemes more) after
+    ∙ ap (λ ns. flat_map definition_names ds ++ ns) (sym (names_are mode.Statement first_spot more after))

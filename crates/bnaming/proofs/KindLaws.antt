@@ -1,5 +1,5 @@
 -- A function declares its names as the scan's table says.
-use Rattle.std.proofs.Common.{◌≡◌, ◌∙◌, Bool, true, false, ℕ, ◌+◌, List, [], ◌∷◌, ◌++◌, Ok, Option, Some, None, Result, ap, append-nil, append_assoc, inl, inr, map, refl, subst, sym}
+use Rattle.std.proofs.Common.{◌≡◌, ◌∙◌, Bool, true, false, ℕ, List, [], ◌∷◌, ◌++◌, Ok, Option, Some, None, Result, ap, append-nil, append_assoc, inl, inr, map, refl, subst, sym}
 use Rattle.std.specs.Prelude.{◌&&◌, find, flat_map, if◌then◌else◌}
 use Rattle.std.specs.Cmp.Lexicographic.{bytes_decides, nat_list_eq_equiv}
 use Rattle.std.specs.List.{cons_option, filter_map}
@@ -8,9 +8,9 @@ use Rattle.std.proofs.lemmas.List.Folds.{find-append}
 use Rattle.std.proofs.lemmas.List.Elements.{filter_map-append}
 use Rattle.bword.specs.Words.{same_name}
 use Rattle.blang.specs.declared.token.Diagnostic.{Diagnostic}
-use Rattle.blang.specs.Scan.{Automatic, Entry, External, Labelled, NameKind, Scope, Unlabelled, function_events, function_scope, kind_mentioned, kind_of, no_scope, scan_event, scanned, with_kind}
+use Rattle.blang.specs.Scan.{Automatic, Entry, External, Labelled, NameKind, Scope, Unlabelled, function_events, kind_of, no_scope, scan_event, with_kind}
 use Rattle.blang.specs.Trees.{Identifier, Stmt}
-use Rattle.blang.specs.Walk.{AutoHere, BreakHere, CaseHere, DefaultHere, Event, ExtrnHere, LabelHere, LoopBegins, LoopEnds, LvalueWanted, Mention, SwitchBegins, SwitchEnds, events_in, walk_function, walk_list, walk_parameter, walk_statement}
+use Rattle.blang.specs.Walk.{AutoHere, BreakHere, CaseHere, DefaultHere, Event, ExtrnHere, LabelHere, LoopBegins, LoopEnds, LvalueWanted, Mention, SwitchBegins, SwitchEnds, events_in, walk_list, walk_parameter, walk_statement}
 use Rattle.bgrammar.proofs.ScanSteps.{Entered, Mentioned, LabelStands, Renamed, declares, imports, mentions, labels_here, selects, defaults, lvalues, breaks, by_steps}
 use Rattle.bgrammar.proofs.ScopeLaws.{changed, kind_of-push, kind_of-with_kind}
 use Rattle.bnaming.specs.declared.binding.Reach.TheVariants as reach
@@ -20,7 +20,7 @@ use Rattle.bnaming.specs.declared.rows.Content.{Content}
 use Rattle.bnaming.specs.declared.rows.Content.TheVariants as content
 use Rattle.bnaming.specs.declared.rows.Row.{Row}
 use Rattle.bnaming.specs.Binding.{declaration, declares_name}
-use Rattle.bnaming.specs.Laws.{KindsOfScan, NamedAs, as_scanned, content_name, declared_role, event_name, names_in, own_names, parameter_name, role_by_scan}
+use Rattle.bnaming.specs.Laws.{KindsOfScan, NamedAs, as_scanned, content_name, declared_role, event_name, names_in, parameter_name, role_by_scan}
 use Rattle.bnaming.specs.Roles.{is_local}
 use Rattle.bnaming.proofs.TreeNames.{found_list, list_of}
 
@@ -206,7 +206,7 @@ declared_is x (r ∷ rows) = by r.content refl (declared_is x rows)
         ∙ ap (λ c. role_in_names x (cons_option (content_name c) (names_in rows))) (sym e)
 
 pub kinds_of_scan : KindsOfScan
-kinds_of_scan parameters body scope rows scanned_well named x =
+kinds_of_scan w parameters body scope rows scanned_well named x =
     declared_is x rows ∙ ap (role_in_names x) named
     ∙ same_parameters x parameters (filter_map event_name (events_in (walk_statement body)))
     ∙ ap (role_in_names x) (sym (events_are parameters body))

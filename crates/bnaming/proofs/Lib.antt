@@ -1,5 +1,6 @@
 pub mod BindingSteps
 pub mod DefinitionNames
+pub mod DefinitionRows
 pub mod KindLaws
 pub mod ReadingSteps
 pub mod SourceTokens

@@ -1,10 +1,9 @@
 -- The pieces of a source that are still to come.
-use Rattle.std.proofs.Common.{◌≡◌, ◌≢◌, ◌∙◌, ℕ, zero, suc, ◌+◌, ◌<◌, ◌≤◌, Bool, true, false, List, [], ◌∷◌, ◌++◌, Option, Some, None, ap, append_assoc, append-nil, arith, length, refl, sym}
-use Rattle.std.specs.Prelude.{if◌then◌else◌}
+use Rattle.std.proofs.Common.{◌≡◌, ◌≢◌, ◌∙◌, ℕ, zero, suc, ◌+◌, ◌<◌, ◌≤◌, Bool, true, false, List, [], ◌∷◌, ◌++◌, Option, Some, ap, append_assoc, append-nil, arith, length, refl, sym}
 use Rattle.bword.specs.declared.edition.Edition.{Edition}
 use Rattle.blex.specs.declared.lexeme.Lexeme.{Lexeme}
 use Rattle.blex.specs.declared.lexeme.Lexeme.TheVariants as lexeme
-use Rattle.blex.specs.Places.{Finds, Scanner, after_blanks, next_piece, piece_end, piece_from, piece_lexeme}
+use Rattle.blex.specs.Places.{Finds, Scanner, after_blanks, next_piece}
 use Rattle.blex.specs.declared.scanner.PlacedPiece.{PlacedPiece}
 use Rattle.blex.proofs.PlaceSteps.{end_piece, piece_grows}
 use Rattle.bnaming.specs.Pieces.{is_end, pieces_from, pieces_of, placed}

@@ -1,6 +1,6 @@
 -- The tokens of a source are those that the compiler reads, up to one that is wrong.
 use Rattle.std.proofs.Common.{◌≡◌, ◌∙◌, ◌+◌, ◌<◌, ◌≤◌, ℕ, zero, suc, Bool, true, false, List, [], ◌∷◌, ◌++◌, Option, Some, None, ap, arith, drop, length, map, refl, subst, sym}
-use Rattle.std.specs.Prelude.{if◌then◌else◌, is_some, ◌≢◌}
+use Rattle.std.specs.Prelude.{if◌then◌else◌, is_some}
 use Rattle.std.specs.List.{cons_option, filter_map}
 use Rattle.bword.specs.declared.edition.Edition.{Edition}
 use Rattle.blang.specs.declared.token.Placed.{Placed}
@@ -9,15 +9,14 @@ use Rattle.blang.specs.declared.token.Token.TheVariants as token
 use Rattle.blang.specs.Cut.{Piece as Read, Space, Word, is_last, piece_first, placed as placed_token, tokens_from}
 use Rattle.blang.specs.Trees.{bare, kept, keeps_line, mark}
 use Rattle.blex.specs.Lexemes.{lexeme_of}
-use Rattle.blex.specs.Places.{after_blanks, line_at, next_piece, piece_end, piece_from, piece_lexeme}
+use Rattle.blex.specs.Places.{after_blanks, line_at, piece_end, piece_from, piece_lexeme}
 use Rattle.blex.specs.declared.lexeme.Lexeme.{Lexeme}
 use Rattle.blex.specs.declared.lexeme.Lexeme.TheVariants as lexeme
-use Rattle.blex.specs.declared.scanner.PlacedPiece.{PlacedPiece}
 use Rattle.blex.proofs.PlaceSteps.{end_piece, places_of_tokens, some_piece_from}
 use Rattle.bnaming.specs.declared.places.Spot.{Spot}
 use Rattle.bnaming.specs.declared.reading.PlacedToken.{PlacedToken}
 use Rattle.bnaming.specs.Laws.{TokensOfSource}
-use Rattle.bnaming.specs.Pieces.{is_end, pieces_from, placed, token_in}
+use Rattle.bnaming.specs.Pieces.{is_end, pieces_from, token_in}
 use Rattle.bnaming.specs.Spots.{spot_at}
 use Rattle.bnaming.proofs.ReadingSteps.{grows, step_more}
 

@@ -1,5 +1,5 @@
 -- The names of a program's tokens are those of its trees.
-use Rattle.std.proofs.Common.{◌≡◌, ◌∙◌, ap, append-nil, append_assoc, false, true, Bool, List, [], ◌∷◌, ◌++◌, ℕ, Option, Some, None, map, refl, sym}
+use Rattle.std.proofs.Common.{◌≡◌, ◌∙◌, ap, append-nil, append_assoc, false, true, Bool, List, [], ◌∷◌, ◌++◌, ℕ, Option, Some, None, refl, sym}
 use Rattle.std.specs.Prelude.{flat_map}
 use Rattle.std.specs.List.{filter_map}
 use Rattle.std.proofs.lemmas.List.Elements.{filter_map-append}
@@ -7,7 +7,7 @@ use Rattle.blang.specs.declared.token.Placed.{Placed}
 use Rattle.blang.specs.declared.token.Token.TheVariants as token
 use Rattle.blang.specs.declared.token.Keyword.TheVariants as keyword
 use Rattle.blang.specs.Cut.{placed}
-use Rattle.blang.specs.Trees.{Identifier, Expr, Arguments, Named, Literal, Text, Grouped, Indexed, Called, Postfixed, Prefixed, Binary, Conditional, Assigned, No_arguments, Another, Number, Character, PrefixOp, Negate, Not, Indirection, Address, PreIncrement, PreDecrement, PostIncrement, PostDecrement, mark, constant_token, Constant, prefix_token, postfix_token, PostfixOp, keyword_mark}
+use Rattle.blang.specs.Trees.{Identifier, Expr, Arguments, Named, Literal, Text, Grouped, Indexed, Called, Postfixed, Prefixed, Binary, Conditional, Assigned, No_arguments, Another, Number, Character, PrefixOp, Negate, Not, Indirection, Address, PreIncrement, PreDecrement, PostIncrement, PostDecrement, mark, constant_token, Constant, prefix_token, postfix_token, PostfixOp}
 use Rattle.blang.specs.Trees.{Heading, Auto, Extrn, Label, Case, Default, Declared, Stmt, Headed, Compound, If, IfElse, While, Switch, Goto, Break, Return, ReturnValue, Evaluate, Empty, Stmts, Nothing, More}
 use Rattle.blang.specs.Walk.{Event, LoopBegins, LoopEnds, LvalueWanted, Mention, SwitchBegins, SwitchEnds, Walk, prefix_events, text, NothingHere, Said, TextHere, Noted, Level, ◌▸◌, plain, level, name, walk, walk_arguments, comma_before_next, callee, events_in}
 use Rattle.blang.specs.Walk.{walk_body, walk_commas, walk_declared, walk_heading, walk_import, walk_list, walk_parenthesized, walk_size, walk_statement}

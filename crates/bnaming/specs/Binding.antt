@@ -1,6 +1,6 @@
 -- Promise: which row declares a name.
-use Rattle.std.specs.Prelude.{◌≡◌, ◌&&◌, ℕ, ◌<◌, Bool, false, List, [], ◌∷◌, length, Option, None, Some, find, slice_get}
-use Rattle.std.specs.Prelude.{if◌then◌else◌}
+use Rattle.std.specs.Prelude.{◌≡◌, ◌&&◌, ℕ, zero, suc, ◌<◌, Bool, true, false, List, [], ◌∷◌, length, Option, None}
+use Rattle.std.specs.Prelude.{Some, find, if◌then◌else◌, slice_get}
 use Rattle.std.specs.Option.{option_or}
 use Rattle.bword.specs.Words.{same_name}
 use Rattle.bnames.specs.NameTables.{value_in}
@@ -11,7 +11,7 @@ use Rattle.bnaming.specs.declared.rows.Content.{Content}
 use Rattle.bnaming.specs.declared.rows.Content.TheVariants as content
 use Rattle.bnaming.specs.declared.rows.Row.{Row}
 use Rattle.bnaming.specs.Roles.{defines, is_local, looks_around}
-use Rattle.bnaming.specs.Rows.{defines_name}
+use Rattle.bnaming.specs.Rows.{opens_after}
 
 -- a name is declared for its definition, or for the whole source
 abbrev pub declares : Reach → Role → Bool
@@ -25,14 +25,17 @@ declares_name reach x c = false
 abbrev pub is_declared : Reach → List ℕ → Row → Bool
 is_declared reach x r = declares_name reach x r.content
 
-abbrev pub ends : Reach → Row → Bool
-ends reach.Definition r = defines_name r.content
-ends reach.Source r = false
+-- the rows in which a name is looked for end where no construct is open, but in the whole source
+abbrev pub ends : Reach → (opens : ℕ) → Bool
+ends reach.Definition zero = true
+ends reach.Definition (suc n) = false
+ends reach.Source n = false
 
--- the rows in which a name is looked for: those of a definition end where another one begins
-abbrev pub reached : Reach → List Row → List Row
-reached reach [] = []
-reached reach (r ∷ rs) = if ends reach r then [] else r ∷ reached reach rs
+-- those rows, where this many constructs are open before the first
+abbrev pub reached : Reach → (opens : ℕ) → List Row → List Row
+reached reach opens [] = []
+reached reach opens (r ∷ rs) =
+    if ends reach opens then [] else r ∷ reached reach (opens_after opens r.content) rs
 
 -- the first row that declares a name
 abbrev pub declaration : Reach → List ℕ → List Row → Option Row
@@ -47,9 +50,11 @@ abbrev pub bound : (around whole : List Row) → Content → Option Row
 bound around whole (content.Name r x) = declared_as around whole r x
 bound around whole c = None
 
--- the rows in which a name of a row is looked for, where these were it before, and these follow
-abbrev pub around_at : Row → (before rest : List Row) → List Row
-around_at r before rest = if defines_name r.content then reached reach.Definition rest else before
+-- The rows of the outermost construct of a row. Where none is open before it, it may begin one; else they are as they
+-- were before.
+abbrev pub around_at : (opens : ℕ) → Row → (before rest : List Row) → List Row
+around_at zero r before rest = reached reach.Definition (opens_after zero r.content) rest
+around_at (suc n) r before rest = before
 
 -- the row that a table has for a name
 abbrev pub row_at : List Row → Option ℕ → Option Row

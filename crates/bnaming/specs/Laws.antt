@@ -14,6 +14,7 @@ use Rattle.btree.specs.declared.sorts.Sort.TheVariants as sort
 use Rattle.btree.specs.declared.tags.Phase.TheVariants as phase
 use Rattle.btree.specs.Machine.{first, run}
 use Rattle.bnaming.specs.declared.binding.Reach.TheVariants as reach
+use Rattle.bnaming.specs.declared.places.Spot.{Spot}
 use Rattle.bnaming.specs.declared.roles.Mode.TheVariants as mode
 use Rattle.bnaming.specs.declared.reading.PlacedToken.{PlacedToken}
 use Rattle.bnaming.specs.declared.roles.Role.{Role}
@@ -22,7 +23,7 @@ use Rattle.bnaming.specs.declared.rows.Content.{Content}
 use Rattle.bnaming.specs.declared.rows.Content.TheVariants as content
 use Rattle.bnaming.specs.declared.rows.Row.{Row}
 use Rattle.bnaming.specs.Binding.{declaration}
-use Rattle.bnaming.specs.Names.{rows_of, tokens_of}
+use Rattle.bnaming.specs.Names.{arounds, rows_of, tokens_of}
 use Rattle.bnaming.specs.Pieces.{sort_in}
 use Rattle.bnaming.specs.Rows.{rows_from}
 use Rattle.bnaming.specs.Spots.{first_spot}
@@ -65,18 +66,39 @@ definition_names (Vector w size values) = (role.External, w.text) ∷ filter_map
 definition_names (Function w parameters body) =
     (role.Function, w.text) ∷ own_names parameters body
 
--- the names of tokens after whole definitions
-abbrev pub names_after : List PlacedToken → List NamedAs
-names_after ts = names_in (rows_from mode.Statement first_spot ts (run phase.Over [] (map sort_in ts)))
+-- the rows of tokens after whole definitions, the last of which ended here
+abbrev pub rows_after : (last : Spot) → List PlacedToken → List Row
+rows_after last ts = rows_from mode.Statement last ts (run phase.Over [] (map sort_in ts))
+
+-- These tokens are those of whole definitions, and those go on after them; an else would go on with the last one.
+pub record AreDefined (definitions : List Definition) (own more : List PlacedToken) : Type 0 where
+  pub formed : AllFormed definitions
+  pub same : map (λ t. t.lexeme) own ≡ map lexeme_of (map bare (spell_all definitions))
+  pub no_else : first (map sort_in more) ≢ sort.Else
 
 -- The names of a source that begins with whole definitions are, up to their end, those of the definitions and no other.
--- An else would go on with the last one.
 abbrev pub NamesOfProgram : Type 0
 NamesOfProgram =
-    (definitions : List Definition) (own more : List PlacedToken) → AllFormed definitions
-    → map (λ t. t.lexeme) own ≡ map lexeme_of (map bare (spell_all definitions))
-    → first (map sort_in more) ≢ sort.Else
-    → names_in (rows_of (own ++ more)) ≡ flat_map definition_names definitions ++ names_after more
+    (definitions : List Definition) (own more : List PlacedToken) → AreDefined definitions own more
+    → names_in (rows_of (own ++ more)) ≡ flat_map definition_names definitions ++ names_in (rows_after first_spot more)
+
+-- a name of rows, with the names in which it is looked for as one of its definition
+abbrev pub name_around : Row × List Row → Option (NamedAs × List NamedAs)
+name_around it = option_map (λ n. (n, names_in it.1)) (content_name it.0.content)
+
+abbrev pub names_around : List Row → List (NamedAs × List NamedAs)
+names_around rows = filter_map name_around (arounds [] 0 rows)
+
+-- each name of a definition, with all of them
+abbrev pub names_together : Definition → List (NamedAs × List NamedAs)
+names_together d = map (λ n. (n, definition_names d)) (definition_names d)
+
+-- A name of a whole definition is looked for among the names of that definition, and among no other.
+abbrev pub BindingsOfProgram : Type 0
+BindingsOfProgram =
+    (definitions : List Definition) (own more : List PlacedToken) → AreDefined definitions own more
+    → (last : Spot) × (names_around (rows_of (own ++ more))
+    ≡ flat_map names_together definitions ++ names_around (rows_after last more))
 
 -- what the scan's table says of a name that is declared for its function alone
 abbrev pub role_by_scan : Option NameKind → Option Role
@@ -98,8 +120,8 @@ declared_role x rows =
 -- A name of a function in which the scan finds no fault is declared in it as the scan's table says, and no other is.
 abbrev pub KindsOfScan : Type 0
 KindsOfScan =
-    (parameters : List Identifier) (body : Stmt) (scope : Scope) (rows : List Row)
-    → function_scope parameters body ≡ Ok scope → names_in rows ≡ own_names parameters body
+    (w : Identifier) (parameters : List Identifier) (body : Stmt) (scope : Scope) (rows : List Row)
+    → function_scope parameters body ≡ Ok scope → names_in rows ≡ definition_names (Function w parameters body)
     → (x : List ℕ) → declared_role x rows ≡ role_by_scan (kind_of x scope.names)
 
 -- The tokens of a source begin with those of definitions, and go on so.

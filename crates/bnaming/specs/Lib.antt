@@ -7,5 +7,7 @@ pub mod Fragments
 pub mod Texts
 pub mod Names
 pub mod Laws
+pub mod WordRows
+pub mod RoleRows
 pub mod NameRows
 pub mod ObjectRows

@@ -88,7 +88,7 @@ at_fault : map (told editions.One) (codes "@ f(a){a;}" ∷ codes "f(x){x=;y(}g(a
     ∷ ((codes "f", 1, role.Function, Some (role.Function, 1))
     ∷ (codes "a", 3, role.Parameter, Some (role.Parameter, 3))
     ∷ (codes "a", 6, role.Mention, Some (role.Parameter, 3))
-    ∷ (codes "a", 12, role.Mention, Some (role.Parameter, 3))
+    ∷ (codes "a", 12, role.Mention, None)
     ∷ (codes "g", 14, role.Function, Some (role.Function, 14))
     ∷ (codes "b", 16, role.Parameter, Some (role.Parameter, 16))
     ∷ (codes "b", 19, role.Mention, Some (role.Parameter, 16)) ∷ (codes "a", 21, role.Mention, None) ∷ []) ∷ []
@@ -142,3 +142,30 @@ declared_twice : map (told editions.One) (codes "f(){auto a;a:a();}f(){}a;" ∷ 
     ∷ (codes "a", 24, role.External, Some (role.External, 24)) ∷ []) ∷ []
 unfolding pieces_from longest greatest whole word_token keyword_of number_in operator_of other_of fixed_of
 declared_twice = refl
+
+-- a definition ends with its construct: an auto, a block, a label and a } after it, and one without braces
+after_definitions : map (told editions.One) (codes "f(){g();} auto g;" ∷ codes "f(a){if(a){a;}a;}{a;}"
+    ∷ codes "f(){a:;}g(){goto a;}" ∷ codes "f(a){a;}}a(){a;}" ∷ codes "f(a)a;a;" ∷ codes "f(a){a;" ∷ [])
+    ≡ ((codes "f", 1, role.Function, Some (role.Function, 1)) ∷ (codes "g", 5, role.Mention, None)
+    ∷ (codes "g", 16, role.Automatic, Some (role.Automatic, 16)) ∷ [])
+    ∷ ((codes "f", 1, role.Function, Some (role.Function, 1))
+    ∷ (codes "a", 3, role.Parameter, Some (role.Parameter, 3))
+    ∷ (codes "a", 9, role.Mention, Some (role.Parameter, 3))
+    ∷ (codes "a", 12, role.Mention, Some (role.Parameter, 3))
+    ∷ (codes "a", 15, role.Mention, Some (role.Parameter, 3)) ∷ (codes "a", 19, role.Mention, None) ∷ [])
+    ∷ ((codes "f", 1, role.Function, Some (role.Function, 1)) ∷ (codes "a", 5, role.Label, Some (role.Label, 5))
+    ∷ (codes "g", 9, role.Function, Some (role.Function, 9)) ∷ (codes "a", 18, role.Mention, None) ∷ [])
+    ∷ ((codes "f", 1, role.Function, Some (role.Function, 1))
+    ∷ (codes "a", 3, role.Parameter, Some (role.Parameter, 3))
+    ∷ (codes "a", 6, role.Mention, Some (role.Parameter, 3))
+    ∷ (codes "a", 10, role.Function, Some (role.Function, 10))
+    ∷ (codes "a", 14, role.Mention, Some (role.Function, 10)) ∷ [])
+    ∷ ((codes "f", 1, role.Function, Some (role.Function, 1))
+    ∷ (codes "a", 3, role.Parameter, Some (role.Parameter, 3))
+    ∷ (codes "a", 5, role.Mention, Some (role.Parameter, 3))
+    ∷ (codes "a", 7, role.External, Some (role.External, 7)) ∷ [])
+    ∷ ((codes "f", 1, role.Function, Some (role.Function, 1))
+    ∷ (codes "a", 3, role.Parameter, Some (role.Parameter, 3))
+    ∷ (codes "a", 6, role.Mention, Some (role.Parameter, 3)) ∷ []) ∷ []
+unfolding pieces_from longest greatest whole word_token keyword_of number_in operator_of other_of fixed_of
+after_definitions = refl

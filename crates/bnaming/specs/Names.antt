@@ -13,7 +13,7 @@ use Rattle.bnaming.specs.declared.roles.Mode.TheVariants as mode
 use Rattle.bnaming.specs.declared.rows.Row.{Row}
 use Rattle.bnaming.specs.Binding.{around_at, bound}
 use Rattle.bnaming.specs.Pieces.{comment_in, pieces_of, sort_in, token_in}
-use Rattle.bnaming.specs.Rows.{rows_from}
+use Rattle.bnaming.specs.Rows.{opens_after, rows_from}
 use Rattle.bnaming.specs.Spots.{first_spot}
 use Rattle.bnaming.specs.Texts.{comment_text, row_text}
 
@@ -21,18 +21,24 @@ use Rattle.bnaming.specs.Texts.{comment_text, row_text}
 abbrev pub rows_of : List PlacedToken → List Row
 rows_of tokens = rows_from mode.Statement first_spot tokens (run phase.Start [] (map sort_in tokens))
 
--- Each row with the one that declares its name. A name belongs to the definition whose name stands last before it, up to
--- the next one.
-abbrev pub bindings : (whole around : List Row) → List Row → List (Row × Option Row)
-bindings whole around [] = []
-bindings whole around (r ∷ rs) =
-    (r, bound (around_at r around rs) whole r.content) ∷ bindings whole (around_at r around rs) rs
+-- Each row with those in which a name of its definition is looked for, where this many constructs are open before the
+-- first: those of the outermost construct around it.
+abbrev pub arounds : (around : List Row) → (opens : ℕ) → List Row → List (Row × List Row)
+arounds around opens [] = []
+arounds around opens (r ∷ rs) =
+    let own = around_at opens r around rs in
+    (r, own) ∷ arounds own (opens_after opens r.content) rs
+
+-- each row with the one that declares its name
+abbrev pub bindings : (whole around : List Row) → (opens : ℕ) → List Row → List (Row × Option Row)
+bindings whole around opens rows =
+    map (λ (it : Row × List Row). (it.0, bound it.1 whole it.0.content)) (arounds around opens rows)
 
 abbrev pub texts_of : Files → List (Row × Option Row) → List ℕ
 texts_of files rows = flat_map (λ (b : Row × Option Row). row_text files b.0 b.1) rows
 
 abbrev pub bindings_of : List Row → List (Row × Option Row)
-bindings_of rows = bindings rows [] rows
+bindings_of rows = bindings rows [] 0 rows
 
 abbrev pub tokens_of : Edition → List ℕ → List PlacedToken
 tokens_of edition source = filter_map token_in (pieces_of edition source)

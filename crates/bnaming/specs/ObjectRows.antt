@@ -1,5 +1,5 @@
 -- Closed facts: the objects of a comment and of rows, in a source of two files.
-use Rattle.std.specs.Prelude.{◌≡◌, List, ℕ, [], ◌∷◌, ◌++◌, codes, refl}
+use Rattle.std.specs.Prelude.{◌≡◌, [], ◌∷◌, ◌++◌, codes, refl}
 use Rattle.std.specs.Fmt.{digits}
 use Rattle.bword.specs.declared.edition.Edition.TheVariants as editions
 use Rattle.blang.specs.Cut.{fixed_of, greatest, keyword_of, longest, number_in, operator_of, other_of}

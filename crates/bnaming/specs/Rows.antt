@@ -1,6 +1,5 @@
 -- Promise: the constructs and tokens of a source in a row, each with its places.
-use Rattle.std.specs.Prelude.{Bool, false, true, List, [], ◌∷◌}
-use Rattle.bword.specs.declared.edition.Edition.{Edition}
+use Rattle.std.specs.Prelude.{ℕ, suc, pred, Bool, false, true, List, [], ◌∷◌}
 use Rattle.blex.specs.declared.lexeme.Lexeme.{Lexeme}
 use Rattle.blex.specs.declared.lexeme.Lexeme.TheVariants as lexeme
 use Rattle.btree.specs.declared.tags.Tag.{Tag}
@@ -9,13 +8,12 @@ use Rattle.bnaming.specs.declared.places.Spot.{Spot}
 use Rattle.bnaming.specs.declared.reading.PlacedToken.{PlacedToken}
 use Rattle.bnaming.specs.declared.roles.Mode.{Mode}
 use Rattle.bnaming.specs.declared.roles.Mode.TheVariants as mode
-use Rattle.bnaming.specs.declared.roles.Role.{Role}
 use Rattle.bnaming.specs.declared.rows.Content.{Content}
 use Rattle.bnaming.specs.declared.rows.Content.TheVariants as content
 use Rattle.bnaming.specs.declared.rows.OtherToken.{OtherToken}
 use Rattle.bnaming.specs.declared.rows.OtherToken.TheVariants as other
 use Rattle.bnaming.specs.declared.rows.Row.{Row}
-use Rattle.bnaming.specs.Roles.{defines, mode_after, mode_in, role_in}
+use Rattle.bnaming.specs.Roles.{mode_after, mode_in, role_in}
 
 abbrev pub row : Content → (first end : Spot) → Row
 row c first end = record { content = c; first = first; end = end }
@@ -56,18 +54,19 @@ content_of m (lexeme.Name name) is_before = content.Name (role_in m is_before) n
 content_of m l is_before = content.Other (other_of l)
 
 -- A row for each tag, where that of a token takes the next one. There is a token for each; without one the row would be
--- an end.
+-- that of an operator.
 abbrev pub rows_from : Mode → (last : Spot) → List PlacedToken → List Tag → List Row
 rows_from m last ts [] = []
 rows_from m last ts (tag.Begins c ∷ tags) =
     row (content.Begins c) (first_of ts last) (first_of ts last) ∷ rows_from (mode_in c) last ts tags
 rows_from m last ts (tag.Ends ∷ tags) = row content.Ends last last ∷ rows_from mode.Statement last ts tags
-rows_from m last [] (tag.Token ∷ tags) = row content.Ends last last ∷ rows_from m last [] tags
+rows_from m last [] (tag.Token ∷ tags) = row (content.Other other.Operator) last last ∷ rows_from m last [] tags
 rows_from m last (t ∷ ts) (tag.Token ∷ tags) =
     row (content_of m t.lexeme (is_before_paren ts)) t.first t.end
     ∷ rows_from (mode_after m t.lexeme (is_before_paren ts)) t.end ts tags
 
--- a name is defined for the whole source
-abbrev pub defines_name : Content → Bool
-defines_name (content.Name r name) = defines r
-defines_name c = false
+-- how many constructs are open after a row, of as many as were before it
+abbrev pub opens_after : (opens : ℕ) → Content → ℕ
+opens_after n (content.Begins c) = suc n
+opens_after n content.Ends = pred n
+opens_after n c = n

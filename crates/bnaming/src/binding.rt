@@ -1,5 +1,5 @@
 //! What names are bound to.
-ghost use Rattle.std.specs.Prelude.{◌≡◌, ◌+◌, ◌<◌, ◌≤◌, List, IfOk, OnOk, drop, length};
+ghost use Rattle.std.specs.Prelude.{◌≡◌, ◌+◌, ◌<◌, ◌≤◌, List, IfOk, OnOk, Some, drop, length, slice_get};
 ghost use Rattle.bnames.specs.NameTables.{value_in};
 ghost use Rattle.bnaming.specs.declared.rows.Row.{Row};
 ghost use Rattle.bnaming.specs.declared.binding.Reach.TheVariants as reach_of;
@@ -30,33 +30,38 @@ impl Reach {
         }
     }
 
-    // Whether nothing is looked for from this row on.
-    fn ends(self, row: &Row) -> bool
-        ensures { result ≡ ends self row.now }
+    // Whether nothing is looked for where this many constructs are open.
+    fn ends(self, opens: usize) -> bool
+        ensures { result ≡ ends self opens }
     {
         match self {
-            Reach::Definition => row.defines(),
+            Reach::Definition => opens == 0,
             Reach::Source => false,
         }
     }
 }
 
-/// For each name the first of the rows from a place on that declares it.
+/// For each name the first of the rows from a place on that declares it, where this many constructs are open before
+/// that place.
 pub(crate) fn index(
     alloc: Global,
     rows: &[Row],
     start: usize,
+    opens: usize,
     reach: Reach,
 ) -> Result<NameTable, AllocError>
-    requires { start ≤ length rows.now }
-    ensures { IfOk result (IsIndex rows.now reach (reached reach (drop start rows.now))) }
+    requires start { start ≤ length rows.now }
+    requires opens { opens ≤ start }
+    ensures { IfOk result (IsIndex rows.now reach (reached reach opens (drop start rows.now))) }
 {
     let mut table = NameTable::new(alloc);
+    let mut now_open = opens;
     for place in start..rows.len() {
-        let row = rows[place];
-        if reach.ends(&row) {
+        if reach.ends(now_open) {
             return Ok(table);
         }
+        let row = rows[place];
+        now_open = row.opens_after(now_open);
         enter(&mut table, &row, place, reach)?;
     }
     Ok(table)
@@ -90,20 +95,24 @@ fn put(table: &mut NameTable, name: Name, place: usize) -> Result<(), AllocError
     }
 }
 
-/// The names that a definition declares from a row on, which may be the first one of another definition.
+/// The names that the outermost construct of a row declares, before which this many are open: those of before, where it
+/// isn't the first of its construct.
 pub(crate) fn around(
     alloc: Global,
     rows: &[Row],
     place: usize,
-    row: &Row,
+    opens: usize,
     own: NameTable,
 ) -> Result<NameTable, AllocError>
-    requires { place < length rows.now }
-    ensures { (before : List Row) → IsIndex rows.now reach_of.Definition before own
-        → IfOk result (IsIndex rows.now reach_of.Definition (around_at row.now before (drop (place + 1) rows.now))) }
+    requires place { place < length rows.now }
+    requires opens { opens ≤ place }
+    ensures { (before : List Row) (r : Row) → slice_get rows.now place ≡ Some r
+        → IsIndex rows.now reach_of.Definition before own
+        → IfOk result (IsIndex rows.now reach_of.Definition (around_at opens r before (drop (place + 1) rows.now))) }
 {
-    if row.defines() {
-        index(alloc, rows, place + 1, Reach::Definition)
+    if opens == 0 {
+        let after = rows[place].opens_after(opens);
+        index(alloc, rows, place + 1, after, Reach::Definition)
     } else {
         Ok(own)
     }

@@ -11,6 +11,6 @@ mod rows;
 mod telling;
 
 pub use naming::{
-    names_are_declared_as_scanned, names_are_those_of_definitions, tell_names,
-    tokens_are_those_of_the_source,
+    names_are_declared_as_scanned, names_are_looked_for_in_definitions,
+    names_are_those_of_definitions, tell_names, tokens_are_those_of_the_source,
 };

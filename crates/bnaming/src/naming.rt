@@ -2,7 +2,7 @@
 ghost use Rattle.std.specs.Prelude.{◌≡◌, ◌++◌, IfOk, OnOk};
 ghost use Rattle.std.specs.List.{flat_map};
 ghost use Rattle.bsources.specs.Files.{files_shown};
-ghost use Rattle.bnaming.specs.Laws.{KindsOfScan, NamesOfProgram, TokensOfSource};
+ghost use Rattle.bnaming.specs.Laws.{BindingsOfProgram, KindsOfScan, NamesOfProgram, TokensOfSource};
 ghost use Rattle.bnaming.specs.Names.{Names, bindings_of, names_text, rows_of, texts_of};
 ghost use Rattle.bnaming.specs.Texts.{comment_text};
 
@@ -11,6 +11,7 @@ use crate::reading::{Comment, PlacedToken, comments_of, pieces_of, sorts_of, tok
 use crate::rows::{Row, rows_of};
 use crate::telling::{push_comment, push_row};
 use blang::status::{self, Status};
+use bnames::NameTable;
 use bsources::SourceFiles;
 use btools::{Text, tell};
 use btree::{tags_are_those_of_the_tree, tags_of};
@@ -93,11 +94,13 @@ fn push_rows(
 ) -> Result<(), AllocError>
     ensures { OnOk result (text.new ≡ text.old ++ texts_of (files_shown files.now) (bindings_of rows.now)) }
 {
-    let all = index(alloc, rows, 0, Reach::Source)?;
-    let mut own = index(alloc, rows, rows.len(), Reach::Definition)?;
+    let all = index(alloc, rows, 0, 0, Reach::Source)?;
+    let mut own = NameTable::new(alloc);
+    let mut opens = 0;
     for place in 0..rows.len() {
         let row = rows[place];
-        own = around(alloc, rows, place, &row, own)?;
+        own = around(alloc, rows, place, opens, own)?;
+        opens = row.opens_after(opens);
         push_row(text, files, &row, bound(&row, rows, &own, &all))?;
     }
     Ok(())
@@ -107,6 +110,13 @@ fn push_rows(
 /// there, and there is no other.
 pub fn names_are_those_of_definitions()
     ensures { NamesOfProgram }
+{
+    tags_are_those_of_the_tree();
+}
+
+/// In a source that begins with whole definitions, a name of one is looked for among the names of that definition.
+pub fn names_are_looked_for_in_definitions()
+    ensures { BindingsOfProgram }
 {
     tags_are_those_of_the_tree();
 }

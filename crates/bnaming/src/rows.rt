@@ -1,10 +1,10 @@
 //! The constructs and tokens of a source, in a row.
-ghost use Rattle.std.specs.Prelude.{◌≡◌, ◌∷◌, ◌++◌, [], List, IfOk, OnOk};
+ghost use Rattle.std.specs.Prelude.{◌≡◌, ◌+◌, ◌^◌, ◌<◌, ◌≤◌, ◌∷◌, ◌++◌, [], List, IfOk, OnOk};
 ghost use Rattle.btree.specs.declared.tags.Tag.{Tag};
 ghost use Rattle.btree.specs.declared.tags.Tag.TheVariants as tags;
 ghost use Rattle.bnaming.specs.declared.roles.Mode.TheVariants as mode;
 ghost use Rattle.bnaming.specs.declared.rows.Content.TheVariants as contents;
-ghost use Rattle.bnaming.specs.Rows.{content_of, defines_name, first_of, is_before_paren, other_of, row, rows_from};
+ghost use Rattle.bnaming.specs.Rows.{content_of, first_of, is_before_paren, opens_after, other_of, row, rows_from};
 ghost use Rattle.bnaming.specs.Spots.{first_spot};
 
 use crate::places::Spot;
@@ -81,13 +81,16 @@ pub(crate) struct Row {
 }
 
 impl Row {
-    /// Whether a name is defined for the whole source.
-    pub(crate) fn defines(&self) -> bool
-        ensures { result ≡ defines_name self.now.content }
+    /// How many constructs are open after it, of as many as were before.
+    pub(crate) fn opens_after(&self, opens: usize) -> usize
+        requires { opens + 1 < 2 ^ 64 }
+        ensures is { result ≡ opens_after opens self.now.content }
+        ensures more { result ≤ opens + 1 }
     {
         match self.content {
-            Content::Name(role, _) => role.defines(),
-            _ => false,
+            Content::Begins(_) => opens + 1,
+            Content::Ends => opens.saturating_sub(1),
+            _ => opens,
         }
     }
 }
@@ -169,7 +172,11 @@ impl Reader<'_> {
             ≡ result ∷ rows_from self.new.mode self.new.last self.new.rest.now others }
     {
         let [token, rest @ ..] = self.rest else {
-            return self.end();
+            return Row {
+                content: Content::Other(OtherToken::Operator),
+                first: self.last,
+                end: self.last,
+            };
         };
         let is_before = is_before_paren(rest);
         let content = content_of(self.mode, token.lexeme, is_before);

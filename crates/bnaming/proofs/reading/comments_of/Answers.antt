@@ -1,5 +1,4 @@
-use Rattle.std.proofs.Common.{◌∙◌, ◌≡◌, ◌++◌, [], append-nil, ap, sym}
-use Rattle.std.specs.Global.{Vec}
+use Rattle.std.proofs.Common.{◌∙◌, ◌++◌, [], append-nil, ap, sym}
 use Rattle.std.specs.List.{cons_option}
 use Rattle.bnaming.specs.Pieces.{comment_in}
 use Rattle.bnaming.proofs.BindingSteps.{kept_more, none_here}

@@ -1,4 +1,4 @@
-use Rattle.std.proofs.Common.{◌∙◌, ◌++◌, ◌∷◌, [], subst, sym}
+use Rattle.std.proofs.Common.{◌∙◌, subst, sym}
 use Rattle.bnaming.proofs.ReadingSteps.{Reads, found_in, reads_end, reads_more}
 use Rattle.std.specs.Prelude.{List}
 use Rattle.bnaming.specs.declared.reading.Piece.{Piece}

@@ -1,4 +1,4 @@
-use Rattle.std.proofs.Common.{◌-◌, ◌≡◌, ◌≤◌, length}
+use Rattle.std.proofs.Common.{◌-◌, ◌≡◌, length}
 use Rattle.bnaming.specs.Spots.{IsMark}
 use Rattle.bnaming.proofs.ReadingSteps.{Reads}
 use Rattle.bnaming.proofs.reading.pieces_of.Given as goal
