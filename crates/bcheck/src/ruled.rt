@@ -27,7 +27,7 @@ impl Ruled {
             ruled.all.push(None)?;
         }
         let nodes = nodes_of(alloc, lexemes.as_slice())?;
-        let notices = notices_of(alloc, nodes.as_slice())?;
+        let notices = notices_of(alloc, lexemes.as_slice(), nodes.as_slice())?;
         for notice in &notices {
             ruled.note(notice);
         }
@@ -38,7 +38,7 @@ impl Ruled {
     fn note(&mut self, notice: &Notice) {
         if let Some(warning) = self.all.get_mut(notice.token) {
             if warning.is_none() {
-                *warning = Some(warning_of(notice.rule));
+                *warning = warning_of(notice.rule);
             }
         }
     }
@@ -51,13 +51,15 @@ impl Ruled {
     }
 }
 
-fn warning_of(rule: Rule) -> Warning {
+// The other rules are those of `patterns`, `conditions` and `ends` still.
+fn warning_of(rule: Rule) -> Option<Warning> {
     match rule {
-        Rule::BitsCompared => Warning::BitsCompared,
-        Rule::ComparesTwice => Warning::ComparesTwice,
-        Rule::NotCompared => Warning::NotCompared,
-        Rule::NameAlone => Warning::NameAlone,
-        Rule::ComparesAlone => Warning::ComparesAlone,
-        Rule::NoEffect => Warning::NoEffect,
+        Rule::BitsCompared => Some(Warning::BitsCompared),
+        Rule::ComparesTwice => Some(Warning::ComparesTwice),
+        Rule::NotCompared => Some(Warning::NotCompared),
+        Rule::NameAlone => Some(Warning::NameAlone),
+        Rule::ComparesAlone => Some(Warning::ComparesAlone),
+        Rule::NoEffect => Some(Warning::NoEffect),
+        _ => None,
     }
 }

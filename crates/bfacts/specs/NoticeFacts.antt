@@ -1,16 +1,21 @@
--- Closed facts: what is said between each operator and each node, and of which expressions nothing comes.
+-- Closed facts: what is said between each operator and each node, of each condition, and of which expressions nothing
+-- comes.
 use Rattle.std.specs.Prelude.{◌≡◌, true, false, List, [], ◌∷◌, ◌++◌, None, Option, Some, codes, map, refl, replicate}
 use Rattle.bword.specs.declared.operators.BinOp.{BinOp}
 use Rattle.bword.specs.declared.operators.BinOp.TheVariants as op
+use Rattle.blang.specs.declared.token.Keyword.TheVariants as keyword
 use Rattle.blang.specs.Trees.{Address, Another, Assigned, Binary, Called, Conditional, Expr, Grouped, Indexed}
 use Rattle.blang.specs.Trees.{Indirection, Literal, Named, Negate, No_arguments, Not, Number, PostDecrement}
 use Rattle.blang.specs.Trees.{PostIncrement, Postfixed, PreDecrement, Prefixed, PreIncrement, Text}
+use Rattle.blex.specs.declared.lexeme.Lexeme.{Lexeme}
+use Rattle.blex.specs.declared.lexeme.Lexeme.TheVariants as lexeme
 use Rattle.btree.specs.declared.nodes.Node.{Node}
 use Rattle.btree.specs.declared.nodes.Node.TheVariants as node
 use Rattle.brules.specs.declared.rules.Rule.{Rule}
 use Rattle.brules.specs.declared.rules.Rule.TheVariants as rule
-use Rattle.brules.specs.Notices.{acts}
-use Rattle.brules.specs.Rules.{is_comparison, of_idle, told_between}
+use Rattle.brules.specs.Rules.{decided, is_arithmetic, is_comparison, of_idle, told_between}
+use Rattle.brules.specs.Telling.{empty_if, is_or_constant, is_same_name}
+use Rattle.brules.specs.Views.{is_counted, view}
 
 -- | & == != < <= > >= << >> - + % * /
 abbrev operators : List BinOp
@@ -81,13 +86,99 @@ related_again = refl
 other_parts : map (λ o. map (λ n. told_between o n node.Name) nodes) operators ≡ map (λ o. silent) operators
 other_parts = refl
 
--- which operators compare, and how a statement is named that does nothing
+-- strings beside each operator, and what is added to one
+strings_between : map (λ o. told_between o node.Text node.Text) operators
+    ≡ replicate 11 None ++ Some rule.StringsAdded ∷ replicate 3 None
+strings_between = refl
+
+strings_added : map (λ n. told_between op.Add n node.Text) nodes
+    ≡ replicate 4 None ++ Some rule.StringsAdded ∷ replicate 18 None
+strings_added = refl
+
+-- a|a==a|1: a constant after each operator, after what each operator gives, and after a | after a comparison
+constants_after : map (λ o. is_or_constant o (node.Binary op.Eq) node.Name node.Constant) operators
+    ≡ true ∷ replicate 14 false
+constants_after = refl
+
+constants_beside : map (λ o. is_or_constant op.Or (node.Binary o) node.Name node.Constant) operators
+    ≡ replicate 2 false ++ replicate 6 true ++ replicate 7 false
+constants_beside = refl
+
+constants_further : map (λ o. is_or_constant op.Or (node.Binary op.Or) (node.Binary o) node.Constant) operators
+    ≡ replicate 2 false ++ replicate 6 true ++ replicate 7 false
+constants_further = refl
+
+constants_alone : map (λ n. is_or_constant op.Or (node.Binary op.Eq) node.Name n) nodes
+    ≡ false ∷ true ∷ replicate 21 false
+constants_alone = refl
+
+no_truths : map (λ n. is_or_constant op.Or n (node.Binary op.Eq) node.Constant) (node.Not ∷ nodes)
+    ≡ replicate 24 false
+no_truths = refl
+
+-- names and other tokens
+same_names : is_same_name (lexeme.Name (codes "ab")) (lexeme.Name (codes "ab"))
+    ∷ is_same_name (lexeme.Name (codes "ab")) (lexeme.Name (codes "a"))
+    ∷ is_same_name (lexeme.Name (codes "a")) (lexeme.Name (codes "ab"))
+    ∷ is_same_name (lexeme.Name (codes "ab")) (lexeme.Name (codes "ac"))
+    ∷ is_same_name lexeme.String lexeme.String ∷ is_same_name (lexeme.Number 1) (lexeme.Number 1) ∷ []
+    ≡ true ∷ replicate 5 false
+same_names = refl
+
+counted_names : map (λ n. is_counted n node.Name) nodes ≡ replicate 9 false ++ true ∷ true ∷ replicate 12 false
+counted_names = refl
+
+counted_alone : map (λ n. is_counted node.PostDecrement n) nodes ≡ true ∷ replicate 22 false
+counted_alone = refl
+
+-- what a condition assigns: each last part, and each operator with =
+assigned_parts : map (λ n. decided (node.Assigned None) n) nodes
+    ≡ replicate 2 (Some rule.ConditionAssigns) ++ None ∷ None ∷ Some rule.ConditionAssigns ∷ (replicate 6 None
+    ++ Some rule.ConditionAssigns ∷ replicate 11 None)
+assigned_parts = refl
+
+assigned_values : map (λ o. decided (node.Assigned None) (node.Binary o)) operators
+    ≡ replicate 2 None ++ replicate 6 (Some rule.AssignsComparison) ++ replicate 7 None
+assigned_values = refl
+
+assigning_operators : map (λ o. decided (node.Assigned (Some o)) node.Constant) operators
+    ≡ None ∷ None ∷ Some rule.ConditionAssigns ∷ replicate 5 (Some rule.AssignsCompared)
+    ++ None ∷ None ∷ Some rule.ConditionAssigns ∷ replicate 4 None
+assigning_operators = refl
+
+minus_assigns : map (λ n. decided (node.Assigned (Some op.Sub)) n) nodes
+    ≡ None ∷ Some rule.ConditionAssigns ∷ replicate 21 None
+minus_assigns = refl
+
+equals_assigns : map (λ n. decided (node.Assigned (Some op.Eq)) n) nodes ≡ replicate 23 (Some rule.ConditionAssigns)
+equals_assigns = refl
+
+deciding : map (λ n. decided n node.Constant) nodes
+    ≡ replicate 16 None ++ Some rule.ConditionAssigns ∷ Some rule.ConditionAssigns ∷ replicate 5 None
+deciding = refl
+
+not_deciding : map (λ o. decided (node.Binary o) node.Constant) operators ≡ replicate 15 None
+not_deciding = refl
+
+-- a body that is a ;, by the token after it
+empty_bodies : map (λ l. empty_if lexeme.Semicolon l 7) (lexeme.Keyword keyword.Else ∷ [])
+    ++ map (λ l. empty_if l lexeme.Semicolon 7) (lexeme.OpenBrace ∷ lexeme.End ∷ lexeme.Keyword keyword.Else ∷ [])
+    ≡ replicate 4 None
+empty_bodies = refl
+
+-- which operators compare, which give numbers, and how a statement is named that does nothing
 comparisons : map (λ o. is_comparison (node.Binary o)) operators
     ≡ replicate 2 false ++ replicate 6 true ++ replicate 7 false
 comparisons = refl
 
 no_comparisons : map is_comparison (node.Not ∷ nodes) ≡ replicate 24 false
 no_comparisons = refl
+
+arithmetic : map (λ o. is_arithmetic (node.Binary o)) operators ≡ replicate 8 false ++ replicate 7 true
+arithmetic = refl
+
+no_arithmetic : map is_arithmetic (node.Not ∷ nodes) ≡ replicate 24 false
+no_arithmetic = refl
 
 idle_nodes : map of_idle nodes ≡ rule.NameAlone ∷ replicate 22 rule.NoEffect
 idle_nodes = refl
@@ -99,20 +190,21 @@ abbrev f : Expr
 f = Called x No_arguments
 
 -- x 1 "" (x) x[x] -x !x *x &x x+x x?x:x
-inert : map acts (x ∷ Literal (Number 1) ∷ Text [] 0 ∷ Grouped x ∷ Indexed x x ∷ Prefixed Negate 1 x
+inert : map (λ e. (view e 0).acts) (x ∷ Literal (Number 1) ∷ Text [] 0 ∷ Grouped x ∷ Indexed x x ∷ Prefixed Negate 1 x
     ∷ Prefixed Not 1 x ∷ Prefixed Indirection 1 x ∷ Prefixed Address 1 x ∷ Binary op.Add 1 x x ∷ Conditional x x x ∷ [])
     ≡ replicate 11 false
 inert = refl
 
 -- f() f(x) x++ x-- ++x --x x=x x=+x
-active : map acts (f ∷ Called x (Another No_arguments x) ∷ Postfixed PostIncrement 1 x ∷ Postfixed PostDecrement 1 x
-    ∷ Prefixed PreIncrement 1 x ∷ Prefixed PreDecrement 1 x ∷ Assigned None 1 x x ∷ Assigned (Some op.Add) 1 x x ∷ [])
+active : map (λ e. (view e 0).acts) (f ∷ Called x (Another No_arguments x) ∷ Postfixed PostIncrement 1 x
+    ∷ Postfixed PostDecrement 1 x ∷ Prefixed PreIncrement 1 x ∷ Prefixed PreDecrement 1 x ∷ Assigned None 1 x x
+    ∷ Assigned (Some op.Add) 1 x x ∷ [])
     ≡ replicate 8 true
 active = refl
 
 -- (f()) f()[x] x[f()] -f() !f() *f() &f() f()+x x+f() f()?x:x x?f():x x?x:f()
-active_inside : map acts (Grouped f ∷ Indexed f x ∷ Indexed x f ∷ Prefixed Negate 1 f ∷ Prefixed Not 1 f
-    ∷ Prefixed Indirection 1 f ∷ Prefixed Address 1 f ∷ Binary op.Add 1 f x ∷ Binary op.Add 1 x f ∷ Conditional f x x
-    ∷ Conditional x f x ∷ Conditional x x f ∷ [])
+active_inside : map (λ e. (view e 0).acts) (Grouped f ∷ Indexed f x ∷ Indexed x f ∷ Prefixed Negate 1 f
+    ∷ Prefixed Not 1 f ∷ Prefixed Indirection 1 f ∷ Prefixed Address 1 f ∷ Binary op.Add 1 f x ∷ Binary op.Add 1 x f
+    ∷ Conditional f x x ∷ Conditional x f x ∷ Conditional x x f ∷ [])
     ≡ replicate 12 true
 active_inside = refl

@@ -1,4 +1,4 @@
 mod NoticeSteps
 mod Moves
 mod NoticesOfExpressions
-mod NoticesOfPrograms
+mod NoticesOfFunctions

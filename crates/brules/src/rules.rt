@@ -1,6 +1,6 @@
-//! What rules say of a node and its parts.
-ghost use Rattle.std.specs.Prelude.{◌≡◌};
-ghost use Rattle.brules.specs.Rules.{beside_bits, beside_equals, beside_relation, told_between, compares, is_comparison, is_word, of_idle, relates};
+//! What rules say of nodes.
+ghost use Rattle.std.specs.Prelude.{◌≡◌, ◌||◌};
+ghost use Rattle.brules.specs.Rules.{assigning, beside_bits, beside_equals, beside_plus, beside_relation, compares, decided, input_ended, is_arithmetic, is_comparison, is_plain, is_word, mirrored, of_idle, operating, relates, string_ended, told_between, told_of};
 
 use btree::Node;
 use bword::BinOp;
@@ -14,10 +14,40 @@ pub enum Rule {
     ComparesTwice,
     /// `!x == 3`, which compares what `!` gives.
     NotCompared,
+    /// `c == 'a' | 'e'`, which compares once.
+    OrConstant,
+    /// `"a" + "b"`
+    StringsAdded,
+    /// `s == "abc"`
+    StringCompared,
+    /// `x < 40000`, which is below 0.
+    NegativeNumber,
+    /// `char(s, i) != 0`
+    StringEnd,
+    /// `getchar() != -1`
+    InputEnd,
+    /// `getchar() != 0`
+    InputZero,
+    /// `i = i++`
+    AssignsItself,
+    /// `f(n--)` in `f` itself.
+    PassesOldValue,
+    /// `if(x = 3)`
+    ConditionAssigns,
+    /// `if(x = y == 3)`
+    AssignsComparison,
+    /// `if(x =< 3)`
+    AssignsCompared,
+    /// `if(x) ;`
+    EmptyIf,
+    /// `while(x) ;`
+    EmptyLoop,
     /// `x;`
     NameAlone,
     /// `x == 3;`
     ComparesAlone,
+    /// `f() + g();`
+    ValueDropped,
     /// `x + 3;`
     NoEffect,
 }
@@ -29,6 +59,27 @@ pub struct Notice {
     pub token: usize,
 }
 
+/// What gives a value.
+#[derive(Clone, Copy)]
+pub(crate) enum Source {
+    /// `getchar`, a character of the input.
+    Input,
+    /// `char`, a character of a string.
+    String,
+    Other,
+}
+
+/// A constant or a string with which something is compared.
+#[derive(Clone, Copy)]
+pub(crate) enum Value {
+    Zero,
+    MinusOne,
+    /// A number with the sign bit.
+    Large,
+    Text,
+    Other,
+}
+
 /// What is said of an operator between two nodes.
 pub(crate) fn told_between(op: BinOp, left: &Node, right: &Node) -> Option<Rule>
     ensures { result ≡ told_between op left.now right.now }
@@ -37,6 +88,7 @@ pub(crate) fn told_between(op: BinOp, left: &Node, right: &Node) -> Option<Rule>
         BinOp::And | BinOp::Or => beside_bits(left, right),
         BinOp::Eq | BinOp::Ne => beside_equals(left, right),
         BinOp::Lt | BinOp::Le | BinOp::Gt | BinOp::Ge => beside_relation(left),
+        BinOp::Add => beside_plus(left, right),
         _ => None,
     }
 }
@@ -73,6 +125,107 @@ fn beside_relation(left: &Node) -> Option<Rule>
     }
 }
 
+fn beside_plus(left: &Node, right: &Node) -> Option<Rule>
+    ensures { result ≡ beside_plus left.now right.now }
+{
+    match *left {
+        Node::Text => match *right {
+            Node::Text => Some(Rule::StringsAdded),
+            _ => None,
+        },
+        _ => None,
+    }
+}
+
+/// What is said of a value that is compared with what comes of a source.
+pub(crate) fn told_of(source: Source, op: BinOp, value: Value) -> Option<Rule>
+    ensures { result ≡ told_of source op value }
+{
+    match value {
+        Value::Zero => match source {
+            Source::Input => input_ended(op),
+            Source::String => string_ended(op),
+            Source::Other => None,
+        },
+        Value::MinusOne => match source {
+            Source::Input if compares(op) || relates(op) => Some(Rule::InputEnd),
+            _ => None,
+        },
+        Value::Large if relates(op) => Some(Rule::NegativeNumber),
+        Value::Text if compares(op) => Some(Rule::StringCompared),
+        _ => None,
+    }
+}
+
+fn input_ended(op: BinOp) -> Option<Rule>
+    ensures { result ≡ input_ended op }
+{
+    match op {
+        BinOp::Lt | BinOp::Ge => Some(Rule::InputEnd),
+        BinOp::Eq | BinOp::Ne | BinOp::Le | BinOp::Gt => Some(Rule::InputZero),
+        _ => None,
+    }
+}
+
+fn string_ended(op: BinOp) -> Option<Rule>
+    ensures { result ≡ string_ended op }
+{
+    match op {
+        BinOp::Eq | BinOp::Ne | BinOp::Le | BinOp::Gt => Some(Rule::StringEnd),
+        _ => None,
+    }
+}
+
+/// The operator with its sides changed.
+pub(crate) fn mirrored(op: BinOp) -> BinOp
+    ensures { result ≡ mirrored op }
+{
+    match op {
+        BinOp::Lt => BinOp::Gt,
+        BinOp::Le => BinOp::Ge,
+        BinOp::Gt => BinOp::Lt,
+        BinOp::Ge => BinOp::Le,
+        _ => op,
+    }
+}
+
+/// What is said of a condition that this decides, by the last part of it.
+pub(crate) fn decided(core: &Node, last: &Node) -> Option<Rule>
+    ensures { result ≡ decided core.now last.now }
+{
+    match *core {
+        Node::Assigned(None) => assigning(last),
+        Node::Assigned(Some(op)) => operating(op, last),
+        _ => None,
+    }
+}
+
+fn assigning(last: &Node) -> Option<Rule>
+    ensures { result ≡ assigning last.now }
+{
+    if is_comparison(last) {
+        Some(Rule::AssignsComparison)
+    } else if is_plain(last) {
+        Some(Rule::ConditionAssigns)
+    } else {
+        None
+    }
+}
+
+fn operating(op: BinOp, last: &Node) -> Option<Rule>
+    ensures { result ≡ operating op last.now }
+{
+    match op {
+        BinOp::Eq => Some(Rule::ConditionAssigns),
+        BinOp::Sub => match *last {
+            Node::Constant => Some(Rule::ConditionAssigns),
+            _ => None,
+        },
+        BinOp::Ne | BinOp::Lt | BinOp::Le | BinOp::Gt | BinOp::Ge => Some(Rule::AssignsCompared),
+        _ => None,
+    }
+}
+
 /// What is said of an expression that does nothing, by its outermost node.
 pub(crate) fn of_idle(node: &Node) -> Rule
     ensures { result ≡ of_idle node.now }
@@ -89,6 +242,19 @@ pub(crate) fn is_comparison(node: &Node) -> bool
 {
     match *node {
         Node::Binary(op) => compares(op) || relates(op),
+        _ => false,
+    }
+}
+
+/// Whether the outermost node gives a number that is neither a truth nor bits.
+pub(crate) fn is_arithmetic(node: &Node) -> bool
+    ensures { result ≡ is_arithmetic node.now }
+{
+    match *node {
+        Node::Binary(op) => matches!(
+            op,
+            BinOp::Add | BinOp::Sub | BinOp::Mul | BinOp::Div | BinOp::Rem | BinOp::Shl | BinOp::Shr
+        ),
         _ => false,
     }
 }
@@ -112,5 +278,15 @@ fn is_word(node: &Node) -> bool
     matches!(
         *node,
         Node::Name | Node::Constant | Node::Indexed | Node::Indirection
+    )
+}
+
+// Whether a node is assigned without a comparison where one was meant, perhaps.
+fn is_plain(node: &Node) -> bool
+    ensures { result ≡ is_plain node.now }
+{
+    matches!(
+        *node,
+        Node::Name | Node::Constant | Node::Text | Node::Negate
     )
 }

@@ -4,4 +4,4 @@ use Rattle.brules.proofs.noticing.notices_of.Given as goal
 
 abbrev pub invariant-loop-tag : goal.invariant-loop-tag
 invariant-loop-tag l =
-    (said_of nothing_said l.tags ≡ said_of (said_by l.noticing) (drop l.tag-index l.tags)) × (l.noticing.place ≤ l.tag-index)
+    (said_of l.lexemes nothing_said l.tags ≡ said_of l.lexemes (said_by l.noticing) (drop l.tag-index l.tags)) × (l.noticing.place ≤ l.tag-index)

@@ -1,0 +1,304 @@
+//! What rules say of a node, by its parts and the tokens there.
+ghost use Rattle.std.specs.Prelude.{◌≡◌, ◌+◌};
+ghost use Rattle.bword.specs.Words.{same_name};
+ghost use Rattle.brules.specs.Telling.{at, constant_of, empty_if, empty_loop, is_or_constant, negated_of, of_assigned, of_binary, of_called, of_condition, of_statement, of_tested, of_use, of_value, of_whole, passes, is_same_name, source_at, source_of, told, until_zero, value_of, when, lexeme_at};
+
+use crate::parts::{Part, Taken, is_counted};
+use crate::rules::{
+    Notice, Rule, Source, Value, decided, is_arithmetic, is_comparison, mirrored, of_idle,
+    told_between, told_of,
+};
+use blang::Keyword;
+use blex::Lexeme;
+use btree::Node;
+use bword::BinOp;
+
+/// What is said of a node of a function with these tokens, where the next token has this number.
+pub(crate) fn told(lexemes: &[Lexeme], node: &Node, next: usize, taken: &Taken) -> Option<Notice>
+    ensures { result ≡ told lexemes.now node.now next taken.now }
+{
+    match *node {
+        Node::Binary(op) => of_binary(lexemes, op, &taken.left, &taken.right),
+        Node::Assigned(None) => of_assigned(lexemes, &taken.left, &taken.right),
+        Node::Called => of_called(lexemes, &taken.left, &taken.right),
+        Node::Conditional => of_condition(&taken.first),
+        Node::Evaluated => of_statement(&taken.right),
+        Node::Tested => of_tested(lexemes, next, &taken.right),
+        _ => None,
+    }
+}
+
+fn of_binary(lexemes: &[Lexeme], op: BinOp, left: &Part, right: &Part) -> Option<Notice>
+    ensures { result ≡ of_binary lexemes.now op left.now right.now }
+{
+    let operator = right.first.saturating_sub(1);
+    let constant = is_or_constant(op, left, &right.node);
+    let by_nodes = at(told_between(op, &left.node, &right.node), operator).or(when(
+        constant,
+        Rule::OrConstant,
+        operator,
+    ));
+    let by_values = of_value(lexemes, op, left, right).or(of_value(
+        lexemes,
+        mirrored(op),
+        right,
+        left,
+    ));
+    by_nodes.or(by_values)
+}
+
+fn at(rule: Option<Rule>, token: usize) -> Option<Notice>
+    ensures { result ≡ at rule token }
+{
+    match rule {
+        Some(rule) => Some(Notice { rule, token }),
+        None => None,
+    }
+}
+
+fn when(holds: bool, rule: Rule, token: usize) -> Option<Notice>
+    ensures { result ≡ when holds rule token }
+{
+    if holds {
+        Some(Notice { rule, token })
+    } else {
+        None
+    }
+}
+
+// Whether it is `c == 'a' | 'e'`.
+fn is_or_constant(op: BinOp, left: &Part, right: &Node) -> bool
+    ensures { result ≡ is_or_constant op left.now.node left.now.inner right.now }
+{
+    match op {
+        BinOp::Or => match *right {
+            Node::Constant => match left.node {
+                Node::Binary(BinOp::Or) => is_comparison(&left.inner),
+                _ => is_comparison(&left.node),
+            },
+            _ => false,
+        },
+        _ => false,
+    }
+}
+
+// What is said of a part that is compared with another one.
+fn of_value(lexemes: &[Lexeme], op: BinOp, other: &Part, part: &Part) -> Option<Notice>
+    ensures { result ≡ of_value lexemes.now op other.now part.now }
+{
+    let source = source_at(lexemes, other.name);
+    at(told_of(source, op, value_of(lexemes, part)), part.first)
+}
+
+fn source_at(lexemes: &[Lexeme], token: Option<usize>) -> Source
+    ensures { result ≡ source_at lexemes.now token }
+{
+    match token {
+        Some(token) => source_of(&lexeme_at(lexemes, token)),
+        None => Source::Other,
+    }
+}
+
+fn source_of(lexeme: &Lexeme) -> Source
+    ensures { result ≡ source_of lexeme.now }
+{
+    match *lexeme {
+        Lexeme::Name(name) => {
+            if name.as_str() == "getchar" {
+                Source::Input
+            } else if name.as_str() == "char" {
+                Source::String
+            } else {
+                Source::Other
+            }
+        }
+        _ => Source::Other,
+    }
+}
+
+fn value_of(lexemes: &[Lexeme], part: &Part) -> Value
+    ensures { result ≡ value_of lexemes.now part.now.node part.now.inner part.now.first }
+{
+    match part.node {
+        Node::Text => Value::Text,
+        Node::Constant => constant_of(&lexeme_at(lexemes, part.first)),
+        Node::Negate => match part.inner {
+            Node::Constant => negated_of(&lexeme_after(lexemes, part.first)),
+            _ => Value::Other,
+        },
+        _ => Value::Other,
+    }
+}
+
+fn constant_of(lexeme: &Lexeme) -> Value
+    ensures { result ≡ constant_of lexeme.now }
+{
+    match *lexeme {
+        Lexeme::Number(0) | Lexeme::Character(0) => Value::Zero,
+        Lexeme::Number(0x8000..) => Value::Large,
+        _ => Value::Other,
+    }
+}
+
+fn negated_of(lexeme: &Lexeme) -> Value
+    ensures { result ≡ negated_of lexeme.now }
+{
+    match *lexeme {
+        Lexeme::Number(1) => Value::MinusOne,
+        _ => Value::Other,
+    }
+}
+
+// The token of this number.
+fn lexeme_at(lexemes: &[Lexeme], token: usize) -> Lexeme
+    ensures { result ≡ lexeme_at lexemes.now token }
+{
+    lexemes.get(token).copied().unwrap_or(Lexeme::End)
+}
+
+fn lexeme_after(lexemes: &[Lexeme], token: usize) -> Lexeme
+    ensures { result ≡ lexeme_at lexemes.now (token + 1) }
+{
+    if token < lexemes.len() {
+        lexeme_at(lexemes, token + 1)
+    } else {
+        Lexeme::End
+    }
+}
+
+fn of_assigned(lexemes: &[Lexeme], left: &Part, right: &Part) -> Option<Notice>
+    ensures { result ≡ of_assigned lexemes.now left.now right.now }
+{
+    let holds = matches!(left.node, Node::Name)
+        && (is_counted(&right.node, &right.inner)
+            && is_same_name(
+                &lexeme_at(lexemes, left.first),
+                &lexeme_at(lexemes, right.first),
+            ));
+    when(holds, Rule::AssignsItself, right.first.saturating_sub(1))
+}
+
+fn is_same_name(one: &Lexeme, other: &Lexeme) -> bool
+    ensures { result ≡ is_same_name one.now other.now }
+{
+    match (one, other) {
+        (Lexeme::Name(one), Lexeme::Name(other)) => one == other,
+        _ => false,
+    }
+}
+
+fn of_called(lexemes: &[Lexeme], left: &Part, right: &Part) -> Option<Notice>
+    ensures { result ≡ of_called lexemes.now left.now right.now }
+{
+    let called = match left.node {
+        Node::Name => Some(left.first),
+        _ => None,
+    };
+    passes(lexemes, called, right.name)
+}
+
+// What is said of a name that is counted after a call of a function, if that is this one.
+fn passes(lexemes: &[Lexeme], called: Option<usize>, given: Option<usize>) -> Option<Notice>
+    ensures { result ≡ passes lexemes.now called given }
+{
+    match (called, given) {
+        (Some(called), Some(given)) => when(
+            is_same_name(&lexeme_at(lexemes, called), &lexeme_at(lexemes, 0)),
+            Rule::PassesOldValue,
+            given,
+        ),
+        _ => None,
+    }
+}
+
+fn of_condition(part: &Part) -> Option<Notice>
+    ensures { result ≡ of_condition part.now }
+{
+    at(decided(&part.core, &part.inner), part.operator)
+}
+
+// A condition of an `if` or a `while`.
+fn of_tested(lexemes: &[Lexeme], next: usize, part: &Part) -> Option<Notice>
+    ensures { result ≡ of_tested lexemes.now next part.now }
+{
+    let keyword = lexeme_at(lexemes, part.first.saturating_sub(2));
+    of_whole(part).or(of_use(lexemes, &keyword, next, part))
+}
+
+// In parentheses of its own an assignment is meant.
+fn of_whole(part: &Part) -> Option<Notice>
+    ensures { result ≡ of_whole part.now part.now.node }
+{
+    match part.node {
+        Node::Grouped => None,
+        _ => of_condition(part),
+    }
+}
+
+fn of_use(lexemes: &[Lexeme], keyword: &Lexeme, next: usize, part: &Part) -> Option<Notice>
+    ensures { result ≡ of_use lexemes.now keyword.now next part.now }
+{
+    let body = lexeme_at(lexemes, next);
+    match *keyword {
+        Lexeme::Keyword(Keyword::While) => {
+            until_zero(lexemes, part.name).or(empty_loop(&body, part, next))
+        }
+        _ => empty_if(&body, &lexeme_after(lexemes, next), next),
+    }
+}
+
+// What is said of a loop whose condition is what this name gives.
+fn until_zero(lexemes: &[Lexeme], name: Option<usize>) -> Option<Notice>
+    ensures { result ≡ until_zero lexemes.now name }
+{
+    match name {
+        Some(token) => at(
+            told_of(
+                source_of(&lexeme_at(lexemes, token)),
+                BinOp::Ne,
+                Value::Zero,
+            ),
+            token,
+        ),
+        None => None,
+    }
+}
+
+fn empty_loop(body: &Lexeme, condition: &Part, token: usize) -> Option<Notice>
+    ensures { result ≡ empty_loop body.now condition.now token }
+{
+    match *body {
+        Lexeme::Semicolon => {
+            let goes_on = matches!(condition.node, Node::Constant) || condition.acts;
+            when(!goes_on, Rule::EmptyLoop, token)
+        }
+        _ => None,
+    }
+}
+
+fn empty_if(body: &Lexeme, after: &Lexeme, token: usize) -> Option<Notice>
+    ensures { result ≡ empty_if body.now after.now token }
+{
+    match *body {
+        Lexeme::Semicolon => match *after {
+            Lexeme::Keyword(Keyword::Else) => None,
+            _ => Some(Notice {
+                rule: Rule::EmptyIf,
+                token,
+            }),
+        },
+        _ => None,
+    }
+}
+
+fn of_statement(part: &Part) -> Option<Notice>
+    ensures { result ≡ of_statement part.now }
+{
+    if is_comparison(&part.node) {
+        when(true, Rule::ComparesAlone, part.operator)
+    } else if part.acts {
+        when(is_arithmetic(&part.node), Rule::ValueDropped, part.operator)
+    } else {
+        when(true, of_idle(&part.node), part.first)
+    }
+}
