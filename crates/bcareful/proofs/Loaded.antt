@@ -1,22 +1,23 @@
 -- What a careful run of a program that was loaded comes to is what one of its definitions comes to.
-use Rattle.std.proofs.Common.{◌≡◌, ◌∙◌, ℕ, List, [], ◌∷◌, ◌++◌, Some, ap, map, refl, subst, sym, unwrap_or}
-use Rattle.bword.specs.ByteEnds.{CanFollow, Incoming, Outgoing}
+use Rattle.std.proofs.Common.{◌≡◌, ◌∙◌, ℕ, List, [], ◌∷◌, ◌++◌, Some, ap, map, refl, subst, sym}
+use Rattle.bword.specs.ByteEnds.{Incoming, Outgoing}
 use Rattle.blang.specs.declared.code.Definition.{Definition}
 use Rattle.blang.specs.declared.run.Outcome.{Outcome}
-use Rattle.blang.specs.Machine.{Call, Halted, Image, Loaded, Running, State, States, Stuck, image_of, machine, state_world}
+use Rattle.blang.specs.Machine.{Call, Halted, Image, Running, State, States, Stuck, image_of, machine, state_world}
 use Rattle.blang.specs.Reports.{AsksForByte, RunGives, state_outcome}
 use Rattle.bmach.specs.Resolved.{IsLoadedFrom, call_resolved, resolved, state_resolved}
 use Rattle.bmach.specs.Stepping.{IsUnstarted, Paused}
 use Rattle.bmach.specs.Stops.{active_of}
+use Rattle.bmach.specs.declared.machine.Stop.{Stop}
 use Rattle.bmach.proofs.LoadedRuns.{asks-resolved, outcome-resolved, world-resolved}
 use Rattle.bmach.proofs.Resolving.{stored-resolved}
 use Rattle.bmach.proofs.Running.{run_alike}
 use Rattle.btools.specs.Programs.{steps_from}
-use Rattle.btools.proofs.Stopped.{states_loaded}
+use Rattle.btools.proofs.Stopped.{states_loaded, stops_run}
 use Rattle.bwatch.specs.Sights.{Sights, sight_of, sights_of}
 use Rattle.bcareful.specs.Things.{Atlas}
 use Rattle.bcareful.specs.Findings.{careful, made_by}
-use Rattle.bcareful.specs.Carefuls.{IsFound, IsUnfound, StaysAt}
+use Rattle.bcareful.specs.Carefuls.{IsClean, IsFound, IsUnfound, StaysAt}
 use Rattle.bcareful.specs.declared.watching.Found.{Found}
 
 below_same : (I : Image) (below : List Call) → map active_of (map (call_resolved I) below) ≡ map active_of below
@@ -76,9 +77,16 @@ module _ (ds : List Definition) (image : Image) (p : Paused) (loaded : IsLoadedF
     stays = λ more can. subst (λ (s : Sights). StaysAt a s n now found) (seen_alike (h.taken ++ more)) (h.stays more can);
   }
 
-  pub unfound_alike : (n : ℕ) (i j : Incoming) → IsUnfound a p.image.functions (steps_from p) n i j → IsUnfound a I.functions (machine ds) n i j
+  unfound_alike : (n : ℕ) (i j : Incoming) → IsUnfound a p.image.functions (steps_from p) n i j → IsUnfound a I.functions (machine ds) n i j
   unfound_alike n i j h = record {
     taken = h.taken;
     took = h.took;
     all = λ more can. subst (λ (s : Sights). made_by a s n ≡ n) (seen_alike (h.taken ++ more)) (h.all more can);
+  }
+
+  pub clean_alike : (n : ℕ) (i j : Incoming) (o q : Outgoing) (stop : Stop) → IsClean a p.image.functions (steps_from p) n i j o q stop → IsClean a I.functions (machine ds) n i j o q stop
+  clean_alike n i j o q stop h = record {
+    gives = gives_alike n i j o q stop.outcome h.gives;
+    unfound = λ limit. unfound_alike n i j (h.unfound limit);
+    stops = stops_run ds image p loaded begins n i j stop.outcome stop.call stop.steps h.stops;
   }

@@ -1,11 +1,12 @@
 -- Looking for the function of a call, the external of a name, and the thing of a word.
-use Rattle.std.proofs.Common.{◌≡◌, ◌∙◌, ℕ, zero, suc, ◌+◌, ◌-◌, ◌<◌, ◌≤◌, Bool, true, false, min, List, [], ◌∷◌, ◌++◌, ◌%◌, append_assoc, Option, None, Some, ap, arith, drop, get_or, length, map, refl, sym}
-use Rattle.std.specs.Prelude.{◌==◌, ◌&&◌, nat_lt, slice_get, if◌then◌else◌}
-use Rattle.std.proofs.lemmas.List.{at_drop_more, drop_more}
+use Rattle.std.proofs.Common.{◌≡◌, ◌∙◌, ℕ, zero, suc, ◌+◌, ◌<◌, ◌≤◌, false, min, List, [], ◌∷◌, ◌++◌, ◌%◌, append_assoc, Option, None, Some, ap, arith, drop, get_or, length, map, refl, sym}
+use Rattle.std.specs.Prelude.{◌==◌, nat_le, slice_get, if◌then◌else◌}
+use Rattle.std.proofs.lemmas.List.{drop_more}
 use Rattle.std.proofs.lemmas.Option.{get_or_from_slice_get, slice_get_within}
 use Rattle.std.specs.Option.{option_map}
-use Rattle.bcareful.specs.Tellings.{holder, holds}
-use Rattle.bword.specs.Words.{same_name}
+use Rattle.std.proofs.lemmas.Bool.{cond-true, le-leb}
+use Rattle.bparse.specs.Locals.{NamedWord}
+use Rattle.bcareful.specs.Tellings.{holder, holds, named_at}
 use Rattle.blang.specs.declared.code.Definition.{Definition}
 use Rattle.blang.specs.Layout.{shape_of, size_of}
 use Rattle.blang.specs.Machine.{Call}
@@ -17,7 +18,7 @@ use Rattle.btools.specs.declared.names.Frame.{Frame}
 use Rattle.btools.specs.declared.names.FrameWord.{FrameWord}
 use Rattle.btools.specs.declared.tables.FunctionEntry.{FunctionEntry}
 use Rattle.bcareful.specs.Marks.{data_marks, shape_marks}
-use Rattle.bcareful.specs.Things.{Atlas, Site, ends_string, external_words, located, next_offset, own_words, string_words, thing_among}
+use Rattle.bcareful.specs.Things.{Atlas, Site, located}
 use Rattle.bcareful.specs.declared.thing.Mark.{Mark}
 
 -- what stands from an index on in tables of functions and frames
@@ -68,3 +69,11 @@ is_there (c ∷ below) zero lt found gives is = none (sym gives ∙ is)
     none : Some (active_of c) ≡ None → ⊥
     none e = cc
 is_there (c ∷ below) (suc n) lt found gives is = is_there below n (omega (arith, lt)) found gives is
+
+-- one word of a frame that comes up to an offset
+pub one_word : (ws : List FrameWord) (i : ℕ) (w : FrameWord) (offset : ℕ) (last : Option NamedWord) → i < length ws → w ≡ get_or ws i w → w.offset ≤ offset
+    → named_at (map word_seen (drop (i + 1) ws)) offset (Some (word_seen w)) ≡ named_at (map word_seen (drop i ws)) offset last
+one_word ws i w offset last lt is le =
+    let first : drop i ws ≡ w ∷ drop (i + 1) ws = drop_more ws i w lt ∙ ap (λ x. x ∷ drop (i + 1) ws) (sym is) in
+    let after = named_at (map word_seen (drop (i + 1) ws)) offset (Some (word_seen w)) in
+    sym (ap (λ xs. named_at (map word_seen xs) offset last) first ∙ cond-true (nat_le w.offset offset) after last (le-leb w.offset offset le))

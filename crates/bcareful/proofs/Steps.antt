@@ -1,6 +1,6 @@
 -- Steps of a careful run, one after another.
-use Rattle.std.proofs.Common.{◌≡◌, ◌∙◌, ◌⊎◌, ℕ, zero, suc, ◌+◌, ◌-◌, ◌<◌, ◌≤◌, List, [], ◌++◌, Err, None, Ok, Option, Some, ap, append_assoc, arith, inl, inr, refl, subst, sym, ⊎_elim}
-use Rattle.std.specs.Prelude.{Bool, true, false, is_some, if◌then◌else◌}
+use Rattle.std.proofs.Common.{◌≡◌, ◌∙◌, ℕ, zero, suc, ◌+◌, ◌-◌, ◌<◌, ◌≤◌, List, [], ◌++◌, Err, None, Ok, Some, ap, append_assoc, arith, inl, inr, refl, subst, sym, ⊎_elim}
+use Rattle.std.specs.Prelude.{true, false, is_some, if◌then◌else◌}
 use Rattle.bword.specs.ByteEnds.{CanFollow, Incoming, Outgoing, Took, Writes}
 use Rattle.bword.proofs.Putting.{Writes-append}
 use Rattle.bword.proofs.Taking.{Took-append}
@@ -8,26 +8,33 @@ use Rattle.bword.specs.declared.ends.EndFault.{EndFault}
 use Rattle.bword.specs.declared.ends.EndFault.TheVariants as end_fault
 use Rattle.blang.specs.declared.run.Outcome.{Outcome}
 use Rattle.blang.specs.declared.run.Outcome.TheVariants as outcome
-use Rattle.blang.specs.Machine.{Halted, Image, Loaded, Running, State, States, Stuck, state_world, step, steps}
-use Rattle.blang.specs.Reports.{AsksForByte, ComesTo, RunGives, Shows, StopsAtRead, StopsAtWrite, StopsForMemory, state_outcome}
+use Rattle.blang.specs.Machine.{Halted, Image, Running, State, States, Stuck, state_world, step, steps}
+use Rattle.blang.specs.Reports.{AsksForByte, ComesTo, Shows, StopsAtRead, StopsAtWrite, StopsForMemory, state_outcome}
 use Rattle.bmach.specs.Stepping.{Paused, machine_at}
-use Rattle.bmach.specs.Stops.{active_of}
-use Rattle.bmach.specs.Turns.{FailsAtRead, FailsAtWrite, FailsForMemory, HasHalted, MovesOn, Shown, TurnGives}
+use Rattle.bmach.specs.Stops.{IsOverAt, active_of}
+use Rattle.bmach.specs.declared.machine.Active.{Active}
+use Rattle.bmach.specs.declared.machine.Stop.{Stop}
+use Rattle.bmach.proofs.Stopping.{stands_after, stops_before}
+use Rattle.bmach.specs.Turns.{FailsAtRead, FailsAtWrite, FailsForMemory, HasHalted, MovesOn, TurnGives}
 use Rattle.bmach.proofs.Asking.{asks_if_taken}
 use Rattle.bmach.proofs.Running.{IsOver, following, one_more, over_stays, steps_add}
 use Rattle.bmach.proofs.Turning.{follows, goes_on, runs_on}
 use Rattle.btools.specs.Programs.{steps_from}
 use Rattle.bwatch.specs.Sights.{Sight, Sights, sight_at, sight_of, sights_of}
 use Rattle.bcareful.specs.Things.{Atlas}
-use Rattle.bcareful.specs.Marks.{Marks, memory_marks}
+use Rattle.bcareful.specs.Marks.{Marks, unbegun}
 use Rattle.bcareful.specs.Effects.{changed_in, changed_to, effect_of, marks_at, step_by, step_in}
 use Rattle.bcareful.specs.Findings.{careful, finding_at, finding_of, made_by}
 use Rattle.bcareful.specs.Stays.{StaysAtFirst}
-use Rattle.bcareful.specs.Carefuls.{CarefulGives, IsFound, IsUnfound, StaysAt}
+use Rattle.bcareful.specs.Carefuls.{CarefulGives, IsClean}
 use Rattle.bcareful.specs.declared.effect.Effect.TheVariants.{Begins}
 use Rattle.bcareful.specs.declared.finding.Finding.{Finding}
 use Rattle.bcareful.specs.declared.watching.Ended.TheVariants as ended
 use Rattle.bcareful.specs.declared.watching.Found.{Found}
+
+-- what a run came to, and where
+abbrev pub stop_at : Outcome → Active → (steps : ℕ) → Stop
+stop_at result call steps = record { outcome = result; call = call; steps = steps }
 
 add_one : (n : ℕ) → n + 1 ≡ suc n
 add_one n = omega arith
@@ -38,7 +45,7 @@ seen_from first input = sights_of first.image.functions (steps_from first) input
 
 -- the marks where a call of the main function begins
 abbrev pub main_marks : Atlas → Paused → Marks
-main_marks a p = changed_in a (Begins 0) (active_of p.call) (record { operands = []; words = memory_marks a })
+main_marks a p = changed_in a (Begins 0) (active_of p.call) (unbegun a)
 
 -- So many steps were made from a state on, and none of them had a finding.
 pub record IsOn (a : Atlas) (first : Paused) (made : ℕ) (now : Paused) (marks : Marks) (i j : Incoming) (o p : Outgoing) : Type 0 where
@@ -186,16 +193,18 @@ module _ (a : Atlas) (first now after : Paused) (made : ℕ) (marks : Marks) {i 
   }
 
   -- all steps were made
-  pub all_on : (n : ℕ) → made ≡ n → CarefulGives a first.image.functions (steps_from first) n i j o p now (ended.Over outcome.Limit)
+  pub all_on : (n : ℕ) → made ≡ n → (call : Active) → call ≡ active_of now.call → IsClean a first.image.functions (steps_from first) n i j o p (stop_at outcome.Limit call n)
   unfolding comes_here
-  all_on n is = (
-    subst (λ (k : ℕ). ComesTo machine k i j o p outcome.Limit) is comes_here,
-    λ limit. record {
+  all_on n is call here_is = record {
+    gives = subst (λ (k : ℕ). ComesTo machine k i j o p outcome.Limit) is comes_here;
+    unfound = λ limit. record {
       taken = t.goes.taken;
       took = t.goes.took;
       all = λ more can. subst (λ (k : ℕ). made_by a (sights more) k ≡ k) is (t.clean more can);
-    },
-  )
+    };
+    stops = subst (λ (k : ℕ). IsOverAt (steps_from first) k i j outcome.Limit call k) is
+        (subst (λ (x : Active). IsOverAt (steps_from first) made i j outcome.Limit x made) (sym here_is) (stands_after first.image made (machine_at first) now.call now.below now.store t.goes));
+  }
 
   module _ (n : ℕ) (lt : made < n) where
     further : made + (n - made) ≡ n
@@ -314,14 +323,25 @@ module _ (a : Atlas) (first now after : Paused) (made : ℕ) (marks : Marks) {i 
       }
 
       -- the run was over with the next step, or broken off in it
-      pub over_on : (m : Incoming) (q : Outgoing) (r : Outcome) → TurnGives now.image (machine_at now) (machine_at after) j m p q (Err r) → CarefulGives a first.image.functions (steps_from first) n i m o q after (ended.Over r)
-      over_on m q (outcome.Exit status) g = (halted_on (outcome.Exit status) (λ e. cc) g, λ limit. cc)
-      over_on m q (outcome.Trap kind) g = (halted_on (outcome.Trap kind) (λ e. cc) g, λ limit. cc)
-      over_on m q outcome.Limit g = absurd g
-      over_on m q outcome.Device g = (⊎_elim (λ f. inl (read_on f)) (λ f. inr (write_on end_fault.Device f)) g, λ limit. cc)
-      over_on m q outcome.Memory g =
-          (⊎_elim (λ f. inl (memory_on f.0 f.1 f.2)) (λ f. inr (write_on end_fault.Memory f)) g, λ limit. cc)
+      module _ (call : Active) (here_is : call ≡ active_of now.call) (m : Incoming) (q : Outgoing) where
+        stops_here : (r : Outcome) → TurnGives now.image (machine_at now) (machine_at after) j m p q (Err r) → IsOverAt (steps_from first) n i m r call (made + 1)
+        stops_here r g =
+            subst (λ (x : Active). IsOverAt (steps_from first) n i m r x (made + 1)) (sym here_is)
+            (stops_before first.image made (machine_at first) now.call now.below now.store (machine_at after) n m q r lt t.goes
+            (subst (λ (x : Image). TurnGives x (machine_at now) (machine_at after) j m p q (Err r)) t.image_is g))
+
+        pub over_on : (r : Outcome) → TurnGives now.image (machine_at now) (machine_at after) j m p q (Err r) → IsClean a first.image.functions (steps_from first) n i m o q (stop_at r call (made + 1))
+        over_on (outcome.Exit status) g = record { gives = halted_on (outcome.Exit status) (λ e. cc) g; unfound = λ limit. cc; stops = stops_here (outcome.Exit status) g }
+        over_on (outcome.Trap kind) g = record { gives = halted_on (outcome.Trap kind) (λ e. cc) g; unfound = λ limit. cc; stops = stops_here (outcome.Trap kind) g }
+        over_on outcome.Limit g = absurd g
+        over_on outcome.Device g = record { gives = ⊎_elim (λ f. inl (read_on f)) (λ f. inr (write_on end_fault.Device f)) g; unfound = λ limit. cc; stops = stops_here outcome.Device g }
+        over_on outcome.Memory g =
+            record { gives = ⊎_elim (λ f. inl (memory_on f.0 f.1 f.2)) (λ f. inr (write_on end_fault.Memory f)) g; unfound = λ limit. cc; stops = stops_here outcome.Memory g }
 
   -- memory was refused after these steps
-  pub refused_on : (n : ℕ) → made ≤ n → (there : Paused) → CarefulGives a first.image.functions (steps_from first) n i j o p there (ended.Over outcome.Memory)
-  refused_on n le there = (inl (record { made = made; within = le; comes = comes_here }), λ limit. cc)
+  pub refused_on : (n : ℕ) → made ≤ n → (call : Active) (count : ℕ) → IsClean a first.image.functions (steps_from first) n i j o p (stop_at outcome.Memory call count)
+  refused_on n le call count = record {
+    gives = inl (record { made = made; within = le; comes = comes_here });
+    unfound = λ limit. cc;
+    stops = record { taken = t.goes.taken; took = t.goes.took; ends = λ more can. tt };
+  }

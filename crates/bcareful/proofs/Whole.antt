@@ -1,27 +1,27 @@
 -- What comes of a source that is run carefully.
-use Rattle.std.proofs.Common.{◌≡◌, ◌∙◌, ◌+◌, ◌<◌, ◌≤◌, ◌^◌, ℕ, List, [], ◌++◌, ap, arith, refl, subst, sym}
-use Rattle.bword.specs.ByteEnds.{CanFollow, Incoming}
+use Rattle.std.proofs.Common.{◌≡◌, ◌∙◌, ◌+◌, ◌<◌, ◌^◌, ℕ, List, [], ap, arith, refl, subst, sym}
+use Rattle.bword.specs.ByteEnds.{Incoming}
 use Rattle.bword.specs.declared.edition.Edition.{Edition}
 use Rattle.blang.specs.declared.code.Definition.{Definition}
-use Rattle.blang.specs.declared.run.Outcome.{Outcome}
 use Rattle.blang.specs.declared.run.Outcome.TheVariants as outcome
-use Rattle.blang.specs.Machine.{Image, Loaded, States, image_of, machine}
-use Rattle.blang.specs.Reports.{Finishes, RunEnds}
+use Rattle.blang.specs.Machine.{Image, Loaded, States}
+use Rattle.blang.specs.Reports.{RunEnds}
 use Rattle.bmach.specs.Stepping.{IsUnstarted, Paused}
+use Rattle.bmach.specs.declared.machine.Stop.{Stop}
 use Rattle.bsources.specs.Files.{Files}
 use Rattle.btools.specs.FrameNames.{HasNames}
 use Rattle.btools.specs.ProgramLines.{HasLines}
 use Rattle.btools.specs.Programs.{HasProgram, steps_from}
 use Rattle.btools.specs.declared.names.Frame.{Frame}
 use Rattle.btrace.specs.RowTexts.{Legend, legend_in}
-use Rattle.bwatch.specs.Sights.{Sight, sight_at, sights_of}
+use Rattle.bwatch.specs.Sights.{Sight, sight_at}
 use Rattle.bcareful.specs.Things.{Atlas, atlas_in}
-use Rattle.bcareful.specs.Carefuls.{CarefulGives, IsFound, StaysAt}
+use Rattle.bcareful.specs.Carefuls.{CarefulGives, IsClean, IsFound}
 use Rattle.bcareful.specs.Runs.{Runs, found, unfound}
-use Rattle.bcareful.specs.Tellings.{Tells, finding_text}
+use Rattle.bcareful.specs.Tellings.{Tells, TellsOver, finding_text}
 use Rattle.bcareful.specs.declared.watching.Ended.TheVariants as ended
 use Rattle.bcareful.specs.declared.watching.Found.{Found}
-use Rattle.bcareful.proofs.Loaded.{found_alike, gives_alike, seen_alike, unfound_alike}
+use Rattle.bcareful.proofs.Loaded.{clean_alike, found_alike, gives_alike}
 
 -- a step after the one at which a run stays is one that can be counted
 pub counted : (a : Atlas) (functions : List Loaded) (states : States) (n : ℕ) (i j : Incoming) (p : Paused) (f : Found) → n < 2 ^ 64 → IsFound a functions states n i j p f → f.made + 1 < 2 ^ 64
@@ -29,28 +29,32 @@ counted a functions states n i j p f fits is =
     let lt : f.made < n = (is.stays [] (λ over. refl)).within in
     omega (arith, lt, fits)
 
-module _ (edition : Edition) (source : List ℕ) (files : Files) (n : ℕ) (ends : RunEnds) (status : ℕ) (ds : List Definition) (image : Image) (frames : List Frame) (p now : Paused) (is : HasProgram edition source ds image) (named : HasNames edition source frames) (begins : IsUnstarted image p) (a : Atlas) (whole : a ≡ atlas_in ds frames) where
+module _ (edition : Edition) (source : List ℕ) (files : Files) (n : ℕ) (ends : RunEnds) (status : ℕ) (ds : List Definition) (image : Image) (frames : List Frame) (lines : List ℕ) (p now : Paused) (is : HasProgram edition source ds image) (named : HasNames edition source frames)
+    (lined : HasLines edition source lines) (begins : IsUnstarted image p) (a : Atlas) (whole : a ≡ atlas_in ds frames) (legend : Legend) (same : legend ≡ legend_in ds lines files) where
   -- a run without a finding
-  pub unfound_whole : (result : Outcome) → CarefulGives a p.image.functions (steps_from p) n ends.input ends.input_after ends.out ends.out_after now (ended.Over result)
-      → Finishes result ends.line ends.line_after status → Runs edition source files n ends status
-  unfound_whole result gives finishes =
+  pub unfound_whole : (stop : Stop) → IsClean a p.image.functions (steps_from p) n ends.input ends.input_after ends.out ends.out_after stop
+      → TellsOver legend source stop ends.line ends.line_after status → Runs edition source files n ends status
+  unfound_whole stop clean told =
       let b = atlas_in ds frames in
-      let g : CarefulGives b p.image.functions (steps_from p) n ends.input ends.input_after ends.out ends.out_after now (ended.Over result) =
-      subst (λ (x : Atlas). CarefulGives x p.image.functions (steps_from p) n ends.input ends.input_after ends.out ends.out_after now (ended.Over result)) whole gives in
-      unfound ds image frames result is named (gives_alike ds image p is.loaded begins b n ends.input ends.input_after ends.out ends.out_after result g.0)
-      (λ limit. unfound_alike ds image p is.loaded begins b n ends.input ends.input_after (g.1 limit)) finishes
+      let g : IsClean b p.image.functions (steps_from p) n ends.input ends.input_after ends.out ends.out_after stop =
+      subst (λ (x : Atlas). IsClean x p.image.functions (steps_from p) n ends.input ends.input_after ends.out ends.out_after stop) whole clean in
+      unfound ds image frames lines stop is named lined (clean_alike ds image p is.loaded begins b n ends.input ends.input_after ends.out ends.out_after stop g)
+      (subst (λ (x : Legend). TellsOver x source stop ends.line ends.line_after status) same told)
 
   -- one that stays at a finding
-  pub found_whole : (f : Found) (lines : List ℕ) (legend : Legend) → HasLines edition source lines → legend ≡ legend_in ds lines files
-      → CarefulGives a p.image.functions (steps_from p) n ends.input ends.input_after ends.out ends.out_after now (ended.Found f)
+  pub found_whole : (f : Found) → CarefulGives a p.image.functions (steps_from p) n ends.input ends.input_after ends.out ends.out_after now (ended.Found f)
       → ((output : List ℕ) → Tells (finding_text a legend source (sight_at now output) f) ends.line ends.line_after status) → Runs edition source files n ends status
-  found_whole f lines legend lined same gives told =
+  found_whole f gives told =
       let b = atlas_in ds frames in
       let g : CarefulGives b p.image.functions (steps_from p) n ends.input ends.input_after ends.out ends.out_after now (ended.Found f) =
       subst (λ (x : Atlas). CarefulGives x p.image.functions (steps_from p) n ends.input ends.input_after ends.out ends.out_after now (ended.Found f)) whole gives in
       let here = found_alike ds image p is.loaded begins b n ends.input ends.input_after now f g.1 in
-      found ds image frames lines now f (finding_text a legend source (sight_at now []) f) is named lined
-      (gives_alike ds image p is.loaded begins b n ends.input ends.input_after ends.out ends.out_after outcome.Limit g.0) here
-      (λ more can. (λ k. finding_text (whole k) (same k) source (sight_at now []) f)
-      ∙ ap (λ (s : Sight). finding_text b (legend_in ds lines files) source s f) (sym (here.stays more can).seen))
+      found ds image frames lines f (finding_text a legend source (sight_at now []) f) is named lined
+      (record {
+        now = now;
+        gives = gives_alike ds image p is.loaded begins b n ends.input ends.input_after ends.out ends.out_after outcome.Limit g.0;
+        is = here;
+        tells = λ more can. (λ k. finding_text (whole k) (same k) source (sight_at now []) f)
+            ∙ ap (λ (s : Sight). finding_text b (legend_in ds lines files) source s f) (sym (here.stays more can).seen);
+      })
       (told [])

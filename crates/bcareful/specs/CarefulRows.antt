@@ -1,5 +1,5 @@
 -- Closed facts: the things of words, the marks after instructions, and what is found at each edge.
-use Rattle.std.specs.Prelude.{◌≡◌, ℕ, List, [], ◌∷◌, ◌++◌, Option, Some, None, codes, refl, replicate, true, false}
+use Rattle.std.specs.Prelude.{◌≡◌, ℕ, List, [], ◌∷◌, ◌++◌, Option, Some, None, codes, map, refl, replicate, true, false}
 use Rattle.bword.specs.declared.operators.BinOp.TheVariants as op
 use Rattle.blang.specs.CodeParts.{Function}
 use Rattle.blang.specs.declared.code.Definition.{Definition}
@@ -10,18 +10,21 @@ use Rattle.blang.specs.declared.code.Instr.TheVariants as instr
 use Rattle.blang.specs.declared.code.Ival.TheVariants as ival
 use Rattle.bmach.specs.declared.machine.Active.{Active}
 use Rattle.bparse.specs.Locals.{NamedWord}
-use Rattle.bcareful.specs.Things.{Atlas, Site, external_words, frame_thing, is_outside, string_at, string_words}
-use Rattle.bcareful.specs.Marks.{Marks, begun, data_marks}
+use Rattle.bcareful.specs.Things.{Atlas, external_words, frame_thing, is_cut, is_outside, is_past_end, of_data, owned}
+use Rattle.bcareful.specs.Things.{string_at, string_words}
+use Rattle.bcareful.specs.Marks.{Marks, begun, data_marks, is_over, running}
 use Rattle.bcareful.specs.Effects.{Moment, changed, combined, instr_effect}
 use Rattle.bcareful.specs.Findings.{instr_finding}
 use Rattle.bcareful.specs.declared.effect.Effect.{Effect}
-use Rattle.bcareful.specs.declared.effect.Effect.TheVariants.{Begins, Puts, Stores, Takes}
-use Rattle.bcareful.specs.declared.finding.Finding.TheVariants.{Index, Low, Never}
+use Rattle.bcareful.specs.declared.effect.Effect.TheVariants.{Begins, Ends, Puts, Stores, Takes}
+use Rattle.bcareful.specs.declared.finding.Finding.{Finding}
+use Rattle.bcareful.specs.declared.finding.Finding.TheVariants.{Index, Low, Never, Over, Past}
 use Rattle.bcareful.specs.declared.thing.Mark.{Mark}
 use Rattle.bcareful.specs.declared.thing.Mark.TheVariants.{Of, Plain, Unset}
+use Rattle.bcareful.specs.declared.thing.Owner.{Owner}
 use Rattle.bcareful.specs.declared.thing.Thing.{Thing}
 
--- a call of `f(a, b)` with `auto v 4, i`, whose frame lies at 10
+-- a call of `f(a, b)` with `auto v 4, i`, whose frame lies at 10; it is the third call, and two are active
 abbrev pub frame_words : List NamedWord
 frame_words =
     record { name = codes "a"; offset = 0; is_vector = false } ∷ record { name = codes "b"; offset = 1; is_vector = false }
@@ -29,43 +32,79 @@ frame_words =
     ∷ []
 
 abbrev pub f : Function
-f = record { name = codes "f"; parameters = 2; frame = 9; targets = []; strings = 1633 ∷ 1122 ∷ 4 ∷ []; code = [] }
+f = record {
+  name = codes "f";
+  parameters = 2;
+  frame = 9;
+  targets = [];
+  strings = 1633 ∷ 1122 ∷ 4 ∷ [];
+  code = [];
+}
 
 abbrev pub call : Active
 call = record { strings = 8; parameters = 2; place = 0; start = 10 }
 
+abbrev pub owner : Owner
+owner = record { depth = 2; number = 2 }
+
 abbrev pub thing : (start words : ℕ) → Thing
-thing start words = record { start = start; words = words }
+thing start words = owned owner start words
+
+abbrev pub data_thing : (start words : ℕ) → Thing
+data_thing start words = of_data start words false
 
 abbrev pub v : Thing
 v = thing 13 5
 
+abbrev pub frame_of : (offset : ℕ) → Thing
+frame_of offset = frame_thing call owner frame_words 9 offset
+
 -- each word of its frame, the first and the last one of the vector among them
-parameters : (frame_thing call frame_words 9 0 ≡ thing 10 2) × (frame_thing call frame_words 9 1 ≡ thing 10 2)
+parameters : (frame_of 0 ≡ thing 10 2) × (frame_of 1 ≡ thing 10 2)
 parameters = (refl, refl)
 
-own_word_of_vector : frame_thing call frame_words 9 2 ≡ thing 12 1
+own_word_of_vector : frame_of 2 ≡ thing 12 1
 own_word_of_vector = refl
 
-words_of_vector : (frame_thing call frame_words 9 3 ≡ v) × (frame_thing call frame_words 9 7 ≡ v)
-words_of_vector = (refl, refl)
+words_of_vector : map frame_of (3 ∷ 4 ∷ 5 ∷ 6 ∷ 7 ∷ []) ≡ replicate 5 v
+words_of_vector = refl
 
-word_after_vector : frame_thing call frame_words 9 8 ≡ thing 18 1
+word_after_vector : frame_of 8 ≡ thing 18 1
 word_after_vector = refl
 
-last_vector : frame_thing call (record { name = codes "w"; offset = 2; is_vector = true } ∷ []) 9 8 ≡ thing 13 6
+last_vector : frame_thing call owner (record { name = codes "w"; offset = 2; is_vector = true } ∷ []) 9 8 ≡ thing 13 6
 last_vector = refl
 
 -- addresses around a thing
-edges : (is_outside v 12 ≡ true) × (is_outside v 13 ≡ false) × (is_outside v 17 ≡ false) × (is_outside v 18 ≡ true)
-edges = (refl, refl, refl, refl)
+edges : map (is_outside v) (0 ∷ 12 ∷ 13 ∷ 17 ∷ 18 ∷ 65535 ∷ []) ≡ true ∷ true ∷ false ∷ false ∷ true ∷ true ∷ []
+edges = refl
 
 -- strings that end with a low and with a high byte, and one at the end of memory
-strings : (string_words (1633 ∷ 1122 ∷ 4 ∷ 9 ∷ []) ≡ 2) × (string_words (4 ∷ []) ≡ 1) × (string_words (1024 ∷ 7 ∷ []) ≡ 1)
-strings = (refl, refl, refl)
+strings : map string_words ((1633 ∷ 1122 ∷ 4 ∷ 9 ∷ []) ∷ (4 ∷ []) ∷ (1024 ∷ 7 ∷ []) ∷ (97 ∷ []) ∷ []) ≡ 2 ∷ 1 ∷ 1 ∷ 1 ∷ []
+strings = refl
 
-string_with_offset : string_at 8 (1633 ∷ 1122 ∷ 25185 ∷ 4 ∷ []) 2 ≡ thing 10 2
+cut_strings : map is_cut ((1633 ∷ 1122 ∷ 4 ∷ 9 ∷ []) ∷ (4 ∷ []) ∷ (25185 ∷ 4 ∷ []) ∷ (1028 ∷ []) ∷ (97 ∷ []) ∷ [])
+    ≡ false ∷ true ∷ true ∷ true ∷ false ∷ []
+cut_strings = refl
+
+string_with_offset : string_at 8 (1633 ∷ 1122 ∷ 25185 ∷ 4 ∷ []) 2 ≡ of_data 10 2 true
 string_with_offset = refl
+
+-- `"ab"` ends with the first byte of its second word, and `"a"` with the second byte of its only one
+string_ends : (map (is_past_end (of_data 20 2 true)) (20 ∷ 21 ∷ 22 ∷ []) ≡ false ∷ true ∷ false ∷ [])
+    × (is_past_end (of_data 20 1 false) 20 ≡ false)
+string_ends = (refl, refl)
+
+-- the call that runs, the one below it, one that was over before, and one of the same depth
+active : (running (0 ∷ 2 ∷ []) ≡ owner) × (running (0 ∷ []) ≡ record { depth = 1; number = 0 })
+active = (refl, refl)
+
+over_calls : (is_over (0 ∷ 2 ∷ []) v ≡ false) × (is_over (0 ∷ 2 ∷ 3 ∷ []) v ≡ false) × (is_over (0 ∷ []) v ≡ true)
+    × (is_over (0 ∷ 3 ∷ []) v ≡ true)
+over_calls = (refl, refl, refl, refl)
+
+data_is_never_over : (is_over [] (data_thing 7 1) ≡ false) × (is_over (0 ∷ 3 ∷ []) (data_thing 7 1) ≡ false)
+data_is_never_over = (refl, refl)
 
 abbrev pub no_atlas : Atlas
 no_atlas = record { definitions = []; functions = []; frames = []; address_of = λ x. 4 }
@@ -81,116 +120,151 @@ before operands marks = record {
   call = call;
   site = record { function = f; words = frame_words };
   operands = operands;
-  marks = record { operands = marks; words = words };
+  marks = record { operands = marks; words = words; calls = 0 ∷ 2 ∷ []; next = 3 };
 }
 
--- what is found where a word is loaded
-abbrev pub loads : ℕ → Mark → Type 0
-loads address origin = instr_finding (before (address ∷ []) (origin ∷ [])) instr.Load ≡ None
+-- what is found where a word is loaded, counted, stored and modified
+abbrev pub on_load : ℕ → Mark → Option Finding
+on_load address origin = instr_finding (before (address ∷ []) (origin ∷ [])) instr.Load
 
-never_set : instr_finding (before (18 ∷ []) (Of (thing 18 1) ∷ [])) instr.Load ≡ Some (Never 18)
-never_set = refl
+abbrev pub on_count : ℕ → Mark → Option Finding
+on_count address origin = instr_finding (before (address ∷ []) (origin ∷ [])) (instr.Increment PostIncrement)
 
-never_counted : instr_finding (before (18 ∷ []) (Of (thing 18 1) ∷ [])) (instr.Increment PostIncrement) ≡ Some (Never 18)
-never_counted = refl
+abbrev pub on_store : ℕ → Mark → Option Finding
+on_store address origin = instr_finding (before (3 ∷ address ∷ []) (origin ∷ Plain ∷ [])) instr.Store
 
-never_modified : instr_finding (before (3 ∷ 17 ∷ []) (Of v ∷ Plain ∷ [])) (instr.Modify op.Add) ≡ Some (Never 17)
-never_modified = refl
+abbrev pub on_modify : ℕ → Mark → Option Finding
+on_modify address origin = instr_finding (before (3 ∷ address ∷ []) (origin ∷ Plain ∷ [])) (instr.Modify op.Add)
 
-stored_first : instr_finding (before (3 ∷ 17 ∷ []) (Of v ∷ Plain ∷ [])) instr.Store ≡ None
-stored_first = refl
+never_set : (on_load 18 (Of (thing 18 1)) ≡ Some (Never 18)) × (on_count 18 (Of (thing 18 1)) ≡ Some (Never 18))
+    × (on_modify 17 (Of v) ≡ Some (Never 17))
+never_set = (refl, refl, refl)
 
-set_before : loads 12 (Of (thing 12 1)) × loads 13 (Of v) × loads 11 (Of (thing 10 2)) × loads 10 Plain × loads 7 Plain
-set_before = (refl, refl, refl, refl, refl)
+stored_first : (on_store 17 (Of v) ≡ None) × (on_store 18 (Of (thing 18 1)) ≡ None)
+stored_first = (refl, refl)
 
-library_word : loads 4 (Of (thing 4 1))
+set_before : (on_load 12 (Of (thing 12 1)) ≡ None) × (on_load 13 (Of v) ≡ None) × (on_load 11 (Of (thing 10 2)) ≡ None)
+    × (on_load 10 Plain ≡ None) × (on_load 7 Plain ≡ None) × (on_load 7 (Of (data_thing 7 1)) ≡ None)
+set_before = (refl, refl, refl, refl, refl, refl)
+
+library_word : on_load 4 (Of (data_thing 4 1)) ≡ None
 library_word = refl
 
--- the words before and after a vector, read and stored
-index_before : instr_finding (before (12 ∷ []) (Of v ∷ [])) instr.Load ≡ Some (Index v 12)
-index_before = refl
+-- the words before a vector and after it, in each way; its first and its last one
+index_before : (on_load 12 (Of v) ≡ Some (Index v 12)) × (on_count 12 (Of v) ≡ Some (Index v 12))
+    × (on_store 12 (Of v) ≡ Some (Index v 12)) × (on_modify 12 (Of v) ≡ Some (Index v 12))
+index_before = (refl, refl, refl, refl)
 
-index_after : instr_finding (before (3 ∷ 18 ∷ []) (Of v ∷ Plain ∷ [])) instr.Store ≡ Some (Index v 18)
-index_after = refl
+index_after : (on_load 18 (Of v) ≡ Some (Index v 18)) × (on_count 18 (Of v) ≡ Some (Index v 18))
+    × (on_store 18 (Of v) ≡ Some (Index v 18)) × (on_modify 18 (Of v) ≡ Some (Index v 18))
+index_after = (refl, refl, refl, refl)
 
-index_counted : instr_finding (before (18 ∷ []) (Of v ∷ [])) (instr.Increment PostIncrement) ≡ Some (Index v 18)
-index_counted = refl
+index_within : (on_load 13 (Of v) ≡ None) × (on_store 13 (Of v) ≡ None) × (on_store 17 (Of v) ≡ None)
+index_within = (refl, refl, refl)
 
-index_modified : instr_finding (before (3 ∷ 12 ∷ []) (Of v ∷ Plain ∷ [])) (instr.Modify op.Sub) ≡ Some (Index v 12)
-index_modified = refl
+-- the same of an external vector, of four words from 8 on
+abbrev pub w : Thing
+w = data_thing 8 4
+
+external_index : (on_store 7 (Of w) ≡ Some (Index w 7)) × (on_store 8 (Of w) ≡ None) × (on_load 11 (Of w) ≡ None)
+    × (on_load 12 (Of w) ≡ Some (Index w 12))
+external_index = (refl, refl, refl, refl)
+
+-- `&i + 1`, and the parameters, which are one thing
+other_things : (on_load 19 (Of (thing 18 1)) ≡ Some (Index (thing 18 1) 19)) × (on_load 11 (Of (thing 10 2)) ≡ None)
+    × (on_load 12 (Of (thing 10 2)) ≡ Some (Index (thing 10 2) 12))
+other_things = (refl, refl, refl)
 
 -- the first words, and those past the last frame
-low_read : instr_finding (before (6 ∷ []) (Plain ∷ [])) instr.Load ≡ Some (Low 6)
-low_read = refl
+low_words : (on_load 6 Plain ≡ Some (Low 6)) × (on_store 0 Plain ≡ Some (Low 0)) × (on_modify 6 Unset ≡ Some (Low 6))
+    × (on_store 7 Plain ≡ None)
+low_words = (refl, refl, refl, refl)
 
-low_stored : instr_finding (before (1 ∷ 0 ∷ []) (Plain ∷ Plain ∷ [])) instr.Store ≡ Some (Low 0)
-low_stored = refl
+past_frames : (on_load 19 Plain ≡ Some (Low 19)) × (on_store 18 Plain ≡ None) × (on_store 65535 Plain ≡ Some (Low 65535))
+past_frames = (refl, refl, refl)
 
-past_frames : instr_finding (before (19 ∷ []) (Plain ∷ [])) instr.Load ≡ Some (Low 19)
-past_frames = refl
+-- a word of a call that is over, wherever it lies
+abbrev pub gone : Thing
+gone = owned (record { depth = 2; number = 1 }) 14 1
 
-last_of_frames : instr_finding (before (1 ∷ 18 ∷ []) (Plain ∷ Plain ∷ [])) instr.Store ≡ None
-last_of_frames = refl
+over_frame : (on_load 14 (Of gone) ≡ Some (Over 14)) × (on_store 14 (Of gone) ≡ Some (Over 14))
+    × (on_load 30 (Of gone) ≡ Some (Over 30)) × (on_load 12 (Of (owned (record { depth = 3; number = 2 }) 12 1)) ≡ Some (Over 12))
+over_frame = (refl, refl, refl, refl)
 
-over_frame : instr_finding (before (30 ∷ []) (Of (thing 30 1) ∷ [])) instr.Load ≡ Some (Low 30)
-over_frame = refl
+-- a word of the caller
+caller_word : on_load 9 (Of (owned (record { depth = 1; number = 0 }) 9 1)) ≡ None
+caller_word = refl
 
--- `char(v, 1)`, `char(v, 10)` and `lchar(v, 10, 97)`
-char_within : instr_finding (before (1 ∷ 13 ∷ 1 ∷ []) (Plain ∷ Of v ∷ Plain ∷ [])) (instr.Call 2) ≡ None
-char_within = refl
+-- calls of `char` and `lchar` with this string and this index
+abbrev pub on_char : Mark → (address index : ℕ) → Option Finding
+on_char origin address index =
+    instr_finding (before (index ∷ address ∷ 1 ∷ []) (Plain ∷ origin ∷ Plain ∷ [])) (instr.Call 2)
 
-char_past : instr_finding (before (10 ∷ 13 ∷ 1 ∷ []) (Plain ∷ Of v ∷ Plain ∷ [])) (instr.Call 2) ≡ Some (Index v 18)
-char_past = refl
+abbrev pub on_lchar : Mark → (address index : ℕ) → Option Finding
+on_lchar origin address index =
+    instr_finding (before (97 ∷ index ∷ address ∷ 2 ∷ []) (Plain ∷ origin ∷ Plain ∷ Plain ∷ [])) (instr.Call 3)
 
-char_never : instr_finding (before (3 ∷ 13 ∷ 1 ∷ []) (Plain ∷ Of v ∷ Plain ∷ [])) (instr.Call 2) ≡ Some (Never 14)
-char_never = refl
+char_in_vector : (on_char (Of v) 13 1 ≡ None) × (on_char (Of v) 13 10 ≡ Some (Index v 18))
+    × (on_char (Of v) 13 3 ≡ Some (Never 14)) × (on_char (Of v) 12 1 ≡ Some (Index v 12))
+char_in_vector = (refl, refl, refl, refl)
 
-lchar_past : instr_finding (before (97 ∷ 10 ∷ 13 ∷ 2 ∷ []) (Plain ∷ Of v ∷ Plain ∷ Plain ∷ [])) (instr.Call 3) ≡ Some (Index v 18)
-lchar_past = refl
+lchar_in_vector : (on_lchar (Of v) 13 9 ≡ None) × (on_lchar (Of v) 13 10 ≡ Some (Index v 18))
+lchar_in_vector = (refl, refl)
 
-lchar_within : instr_finding (before (97 ∷ 9 ∷ 13 ∷ 2 ∷ []) (Plain ∷ Of v ∷ Plain ∷ Plain ∷ [])) (instr.Call 3) ≡ None
-lchar_within = refl
+-- a string of two words that ends with the first byte of the second one, and one that ends with the second byte
+char_in_string : (on_char (Of (of_data 8 2 true)) 8 2 ≡ None) × (on_char (Of (of_data 8 2 true)) 8 3 ≡ Some (Past 9))
+    × (on_char (Of (of_data 8 2 true)) 8 4 ≡ Some (Index (of_data 8 2 true) 10)) × (on_char (Of (of_data 8 2 false)) 8 3 ≡ None)
+    × (on_lchar (Of (of_data 8 2 true)) 8 3 ≡ Some (Past 9)) × (on_load 9 (Of (of_data 8 2 true)) ≡ None)
+char_in_string = (refl, refl, refl, refl, refl, refl)
+
+char_without_string : (on_char Plain 0 13 ≡ Some (Low 6)) × (on_char Plain 0 14 ≡ None) × (on_lchar Plain 18 2 ≡ Some (Low 19))
+char_without_string = (refl, refl, refl)
 
 other_calls : instr_finding (before (97 ∷ 4 ∷ []) (Plain ∷ Plain ∷ [])) (instr.Call 1) ≡ None
 other_calls = refl
 
 -- an address with a number is one of its thing, and no other sum is
 sums : (combined op.Add (Of v) Plain ≡ Of v) × (combined op.Add Plain (Of v) ≡ Of v) × (combined op.Add (Of v) (Of v) ≡ Plain)
-sums = (refl, refl, refl)
+    × (combined op.Add Plain Plain ≡ Plain) × (combined op.Add Unset (Of v) ≡ Of v)
+sums = (refl, refl, refl, refl, refl)
 
-differences : (combined op.Sub (Of v) Plain ≡ Of v) × (combined op.Sub Plain (Of v) ≡ Plain) × (combined op.Sub (Of v) (Of v) ≡ Plain)
-differences = (refl, refl, refl)
+differences : (combined op.Sub (Of v) Plain ≡ Of v) × (combined op.Sub Plain (Of v) ≡ Plain)
+    × (combined op.Sub (Of v) (Of v) ≡ Plain) × (combined op.Sub Plain Plain ≡ Plain)
+differences = (refl, refl, refl, refl)
 
-products : (combined op.Mul (Of v) Plain ≡ Plain) × (combined op.Add Plain Plain ≡ Plain)
-products = (refl, refl)
+-- no other operator keeps a thing
+other_operators : map (λ o. combined o (Of v) Plain) (op.Or ∷ op.And ∷ op.Eq ∷ op.Ne ∷ op.Lt ∷ op.Le ∷ op.Gt ∷ op.Ge ∷ op.Shl
+    ∷ op.Shr ∷ op.Rem ∷ op.Mul ∷ op.Div ∷ []) ≡ replicate 13 Plain
+other_operators = refl
 
 -- what each kind of instruction does to the marks
 abbrev pub effect : Instr → Effect
 effect i = instr_effect (before (3 ∷ 12 ∷ 7 ∷ []) (Plain ∷ Of (thing 12 1) ∷ Plain ∷ [])) i
 
-put : (effect (instr.Constant 5) ≡ Puts 0 Plain) × (effect (instr.Label 0) ≡ Puts 0 Plain) × (effect (instr.Automatic 4) ≡ Puts 0 (Of v)) × (effect (instr.External (codes "putchar")) ≡ Puts 0 (Of (thing 4 1)))
+put : (effect (instr.Constant 5) ≡ Puts 0 Plain) × (effect (instr.Label 0) ≡ Puts 0 Plain)
+    × (effect (instr.Automatic 4) ≡ Puts 0 (Of v)) × (effect (instr.External (codes "putchar")) ≡ Puts 0 (Of (data_thing 4 1)))
 put = (refl, refl, refl, refl)
 
-put_string : (effect (instr.Text 0) ≡ Puts 0 (Of (thing 8 2))) × (effect (instr.Text 2) ≡ Puts 0 (Of (thing 10 1)))
+put_string : (effect (instr.Text 0) ≡ Puts 0 (Of (of_data 8 2 false))) × (effect (instr.Text 2) ≡ Puts 0 (Of (of_data 10 1 true)))
 put_string = (refl, refl)
 
 load_of_vector : instr_effect (before (12 ∷ []) (Of (thing 12 1) ∷ [])) instr.Load ≡ Puts 1 (Of v)
 load_of_vector = refl
 
-store : effect instr.Store ≡ Stores 2 12 Plain
-store = refl
+-- an address that is kept elsewhere, and one that is read again from there
+store : (effect instr.Store ≡ Stores 2 12 Plain)
+    × (instr_effect (before (13 ∷ 18 ∷ []) (Of (thing 18 1) ∷ Of v ∷ [])) instr.Store ≡ Stores 2 18 (Of v))
+    × (instr_effect (before (13 ∷ 7 ∷ []) (Of (data_thing 7 1) ∷ Of v ∷ [])) instr.Store ≡ Stores 2 7 (Of v))
+store = (refl, refl, refl)
 
-store_of_vector : instr_effect (before (13 ∷ 18 ∷ []) (Of (thing 18 1) ∷ Of v ∷ [])) instr.Store ≡ Stores 2 18 (Of v)
-store_of_vector = refl
+-- `v =+ 3`, `v++` and `v = v + 1` leave the thing
+moved_vector : (effect (instr.Modify op.Add) ≡ Stores 2 12 (Of v))
+    × (instr_effect (before (12 ∷ []) (Of (thing 12 1) ∷ [])) (instr.Increment PostIncrement) ≡ Stores 1 12 (Of v))
+    × (instr_effect (before (1 ∷ 13 ∷ 12 ∷ []) (Of (thing 12 1) ∷ Of v ∷ Plain ∷ [])) (instr.Binary op.Add) ≡ Puts 2 (Of v))
+moved_vector = (refl, refl, refl)
 
--- `v =+ 3` and `v++` leave the thing
-modify_vector : effect (instr.Modify op.Add) ≡ Stores 2 12 (Of v)
-modify_vector = refl
-
-count_vector : instr_effect (before (12 ∷ []) (Of (thing 12 1) ∷ [])) (instr.Increment PostIncrement) ≡ Stores 1 12 (Of v)
-count_vector = refl
-
-others : (effect (instr.Binary op.Add) ≡ Puts 2 (Of (thing 12 1))) × (effect instr.Negate ≡ Puts 1 Plain) × (effect instr.Not ≡ Puts 1 Plain) × (effect (instr.Jump 3) ≡ Takes 0)
+others : (effect (instr.Binary op.Add) ≡ Puts 2 (Of (thing 12 1))) × (effect instr.Negate ≡ Puts 1 Plain)
+    × (effect instr.Not ≡ Puts 1 Plain) × (effect (instr.Jump 3) ≡ Takes 0)
 others = (refl, refl, refl, refl)
 
 taken : (effect (instr.JumpIfZero 3) ≡ Takes 1) × (effect instr.Goto ≡ Takes 1) × (effect instr.Pop ≡ Takes 1)
@@ -199,10 +273,11 @@ taken = (refl, refl, refl)
 cases : (effect (instr.JumpIfCase 3 0) ≡ Takes 1) × (effect (instr.JumpIfCase 4 0) ≡ Takes 0)
 cases = (refl, refl)
 
-calls : (effect (instr.Call 2) ≡ Begins 2) × (effect (instr.Call 0) ≡ Puts 1 Plain) × (effect instr.Return ≡ Puts 3 Plain)
+calls : (effect (instr.Call 2) ≡ Begins 2) × (effect (instr.Call 0) ≡ Puts 1 Plain) × (effect instr.Return ≡ Ends 3 Plain)
 calls = (refl, refl, refl)
 
-lchar_stores : instr_effect (before (97 ∷ 9 ∷ 13 ∷ 2 ∷ []) (Plain ∷ Of v ∷ Plain ∷ Plain ∷ [])) (instr.Call 3) ≡ Stores 4 17 Plain
+lchar_stores : instr_effect (before (97 ∷ 9 ∷ 13 ∷ 2 ∷ []) (Plain ∷ Of v ∷ Plain ∷ Plain ∷ [])) (instr.Call 3)
+    ≡ Stores 4 17 Plain
 lchar_stores = refl
 
 -- a frame that is used again: its parameters have the marks of the arguments, a missing one is set, and the rest is not
@@ -212,22 +287,51 @@ used_again = refl
 extra_argument : begun 1 (Plain ∷ Of v ∷ []) 1 2 (Unset ∷ Unset ∷ Unset ∷ Unset ∷ []) ≡ Unset ∷ Plain ∷ Unset ∷ Unset ∷ []
 extra_argument = refl
 
--- a return leaves its word on the caller's operands
-return : changed (Puts 1 (Of v)) call (record { function = f; words = [] }) (record { operands = Plain ∷ Of v ∷ []; words = [] }) ≡ record { operands = Plain ∷ Of v ∷ []; words = [] }
-return = refl
+-- what effects do, where a call of `g(x)` with one more word in its frame runs at 1
+abbrev pub after : Effect → Marks → Marks
+after e m = changed e (record { strings = 9; parameters = 1; place = 0; start = 1 }) (record {
+  function = record { name = codes "g"; parameters = 1; frame = 2; targets = []; strings = []; code = [] };
+  words = [];
+}) m
+
+abbrev pub marks : (operands words : List Mark) → (calls : List ℕ) → (next : ℕ) → Marks
+marks operands words calls next = record { operands = operands; words = words; calls = calls; next = next }
+
+-- a call with a vector's address: the parameter has its thing, and the callee and the arguments are taken
+call_begins : after (Begins 1) (marks (Unset ∷ Plain ∷ Of v ∷ []) (replicate 3 Plain) (0 ∷ []) 5)
+    ≡ marks (Unset ∷ []) (Plain ∷ Of v ∷ Unset ∷ []) (0 ∷ 5 ∷ []) 6
+call_begins = refl
+
+last_number : after (Begins 0) (marks (Plain ∷ []) (replicate 3 Plain) [] 4294967295)
+    ≡ marks [] (Plain ∷ Plain ∷ Unset ∷ []) (4294967295 ∷ []) 0
+last_number = refl
+
+-- a return leaves its word on the caller's operands, and its call is over
+call_ends : after (Ends 1 (Of v)) (marks (Plain ∷ Of v ∷ []) [] (0 ∷ 5 ∷ []) 6) ≡ marks (Plain ∷ Of v ∷ []) [] (0 ∷ []) 6
+call_ends = refl
+
+other_effects : (after (Takes 1) (marks (Plain ∷ Unset ∷ []) (Plain ∷ []) (0 ∷ []) 1) ≡ marks (Plain ∷ []) (Plain ∷ []) (0 ∷ []) 1)
+    × (after (Puts 1 (Of v)) (marks (Plain ∷ Unset ∷ []) (Plain ∷ []) (0 ∷ []) 1) ≡ marks (Plain ∷ Of v ∷ []) (Plain ∷ []) (0 ∷ []) 1)
+    × (after (Stores 2 0 (Of v)) (marks (Plain ∷ Plain ∷ []) (Unset ∷ []) (0 ∷ []) 1) ≡ marks (Of v ∷ []) (Of v ∷ []) (0 ∷ []) 1)
+other_effects = (refl, refl, refl)
 
 -- the externals `x 1, v, "ab";` and `v[2] 5;`
 abbrev pub externals : List Definition
 externals =
-    definition.Simple (record { name = codes "x"; values = ival.Number 1 ∷ ival.Name (codes "v") ∷ ival.Text 0 ∷ []; strings = 1633 ∷ 4 ∷ [] })
+    definition.Simple (record {
+      name = codes "x";
+      values = ival.Number 1 ∷ ival.Name (codes "v") ∷ ival.Text 0 ∷ [];
+      strings = 1633 ∷ 4 ∷ [];
+    })
     ∷ definition.Vector (record { name = codes "v"; words = 3; values = ival.Number 5 ∷ []; strings = [] })
     ∷ []
 
 abbrev pub atlas : Atlas
 atlas = record { definitions = externals; functions = []; frames = []; address_of = λ x. 12 }
 
-external_sizes : (external_words externals (codes "x") ≡ 3) × (external_words externals (codes "v") ≡ 1) × (external_words externals (codes "char") ≡ 1)
-external_sizes = (refl, refl, refl)
+external_sizes : map (external_words externals) (codes "x" ∷ codes "v" ∷ codes "char" ∷ []) ≡ 3 ∷ 1 ∷ 1 ∷ []
+external_sizes = refl
 
-external_marks : data_marks atlas 7 externals ≡ Plain ∷ Of (thing 12 1) ∷ Of (thing 10 2) ∷ Plain ∷ Plain ∷ Of (thing 13 3) ∷ Plain ∷ Plain ∷ Plain ∷ []
+external_marks : data_marks atlas 7 externals
+    ≡ Plain ∷ Of (data_thing 12 1) ∷ Of (of_data 10 2 true) ∷ Plain ∷ Plain ∷ Of (data_thing 13 3) ∷ Plain ∷ Plain ∷ Plain ∷ []
 external_marks = refl

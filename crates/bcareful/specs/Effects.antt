@@ -1,5 +1,5 @@
 -- Promise: what a step does to the marks of words and operands.
-use Rattle.std.specs.Prelude.{ℕ, zero, suc, ◌+◌, ◌-◌, ◌/◌, ◌==◌, List, [], ◌∷◌, ◌++◌, Option, Some, None, length, nat_le, nat_lt, slice_get}
+use Rattle.std.specs.Prelude.{ℕ, zero, suc, ◌+◌, ◌-◌, ◌%◌, ◌^◌, ◌==◌, List, [], ◌∷◌, ◌++◌, Option, length, nat_le, nat_lt, slice_get}
 use Rattle.std.specs.Prelude.{option_and_then, option_map, reverse, slice_index, slice_index_or, slice_set, if◌then◌else◌}
 use Rattle.std.specs.Option.{option_map_or}
 use Rattle.bword.specs.Words.{byte_address}
@@ -7,17 +7,15 @@ use Rattle.bword.specs.declared.operators.BinOp.{BinOp}
 use Rattle.bword.specs.declared.operators.BinOp.TheVariants.{Add, Sub}
 use Rattle.blang.specs.declared.code.Instr.{Instr}
 use Rattle.blang.specs.declared.code.Instr.TheVariants as instr
-use Rattle.blang.specs.CodeParts.{Function}
-use Rattle.blang.specs.Layout.{store_words}
 use Rattle.bmach.specs.declared.machine.Active.{Active}
 use Rattle.bwatch.specs.Sights.{Sight, Sights}
 use Rattle.bcareful.specs.Things.{Atlas, Site, external_thing, frame_thing, located, site_of, atlas_of, string_at}
-use Rattle.bcareful.specs.Marks.{Marks, above, begun, below, marks_of, memory_marks, operand_mark}
+use Rattle.bcareful.specs.Marks.{Marks, above, begun, below, marks_of, operand_mark, running, unbegun}
 use Rattle.bcareful.specs.declared.effect.Effect.{Effect}
-use Rattle.bcareful.specs.declared.effect.Effect.TheVariants.{Begins, Puts, Stores, Takes}
+use Rattle.bcareful.specs.declared.effect.Effect.TheVariants.{Begins, Ends, Puts, Stores, Takes}
 use Rattle.bcareful.specs.declared.moment as told
 use Rattle.bcareful.specs.declared.thing.Mark.{Mark}
-use Rattle.bcareful.specs.declared.thing.Mark.TheVariants.{Of, Plain, Unset}
+use Rattle.bcareful.specs.declared.thing.Mark.TheVariants.{Of, Plain}
 
 -- a run before a step, in a call of a function: its operands, the topmost first, and the marks of all
 pub record Moment : Type 0 where
@@ -77,7 +75,8 @@ module _ (m : Moment) where
   abbrev pub instr_effect : Instr → Effect
   instr_effect (instr.Constant n) = Puts 0 Plain
   instr_effect (instr.External x) = Puts 0 (Of (external_thing m.atlas x))
-  instr_effect (instr.Automatic k) = Puts 0 (Of (frame_thing m.call m.site.words m.site.function.frame k))
+  instr_effect (instr.Automatic k) =
+      Puts 0 (Of (frame_thing m.call (running m.marks.calls) m.site.words m.site.function.frame k))
   instr_effect (instr.Text offset) = Puts 0 (Of (string_at m.call.strings m.site.function.strings offset))
   instr_effect (instr.Label k) = Puts 0 Plain
   instr_effect instr.Load = Puts 1 (word_mark (operand 0))
@@ -92,7 +91,7 @@ module _ (m : Moment) where
   instr_effect instr.Goto = Takes 1
   instr_effect (instr.JumpIfCase value t) = if operand 0 == value then Takes 1 else Takes 0
   instr_effect (instr.Call n) = call_effect n (operand n)
-  instr_effect instr.Return = Puts (length m.operands) (mark 0)
+  instr_effect instr.Return = Ends (length m.operands) (mark 0)
   instr_effect instr.Pop = Takes 1
 
 -- so many operands are taken, and one is put
@@ -101,13 +100,27 @@ put_after n mark operands = below n operands ++ mark ∷ []
 
 -- the marks after a step with this effect, after which this call of a function runs
 abbrev pub changed : Effect → Active → Site → Marks → Marks
-changed (Takes n) call site m = record { operands = below n m.operands; words = m.words }
-changed (Puts n mark) call site m = record { operands = put_after n mark m.operands; words = m.words }
-changed (Stores n address mark) call site m =
-    record { operands = put_after n mark m.operands; words = slice_set m.words address mark }
+changed (Takes n) call site m =
+    record { operands = below n m.operands; words = m.words; calls = m.calls; next = m.next }
+changed (Puts n mark) call site m =
+    record { operands = put_after n mark m.operands; words = m.words; calls = m.calls; next = m.next }
+changed (Stores n address mark) call site m = record {
+  operands = put_after n mark m.operands;
+  words = slice_set m.words address mark;
+  calls = m.calls;
+  next = m.next;
+}
 changed (Begins n) call site m = record {
   operands = below (n + 1) m.operands;
   words = begun call.parameters (above n m.operands) call.start site.function.frame m.words;
+  calls = m.calls ++ m.next ∷ [];
+  next = (m.next + 1) % 2 ^ 32;
+}
+changed (Ends n mark) call site m = record {
+  operands = put_after n mark m.operands;
+  words = m.words;
+  calls = below 1 m.calls;
+  next = m.next;
 }
 
 -- the same, if the function of the call is known
@@ -148,6 +161,6 @@ effect_of step = option_map_or (λ t. instr_effect t.moment t.instr) step (Takes
 
 -- the marks after so many steps; before the first one the call of the main function begins
 abbrev pub marks_at : Atlas → Sights → (made : ℕ) → Marks
-marks_at a sights zero = changed_to a (Begins 0) (sights 0) (record { operands = []; words = memory_marks a })
+marks_at a sights zero = changed_to a (Begins 0) (sights 0) (unbegun a)
 marks_at a sights (suc n) =
     changed_to a (effect_of (step_in a (sights n) (marks_at a sights n))) (sights (n + 1)) (marks_at a sights n)

@@ -1,20 +1,19 @@
 -- Promise: what is found at a step.
-use Rattle.std.specs.Prelude.{ℕ, zero, suc, ◌+◌, ◌==◌, ◌&&◌, ◌||◌, Bool, true, false, List, [], Option, Some, None, is_some, nat_le, nat_lt}
-use Rattle.std.specs.Prelude.{option_and_then, option_map, slice_get, if◌then◌else◌}
-use Rattle.std.specs.Option.{option_map_or}
+use Rattle.std.specs.Prelude.{ℕ, zero, suc, ◌+◌, ◌%◌, ◌==◌, ◌&&◌, ◌||◌, Bool, true, false, List, Option, Some, None, is_some, nat_le, nat_lt}
+use Rattle.std.specs.Prelude.{option_and_then, if◌then◌else◌}
 use Rattle.blang.specs.declared.code.Instr.{Instr}
 use Rattle.blang.specs.declared.code.Instr.TheVariants as instr
-use Rattle.bmach.specs.declared.machine.Active.{Active}
 use Rattle.blang.specs.Machine.{Loaded, States}
-use Rattle.bwatch.specs.Sights.{Sight, Sights, sights_of}
-use Rattle.bcareful.specs.Things.{Atlas, is_outside}
-use Rattle.bcareful.specs.Marks.{Marks}
-use Rattle.bcareful.specs.Effects.{Moment, Step, argument_mark, character_address, mark, marks_at, operand, step_in, word_mark}
+use Rattle.bwatch.specs.Sights.{Sights, sights_of}
+use Rattle.bcareful.specs.Things.{Atlas, is_outside, is_past_end}
+use Rattle.bcareful.specs.Marks.{is_over}
+use Rattle.bcareful.specs.Effects.{Moment, Step, argument, argument_mark, character_address, mark, marks_at, operand, step_in, word_mark}
 use Rattle.bcareful.specs.declared.finding.Finding.{Finding}
-use Rattle.bcareful.specs.declared.finding.Finding.TheVariants.{Index, Low, Never}
+use Rattle.bcareful.specs.declared.finding.Finding.TheVariants.{Index, Low, Never, Over, Past}
 use Rattle.bcareful.specs.declared.finding.Touched.{Touched}
 use Rattle.bcareful.specs.declared.thing.Mark.{Mark}
-use Rattle.bcareful.specs.declared.thing.Mark.TheVariants.{Of, Plain, Unset}
+use Rattle.bcareful.specs.declared.thing.Mark.TheVariants.{Of, Unset}
+use Rattle.bcareful.specs.declared.thing.Thing.{Thing}
 
 abbrev pub is_unset : Mark → Bool
 is_unset Unset = true
@@ -29,15 +28,21 @@ module _ (m : Moment) where
         address = character_address m count;
         origin = argument_mark m count 0;
         reads = callee == 1;
+        is_second = argument m count 1 % 2 == 1;
       })
       else None
 
+  -- the word at the address that has so many operands above it
+  abbrev pub touch_through : (above : ℕ) → (reads : Bool) → Touched
+  touch_through n reads =
+      record { address = operand m n; origin = mark m n; reads = reads; is_second = false }
+
   -- the word of memory that an instruction reads or stores, and the mark of its address
   abbrev pub touch : Instr → Option Touched
-  touch instr.Load = Some (record { address = operand m 0; origin = mark m 0; reads = true })
-  touch instr.Store = Some (record { address = operand m 1; origin = mark m 1; reads = false })
-  touch (instr.Modify op) = Some (record { address = operand m 1; origin = mark m 1; reads = true })
-  touch (instr.Increment which) = Some (record { address = operand m 0; origin = mark m 0; reads = true })
+  touch instr.Load = Some (touch_through 0 true)
+  touch instr.Store = Some (touch_through 1 false)
+  touch (instr.Modify op) = Some (touch_through 1 true)
+  touch (instr.Increment which) = Some (touch_through 0 true)
   touch (instr.Call n) = call_touch n (operand m n)
   touch i = None
 
@@ -51,9 +56,16 @@ module _ (m : Moment) where
       if nat_le frames_end t.address then Some (Low t.address)
       else if t.reads && is_unset (word_mark m t.address) then Some (Never t.address) else None
 
-  -- an address that has left its thing; or one of the first words, of which nobody knows what it was made of
+  -- an address whose thing was of a call that is over, or that has left it; or a character after a string's end
+  abbrev pub thing_finding : Thing → Touched → Option Finding
+  thing_finding thing t =
+      if is_over m.marks.calls thing then Some (Over t.address)
+      else if is_outside thing t.address then Some (Index thing t.address)
+      else if t.is_second && is_past_end thing t.address then Some (Past t.address) else word_finding t
+
+  -- the same; or one of the first words, of which nobody knows what its address was made of
   abbrev pub touch_finding : Mark → Touched → Option Finding
-  touch_finding (Of thing) t = if is_outside thing t.address then Some (Index thing t.address) else word_finding t
+  touch_finding (Of thing) t = thing_finding thing t
   touch_finding origin t = if nat_lt t.address 7 then Some (Low t.address) else word_finding t
 
   abbrev pub instr_finding : Instr → Option Finding

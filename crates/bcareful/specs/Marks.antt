@@ -1,22 +1,38 @@
 -- Promise: the marks of words and operands: before a run, and where a call begins.
 use Rattle.std.specs.Prelude.{ℕ, zero, suc, ◌+◌, ◌-◌, ◌%◌, List, [], ◌∷◌, ◌++◌, length, map, max, nat_lt, replicate, slice_index_or}
-use Rattle.std.specs.Prelude.{drop, slice_set, take, if◌then◌else◌}
+use Rattle.std.specs.Prelude.{◌==◌, ◌&&◌, Bool, false, not, drop, slice_get, slice_set, take, if◌then◌else◌}
+use Rattle.std.specs.Option.{option_map_or}
 use Rattle.blang.specs.declared.code.Definition.{Definition}
 use Rattle.blang.specs.declared.code.Ival.{Ival}
 use Rattle.blang.specs.declared.code.Ival.TheVariants as ival
 use Rattle.blang.specs.Layout.{DefinitionKind, Shape, Vector, shape_of, size_of, store_words, words_before_strings}
-use Rattle.bcareful.specs.Things.{Atlas, external_thing, string_at}
+use Rattle.bcareful.specs.Things.{Atlas, external_thing, of_data, string_at}
 use Rattle.bcareful.specs.declared.marks as told
 use Rattle.bcareful.specs.declared.thing.Mark.{Mark}
 use Rattle.bcareful.specs.declared.thing.Mark.TheVariants.{Of, Plain, Unset}
+use Rattle.bcareful.specs.declared.thing.Owner.{Owner}
+use Rattle.bcareful.specs.declared.thing.Thing.{Thing}
 
--- the marks of the operands of all calls, the topmost last, and of the words of memory
+-- the marks of the operands of all calls, the topmost last, and of the words of memory; the numbers of the active calls,
+-- the running one last; and the number of the next call
 pub record Marks : Type 0 where
   pub operands : List Mark
   pub words : List Mark
+  pub calls : List ℕ
+  pub next : ℕ
 
 abbrev pub marks_of : told.Marks.Marks → Marks
-marks_of m = record { operands = m.operands.items; words = m.words.items }
+marks_of m =
+    record { operands = m.operands.items; words = m.words.items; calls = m.calls.items; next = m.next }
+
+-- the running call
+abbrev pub running : (calls : List ℕ) → Owner
+running calls = record { depth = length calls; number = slice_index_or calls (length calls - 1) 0 }
+
+-- whether the call of a thing is over: it is no longer the one with so many active calls
+abbrev pub is_over : (calls : List ℕ) → Thing → Bool
+is_over calls t =
+    nat_lt 0 t.depth && not (option_map_or (λ number. number == t.number) (slice_get calls (t.depth - 1)) false)
 
 -- so many marks: some are left out, or these are added
 abbrev pub resized : ℕ → Mark → List Mark → List Mark
@@ -31,7 +47,7 @@ value_mark a strings words (ival.Text offset) = Of (string_at strings words offs
 -- the own word of a vector is the address of its words
 abbrev pub own_marks : DefinitionKind → (address : ℕ) → List Ival → List Mark
 own_marks (Vector n) address values =
-    Of (record { start = (address + 1) % store_words; words = max n (length values) }) ∷ []
+    Of (of_data ((address + 1) % store_words) (max n (length values)) false) ∷ []
 own_marks kind address values = []
 
 -- the marks of the words of a definition that lies there
@@ -49,6 +65,10 @@ data_marks a address (d ∷ ds) =
 -- the marks of memory before a run: nothing has set the words after the data
 abbrev pub memory_marks : Atlas → List Mark
 memory_marks a = resized store_words Unset (replicate 7 Plain ++ data_marks a 7 a.definitions)
+
+-- all that is known before the first call
+abbrev pub unbegun : Atlas → Marks
+unbegun a = record { operands = []; words = memory_marks a; calls = []; next = 0 }
 
 -- the mark of a word of a frame where its call begins: a parameter has that of its argument
 abbrev pub frame_mark : (parameters : ℕ) → (arguments : List Mark) → (offset : ℕ) → Mark

@@ -1,50 +1,104 @@
 -- Closed facts: what is told of a finding.
-use Rattle.std.specs.Prelude.{◌≡◌, ℕ, List, [], ◌∷◌, codes, refl, false, true}
+use Rattle.std.specs.Prelude.{◌≡◌, ℕ, List, [], ◌∷◌, codes, map, refl, false}
 use Rattle.std.specs.Fmt.{digits}
 use Rattle.blang.specs.declared.code.Definition.{Definition}
 use Rattle.blang.specs.declared.code.Definition.TheVariants as definition
 use Rattle.blang.specs.declared.code.Ival.TheVariants as ival
 use Rattle.bmach.specs.declared.machine.Active.{Active}
-use Rattle.bcareful.specs.CarefulRows.{call, f, frame_words, thing, v}
-use Rattle.bcareful.specs.Things.{Atlas}
-use Rattle.bcareful.specs.Tellings.{finding_line, meaning}
-use Rattle.bcareful.specs.declared.finding.Finding.TheVariants.{Index, Low, Never}
+use Rattle.bcareful.specs.CarefulRows.{f, frame_words, thing, data_thing, v}
+use Rattle.bcareful.specs.Things.{Atlas, of_data}
+use Rattle.bcareful.specs.Tellings.{address_of, finding_line, meaning, name_text, word_name}
+use Rattle.bcareful.specs.declared.finding.Finding.{Finding}
+use Rattle.bcareful.specs.declared.finding.Finding.TheVariants.{Index, Low, Never, Over, Past}
 
-told_lines : (finding_line (Never 18) ≡ codes "careful set\n") × (finding_line (Index v 18) ≡ codes "careful index\n") × (finding_line (Low 3) ≡ codes "careful low\n")
-told_lines = (refl, refl, refl)
+told_lines : map finding_line (Never 18 ∷ Index v 18 ∷ Past 18 ∷ Over 18 ∷ Low 3 ∷ [])
+    ≡ codes "careful set\n" ∷ codes "careful index\n" ∷ codes "careful index\n" ∷ codes "careful index\n"
+    ∷ codes "careful low\n" ∷ []
+told_lines = refl
 
--- the external `x 1;` at 7, and `f(a, b)` at 8, whose strings are at 9 and whose frame is at 20
+told_words : map address_of (Never 18 ∷ Index v 19 ∷ Past 20 ∷ Over 21 ∷ Low 3 ∷ []) ≡ 18 ∷ 19 ∷ 20 ∷ 21 ∷ 3 ∷ []
+told_words = refl
+
+-- the externals `x 1;` at 7, `w[2] 5;` at 8, and `f(a, b)` at 12, whose strings are at 13 and whose frame is at 20
 abbrev pub program : List Definition
 program =
     definition.Simple (record { name = codes "x"; values = ival.Number 1 ∷ []; strings = [] })
+    ∷ definition.Vector (record { name = codes "w"; words = 3; values = ival.Number 5 ∷ []; strings = [] })
     ∷ definition.Function f
     ∷ []
 
 abbrev pub atlas : Atlas
-atlas = record { definitions = program; functions = record { strings = 9; function = f } ∷ []; frames = frame_words ∷ []; address_of = λ x. 7 }
+atlas = record {
+  definitions = program;
+  functions = record { strings = 13; function = f } ∷ [];
+  frames = frame_words ∷ [];
+  address_of = λ x. 7;
+}
 
 abbrev pub calls : List Active
-calls = record { strings = 9; parameters = 2; place = 0; start = 20 } ∷ []
+calls = record { strings = 13; parameters = 2; place = 0; start = 20 } ∷ []
 
-told_index : meaning atlas calls (Index (thing 23 5) 28) ≡ codes "word 5 of v of f, which has words 0 to 4: this is i of f"
+abbrev pub name_at : (address : ℕ) → List ℕ
+name_at address = name_text (word_name atlas calls address)
+
+abbrev pub told : Finding → List ℕ
+told finding = meaning atlas calls finding
+
+-- each word of the frame: parameters, the own word of the vector, its first and its last word, and the word after them
+names_in_frame : map name_at (20 ∷ 21 ∷ 22 ∷ 23 ∷ 27 ∷ 28 ∷ [])
+    ≡ codes "a of f" ∷ codes "b of f" ∷ codes "v of f" ∷ codes "v[0] of f" ∷ codes "v[4] of f" ∷ codes "i of f" ∷ []
+unfolding digits
+names_in_frame = refl
+
+-- and of the data: an external, a vector and its words, a function and its strings
+names_of_data : map name_at (7 ∷ 8 ∷ 9 ∷ 11 ∷ 12 ∷ 13 ∷ 15 ∷ [])
+    ≡ codes "x" ∷ codes "w" ∷ codes "w[0]" ∷ codes "w[2]" ∷ codes "f" ∷ codes "a string of f" ∷ codes "a string of f" ∷ []
+unfolding digits
+names_of_data = refl
+
+names_of_none : map name_at (0 ∷ 6 ∷ 16 ∷ 19 ∷ 29 ∷ [])
+    ≡ codes "no word of the program" ∷ codes "no word of the program" ∷ codes "no word of the program"
+    ∷ codes "no word of the program" ∷ codes "no word of the program" ∷ []
+names_of_none = refl
+
+told_index : told (Index (thing 23 5) 28) ≡ codes "v[5] of f, which has words 0 to 4: this is i of f"
 unfolding digits
 told_index = refl
 
-told_before : meaning atlas calls (Index (thing 23 5) 22) ≡ codes "word -1 of v of f, which has words 0 to 4: this is v of f"
+told_before : told (Index (thing 23 5) 22) ≡ codes "v[-1] of f, which has words 0 to 4: this is v of f"
 unfolding digits
 told_before = refl
 
-told_external : meaning atlas calls (Index (thing 7 1) 8) ≡ codes "word 1 of x, which has words 0 to 0: this is f"
+told_external_vector : told (Index (data_thing 9 3) 12) ≡ codes "w[3], which has words 0 to 2: this is f"
+unfolding digits
+told_external_vector = refl
+
+told_external : told (Index (data_thing 7 1) 8) ≡ codes "word 1 of x, which is one word: this is w"
 unfolding digits
 told_external = refl
 
-told_string : meaning atlas calls (Index (thing 9 2) 12) ≡ codes "word 3 of a string of f, which has words 0 to 1: this is no word of the program"
+told_automatic : told (Index (thing 28 1) 27) ≡ codes "word -1 of i of f, which is one word: this is v[4] of f"
+unfolding digits
+told_automatic = refl
+
+told_string : told (Index (of_data 13 2 false) 16)
+    ≡ codes "word 3 of a string of f, which has words 0 to 1: this is no word of the program"
 unfolding digits
 told_string = refl
 
-told_set : meaning atlas calls (Never 28) ≡ codes "nothing has set i of f"
+told_set : told (Never 28) ≡ codes "nothing has set i of f"
 told_set = refl
 
-told_low : meaning atlas calls (Low 3) ≡ codes "no word of the program has the address 3"
+told_element : told (Never 25) ≡ codes "nothing has set v[2] of f"
+unfolding digits
+told_element = refl
+
+told_past : told (Past 14) ≡ codes "a character after the end of a string of f"
+told_past = refl
+
+told_over : told (Over 28) ≡ codes "a word of a call that is over: this is i of f"
+told_over = refl
+
+told_low : told (Low 3) ≡ codes "the address 3 is no word of the program"
 unfolding digits
 told_low = refl

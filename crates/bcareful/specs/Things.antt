@@ -1,5 +1,5 @@
 -- Promise: the things of a program to which the words of its memory belong.
-use Rattle.std.specs.Prelude.{ℕ, ◌+◌, ◌-◌, ◌/◌, ◌%◌, ◌==◌, ◌||◌, ◌&&◌, Bool, List, [], ◌∷◌, Option, Some, None, drop, length}
+use Rattle.std.specs.Prelude.{ℕ, ◌+◌, ◌-◌, ◌/◌, ◌%◌, ◌==◌, ◌||◌, ◌&&◌, Bool, false, List, [], ◌∷◌, Option, Some, None, drop, length}
 use Rattle.std.specs.Prelude.{map, max, nat_le, nat_lt, unwrap_or, if◌then◌else◌}
 use Rattle.bword.specs.Words.{same_name}
 use Rattle.blang.specs.CodeParts.{Function, function_of}
@@ -12,11 +12,25 @@ use Rattle.btools.specs.FrameNames.{frame_seen, word_seen}
 use Rattle.btools.specs.Functions.{Placed, entries_of, functions_of}
 use Rattle.btools.specs.declared.names.Frame.{Frame}
 use Rattle.bcareful.specs.declared.atlas as told
+use Rattle.bcareful.specs.declared.thing.Owner.{Owner}
 use Rattle.bcareful.specs.declared.thing.Thing.{Thing}
+
+-- so many words of the frame of a call, from this address on
+abbrev pub owned : Owner → (start words : ℕ) → Thing
+owned o start words =
+    record { start = start; words = words; is_cut = false; depth = o.depth; number = o.number }
+
+-- so many words of the data
+abbrev pub of_data : (start words : ℕ) → (is_cut : Bool) → Thing
+of_data start words is_cut = record { start = start; words = words; is_cut = is_cut; depth = 0; number = 0 }
 
 -- whether an address is none of its words
 abbrev pub is_outside : Thing → (address : ℕ) → Bool
 is_outside t address = nat_lt address t.start || nat_le t.words (address - t.start)
+
+-- whether the second byte of the word there comes after a string's end
+abbrev pub is_past_end : Thing → (address : ℕ) → Bool
+is_past_end t address = t.is_cut && address - t.start + 1 == t.words
 
 -- A string ends with the word that has a byte 4.
 abbrev pub ends_string : ℕ → Bool
@@ -27,10 +41,15 @@ abbrev pub string_words : List ℕ → ℕ
 string_words [] = 0
 string_words (w ∷ ws) = if ends_string w then 1 else string_words ws + 1
 
+-- whether it ends with the first byte of a word
+abbrev pub is_cut : List ℕ → Bool
+is_cut [] = false
+is_cut (w ∷ ws) = if ends_string w then w % 256 == 4 else is_cut ws
+
 -- the string that begins at an offset among these words, the first of which has this address
 abbrev pub string_at : (first : ℕ) → (words : List ℕ) → (offset : ℕ) → Thing
 string_at first words offset =
-    record { start = (first + offset) % store_words; words = string_words (drop offset words) }
+    of_data ((first + offset) % store_words) (string_words (drop offset words)) (is_cut (drop offset words))
 
 -- the offset of the next word that has a name, or the frame's end
 abbrev pub next_offset : List NamedWord → (frame : ℕ) → ℕ
@@ -38,22 +57,18 @@ next_offset [] frame = frame
 next_offset (w ∷ ws) frame = w.offset
 
 -- A word of a frame is one of the vector after whose own word it comes, or else a thing by itself.
-abbrev pub thing_among : (start : ℕ) → List NamedWord → (frame offset : ℕ) → Thing
-thing_among start [] frame offset = record { start = (start + offset) % store_words; words = 1 }
-thing_among start (w ∷ ws) frame offset =
+abbrev pub thing_among : (start : ℕ) → Owner → List NamedWord → (frame offset : ℕ) → Thing
+thing_among start o [] frame offset = owned o ((start + offset) % store_words) 1
+thing_among start o (w ∷ ws) frame offset =
     if nat_lt w.offset offset && nat_lt offset (next_offset ws frame)
-    then record {
-      start = (start + (w.offset + 1)) % store_words;
-      words = next_offset ws frame - (w.offset + 1);
-    }
-    else thing_among start ws frame offset
+    then owned o ((start + (w.offset + 1)) % store_words) (next_offset ws frame - (w.offset + 1))
+    else thing_among start o ws frame offset
 
 -- The parameters of a call are one thing.
-abbrev pub frame_thing : Active → List NamedWord → (frame offset : ℕ) → Thing
-frame_thing call words frame offset =
-    if nat_lt offset call.parameters
-    then record { start = call.start % store_words; words = call.parameters }
-    else thing_among call.start words frame offset
+abbrev pub frame_thing : Active → Owner → List NamedWord → (frame offset : ℕ) → Thing
+frame_thing call o words frame offset =
+    if nat_lt offset call.parameters then owned o (call.start % store_words) call.parameters
+    else thing_among call.start o words frame offset
 
 -- how many words the name of an external stands for
 abbrev pub own_words : DefinitionKind → List Ival → ℕ
@@ -106,4 +121,4 @@ site_of s = record { function = function_of s.parts.now; words = map word_seen s
 
 -- the thing that the external of this name is
 abbrev pub external_thing : Atlas → (name : List ℕ) → Thing
-external_thing a name = record { start = a.address_of name; words = external_words a.definitions name }
+external_thing a name = of_data (a.address_of name) (external_words a.definitions name) false

@@ -48,6 +48,9 @@ impl<'a> Atlas<'a> {
         Thing {
             start: self.program.image.address(name).unwrap_or(0),
             words: external_words(&self.program.definitions, name),
+            is_cut: false,
+            depth: 0,
+            number: 0,
         }
     }
 }

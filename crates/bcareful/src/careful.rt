@@ -10,10 +10,10 @@ ghost use Rattle.bword.specs.declared.edition.Edition.{Edition};
 ghost use Rattle.bcareful.specs.Runs.{Runs};
 
 use crate::atlas::Atlas;
-use crate::telling::tell_found;
+use crate::telling::{tell_found, tell_over};
 use crate::watching::{Ended, careful_steps};
 use blang::status::{self, Status};
-use bmach::Stepper;
+use bmach::{Stepper, Stop};
 use bpages::PagedStore;
 use brun::finish;
 use bsources::SourceFiles;
@@ -24,9 +24,10 @@ use std::alloc::Global;
 
 /// Compiles a source, and runs its program for at most so many steps, up to the first one with a finding.
 ///
-/// A program without a finding has the output, the line and the status of `go_edition`. A finding is told in the place
-/// of its line, with the status of a trap: first its kind, then the function, the place in it, the number of the line
-/// of the source and that of the step, this line of the source, and what is wrong. What was written before stays.
+/// A program without a finding has the output, the line and the status of `go_edition`, and the place of a trap or of the
+/// limit comes after its line. A finding is told in the place of this line, with the status of a trap: first its kind,
+/// then the function, the place in it, the number of the line of the source and that of the step, this line of the
+/// source, and what is wrong. What was written before stays.
 pub fn go_careful<I: ByteIn, O: ByteOut, D: ByteOut>(
     alloc: Global,
     source: &[u8],
@@ -101,13 +102,20 @@ fn run_task<I: ByteIn, O: ByteOut, D: ByteOut>(
         program: task.program,
         tables: task.tables,
     };
+    let legend = Legend {
+        tables: task.tables,
+        files: task.files,
+    };
     match careful_steps(alloc, &atlas, &mut stepper, steps, input, out) {
-        Ended::Over(outcome) => finish(outcome, diag),
-        Ended::Found(found) => {
-            let legend = Legend {
-                tables: task.tables,
-                files: task.files,
+        Ended::Over(outcome, call, steps) => {
+            let stop = Stop {
+                outcome,
+                call,
+                steps,
             };
+            tell_over(alloc, &legend, task.source, stop, diag)
+        }
+        Ended::Found(found) => {
             tell_found(alloc, &atlas, &legend, task.source, &stepper, found, diag)
         }
     }

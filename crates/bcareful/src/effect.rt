@@ -18,6 +18,8 @@ pub enum Effect {
     Stores(usize, u16, Mark),
     /// It takes so many arguments and the callee below them, and a call begins.
     Begins(u16),
+    /// It takes so many, puts one, and a call is over.
+    Ends(usize, Mark),
 }
 
 // The mark of what an operator gives.
@@ -73,7 +75,7 @@ pub fn instr_effect(moment: &Moment<'_>, instr: Instr) -> Effect
             Effect::Takes(1)
         }
         Instr::Call(count) => call_effect(moment, count),
-        Instr::Return => Effect::Puts(moment.operands.len(), moment.marks.operand(0)),
+        Instr::Return => Effect::Ends(moment.operands.len(), moment.marks.operand(0)),
     }
 }
 

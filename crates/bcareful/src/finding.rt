@@ -1,7 +1,8 @@
 //! What is found at a step.
-ghost use Rattle.std.specs.Prelude.{◌≡◌};
+ghost use Rattle.std.specs.Prelude.{◌≡◌, false};
 ghost use Rattle.bcareful.specs.Effects.{mark, moment_of, operand};
-ghost use Rattle.bcareful.specs.Findings.{call_touch, instr_finding, is_unset, touch, touch_finding, word_finding};
+ghost use Rattle.bcareful.specs.Findings.{call_touch, instr_finding, is_unset, thing_finding, touch, touch_finding};
+ghost use Rattle.bcareful.specs.Findings.{word_finding};
 
 use crate::moment::Moment;
 use crate::thing::{Mark, Thing};
@@ -16,6 +17,10 @@ pub enum Finding {
     Index(Thing, u16),
     /// It reads or stores one of the first words or one past the last frame.
     Low(u16),
+    /// It reads or stores a character of this word that comes after the end of a string.
+    Past(u16),
+    /// It reads or stores this word, of which the address was made in a call that is over.
+    Over(u16),
 }
 
 /// A word of memory that a step reads or stores.
@@ -25,6 +30,8 @@ pub struct Touched {
     /// The mark of its address.
     pub origin: Mark,
     pub reads: bool,
+    /// Whether it is a character, the second one of the word.
+    pub is_second: bool,
 }
 
 // The word of memory that an instruction reads or stores.
@@ -46,12 +53,14 @@ fn touch_through(moment: &Moment<'_>, above: usize, reads: bool) -> Touched
       address = operand (moment_of moment.now) above;
       origin = mark (moment_of moment.now) above;
       reads = reads;
+      is_second = false;
     } }
 {
     Touched {
         address: moment.operand(above),
         origin: moment.marks.operand(above),
         reads,
+        is_second: false,
     }
 }
 
@@ -64,6 +73,7 @@ fn call_touch(moment: &Moment<'_>, count: usize) -> Option<Touched>
             address: moment.character_address(count),
             origin: moment.argument_mark(count, 0),
             reads: callee == 1,
+            is_second: moment.argument(count, 1) % 2 == 1,
         })
     } else {
         None
@@ -84,16 +94,28 @@ fn touch_finding(moment: &Moment<'_>, touch: Touched) -> Option<Finding>
     ensures { result ≡ touch_finding (moment_of moment.now) touch.origin touch }
 {
     match touch.origin {
-        Mark::Of(thing) => {
-            if thing.is_outside(touch.address) {
-                return Some(Finding::Index(thing, touch.address));
-            }
-        }
+        Mark::Of(thing) => thing_finding(moment, thing, touch),
         Mark::Unset | Mark::Plain => {
             if touch.address < 7 {
                 return Some(Finding::Low(touch.address));
             }
+            word_finding(moment, touch)
         }
+    }
+}
+
+// What is found at a word through an address that was made of this thing.
+fn thing_finding(moment: &Moment<'_>, thing: Thing, touch: Touched) -> Option<Finding>
+    ensures { result ≡ thing_finding (moment_of moment.now) thing touch }
+{
+    if moment.marks.is_over(thing) {
+        return Some(Finding::Over(touch.address));
+    }
+    if thing.is_outside(touch.address) {
+        return Some(Finding::Index(thing, touch.address));
+    }
+    if touch.is_second && thing.is_past_end(touch.address) {
+        return Some(Finding::Past(touch.address));
     }
     word_finding(moment, touch)
 }

@@ -3,11 +3,12 @@ ghost use Rattle.std.specs.Prelude.{◌≡◌, ◌++◌, [], IfOk, OnOk, drop, m
 ghost use Rattle.blang.specs.Layout.{shape_of};
 ghost use Rattle.bcareful.specs.Effects.{changed_in};
 ghost use Rattle.bcareful.specs.Things.{atlas_of};
-ghost use Rattle.bcareful.specs.Marks.{above, begun, below, data_marks, marks_of, memory_marks, operand_mark, shape_marks, value_mark};
+ghost use Rattle.bcareful.specs.Marks.{above, begun, below, data_marks, is_over, marks_of, operand_mark, running, shape_marks};
+ghost use Rattle.bcareful.specs.Marks.{unbegun, value_mark};
 
 use crate::atlas::Atlas;
 use crate::effect::Effect;
-use crate::thing::{Mark, Thing, string_at};
+use crate::thing::{Mark, Owner, Thing, string_at};
 use blang::{Definition, Ival, STORE_WORDS};
 use bmach::{Active, FIRST_ADDRESS, size_of};
 use std::alloc::{AllocError, Global};
@@ -19,12 +20,16 @@ pub struct Marks {
     pub operands: Vec<Mark>,
     /// Those of the words of memory.
     pub words: Vec<Mark>,
+    /// The numbers of the active calls, the running one last.
+    pub calls: Vec<u32>,
+    /// The number of the next call.
+    pub next: u32,
 }
 
 impl Marks {
     /// Those before a run.
     pub fn new(alloc: Global, atlas: &Atlas<'_>) -> Result<Self, AllocError>
-        ensures { IfOk result (λ m. marks_of m ≡ record { operands = []; words = memory_marks (atlas_of atlas.now) }) }
+        ensures { IfOk result (λ m. marks_of m ≡ unbegun (atlas_of atlas.now)) }
     {
         let mut words = Vec::new(alloc);
         words.resize(FIRST_ADDRESS as usize, Mark::Plain)?;
@@ -33,7 +38,37 @@ impl Marks {
         Ok(Marks {
             operands: Vec::new(alloc),
             words,
+            calls: Vec::new(alloc),
+            next: 0,
         })
+    }
+
+    /// The running call.
+    pub fn owner(&self) -> Owner
+        ensures { result ≡ running (marks_of self.now).calls }
+    {
+        let calls = self.calls.as_slice();
+        let number = match calls.get(calls.len().saturating_sub(1)) {
+            Some(number) => *number,
+            None => 0,
+        };
+        Owner {
+            depth: calls.len(),
+            number,
+        }
+    }
+
+    /// Whether the call of a thing is over.
+    pub fn is_over(&self, thing: Thing) -> bool
+        ensures { result ≡ is_over (marks_of self.now).calls thing }
+    {
+        if thing.depth == 0 {
+            return false;
+        }
+        match self.calls.get(thing.depth - 1) {
+            Some(number) => *number != thing.number,
+            None => true,
+        }
     }
 
     /// The mark of the operand that has so many above it.
@@ -59,7 +94,12 @@ impl Marks {
 
     /// Takes so many operands away.
     pub fn take(&mut self, count: usize)
-        ensures { marks_of self.new ≡ record { operands = below count self.old.operands.items; words = self.old.words.items } }
+        ensures { marks_of self.new ≡ record {
+          operands = below count self.old.operands.items;
+          words = self.old.words.items;
+          calls = self.old.calls.items;
+          next = self.old.next;
+        } }
     {
         let left = self.operands.len().saturating_sub(count);
         self.operands.truncate(left);
@@ -67,7 +107,12 @@ impl Marks {
 
     /// Marks a word.
     pub fn set(&mut self, address: usize, mark: Mark)
-        ensures { marks_of self.new ≡ record { operands = self.old.operands.items; words = slice_set self.old.words.items address mark } }
+        ensures { marks_of self.new ≡ record {
+          operands = self.old.operands.items;
+          words = slice_set self.old.words.items address mark;
+          calls = self.old.calls.items;
+          next = self.old.next;
+        } }
     {
         if let Some(word) = self.words.get_mut(address) {
             *word = mark;
@@ -79,6 +124,8 @@ impl Marks {
         ensures { marks_of self.new ≡ record {
           operands = self.old.operands.items;
           words = begun call.parameters (above arguments self.old.operands.items) call.start frame self.old.words.items;
+          calls = self.old.calls.items;
+          next = self.old.next;
         } }
     {
         let first = self.operands.len().saturating_sub(arguments);
@@ -119,6 +166,13 @@ impl Marks {
                 let arguments = usize::from(count);
                 self.begin(call, site.parts.frame, arguments);
                 self.take(arguments + 1);
+                self.calls.push(self.next)?;
+                self.next = self.next.wrapping_add(1);
+            }
+            Effect::Ends(count, mark) => {
+                self.take(count);
+                self.operands.push(mark)?;
+                self.calls.truncate(self.calls.len().saturating_sub(1));
             }
         }
         Ok(())
@@ -178,6 +232,9 @@ fn definition_marks(
             marks.push(Mark::Of(Thing {
                 start: address.wrapping_add(1),
                 words: count,
+                is_cut: false,
+                depth: 0,
+                number: 0,
             }))?;
             let strings = u32::from(address) + (1 + count) as u32;
             push_values(&mut marks, atlas, strings, &parts.strings, &parts.values)?;

@@ -1,6 +1,7 @@
 //! A run before a step.
 ghost use Rattle.std.specs.Prelude.{◌≡◌, reverse, slice_index};
 ghost use Rattle.bcareful.specs.Effects.{argument, argument_mark, character_address, moment_of, operand};
+ghost use Rattle.bcareful.specs.Marks.{running};
 ghost use Rattle.bcareful.specs.Things.{frame_thing, string_at};
 
 use crate::atlas::{Atlas, Site};
@@ -33,10 +34,17 @@ impl<'a> Moment<'a> {
 
     /// The thing of a word of the frame.
     pub fn automatic(&self, offset: u16) -> Thing
-        ensures { result ≡ frame_thing (moment_of self.now).call (moment_of self.now).site.words
-            (moment_of self.now).site.function.frame offset }
+        ensures { result ≡ frame_thing (moment_of self.now).call (running (moment_of self.now).marks.calls)
+            (moment_of self.now).site.words (moment_of self.now).site.function.frame offset }
     {
-        frame_thing(self.call, self.site.words, self.site.parts.frame, offset)
+        let owner = self.marks.owner();
+        frame_thing(
+            self.call,
+            owner,
+            self.site.words,
+            self.site.parts.frame,
+            offset,
+        )
     }
 
     /// The string of the function with this offset.
@@ -46,8 +54,8 @@ impl<'a> Moment<'a> {
         string_at(self.call.strings, &self.site.parts.strings, offset)
     }
 
-    // An argument of a call with so many, or 0.
-    fn argument(&self, count: usize, number: usize) -> u16
+    /// An argument of a call with so many, or 0.
+    pub fn argument(&self, count: usize, number: usize) -> u16
         ensures { result ≡ argument (moment_of self.now) count number }
     {
         if number < count {

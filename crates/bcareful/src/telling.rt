@@ -3,18 +3,20 @@ ghost use Rattle.std.specs.Prelude.{◌≡◌, ◌+◌, ◌<◌, ◌^◌, ◌++�
 ghost use Rattle.bmach.specs.Stops.{active_of};
 ghost use Rattle.btrace.specs.RowTexts.{legend_of};
 ghost use Rattle.bcareful.specs.Things.{atlas_of};
-ghost use Rattle.bcareful.specs.Tellings.{Tells, finding_line, finding_text, found_place, meaning, thing_text};
+ghost use Rattle.bcareful.specs.Tellings.{Tells, TellsOver, address_of, address_text, extent_text, fault_text};
+ghost use Rattle.bcareful.specs.Tellings.{finding_line, finding_text, found_place, meaning, thing_text};
 ghost use Rattle.bwatch.specs.Sights.{sight_at};
 
 use crate::atlas::Atlas;
 use crate::finding::Finding;
-use crate::naming::push_word_name;
+use crate::naming::word_name;
 use crate::thing::Thing;
 use crate::watching::Found;
 use blang::status::{self, Status};
-use bmach::Stepper;
-use btools::{Text, line_at, push_signed, push_source_line, tell};
-use btrace::{Legend, line_of, push_site};
+use bmach::{Stepper, Stop};
+use brun::finish;
+use btools::{Text, line_at, located_status, push_source_line, tell};
+use btrace::{Legend, line_of, push_site, tell_site};
 use bword::{ByteOut, Store};
 use std::alloc::{AllocError, Global};
 
@@ -65,8 +67,8 @@ fn finding_line(finding: Finding) -> &'static [u8]
 {
     match finding {
         Finding::Never(_) => b"careful set\n",
-        Finding::Index(..) => b"careful index\n",
         Finding::Low(_) => b"careful low\n",
+        Finding::Index(..) | Finding::Past(_) | Finding::Over(_) => b"careful index\n",
     }
 }
 
@@ -101,37 +103,94 @@ fn push_meaning<S: Store + Drop>(
     ensures { OnOk result (text.new ≡ text.old
         ++ meaning (atlas_of atlas.now) (active_of stepper.now.call ∷ map active_of stepper.now.below) finding) }
 {
+    push_fault(text, atlas, stepper, finding)?;
+    word_name(atlas, stepper, address_of(finding)).push_to(text)
+}
+
+// The word that a step reads or stores.
+fn address_of(finding: Finding) -> u16
+    ensures { result ≡ address_of finding }
+{
     match finding {
-        Finding::Never(address) => {
-            text.push(b"nothing has set ")?;
-            push_word_name(text, atlas, stepper, address)
-        }
-        Finding::Low(address) => {
-            text.push(b"no word of the program has the address ")?;
-            text.push_number(u64::from(address))
-        }
-        Finding::Index(thing, address) => {
-            text.push(b"word ")?;
-            push_signed(text, address.wrapping_sub(thing.start))?;
-            text.push(b" of ")?;
-            push_thing(text, atlas, stepper, thing)?;
-            text.push(b": this is ")?;
-            push_word_name(text, atlas, stepper, address)
-        }
+        Finding::Never(address)
+        | Finding::Low(address)
+        | Finding::Index(_, address)
+        | Finding::Past(address)
+        | Finding::Over(address) => address,
     }
 }
 
-// Adds the name of a thing, and how many words it has.
+// Adds what is wrong with a step, as far as the name of its word.
+fn push_fault<S: Store + Drop>(
+    text: &mut Text,
+    atlas: &Atlas<'_>,
+    stepper: &Stepper<'_, S>,
+    finding: Finding,
+) -> Result<(), AllocError>
+    ensures { OnOk result (text.new ≡ text.old
+        ++ fault_text (atlas_of atlas.now) (active_of stepper.now.call ∷ map active_of stepper.now.below) finding) }
+{
+    match finding {
+        Finding::Never(_) => text.push(b"nothing has set "),
+        Finding::Low(address) => push_address(text, address),
+        Finding::Index(thing, address) => push_thing(text, atlas, stepper, thing, address),
+        Finding::Past(_) => text.push(b"a character after the end of "),
+        Finding::Over(_) => text.push(b"a word of a call that is over: this is "),
+    }
+}
+
+fn push_address(text: &mut Text, address: u16) -> Result<(), AllocError>
+    ensures { OnOk result (text.new ≡ text.old ++ address_text address) }
+{
+    text.push(b"the address ")?;
+    text.push_number(u64::from(address))?;
+    text.push(b" is ")
+}
+
+// Adds which word of a thing an address is.
 fn push_thing<S: Store + Drop>(
     text: &mut Text,
     atlas: &Atlas<'_>,
     stepper: &Stepper<'_, S>,
     thing: Thing,
+    address: u16,
 ) -> Result<(), AllocError>
     ensures { OnOk result (text.new ≡ text.old
-        ++ thing_text (atlas_of atlas.now) (active_of stepper.now.call ∷ map active_of stepper.now.below) thing) }
+        ++ thing_text (atlas_of atlas.now) (active_of stepper.now.call ∷ map active_of stepper.now.below) thing address) }
 {
-    push_word_name(text, atlas, stepper, thing.start)?;
-    text.push(b", which has words 0 to ")?;
-    text.push_number(thing.words.saturating_sub(1) as u64)
+    let first = word_name(atlas, stepper, thing.start);
+    first.push_numbered(text, address.wrapping_sub(thing.start))?;
+    push_extent(text, thing)?;
+    text.push(b": this is ")
+}
+
+fn push_extent(text: &mut Text, thing: Thing) -> Result<(), AllocError>
+    ensures { OnOk result (text.new ≡ text.old ++ extent_text thing) }
+{
+    if thing.words > 1 {
+        text.push(b", which has words 0 to ")?;
+        text.push_number((thing.words - 1) as u64)
+    } else {
+        text.push(b", which is one word")
+    }
+}
+
+/// Writes the line of a run without a finding, and where it is that of a trap or of the limit, the place after it.
+pub fn tell_over<D: ByteOut>(
+    alloc: Global,
+    legend: &Legend<'_, '_, '_>,
+    source: &[u8],
+    stop: Stop,
+    diag: &mut D,
+) -> Status
+    ensures tells { TellsOver (legend_of legend.now) source.now stop (D.outgoing diag.old) (D.outgoing diag.new) result }
+    ensures same { D.lender diag.new ≡ D.lender diag.old }
+{
+    let told = finish(stop.outcome, diag);
+    match located_status(stop.outcome) {
+        Some(status) if status == told => {
+            tell_site(alloc, legend, source, stop, None, told, diag)
+        }
+        _ => told,
+    }
 }

@@ -1,6 +1,7 @@
 //! What the words of memory belong to.
 ghost use Rattle.std.specs.Prelude.{◌≡◌, ◌<◌, ◌^◌, ◌+◌, ◌%◌, ◌≤◌, drop, length, map};
-ghost use Rattle.bcareful.specs.Things.{ends_string, is_outside, string_at, string_words, thing_among, next_offset, frame_thing};
+ghost use Rattle.bcareful.specs.Things.{ends_string, frame_thing, is_cut, is_outside, is_past_end, next_offset, string_at, string_words};
+ghost use Rattle.bcareful.specs.Things.{owned, thing_among};
 ghost use Rattle.btools.specs.FrameNames.{word_seen};
 
 use bmach::Active;
@@ -14,6 +15,35 @@ pub struct Thing {
     pub start: u16,
     /// How many there are.
     pub words: usize,
+    /// Whether they are a string that ends with the first byte of the last one.
+    pub is_cut: bool,
+    /// How many calls were active where the one began in whose frame they are; 0 for words of the data.
+    pub depth: usize,
+    /// The number of this call.
+    pub number: u32,
+}
+
+/// A call to which words belong.
+#[derive(Clone, Copy)]
+pub struct Owner {
+    /// How many calls are active where it runs.
+    pub depth: usize,
+    pub number: u32,
+}
+
+impl Owner {
+    // So many words of its frame from this address on.
+    fn thing(self, start: u16, words: usize) -> Thing
+        ensures { result ≡ owned self start words }
+    {
+        Thing {
+            start,
+            words,
+            is_cut: false,
+            depth: self.depth,
+            number: self.number,
+        }
+    }
 }
 
 /// What is known of a word beside its value.
@@ -33,6 +63,13 @@ impl Thing {
         ensures { result ≡ is_outside self address }
     {
         address < self.start || usize::from(address.saturating_sub(self.start)) >= self.words
+    }
+
+    /// Whether the second byte of the word there comes after a string's end.
+    pub fn is_past_end(self, address: u16) -> bool
+        ensures { result ≡ is_past_end self address }
+    {
+        self.is_cut && usize::from(address.saturating_sub(self.start)) + 1 == self.words
     }
 }
 
@@ -58,6 +95,18 @@ fn string_words(words: &[u16]) -> usize
     count
 }
 
+// Whether the string that begins these words ends with the first byte of one.
+fn is_cut(words: &[u16]) -> bool
+    ensures { result ≡ is_cut words.now }
+{
+    for word in words {
+        if ends_string(*word) {
+            return *word % 256 == 4;
+        }
+    }
+    false
+}
+
 /// The string that begins at an offset among these words, the first of which has this address.
 pub fn string_at(first: u32, words: &[u16], offset: u16) -> Thing
     ensures { result ≡ string_at first words.now offset }
@@ -66,6 +115,9 @@ pub fn string_at(first: u32, words: &[u16], offset: u16) -> Thing
     Thing {
         start: address_in(first, u32::from(offset)),
         words: string_words(&words[skipped..]),
+        is_cut: is_cut(&words[skipped..]),
+        depth: 0,
+        number: 0,
     }
 }
 
@@ -79,17 +131,26 @@ fn next_offset(words: &[FrameWord], frame: u32) -> u32
     }
 }
 
-/// The thing to which a word of a call's frame belongs, by the names of the frame.
-pub fn frame_thing(call: Active, words: &[FrameWord], frame: u16, offset: u16) -> Thing
-    ensures { result ≡ frame_thing call (map word_seen words.now) frame offset }
+/// The thing to which a word of the frame of a call belongs, by the names of the frame.
+pub fn frame_thing(
+    call: Active,
+    owner: Owner,
+    words: &[FrameWord],
+    frame: u16,
+    offset: u16,
+) -> Thing
+    ensures { result ≡ frame_thing call owner (map word_seen words.now) frame offset }
 {
     if offset < call.parameters {
-        return Thing {
-            start: (call.start % 65536) as u16,
-            words: usize::from(call.parameters),
-        };
+        return owner.thing((call.start % 65536) as u16, usize::from(call.parameters));
     }
-    thing_among(call.start, words, u32::from(frame), u32::from(offset))
+    thing_among(
+        call.start,
+        owner,
+        words,
+        u32::from(frame),
+        u32::from(offset),
+    )
 }
 
 // The address of a word of a frame.
@@ -99,21 +160,18 @@ fn address_in(start: u32, offset: u32) -> u16
     ((u64::from(start) + u64::from(offset)) % 65536) as u16
 }
 
-fn thing_among(start: u32, words: &[FrameWord], frame: u32, offset: u32) -> Thing
-    ensures { result ≡ thing_among start (map word_seen words.now) frame offset }
+fn thing_among(start: u32, owner: Owner, words: &[FrameWord], frame: u32, offset: u32) -> Thing
+    ensures { result ≡ thing_among start owner (map word_seen words.now) frame offset }
 {
     for index in 0..words.len() {
         let word = words[index];
         let end = next_offset(&words[index + 1..], frame);
         if word.offset < offset && offset < end {
-            return Thing {
-                start: address_in(start, word.offset + 1),
-                words: (end - (word.offset + 1)) as usize,
-            };
+            return owner.thing(
+                address_in(start, word.offset + 1),
+                (end - (word.offset + 1)) as usize,
+            );
         }
     }
-    Thing {
-        start: address_in(start, offset),
-        words: 1,
-    }
+    owner.thing(address_in(start, offset), 1)
 }

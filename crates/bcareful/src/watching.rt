@@ -1,8 +1,8 @@
 //! Careful runs.
-ghost use Rattle.std.specs.Prelude.{◌≡◌, [], IfOk, reverse};
+ghost use Rattle.std.specs.Prelude.{◌≡◌, IfOk, reverse};
 ghost use Rattle.btools.specs.Programs.{steps_from};
 ghost use Rattle.bcareful.specs.Things.{atlas_of};
-ghost use Rattle.bcareful.specs.Marks.{marks_of, memory_marks};
+ghost use Rattle.bcareful.specs.Marks.{marks_of, unbegun};
 ghost use Rattle.bcareful.specs.Effects.{changed_in, effect_of, step_by};
 ghost use Rattle.bcareful.specs.Findings.{finding_of};
 ghost use Rattle.bcareful.specs.Carefuls.{CarefulGives};
@@ -33,8 +33,8 @@ pub struct Found {
 pub enum Ended {
     /// It stays at a finding.
     Found(Found),
-    /// It had none, up to this outcome.
-    Over(Outcome),
+    /// It had none, up to this outcome, in this call, with so many steps.
+    Over(Outcome, Active, u64),
 }
 
 /// What is known of the next step.
@@ -59,7 +59,7 @@ pub fn careful_steps<S: Store + Drop, I: ByteIn, O: ByteOut>(
     ensures out { O.lender out.new ≡ O.lender out.old }
 {
     let Ok(mut marks) = first_marks(alloc, atlas, stepper.top()) else {
-        return Ended::Over(Outcome::Memory);
+        return Ended::Over(Outcome::Memory, stepper.top(), 0);
     };
     for made in 0..steps {
         let call = stepper.top();
@@ -73,20 +73,21 @@ pub fn careful_steps<S: Store + Drop, I: ByteIn, O: ByteOut>(
         }
         match stepper.step(input, out) {
             Ok(()) => {}
-            Err(outcome) => return Ended::Over(outcome),
+            Err(outcome) => return Ended::Over(outcome, call, made + 1),
         }
         match marks.change(atlas, look.effect, stepper.top()) {
             Ok(()) => {}
-            Err(_) => return Ended::Over(Outcome::Memory),
+            Err(_) => return Ended::Over(Outcome::Memory, call, made + 1),
         }
     }
-    Ended::Over(Outcome::Limit)
+    let last = stepper.top();
+    Ended::Over(Outcome::Limit, last, steps)
 }
 
 // The marks before the first step, where this call runs.
 fn first_marks(alloc: Global, atlas: &Atlas<'_>, call: Active) -> Result<Marks, AllocError>
     ensures { IfOk result (λ m. marks_of m ≡ changed_in (atlas_of atlas.now) (Effect.Begins 0) call
-        (record { operands = []; words = memory_marks (atlas_of atlas.now) })) }
+        (unbegun (atlas_of atlas.now))) }
 {
     let mut marks = Marks::new(alloc, atlas)?;
     marks.change(atlas, Effect::Begins(0), call)?;

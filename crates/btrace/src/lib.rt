@@ -9,6 +9,6 @@ mod tracer;
 mod tracing;
 
 pub use legend::Legend;
-pub use locating::{locate, the_place_is_told, wrong_places_are_excluded};
+pub use locating::{locate, tell_site, the_place_is_told, wrong_places_are_excluded};
 pub use places::{line_of, push_site};
 pub use tracing::{TraceRequest, trace, wrong_traces_are_excluded};

@@ -121,7 +121,8 @@ fn meaning(outcome: Outcome) -> &'static str
     }
 }
 
-fn tell_site<D: ByteOut>(
+/// Writes the place where a run was over, its line of the source, and what this means.
+pub fn tell_site<D: ByteOut>(
     alloc: Global,
     legend: &Legend<'_, '_, '_>,
     source: &[u8],

@@ -20,15 +20,18 @@ returns-in-Err-clause-runs g c edition is named lined =
 pub returns-in-Over-clause-runs : goal.returns-in-Over-clause-runs
 returns-in-Over-clause-runs g c edition is named lined =
     let program = c.args.task.program.now in
-    unfound_whole edition c.args.task.source.now (files_shown c.args.task.files) c.args.steps _ c.finish-in-Over.result program.definitions.items program.image program.names.frames.items
-    c.in-Ok-begin.stepper c.careful_steps.new.stepper is named c.in-Ok-begin.ensures (atlas_of (record { program = c.args.task.program; tables = c.args.task.tables }))
+    let files = files_shown c.args.task.files in
+    unfound_whole edition c.args.task.source.now files c.args.steps _ c.tell_over.result program.definitions.items program.image program.names.frames.items program.names.lines.items
+    c.in-Ok-begin.stepper c.careful_steps.new.stepper is named lined c.in-Ok-begin.ensures (atlas_of (record { program = c.args.task.program; tables = c.args.task.tables }))
     (λ k. record {
       definitions = program.definitions.items;
       functions = c.requires.functions k;
       frames = map frame_seen program.names.frames.items;
       address_of = λ x. unwrap_or (is.loaded.addresses x k) 0;
     })
-    c.in-Over.outcome c.in-Over.ensures.gives c.finish-in-Over.ensures.gives
+    (legend_of (record { tables = c.args.task.tables; files = c.args.task.files }))
+    (λ k. record { functions = c.requires.functions k; lines = c.requires.lines k; files = files })
+    (record { outcome = c.in-Over.outcome; call = c.in-Over.call; steps = c.in-Over.steps }) c.in-Over.ensures.gives c.tell_over.ensures.tells
 
 pub tell_found-requires : goal.tell_found-requires
 tell_found-requires g c =
@@ -39,13 +42,14 @@ pub returns-clause-runs : goal.returns-clause-runs
 returns-clause-runs g c edition is named lined =
     let program = c.args.task.program.now in
     let files = files_shown c.args.task.files in
-    found_whole edition c.args.task.source.now files c.args.steps _ c.tell_found.result program.definitions.items program.image program.names.frames.items c.in-Ok-begin.stepper
-    c.careful_steps.new.stepper is named c.in-Ok-begin.ensures (atlas_of (record { program = c.args.task.program; tables = c.args.task.tables }))
+    found_whole edition c.args.task.source.now files c.args.steps _ c.tell_found.result program.definitions.items program.image program.names.frames.items program.names.lines.items
+    c.in-Ok-begin.stepper c.careful_steps.new.stepper is named lined c.in-Ok-begin.ensures (atlas_of (record { program = c.args.task.program; tables = c.args.task.tables }))
     (λ k. record {
       definitions = program.definitions.items;
       functions = c.requires.functions k;
       frames = map frame_seen program.names.frames.items;
       address_of = λ x. unwrap_or (is.loaded.addresses x k) 0;
     })
-    c.in-Found.found program.names.lines.items (legend_of (record { tables = c.args.task.tables; files = c.args.task.files })) lined
-    (λ k. record { functions = c.requires.functions k; lines = c.requires.lines k; files = files }) c.in-Found.ensures.gives c.tell_found.ensures.told
+    (legend_of (record { tables = c.args.task.tables; files = c.args.task.files }))
+    (λ k. record { functions = c.requires.functions k; lines = c.requires.lines k; files = files })
+    c.in-Found.found c.in-Found.ensures.gives c.tell_found.ensures.told

@@ -1,4 +1,4 @@
-use Rattle.std.proofs.Common.{◌≡◌, ◌∙◌, ◌≤◌, ◌+◌, None, Some, arith, refl, sym}
+use Rattle.std.proofs.Common.{◌≡◌, ◌∙◌, ◌+◌, arith, refl, sym}
 use Rattle.bmach.specs.Stops.{active_of}
 use Rattle.bcareful.specs.Effects.{changed_in, effect_of, step_by}
 use Rattle.bcareful.specs.Findings.{finding_of}
@@ -11,7 +11,7 @@ pub returns-in_default-clause-gives : goal.returns-in_default-clause-gives
 returns-in_default-clause-gives g c =
     let a = atlas_of c.args.atlas.now in
     let first = c.args.stepper.now in
-    refused_on a first first first 0 (main_marks a first) (none_on a first (g.I.ByteIn.incoming c.args.input.now) (g.O.ByteOut.outgoing c.args.out.now)) c.args.steps (omega arith) first
+    refused_on a first first first 0 (main_marks a first) (none_on a first (g.I.ByteIn.incoming c.args.input.now) (g.O.ByteOut.outgoing c.args.out.now)) c.args.steps (omega arith) _ 0
 
 pub returns-in-Some-clause-gives : goal.returns-in-Some-clause-gives
 returns-in-Some-clause-gives g c =
@@ -31,7 +31,7 @@ returns-in-Err-clause-gives g c =
     let looked : c.look_at-look.result.finding ≡ finding_of (step_by a (active_of now.call) now.call.operands marks) =
     c.look_at-look.ensures.finding ∙ (λ k. finding_of (step_by a (c.top-call.ensures k) (c.operands.ensures k) marks)) in
     over_on a c.args.stepper.now now c.step.new.self c.loop-made.made marks c.loop-made.invariant.0 c.args.steps c.loop-made-test.true
-    (sym looked ∙ c.in_default-finding.is) _ _ c.in-Err.outcome c.in-Err.ensures.gives
+    (sym looked ∙ c.in_default-finding.is) c.top-call.result c.top-call.ensures _ _ c.in-Err.outcome c.in-Err.ensures.gives
 
 pub returns-in-Err-change-clause-gives : goal.returns-in-Err-change-clause-gives
 returns-in-Err-change-clause-gives g c =
@@ -46,7 +46,7 @@ returns-in-Err-change-clause-gives g c =
     let changed = changed_in a (effect_of (step_by a (active_of now.call) now.call.operands marks)) (active_of after.call) marks in
     refused_on a first after after (made + 1) changed
     (one_on a first now after made marks c.loop-made.invariant.0 c.in-Ok-step.ensures.gives c.step.ensures.image (sym looked ∙ c.in_default-finding.is) changed refl)
-    c.args.steps (omega (arith, c.loop-made-test.true)) after
+    c.args.steps (omega (arith, c.loop-made-test.true)) _ (made + 1)
 
 pub loop-made-preserved : goal.loop-made-preserved
 loop-made-preserved g c =
@@ -67,4 +67,4 @@ loop-made-preserved g c =
 pub returns-clause-gives : goal.returns-clause-gives
 returns-clause-gives g c =
     let all : c.loop-made.made ≡ c.args.steps = omega (arith, c.loop-made-test.false, c.loop-made.auto.made-end) in
-    all_on (atlas_of c.args.atlas.now) c.args.stepper.now c.loop-made.stepper c.loop-made.stepper c.loop-made.made (marks_of c.loop-made.marks) c.loop-made.invariant.0 c.args.steps all
+    all_on (atlas_of c.args.atlas.now) c.args.stepper.now c.loop-made.stepper c.loop-made.stepper c.loop-made.made (marks_of c.loop-made.marks) c.loop-made.invariant.0 c.args.steps all c.top-last.result c.top-last.ensures

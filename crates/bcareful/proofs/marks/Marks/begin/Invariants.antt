@@ -9,4 +9,6 @@ invariant-loop-offset l =
     ≡ record {
       operands = l.fn.self.operands.items;
       words = begun l.call.parameters (above l.arguments l.fn.self.operands.items) l.call.start l.offset l.fn.self.words.items;
+      calls = l.fn.self.calls.items;
+      next = l.fn.self.next;
     }

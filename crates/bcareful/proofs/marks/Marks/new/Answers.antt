@@ -17,4 +17,4 @@ returns c =
     let count : vec_len marked ≡ length all = marked.ok.0 ∙ ap length items in
     let whole : c.resize-2.new.self.items ≡ memory_marks a =
     c.in_ok-resize-2.ensures.items ∙ (λ k. take 65536 (items k) ++ replicate (65536 - count k) Unset) in
-    λ k. record { operands = c.new.ensures.items k; words = whole k }
+    λ k. record { operands = c.new.ensures.items k; words = whole k; calls = c.new-2.ensures.items k; next = 0 }

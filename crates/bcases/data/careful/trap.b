@@ -1,0 +1,5 @@
+main() {
+    auto n;
+    n = 0;
+    printn(7 / n, 10);
+}
