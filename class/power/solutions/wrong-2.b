@@ -1,5 +1,5 @@
 /* Wrong: it returns nothing, so each call gives 0. */
-/* Told: use the value of power, and power returns none */
+/* Told: power changes its own words, and nothing else */
 power(b, n) {
     auto product;
 

@@ -23,7 +23,7 @@ use Rattle.blang.specs.Cut.{escape_of, other_of, whole, with_quoted_byte, word_t
 use Rattle.bsources.specs.Files.{Files}
 use Rattle.bcheck.specs.declared.finding.Severity.TheVariants as severity
 use Rattle.bcheck.specs.declared.form.FindingForm.TheVariants as form
-use Rattle.bcheck.specs.declared.warnings.Warning.TheVariants as warning
+use Rattle.blint.specs.declared.warnings.Warning.TheVariants as warning
 
 -- a diagnostic comes before a fault of loading
 diagnostic_told : told_first (Some (record { letters = letters.Undefined; about = about.Name (codes "n"); line = 3 }))
@@ -92,13 +92,16 @@ warning_codes : map warning_code (
     warning.ComparesTwice ∷ warning.NotCompared ∷ warning.ManyArguments ∷ warning.FewArguments ∷
     warning.LibraryArguments ∷ warning.SwappedArguments ∷ warning.WrongBase ∷ warning.NoReturn ∷ warning.NeverUsed ∷
     warning.Unset ∷ warning.UnsetVector ∷ warning.HidesExternal ∷ warning.HidesLibrary ∷ warning.NearMain ∷
-    warning.DefaultLabel ∷ warning.WordOutside ∷ []
+    warning.DefaultLabel ∷ warning.WordOutside ∷ warning.VectorCalled ∷ warning.WordOfString ∷ warning.CallsItself ∷
+    warning.ChangesNothing ∷ warning.LoopUnchanged ∷ warning.Indented ∷ warning.Overwritten ∷
+    warning.MainParameters ∷ []
     ) ≡ codes "*/" ∷ codes "and" ∷ codes "and" ∷ codes "op" ∷ codes "if" ∷ codes "if" ∷ codes "if" ∷ codes "em" ∷
     codes "em" ∷ codes "ix" ∷ codes "ix" ∷ codes "ix" ∷ codes "ix" ∷ codes "ix" ∷ codes "ix" ∷ codes "sg" ∷
     codes "en" ∷ codes "en" ∷ codes "en" ∷ codes "st" ∷ codes "st" ∷ codes "st" ∷ codes "st" ∷ codes "no" ∷
     codes "no" ∷ codes "no" ∷ codes "bs" ∷ codes "pr" ∷ codes "pr" ∷ codes "pr" ∷ codes "ar" ∷ codes "ar" ∷
     codes "ar" ∷ codes "ar" ∷ codes "ar" ∷ codes "rt" ∷ codes "us" ∷ codes "in" ∷ codes "in" ∷ codes "hi" ∷
-    codes "hi" ∷ codes "ma" ∷ codes "ed" ∷ codes "ed" ∷ []
+    codes "hi" ∷ codes "ma" ∷ codes "ed" ∷ codes "ed" ∷ codes "ix" ∷ codes "st" ∷ codes "lp" ∷ codes "no" ∷
+    codes "lp" ∷ codes "la" ∷ codes "us" ∷ codes "ma" ∷ []
 warning_codes = refl
 
 -- the line and the column of a place after a text

@@ -21,8 +21,8 @@ use Rattle.bcheck.specs.Tokens.{has_token_on, is_on, pieces_of}
 use Rattle.bplaces.specs.Units.{first_unit, unit_column, units_after}
 use Rattle.bcheck.specs.declared.advice.Matter.{Matter}
 use Rattle.bcheck.specs.declared.advice.Matter.TheVariants as matter
-use Rattle.bcheck.specs.declared.warnings.Warning.{Warning}
-use Rattle.bcheck.specs.declared.warnings.Warning.TheVariants as warning
+use Rattle.blint.specs.declared.warnings.Warning.{Warning}
+use Rattle.blint.specs.declared.warnings.Warning.TheVariants as warning
 use Rattle.btools.specs.Programs.{HasFault, IsCodeOf}
 use Rattle.bcheck.specs.declared.compiled.Compiled.{Compiled}
 use Rattle.bcheck.specs.declared.excerpt.Excerpt.{Excerpt}
@@ -81,6 +81,14 @@ warning_code warning.HidesLibrary = codes "hi"
 warning_code warning.NearMain = codes "ma"
 warning_code warning.DefaultLabel = codes "ed"
 warning_code warning.WordOutside = codes "ed"
+warning_code warning.VectorCalled = codes "ix"
+warning_code warning.WordOfString = codes "st"
+warning_code warning.CallsItself = codes "lp"
+warning_code warning.ChangesNothing = codes "no"
+warning_code warning.LoopUnchanged = codes "lp"
+warning_code warning.Indented = codes "la"
+warning_code warning.Overwritten = codes "us"
+warning_code warning.MainParameters = codes "ma"
 
 -- by which code each matter is known
 abbrev pub matter_code : Matter → List ℕ

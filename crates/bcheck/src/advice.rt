@@ -9,7 +9,8 @@ use crate::limits::Limit;
 use crate::syntax::Syntax;
 use crate::undefined::UndefinedName;
 use crate::unknown::{Lvalue, Unknown};
-use crate::warnings::Warning;
+use crate::warnings::advice_of;
+use blint::Warning;
 
 /// What a finding is about.
 #[derive(Clone, Copy)]
@@ -74,7 +75,7 @@ impl Matter {
             Matter::NoTypes =>
                 ("load 3", "there are no types: the name before @ is defined", "@; defines @"),
             Matter::NotDefined(undefined) => with_code("load 3", undefined.advice()),
-            Matter::Warning(warning) => warning.advice(),
+            Matter::Warning(warning) => advice_of(warning),
         }
     }
 }

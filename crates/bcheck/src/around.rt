@@ -2,8 +2,9 @@
 use crate::compiled::Extent;
 use crate::kinds::{closes_bracket, is_word, opens_bracket};
 use crate::spans::{Spans, lexeme_at};
-use blang::Keyword;
 use blex::Lexeme;
+use btree::{Construct, Sort, Tag, tags_of};
+use std::alloc::{AllocError, Global};
 
 /// In which part of a definition a token is.
 #[derive(Clone, Copy, PartialEq, Eq)]
@@ -23,8 +24,10 @@ pub(crate) enum Region {
 pub(crate) struct Around {
     pub token: usize,
     pub part: Region,
-    /// The first token of its statement, or of its definition.
+    /// The first token of the outermost statement that is open in its block, or of its definition; and that of the
+    /// innermost one.
     pub first: usize,
+    pub own: usize,
     /// The innermost bracket that is open before it.
     pub opener: Option<usize>,
     /// Whether a `?` of its statement has no `:`.
@@ -32,65 +35,72 @@ pub(crate) struct Around {
 }
 
 /// What is around a token of a definition.
-pub(crate) fn look_around(spans: &Spans, extent: Extent, token: usize) -> Around {
-    let mut found = Around {
+pub(crate) fn look_around(
+    alloc: Global,
+    spans: &Spans,
+    extent: Extent,
+    token: usize,
+) -> Result<Around, AllocError> {
+    let (first, own) = statements_before(alloc, spans, extent.first, token)?;
+    Ok(Around {
         token,
         part: part_of(spans, extent, token),
-        first: extent.first,
-        opener: None,
-        is_asked: false,
-    };
-    let mut depth: u64 = 0;
-    let mut is_first = false;
-    let mut colons: u64 = 0;
-    for back in 0..token.saturating_sub(extent.first) {
-        let at = token.saturating_sub(back).saturating_sub(1);
-        let lexeme = lexeme_at(spans, at);
-        let begins = depth == 0 && ends_statement(spans, at);
-        if begins && !is_first {
-            found.first = at.saturating_add(1);
-            is_first = true;
+        first,
+        own,
+        opener: opener_of(spans, token),
+        is_asked: is_asked(spans, first, token),
+    })
+}
+
+// Where the outermost statement begins that is open before a token in its block, and where the innermost one does; the
+// token itself, if there is none.
+fn statements_before(
+    alloc: Global,
+    spans: &Spans,
+    first: usize,
+    token: usize,
+) -> Result<(usize, usize), AllocError> {
+    let mut sorts = Vec::new(alloc);
+    for at in first..token {
+        sorts.push(Sort::of(lexeme_at(spans, at)))?;
+    }
+    let mut at = first;
+    let mut open: Vec<(Construct, usize)> = Vec::new(alloc);
+    let tags = tags_of(alloc, sorts.as_slice())?;
+    for tag in &tags {
+        match tag {
+            Tag::Begins(construct) => open.push((*construct, at))?,
+            Tag::Token => at = at.saturating_add(1),
+            Tag::Ends => {
+                let _ = open.pop();
+            }
         }
-        match lexeme {
-            Lexeme::Colon => colons = colons.saturating_add(1),
-            Lexeme::Question if colons == 0 => found.is_asked = true,
-            Lexeme::Question => colons = colons.saturating_sub(1),
+    }
+    let mut outermost = token;
+    let innermost = match open.last() {
+        None | Some((Construct::Block, _)) => token,
+        Some((_, begin)) => *begin,
+    };
+    for _ in first..token {
+        match open.pop() {
+            None | Some((Construct::Block, _)) => break,
+            Some((_, begin)) => outermost = begin,
+        }
+    }
+    Ok((outermost, innermost))
+}
+
+// Whether a `?` between two tokens has no `:`.
+fn is_asked(spans: &Spans, first: usize, end: usize) -> bool {
+    let mut asked: u64 = 0;
+    for at in first..end {
+        match lexeme_at(spans, at) {
+            Lexeme::Question => asked = asked.saturating_add(1),
+            Lexeme::Colon => asked = asked.saturating_sub(1),
             _ => {}
         }
-        if closes_bracket(&lexeme) {
-            depth = depth.saturating_add(1);
-        } else if opens_bracket(&lexeme) {
-            if depth == 0 && found.opener.is_none() {
-                found.opener = Some(at);
-            }
-            if depth == 0 && lexeme == Lexeme::OpenBrace {
-                break;
-            }
-            depth = depth.saturating_sub(1);
-        }
     }
-    found
-}
-
-/// Whether a statement begins after this token, if it isn't in brackets.
-pub(crate) fn ends_statement(spans: &Spans, token: usize) -> bool {
-    match lexeme_at(spans, token) {
-        Lexeme::Semicolon | Lexeme::OpenBrace | Lexeme::CloseBrace => true,
-        Lexeme::Colon => is_heading(spans, token),
-        _ => false,
-    }
-}
-
-/// Whether a label, a case or a default ends with this colon.
-pub(crate) fn is_heading(spans: &Spans, colon: usize) -> bool {
-    let before = lexeme_at(spans, colon.wrapping_sub(2));
-    matches!(
-        before,
-        Lexeme::Semicolon
-            | Lexeme::OpenBrace
-            | Lexeme::CloseBrace
-            | Lexeme::Keyword(Keyword::Case | Keyword::Else)
-    ) || lexeme_at(spans, colon.wrapping_sub(1)) == Lexeme::Keyword(Keyword::Default)
+    asked > 0
 }
 
 fn part_of(spans: &Spans, extent: Extent, token: usize) -> Region {
@@ -148,13 +158,4 @@ pub(crate) fn opener_of(spans: &Spans, closer: usize) -> Option<usize> {
         }
     }
     None
-}
-
-/// Whether a statement may begin with this token, by the one before it.
-pub(crate) fn may_begin(spans: &Spans, token: usize) -> bool {
-    let before = token.wrapping_sub(1);
-    matches!(
-        lexeme_at(spans, before),
-        Lexeme::CloseParen | Lexeme::Keyword(Keyword::Else)
-    ) || ends_statement(spans, before)
 }

@@ -6,22 +6,20 @@ ghost use Rattle.bcheck.specs.Checks.{AreFindings, EachOutcome, Judged, status_t
 ghost use Rattle.bcheck.specs.Findings.{AreWhole, IsCompiled, IsReasoned, IsStopOf, TellsFault};
 ghost use Rattle.bcheck.specs.declared.verdict.Verdict.TheVariants as verdict;
 
-use crate::across::comment_across;
 use crate::advice::Matter;
-use crate::brackets::Brackets;
 use crate::compiled::{Compiled, Extent};
-use crate::defined::Defined;
 use crate::excerpt::excerpt_at;
-use crate::finding::{Finding, Told};
+use crate::finding::{Finding, Place, Told};
 use crate::form::{FindingForm, Request};
-use crate::patterns::{DefinitionTokens, add_comment, find};
 use crate::places::{milestones, place_on, spot_of};
-use crate::spans::{SourceText, SpanReader, Spans, place_of};
+use crate::spans::{SourceText, Spans, place_of};
 use crate::undefined::undefined_names;
 use crate::verdict::{Judgement, Verdict};
 use crate::words::Words;
 use crate::{faults, json, text};
 use blang::{Diagnostic, LoadFault};
+use blint::{Caution, Program, TokenPlace, lint};
+use bmach::LIBRARY;
 use bsources::SourceFiles;
 use btools::Text;
 use std::alloc::{AllocError, Global};
@@ -84,7 +82,7 @@ fn findings(
 {
     let compiled = &judgement.compiled;
     match &judgement.verdict {
-        Verdict::Clean => warnings(alloc, source, files, compiled.ends.as_slice()),
+        Verdict::Clean => warnings(alloc, source, files, compiled),
         Verdict::Faulty(_, diagnostic) => {
             let Ok(error) = fault_of(alloc, source, compiled, diagnostic) else {
                 return Err(AllocError);
@@ -158,33 +156,38 @@ fn warnings(
     alloc: Global,
     source: SourceText<'_>,
     files: &SourceFiles<'_>,
-    ends: &[usize],
+    compiled: &Compiled,
 ) -> Result<Vec<Finding>, AllocError> {
-    let defined = Defined::read(alloc, source, ends)?;
+    let program = Program {
+        text: source.text,
+        edition: source.edition,
+        files: *files,
+        definitions: compiled.definitions(),
+        ends: compiled.ends.as_slice(),
+        library: &LIBRARY,
+    };
     let mut findings = Vec::new(alloc);
-    let mut reader = SpanReader::new(source);
-    let mut spans = Spans::new(alloc);
-    let mut first = 0;
-    for end in ends {
-        let extent = Extent { first, end: *end };
-        first = extent.end;
-        spans.refill(&mut reader, extent)?;
-        let brackets = Brackets::new(alloc, &spans)?;
-        let tokens = DefinitionTokens {
-            source: source.text,
-            spans: &spans,
-            brackets: &brackets,
-            defined: &defined,
-        };
-        if files
-            .beyond_first(place_of(&spans, extent.first).line)
-            .is_none()
-        {
-            find(alloc, &tokens, extent, &mut findings)?;
-        }
-    }
-    if let Some(place) = comment_across(source, files) {
-        add_comment(place, &mut findings)?;
+    let cautions = lint(alloc, &program)?;
+    for caution in &cautions {
+        findings.push(warned_of(caution))?;
     }
     Ok(findings)
+}
+
+fn warned_of(caution: &Caution) -> Finding {
+    Finding {
+        matter: Matter::Warning(caution.warning),
+        name: caution.name,
+        other: None,
+        place: at(caution.place),
+        related: caution.related.map(at),
+    }
+}
+
+fn at(place: TokenPlace) -> Place {
+    Place {
+        line: place.line,
+        start: place.start,
+        len: place.len,
+    }
 }

@@ -51,18 +51,25 @@ pub(crate) fn finding(
         extent,
         seen_at: compiled.seen_at,
     };
+    let around = look_around(alloc, &spans, extent, token_of(&spans, &fault))?;
     Ok(match (diagnostic.letters, diagnostic.about) {
         (Letters::Redeclared, About::Name(name)) => again(source, compiled, &spans, &fault, name),
-        _ => finding_of(alloc, source, &spans, &fault),
+        _ => finding_of(alloc, source, &spans, &fault, &around),
     })
 }
 
 // What is said of a fault, but for a name that is there already.
-fn finding_of(alloc: Global, source: SourceText<'_>, spans: &Spans, fault: &Fault) -> Finding
+fn finding_of(
+    alloc: Global,
+    source: SourceText<'_>,
+    spans: &Spans,
+    fault: &Fault,
+    around: &Around,
+) -> Finding
     ensures { matter_code result.matter ≡ diagnostic_code fault.now.diagnostic }
 {
     let diagnostic = &fault.diagnostic;
-    let token = token_of(spans, fault);
+    let token = around.token;
     let place = place_of(spans, token);
     match (diagnostic.letters, diagnostic.about) {
         (Letters::Character, _) => character(source.text, place),
@@ -72,7 +79,7 @@ fn finding_of(alloc: Global, source: SourceText<'_>, spans: &Spans, fault: &Faul
             source.text,
             spans,
             fault,
-            token,
+            around,
         ),
         (Letters::NotLvalue, _) => without_address(source, spans, token, diagnostic.line),
         (Letters::Undefined, About::Name(name)) => unknown_name(
@@ -237,23 +244,25 @@ fn matter_of(source: &[u8], spans: &Spans, fault: &Fault) -> Matter
 }
 
 // What is said of a token with which no program goes on.
-fn syntax_at(alloc: Global, source: &[u8], spans: &Spans, fault: &Fault, token: usize) -> Finding
+fn syntax_at(alloc: Global, source: &[u8], spans: &Spans, fault: &Fault, around: &Around) -> Finding
     ensures { matter_code result.matter ≡ codes "sx" }
 {
     if fault.extent.first == 0 && read_code(alloc, source).is_ok() {
-        return Finding::new(Matter::Syntax(Syntax::CodeText), place_of(spans, token));
+        return Finding::new(
+            Matter::Syntax(Syntax::CodeText),
+            place_of(spans, around.token),
+        );
     }
-    let around = look_around(spans, fault.extent, token);
-    if let Some((word, meaning)) = word_at_fault(spans, &around) {
-        return foreign(spans, &around, word, meaning, fault.diagnostic.line);
+    if let Some((word, meaning)) = word_at_fault(spans, around) {
+        return foreign(spans, around, word, meaning, fault.diagnostic.line);
     }
-    let (syntax, mark) = syntax::found(source, spans, &around);
+    let (syntax, mark) = syntax::found(source, spans, around);
     Finding {
         matter: Matter::Syntax(syntax),
         name: None,
         other: None,
-        place: marked(spans, &around, mark, fault.diagnostic.line),
-        related: related(source, spans, fault.extent, &around, syntax),
+        place: marked(spans, around, mark, fault.diagnostic.line),
+        related: related(source, spans, fault.extent, around, syntax),
     }
 }
 

@@ -483,7 +483,7 @@ fn holds(condition: If, source: &[u8], spans: &Spans, around: &Around) -> bool {
         If::Always => true,
         If::NextLine => is_next_line(spans, before),
         If::Joined => is_joined(spans, before),
-        If::Second => around.first == before,
+        If::Second => around.own == before,
         If::LineStart => is_line_start(source, spans, around.first),
         If::Backslash => ends_with_backslash(source, spans, before),
         If::Asked => around.is_asked,

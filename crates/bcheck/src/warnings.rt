@@ -4,153 +4,125 @@ ghost use Rattle.std.specs.Prelude.{◌≡◌, ◌∷◌, [], IsTrue};
 ghost use Rattle.bcheck.specs.Checks.{is_on_line};
 ghost use Rattle.bcheck.specs.Findings.{warning_code};
 
-/// What is probably a mistake.
-#[derive(Clone, Copy)]
-pub(crate) enum Warning {
-    CommentGoesOn,
-    AndAnd,
-    Power,
-    OperatorAssigns,
-    ConditionAssigns,
-    AssignsComparison,
-    AssignsCompared,
-    EmptyIf,
-    EmptyLoop,
-    PastVector,
-    VectorForWord,
-    WordForVector,
-    VectorAddress,
-    ReturnsVector,
-    ReturnsAddress,
-    NegativeNumber,
-    StringEnd,
-    InputEnd,
-    InputZero,
-    StringForNumber,
-    StringForCharacter,
-    StringPut,
-    StringCompared,
-    NameAlone,
-    ComparesAlone,
-    NoEffect,
-    Backslash,
-    BitsCompared,
-    ComparesTwice,
-    NotCompared,
-    ManyArguments,
-    FewArguments,
-    LibraryArguments,
-    SwappedArguments,
-    WrongBase,
-    NoReturn,
-    NeverUsed,
-    Unset,
-    UnsetVector,
-    HidesExternal,
-    HidesLibrary,
-    NearMain,
-    DefaultLabel,
-    WordOutside,
-}
+use blint::Warning;
 
-impl Warning {
-    /// By which code it is known, one sentence on it, and how to fix it.
-    #[rattlefmt::skip]
-    pub(crate) fn advice(self) -> (&'static str, &'static str, &'static str)
-        ensures on_lines { IsTrue (list_all is_on_line (result.0.now ∷ result.1.now ∷ result.2.now ∷ [])) }
-        ensures code { result.0.now ≡ warning_code self }
-    {
-        match self {
-            Warning::CommentGoesOn => ("*/", "this comment goes on into another file", "write */ where it ends"),
-            Warning::AndAnd => ("and", "&& is the operator & and then an address", "a ? b : 0"),
-            Warning::Power =>
-                ("and", "** is the operator * and then the word at an address", "a loop multiplies: p =* x;"),
-            Warning::OperatorAssigns =>
-                ("op", "this operator changes what stands before it", "a blank after the = sets it: x = -1;"),
-            Warning::ConditionAssigns =>
-                ("if", "this condition assigns", "== compares; parentheses around it show that it is meant"),
-            Warning::AssignsComparison =>
-                ("if", "this assigns what the comparison gives, 1 or 0",
-                 "parentheses around the assignment: (c = f()) != 'a'"),
-            Warning::AssignsCompared =>
-                ("if", "this stores the 1 or 0 of a comparison", ">= <= != and == compare alone: x >= 18"),
-            Warning::EmptyIf => ("em", "this ; is all that the if does", "take it out"),
-            Warning::EmptyLoop => ("em", "this ; is all that the loop repeats", "take it out"),
-            Warning::PastVector =>
-                ("ix", "the vector @ has no word of this index",
-                 "auto v 5; has v[0] to v[5], and so has v[5]; outside"),
-            Warning::VectorForWord =>
-                ("ix", "@ is a vector, and used as a word", "auto @; is a word: its value comes by @ = 5;"),
-            Warning::WordForVector =>
-                ("ix", "@ is a word with a value, and no vector", "@[10]; outside of functions has @[0] to @[10]"),
-            Warning::VectorAddress =>
-                ("ix", "@ is an address itself: & gives where that is kept", "@ is the address of @[0]"),
-            Warning::ReturnsVector =>
-                ("ix", "the words of @ are gone after the return", "@[10]; outside of functions, and extrn @; here"),
-            Warning::ReturnsAddress =>
-                ("ix", "@ is gone after the return", "@; outside of functions, and extrn @; here"),
-            Warning::NegativeNumber =>
-                ("sg", "this number is below 0 where it is compared", "words go from -32768 to 32767"),
-            Warning::StringEnd => ("en", "a string ends with '*e', 4, and not with 0", "char(s, i) != '*e'"),
-            Warning::InputEnd =>
-                ("en", "the input ends with '*e', 4, and not with -1", "(c = getchar()) != '*e'"),
-            Warning::InputZero =>
-                ("en", "the input ends with '*e', 4, and not with 0", "(c = getchar()) != '*e'"),
-            Warning::StringForNumber =>
-                ("st", "a string is an address, and printn writes numbers",
-                 "putstr(s); of lib/print.b writes it: b go FILE --with print"),
-            Warning::StringForCharacter =>
-                ("st", "a string is an address, and no character", "write single quotes: 'a'"),
-            Warning::StringPut =>
-                ("st", "a string is an address, and putchar writes characters",
-                 "a loop writes it: while((c = char(s, i++)) != '*e') putchar(c);"),
-            Warning::StringCompared =>
-                ("st", "this compares addresses, and no characters",
-                 "a loop compares char(s, i) and char(t, i), as in examples/copy.b"),
-            Warning::NameAlone => ("no", "this statement does nothing", "a call has parentheses: f();"),
-            Warning::ComparesAlone => ("no", "nothing is done with this comparison", "= assigns: x = 4;"),
-            Warning::NoEffect => ("no", "this statement does nothing", "assign its value, x = a + b; or take it out"),
-            Warning::Backslash =>
-                ("bs", "a backslash in quotes is a character like others", "* begins an escape: '*n' is a newline"),
-            Warning::BitsCompared =>
-                ("pr", "the comparison binds tighter than this operator", "parentheses: (x & 1) == 1"),
-            Warning::ComparesTwice => ("pr", "this compares the 1 or 0 of the first comparison", "1 < x & x < 3"),
-            Warning::NotCompared => ("pr", "the ! binds tighter than the comparison", "x != 3, or !(x == 3)"),
-            Warning::ManyArguments =>
-                ("ar", "this call has more arguments than @ has parameters",
-                 "the last ones are lost: take them out, or name them in @"),
-            Warning::FewArguments =>
-                ("ar", "this call has fewer arguments than @ has parameters",
-                 "the last parameters are 0: write the arguments, 0 if it is meant"),
-            Warning::LibraryArguments =>
-                ("ar", "@ takes another number of arguments",
-                 "char(s, i) lchar(s, i, c) getchar() putchar(c) printn(n, b) exit(n)"),
-            Warning::SwappedArguments =>
-                ("ar", "the arguments have another order", "printn(n, 10) char(s, i) lchar(s, i, c)"),
-            Warning::WrongBase => ("ar", "printn writes to a base from 2 to 10", "printn(n, 10)"),
-            Warning::NoReturn =>
-                ("rt", "the value of @ is used, and @ returns none",
-                 "return(x); in @ gives the value x; without it the value is 0"),
-            Warning::NeverUsed =>
-                ("us", "@ is declared and never used", "take it out, or look for another spelling of it"),
-            Warning::Unset =>
-                ("in", "@ is used here, and nothing has set it before",
-                 "@ = 0; before this, or the value that it begins with"),
-            Warning::UnsetVector =>
-                ("in", "@ is used as a vector here, and has no words", "auto @ 10; has @[0] to @[10]"),
-            Warning::HidesExternal =>
-                ("hi", "this @ hides the external of line %", "extrn @; is the external; or take another name"),
-            Warning::HidesLibrary =>
-                ("hi", "this @ hides the function of the library",
-                 "take it out: a call declares a function; or take another name"),
-            Warning::NearMain =>
-                ("ma", "there is no function main: did you mean this one?", "a run begins with main() .."),
-            Warning::DefaultLabel =>
-                ("ed", "in edition 1 this is a label, to which nothing leads",
-                 "--edition 2 makes it the default of the switch"),
-            Warning::WordOutside =>
-                ("ed", "this defines an external of the name @",
-                 "look before it for a } too many; --edition 2 has @ as a keyword"),
-        }
+/// By which code a warning is known, one sentence on it, and how to fix it.
+#[rattlefmt::skip]
+pub(crate) fn advice_of(warning: Warning) -> (&'static str, &'static str, &'static str)
+    ensures on_lines { IsTrue (list_all is_on_line (result.0.now ∷ result.1.now ∷ result.2.now ∷ [])) }
+    ensures code { result.0.now ≡ warning_code warning }
+{
+    match warning {
+        Warning::CommentGoesOn => ("*/", "this comment goes on into another file", "write */ where it ends"),
+        Warning::AndAnd => ("and", "&& is the operator & and then an address", "a ? b : 0"),
+        Warning::Power =>
+            ("and", "** is the operator * and then the word at an address", "a loop multiplies: p =* x;"),
+        Warning::OperatorAssigns =>
+            ("op", "this operator changes what stands before it", "a blank after the = sets it: x = -1;"),
+        Warning::ConditionAssigns =>
+            ("if", "this condition assigns", "== compares; parentheses around it show that it is meant"),
+        Warning::AssignsComparison =>
+            ("if", "this assigns what the comparison gives, 1 or 0",
+             "parentheses around the assignment: (c = f()) != 'a'"),
+        Warning::AssignsCompared =>
+            ("if", "this stores the 1 or 0 of a comparison", ">= <= != and == compare alone: x >= 18"),
+        Warning::EmptyIf => ("em", "this ; is all that the if does", "take it out"),
+        Warning::EmptyLoop => ("em", "this ; is all that the loop repeats", "take it out"),
+        Warning::PastVector =>
+            ("ix", "the vector @ has no word of this index",
+             "auto v 5; has v[0] to v[5], and so has v[5]; outside"),
+        Warning::VectorForWord =>
+            ("ix", "@ is a vector, and used as a word", "auto @; is a word: its value comes by @ = 5;"),
+        Warning::WordForVector =>
+            ("ix", "@ is a word with a value, and no vector", "@[10]; outside of functions has @[0] to @[10]"),
+        Warning::VectorAddress =>
+            ("ix", "@ is an address itself: & gives where that is kept", "@ is the address of @[0]"),
+        Warning::ReturnsVector =>
+            ("ix", "the words of @ are gone after the return", "@[10]; outside of functions, and extrn @; here"),
+        Warning::ReturnsAddress =>
+            ("ix", "@ is gone after the return", "@; outside of functions, and extrn @; here"),
+        Warning::NegativeNumber =>
+            ("sg", "this number is below 0 where it is compared", "words go from -32768 to 32767"),
+        Warning::StringEnd => ("en", "a string ends with '*e', 4, and not with 0", "char(s, i) != '*e'"),
+        Warning::InputEnd =>
+            ("en", "the input ends with '*e', 4, and not with -1", "(c = getchar()) != '*e'"),
+        Warning::InputZero =>
+            ("en", "the input ends with '*e', 4, and not with 0", "(c = getchar()) != '*e'"),
+        Warning::StringForNumber =>
+            ("st", "a string is an address, and printn writes numbers",
+             "putstr(s); of lib/print.b writes it: b go FILE --with print"),
+        Warning::StringForCharacter =>
+            ("st", "a string is an address, and no character", "write single quotes: 'a'"),
+        Warning::StringPut =>
+            ("st", "a string is an address, and putchar writes characters",
+             "a loop writes it: while((c = char(s, i++)) != '*e') putchar(c);"),
+        Warning::StringCompared =>
+            ("st", "this compares addresses, and no characters",
+             "a loop compares char(s, i) and char(t, i), as in examples/copy.b"),
+        Warning::NameAlone => ("no", "this statement does nothing", "a call has parentheses: f();"),
+        Warning::ComparesAlone => ("no", "nothing is done with this comparison", "= assigns: x = 4;"),
+        Warning::NoEffect => ("no", "this statement does nothing", "assign its value, x = a + b; or take it out"),
+        Warning::Backslash =>
+            ("bs", "a backslash in quotes is a character like others", "* begins an escape: '*n' is a newline"),
+        Warning::BitsCompared =>
+            ("pr", "the comparison binds tighter than this operator", "parentheses: (x & 1) == 1"),
+        Warning::ComparesTwice => ("pr", "this compares the 1 or 0 of the first comparison", "1 < x & x < 3"),
+        Warning::NotCompared => ("pr", "the ! binds tighter than the comparison", "x != 3, or !(x == 3)"),
+        Warning::ManyArguments =>
+            ("ar", "this call has more arguments than @ has parameters",
+             "the last ones are lost: take them out, or name them in @"),
+        Warning::FewArguments =>
+            ("ar", "this call has fewer arguments than @ has parameters",
+             "the last parameters are 0: write the arguments, 0 if it is meant"),
+        Warning::LibraryArguments =>
+            ("ar", "@ takes another number of arguments",
+             "char(s, i) lchar(s, i, c) getchar() putchar(c) printn(n, b) exit(n)"),
+        Warning::SwappedArguments =>
+            ("ar", "the arguments have another order", "printn(n, 10) char(s, i) lchar(s, i, c)"),
+        Warning::WrongBase => ("ar", "printn writes to a base from 2 to 10", "printn(n, 10)"),
+        Warning::NoReturn =>
+            ("rt", "the value of @ is used, and @ returns none",
+             "return(x); in @ gives the value x; without it the value is 0"),
+        Warning::NeverUsed =>
+            ("us", "@ is declared and never used", "take it out, or look for another spelling of it"),
+        Warning::Unset =>
+            ("in", "@ is used here, and nothing has set it before",
+             "@ = 0; before this, or the value that it begins with"),
+        Warning::UnsetVector =>
+            ("in", "@ is used as a vector here, and has no words", "auto @ 10; has @[0] to @[10]"),
+        Warning::HidesExternal =>
+            ("hi", "this @ hides the external of line %", "extrn @; is the external; or take another name"),
+        Warning::HidesLibrary =>
+            ("hi", "this @ hides the function of the library",
+             "take it out: a call declares a function; or take another name"),
+        Warning::NearMain =>
+            ("ma", "there is no function main: did you mean this one?", "a run begins with main() .."),
+        Warning::DefaultLabel =>
+            ("ed", "in edition 1 this is a label, to which nothing leads",
+             "--edition 2 makes it the default of the switch"),
+        Warning::WordOutside =>
+            ("ed", "this defines an external of the name @",
+             "look before it for a } too many; --edition 2 has @ as a keyword"),
+        Warning::VectorCalled => ("ix", "@ is a vector, and no function", "@[i] is its word of index i"),
+        Warning::WordOfString =>
+            ("st", "this is a word of the string: two characters", "char(s, i) == 'x'"),
+        Warning::CallsItself =>
+            ("lp", "each way through @ calls it again",
+             "a way without the call comes first: if(n < 1) return(1);"),
+        Warning::ChangesNothing =>
+            ("no", "@ changes its own words, and nothing else",
+             "return(x); in it gives a value; *p = x; stores at an address"),
+        Warning::LoopUnchanged =>
+            ("lp", "nothing in this loop changes its condition",
+             "change one of its names in the loop, as i++; does"),
+        Warning::Indented =>
+            ("la", "this stands like the body of line %, but isn't in it",
+             "put { } around the statements of the body"),
+        Warning::Overwritten =>
+            ("us", "this value of @ is overwritten at once",
+             "take one of the two out, or use @ between them"),
+        Warning::MainParameters =>
+            ("ma", "main gets no arguments: its parameters are 0",
+             "main() .., and getstr(s); of lib/input.b reads a line"),
     }
 }

@@ -1,8 +1,8 @@
 break;
 n;
 mian(a, b) {
-    auto i, j, n, v 2, none;
-    n = 1;
+    auto i, j, n 1, v 2, none;
+    n[0] = 1;
     i = a && b;
     i =-1;
     if(i = 2) ;

@@ -1,5 +1,5 @@
 main() {
-    auto say;
-    say = 1;
-    return(say);
+    auto say 1;
+    say[0] = 1;
+    return(say[0]);
 }

@@ -1,9 +1,9 @@
 n 5;
 main() {
-    auto n, putchar, a, b;
-    n = 1;
-    putchar = n;
-    printn(n + putchar, 10);
+    auto n 1, putchar, a, b;
+    n[0] = 1;
+    putchar = n[0];
+    printn(n[0] + putchar, 10);
     a = 1;
 }
 f(exit) {

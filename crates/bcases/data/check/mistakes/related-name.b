@@ -1,6 +1,6 @@
 n 5;
 main() {
-    auto n;
-    n = 1;
-    printn(n, 10);
+    auto n 2;
+    n[0] = 1;
+    printn(n[0], 10);
 }

@@ -27,7 +27,8 @@ main() {
     while(c)
         c = getchar();
     p = "cd";
-    p = s;
+    if(n)
+        p = s;
     while(*p)
         p++;
     while(c != 4)

@@ -1,0 +1,4 @@
+/* Nothing calls main with arguments. */
+main(argc) {
+    printn(argc, 10);
+}

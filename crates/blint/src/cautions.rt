@@ -1,0 +1,31 @@
+//! What is looked at, and what is said of it.
+use crate::tokens::TokenPlace;
+use crate::warnings::Warning;
+use blang::Definition;
+use bsources::SourceFiles;
+use bword::{Edition, Name};
+
+/// A source that compiles and whose code loads.
+#[derive(Clone, Copy)]
+pub struct Program<'a> {
+    pub text: &'a [u8],
+    pub edition: Edition,
+    pub files: SourceFiles<'a>,
+    /// The definitions of its code.
+    pub definitions: &'a [Definition],
+    /// How many tokens come before the end of each definition.
+    pub ends: &'a [usize],
+    /// The functions that a program may call without defining them, with their numbers of arguments.
+    pub library: &'a [(&'static str, u64)],
+}
+
+/// What is said of a token.
+#[derive(Clone, Copy)]
+pub struct Caution {
+    pub warning: Warning,
+    /// The name that it is about.
+    pub name: Option<Name>,
+    pub place: TokenPlace,
+    /// A second place, of which it speaks.
+    pub related: Option<TokenPlace>,
+}

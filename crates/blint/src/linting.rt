@@ -1,0 +1,280 @@
+//! Looking at a program, one definition after another.
+use crate::calls::called;
+use crate::cautions::{Caution, Program};
+use crate::comparisons::operated;
+use crate::conditions::{empty, tested};
+use crate::declared::declared_in;
+use crate::defined::{Defined, Told};
+use crate::ends::loop_end;
+use crate::flow::unset_in;
+use crate::functions::{calls_itself, changes_nothing, outside};
+use crate::layout::indented;
+use crate::locals::Locals;
+use crate::loops::unchanged;
+use crate::remarks::{Remark, Remarks};
+use crate::ruled::ruled_in;
+use crate::stores::overwritten;
+use crate::strings::backslash;
+use crate::tokens::{TokenPlace, TokenReader, Tokens};
+use crate::tree::{Branch, NONE, Tree};
+use crate::vectors::{addressed, indexed, returned};
+use crate::warnings::Warning;
+use blex::Lexeme;
+use btree::{Construct, Node};
+use bword::BinOp;
+use std::alloc::{AllocError, Global};
+
+/// The most that is said of a program, which is as much as a person reads.
+const MOST_CAUTIONS: usize = 100;
+
+/// A function, and what is known of its names.
+#[derive(Clone, Copy)]
+pub(crate) struct Look<'a> {
+    pub tree: &'a Tree<'a>,
+    pub locals: &'a Locals,
+    pub defined: &'a Defined<'a>,
+}
+
+/// What in a program is probably a mistake, in the order of its tokens. Of a program in several files only the first
+/// one is looked at.
+///
+/// # Errors
+///
+/// If memory was refused.
+pub fn lint(alloc: Global, program: &Program<'_>) -> Result<Vec<Caution>, AllocError> {
+    let mut linting = Linting {
+        defined: Defined::new(alloc, program)?,
+        told: Vec::new(alloc),
+        found: Vec::new(alloc),
+        sure: 0,
+    };
+    let mut reader = TokenReader::new(program);
+    let mut tokens = Tokens::new(alloc, program.text);
+    let mut first: usize = 0;
+    for end in program.ends {
+        reader.refill(&mut tokens, end.saturating_sub(first))?;
+        first = *end;
+        let is_own = program.files.beyond_first(tokens.place(0).line).is_none();
+        linting.take(alloc, &tokens, is_own)?;
+    }
+    reader.finish();
+    linting.finish(alloc, reader.across)
+}
+
+/// What is said of a place, if that is so when all definitions are known.
+#[derive(Clone, Copy)]
+struct Supposed {
+    caution: Caution,
+    definition: usize,
+    given: u64,
+    is_value: bool,
+}
+
+/// What was found so far.
+#[derive(Drop)]
+struct Linting<'a> {
+    defined: Defined<'a>,
+    /// What the tokens of each definition tell.
+    told: Vec<Told>,
+    found: Vec<Supposed>,
+    /// How many of these hang on no definition.
+    sure: usize,
+}
+
+impl Linting<'_> {
+    // Looks at a definition, for what its tokens tell alone where it is in another file.
+    fn take(&mut self, alloc: Global, tokens: &Tokens<'_>, is_own: bool) -> Result<(), AllocError> {
+        let mut remarks = Remarks::new(alloc, tokens.len())?;
+        let mut further = Remarks::new(alloc, tokens.len())?;
+        let tree = Tree::new(alloc, tokens)?;
+        let mut locals = Locals::new(alloc, &tree)?;
+        let told = Told::new(&tree, &locals);
+        remarks.say(outside(tokens, &self.defined, &told))?;
+        self.told.push(told)?;
+        if tokens.at(1) == Lexeme::OpenParen {
+            unset_in(&tree, &mut locals, &mut further)?;
+            let look = Look {
+                tree: &tree,
+                locals: &locals,
+                defined: &self.defined,
+            };
+            look_at(&look, &mut remarks)?;
+            further.say(calls_itself(&look))?;
+        }
+        quoted_in(tokens, &mut remarks)?;
+        ruled_in(alloc, &tree, &mut remarks)?;
+        for token in 0..tokens.len() {
+            if is_own {
+                self.push(tokens, remarks.at(token))?;
+                self.push(tokens, further.at(token))?;
+            }
+        }
+        Ok(())
+    }
+
+    fn push(&mut self, tokens: &Tokens<'_>, remark: Option<Remark>) -> Result<(), AllocError> {
+        let Some(remark) = remark else {
+            return Ok(());
+        };
+        if self.sure >= MOST_CAUTIONS {
+            return Ok(());
+        }
+        if remark.definition == NONE {
+            self.sure = self.sure.saturating_add(1);
+        }
+        self.found.push(Supposed {
+            caution: Caution {
+                warning: remark.warning,
+                name: tokens.name(remark.named),
+                place: tokens.place(remark.token),
+                related: place_of(tokens, remark.other),
+            },
+            definition: remark.definition,
+            given: remark.given,
+            is_value: remark.is_value,
+        })?;
+        Ok(())
+    }
+
+    // What is so of all that was found, and the comment that goes on into another file.
+    fn finish(
+        &self,
+        alloc: Global,
+        across: Option<TokenPlace>,
+    ) -> Result<Vec<Caution>, AllocError> {
+        let mut cautions = Vec::new(alloc);
+        for supposed in &self.found {
+            push(&mut cautions, self.settled(supposed))?;
+        }
+        push(&mut cautions, across.map(going_on))?;
+        Ok(cautions)
+    }
+
+    fn settled(&self, supposed: &Supposed) -> Option<Caution> {
+        let caution = supposed.caution;
+        if supposed.definition == NONE {
+            return Some(caution);
+        }
+        let told = self.told.get(supposed.definition)?;
+        let is_unused = told.returns || !supposed.is_value;
+        let warning = match caution.warning {
+            Warning::ManyArguments if !told.spreads => Warning::ManyArguments,
+            Warning::FewArguments if !told.spreads && supposed.given < told.least => {
+                Warning::FewArguments
+            }
+            Warning::HidesExternal => {
+                return Some(Caution {
+                    related: Some(told.place),
+                    ..caution
+                });
+            }
+            _ if is_unused => return None,
+            _ => Warning::NoReturn,
+        };
+        Some(Caution { warning, ..caution })
+    }
+}
+
+fn place_of(tokens: &Tokens<'_>, token: usize) -> Option<TokenPlace> {
+    if token == NONE {
+        None
+    } else {
+        Some(tokens.place(token))
+    }
+}
+
+// A comment that goes on into another file.
+fn going_on(place: TokenPlace) -> Caution {
+    Caution {
+        warning: Warning::CommentGoesOn,
+        name: None,
+        place,
+        related: None,
+    }
+}
+
+// Adds what is so, but no more than a person reads.
+fn push(cautions: &mut Vec<Caution>, caution: Option<Caution>) -> Result<(), AllocError> {
+    let Some(caution) = caution else {
+        return Ok(());
+    };
+    if cautions.len() < MOST_CAUTIONS {
+        cautions.push(Caution {
+            warning: caution.warning,
+            name: caution.name,
+            place: caution.place,
+            related: caution.related,
+        })?;
+    }
+    Ok(())
+}
+
+// What is found of the strings and characters of a definition.
+fn quoted_in(tokens: &Tokens<'_>, remarks: &mut Remarks) -> Result<(), AllocError> {
+    for token in 0..tokens.len() {
+        if let Lexeme::String | Lexeme::Character(_) = tokens.at(token) {
+            remarks.say(backslash(tokens, token))?;
+        }
+    }
+    Ok(())
+}
+
+// What is found of a function, by its branches and its statements.
+fn look_at(look: &Look<'_>, remarks: &mut Remarks) -> Result<(), AllocError> {
+    for branch in &look.tree.branches {
+        by_branch(look, branch, remarks)?;
+    }
+    for statement in &look.tree.statements {
+        remarks.say(indented(look, statement))?;
+        if statement.construct == Construct::Heading {
+            remarks.say(default_label(look, statement.first))?;
+        }
+    }
+    remarks.say(changes_nothing(look))?;
+    declared_in(look, remarks)
+}
+
+fn by_branch(look: &Look<'_>, branch: &Branch, remarks: &mut Remarks) -> Result<(), AllocError> {
+    match branch.node {
+        Node::Called => remarks.say(called(look, branch)),
+        Node::Indexed => remarks.say(indexed(look, branch)),
+        Node::Address => remarks.say(addressed(look, branch)),
+        Node::Returned => remarks.say(returned(look, branch)),
+        Node::Binary(op) => remarks.say(operated(look, branch, op)),
+        Node::Assigned(Some(BinOp::Sub | BinOp::Mul | BinOp::And))
+            if look.tree.tokens.is_joined(branch.token) => {
+            remarks.say(Remark::new(branch.token, Warning::OperatorAssigns))
+        }
+        Node::Evaluated => remarks.say(overwritten(look, branch)),
+        Node::Tested => by_condition(look, branch, remarks),
+        _ => Ok(()),
+    }
+}
+
+fn by_condition(look: &Look<'_>, branch: &Branch, remarks: &mut Remarks) -> Result<(), AllocError> {
+    if look.tree.is_loop(branch) {
+        remarks.say(loop_end(look, &look.tree.branch(branch.left)))?;
+        remarks.say(unchanged(look, branch))?;
+    }
+    remarks.say(tested(look, branch))?;
+    remarks.say(empty(look, branch))
+}
+
+// A label `default` that nothing else names, where the other edition has a keyword.
+fn default_label(look: &Look<'_>, token: usize) -> Option<Remark> {
+    let tokens = look.tree.tokens;
+    if !tokens.is_word(token, "default") {
+        return None;
+    }
+    let mut mentions: u64 = 0;
+    for at in 0..tokens.len() {
+        if tokens.is_word(at, "default") {
+            mentions = mentions.saturating_add(1);
+        }
+    }
+    if mentions == 1 {
+        Remark::new(token, Warning::DefaultLabel)
+    } else {
+        None
+    }
+}

@@ -1,0 +1,86 @@
+//! Loops that never end.
+use crate::linting::Look;
+use crate::remarks::Remark;
+use crate::tree::{Branch, Tree};
+use crate::warnings::Warning;
+use blang::Keyword;
+use blex::Lexeme;
+use btree::Node;
+
+/// The longest condition whose names are looked for in the loop.
+const MOST_TOKENS: usize = 16;
+
+/// What is found of a loop in which nothing changes what its condition asks, and which nothing leaves.
+pub(crate) fn unchanged(look: &Look<'_>, tested: &Branch) -> Option<Remark> {
+    let condition = look.tree.branch(tested.left);
+    let length = condition.last.saturating_sub(condition.first);
+    if condition.acts || length > MOST_TOKENS || !asks_own_words(look, &condition) {
+        return None;
+    }
+    // Of an empty loop more is said.
+    if look.tree.tokens.at(tested.last.wrapping_add(1)) == Lexeme::Semicolon {
+        return None;
+    }
+    let end = look.tree.statement(look.tree.around(tested.token)).end;
+    for token in tested.last..end {
+        if leaves(look.tree, token) || changes(look.tree, token, &condition) {
+            return None;
+        }
+    }
+    Remark::new(tested.token, Warning::LoopUnchanged)
+}
+
+// Whether a condition is made of constants and of words of the function alone, of which nothing else has the address.
+fn asks_own_words(look: &Look<'_>, condition: &Branch) -> bool {
+    let mut names: u64 = 0;
+    for token in condition.first..=condition.last {
+        let branch = look.tree.made_by(token);
+        match branch.node {
+            Node::Name => match look.locals.of(look.tree, &branch) {
+                Some(local) if local.is_own_word() && !local.has_address => {
+                    names = names.saturating_add(1);
+                }
+                _ => return false,
+            },
+            Node::Indexed | Node::Indirection | Node::Address | Node::Text => return false,
+            _ => {}
+        }
+    }
+    names > 0
+}
+
+// Whether the loop may be left at a token, or come to it from elsewhere.
+fn leaves(tree: &Tree<'_>, token: usize) -> bool {
+    let leaves = matches!(
+        tree.tokens.at(token),
+        Lexeme::Keyword(Keyword::Return | Keyword::Goto | Keyword::Break)
+    );
+    leaves || tree.tokens.is_word(token, "exit") || tree.is_label(token)
+}
+
+// Whether a name of the condition may be changed at a token.
+fn changes(tree: &Tree<'_>, token: usize, condition: &Branch) -> bool {
+    let branch = tree.made_by(token);
+    let changed = tree.branch(branch.left);
+    match (branch.node, changed.node) {
+        (Node::Assigned(_), Node::Indirection) => true,
+        (
+            Node::Assigned(_)
+            | Node::PreIncrement
+            | Node::PreDecrement
+            | Node::PostIncrement
+            | Node::PostDecrement,
+            Node::Name,
+        ) => is_among(tree, &changed, condition),
+        _ => false,
+    }
+}
+
+fn is_among(tree: &Tree<'_>, name: &Branch, condition: &Branch) -> bool {
+    for token in condition.first..=condition.last {
+        if tree.tokens.at(token) == tree.tokens.at(name.token) {
+            return true;
+        }
+    }
+    false
+}
