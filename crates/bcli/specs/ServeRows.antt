@@ -57,16 +57,14 @@ next_of_runs : map (next_text 0) (0 ∷ 1 ∷ 127 ∷ 130 ∷ 131 ∷ 132 ∷ 13
     ∷ codes "next: b trace --last 20 in place of b try shows the steps that led there\n"
     ∷ codes "next: b count in place of b try shows which lines take so many steps\n"
     ∷ codes "next: write a function main, with which a run begins\n"
-    ∷ codes "next: a read or a write failed; look at the input and at the output\n"
-    ∷ codes "next: memory ran out; end other programs, and try it again\n" ∷ []
+    ∷ [] ∷ [] ∷ []
 next_of_runs = refl
 
 -- and where it has one, or could not be checked
 next_of_checks : map (λ status. next_text status status) (1 ∷ 132 ∷ 133 ∷ 134 ∷ [])
     ≡ codes "next: do what stands after fix, and try it again\n"
     ∷ codes "next: do what stands after fix, and try it again\n"
-    ∷ codes "next: a read or a write failed; look at the input and at the output\n"
-    ∷ codes "next: memory ran out; end other programs, and try it again\n" ∷ []
+    ∷ [] ∷ [] ∷ []
 next_of_checks = refl
 
 -- a file that can't be read is told by its own name

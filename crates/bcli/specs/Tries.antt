@@ -1,6 +1,6 @@
 -- Promise: what comes of a source that is tried: it is checked, it is run carefully where that finds no fault, and what to
 -- do next is told.
-use Rattle.std.specs.Prelude.{◌≡◌, ℕ, ◌==◌, ◌||◌, Bool, true, false, List, codes, if◌then◌else◌}
+use Rattle.std.specs.Prelude.{◌≡◌, ℕ, ◌==◌, ◌||◌, Bool, true, false, List, [], codes, if◌then◌else◌}
 use Rattle.bword.specs.ByteEnds.{Outgoing}
 use Rattle.bword.specs.declared.edition.Edition.{Edition}
 use Rattle.blang.specs.Reports.{HasNotRun, Reported, RunEnds}
@@ -10,16 +10,15 @@ use Rattle.bcareful.specs.Runs.{Runs}
 use Rattle.bcheck.specs.Checks.{Checks}
 use Rattle.bcheck.specs.declared.form.FindingForm.TheVariants as forms
 
--- what to do after a run, by its status
+-- what to do after a run, by its status; nothing where a read or a write failed, or memory ran out
 abbrev pub next_after : (ran : ℕ) → List ℕ
 next_after ran =
     if ran == DONE then codes "next: no finding; b show in place of b try, with > run.html, shows each step\n"
     else (if ran == TRAP then codes "next: b trace --last 20 in place of b try shows the steps that led there\n"
     else (if ran == LIMIT then codes "next: b count in place of b try shows which lines take so many steps\n"
     else (if ran == REFUSED then codes "next: write a function main, with which a run begins\n"
-    else (if ran == DEVICE then codes "next: a read or a write failed; look at the input and at the output\n"
-    else (if ran == MEMORY then codes "next: memory ran out; end other programs, and try it again\n"
-    else codes "next: no finding; the status is the one that the program gave to exit\n")))))
+    else (if ran == DEVICE || ran == MEMORY then []
+    else codes "next: no finding; the status is the one that the program gave to exit\n"))))
 
 -- what to do next, by the status of the check and that of the run
 abbrev pub next_text : (checked ran : ℕ) → List ℕ

@@ -100,8 +100,7 @@ fn next_after(ran: Status) -> &'static str
             "next: b trace --last 20 in place of b try shows the steps that led there\n",
         status::LIMIT => "next: b count in place of b try shows which lines take so many steps\n",
         status::REFUSED => "next: write a function main, with which a run begins\n",
-        status::DEVICE => "next: a read or a write failed; look at the input and at the output\n",
-        status::MEMORY => "next: memory ran out; end other programs, and try it again\n",
+        status::DEVICE | status::MEMORY => "",
         _ => "next: no finding; the status is the one that the program gave to exit\n",
     }
 }
