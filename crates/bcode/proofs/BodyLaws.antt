@@ -75,7 +75,7 @@ module _ {X : Type 0} (spell : X → List ℕ) (within : X → Type 0) (kind : L
   goes_on {old} {new} {xs} count ks r =
       subst (λ (c : ℕ). GoesOn (expects (replicate c kind ++ ks)) (flat_map spell xs) c (expects ks)) r.all (items_go xs ks r.inside)
 
-  first_after : (xs : List X) (ks : List LineKind) (ls : List (List ℕ)) → All within xs → AreFirst ls ks → AreFirst (map spell xs ++ ls) (replicate (length xs) kind ++ ks)
+  pub first_after : (xs : List X) (ks : List LineKind) (ls : List (List ℕ)) → All within xs → AreFirst ls ks → AreFirst (map spell xs ++ ls) (replicate (length xs) kind ++ ks)
   first_after [] ks ls all first = first
   first_after (x ∷ xs) ks ls all first = (of_kind x (All-head within x xs all), first_after xs ks ls (All-tail within x xs all) first)
 

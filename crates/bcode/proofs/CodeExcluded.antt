@@ -1,19 +1,21 @@
 -- What no writer of a code text, no call of `read_code` and no reader does.
-use Rattle.std.proofs.Common.{subst, ◌≡◌, ℕ, suc, ◌≤◌, true, List, [], ◌∷◌, ◌++◌, length, sym, ap, ◌∙◌, arith, append_assoc, append-nil, Option, Some, None, refl, ◌⊎◌, inl, inr}
+use Rattle.std.proofs.Common.{subst, ◌≡◌, ℕ, suc, ◌≤◌, true, List, [], ◌∷◌, ◌++◌, length, sym, ap, ◌∙◌, arith, append_assoc, append-nil, Option, Some, None, Ok, refl, ◌⊎◌, inl, inr}
 use Rattle.std.specs.Prelude.{All, codes}
 use Rattle.std.specs.List.{flat_map}
 use Rattle.std.specs.Io.KnownBytes.{Appends}
 use Rattle.bword.specs.declared.edition.Edition.{Edition}
 use Rattle.bword.specs.declared.edition.Edition.TheVariants as editions
 use Rattle.std.proofs.lemmas.List.{append_cancel_right}
+use Rattle.std.proofs.lemmas.List.Concat.{flat_map-append}
 use Rattle.std.proofs.lemmas.List.Elements.{All-head, All-tail}
 use Rattle.bword.proofs.Taking.{consumed}
 use Rattle.bcode.specs.CodeExcluded.{Excluded}
+use Rattle.bcode.specs.Copying.{TextGives}
 use Rattle.bcode.specs.Faults.{IsFaultLine, HasHeader}
 use Rattle.bcode.specs.Headers.{header_of}
 use Rattle.bcode.specs.LineReading.{header_at, any_header_at, sizes_at, function_header_at, simple_header_at, vector_header_at, line_ended, ival_line_at, operand_at, name_operand_at}
 use Rattle.bcode.specs.Reading.{expect_byte, number_at, number_from, name_text_at}
-use Rattle.bcode.specs.Readers.{CodeReader, HasTaken, TextEnded, StoppedAtLine, MemoryRefused, ReadBroke, opening_read}
+use Rattle.bcode.specs.Readers.{CodeReader, HasTaken, TextEnded, StoppedAtLine, MemoryRefused, ReadBroke, StepGives, code_step, opening_read}
 use Rattle.bcode.specs.Stopping.{opens}
 use Rattle.bcode.specs.Streams.{HasNoNewline, IsWholeLine, IsLinePart, AreLines, EndsInLine}
 use Rattle.blang.specs.Text.{joined, body_lines, header_line, definition_text, edition_line, opening, code_lines, IsTextOf, IsCodeText, IsWithinRanges}
@@ -126,6 +128,25 @@ taken_on : (r : CodeReader) (ds : List Definition) (rest left : List ℕ) → Ha
 taken_on r ds rest left h e f =
     sym (same_rest (opening_read r ++ flat_map definition_text ds) rest left (consumed r.first.source.left r.ahead.end.left (opening_read r ++ flat_map definition_text ds) (opening_read r ++ flat_map definition_text ds ++ rest) left e f h.passes.reads.took.bytes))
 
+-- after those before, the text of one more
+one_more : (o : List ℕ) (ds : List Definition) (d : Definition) (left : List ℕ) → o ++ flat_map definition_text (ds ++ d ∷ []) ++ left ≡ o ++ flat_map definition_text ds ++ (definition_text d ++ left)
+one_more o ds d left =
+    let texts : flat_map definition_text (ds ++ d ∷ []) ≡ flat_map definition_text ds ++ definition_text d =
+    flat_map-append definition_text ds (d ∷ []) ∙ ap (λ l. flat_map definition_text ds ++ l) (append-nil (definition_text d)) in
+    ap (λ l. o ++ l ++ left) texts ∙ regroup o (flat_map definition_text ds) (definition_text d) left
+  where
+    regroup : (a b c e : List ℕ) → (a ++ (b ++ c)) ++ e ≡ (a ++ b) ++ (c ++ e)
+    regroup a b c e = simp append_assoc
+
+copied_other : (ds : List Definition) (old new : CodeReader) (before after rest left : List ℕ) → HasTaken old ds → TextGives (λ answer. StepGives old (code_step answer) new) (Ok true) before after
+    → new.first.source.left ≡ Some (opening_read new ++ flat_map definition_text ds ++ rest) → new.ahead.end.left ≡ Some left → after ++ left ≡ before ++ rest
+copied_other ds old new before after rest left h t e f =
+    let d = t.0 in
+    let now = (t.1.1 ds h).now in
+    let whole = consumed new.first.source.left new.ahead.end.left (opening_read new ++ flat_map definition_text (ds ++ d ∷ [])) (opening_read new ++ flat_map definition_text ds ++ rest) left e f now.passes.reads.took.bytes in
+    let same : rest ≡ definition_text d ++ left = same_rest (opening_read new ++ flat_map definition_text ds) rest (definition_text d ++ left) (whole ∙ one_more (opening_read new) ds d left) in
+    ap (λ l. l ++ left) t.2 ∙ append_assoc before (definition_text d) left ∙ ap (λ l. before ++ l) (sym same)
+
 lost_before_failure : (before : List Definition) (d : Definition) (old new : CodeReader) (more : List ℕ) → IsWithinRanges d
     → opening_read old ≡ opening old.first.edition → old.ahead.end.left ≡ Some (definition_text d ++ more)
     → new.ahead.end.left ≡ Some more → ReadBroke before old new → ⊥
@@ -181,5 +202,6 @@ excluded = record {
   lost_before_failure = lost_before_failure;
   held_back = held_back;
   other_edition = other_edition;
+  copied_other = copied_other;
   unseen_end = λ before old new unseen h. let e = h.over in cc;
 }

@@ -8,7 +8,6 @@ use Rattle.std.specs.Io.{StartsWith}
 use Rattle.std.proofs.lemmas.List.{take-take}
 use Rattle.std.proofs.Math.Seq.{take-append_seam}
 use Rattle.bword.specs.ByteEnds.{Incoming, Took, Fails, Grew, NextGives, CanFollow, TakesReady}
-use Rattle.bword.specs.declared.ends.Device.{Device}
 use Rattle.std.proofs.KnownBytes.{Consumes-nil, Consumes-kept}
 use Rattle.bword.proofs.Taking.{Took-append, Took-next}
 use Rattle.bcode.specs.Ahead.{Ahead, ReadsLine, RefusesLine, LineGives, SeesEnd}
@@ -135,6 +134,9 @@ module _ {X : Type 0} {spell : X → List ℕ} {within : X → Type 0} {read : L
             let one = first_newline w.before s.before [] rest w.clean s.clean (sym w.ends ∙ text) in
             w.ends ∙ ap (λ l. l ++ 10 ∷ []) one.0 ∙ sym s.ends
         split (inr p) = absurd (no_newline bytes s.before rest p.0 text)
+
+    pub stream_spelled : (x : X) (rest : List ℕ) → read bytes ≡ Some (x, rest) → bytes ≡ spell x
+    stream_spelled x rest e = let h = exact.sound bytes x rest e in spelled x rest h.0 h.1
 
     pub stream_reads : (x : X) (rest : List ℕ) → read bytes ≡ Some (x, rest) → ReadsLine spell within (at old lender line) x (at new lender' (line + 1))
     stream_reads x rest e =

@@ -1,11 +1,13 @@
 -- Promise: what no writer of a code text, no call of `read_code` and no reader does.
-use Rattle.std.specs.Prelude.{◌≡◌, ℕ, suc, ◌≤◌, false, List, [], ◌++◌, length, All, Some, Ok, codes}
+use Rattle.std.specs.Prelude.{◌≡◌, ℕ, suc, ◌≤◌, true, false, List, [], ◌++◌, length, All, Some, Ok, codes}
 use Rattle.std.specs.List.{flat_map}
 use Rattle.bword.specs.ByteEnds.{Outgoing, PutGives}
 use Rattle.bword.specs.declared.edition.Edition.{Edition}
 use Rattle.bword.specs.declared.edition.Edition.TheVariants as editions
+use Rattle.bcode.specs.Copying.{TextGives}
 use Rattle.bcode.specs.Faults.{IsFaultLine, HasHeader}
-use Rattle.bcode.specs.Readers.{CodeReader, HasTaken, TextEnded, StoppedAtLine, MemoryRefused, ReadBroke, opening_read}
+use Rattle.bcode.specs.Readers.{CodeReader, HasTaken, TextEnded, StoppedAtLine, MemoryRefused, ReadBroke, StepGives, code_step}
+use Rattle.bcode.specs.Readers.{opening_read}
 use Rattle.bcode.specs.Streams.{AreLines}
 use Rattle.blang.specs.Text.{definition_text, opening, IsCodeText, IsWithinRanges}
 use Rattle.blang.specs.declared.code.Definition.{Definition}
@@ -48,3 +50,8 @@ pub record Excluded : Type 0 where
       → new.ahead.end.left ≡ Some [] → TextEnded before old new → ⊥
   pub unseen_end : (before : List Definition) (old new : CodeReader) → new.ahead.end.is_over ≡ false
       → TextEnded before old new → ⊥
+  -- other bytes are copied than those that were taken, or not after the text that was there
+  pub copied_other : (ds : List Definition) (old new : CodeReader) (before after rest left : List ℕ) → HasTaken old ds
+      → TextGives (λ answer. StepGives old (code_step answer) new) (Ok true) before after
+      → new.first.source.left ≡ Some (opening_read new ++ flat_map definition_text ds ++ rest)
+      → new.ahead.end.left ≡ Some left → after ++ left ≡ before ++ rest

@@ -1,5 +1,5 @@
 -- Inner words: what the first line of a definition tells of it.
-use Rattle.std.specs.Prelude.{ℕ, ◌&&◌, ◌||◌, ◌==◌, nat_le, Bool, true, List, [], ◌∷◌, codes, decimal, length, IsTrue}
+use Rattle.std.specs.Prelude.{ℕ, ◌&&◌, ◌||◌, ◌==◌, nat_le, Bool, true, false, List, [], ◌∷◌, codes, decimal, length, IsTrue}
 use Rattle.bword.specs.Words.{is_name}
 use Rattle.blang.specs.CodeParts.{sizes_of}
 use Rattle.blang.specs.Text.{line}
@@ -44,6 +44,11 @@ header_fits (header.Function name parameters sizes) = function_fits parameters s
 header_fits (header.Simple name values strings) = simple_fits values strings
 header_fits (header.Vector name words values strings) = vector_fits words values strings
 header_fits header.End = true
+
+-- whether it is the last line
+abbrev pub is_end : Header → Bool
+is_end header.End = true
+is_end _ = false
 
 -- a name, where there is one
 abbrev pub IsNamed : Header → Type 0

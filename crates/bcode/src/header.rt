@@ -1,6 +1,6 @@
 //! The first lines of definitions.
 ghost use Rattle.std.specs.Prelude.{◌≡◌};
-ghost use Rattle.bcode.specs.Headers.{function_fits, header_fits, simple_fits, vector_fits};
+ghost use Rattle.bcode.specs.Headers.{function_fits, header_fits, is_end, simple_fits, vector_fits};
 
 use blang::{
     MAX_INSTRUCTIONS, MAX_LABELS, MAX_PARAMETERS, MAX_STRING_WORDS, MAX_VALUES, MAX_WORDS, Sizes,
@@ -30,6 +30,13 @@ pub enum Header {
 }
 
 impl Header {
+    /// Whether it is the last line of a code text.
+    pub fn is_end(&self) -> bool
+        ensures { result ≡ is_end self.now }
+    {
+        matches!(self, Header::End)
+    }
+
     /// Whether its numbers are within the ranges of a code text.
     pub fn fits(&self) -> bool
         ensures { result ≡ header_fits self.now }

@@ -273,6 +273,12 @@ pub struct NumberLine {
     ghost fits: { below ≤ WORD_VALUES },
 }
 
+/// The line of a string word.
+pub const STRING_LINE: NumberLine = NumberLine {
+    letter: b'w',
+    below: WORD_VALUES,
+};
+
 impl LineForm for NumberLine {
     type Value = u16;
 

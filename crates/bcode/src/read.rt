@@ -12,22 +12,16 @@ ghost use Rattle.bcode.specs.declared.header.Header.TheVariants as headers;
 use crate::code_stop::CodeStop;
 use crate::header::Header;
 use crate::line_form::LineForm;
-use crate::lines::{HeaderLine, InstrLine, IvalLine, NumberLine};
+use crate::lines::{HeaderLine, InstrLine, IvalLine, NumberLine, STRING_LINE};
 use crate::reader::CodeReader;
 use crate::stream::Stream;
 use crate::{
     CodeFault, CodeStep, Definition, Function, FunctionParts, Simple, SimpleParts, Vector,
     VectorParts,
 };
-use blang::{Sizes, WORD_VALUES};
+use blang::Sizes;
 use bword::{ByteIn, Edition, MemIn, Name};
 use std::alloc::Global;
-
-// The line of a string word.
-const STRING_LINE: NumberLine = NumberLine {
-    letter: b'w',
-    below: WORD_VALUES,
-};
 
 /// Reads a code text, all of it.
 ///

@@ -1,11 +1,13 @@
 //! The reader of a code text that comes in a stream.
-ghost use Rattle.std.specs.Prelude.{◌≡◌};
+ghost use Rattle.std.specs.Prelude.{◌≡◌, false};
 ghost use Rattle.bcode.specs.Ahead.{NextDefinitionGives, OpeningGives, EndingGives};
 ghost use Rattle.bcode.specs.CodeExcluded.{Excluded};
-ghost use Rattle.bcode.specs.Readers.{SameReader, StepGives, reader_start, to_open};
+ghost use Rattle.bcode.specs.Copying.{TextGives, is_last_text};
+ghost use Rattle.bcode.specs.Readers.{SameReader, StepGives, code_step, reader_start, to_open};
 ghost use Rattle.bcode.specs.Readers as readers;
 
 use crate::code_stop::CodeStop;
+use crate::copy::copy_definition;
 use crate::read::next_definition;
 use crate::stream::Stream;
 use crate::{CodeFault, CodeStep, Definition};
@@ -75,6 +77,21 @@ impl<I: ByteIn> CodeReader<I> {
         step
     }
 
+    /// Reads the next definition as `next` does, and puts its text after another one; or tells that there is none.
+    ///
+    /// It is for a reader that has answered nothing but definitions.
+    pub fn copy_next(&mut self, text: &mut Vec<u8>) -> Result<bool, CodeStop>
+        requires { self.old.is_closed ≡ false }
+        ensures gives { TextGives (λ r. StepGives self.old (code_step r) self.new) result text.old.items text.new.items }
+        ensures keeps { SameReader self.old self.new }
+    {
+        let opens = self.opens();
+        self.is_begun = true;
+        let result = copy_next(opens, &mut self.lines, text);
+        self.is_closed = is_last(&result);
+        result
+    }
+
     /// The stream, after the bytes that were taken.
     pub fn into_end(self) -> I
         ensures end { I.incoming result ≡ self.ahead.end }
@@ -110,6 +127,29 @@ fn read_next<I: ByteIn>(
             Ok(None)
         }
     }
+}
+
+// The same with its text in its place.
+fn copy_next<I: ByteIn>(
+    opens: bool,
+    lines: &mut Stream<I>,
+    text: &mut Vec<u8>,
+) -> Result<bool, CodeStop>
+    ensures { TextGives (λ r. NextDefinitionGives opens lines.old r lines.new) result text.old.items text.new.items }
+{
+    read_opening(opens, lines)?;
+    if copy_definition(lines, text)? {
+        return Ok(true);
+    }
+    read_end(lines)?;
+    Ok(false)
+}
+
+// Whether nothing comes after it.
+fn is_last(answer: &Result<bool, CodeStop>) -> bool
+    ensures { result ≡ is_last_text answer.now }
+{
+    !matches!(answer, Ok(true))
 }
 
 // The line that the text begins with, if it is still to be read.

@@ -1,6 +1,7 @@
 //! The lines of a text that comes byte by byte.
-ghost use Rattle.std.specs.Prelude.{◌≡◌, ◌≤◌, length, OnOk};
+ghost use Rattle.std.specs.Prelude.{◌≡◌, ◌<◌, ◌≤◌, length, OnOk};
 ghost use Rattle.bcode.specs.Ahead.{LineGives, EndGives};
+ghost use Rattle.bcode.specs.Copying.{BeginsWith, RunGives};
 ghost use Rattle.bcode.specs.LineReading.{IsForm};
 ghost use Rattle.bcode.specs.Streams.{TakingGives};
 ghost use Rattle.blang.specs.Text.{edition_line};
@@ -116,6 +117,67 @@ impl<I: ByteIn> Stream<I> {
         self.line += 1;
         Ok(found.0)
     }
+
+    /// Takes lines of this form, one at least and so many at most, and puts them after a text.
+    pub fn copy<F: LineForm>(
+        &mut self,
+        form: F,
+        most: u16,
+        text: &mut Vec<u8>,
+    ) -> Result<u16, CodeStop>
+        requires shape { IsForm (F.spell form) (F.within form) (F.reader form) }
+        requires some { 0 < most }
+        ensures { RunGives (F.spell form) (F.within form) most self.old text.old.items result self.new text.new.items }
+    {
+        let ahead = self.input.ahead();
+        let (count, rest) = lines_at(form, most, ahead);
+        if count == 0 {
+            return self.copy_one(form, most, text);
+        }
+        let len = ahead.len() - rest.len();
+        text.extend_from_slice(&ahead[..len])?;
+        self.input.take(len);
+        self.line += u64::from(count);
+        Ok(count)
+    }
+
+    // The same of one line, as `fetch` takes it.
+    #[cold]
+    #[inline(never)]
+    fn copy_one<F: LineForm>(
+        &mut self,
+        form: F,
+        most: u16,
+        text: &mut Vec<u8>,
+    ) -> Result<u16, CodeStop>
+        requires shape { IsForm (F.spell form) (F.within form) (F.reader form) }
+        requires some { 0 < most }
+        ensures { RunGives (F.spell form) (F.within form) most self.old text.old.items result self.new text.new.items }
+    {
+        read_line(&mut self.input, &mut self.bytes)?;
+        let Some(_) = form.read_from(self.bytes.as_slice()) else {
+            return Err(CodeStop::Fault(CodeFault::Line(self.line)));
+        };
+        self.line += 1;
+        text.extend_from_slice(self.bytes.as_slice())?;
+        Ok(1)
+    }
+}
+
+// How many lines of a form a text begins with, up to so many, and the text after them.
+fn lines_at<F: LineForm>(form: F, most: u16, text: &[u8]) -> (u16, &[u8])
+    requires { IsForm (F.spell form) (F.within form) (F.reader form) }
+    ensures few { result.0 ≤ most }
+    ensures lines { BeginsWith (F.spell form) (F.within form) result.0 text.now result.1.now }
+{
+    let mut rest = text;
+    for count in 0..most {
+        let Some((_, following)) = form.read_from(rest) else {
+            return (count, rest);
+        };
+        rest = following;
+    }
+    (most, rest)
 }
 
 // Takes a line, or as much of one as tells that it is none of a code text.

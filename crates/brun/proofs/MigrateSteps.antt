@@ -11,7 +11,7 @@ use Rattle.bword.specs.declared.edition.Edition.TheVariants as editions
 use Rattle.bword.proofs.Putting.{Writes-none, Writes-append, Refuses-following, Refuses-short}
 use Rattle.bword.proofs.Taking.{Took-none}
 use Rattle.bcode.specs.Ahead.{TakesBytes}
-use Rattle.bcode.specs.Readers.{CodeReader, GivesAfter, all_ahead, opening_read, HasTaken, Gave, TextEnded, StoppedAtLine, MemoryRefused, ReadBroke, SameReader, stop_of}
+use Rattle.bcode.specs.Readers.{CodeReader, GivesAfter, all_ahead, opening_read, HasTaken, Gave, TextEnded, StoppedAtLine, MemoryRefused, ReadBroke, SameReader, StepGives, code_step, stop_of}
 use Rattle.bcode.specs.declared.code_step.CodeStep.TheVariants as step
 use Rattle.blang.specs.Text.{opening, header_line, definition_text, end_text, IsTextOf, IsWithinRanges}
 use Rattle.bcode.specs.Faults.{IsFaultLineIn}
@@ -114,7 +114,7 @@ module _ (old r new : CodeReader) (opened now : Outgoing) (one : old.first.editi
             h.none more can d rest inside
             (spelled more ∙ ap (λ l. flat_map definition_text ds ++ l) same ∙ ap (λ t. t ++ flat_map definition_text ds ++ (definition_text d ++ rest)) (sym (ap opening first_one)))
 
-    pub broke : ReadBroke ds r new → RewritingGives (at now) (Err stop.Device)
+    broke : ReadBroke ds r new → RewritingGives (at now) (Err stop.Device)
     broke h =
         let before = reads_texts r ds first_one p.since in
         let same = p.keeps.first in
@@ -161,9 +161,14 @@ module _ (old r new : CodeReader) (opened now : Outgoing) (one : old.first.editi
         comes : h.taken ≡ flat_map definition_text ds ++ (header_line h.next ++ h.rest)
         comes = h.spelled ∙ ap (λ t. t ++ flat_map definition_text ds ++ (header_line h.next ++ h.rest)) (ap opening first_one)
 
-    pub faulted : (why : CodeFault) → GivesAfter ds r (step.Fault why) new → RewritingGives (at now) (Err (stop.Fault why))
+    faulted : (why : CodeFault) → GivesAfter ds r (step.Fault why) new → RewritingGives (at now) (Err (stop.Fault why))
     faulted (code_fault.Line n) h = stopped n h
     faulted code_fault.Memory h = no_room h
+
+    -- no definition was read, and not the end
+    pub stopped_by : (why : CodeStop) → StepGives r (code_step (Err why)) new → RewritingGives (at now) (Err why)
+    stopped_by (stop.Fault why) h = faulted why (h.1 ds p.since)
+    stopped_by stop.Device h = broke (h.1 ds p.since)
 
     -- the last line was written
     pub ended : (last : Outgoing) → TextEnded ds r new → Writes now end_text last → RewritingGives (at last) (Ok tt)
@@ -242,10 +247,10 @@ module _ (old r new : CodeReader) (opened now : Outgoing) (one : old.first.editi
 pub passing_none : (r : CodeReader) (out : Outgoing) → HasTaken r [] → Passing r out r out
 passing_none r out s = record { definitions = []; since = s; written = Writes-none out; keeps = record { first = refl; lender = refl } }
 
--- the exit of a `?` after a write
-pub refused_exit : (w : Rewriting) (r : Result (Unit {0}) CodeStop) (fault : EndFault) → IsErrAnd r (λ h. h ≡ stop_of fault) → RewritingGives w (Err (stop_of fault)) → RewritingGives w r
-refused_exit w (Ok u) fault same gives = absurd same
-refused_exit w (Err h) fault same gives = subst (λ (e : CodeStop). RewritingGives w (Err e)) (sym same) gives
+-- the exit of a `?`
+pub stop_exit : (w : Rewriting) (r : Result (Unit {0}) CodeStop) (why : CodeStop) → IsErrAnd r (λ h. h ≡ why) → RewritingGives w (Err why) → RewritingGives w r
+stop_exit w (Ok u) why same gives = absurd same
+stop_exit w (Err h) why same gives = subst (λ (e : CodeStop). RewritingGives w (Err e)) (sym same) gives
 
 -- the first line was refused, before anything was read
 begin_failed : (input : Incoming) (out following : Outgoing) (fault : EndFault) → Refuses out (opening editions.Two) fault following

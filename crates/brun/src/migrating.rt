@@ -6,7 +6,7 @@ ghost use Rattle.brun.specs.Migrates.{Migrates, RewritingGives, DefinitionsGive,
 ghost use Rattle.brun.specs.Unmigrated.{Unmigrated};
 
 use crate::text::refuse;
-use bcode::{CodeReader, CodeStep, CodeStop, write_begin, write_definition, write_end};
+use bcode::{CodeReader, CodeStop, write_begin, write_end};
 use blang::status::{self, Status};
 use bword::{ByteIn, ByteOut, Edition};
 use std::alloc::Global;
@@ -46,14 +46,15 @@ fn migrate_code<I: ByteIn, O: ByteOut>(
 {
     write_begin(Edition::Two, out)?;
     let mut reader = CodeReader::new(alloc, input, Edition::One);
-    let result = write_definitions(&mut reader, out);
+    let result = copy_definitions(alloc, &mut reader, out);
     let input = reader.into_end();
     let _ = input;
     result
 }
 
-// Writes each definition that comes, and the last line at the end.
-fn write_definitions<I: ByteIn, O: ByteOut>(
+// Writes the text of each definition that comes as it was read, and the last line at the end.
+fn copy_definitions<I: ByteIn, O: ByteOut>(
+    alloc: Global,
     reader: &mut CodeReader<I>,
     out: &mut O,
 ) -> Result<(), CodeStop>
@@ -63,14 +64,13 @@ fn write_definitions<I: ByteIn, O: ByteOut>(
     ensures keeps { SameReader reader.old reader.new }
     ensures out_lender { O.lender out.new ≡ O.lender out.old }
 {
+    let mut text = Vec::new(alloc);
     'definitions: loop {
-        match reader.next() {
-            CodeStep::Definition(definition) => write_definition(definition.view(), out)?,
-            CodeStep::End => return Ok(write_end(out)?),
-            CodeStep::Fault(fault) => return Err(CodeStop::Fault(fault)),
-            CodeStep::Device => return Err(CodeStop::Device),
-            CodeStep::Closed => unreachable!(),
+        text.clear();
+        if !reader.copy_next(&mut text)? {
+            return Ok(write_end(out)?);
         }
+        out.put(text.as_slice())?;
     }
 }
 

@@ -1,6 +1,6 @@
 use Rattle.std.specs.Prelude.{◌≡◌}
 use Rattle.brun.proofs.MigrateSteps.{Passing}
-use Rattle.brun.proofs.migrating.write_definitions.Given as goal
+use Rattle.brun.proofs.migrating.copy_definitions.Given as goal
 
 abbrev pub invariant-definitions : goal.invariant-definitions
 invariant-definitions g l =

@@ -1,0 +1,66 @@
+-- Promise: what copying some lines takes from where they come from, and puts after a text.
+use Rattle.std.specs.Prelude.{◌≡◌, ℕ, ◌<◌, ◌≤◌, Bool, true, false, List, ◌++◌, length, All, Option, Some, None, Result, Ok, Err}
+use Rattle.std.specs.List.{flat_map}
+use Rattle.blang.specs.Text.{joined, definition_text}
+use Rattle.blang.specs.declared.code.Definition.{Definition}
+use Rattle.bcode.specs.Ahead.{Ahead, TakesText, RefusesLine, BreaksLine, ReadsLines, LinesGive, AreFirst, EndsAmong}
+use Rattle.bcode.specs.Stopping.{LineKind}
+use Rattle.bcode.specs.declared.fault.CodeFault.TheVariants as fault
+use Rattle.bcode.specs.declared.code_stop.CodeStop.{CodeStop}
+use Rattle.bcode.specs.declared.code_stop.CodeStop.TheVariants as stop
+
+module _ {X : Type 0} (spell : X → List ℕ) (within : X → Type 0) where
+  -- A text begins with so many such lines.
+  pub record BeginsWith (count : ℕ) (text rest : List ℕ) : Type 0 where
+    pub values : List X
+    pub all : length values ≡ count
+    pub inside : All within values
+    pub split : text ≡ flat_map spell values ++ rest
+
+  -- So many lines were read and copied.
+  pub record CopiesLines (count : ℕ) (old : Ahead) (before : List ℕ) (new : Ahead) (after : List ℕ) : Type 0 where
+    pub values : List X
+    pub reads : ReadsLines spell within count old values new
+    pub copied : after ≡ before ++ flat_map spell values
+
+  -- At most so many lines were read.
+  pub record ReadsSome (most : ℕ) (old new : Ahead) : Type 0 where
+    pub count : ℕ
+    pub few : count ≤ most
+    pub values : List X
+    pub reads : ReadsLines spell within count old values new
+
+  -- copies some lines, at least one and at most so many; or not even one comes
+  abbrev pub RunGives : ℕ → Ahead → List ℕ → Result ℕ CodeStop → Ahead → List ℕ → Type 0
+  RunGives most old before (Ok n) new after = (0 < n) × (n ≤ most) × CopiesLines n old before new after
+  RunGives most old before (Err (stop.Fault (fault.Line n))) new after = RefusesLine spell within old n new
+  RunGives most old before (Err (stop.Fault fault.Memory)) new after = ReadsSome most old new
+  RunGives most old before (Err stop.Device) new after = BreaksLine spell within old new
+
+  -- copies so many lines
+  abbrev pub CopyGives : ℕ → Ahead → List ℕ → Result (Unit {0}) CodeStop → Ahead → List ℕ → Type 0
+  CopyGives count old before (Ok u) new after = CopiesLines count old before new after
+  CopyGives count old before (Err why) new after = LinesGive spell within {V = List X} (λ xs. xs) count old (Err why) new
+
+-- Lines of these kinds were read and copied.
+pub record CopiesKinds (kinds : List LineKind) (old : Ahead) (before : List ℕ) (new : Ahead) (after : List ℕ) : Type 0 where
+  pub lines : List (List ℕ)
+  pub first : AreFirst lines kinds
+  pub all : length lines ≡ length kinds
+  pub passes : TakesText old (joined lines) (length lines) new
+  pub copied : after ≡ before ++ joined lines
+
+abbrev pub KindsGive : List LineKind → Ahead → List ℕ → Result (Unit {0}) CodeStop → Ahead → List ℕ → Type 0
+KindsGive kinds old before (Ok u) new after = CopiesKinds kinds old before new after
+KindsGive kinds old before (Err why) new after = EndsAmong kinds old why new
+
+-- what reading a definition gives, where its text is put after another one in its place
+abbrev pub TextGives : (Result (Option Definition) CodeStop → Type 0) → Result Bool CodeStop → (before after : List ℕ) → Type 0
+TextGives gives (Ok true) before after = (d : Definition) × gives (Ok (Some d)) × (after ≡ before ++ definition_text d)
+TextGives gives (Ok false) before after = gives (Ok None)
+TextGives gives (Err why) before after = gives (Err why)
+
+-- whether nothing comes after such an answer
+abbrev pub is_last_text : Result Bool CodeStop → Bool
+is_last_text (Ok true) = false
+is_last_text _ = true
