@@ -1,5 +1,5 @@
 /* Wrong: it returns nothing, so each call gives 0. */
-/* Told: power changes its own words, and nothing else */
+/* Told: use the value of power, and power returns none */
 power(b, n) {
     auto product;
 

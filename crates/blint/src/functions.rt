@@ -143,5 +143,8 @@ pub(crate) fn changes_nothing(look: &Look<'_>) -> Option<Remark> {
     if !changes || look.locals.parameters() == 0 {
         return None;
     }
-    Remark::new(0, Warning::ChangesNothing)
+    Some(Remark {
+        definition: look.defined.place(&look.tree.tokens.name(0)?)?,
+        ..Remark::new(0, Warning::ChangesNothing)?
+    })
 }

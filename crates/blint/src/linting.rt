@@ -45,9 +45,13 @@ pub fn lint(alloc: Global, program: &Program<'_>) -> Result<Vec<Caution>, AllocE
     let mut linting = Linting {
         defined: Defined::new(alloc, program)?,
         told: Vec::new(alloc),
+        used: Vec::new(alloc),
         found: Vec::new(alloc),
         sure: 0,
     };
+    for _ in program.ends {
+        linting.used.push(false)?;
+    }
     let mut reader = TokenReader::new(program);
     let mut tokens = Tokens::new(alloc, program.text);
     let mut first: usize = 0;
@@ -76,6 +80,8 @@ struct Linting<'a> {
     defined: Defined<'a>,
     /// What the tokens of each definition tell.
     told: Vec<Told>,
+    /// Whether the value of each is used.
+    used: Vec<bool>,
     found: Vec<Supposed>,
     /// How many of these hang on no definition.
     sure: usize,
@@ -116,6 +122,11 @@ impl Linting<'_> {
         let Some(remark) = remark else {
             return Ok(());
         };
+        if remark.is_value {
+            if let Some(used) = self.used.get_mut(remark.definition) {
+                *used = true;
+            }
+        }
         if self.sure >= MOST_CAUTIONS {
             return Ok(());
         }
@@ -167,6 +178,10 @@ impl Linting<'_> {
                     related: Some(told.place),
                     ..caution
                 });
+            }
+            // A value that is used is missing there.
+            Warning::ChangesNothing if self.used.get(supposed.definition) == Some(&false) => {
+                Warning::ChangesNothing
             }
             _ if is_unused => return None,
             _ => Warning::NoReturn,

@@ -1,4 +1,5 @@
 f(x) {
     if(x=1)
         x=-1;
+    return(x);
 }
