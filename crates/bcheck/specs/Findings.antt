@@ -89,6 +89,12 @@ warning_code warning.LoopUnchanged = codes "lp"
 warning_code warning.Indented = codes "la"
 warning_code warning.Overwritten = codes "us"
 warning_code warning.MainParameters = codes "ma"
+warning_code warning.StringsAdded = codes "st"
+warning_code warning.OrConstant = codes "pr"
+warning_code warning.AssignsItself = codes "op"
+warning_code warning.PassesOldValue = codes "ar"
+warning_code warning.ValueDropped = codes "no"
+warning_code warning.EndlessLoop = codes "lp"
 
 -- by which code each matter is known
 abbrev pub matter_code : Matter → List ℕ

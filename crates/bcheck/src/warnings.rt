@@ -124,5 +124,17 @@ pub(crate) fn advice_of(warning: Warning) -> (&'static str, &'static str, &'stat
         Warning::MainParameters =>
             ("ma", "main gets no arguments: its parameters are 0",
              "main() .., and getstr(s); of lib/input.b reads a line"),
+        Warning::StringsAdded =>
+            ("st", "this adds two addresses, and joins no strings",
+             "write one after the other: putstr(s); putstr(t); of lib/print.b"),
+        Warning::OrConstant =>
+            ("pr", "this constant is compared with nothing", "name both comparisons: c == 'a' | c == 'e'"),
+        Warning::AssignsItself => ("op", "this stores the old value again", "i++; by itself counts"),
+        Warning::PassesOldValue =>
+            ("ar", "the call gets @ before it is counted", "hand the next value on: f(n - 1)"),
+        Warning::ValueDropped =>
+            ("no", "nothing is done with the value of this operator", "return(f() + g()); or x = f() + g();"),
+        Warning::EndlessLoop =>
+            ("lp", "nothing leaves this loop", "a return, a goto, or a condition that gets 0 leaves it"),
     }
 }

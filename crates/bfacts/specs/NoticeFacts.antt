@@ -13,8 +13,8 @@ use Rattle.btree.specs.declared.nodes.Node.{Node}
 use Rattle.btree.specs.declared.nodes.Node.TheVariants as node
 use Rattle.brules.specs.declared.rules.Rule.{Rule}
 use Rattle.brules.specs.declared.rules.Rule.TheVariants as rule
-use Rattle.brules.specs.Rules.{decided, is_arithmetic, is_comparison, of_idle, told_between}
-use Rattle.brules.specs.Telling.{empty_if, is_or_constant, is_same_name}
+use Rattle.brules.specs.Rules.{decided, drops, is_arithmetic, is_comparison, is_constant, of_idle, told_between}
+use Rattle.brules.specs.Telling.{empty_if, is_compared, is_same_name}
 use Rattle.brules.specs.Views.{is_counted, view}
 
 -- | & == != < <= > >= << >> - + % * /
@@ -50,12 +50,12 @@ after_bits = refl
 
 -- which parts are words of any value
 words_beside_bits : map (λ n. told_between op.And n (node.Binary op.Ne)) nodes
-    ≡ replicate 4 (Some rule.BitsCompared) ++ replicate 19 None
+    ≡ replicate 4 (Some rule.BitsCompared) ++ (replicate 7 None ++ Some rule.BitsCompared ∷ replicate 11 None)
 words_beside_bits = refl
 
-no_word_beside_bits : map (λ n. told_between op.Or n (node.Binary op.Ne))
-    (node.Not ∷ map (λ o. node.Binary o) operators) ≡ replicate 16 None
-no_word_beside_bits = refl
+numbers_beside_bits : map (λ n. told_between op.Or n (node.Binary op.Ne))
+    (node.Not ∷ map (λ o. node.Binary o) operators) ≡ replicate 9 None ++ replicate 7 (Some rule.BitsCompared)
+numbers_beside_bits = refl
 
 -- !a before each operator, with a word and with another ! on the other side
 after_not : map (λ o. told_between o node.Not node.Name) operators
@@ -95,26 +95,28 @@ strings_added : map (λ n. told_between op.Add n node.Text) nodes
     ≡ replicate 4 None ++ Some rule.StringsAdded ∷ replicate 18 None
 strings_added = refl
 
--- a|a==a|1: a constant after each operator, after what each operator gives, and after a | after a comparison
-constants_after : map (λ o. is_or_constant o (node.Binary op.Eq) node.Name node.Constant) operators
-    ≡ true ∷ replicate 14 false
-constants_after = refl
+-- a==a|1: what is compared before each operator, and after what each operator gives
+compared_before : map (λ o. is_compared o (node.Binary op.Eq) node.Name) operators ≡ true ∷ true ∷ replicate 13 false
+compared_before = refl
 
-constants_beside : map (λ o. is_or_constant op.Or (node.Binary o) node.Name node.Constant) operators
-    ≡ replicate 2 false ++ replicate 6 true ++ replicate 7 false
-constants_beside = refl
+compared_beside : map (λ outer. map (λ o. is_compared outer (node.Binary o) node.Name) operators) (op.Or ∷ op.And ∷ [])
+    ≡ replicate 2 (replicate 2 false ++ (replicate 6 true ++ replicate 7 false))
+compared_beside = refl
 
-constants_further : map (λ o. is_or_constant op.Or (node.Binary op.Or) (node.Binary o) node.Constant) operators
-    ≡ replicate 2 false ++ replicate 6 true ++ replicate 7 false
-constants_further = refl
+compared_last : map (λ outer. map (λ o. is_compared outer (node.Binary outer) (node.Binary o)) operators)
+    (op.Or ∷ op.And ∷ [])
+    ≡ replicate 2 (replicate 2 false ++ (replicate 6 true ++ replicate 7 false))
+compared_last = refl
 
-constants_alone : map (λ n. is_or_constant op.Or (node.Binary op.Eq) node.Name n) nodes
-    ≡ false ∷ true ∷ replicate 21 false
-constants_alone = refl
+compared_across : is_compared op.Or (node.Binary op.And) (node.Binary op.Eq)
+    ∷ is_compared op.And (node.Binary op.Or) (node.Binary op.Eq) ∷ [] ≡ false ∷ false ∷ []
+compared_across = refl
 
-no_truths : map (λ n. is_or_constant op.Or n (node.Binary op.Eq) node.Constant) (node.Not ∷ nodes)
-    ≡ replicate 24 false
-no_truths = refl
+not_compared : map (λ n. is_compared op.Or n (node.Binary op.Eq)) (node.Not ∷ nodes) ≡ replicate 24 false
+not_compared = refl
+
+constants : map is_constant (node.Not ∷ nodes) ≡ false ∷ false ∷ true ∷ replicate 21 false
+constants = refl
 
 -- names and other tokens
 same_names : is_same_name (lexeme.Name (codes "ab")) (lexeme.Name (codes "ab"))
@@ -132,32 +134,37 @@ counted_alone : map (λ n. is_counted node.PostDecrement n) nodes ≡ true ∷ r
 counted_alone = refl
 
 -- what a condition assigns: each last part, and each operator with =
-assigned_parts : map (λ n. decided (node.Assigned None) n) nodes
+assigned_parts : map (λ n. decided (node.Assigned None) n true) nodes
     ≡ replicate 2 (Some rule.ConditionAssigns) ++ None ∷ None ∷ Some rule.ConditionAssigns ∷ (replicate 6 None
     ++ Some rule.ConditionAssigns ∷ replicate 11 None)
 assigned_parts = refl
 
-assigned_values : map (λ o. decided (node.Assigned None) (node.Binary o)) operators
+assigned_calls : map (λ o. decided (node.Assigned None) (node.Binary o) true) operators
     ≡ replicate 2 None ++ replicate 6 (Some rule.AssignsComparison) ++ replicate 7 None
+assigned_calls = refl
+
+assigned_values : map (λ o. decided (node.Assigned None) (node.Binary o) false) operators
+    ≡ replicate 2 None ++ replicate 2 (Some rule.AssignsComparison) ++ replicate 11 None
 assigned_values = refl
 
-assigning_operators : map (λ o. decided (node.Assigned (Some o)) node.Constant) operators
+assigning_operators : map (λ o. decided (node.Assigned (Some o)) node.Constant true) operators
     ≡ None ∷ None ∷ Some rule.ConditionAssigns ∷ replicate 5 (Some rule.AssignsCompared)
     ++ None ∷ None ∷ Some rule.ConditionAssigns ∷ replicate 4 None
 assigning_operators = refl
 
-minus_assigns : map (λ n. decided (node.Assigned (Some op.Sub)) n) nodes
+minus_assigns : map (λ n. decided (node.Assigned (Some op.Sub)) n true) nodes
     ≡ None ∷ Some rule.ConditionAssigns ∷ replicate 21 None
 minus_assigns = refl
 
-equals_assigns : map (λ n. decided (node.Assigned (Some op.Eq)) n) nodes ≡ replicate 23 (Some rule.ConditionAssigns)
+equals_assigns : map (λ n. decided (node.Assigned (Some op.Eq)) n true) nodes
+    ≡ replicate 23 (Some rule.ConditionAssigns)
 equals_assigns = refl
 
-deciding : map (λ n. decided n node.Constant) nodes
+deciding : map (λ n. decided n node.Constant true) nodes
     ≡ replicate 16 None ++ Some rule.ConditionAssigns ∷ Some rule.ConditionAssigns ∷ replicate 5 None
 deciding = refl
 
-not_deciding : map (λ o. decided (node.Binary o) node.Constant) operators ≡ replicate 15 None
+not_deciding : map (λ o. decided (node.Binary o) node.Constant true) operators ≡ replicate 15 None
 not_deciding = refl
 
 -- a body that is a ;, by the token after it
@@ -179,6 +186,18 @@ arithmetic = refl
 
 no_arithmetic : map is_arithmetic (node.Not ∷ nodes) ≡ replicate 24 false
 no_arithmetic = refl
+
+-- after -f(); ..: which nodes a statement drops, with a call as the last part and with another one
+dropping_calls : map (λ n. drops n node.Called) (node.Not ∷ nodes)
+    ≡ true ∷ false ∷ false ∷ true ∷ true ∷ replicate 7 false ++ true ∷ replicate 11 false
+dropping_calls = refl
+
+dropping_names : map (λ n. drops n node.Name) (node.Not ∷ nodes)
+    ≡ true ∷ false ∷ false ∷ true ∷ replicate 8 false ++ true ∷ replicate 11 false
+dropping_names = refl
+
+dropping_operators : map (λ o. drops (node.Binary o) node.Called) operators ≡ replicate 8 false ++ replicate 7 true
+dropping_operators = refl
 
 idle_nodes : map of_idle nodes ≡ rule.NameAlone ∷ replicate 22 rule.NoEffect
 idle_nodes = refl

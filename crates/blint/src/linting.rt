@@ -108,7 +108,7 @@ impl Linting<'_> {
             further.say(calls_itself(&look))?;
         }
         quoted_in(tokens, &mut remarks)?;
-        ruled_in(alloc, &tree, &mut remarks)?;
+        ruled_in(alloc, &tree, &locals, &mut remarks)?;
         for token in 0..tokens.len() {
             if is_own {
                 self.push(tokens, remarks.at(token))?;

@@ -42,6 +42,7 @@ pub(crate) struct Statement {
 pub(crate) struct Tree<'a> {
     pub tokens: &'a Tokens<'a>,
     pub nodes: Vec<NodeTag>,
+    pub tags: Vec<Tag>,
     pub branches: Vec<Branch>,
     pub statements: Vec<Statement>,
     /// For each token the branch that it makes, and the innermost statement that it is in.
@@ -52,21 +53,22 @@ pub(crate) struct Tree<'a> {
 impl<'a> Tree<'a> {
     pub(crate) fn new(alloc: Global, tokens: &'a Tokens<'a>) -> Result<Self, AllocError> {
         let nodes = nodes_of(alloc, tokens.all())?;
+        let mut sorts = Vec::new(alloc);
+        for lexeme in tokens.all() {
+            sorts.push(Sort::of(*lexeme))?;
+        }
+        let tags = tags_of(alloc, sorts.as_slice())?;
         let mut tree = Tree {
             tokens,
             nodes,
+            tags,
             branches: Vec::new(alloc),
             statements: Vec::new(alloc),
             made: Vec::new(alloc),
             around: Vec::new(alloc),
         };
         tree.grow(alloc)?;
-        let mut sorts = Vec::new(alloc);
-        for lexeme in tokens.all() {
-            sorts.push(Sort::of(*lexeme))?;
-        }
-        let tags = tags_of(alloc, sorts.as_slice())?;
-        tree.frame(alloc, tags.as_slice())?;
+        tree.frame(alloc)?;
         Ok(tree)
     }
 
@@ -124,18 +126,18 @@ impl<'a> Tree<'a> {
         }
     }
 
-    // Takes the constructs of these tags.
-    fn frame(&mut self, alloc: Global, tags: &[Tag]) -> Result<(), AllocError> {
+    // Takes the constructs of the tags.
+    fn frame(&mut self, alloc: Global) -> Result<(), AllocError> {
         let mut open: Vec<usize> = Vec::new(alloc);
-        for tag in tags {
+        for place in 0..self.tags.len() {
             let innermost = open.last().copied().unwrap_or(NONE);
-            match tag {
-                Tag::Begins(construct) => {
+            match self.tags.get(place).copied() {
+                Some(Tag::Begins(construct)) => {
                     open.push(self.statements.len())?;
-                    self.begin(*construct, innermost)?;
+                    self.begin(construct, innermost)?;
                 }
-                Tag::Token => self.around.push(innermost)?,
-                Tag::Ends => {
+                None | Some(Tag::Token) => self.around.push(innermost)?,
+                Some(Tag::Ends) => {
                     let _ = open.pop();
                     self.end(innermost);
                 }

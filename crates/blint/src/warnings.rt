@@ -55,4 +55,10 @@ pub enum Warning {
     Indented,
     Overwritten,
     MainParameters,
+    StringsAdded,
+    OrConstant,
+    AssignsItself,
+    PassesOldValue,
+    ValueDropped,
+    EndlessLoop,
 }

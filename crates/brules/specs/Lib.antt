@@ -4,4 +4,7 @@ pub mod Telling
 pub mod Notices
 pub mod Fold
 pub mod NoticeRows
+pub mod Loops
+pub mod Constructs
+pub mod LoopRows
 pub mod ValueRows

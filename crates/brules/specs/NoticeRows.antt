@@ -16,7 +16,7 @@ use Rattle.brules.specs.declared.rules.Rule.TheVariants as rule
 use Rattle.brules.specs.Notices.{definition_notices, notices, statement_notices}
 use Rattle.brules.specs.Telling.{notice}
 
-abbrev lexemes : Walk → List Lexeme
+abbrev pub lexemes : Walk → List Lexeme
 lexemes w = map lexeme_of (map bare (tokens_in w))
 
 abbrev told : Expr → List Notice
@@ -28,22 +28,22 @@ stated s = statement_notices (lexemes (walk_statement s)) s 0
 abbrev defined : Definition → List Notice
 defined d = definition_notices (lexemes (walk_definition d)) d
 
-abbrev name : List ℕ → Identifier
+abbrev pub name : List ℕ → Identifier
 name text = record { text = text; line = 1 }
 
-abbrev a : Identifier
+abbrev pub a : Identifier
 a = name (codes "a")
 
-abbrev x : Expr
+abbrev pub x : Expr
 x = Named a
 
 abbrev y : Expr
 y = Named (name (codes "y"))
 
-abbrev n : ℕ → Expr
+abbrev pub n : ℕ → Expr
 n k = Literal (Number k)
 
-abbrev one : Expr
+abbrev pub one : Expr
 one = n 1
 
 abbrev minus_one : Expr
@@ -52,20 +52,20 @@ minus_one = Prefixed Negate 1 one
 abbrev s : Expr
 s = Text [] 0
 
-abbrev b : BinOp → Expr → Expr → Expr
+abbrev pub b : BinOp → Expr → Expr → Expr
 b op e f = Binary op 1 e f
 
-abbrev set : Expr → Expr → Expr
+abbrev pub set : Expr → Expr → Expr
 set e f = Assigned None 1 e f
 
-abbrev not : Expr → Expr
+abbrev pub not : Expr → Expr
 not e = Prefixed Not 1 e
 
-abbrev word : Expr
+abbrev pub word : Expr
 word = Indexed x one
 
 -- a()   getchar()   char(a,1)
-abbrev call : Expr
+abbrev pub call : Expr
 call = Called x No_arguments
 
 abbrev input : Expr
@@ -75,18 +75,20 @@ abbrev character : Expr
 character = Called (Named (name (codes "char"))) (Another (Another No_arguments x) one)
 
 -- the same rule at each of these tokens, one a tree; and trees of which nothing is said
-abbrev each : Rule → List ℕ → List (List Notice)
+abbrev pub each : Rule → List ℕ → List (List Notice)
 each r tokens = map (λ token. notice r token ∷ []) tokens
 
-abbrev silent : ℕ → List (List Notice)
+abbrev pub silent : ℕ → List (List Notice)
 silent count = replicate count []
 
--- a&1==1   a&a==1   a[1]|a==1   *a&a!=1; a()&a==1   a==1&a==1   a&(a==1)   a&a<1   (a&1)==1   a+a==1
+-- a&1==1   a&a==1   a[1]|a==1   *a&a!=1   -1&a==1   a+1&a==1   a()&1==1;
+-- a()&a==1   a==1&a==1   a&(a==1)   a&a<1   (a&1)==1   a+a==1
 bits : map told (b op.And x (b op.Eq one one) ∷ b op.And x (b op.Eq x one) ∷ b op.Or word (b op.Eq x one)
-    ∷ b op.And (Prefixed Indirection 1 x) (b op.Ne x one) ∷ b op.And call (b op.Eq x one)
+    ∷ b op.And (Prefixed Indirection 1 x) (b op.Ne x one) ∷ b op.And minus_one (b op.Eq x one)
+    ∷ b op.And (b op.Add x one) (b op.Eq x one) ∷ b op.And call (b op.Eq one one) ∷ b op.And call (b op.Eq x one)
     ∷ b op.And (b op.Eq x one) (b op.Eq x one) ∷ b op.And x (Grouped (b op.Eq x one)) ∷ b op.And x (b op.Lt x one)
     ∷ b op.Eq (Grouped (b op.And x one)) one ∷ b op.Eq (b op.Add x x) one ∷ [])
-    ≡ each rule.BitsCompared (1 ∷ 1 ∷ 4 ∷ 2 ∷ []) ++ silent 6
+    ≡ each rule.BitsCompared (1 ∷ 1 ∷ 4 ∷ 2 ∷ 2 ∷ 3 ∷ 3 ∷ []) ++ silent 6
 bits = refl
 
 -- 1<a<1   1<a[1]<1   a==a==a   a==a!=a; (1<a)<1   a<1==a   1<a+a
@@ -102,17 +104,18 @@ negated : map told (b op.Eq (not x) one ∷ b op.Eq (not word) one ∷ b op.Eq (
     ≡ each rule.NotCompared (2 ∷ 5 ∷ 4 ∷ 2 ∷ []) ++ silent 3
 negated = refl
 
--- a==1|1   a<1|1   a==1|a==1|1   a==1|1|1; a|1   (a==1)|1   a==1|a   a==1&1   a|a|1
+-- a==1|1   a<1|1   a==1|a==1|1   a==1|1|1   a!=1&1; a|1   (a==1)|1   a==1|a   a|a|1   a==1&a|1   a==1+1
 alternatives : map told (b op.Or (b op.Eq x one) one ∷ b op.Or (b op.Lt x one) one
-    ∷ b op.Or (b op.Or (b op.Eq x one) (b op.Eq x one)) one ∷ b op.Or (b op.Or (b op.Eq x one) one) one ∷ b op.Or x one
-    ∷ b op.Or (Grouped (b op.Eq x one)) one ∷ b op.Or (b op.Eq x one) x ∷ b op.And (b op.Eq x one) one
-    ∷ b op.Or (b op.Or x x) one ∷ [])
-    ≡ each rule.OrConstant (3 ∷ 3 ∷ 7 ∷ 3 ∷ []) ++ silent 5
+    ∷ b op.Or (b op.Or (b op.Eq x one) (b op.Eq x one)) one ∷ b op.Or (b op.Or (b op.Eq x one) one) one
+    ∷ b op.And (b op.Ne x one) one ∷ b op.Or x one ∷ b op.Or (Grouped (b op.Eq x one)) one ∷ b op.Or (b op.Eq x one) x
+    ∷ b op.Or (b op.Or x x) one ∷ b op.Or (b op.And (b op.Eq x one) x) one ∷ b op.Eq x (b op.Add one one) ∷ [])
+    ≡ each rule.OrConstant (3 ∷ 3 ∷ 7 ∷ 3 ∷ 3 ∷ []) ++ silent 6
 alternatives = refl
 
--- a==""   ""!=a   ""==""; a<""   a+""   a==a["a"]
-strings : map told (b op.Eq x s ∷ b op.Ne s x ∷ b op.Eq s s ∷ b op.Lt x s ∷ b op.Add x s ∷ b op.Eq x (Indexed x s) ∷ [])
-    ≡ each rule.StringCompared (2 ∷ 0 ∷ 2 ∷ []) ++ silent 3
+-- a==""   ""!=a   ""==""   a<""   a==(""); a+""   a==a[""]   a==(""[a])
+strings : map told (b op.Eq x s ∷ b op.Ne s x ∷ b op.Eq s s ∷ b op.Lt x s ∷ b op.Eq x (Grouped s) ∷ b op.Add x s
+    ∷ b op.Eq x (Indexed x s) ∷ b op.Eq x (Grouped (Indexed s x)) ∷ [])
+    ≡ each rule.StringCompared (2 ∷ 0 ∷ 2 ∷ 2 ∷ 2 ∷ []) ++ silent 3
 strings = refl
 
 -- ""+""; ""-""   (""+a)+""
@@ -126,25 +129,28 @@ large : map told (b op.Lt x (n 32768) ∷ b op.Gt (n 40000) x ∷ b op.Ge x (n 6
     ≡ each rule.NegativeNumber (2 ∷ 0 ∷ 2 ∷ []) ++ silent 4
 large = refl
 
--- getchar()==0   (a=getchar())!=0   0!=getchar()   getchar()>'*0';
--- getchar()==4   a==0   a()==0   getchar()+0   (a=+getchar())==0
+-- getchar()==0   (a=getchar())!=0   0!=getchar()   getchar()=='*0';
+-- getchar()>0   getchar()==4   a==0   a()==0   getchar()+0   (a=+getchar())==0
 zeros : map told (b op.Eq input (n 0) ∷ b op.Ne (Grouped (set x input)) (n 0) ∷ b op.Ne (n 0) input
-    ∷ b op.Gt input (Literal (Character 0)) ∷ b op.Eq input (n 4) ∷ b op.Eq x (n 0) ∷ b op.Eq call (n 0)
+    ∷ b op.Eq input (Literal (Character 0)) ∷ b op.Gt input (n 0) ∷ b op.Eq input (n 4)
+    ∷ b op.Eq x (n 0) ∷ b op.Eq call (n 0)
     ∷ b op.Add input (n 0) ∷ b op.Eq (Grouped (Assigned (Some op.Add) 1 x input)) (n 0) ∷ [])
-    ≡ each rule.InputZero (4 ∷ 8 ∷ 0 ∷ 4 ∷ []) ++ silent 5
+    ≡ each rule.InputZero (4 ∷ 8 ∷ 0 ∷ 4 ∷ []) ++ silent 6
 zeros = refl
 
--- getchar()!=-1   (a=getchar())==-1   getchar()>=0   0>getchar(); getchar()==-a   a==-1   getchar()-1   char(a,1)==-1
+-- getchar()!=-1   (a=getchar())==-1   getchar()>=0   0>getchar(); getchar()==-a   a==-1   getchar()-1
 ends : map told (b op.Ne input minus_one ∷ b op.Eq (Grouped (set x input)) minus_one ∷ b op.Ge input (n 0)
-    ∷ b op.Gt (n 0) input ∷ b op.Eq input (Prefixed Negate 1 x) ∷ b op.Eq x minus_one ∷ b op.Sub input one
-    ∷ b op.Eq character minus_one ∷ [])
-    ≡ each rule.InputEnd (4 ∷ 8 ∷ 4 ∷ 0 ∷ []) ++ silent 4
+    ∷ b op.Gt (n 0) input ∷ b op.Eq input (Prefixed Negate 1 x) ∷ b op.Eq x minus_one ∷ b op.Sub input one ∷ [])
+    ≡ each rule.InputEnd (4 ∷ 8 ∷ 4 ∷ 0 ∷ []) ++ silent 3
 ends = refl
 
--- char(a,1)==0   (a=char(a,1))!=0   0==char(a,1); char(a,1)>=0   char(a,1)==1   !char(a,1)
+-- char(a,1)==0   (a=char(a,1))!=0   0==char(a,1)   char(a,1)>0   char(a,1)==-1;
+-- char(a,1)<0   char(a,1)==1   !char(a,1)   char(a,1)+0
 string_ends : map told (b op.Eq character (n 0) ∷ b op.Ne (Grouped (set x character)) (n 0) ∷ b op.Eq (n 0) character
-    ∷ b op.Ge character (n 0) ∷ b op.Eq character one ∷ not character ∷ [])
-    ≡ each rule.StringEnd (7 ∷ 11 ∷ 0 ∷ []) ++ silent 3
+    ∷ b op.Gt character (n 0) ∷ b op.Eq character minus_one ∷ b op.Lt character (n 0)
+    ∷ b op.Eq character one ∷ not character
+    ∷ b op.Add character (n 0) ∷ [])
+    ≡ each rule.StringEnd (7 ∷ 11 ∷ 0 ∷ 7 ∷ 7 ∷ []) ++ silent 4
 string_ends = refl
 
 -- a=a++   a=a--; y=a++   a=++a   a=a   a[1]=a++   a=+a++   a=(a++)   a=a[1]++
@@ -182,16 +188,19 @@ assigned : map asked (set x one ∷ set x x ∷ set x minus_one ∷ set x s ∷ 
     ≡ each rule.ConditionAssigns (3 ∷ 3 ∷ 3 ∷ 3 ∷ 5 ∷ 3 ∷ 3 ∷ [])
 assigned = refl
 
--- (a=1)   !((a=1))   a=a()   a=a+1   a=-a with =-   a=+1   a==1   a=(a==1)   a&(a=1)
+-- (a=1)   !((a=1))   a=a()   a=a+1   a=a[1]   a=-a with =-   a=+1   a==1   a=(a==1)   a&(a=1)
+-- (a=a()!=1)   (a=getchar())   a=a<1
 meant : map asked (Grouped (set x one) ∷ not (Grouped (Grouped (set x one))) ∷ set x call ∷ set x (b op.Add x one)
-    ∷ Assigned (Some op.Sub) 1 x x ∷ Assigned (Some op.Add) 1 x one ∷ b op.Eq x one ∷ set x (Grouped (b op.Eq x one))
-    ∷ b op.And x (Grouped (set x one)) ∷ [])
-    ≡ silent 9
+    ∷ set x word ∷ Assigned (Some op.Sub) 1 x x ∷ Assigned (Some op.Add) 1 x one ∷ b op.Eq x one
+    ∷ set x (Grouped (b op.Eq x one)) ∷ b op.And x (Grouped (set x one)) ∷ Grouped (set x (b op.Ne call one))
+    ∷ Grouped (set x input) ∷ set x (b op.Lt x one) ∷ [])
+    ≡ silent 13
 meant = refl
 
--- a=a==1   a=a()<1   !(a=a!=1)
-compared : map asked (set x (b op.Eq x one) ∷ set x (b op.Lt call one) ∷ not (Grouped (set x (b op.Ne x one))) ∷ [])
-    ≡ each rule.AssignsComparison (3 ∷ 3 ∷ 5 ∷ [])
+-- a=a==1   a=a()<1   !(a=a!=1)   (a=getchar()!=1)   (a=char(a,1)==1)
+compared : map asked (set x (b op.Eq x one) ∷ set x (b op.Lt call one) ∷ not (Grouped (set x (b op.Ne x one)))
+    ∷ Grouped (set x (b op.Ne input one)) ∷ Grouped (set x (b op.Eq character one)) ∷ [])
+    ≡ each rule.AssignsComparison (3 ∷ 3 ∷ 5 ∷ 4 ∷ 4 ∷ [])
 compared = refl
 
 -- a=<1   a=!=a   !(a=>=1); (a=<1)
@@ -200,11 +209,12 @@ stored : map asked (Assigned (Some op.Lt) 1 x one ∷ Assigned (Some op.Ne) 1 x 
     ≡ each rule.AssignsCompared (3 ∷ 3 ∷ 5 ∷ []) ++ silent 1
 stored = refl
 
--- (a=1)?a:a   !(a=1)?a:a; ((a=1))?a:a   a=1?a:a   a?a=1:a   (a=a())?a:a
+-- (a=1)?a:a   !(a=1)?a:a   a=1?a:a; ((a=1))?a:a   a=a?1:a   a?a=1:a   (a=a())?a:a   a=+1?a:a   a=1+a?a:a
 chosen : map told (Conditional (Grouped (set x one)) x x ∷ Conditional (not (Grouped (set x one))) x x
-    ∷ Conditional (Grouped (Grouped (set x one))) x x ∷ set x (Conditional one x x) ∷ Conditional x (set x one) x
-    ∷ Conditional (Grouped (set x call)) x x ∷ [])
-    ≡ each rule.ConditionAssigns (2 ∷ 3 ∷ []) ++ silent 4
+    ∷ set x (Conditional one x x) ∷ Conditional (Grouped (Grouped (set x one))) x x ∷ set x (Conditional x one x)
+    ∷ Conditional x (set x one) x ∷ Conditional (Grouped (set x call)) x x
+    ∷ Assigned (Some op.Add) 1 x (Conditional one x x) ∷ set x (Conditional (b op.Add one x) x x) ∷ [])
+    ≡ each rule.ConditionAssigns (2 ∷ 3 ∷ 1 ∷ []) ++ silent 6
 chosen = refl
 
 -- while(..)a();
@@ -237,17 +247,30 @@ whiles : map stated (While x Empty ∷ While (b op.Lt x one) Empty ∷ While one
     ≡ each rule.EmptyLoop (4 ∷ 6 ∷ []) ++ silent 5
 whiles = refl
 
+-- {while(a());{}}   {while(a());a();}
+blocks : map (λ after. stated (Compound (More (More Nothing (While call Empty)) after)))
+    (Compound Nothing ∷ Evaluate call ∷ [])
+    ≡ (notice rule.EmptyLoop 7 ∷ []) ∷ [] ∷ []
+blocks = refl
+
 abbrev evaluated : Expr → List Notice
 evaluated e = stated (Evaluate e)
 
--- a;   a==1;   a+1;   1;   a?1:a;   (a);   a()==1;   a()+1;   a*a();;
--- a();   a=1;   a++;   a?a():1;   a&a();   (a()+a());
-alone : map evaluated (x ∷ b op.Eq x one ∷ b op.Add x one ∷ one ∷ Conditional x one x ∷ Grouped x ∷ b op.Eq call one
-    ∷ b op.Add call one ∷ b op.Mul x call ∷ call ∷ set x one ∷ Postfixed PostIncrement 1 x ∷ Conditional x call one
-    ∷ b op.And x call ∷ Grouped (b op.Add call call) ∷ [])
-    ≡ each rule.NameAlone (0 ∷ []) ++ each rule.ComparesAlone (1 ∷ []) ++ each rule.NoEffect (0 ∷ 0 ∷ 0 ∷ 0 ∷ [])
-    ++ each rule.ComparesAlone (3 ∷ []) ++ each rule.ValueDropped (3 ∷ 1 ∷ []) ++ silent 6
+-- a;   a==1;   a+1;   1;   a?1:a;   (a);   -a;   a()==1;
+alone : map evaluated (x ∷ b op.Eq x one ∷ b op.Add x one ∷ one ∷ Conditional x one x ∷ Grouped x
+    ∷ Prefixed Negate 1 x ∷ b op.Eq call one ∷ [])
+    ≡ each rule.NameAlone (0 ∷ []) ++ each rule.ComparesAlone (1 ∷ []) ++ each rule.NoEffect (0 ∷ 0 ∷ 0 ∷ 0 ∷ 0 ∷ [])
+    ++ each rule.ComparesAlone (3 ∷ [])
 alone = refl
+
+-- a()+1;   a*a();   -a();   !a();   *a();   a[a()];;
+-- a();   a=1;   a++;   a?a():1;   a&a();   (a()+a());   *a++;   a[1]=1;
+dropped : map evaluated (b op.Add call one ∷ b op.Mul x call ∷ Prefixed Negate 1 call ∷ not call
+    ∷ Prefixed Indirection 1 call ∷ Indexed x call ∷ call ∷ set x one ∷ Postfixed PostIncrement 1 x
+    ∷ Conditional x call one ∷ b op.And x call ∷ Grouped (b op.Add call call)
+    ∷ Prefixed Indirection 1 (Postfixed PostIncrement 1 x) ∷ set word one ∷ [])
+    ≡ each rule.ValueDropped (3 ∷ 1 ∷ 0 ∷ 0 ∷ 0 ∷ 0 ∷ []) ++ silent 8
+dropped = refl
 
 -- a(){ a:a:1; if(a)a:1; else a; while(!a==1)a; switch a{ a; } goto a; return(!a==1); }
 nested : defined (Function a []

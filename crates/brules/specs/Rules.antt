@@ -24,13 +24,25 @@ relates op.Gt = true
 relates op.Ge = true
 relates _ = false
 
+-- whether an operator gives a number that is neither a truth nor bits
+abbrev pub is_arithmetic : Node → Bool
+is_arithmetic (node.Binary op.Add) = true
+is_arithmetic (node.Binary op.Sub) = true
+is_arithmetic (node.Binary op.Mul) = true
+is_arithmetic (node.Binary op.Div) = true
+is_arithmetic (node.Binary op.Rem) = true
+is_arithmetic (node.Binary op.Shl) = true
+is_arithmetic (node.Binary op.Shr) = true
+is_arithmetic _ = false
+
 -- a node that gives a word of any value, and not 1 or 0 alone
 abbrev pub is_word : Node → Bool
 is_word node.Name = true
 is_word node.Constant = true
 is_word node.Indexed = true
 is_word node.Indirection = true
-is_word _ = false
+is_word node.Negate = true
+is_word n = is_arithmetic n
 
 -- & or | between a word and a comparison, which is made first: x & 1 == 1
 abbrev pub beside_bits : (left right : Node) → Option Rule
@@ -95,8 +107,6 @@ input_ended op.Lt = Some rule.InputEnd
 input_ended op.Ge = Some rule.InputEnd
 input_ended op.Eq = Some rule.InputZero
 input_ended op.Ne = Some rule.InputZero
-input_ended op.Le = Some rule.InputZero
-input_ended op.Gt = Some rule.InputZero
 input_ended _ = None
 
 abbrev pub string_ended : BinOp → Option Rule
@@ -106,11 +116,15 @@ string_ended op.Le = Some rule.StringEnd
 string_ended op.Gt = Some rule.StringEnd
 string_ended _ = None
 
+abbrev pub if_compares : BinOp → Rule → Option Rule
+if_compares o r = if compares o || relates o then Some r else None
+
 abbrev pub told_of : Source → BinOp → Value → Option Rule
 told_of source.Input o value.Zero = input_ended o
-told_of source.Input o value.MinusOne = if compares o || relates o then Some rule.InputEnd else None
+told_of source.Input o value.MinusOne = if_compares o rule.InputEnd
 told_of source.String o value.Zero = string_ended o
-told_of s o value.Text = if compares o then Some rule.StringCompared else None
+told_of source.String o value.MinusOne = if_compares o rule.StringEnd
+told_of s o value.Text = if_compares o rule.StringCompared
 told_of s o value.Large = if relates o then Some rule.NegativeNumber else None
 told_of s o v = None
 
@@ -124,9 +138,14 @@ is_plain node.Text = true
 is_plain node.Negate = true
 is_plain _ = false
 
-abbrev pub assigning : (last : Node) → Option Rule
-assigning last =
-    if is_comparison last then Some rule.AssignsComparison
+-- == or != is told at once, and < <= > >= where a call is compared
+abbrev pub is_compared_call : (last : Node) → (calls : Bool) → Bool
+is_compared_call (node.Binary o) calls = compares o || (relates o && calls)
+is_compared_call _ calls = false
+
+abbrev pub assigning : (last : Node) → (calls : Bool) → Option Rule
+assigning last calls =
+    if is_compared_call last calls then Some rule.AssignsComparison
     else (if is_plain last then Some rule.ConditionAssigns else None)
 
 abbrev pub operating : BinOp → (last : Node) → Option Rule
@@ -134,10 +153,10 @@ operating op.Eq last = Some rule.ConditionAssigns
 operating op.Sub last = if is_constant last then Some rule.ConditionAssigns else None
 operating o last = if compares o || relates o then Some rule.AssignsCompared else None
 
-abbrev pub decided : (core last : Node) → Option Rule
-decided (node.Assigned None) last = assigning last
-decided (node.Assigned (Some o)) last = operating o last
-decided _ last = None
+abbrev pub decided : (core last : Node) → (calls : Bool) → Option Rule
+decided (node.Assigned None) last calls = assigning last calls
+decided (node.Assigned (Some o)) last calls = operating o last
+decided _ last calls = None
 
 -- Statements.
 
@@ -146,13 +165,10 @@ abbrev pub of_idle : Node → Rule
 of_idle node.Name = rule.NameAlone
 of_idle _ = rule.NoEffect
 
--- whether an operator gives a number that is neither a truth nor bits
-abbrev pub is_arithmetic : Node → Bool
-is_arithmetic (node.Binary op.Add) = true
-is_arithmetic (node.Binary op.Sub) = true
-is_arithmetic (node.Binary op.Mul) = true
-is_arithmetic (node.Binary op.Div) = true
-is_arithmetic (node.Binary op.Rem) = true
-is_arithmetic (node.Binary op.Shl) = true
-is_arithmetic (node.Binary op.Shr) = true
-is_arithmetic _ = false
+-- a node with a last part, whose value a statement drops though something is done in it: -f();
+abbrev pub drops : (outer last : Node) → Bool
+drops node.Negate last = true
+drops node.Not last = true
+drops node.Indexed last = true
+drops node.Indirection node.Called = true
+drops outer last = is_arithmetic outer

@@ -1,6 +1,6 @@
 -- Promise: what is said of a node of a function, by its parts and the tokens there, and of which token. Where a node
 -- has several rules, the first that fits is the one.
-use Rattle.std.specs.Prelude.{ℕ, ◌+◌, ◌-◌, ◌==◌, ◌&&◌, ◌||◌, Bool, false, not, nat_lt, if◌then◌else◌, codes}
+use Rattle.std.specs.Prelude.{ℕ, ◌+◌, ◌-◌, ◌==◌, ◌&&◌, ◌||◌, Bool, true, false, not, nat_lt, if◌then◌else◌, codes}
 use Rattle.std.specs.Prelude.{List, None, Option, Some, slice_get, unwrap_or}
 use Rattle.std.specs.Option.{option_or}
 use Rattle.bword.specs.declared.operators.BinOp.{BinOp}
@@ -20,7 +20,7 @@ use Rattle.brules.specs.declared.rules.Value.{Value}
 use Rattle.brules.specs.declared.rules.Value.TheVariants as value
 use Rattle.brules.specs.declared.parts.Part.{Part}
 use Rattle.brules.specs.declared.parts.Taken.{Taken}
-use Rattle.brules.specs.Rules.{decided, is_arithmetic, is_comparison, is_constant, is_name, mirrored, of_idle}
+use Rattle.brules.specs.Rules.{compares, decided, drops, is_comparison, is_constant, is_name, mirrored, of_idle}
 use Rattle.brules.specs.Rules.{told_between, told_of}
 use Rattle.brules.specs.Views.{is_counted}
 
@@ -42,12 +42,30 @@ abbrev pub is_same_name : Lexeme → Lexeme → Bool
 is_same_name (lexeme.Name x) (lexeme.Name y) = same_name x y
 is_same_name _ l = false
 
+abbrev pub is_constant_lexeme : Lexeme → Bool
+is_constant_lexeme (lexeme.Number n) = true
+is_constant_lexeme (lexeme.Character n) = true
+is_constant_lexeme _ = false
+
+abbrev pub is_opener : Lexeme → Bool
+is_opener lexeme.OpenParen = true
+is_opener _ = false
+
+abbrev pub is_question : Lexeme → Bool
+is_question lexeme.Question = true
+is_question _ = false
+
 -- What a name is called for.
 abbrev pub source_of : Lexeme → Source
 source_of (lexeme.Name x) =
     if same_name x (codes "getchar") then source.Input
     else (if same_name x (codes "char") then source.String else source.Other)
 source_of _ = source.Other
+
+-- whether it is getchar or char
+abbrev pub is_source : Lexeme → Bool
+is_source (lexeme.Name x) = same_name x (codes "getchar") || same_name x (codes "char")
+is_source _ = false
 
 abbrev pub source_at : List Lexeme → Option ℕ → Source
 source_at lexemes None = source.Other
@@ -65,6 +83,7 @@ negated_of _ = value.Other
 
 abbrev pub value_of : List Lexeme → (outer inner : Node) → (first : ℕ) → Value
 value_of lexemes node.Text inner first = value.Text
+value_of lexemes node.Grouped node.Text first = value.Text
 value_of lexemes node.Constant inner first = constant_of (lexeme_at lexemes first)
 value_of lexemes node.Negate node.Constant first = negated_of (lexeme_at lexemes (first + 1))
 value_of lexemes _ inner first = value.Other
@@ -74,26 +93,48 @@ abbrev pub of_value : List Lexeme → BinOp → (other p : Part) → Option Noti
 of_value lexemes o other p =
     at (told_of (source_at lexemes other.name) o (value_of lexemes p.node p.inner p.first)) p.first
 
--- c == 'a' | 'e'
-abbrev pub is_or_constant : BinOp → (left inner right : Node) → Bool
-is_or_constant op.Or (node.Binary op.Or) inner node.Constant = is_comparison inner
-is_or_constant op.Or left inner node.Constant = is_comparison left
-is_or_constant o left inner right = false
+-- c == 'a' | 'e': a comparison is on the left, or last on the left of the same operator
+abbrev pub is_compared : BinOp → (left inner : Node) → Bool
+is_compared op.Or (node.Binary op.Or) inner = is_comparison inner
+is_compared op.And (node.Binary op.And) inner = is_comparison inner
+is_compared op.Or left inner = is_comparison left
+is_compared op.And left inner = is_comparison left
+is_compared o left inner = false
+
+abbrev pub compares_constants : List Lexeme → Node → Part → Bool
+compares_constants lexemes (node.Binary o) p =
+    compares o && (is_constant p.inner
+    && (is_constant_lexeme (lexeme_at lexemes p.first) && (p.operator == p.first + 1)))
+compares_constants lexemes _ p = false
+
+-- f(x) & 4 == 4: a constant before == or !=, and one after it
+abbrev pub is_of_constants : BinOp → List Lexeme → Part → Bool
+is_of_constants op.Or lexemes p = compares_constants lexemes p.node p
+is_of_constants op.And lexemes p = compares_constants lexemes p.node p
+is_of_constants o lexemes p = false
 
 abbrev pub of_binary : List Lexeme → BinOp → (left right : Part) → Option Notice
 of_binary lexemes o left right =
     let operator = right.first - 1 in
     option_or
-    (option_or (at (told_between o left.node right.node) operator)
-    (when (is_or_constant o left.node left.inner right.node) rule.OrConstant operator))
+    (option_or (option_or (at (told_between o left.node right.node) operator)
+    (when (is_of_constants o lexemes right) rule.BitsCompared operator))
+    (when (is_constant right.node && is_compared o left.node left.inner) rule.OrConstant operator))
     (option_or (of_value lexemes o left right) (of_value lexemes (mirrored o) right left))
+
+-- x = 1 ? a : b, whose condition is the constant
+abbrev pub is_constant_choice : List Lexeme → Node → (first : ℕ) → Bool
+is_constant_choice lexemes node.Conditional first =
+    is_constant_lexeme (lexeme_at lexemes first) && is_question (lexeme_at lexemes (first + 1))
+is_constant_choice lexemes _ first = false
 
 -- i = i++
 abbrev pub of_assigned : List Lexeme → (left right : Part) → Option Notice
 of_assigned lexemes left right =
-    when (is_name left.node && (is_counted right.node right.inner
+    option_or (when (is_constant_choice lexemes right.node right.first) rule.ConditionAssigns (right.first - 1))
+    (when (is_name left.node && (is_counted right.node right.inner
     && is_same_name (lexeme_at lexemes left.first) (lexeme_at lexemes right.first)))
-    rule.AssignsItself (right.first - 1)
+    rule.AssignsItself (right.first - 1))
 
 -- in f itself: f(.., n--)
 abbrev pub passes : List Lexeme → (called given : Option ℕ) → Option Notice
@@ -103,24 +144,34 @@ passes lexemes _ given = None
 abbrev pub of_called : List Lexeme → (left right : Part) → Option Notice
 of_called lexemes left right = passes lexemes (if is_name left.node then Some left.first else None) right.name
 
--- what is asked of a condition
-abbrev pub of_condition : Part → Option Notice
-of_condition p = at (decided p.core p.inner) p.operator
+-- what is asked of a condition: whether a call begins after its =
+abbrev pub calls_after : List Lexeme → (operator : ℕ) → Bool
+calls_after lexemes operator = is_opener (lexeme_at lexemes (operator + 2))
 
--- in parentheses of its own an assignment is meant
-abbrev pub of_whole : Part → Node → Option Notice
-of_whole p node.Grouped = None
-of_whole p _ = of_condition p
+abbrev pub of_condition : List Lexeme → Part → Option Notice
+of_condition lexemes p = at (decided p.core p.inner (calls_after lexemes p.operator)) p.operator
+
+abbrev pub assigns_comparison : (core last : Node) → Bool
+assigns_comparison (node.Assigned None) last = is_comparison last
+assigns_comparison _ last = false
+
+-- in parentheses of its own an assignment is meant, but not that of a comparison of a character: (c = getchar() != 4)
+abbrev pub of_whole : List Lexeme → Part → Node → Option Notice
+of_whole lexemes p node.Grouped =
+    when (assigns_comparison p.core p.inner && is_source (lexeme_at lexemes (p.operator + 1))) rule.AssignsComparison
+    p.operator
+of_whole lexemes p _ = of_condition lexemes p
 
 -- a loop up to 0: while(c = getchar())
 abbrev pub until_zero : List Lexeme → (name : Option ℕ) → Option Notice
 until_zero lexemes None = None
 until_zero lexemes (Some token) = at (told_of (source_of (lexeme_at lexemes token)) op.Ne value.Zero) token
 
--- a ; after a condition
-abbrev pub empty_loop : Lexeme → Part → (token : ℕ) → Option Notice
-empty_loop lexeme.Semicolon p token = when (not (is_constant p.node || p.acts)) rule.EmptyLoop token
-empty_loop _ p token = None
+-- a ; after a condition: a block after it was meant to be the body
+abbrev pub empty_loop : Lexeme → (after : Lexeme) → Part → (token : ℕ) → Option Notice
+empty_loop lexeme.Semicolon lexeme.OpenBrace p token = Some (notice rule.EmptyLoop token)
+empty_loop lexeme.Semicolon after p token = when (not (is_constant p.node || p.acts)) rule.EmptyLoop token
+empty_loop _ after p token = None
 
 abbrev pub empty_if : Lexeme → (after : Lexeme) → (token : ℕ) → Option Notice
 empty_if lexeme.Semicolon (lexeme.Keyword keyword.Else) token = None
@@ -130,17 +181,24 @@ empty_if _ after token = None
 -- after its keyword and its parenthesis, where the statement begins with this token
 abbrev pub of_use : List Lexeme → Lexeme → (next : ℕ) → Part → Option Notice
 of_use lexemes (lexeme.Keyword keyword.While) next p =
-    option_or (until_zero lexemes p.name) (empty_loop (lexeme_at lexemes next) p next)
+    option_or (until_zero lexemes p.name)
+    (empty_loop (lexeme_at lexemes next) (lexeme_at lexemes (next + 1)) p next)
 of_use lexemes _ next p = empty_if (lexeme_at lexemes next) (lexeme_at lexemes (next + 1)) next
 
 abbrev pub of_tested : List Lexeme → (next : ℕ) → Part → Option Notice
-of_tested lexemes next p = option_or (of_whole p p.node) (of_use lexemes (lexeme_at lexemes (p.first - 2)) next p)
+of_tested lexemes next p =
+    option_or (of_whole lexemes p p.node) (of_use lexemes (lexeme_at lexemes (p.first - 2)) next p)
+
+-- of two parts the operator, else the first token
+abbrev pub dropped_at : Node → Part → ℕ
+dropped_at (node.Binary op) p = p.operator
+dropped_at _ p = p.first
 
 -- an expression that is a statement: a comparison by itself, a sum that is dropped, or what does nothing
 abbrev pub of_statement : Part → Option Notice
 of_statement p =
     if is_comparison p.node then Some (notice rule.ComparesAlone p.operator)
-    else (if p.acts then when (is_arithmetic p.node) rule.ValueDropped p.operator
+    else (if p.acts then when (drops p.node p.inner) rule.ValueDropped (dropped_at p.node p)
     else Some (notice (of_idle p.node) p.first))
 
 -- A node has these parts, and the next token this number.
@@ -148,7 +206,7 @@ abbrev pub told : List Lexeme → Node → (next : ℕ) → Taken → Option Not
 told lexemes (node.Binary op) next t = of_binary lexemes op t.left t.right
 told lexemes (node.Assigned None) next t = of_assigned lexemes t.left t.right
 told lexemes node.Called next t = of_called lexemes t.left t.right
-told lexemes node.Conditional next t = of_condition t.first
+told lexemes node.Conditional next t = of_condition lexemes t.first
 told lexemes node.Evaluated next t = of_statement t.right
 told lexemes node.Tested next t = of_tested lexemes next t.right
 told lexemes _ next t = None

@@ -21,8 +21,8 @@ abbrev sources : List Source
 sources = source.Input ∷ source.String ∷ source.Other ∷ []
 
 input_zeros : map (λ o. told_of source.Input o value.Zero) operators
-    ≡ replicate 2 None ++ replicate 2 (Some rule.InputZero) ++ Some rule.InputEnd ∷ Some rule.InputZero
-    ∷ Some rule.InputZero ∷ Some rule.InputEnd ∷ replicate 7 None
+    ≡ replicate 2 None ++ replicate 2 (Some rule.InputZero) ++ Some rule.InputEnd ∷ None ∷ None ∷ Some rule.InputEnd
+    ∷ replicate 7 None
 input_zeros = refl
 
 input_ends : map (λ o. told_of source.Input o value.MinusOne) operators
@@ -34,19 +34,23 @@ string_ends : map (λ o. told_of source.String o value.Zero) operators
     ∷ replicate 8 None
 string_ends = refl
 
+string_minus_ones : map (λ o. told_of source.String o value.MinusOne) operators
+    ≡ replicate 2 None ++ replicate 6 (Some rule.StringEnd) ++ replicate 7 None
+string_minus_ones = refl
+
 large_numbers : map (λ s. map (λ o. told_of s o value.Large) operators) sources
     ≡ replicate 3 (replicate 4 None ++ (replicate 4 (Some rule.NegativeNumber) ++ replicate 7 None))
 large_numbers = refl
 
 strings_compared : map (λ s. map (λ o. told_of s o value.Text) operators) sources
-    ≡ replicate 3 (replicate 2 None ++ (replicate 2 (Some rule.StringCompared) ++ replicate 11 None))
+    ≡ replicate 3 (replicate 2 None ++ (replicate 6 (Some rule.StringCompared) ++ replicate 7 None))
 strings_compared = refl
 
 other_values : map (λ o. map (λ s. told_of s o value.Other) sources) operators ≡ replicate 15 (replicate 3 None)
 other_values = refl
 
-other_sources : map (λ o. told_of source.Other o value.Zero ∷ told_of source.Other o value.MinusOne
-    ∷ told_of source.String o value.MinusOne ∷ []) operators ≡ replicate 15 (replicate 3 None)
+other_sources : map (λ o. told_of source.Other o value.Zero ∷ told_of source.Other o value.MinusOne ∷ []) operators
+    ≡ replicate 15 (replicate 2 None)
 other_sources = refl
 
 sides : map mirrored operators

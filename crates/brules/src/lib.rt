@@ -1,10 +1,13 @@
-//! Rules about the expressions of a function that compiles: what is probably a mistake, and at which token.
+//! Rules about a function that compiles: what is probably a mistake, and at which token.
 #![tactic(auto)]
 
+mod looping;
 mod noticing;
+mod opens;
 mod parts;
 mod rules;
 mod telling;
 
+pub use looping::loops_of;
 pub use noticing::notices_of;
 pub use rules::{Notice, Rule};

@@ -1,6 +1,6 @@
 //! What rules say of nodes.
 ghost use Rattle.std.specs.Prelude.{◌≡◌, ◌||◌};
-ghost use Rattle.brules.specs.Rules.{assigning, beside_bits, beside_equals, beside_plus, beside_relation, compares, decided, input_ended, is_arithmetic, is_comparison, is_plain, is_word, mirrored, of_idle, operating, relates, string_ended, told_between, told_of};
+ghost use Rattle.brules.specs.Rules.{assigning, beside_bits, beside_equals, beside_plus, beside_relation, compares, decided, drops, if_compares, input_ended, is_arithmetic, is_compared_call, is_comparison, is_plain, is_word, mirrored, of_idle, operating, relates, string_ended, told_between, told_of};
 
 use btree::Node;
 use bword::BinOp;
@@ -42,6 +42,8 @@ pub enum Rule {
     EmptyIf,
     /// `while(x) ;`
     EmptyLoop,
+    /// `while(1)` that nothing leaves.
+    EndlessLoop,
     /// `x;`
     NameAlone,
     /// `x == 3;`
@@ -148,11 +150,12 @@ pub(crate) fn told_of(source: Source, op: BinOp, value: Value) -> Option<Rule>
             Source::Other => None,
         },
         Value::MinusOne => match source {
-            Source::Input if compares(op) || relates(op) => Some(Rule::InputEnd),
-            _ => None,
+            Source::Input => if_compares(op, Rule::InputEnd),
+            Source::String => if_compares(op, Rule::StringEnd),
+            Source::Other => None,
         },
         Value::Large if relates(op) => Some(Rule::NegativeNumber),
-        Value::Text if compares(op) => Some(Rule::StringCompared),
+        Value::Text => if_compares(op, Rule::StringCompared),
         _ => None,
     }
 }
@@ -162,7 +165,7 @@ fn input_ended(op: BinOp) -> Option<Rule>
 {
     match op {
         BinOp::Lt | BinOp::Ge => Some(Rule::InputEnd),
-        BinOp::Eq | BinOp::Ne | BinOp::Le | BinOp::Gt => Some(Rule::InputZero),
+        BinOp::Eq | BinOp::Ne => Some(Rule::InputZero),
         _ => None,
     }
 }
@@ -173,6 +176,16 @@ fn string_ended(op: BinOp) -> Option<Rule>
     match op {
         BinOp::Eq | BinOp::Ne | BinOp::Le | BinOp::Gt => Some(Rule::StringEnd),
         _ => None,
+    }
+}
+
+fn if_compares(op: BinOp, rule: Rule) -> Option<Rule>
+    ensures { result ≡ if_compares op rule }
+{
+    if compares(op) || relates(op) {
+        Some(rule)
+    } else {
+        None
     }
 }
 
@@ -189,26 +202,35 @@ pub(crate) fn mirrored(op: BinOp) -> BinOp
     }
 }
 
-/// What is said of a condition that this decides, by the last part of it.
-pub(crate) fn decided(core: &Node, last: &Node) -> Option<Rule>
-    ensures { result ≡ decided core.now last.now }
+/// What is said of a condition that this decides, by the last part of it, and by whether that begins with a call.
+pub(crate) fn decided(core: &Node, last: &Node, calls: bool) -> Option<Rule>
+    ensures { result ≡ decided core.now last.now calls }
 {
     match *core {
-        Node::Assigned(None) => assigning(last),
+        Node::Assigned(None) => assigning(last, calls),
         Node::Assigned(Some(op)) => operating(op, last),
         _ => None,
     }
 }
 
-fn assigning(last: &Node) -> Option<Rule>
-    ensures { result ≡ assigning last.now }
+fn assigning(last: &Node, calls: bool) -> Option<Rule>
+    ensures { result ≡ assigning last.now calls }
 {
-    if is_comparison(last) {
+    if is_compared_call(last, calls) {
         Some(Rule::AssignsComparison)
     } else if is_plain(last) {
         Some(Rule::ConditionAssigns)
     } else {
         None
+    }
+}
+
+fn is_compared_call(last: &Node, calls: bool) -> bool
+    ensures { result ≡ is_compared_call last.now calls }
+{
+    match *last {
+        Node::Binary(op) => compares(op) || (relates(op) && calls),
+        _ => false,
     }
 }
 
@@ -246,8 +268,19 @@ pub(crate) fn is_comparison(node: &Node) -> bool
     }
 }
 
-/// Whether the outermost node gives a number that is neither a truth nor bits.
-pub(crate) fn is_arithmetic(node: &Node) -> bool
+/// Whether a statement drops the value of a node with this last part, though something is done in it.
+pub(crate) fn drops(node: &Node, last: &Node) -> bool
+    ensures { result ≡ drops node.now last.now }
+{
+    match *node {
+        Node::Negate | Node::Not | Node::Indexed => true,
+        Node::Indirection => matches!(*last, Node::Called),
+        _ => is_arithmetic(node),
+    }
+}
+
+// Whether the outermost node gives a number that is neither a truth nor bits.
+fn is_arithmetic(node: &Node) -> bool
     ensures { result ≡ is_arithmetic node.now }
 {
     match *node {
@@ -259,7 +292,8 @@ pub(crate) fn is_arithmetic(node: &Node) -> bool
     }
 }
 
-fn compares(op: BinOp) -> bool
+/// Whether an operator is `==` or `!=`.
+pub(crate) fn compares(op: BinOp) -> bool
     ensures { result ≡ compares op }
 {
     matches!(op, BinOp::Eq | BinOp::Ne)
@@ -275,10 +309,10 @@ fn relates(op: BinOp) -> bool
 fn is_word(node: &Node) -> bool
     ensures { result ≡ is_word node.now }
 {
-    matches!(
-        *node,
-        Node::Name | Node::Constant | Node::Indexed | Node::Indirection
-    )
+    match *node {
+        Node::Name | Node::Constant | Node::Indexed | Node::Indirection | Node::Negate => true,
+        _ => is_arithmetic(node),
+    }
 }
 
 // Whether a node is assigned without a comparison where one was meant, perhaps.

@@ -1,11 +1,11 @@
 //! What rules say of a node, by its parts and the tokens there.
 ghost use Rattle.std.specs.Prelude.{◌≡◌, ◌+◌};
 ghost use Rattle.bword.specs.Words.{same_name};
-ghost use Rattle.brules.specs.Telling.{at, constant_of, empty_if, empty_loop, is_or_constant, negated_of, of_assigned, of_binary, of_called, of_condition, of_statement, of_tested, of_use, of_value, of_whole, passes, is_same_name, source_at, source_of, told, until_zero, value_of, when, lexeme_at};
+ghost use Rattle.brules.specs.Telling.{assigns_comparison, at, compares_constants, constant_of, dropped_at, empty_if, empty_loop, is_compared, is_constant_choice, is_constant_lexeme, is_of_constants, is_source, negated_of, of_assigned, of_binary, of_called, of_condition, of_statement, of_tested, of_use, of_value, of_whole, passes, is_same_name, source_at, source_of, told, until_zero, value_of, when, lexeme_at};
 
 use crate::parts::{Part, Taken, is_counted};
 use crate::rules::{
-    Notice, Rule, Source, Value, decided, is_arithmetic, is_comparison, mirrored, of_idle,
+    Notice, Rule, Source, Value, compares, decided, drops, is_comparison, mirrored, of_idle,
     told_between, told_of,
 };
 use blang::Keyword;
@@ -21,7 +21,7 @@ pub(crate) fn told(lexemes: &[Lexeme], node: &Node, next: usize, taken: &Taken) 
         Node::Binary(op) => of_binary(lexemes, op, &taken.left, &taken.right),
         Node::Assigned(None) => of_assigned(lexemes, &taken.left, &taken.right),
         Node::Called => of_called(lexemes, &taken.left, &taken.right),
-        Node::Conditional => of_condition(&taken.first),
+        Node::Conditional => of_condition(lexemes, &taken.first),
         Node::Evaluated => of_statement(&taken.right),
         Node::Tested => of_tested(lexemes, next, &taken.right),
         _ => None,
@@ -32,12 +32,14 @@ fn of_binary(lexemes: &[Lexeme], op: BinOp, left: &Part, right: &Part) -> Option
     ensures { result ≡ of_binary lexemes.now op left.now right.now }
 {
     let operator = right.first.saturating_sub(1);
-    let constant = is_or_constant(op, left, &right.node);
-    let by_nodes = at(told_between(op, &left.node, &right.node), operator).or(when(
-        constant,
-        Rule::OrConstant,
-        operator,
-    ));
+    let alone = matches!(right.node, Node::Constant) && is_compared(op, &left.node, &left.inner);
+    let by_nodes = at(told_between(op, &left.node, &right.node), operator)
+        .or(when(
+            is_of_constants(op, lexemes, right),
+            Rule::BitsCompared,
+            operator,
+        ))
+        .or(when(alone, Rule::OrConstant, operator));
     let by_values = of_value(lexemes, op, left, right).or(of_value(
         lexemes,
         mirrored(op),
@@ -66,20 +68,52 @@ fn when(holds: bool, rule: Rule, token: usize) -> Option<Notice>
     }
 }
 
-// Whether it is `c == 'a' | 'e'`.
-fn is_or_constant(op: BinOp, left: &Part, right: &Node) -> bool
-    ensures { result ≡ is_or_constant op left.now.node left.now.inner right.now }
+// Whether a comparison is left of `&` or `|`, or last on the left of the same operator.
+fn is_compared(op: BinOp, left: &Node, inner: &Node) -> bool
+    ensures { result ≡ is_compared op left.now inner.now }
 {
     match op {
-        BinOp::Or => match *right {
-            Node::Constant => match left.node {
-                Node::Binary(BinOp::Or) => is_comparison(&left.inner),
-                _ => is_comparison(&left.node),
-            },
-            _ => false,
+        BinOp::Or => match *left {
+            Node::Binary(BinOp::Or) => is_comparison(inner),
+            _ => is_comparison(left),
+        },
+        BinOp::And => match *left {
+            Node::Binary(BinOp::And) => is_comparison(inner),
+            _ => is_comparison(left),
         },
         _ => false,
     }
+}
+
+// Whether it is the right part of `f(x) & 4 == 4`.
+fn is_of_constants(op: BinOp, lexemes: &[Lexeme], part: &Part) -> bool
+    ensures { result ≡ is_of_constants op lexemes.now part.now }
+{
+    match op {
+        BinOp::And | BinOp::Or => compares_constants(lexemes, part),
+        _ => false,
+    }
+}
+
+fn compares_constants(lexemes: &[Lexeme], part: &Part) -> bool
+    ensures { result ≡ compares_constants lexemes.now part.now.node part.now }
+{
+    match part.node {
+        Node::Binary(op) => {
+            compares(op)
+                && (matches!(part.inner, Node::Constant)
+                    && (is_constant_lexeme(&lexeme_at(lexemes, part.first))
+                        && part.first < part.operator
+                        && part.operator - 1 == part.first))
+        }
+        _ => false,
+    }
+}
+
+fn is_constant_lexeme(lexeme: &Lexeme) -> bool
+    ensures { result ≡ is_constant_lexeme lexeme.now }
+{
+    matches!(*lexeme, Lexeme::Number(_) | Lexeme::Character(_))
 }
 
 // What is said of a part that is compared with another one.
@@ -121,9 +155,13 @@ fn value_of(lexemes: &[Lexeme], part: &Part) -> Value
 {
     match part.node {
         Node::Text => Value::Text,
+        Node::Grouped => match part.inner {
+            Node::Text => Value::Text,
+            _ => Value::Other,
+        },
         Node::Constant => constant_of(&lexeme_at(lexemes, part.first)),
         Node::Negate => match part.inner {
-            Node::Constant => negated_of(&lexeme_after(lexemes, part.first)),
+            Node::Constant => negated_of(&lexeme_after(lexemes, part.first, 1)),
             _ => Value::Other,
         },
         _ => Value::Other,
@@ -149,18 +187,19 @@ fn negated_of(lexeme: &Lexeme) -> Value
     }
 }
 
-// The token of this number.
-fn lexeme_at(lexemes: &[Lexeme], token: usize) -> Lexeme
+/// The token of this number.
+pub(crate) fn lexeme_at(lexemes: &[Lexeme], token: usize) -> Lexeme
     ensures { result ≡ lexeme_at lexemes.now token }
 {
     lexemes.get(token).copied().unwrap_or(Lexeme::End)
 }
 
-fn lexeme_after(lexemes: &[Lexeme], token: usize) -> Lexeme
-    ensures { result ≡ lexeme_at lexemes.now (token + 1) }
+/// The token so many after this one.
+pub(crate) fn lexeme_after(lexemes: &[Lexeme], token: usize, count: usize) -> Lexeme
+    ensures { result ≡ lexeme_at lexemes.now (token + count) }
 {
-    if token < lexemes.len() {
-        lexeme_at(lexemes, token + 1)
+    if token < lexemes.len() && count < lexemes.len() - token {
+        lexeme_at(lexemes, token + count)
     } else {
         Lexeme::End
     }
@@ -169,13 +208,28 @@ fn lexeme_after(lexemes: &[Lexeme], token: usize) -> Lexeme
 fn of_assigned(lexemes: &[Lexeme], left: &Part, right: &Part) -> Option<Notice>
     ensures { result ≡ of_assigned lexemes.now left.now right.now }
 {
+    let operator = right.first.saturating_sub(1);
+    let chooses = is_constant_choice(lexemes, right);
     let holds = matches!(left.node, Node::Name)
         && (is_counted(&right.node, &right.inner)
             && is_same_name(
                 &lexeme_at(lexemes, left.first),
                 &lexeme_at(lexemes, right.first),
             ));
-    when(holds, Rule::AssignsItself, right.first.saturating_sub(1))
+    when(chooses, Rule::ConditionAssigns, operator).or(when(holds, Rule::AssignsItself, operator))
+}
+
+// Whether it is `1 ? a : b`, whose condition is the constant.
+fn is_constant_choice(lexemes: &[Lexeme], part: &Part) -> bool
+    ensures { result ≡ is_constant_choice lexemes.now part.now.node part.now.first }
+{
+    match part.node {
+        Node::Conditional => {
+            is_constant_lexeme(&lexeme_at(lexemes, part.first))
+                && matches!(lexeme_after(lexemes, part.first, 1), Lexeme::Question)
+        }
+        _ => false,
+    }
 }
 
 fn is_same_name(one: &Lexeme, other: &Lexeme) -> bool
@@ -211,10 +265,11 @@ fn passes(lexemes: &[Lexeme], called: Option<usize>, given: Option<usize>) -> Op
     }
 }
 
-fn of_condition(part: &Part) -> Option<Notice>
-    ensures { result ≡ of_condition part.now }
+fn of_condition(lexemes: &[Lexeme], part: &Part) -> Option<Notice>
+    ensures { result ≡ of_condition lexemes.now part.now }
 {
-    at(decided(&part.core, &part.inner), part.operator)
+    let calls = matches!(lexeme_after(lexemes, part.operator, 2), Lexeme::OpenParen);
+    at(decided(&part.core, &part.inner, calls), part.operator)
 }
 
 // A condition of an `if` or a `while`.
@@ -222,16 +277,39 @@ fn of_tested(lexemes: &[Lexeme], next: usize, part: &Part) -> Option<Notice>
     ensures { result ≡ of_tested lexemes.now next part.now }
 {
     let keyword = lexeme_at(lexemes, part.first.saturating_sub(2));
-    of_whole(part).or(of_use(lexemes, &keyword, next, part))
+    of_whole(lexemes, part).or(of_use(lexemes, &keyword, next, part))
 }
 
-// In parentheses of its own an assignment is meant.
-fn of_whole(part: &Part) -> Option<Notice>
-    ensures { result ≡ of_whole part.now part.now.node }
+// In parentheses of its own an assignment is meant, but not that of a comparison of a character.
+fn of_whole(lexemes: &[Lexeme], part: &Part) -> Option<Notice>
+    ensures { result ≡ of_whole lexemes.now part.now part.now.node }
 {
     match part.node {
-        Node::Grouped => None,
-        _ => of_condition(part),
+        Node::Grouped => {
+            let holds = assigns_comparison(&part.core, &part.inner)
+                && is_source(&lexeme_after(lexemes, part.operator, 1));
+            when(holds, Rule::AssignsComparison, part.operator)
+        }
+        _ => of_condition(lexemes, part),
+    }
+}
+
+fn assigns_comparison(core: &Node, last: &Node) -> bool
+    ensures { result ≡ assigns_comparison core.now last.now }
+{
+    match *core {
+        Node::Assigned(None) => is_comparison(last),
+        _ => false,
+    }
+}
+
+// Whether it is `getchar` or `char`.
+fn is_source(lexeme: &Lexeme) -> bool
+    ensures { result ≡ is_source lexeme.now }
+{
+    match *lexeme {
+        Lexeme::Name(name) => name.as_str() == "getchar" || name.as_str() == "char",
+        _ => false,
     }
 }
 
@@ -239,11 +317,12 @@ fn of_use(lexemes: &[Lexeme], keyword: &Lexeme, next: usize, part: &Part) -> Opt
     ensures { result ≡ of_use lexemes.now keyword.now next part.now }
 {
     let body = lexeme_at(lexemes, next);
+    let after = lexeme_after(lexemes, next, 1);
     match *keyword {
         Lexeme::Keyword(Keyword::While) => {
-            until_zero(lexemes, part.name).or(empty_loop(&body, part, next))
+            until_zero(lexemes, part.name).or(empty_loop(&body, &after, part, next))
         }
-        _ => empty_if(&body, &lexeme_after(lexemes, next), next),
+        _ => empty_if(&body, &after, next),
     }
 }
 
@@ -264,14 +343,18 @@ fn until_zero(lexemes: &[Lexeme], name: Option<usize>) -> Option<Notice>
     }
 }
 
-fn empty_loop(body: &Lexeme, condition: &Part, token: usize) -> Option<Notice>
-    ensures { result ≡ empty_loop body.now condition.now token }
+// A block after the `;` was meant to be the body.
+fn empty_loop(body: &Lexeme, after: &Lexeme, condition: &Part, token: usize) -> Option<Notice>
+    ensures { result ≡ empty_loop body.now after.now condition.now token }
 {
     match *body {
-        Lexeme::Semicolon => {
-            let goes_on = matches!(condition.node, Node::Constant) || condition.acts;
-            when(!goes_on, Rule::EmptyLoop, token)
-        }
+        Lexeme::Semicolon => match *after {
+            Lexeme::OpenBrace => when(true, Rule::EmptyLoop, token),
+            _ => {
+                let goes_on = matches!(condition.node, Node::Constant) || condition.acts;
+                when(!goes_on, Rule::EmptyLoop, token)
+            }
+        },
         _ => None,
     }
 }
@@ -291,13 +374,27 @@ fn empty_if(body: &Lexeme, after: &Lexeme, token: usize) -> Option<Notice>
     }
 }
 
+// Of two parts the operator, else the first token.
+fn dropped_at(part: &Part) -> usize
+    ensures { result ≡ dropped_at part.now.node part.now }
+{
+    match part.node {
+        Node::Binary(_) => part.operator,
+        _ => part.first,
+    }
+}
+
 fn of_statement(part: &Part) -> Option<Notice>
     ensures { result ≡ of_statement part.now }
 {
     if is_comparison(&part.node) {
         when(true, Rule::ComparesAlone, part.operator)
     } else if part.acts {
-        when(is_arithmetic(&part.node), Rule::ValueDropped, part.operator)
+        when(
+            drops(&part.node, &part.inner),
+            Rule::ValueDropped,
+            dropped_at(part),
+        )
     } else {
         when(true, of_idle(&part.node), part.first)
     }
