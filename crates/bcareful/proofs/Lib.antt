@@ -1,4 +1,6 @@
+pub mod Going
 pub mod Loaded
 pub mod Looking
 pub mod Steps
+pub mod WarnedSteps
 pub mod Whole

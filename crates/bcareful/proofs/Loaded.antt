@@ -1,9 +1,9 @@
 -- What a careful run of a program that was loaded comes to is what one of its definitions comes to.
-use Rattle.std.proofs.Common.{◌≡◌, ◌∙◌, ℕ, List, [], ◌∷◌, ◌++◌, Some, ap, map, refl, subst, sym}
-use Rattle.bword.specs.ByteEnds.{Incoming, Outgoing}
+use Rattle.std.proofs.Common.{◌≡◌, ◌∙◌, ℕ, List, [], ◌∷◌, ◌++◌, Some, ap, map, refl, subst, sym, unwrap_or}
+use Rattle.bword.specs.ByteEnds.{CanFollow, Incoming, Outgoing}
 use Rattle.blang.specs.declared.code.Definition.{Definition}
 use Rattle.blang.specs.declared.run.Outcome.{Outcome}
-use Rattle.blang.specs.Machine.{Call, Halted, Image, Running, State, States, Stuck, image_of, machine, state_world}
+use Rattle.blang.specs.Machine.{Call, Halted, Image, Loaded, Running, State, States, Stuck, image_of, machine, state_world}
 use Rattle.blang.specs.Reports.{AsksForByte, RunGives, state_outcome}
 use Rattle.bmach.specs.Resolved.{IsLoadedFrom, call_resolved, resolved, state_resolved}
 use Rattle.bmach.specs.Stepping.{IsUnstarted, Paused}
@@ -13,12 +13,14 @@ use Rattle.bmach.proofs.LoadedRuns.{asks-resolved, outcome-resolved, world-resol
 use Rattle.bmach.proofs.Resolving.{stored-resolved}
 use Rattle.bmach.proofs.Running.{run_alike}
 use Rattle.btools.specs.Programs.{steps_from}
-use Rattle.btools.proofs.Stopped.{states_loaded, stops_run}
+use Rattle.btools.proofs.Stopped.{runs_whole, states_loaded, stops_run}
 use Rattle.bwatch.specs.Sights.{Sights, sight_of, sights_of}
 use Rattle.bcareful.specs.Things.{Atlas}
 use Rattle.bcareful.specs.Findings.{careful, made_by}
 use Rattle.bcareful.specs.Carefuls.{IsClean, IsFound, IsUnfound, StaysAt}
+use Rattle.bcareful.specs.Warned.{IsAll, WarnGives}
 use Rattle.bcareful.specs.declared.watching.Found.{Found}
+use Rattle.btrace.specs.RowTexts.{Legend}
 
 below_same : (I : Image) (below : List Call) → map active_of (map (call_resolved I) below) ≡ map active_of below
 below_same I [] = refl
@@ -89,4 +91,14 @@ module _ (ds : List Definition) (image : Image) (p : Paused) (loaded : IsLoadedF
     gives = gives_alike n i j o q stop.outcome h.gives;
     unfound = λ limit. unfound_alike n i j (h.unfound limit);
     stops = stops_run ds image p loaded begins n i j stop.outcome stop.call stop.steps h.stops;
+  }
+
+  -- a run that goes on after its findings
+  pub warned_alike : (legend : Legend) (source : List ℕ) (n : ℕ) (i j : Incoming) (o q : Outgoing) (stop : Stop) (text : List ℕ) → WarnGives a legend source p.image.functions (steps_from p) n i j o q stop text → WarnGives a legend source I.functions (machine ds) n i j o q stop text
+  warned_alike legend source n i j o q stop text h = record {
+    gives = runs_whole ds image p loaded begins n i j stop.outcome o q h.gives;
+    stops = stops_run ds image p loaded begins n i j stop.outcome stop.call stop.steps h.stops;
+    taken = h.taken;
+    took = h.took;
+    told = λ more can. subst (λ (s : Sights). IsAll a legend source stop.outcome s stop.steps text) (seen_alike (h.taken ++ more)) (h.told more can);
   }

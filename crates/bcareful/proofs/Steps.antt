@@ -1,6 +1,6 @@
 -- Steps of a careful run, one after another.
-use Rattle.std.proofs.Common.{◌≡◌, ◌∙◌, ℕ, zero, suc, ◌+◌, ◌-◌, ◌<◌, ◌≤◌, List, [], ◌++◌, Err, None, Ok, Some, ap, append_assoc, arith, inl, inr, refl, subst, sym, ⊎_elim}
-use Rattle.std.specs.Prelude.{true, false, is_some, if◌then◌else◌}
+use Rattle.std.proofs.Common.{◌≡◌, ◌∙◌, ◌⊎◌, ℕ, zero, suc, ◌+◌, ◌-◌, ◌<◌, ◌≤◌, List, [], ◌++◌, Err, None, Ok, Option, Some, ap, append_assoc, arith, inl, inr, refl, subst, sym, ⊎_elim}
+use Rattle.std.specs.Prelude.{Bool, true, false, is_some, if◌then◌else◌}
 use Rattle.bword.specs.ByteEnds.{CanFollow, Incoming, Outgoing, Took, Writes}
 use Rattle.bword.proofs.Putting.{Writes-append}
 use Rattle.bword.proofs.Taking.{Took-append}
@@ -8,25 +8,27 @@ use Rattle.bword.specs.declared.ends.EndFault.{EndFault}
 use Rattle.bword.specs.declared.ends.EndFault.TheVariants as end_fault
 use Rattle.blang.specs.declared.run.Outcome.{Outcome}
 use Rattle.blang.specs.declared.run.Outcome.TheVariants as outcome
-use Rattle.blang.specs.Machine.{Halted, Image, Running, State, States, Stuck, state_world, step, steps}
-use Rattle.blang.specs.Reports.{AsksForByte, ComesTo, Shows, StopsAtRead, StopsAtWrite, StopsForMemory, state_outcome}
+use Rattle.blang.specs.Machine.{Halted, Image, Loaded, Running, State, States, Stuck, state_world, step, steps}
+use Rattle.blang.specs.Reports.{AsksForByte, ComesTo, RunGives, Shows, StopsAtRead, StopsAtWrite, StopsForMemory, state_outcome}
 use Rattle.bmach.specs.Stepping.{Paused, machine_at}
 use Rattle.bmach.specs.Stops.{IsOverAt, active_of}
 use Rattle.bmach.specs.declared.machine.Active.{Active}
 use Rattle.bmach.specs.declared.machine.Stop.{Stop}
 use Rattle.bmach.proofs.Stopping.{stands_after, stops_before}
-use Rattle.bmach.specs.Turns.{FailsAtRead, FailsAtWrite, FailsForMemory, HasHalted, MovesOn, TurnGives}
+use Rattle.bmach.specs.Turns.{FailsAtRead, FailsAtWrite, FailsForMemory, HasHalted, MovesOn, Shown, TurnGives}
 use Rattle.bmach.proofs.Asking.{asks_if_taken}
 use Rattle.bmach.proofs.Running.{IsOver, following, one_more, over_stays, steps_add}
-use Rattle.bmach.proofs.Turning.{follows, goes_on, runs_on}
+use Rattle.bmach.proofs.Turning.{follows, runs_on}
 use Rattle.btools.specs.Programs.{steps_from}
 use Rattle.bwatch.specs.Sights.{Sight, Sights, sight_at, sight_of, sights_of}
+use Rattle.bcareful.proofs.Going as going
+use Rattle.bcareful.proofs.Going.{IsOn, seen_from}
 use Rattle.bcareful.specs.Things.{Atlas}
 use Rattle.bcareful.specs.Marks.{Marks, unbegun}
-use Rattle.bcareful.specs.Effects.{changed_in, changed_to, effect_of, marks_at, step_by, step_in}
+use Rattle.bcareful.specs.Effects.{changed_in, changed_to, effect_of, marks_at, next_step, step_in}
 use Rattle.bcareful.specs.Findings.{careful, finding_at, finding_of, made_by}
 use Rattle.bcareful.specs.Stays.{StaysAtFirst}
-use Rattle.bcareful.specs.Carefuls.{CarefulGives, IsClean}
+use Rattle.bcareful.specs.Carefuls.{CarefulGives, IsClean, IsFound, IsUnfound, StaysAt}
 use Rattle.bcareful.specs.declared.effect.Effect.TheVariants.{Begins}
 use Rattle.bcareful.specs.declared.finding.Finding.{Finding}
 use Rattle.bcareful.specs.declared.watching.Ended.TheVariants as ended
@@ -36,31 +38,22 @@ use Rattle.bcareful.specs.declared.watching.Found.{Found}
 abbrev pub stop_at : Outcome → Active → (steps : ℕ) → Stop
 stop_at result call steps = record { outcome = result; call = call; steps = steps }
 
-add_one : (n : ℕ) → n + 1 ≡ suc n
+pub add_one : (n : ℕ) → n + 1 ≡ suc n
 add_one n = omega arith
-
--- a run as it is seen from a state on
-abbrev pub seen_from : Paused → (input : List ℕ) → Sights
-seen_from first input = sights_of first.image.functions (steps_from first) input
 
 -- the marks where a call of the main function begins
 abbrev pub main_marks : Atlas → Paused → Marks
 main_marks a p = changed_in a (Begins 0) (active_of p.call) (unbegun a)
 
--- So many steps were made from a state on, and none of them had a finding.
-pub record IsOn (a : Atlas) (first : Paused) (made : ℕ) (now : Paused) (marks : Marks) (i j : Incoming) (o p : Outgoing) : Type 0 where
-  pub image_is : now.image ≡ first.image
-  pub goes : MovesOn (following first.image made (machine_at first)) (machine_at now) i j o p
-  pub clean : (more : List ℕ) → CanFollow j more → made_by a (seen_from first (goes.taken ++ more)) made ≡ made
-  pub marked : (more : List ℕ) → CanFollow j more → marks_at a (seen_from first (goes.taken ++ more)) made ≡ marks
+-- what is found at the next step, and the marks after it
+module _ (a : Atlas) (sights : Sights) (made : ℕ) (now : Paused) (marks : Marks) (before : List ℕ) (here : sights made ≡ sight_at now before) (is : marks_at a sights made ≡ marks) where
+  pub finding_next : finding_at a sights made ≡ finding_of (next_step a now marks)
+  finding_next = λ k. finding_of (step_in a (here k) (is k))
 
-pub none_on : (a : Atlas) (first : Paused) (i : Incoming) (o : Outgoing) → IsOn a first 0 first (main_marks a first) i i o o
-none_on a first i o = record {
-  image_is = refl;
-  goes = goes_on (following first.image 0 (machine_at first)) (machine_at first) i o (λ left before. refl);
-  clean = λ more can. refl;
-  marked = λ more can. refl;
-}
+  pub marks_next : (after : Paused) (later : List ℕ) → sights (made + 1) ≡ sight_at after later
+      → marks_at a sights (made + 1) ≡ changed_in a (effect_of (next_step a now marks)) (active_of after.call) marks
+  marks_next after later there =
+      ap (marks_at a sights) (add_one made) ∙ (λ k. changed_to a (effect_of (step_in a (here k) (is k))) (there k) (is k))
 
 -- a run that stays at a finding
 stays : (a : Atlas) (sights : Sights) (k : ℕ) (f : Finding) → made_by a sights k ≡ k → finding_at a sights k ≡ Some f → (d : ℕ) → made_by a sights (k + d) ≡ k
@@ -101,11 +94,23 @@ over r other (Running call below w) e = absurd (other e)
 over r other (Halted h w) e = tt
 over r other (Stuck w) e = tt
 
+-- one more, where the next step has no finding
+goes_further : (a : Atlas) (sights : Sights) (made : ℕ) → made_by a sights made ≡ made → finding_at a sights made ≡ None → made_by a sights (made + 1) ≡ made + 1
+goes_further a sights made so none = ap (made_by a sights) (add_one made) ∙ rw so (rw none refl)
+
 -- a sight with an output has it
 own_output : (s : Sight) (p : Paused) (output : List ℕ) → s ≡ sight_at p output → s ≡ sight_at p s.output
 own_output s p output is = is ∙ ap (sight_at p) (sym (ap (λ (x : Sight). x.output) is))
 
-module _ (a : Atlas) (first now after : Paused) (made : ℕ) (marks : Marks) {i j : Incoming} {o p : Outgoing} (t : IsOn a first made now marks i j o p) where
+-- No step so far had a finding, and these are the marks.
+pub record IsCleanSo (a : Atlas) (marks : Marks) (sights : Sights) (made : ℕ) : Type 0 where
+  pub clean : made_by a sights made ≡ made
+  pub marked : marks_at a sights made ≡ marks
+
+pub none_on : (a : Atlas) (first : Paused) (i : Incoming) (o : Outgoing) → IsOn (IsCleanSo a (main_marks a first)) first 0 first i i o o
+none_on a first i o = going.none_on (IsCleanSo a (main_marks a first)) first i o (λ input. record { clean = refl; marked = refl })
+
+module _ (a : Atlas) (first now after : Paused) (made : ℕ) (marks : Marks) {i j : Incoming} {o p : Outgoing} (t : IsOn (IsCleanSo a marks) first made now i j o p) where
   abbrev states : List ℕ → ℕ → State
   states more = steps_from first (t.goes.taken ++ more)
 
@@ -113,67 +118,32 @@ module _ (a : Atlas) (first now after : Paused) (made : ℕ) (marks : Marks) {i 
   sights more = seen_from first (t.goes.taken ++ more)
 
   here : (more : List ℕ) → CanFollow j more → states more made ≡ machine_at now more t.goes.output
-  here more can = t.goes.comes more [] can
+  here = going.here (IsCleanSo a marks) first now made t
 
   sight_here : (more : List ℕ) → CanFollow j more → sights more made ≡ sight_at now t.goes.output
-  sight_here more can = ap (sight_of first.image.functions) (here more can) ∙ ap (λ (x : Image). sight_of x.functions (machine_at now more t.goes.output)) (sym t.image_is)
+  sight_here = going.sight_here (IsCleanSo a marks) first now made t
 
-  -- what is found at the next step, and what it does
-  found_here : (more : List ℕ) → CanFollow j more → finding_at a (sights more) made ≡ finding_of (step_by a (active_of now.call) now.call.operands marks)
-  found_here more can = λ k. finding_of (step_in a (sight_here more can k) (t.marked more can k))
-
-  effect_here : (more : List ℕ) → CanFollow j more → effect_of (step_in a (sights more made) (marks_at a (sights more) made)) ≡ effect_of (step_by a (active_of now.call) now.call.operands marks)
-  effect_here more can = λ k. effect_of (step_in a (sight_here more can k) (t.marked more can k))
+  -- what is found at the next step
+  found_here : (more : List ℕ) → CanFollow j more → finding_at a (sights more) made ≡ finding_of (next_step a now marks)
+  found_here more can = finding_next a (sights more) made now marks t.goes.output (sight_here more can) (t.has more can).marked
 
   -- how many steps are made where the next one has no finding
-  made_next : finding_of (step_by a (active_of now.call) now.call.operands marks) ≡ None → (more : List ℕ) → CanFollow j more → made_by a (sights more) (made + 1) ≡ made + 1
-  made_next none more can =
-      let so = t.clean more can in
-      let f = found_here more can ∙ none in
-      ap (made_by a (sights more)) (add_one made) ∙ rw so (rw f refl)
+  made_next : finding_of (next_step a now marks) ≡ None → (more : List ℕ) → CanFollow j more → made_by a (sights more) (made + 1) ≡ made + 1
+  made_next none more can = goes_further a (sights more) made (t.has more can).clean (found_here more can ∙ none)
 
   -- a step more
-  pub one_on : {m : Incoming} {q : Outgoing} → TurnGives now.image (machine_at now) (machine_at after) j m p q (Ok tt) → after.image ≡ now.image → finding_of (step_by a (active_of now.call) now.call.operands marks) ≡ None
-      → (marks' : Marks) → marks' ≡ changed_in a (effect_of (step_by a (active_of now.call) now.call.operands marks)) (active_of after.call) marks → IsOn a first (made + 1) after marks' i m o q
-  one_on {m} {q} g same none marks' is =
-      let g' : MovesOn (λ left before. step first.image (machine_at now left before)) (machine_at after) j m p q =
-      subst (λ (x : Image). MovesOn (λ left before. step x (machine_at now left before)) (machine_at after) j m p q) t.image_is g in
-      record {
-        image_is = same ∙ t.image_is;
-        goes = record {
-          taken = t.goes.taken ++ g'.taken;
-          took = Took-append t.goes.took g'.took;
-          no_failure = g'.no_failure ∙ t.goes.no_failure;
-          output = t.goes.output ++ g'.output;
-          written = Writes-append t.goes.written g'.written;
-          comes = λ more before can.
-              ap (λ left. steps first.image (made + 1) (machine_at first left before)) (append_assoc t.goes.taken g'.taken more)
-              ∙ one_more first.image made _ _ (t.goes.comes (g'.taken ++ more) before (follows g'.took can))
-              ∙ g'.comes more (before ++ t.goes.output) can
-              ∙ ap (machine_at after more) (append_assoc before t.goes.output g'.output);
-        };
-        clean = λ more can.
-            subst (λ (input : List ℕ). made_by a (seen_from first input) (made + 1) ≡ made + 1) (sym (append_assoc t.goes.taken g'.taken more))
-            (made_next none (g'.taken ++ more) (follows g'.took can));
-        marked = λ more can.
-            let xs = g'.taken ++ more in
-            let can' = follows g'.took can in
-            let came : states xs (made + 1) ≡ machine_at after more (t.goes.output ++ g'.output) =
-            one_more first.image made _ _ (here xs can') ∙ g'.comes more t.goes.output can in
-            let seen : sights xs (made + 1) ≡ sight_at after (t.goes.output ++ g'.output) =
-            ap (sight_of first.image.functions) came ∙ ap (λ (x : Image). sight_of x.functions (machine_at after more (t.goes.output ++ g'.output))) (sym (same ∙ t.image_is)) in
-            let next : marks_at a (sights xs) (made + 1) ≡ marks' =
-            ap (marks_at a (sights xs)) (add_one made)
-            ∙ (λ k. changed_to a (effect_here xs can' k) (seen k) (t.marked xs can' k))
-            ∙ sym is in
-            subst (λ (input : List ℕ). marks_at a (seen_from first input) (made + 1) ≡ marks') (sym (append_assoc t.goes.taken g'.taken more)) next;
-      }
+  pub one_on : {m : Incoming} {q : Outgoing} → TurnGives now.image (machine_at now) (machine_at after) j m p q (Ok tt) → after.image ≡ now.image → finding_of (next_step a now marks) ≡ None
+      → (marks' : Marks) → marks' ≡ changed_in a (effect_of (next_step a now marks)) (active_of after.call) marks → IsOn (IsCleanSo a marks') first (made + 1) after i m o q
+  one_on g same none marks' is = going.one_on (IsCleanSo a marks) first now made t (IsCleanSo a marks') after g same (λ sights before later here there so. record {
+    clean = goes_further a sights made so.clean (finding_next a sights made now marks before here so.marked ∙ none);
+    marked = marks_next a sights made now marks before here so.marked after later there ∙ sym is;
+  })
 
   -- a careful machine is at the same state
   careful_here : (more : List ℕ) → CanFollow j more → careful a first.image.functions (steps_from first) (t.goes.taken ++ more) made ≡ machine_at now more t.goes.output
-  careful_here more can = ap (states more) (t.clean more can) ∙ here more can
+  careful_here more can = ap (states more) ((t.has more can).clean) ∙ here more can
 
-  careful_next : finding_of (step_by a (active_of now.call) now.call.operands marks) ≡ None → (more : List ℕ) → CanFollow j more
+  careful_next : finding_of (next_step a now marks) ≡ None → (more : List ℕ) → CanFollow j more
       → careful a first.image.functions (steps_from first) (t.goes.taken ++ more) (made + 1) ≡ step now.image (machine_at now more t.goes.output)
   careful_next none more can =
       ap (states more) (made_next none more can) ∙ one_more first.image made _ _ (here more can)
@@ -200,7 +170,7 @@ module _ (a : Atlas) (first now after : Paused) (made : ℕ) (marks : Marks) {i 
     unfound = λ limit. record {
       taken = t.goes.taken;
       took = t.goes.took;
-      all = λ more can. subst (λ (k : ℕ). made_by a (sights more) k ≡ k) is (t.clean more can);
+      all = λ more can. subst (λ (k : ℕ). made_by a (sights more) k ≡ k) is ((t.has more can).clean);
     };
     stops = subst (λ (k : ℕ). IsOverAt (steps_from first) k i j outcome.Limit call k) is
         (subst (λ (x : Active). IsOverAt (steps_from first) made i j outcome.Limit x made) (sym here_is) (stands_after first.image made (machine_at first) now.call now.below now.store t.goes));
@@ -211,12 +181,12 @@ module _ (a : Atlas) (first now after : Paused) (made : ℕ) (marks : Marks) {i 
     further = omega (arith, lt)
 
     -- the next step has a finding
-    pub found_on : (f : Found) → finding_of (step_by a (active_of now.call) now.call.operands marks) ≡ Some f.finding → f.made ≡ made → f.call ≡ active_of now.call
+    pub found_on : (f : Found) → finding_of (next_step a now marks) ≡ Some f.finding → f.made ≡ made → f.call ≡ active_of now.call
         → CarefulGives a first.image.functions (steps_from first) n i j o p now (ended.Found f)
     unfolding comes_here
     found_on f found at call =
         let stay : (more : List ℕ) → CanFollow j more → made_by a (sights more) n ≡ made =
-        λ more can. ap (made_by a (sights more)) (sym further) ∙ stays a (sights more) made f.finding (t.clean more can) (found_here more can ∙ found) (n - made) in (
+        λ more can. ap (made_by a (sights more)) (sym further) ∙ stays a (sights more) made f.finding ((t.has more can).clean) (found_here more can ∙ found) (n - made) in (
           record {
             taken = t.goes.taken;
             took = t.goes.took;
@@ -240,7 +210,7 @@ module _ (a : Atlas) (first now after : Paused) (made : ℕ) (marks : Marks) {i 
           },
         )
 
-    module _ (none : finding_of (step_by a (active_of now.call) now.call.operands marks) ≡ None) where
+    module _ (none : finding_of (next_step a now marks) ≡ None) where
       least : (more : List ℕ) → CanFollow j more → made + 1 ≤ made_by a (sights more) n
       least more can =
           let so = made_next none more can in

@@ -10,15 +10,16 @@ use Rattle.blang.specs.declared.code.Instr.TheVariants as instr
 use Rattle.blang.specs.declared.code.Ival.TheVariants as ival
 use Rattle.bmach.specs.declared.machine.Active.{Active}
 use Rattle.bparse.specs.Locals.{NamedWord}
-use Rattle.bcareful.specs.Things.{Atlas, external_words, frame_thing, is_cut, is_outside, is_past_end, of_data, owned}
+use Rattle.bcareful.specs.Things.{Atlas, Site, external_words, frame_thing, is_cut, is_outside, is_past_end, of_data}
+use Rattle.bcareful.specs.Things.{owned}
 use Rattle.bcareful.specs.Things.{string_at, string_words}
 use Rattle.bcareful.specs.Marks.{Marks, begun, data_marks, is_over, running}
 use Rattle.bcareful.specs.Effects.{Moment, changed, combined, instr_effect}
-use Rattle.bcareful.specs.Findings.{instr_finding}
+use Rattle.bcareful.specs.Findings.{instr_finding, wraps}
 use Rattle.bcareful.specs.declared.effect.Effect.{Effect}
 use Rattle.bcareful.specs.declared.effect.Effect.TheVariants.{Begins, Ends, Puts, Stores, Takes}
 use Rattle.bcareful.specs.declared.finding.Finding.{Finding}
-use Rattle.bcareful.specs.declared.finding.Finding.TheVariants.{Index, Low, Never, Over, Past}
+use Rattle.bcareful.specs.declared.finding.Finding.TheVariants.{Index, Low, Never, Over, Past, Wraps}
 use Rattle.bcareful.specs.declared.thing.Mark.{Mark}
 use Rattle.bcareful.specs.declared.thing.Mark.TheVariants.{Of, Plain, Unset}
 use Rattle.bcareful.specs.declared.thing.Owner.{Owner}
@@ -27,8 +28,10 @@ use Rattle.bcareful.specs.declared.thing.Thing.{Thing}
 -- a call of `f(a, b)` with `auto v 4, i`, whose frame lies at 10; it is the third call, and two are active
 abbrev pub frame_words : List NamedWord
 frame_words =
-    record { name = codes "a"; offset = 0; is_vector = false } ∷ record { name = codes "b"; offset = 1; is_vector = false }
-    ∷ record { name = codes "v"; offset = 2; is_vector = true } ∷ record { name = codes "i"; offset = 8; is_vector = false }
+    record { name = codes "a"; offset = 0; is_vector = false }
+    ∷ record { name = codes "b"; offset = 1; is_vector = false }
+    ∷ record { name = codes "v"; offset = 2; is_vector = true }
+    ∷ record { name = codes "i"; offset = 8; is_vector = false }
     ∷ []
 
 abbrev pub f : Function
@@ -80,7 +83,8 @@ edges : map (is_outside v) (0 ∷ 12 ∷ 13 ∷ 17 ∷ 18 ∷ 65535 ∷ []) ≡ 
 edges = refl
 
 -- strings that end with a low and with a high byte, and one at the end of memory
-strings : map string_words ((1633 ∷ 1122 ∷ 4 ∷ 9 ∷ []) ∷ (4 ∷ []) ∷ (1024 ∷ 7 ∷ []) ∷ (97 ∷ []) ∷ []) ≡ 2 ∷ 1 ∷ 1 ∷ 1 ∷ []
+strings : map string_words ((1633 ∷ 1122 ∷ 4 ∷ 9 ∷ []) ∷ (4 ∷ []) ∷ (1024 ∷ 7 ∷ []) ∷ (97 ∷ []) ∷ [])
+    ≡ 2 ∷ 1 ∷ 1 ∷ 1 ∷ []
 strings = refl
 
 cut_strings : map is_cut ((1633 ∷ 1122 ∷ 4 ∷ 9 ∷ []) ∷ (4 ∷ []) ∷ (25185 ∷ 4 ∷ []) ∷ (1028 ∷ []) ∷ (97 ∷ []) ∷ [])
@@ -106,8 +110,22 @@ over_calls = (refl, refl, refl, refl)
 data_is_never_over : (is_over [] (data_thing 7 1) ≡ false) × (is_over (0 ∷ 3 ∷ []) (data_thing 7 1) ≡ false)
 data_is_never_over = (refl, refl)
 
+-- the externals `x 1, v, "ab";` and `v[2] 5;`
+abbrev pub externals : List Definition
+externals =
+    definition.Simple (record {
+      name = codes "x";
+      values = ival.Number 1 ∷ ival.Name (codes "v") ∷ ival.Text 0 ∷ [];
+      strings = 1633 ∷ 4 ∷ [];
+    })
+    ∷ definition.Vector (record { name = codes "v"; words = 3; values = ival.Number 5 ∷ []; strings = [] })
+    ∷ []
+
+abbrev pub atlas : Atlas
+atlas = record { definitions = externals; functions = []; frames = []; address_of = λ x. 12; wraps = false }
+
 abbrev pub no_atlas : Atlas
-no_atlas = record { definitions = []; functions = []; frames = []; address_of = λ x. 4 }
+no_atlas = record { definitions = []; functions = []; frames = []; address_of = λ x. 4; wraps = true }
 
 -- `a`, `b` and the own word of `v` are set, and so is its first word
 abbrev pub words : List Mark
@@ -120,6 +138,7 @@ before operands marks = record {
   call = call;
   site = record { function = f; words = frame_words };
   operands = operands;
+  modified = 32767;
   marks = record { operands = marks; words = words; calls = 0 ∷ 2 ∷ []; next = 3 };
 }
 
@@ -180,7 +199,8 @@ low_words : (on_load 6 Plain ≡ Some (Low 6)) × (on_store 0 Plain ≡ Some (Lo
     × (on_store 7 Plain ≡ None)
 low_words = (refl, refl, refl, refl)
 
-past_frames : (on_load 19 Plain ≡ Some (Low 19)) × (on_store 18 Plain ≡ None) × (on_store 65535 Plain ≡ Some (Low 65535))
+past_frames : (on_load 19 Plain ≡ Some (Low 19)) × (on_store 18 Plain ≡ None)
+    × (on_store 65535 Plain ≡ Some (Low 65535))
 past_frames = (refl, refl, refl)
 
 -- a word of a call that is over, wherever it lies
@@ -188,7 +208,8 @@ abbrev pub gone : Thing
 gone = owned (record { depth = 2; number = 1 }) 14 1
 
 over_frame : (on_load 14 (Of gone) ≡ Some (Over 14)) × (on_store 14 (Of gone) ≡ Some (Over 14))
-    × (on_load 30 (Of gone) ≡ Some (Over 30)) × (on_load 12 (Of (owned (record { depth = 3; number = 2 }) 12 1)) ≡ Some (Over 12))
+    × (on_load 30 (Of gone) ≡ Some (Over 30))
+    × (on_load 12 (Of (owned (record { depth = 3; number = 2 }) 12 1)) ≡ Some (Over 12))
 over_frame = (refl, refl, refl, refl)
 
 -- a word of the caller
@@ -213,18 +234,58 @@ lchar_in_vector = (refl, refl)
 
 -- a string of two words that ends with the first byte of the second one, and one that ends with the second byte
 char_in_string : (on_char (Of (of_data 8 2 true)) 8 2 ≡ None) × (on_char (Of (of_data 8 2 true)) 8 3 ≡ Some (Past 9))
-    × (on_char (Of (of_data 8 2 true)) 8 4 ≡ Some (Index (of_data 8 2 true) 10)) × (on_char (Of (of_data 8 2 false)) 8 3 ≡ None)
+    × (on_char (Of (of_data 8 2 true)) 8 4 ≡ Some (Index (of_data 8 2 true) 10))
+    × (on_char (Of (of_data 8 2 false)) 8 3 ≡ None)
     × (on_lchar (Of (of_data 8 2 true)) 8 3 ≡ Some (Past 9)) × (on_load 9 (Of (of_data 8 2 true)) ≡ None)
 char_in_string = (refl, refl, refl, refl, refl, refl)
 
-char_without_string : (on_char Plain 0 13 ≡ Some (Low 6)) × (on_char Plain 0 14 ≡ None) × (on_lchar Plain 18 2 ≡ Some (Low 19))
+char_without_string : (on_char Plain 0 13 ≡ Some (Low 6)) × (on_char Plain 0 14 ≡ None)
+    × (on_lchar Plain 18 2 ≡ Some (Low 19))
 char_without_string = (refl, refl, refl)
 
 other_calls : instr_finding (before (97 ∷ 4 ∷ []) (Plain ∷ Plain ∷ [])) (instr.Call 1) ≡ None
 other_calls = refl
 
+-- results at the limits of a word, of numbers on both sides of 0
+sums_that_wrap : map (λ x. wraps op.Add x 1) (0 ∷ 32766 ∷ 32767 ∷ 32768 ∷ 65535 ∷ [])
+    ≡ false ∷ false ∷ true ∷ false ∷ false ∷ []
+sums_that_wrap = refl
+
+differences_that_wrap : map (λ x. wraps op.Sub x 1) (0 ∷ 32767 ∷ 32768 ∷ 32769 ∷ []) ≡ false ∷ false ∷ true ∷ false ∷ []
+differences_that_wrap = refl
+
+products_that_wrap : (wraps op.Mul 5040 8 ≡ true) × (wraps op.Mul 181 181 ≡ false) × (wraps op.Mul 182 182 ≡ true)
+    × (wraps op.Mul 32768 65535 ≡ true) × (wraps op.Mul 32768 1 ≡ false) × (wraps op.Mul 65535 65535 ≡ false)
+products_that_wrap = (refl, refl, refl, refl, refl, refl)
+
+no_other_wraps : map (λ o. wraps o 32768 65535) (op.Or ∷ op.And ∷ op.Eq ∷ op.Ne ∷ op.Lt ∷ op.Le ∷ op.Gt ∷ op.Ge
+    ∷ op.Shl ∷ op.Shr
+    ∷ op.Rem ∷ op.Div ∷ []) ≡ replicate 12 false
+no_other_wraps = refl
+
+-- two numbers, in an expression and in a modification; and addresses, which may wrap
+wraps_found : (instr_finding (before (8 ∷ 5040 ∷ []) (Plain ∷ Plain ∷ [])) (instr.Binary op.Mul)
+    ≡ Some (Wraps op.Mul 5040 8))
+    × (on_modify 11 (Of (thing 10 2)) ≡ Some (Wraps op.Add 32767 3))
+    × (instr_finding (before (3 ∷ 32767 ∷ []) (Of v ∷ Plain ∷ [])) (instr.Binary op.Add) ≡ None)
+    × (instr_finding (before (3 ∷ 32767 ∷ []) (Plain ∷ Of v ∷ [])) (instr.Binary op.Add) ≡ None)
+    × (on_modify 12 (Of (thing 12 1)) ≡ None)
+wraps_found = (refl, refl, refl, refl, refl)
+
+-- where they are not asked for
+wraps_unasked : instr_finding (record {
+  atlas = atlas;
+  call = call;
+  site = record { function = f; words = frame_words };
+  operands = 8 ∷ 5040 ∷ [];
+  modified = 0;
+  marks = record { operands = Plain ∷ Plain ∷ []; words = []; calls = []; next = 0 };
+}) (instr.Binary op.Mul) ≡ None
+wraps_unasked = refl
+
 -- an address with a number is one of its thing, and no other sum is
-sums : (combined op.Add (Of v) Plain ≡ Of v) × (combined op.Add Plain (Of v) ≡ Of v) × (combined op.Add (Of v) (Of v) ≡ Plain)
+sums : (combined op.Add (Of v) Plain ≡ Of v) × (combined op.Add Plain (Of v) ≡ Of v)
+    × (combined op.Add (Of v) (Of v) ≡ Plain)
     × (combined op.Add Plain Plain ≡ Plain) × (combined op.Add Unset (Of v) ≡ Of v)
 sums = (refl, refl, refl, refl, refl)
 
@@ -233,7 +294,8 @@ differences : (combined op.Sub (Of v) Plain ≡ Of v) × (combined op.Sub Plain 
 differences = (refl, refl, refl, refl)
 
 -- no other operator keeps a thing
-other_operators : map (λ o. combined o (Of v) Plain) (op.Or ∷ op.And ∷ op.Eq ∷ op.Ne ∷ op.Lt ∷ op.Le ∷ op.Gt ∷ op.Ge ∷ op.Shl
+other_operators : map (λ o. combined o (Of v) Plain) (op.Or ∷ op.And ∷ op.Eq ∷ op.Ne ∷ op.Lt ∷ op.Le ∷ op.Gt ∷ op.Ge
+    ∷ op.Shl
     ∷ op.Shr ∷ op.Rem ∷ op.Mul ∷ op.Div ∷ []) ≡ replicate 13 Plain
 other_operators = refl
 
@@ -242,10 +304,12 @@ abbrev pub effect : Instr → Effect
 effect i = instr_effect (before (3 ∷ 12 ∷ 7 ∷ []) (Plain ∷ Of (thing 12 1) ∷ Plain ∷ [])) i
 
 put : (effect (instr.Constant 5) ≡ Puts 0 Plain) × (effect (instr.Label 0) ≡ Puts 0 Plain)
-    × (effect (instr.Automatic 4) ≡ Puts 0 (Of v)) × (effect (instr.External (codes "putchar")) ≡ Puts 0 (Of (data_thing 4 1)))
+    × (effect (instr.Automatic 4) ≡ Puts 0 (Of v))
+    × (effect (instr.External (codes "putchar")) ≡ Puts 0 (Of (data_thing 4 1)))
 put = (refl, refl, refl, refl)
 
-put_string : (effect (instr.Text 0) ≡ Puts 0 (Of (of_data 8 2 false))) × (effect (instr.Text 2) ≡ Puts 0 (Of (of_data 10 1 true)))
+put_string : (effect (instr.Text 0) ≡ Puts 0 (Of (of_data 8 2 false)))
+    × (effect (instr.Text 2) ≡ Puts 0 (Of (of_data 10 1 true)))
 put_string = (refl, refl)
 
 load_of_vector : instr_effect (before (12 ∷ []) (Of (thing 12 1) ∷ [])) instr.Load ≡ Puts 1 (Of v)
@@ -260,7 +324,8 @@ store = (refl, refl, refl)
 -- `v =+ 3`, `v++` and `v = v + 1` leave the thing
 moved_vector : (effect (instr.Modify op.Add) ≡ Stores 2 12 (Of v))
     × (instr_effect (before (12 ∷ []) (Of (thing 12 1) ∷ [])) (instr.Increment PostIncrement) ≡ Stores 1 12 (Of v))
-    × (instr_effect (before (1 ∷ 13 ∷ 12 ∷ []) (Of (thing 12 1) ∷ Of v ∷ Plain ∷ [])) (instr.Binary op.Add) ≡ Puts 2 (Of v))
+    × (instr_effect (before (1 ∷ 13 ∷ 12 ∷ []) (Of (thing 12 1) ∷ Of v ∷ Plain ∷ [])) (instr.Binary op.Add)
+    ≡ Puts 2 (Of v))
 moved_vector = (refl, refl, refl)
 
 others : (effect (instr.Binary op.Add) ≡ Puts 2 (Of (thing 12 1))) × (effect instr.Negate ≡ Puts 1 Plain)
@@ -273,7 +338,8 @@ taken = (refl, refl, refl)
 cases : (effect (instr.JumpIfCase 3 0) ≡ Takes 1) × (effect (instr.JumpIfCase 4 0) ≡ Takes 0)
 cases = (refl, refl)
 
-calls : (effect (instr.Call 2) ≡ Begins 2) × (effect (instr.Call 0) ≡ Puts 1 Plain) × (effect instr.Return ≡ Ends 3 Plain)
+calls : (effect (instr.Call 2) ≡ Begins 2) × (effect (instr.Call 0) ≡ Puts 1 Plain)
+    × (effect instr.Return ≡ Ends 3 Plain)
 calls = (refl, refl, refl)
 
 lchar_stores : instr_effect (before (97 ∷ 9 ∷ 13 ∷ 2 ∷ []) (Plain ∷ Of v ∷ Plain ∷ Plain ∷ [])) (instr.Call 3)
@@ -284,7 +350,8 @@ lchar_stores = refl
 used_again : begun 2 (Of v ∷ []) 1 4 (replicate 6 Plain) ≡ Plain ∷ Of v ∷ Plain ∷ Unset ∷ Unset ∷ Plain ∷ []
 used_again = refl
 
-extra_argument : begun 1 (Plain ∷ Of v ∷ []) 1 2 (Unset ∷ Unset ∷ Unset ∷ Unset ∷ []) ≡ Unset ∷ Plain ∷ Unset ∷ Unset ∷ []
+extra_argument : begun 1 (Plain ∷ Of v ∷ []) 1 2 (Unset ∷ Unset ∷ Unset ∷ Unset ∷ [])
+    ≡ Unset ∷ Plain ∷ Unset ∷ Unset ∷ []
 extra_argument = refl
 
 -- what effects do, where a call of `g(x)` with one more word in its frame runs at 1
@@ -302,36 +369,32 @@ call_begins : after (Begins 1) (marks (Unset ∷ Plain ∷ Of v ∷ []) (replica
     ≡ marks (Unset ∷ []) (Plain ∷ Of v ∷ Unset ∷ []) (0 ∷ 5 ∷ []) 6
 call_begins = refl
 
+-- words that no frame had before
+call_grows : after (Begins 0) (marks (Plain ∷ []) (Plain ∷ []) [] 0) ≡ marks [] (Plain ∷ Plain ∷ Unset ∷ []) (0 ∷ []) 1
+call_grows = refl
+
 last_number : after (Begins 0) (marks (Plain ∷ []) (replicate 3 Plain) [] 4294967295)
     ≡ marks [] (Plain ∷ Plain ∷ Unset ∷ []) (4294967295 ∷ []) 0
 last_number = refl
 
 -- a return leaves its word on the caller's operands, and its call is over
-call_ends : after (Ends 1 (Of v)) (marks (Plain ∷ Of v ∷ []) [] (0 ∷ 5 ∷ []) 6) ≡ marks (Plain ∷ Of v ∷ []) [] (0 ∷ []) 6
+call_ends : after (Ends 1 (Of v)) (marks (Plain ∷ Of v ∷ []) [] (0 ∷ 5 ∷ []) 6)
+    ≡ marks (Plain ∷ Of v ∷ []) [] (0 ∷ []) 6
 call_ends = refl
 
-other_effects : (after (Takes 1) (marks (Plain ∷ Unset ∷ []) (Plain ∷ []) (0 ∷ []) 1) ≡ marks (Plain ∷ []) (Plain ∷ []) (0 ∷ []) 1)
-    × (after (Puts 1 (Of v)) (marks (Plain ∷ Unset ∷ []) (Plain ∷ []) (0 ∷ []) 1) ≡ marks (Plain ∷ Of v ∷ []) (Plain ∷ []) (0 ∷ []) 1)
-    × (after (Stores 2 0 (Of v)) (marks (Plain ∷ Plain ∷ []) (Unset ∷ []) (0 ∷ []) 1) ≡ marks (Of v ∷ []) (Of v ∷ []) (0 ∷ []) 1)
+other_effects : (after (Takes 1) (marks (Plain ∷ Unset ∷ []) (Plain ∷ []) (0 ∷ []) 1)
+    ≡ marks (Plain ∷ []) (Plain ∷ []) (0 ∷ []) 1)
+    × (after (Puts 1 (Of v)) (marks (Plain ∷ Unset ∷ []) (Plain ∷ []) (0 ∷ []) 1)
+    ≡ marks (Plain ∷ Of v ∷ []) (Plain ∷ []) (0 ∷ []) 1)
+    × (after (Stores 2 0 (Of v)) (marks (Plain ∷ Plain ∷ []) (Unset ∷ []) (0 ∷ []) 1)
+    ≡ marks (Of v ∷ []) (Of v ∷ []) (0 ∷ []) 1)
 other_effects = (refl, refl, refl)
 
--- the externals `x 1, v, "ab";` and `v[2] 5;`
-abbrev pub externals : List Definition
-externals =
-    definition.Simple (record {
-      name = codes "x";
-      values = ival.Number 1 ∷ ival.Name (codes "v") ∷ ival.Text 0 ∷ [];
-      strings = 1633 ∷ 4 ∷ [];
-    })
-    ∷ definition.Vector (record { name = codes "v"; words = 3; values = ival.Number 5 ∷ []; strings = [] })
-    ∷ []
-
-abbrev pub atlas : Atlas
-atlas = record { definitions = externals; functions = []; frames = []; address_of = λ x. 12 }
-
+-- the sizes and the marks of its externals
 external_sizes : map (external_words externals) (codes "x" ∷ codes "v" ∷ codes "char" ∷ []) ≡ 3 ∷ 1 ∷ 1 ∷ []
 external_sizes = refl
 
 external_marks : data_marks atlas 7 externals
-    ≡ Plain ∷ Of (data_thing 12 1) ∷ Of (of_data 10 2 true) ∷ Plain ∷ Plain ∷ Of (data_thing 13 3) ∷ Plain ∷ Plain ∷ Plain ∷ []
+    ≡ Plain ∷ Of (data_thing 12 1) ∷ Of (of_data 10 2 true) ∷ Plain ∷ Plain ∷ Of (data_thing 13 3) ∷ Plain ∷ Plain
+    ∷ Plain ∷ []
 external_marks = refl

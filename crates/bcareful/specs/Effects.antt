@@ -1,28 +1,36 @@
 -- Promise: what a step does to the marks of words and operands.
-use Rattle.std.specs.Prelude.{ℕ, zero, suc, ◌+◌, ◌-◌, ◌%◌, ◌^◌, ◌==◌, List, [], ◌∷◌, ◌++◌, Option, length, nat_le, nat_lt, slice_get}
-use Rattle.std.specs.Prelude.{option_and_then, option_map, reverse, slice_index, slice_index_or, slice_set, if◌then◌else◌}
+use Rattle.std.specs.Prelude.{ℕ, zero, suc, ◌+◌, ◌-◌, ◌/◌, ◌%◌, ◌^◌, ◌==◌, List, [], ◌∷◌, ◌++◌, Option, Some, None}
+use Rattle.std.specs.Prelude.{length, nat_le, nat_lt, slice_get}
+use Rattle.std.specs.Prelude.{option_and_then, option_map, reverse, slice_index, slice_index_or, slice_set}
+use Rattle.std.specs.Prelude.{if◌then◌else◌}
 use Rattle.std.specs.Option.{option_map_or}
 use Rattle.bword.specs.Words.{byte_address}
 use Rattle.bword.specs.declared.operators.BinOp.{BinOp}
 use Rattle.bword.specs.declared.operators.BinOp.TheVariants.{Add, Sub}
 use Rattle.blang.specs.declared.code.Instr.{Instr}
 use Rattle.blang.specs.declared.code.Instr.TheVariants as instr
+use Rattle.blang.specs.CodeParts.{Function}
+use Rattle.blang.specs.Layout.{store_words}
+use Rattle.bmach.specs.Stepping.{Paused}
+use Rattle.bmach.specs.Stops.{active_of}
 use Rattle.bmach.specs.declared.machine.Active.{Active}
 use Rattle.bwatch.specs.Sights.{Sight, Sights}
 use Rattle.bcareful.specs.Things.{Atlas, Site, external_thing, frame_thing, located, site_of, atlas_of, string_at}
-use Rattle.bcareful.specs.Marks.{Marks, above, begun, below, marks_of, operand_mark, running, unbegun}
+use Rattle.bcareful.specs.Marks.{Marks, above, begun, below, grown, marks_of, operand_mark, running, unbegun}
 use Rattle.bcareful.specs.declared.effect.Effect.{Effect}
 use Rattle.bcareful.specs.declared.effect.Effect.TheVariants.{Begins, Ends, Puts, Stores, Takes}
 use Rattle.bcareful.specs.declared.moment as told
 use Rattle.bcareful.specs.declared.thing.Mark.{Mark}
-use Rattle.bcareful.specs.declared.thing.Mark.TheVariants.{Of, Plain}
+use Rattle.bcareful.specs.declared.thing.Mark.TheVariants.{Of, Plain, Unset}
 
--- a run before a step, in a call of a function: its operands, the topmost first, and the marks of all
+-- a run before a step, in a call of a function: its operands, the topmost first; the word at the address that has one
+-- operand above it; and the marks of all
 pub record Moment : Type 0 where
   pub atlas : Atlas
   pub call : Active
   pub site : Site
   pub operands : List ℕ
+  pub modified : ℕ
   pub marks : Marks
 
 abbrev pub moment_of : told.Moment.Moment → Moment
@@ -31,6 +39,7 @@ moment_of m = record {
   call = m.call;
   site = site_of m.site;
   operands = reverse m.operands.now;
+  modified = m.modified;
   marks = marks_of m.marks.now;
 }
 
@@ -52,7 +61,7 @@ module _ (m : Moment) where
   mark n = operand_mark n m.marks.operands
 
   abbrev pub word_mark : (address : ℕ) → Mark
-  word_mark address = slice_index_or m.marks.words address Plain
+  word_mark address = slice_index_or m.marks.words address Unset
 
   -- an argument of a call with so many, and its mark; one that is missing is 0
   abbrev pub argument : (count number : ℕ) → ℕ
@@ -112,7 +121,8 @@ changed (Stores n address mark) call site m = record {
 }
 changed (Begins n) call site m = record {
   operands = below (n + 1) m.operands;
-  words = begun call.parameters (above n m.operands) call.start site.function.frame m.words;
+  words = begun call.parameters (above n m.operands) call.start site.function.frame
+      (grown (call.start + site.function.frame) m.words);
   calls = m.calls ++ m.next ∷ [];
   next = (m.next + 1) % 2 ^ 32;
 }
@@ -137,23 +147,40 @@ pub record Step : Type 0 where
   pub moment : Moment
   pub instr : Instr
 
-abbrev pub step_of : Atlas → Active → Site → (operands : List ℕ) → Marks → Option Step
-step_of a call site operands marks =
+abbrev pub step_of : Atlas → Active → Site → (operands : List ℕ) → (modified : ℕ) → Marks → Option Step
+step_of a call site operands modified marks =
     option_map
     (λ i. record {
-      moment = record { atlas = a; call = call; site = site; operands = operands; marks = marks };
+      moment = record {
+        atlas = a;
+        call = call;
+        site = site;
+        operands = operands;
+        modified = modified;
+        marks = marks;
+      };
       instr = i;
     })
     (slice_get site.function.code call.place)
 
 -- the next step of a call with these operands, if there is one
-abbrev pub step_by : Atlas → Active → (operands : List ℕ) → Marks → Option Step
-step_by a call operands marks =
-    option_and_then (λ site. step_of a call site operands marks) (located a.functions a.frames call.strings)
+abbrev pub step_by : Atlas → Active → (operands : List ℕ) → (modified : ℕ) → Marks → Option Step
+step_by a call operands modified marks =
+    option_and_then (λ site. step_of a call site operands modified marks) (located a.functions a.frames call.strings)
+
+-- the word at the address that has one operand above it
+abbrev pub modified_in : (store operands : List ℕ) → ℕ
+modified_in store operands = slice_index store (slice_index operands 1)
+
+-- the next step of a run that is paused
+abbrev pub next_step : Atlas → Paused → Marks → Option Step
+next_step a p marks =
+    step_by a (active_of p.call) p.call.operands (modified_in p.store p.call.operands) marks
 
 -- the next step of a run as it is seen
 abbrev pub step_in : Atlas → Sight → Marks → Option Step
-step_in a s marks = option_and_then (λ call. step_by a call s.operands marks) s.call
+step_in a s marks =
+    option_and_then (λ call. step_by a call s.operands (modified_in s.store s.operands) marks) s.call
 
 -- what a step does to the marks
 abbrev pub effect_of : Option Step → Effect

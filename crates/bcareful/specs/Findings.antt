@@ -1,23 +1,45 @@
 -- Promise: what is found at a step.
-use Rattle.std.specs.Prelude.{ℕ, zero, suc, ◌+◌, ◌%◌, ◌==◌, ◌&&◌, ◌||◌, Bool, true, false, List, Option, Some, None, is_some, nat_le, nat_lt}
-use Rattle.std.specs.Prelude.{option_and_then, if◌then◌else◌}
+use Rattle.std.specs.Prelude.{ℕ, zero, suc, ◌+◌, ◌%◌, ◌==◌, ◌&&◌, ◌||◌, Bool, true, false, List, [], Option, Some, None}
+use Rattle.std.specs.Prelude.{is_some, nat_le, nat_lt}
+use Rattle.std.specs.Prelude.{option_and_then, option_map, slice_get, if◌then◌else◌}
+use Rattle.std.specs.Prelude.{ℤ, pos, neg_ℤ, ◌+ℤ◌, ◌-ℤ◌, ◌*ℤ◌, int_le, not}
+use Rattle.std.specs.Option.{option_map_or, option_or}
+use Rattle.bword.specs.Words.{signed_of}
+use Rattle.bword.specs.declared.operators.BinOp.{BinOp}
+use Rattle.bword.specs.declared.operators.BinOp.TheVariants as op
 use Rattle.blang.specs.declared.code.Instr.{Instr}
 use Rattle.blang.specs.declared.code.Instr.TheVariants as instr
+use Rattle.bmach.specs.declared.machine.Active.{Active}
 use Rattle.blang.specs.Machine.{Loaded, States}
-use Rattle.bwatch.specs.Sights.{Sights, sights_of}
+use Rattle.bwatch.specs.Sights.{Sight, Sights, sights_of}
 use Rattle.bcareful.specs.Things.{Atlas, is_outside, is_past_end}
-use Rattle.bcareful.specs.Marks.{is_over}
-use Rattle.bcareful.specs.Effects.{Moment, Step, argument, argument_mark, character_address, mark, marks_at, operand, step_in, word_mark}
+use Rattle.bcareful.specs.Marks.{Marks, is_over}
+use Rattle.bcareful.specs.Effects.{Moment, Step, argument, argument_mark, character_address, mark, marks_at, operand}
+use Rattle.bcareful.specs.Effects.{step_in, word_mark}
 use Rattle.bcareful.specs.declared.finding.Finding.{Finding}
-use Rattle.bcareful.specs.declared.finding.Finding.TheVariants.{Index, Low, Never, Over, Past}
+use Rattle.bcareful.specs.declared.finding.Finding.TheVariants.{Index, Low, Never, Over, Past, Wraps}
 use Rattle.bcareful.specs.declared.finding.Touched.{Touched}
 use Rattle.bcareful.specs.declared.thing.Mark.{Mark}
-use Rattle.bcareful.specs.declared.thing.Mark.TheVariants.{Of, Unset}
+use Rattle.bcareful.specs.declared.thing.Mark.TheVariants.{Of, Plain, Unset}
 use Rattle.bcareful.specs.declared.thing.Thing.{Thing}
 
 abbrev pub is_unset : Mark → Bool
 is_unset Unset = true
 is_unset mark = false
+
+abbrev pub is_address : Mark → Bool
+is_address (Of thing) = true
+is_address mark = false
+
+-- whether the sum, the difference or the product of two words, as signed numbers, is no word
+abbrev pub is_word : ℤ → Bool
+is_word z = int_le (neg_ℤ (pos 32768)) z && int_le z (pos 32767)
+
+abbrev pub wraps : BinOp → (left right : ℕ) → Bool
+wraps op.Add left right = not (is_word (signed_of left +ℤ signed_of right))
+wraps op.Sub left right = not (is_word (signed_of left -ℤ signed_of right))
+wraps op.Mul left right = not (is_word (signed_of left *ℤ signed_of right))
+wraps operator left right = false
 
 module _ (m : Moment) where
   -- the word that a call of the library reads or stores; the functions `char` and `lchar` have the values 1 and 2
@@ -68,8 +90,23 @@ module _ (m : Moment) where
   touch_finding (Of thing) t = thing_finding thing t
   touch_finding origin t = if nat_lt t.address 7 then Some (Low t.address) else word_finding t
 
+  -- an operation of two numbers whose result is no word
+  abbrev pub result_finding : BinOp → (left right : ℕ) → (of_left of_right : Mark) → Option Finding
+  result_finding op left right of_left of_right =
+      if m.atlas.wraps && (not (is_address of_left || is_address of_right)) && wraps op left right
+      then Some (Wraps op left right) else None
+
+  abbrev pub wrap_finding : Instr → Option Finding
+  wrap_finding (instr.Binary op) = result_finding op (operand m 1) (operand m 0) (mark m 1) (mark m 0)
+  wrap_finding (instr.Modify op) = result_finding op m.modified (operand m 0) (word_mark m (operand m 1)) (mark m 0)
+  wrap_finding i = None
+
+  abbrev pub found_word : Instr → Option Finding
+  found_word i = option_and_then (λ t. touch_finding t.origin t) (touch i)
+
+  -- what is found at an instruction: at the word that it touches, or else of its result
   abbrev pub instr_finding : Instr → Option Finding
-  instr_finding i = option_and_then (λ t. touch_finding t.origin t) (touch i)
+  instr_finding i = option_or (found_word i) (wrap_finding i)
 
 -- what is found at a step, if there is one
 abbrev pub finding_of : Option Step → Option Finding

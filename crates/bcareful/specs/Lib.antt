@@ -5,6 +5,7 @@ pub mod Findings
 pub mod Carefuls
 pub mod CarefulRows
 pub mod Tellings
+pub mod Warned
 pub mod Runs
 pub mod Stays
 pub mod TellingRows

@@ -1,5 +1,6 @@
 -- Promise: the marks of words and operands: before a run, and where a call begins.
-use Rattle.std.specs.Prelude.{ℕ, zero, suc, ◌+◌, ◌-◌, ◌%◌, List, [], ◌∷◌, ◌++◌, length, map, max, nat_lt, replicate, slice_index_or}
+use Rattle.std.specs.Prelude.{ℕ, zero, suc, ◌+◌, ◌-◌, ◌%◌, List, [], ◌∷◌, ◌++◌, length, map, max, nat_lt, replicate}
+use Rattle.std.specs.Prelude.{slice_index_or}
 use Rattle.std.specs.Prelude.{◌==◌, ◌&&◌, Bool, false, not, drop, slice_get, slice_set, take, if◌then◌else◌}
 use Rattle.std.specs.Option.{option_map_or}
 use Rattle.blang.specs.declared.code.Definition.{Definition}
@@ -13,8 +14,8 @@ use Rattle.bcareful.specs.declared.thing.Mark.TheVariants.{Of, Plain, Unset}
 use Rattle.bcareful.specs.declared.thing.Owner.{Owner}
 use Rattle.bcareful.specs.declared.thing.Thing.{Thing}
 
--- the marks of the operands of all calls, the topmost last, and of the words of memory; the numbers of the active calls,
--- the running one last; and the number of the next call
+-- the marks of the operands of all calls, the topmost last, and of the words of memory; the numbers of the active
+-- calls, the running one last; and the number of the next call
 pub record Marks : Type 0 where
   pub operands : List Mark
   pub words : List Mark
@@ -64,7 +65,11 @@ data_marks a address (d ∷ ds) =
 
 -- the marks of memory before a run: nothing has set the words after the data
 abbrev pub memory_marks : Atlas → List Mark
-memory_marks a = resized store_words Unset (replicate 7 Plain ++ data_marks a 7 a.definitions)
+memory_marks a = replicate 7 Plain ++ data_marks a 7 a.definitions
+
+-- at least so many marks: nothing has set the words of those that are missing
+abbrev pub grown : ℕ → List Mark → List Mark
+grown n marks = marks ++ replicate (n - length marks) Unset
 
 -- all that is known before the first call
 abbrev pub unbegun : Atlas → Marks

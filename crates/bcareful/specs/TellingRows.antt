@@ -1,6 +1,7 @@
 -- Closed facts: what is told of a finding.
-use Rattle.std.specs.Prelude.{◌≡◌, ℕ, List, [], ◌∷◌, codes, map, refl, false}
+use Rattle.std.specs.Prelude.{◌≡◌, ℕ, List, [], ◌∷◌, Option, Some, None, codes, map, refl, false, true}
 use Rattle.std.specs.Fmt.{digits}
+use Rattle.bword.specs.declared.operators.BinOp.TheVariants as op
 use Rattle.blang.specs.declared.code.Definition.{Definition}
 use Rattle.blang.specs.declared.code.Definition.TheVariants as definition
 use Rattle.blang.specs.declared.code.Ival.TheVariants as ival
@@ -8,15 +9,19 @@ use Rattle.bmach.specs.declared.machine.Active.{Active}
 use Rattle.bcareful.specs.CarefulRows.{f, frame_words, thing, data_thing, v}
 use Rattle.bcareful.specs.Things.{Atlas, of_data}
 use Rattle.bcareful.specs.Tellings.{address_of, finding_line, meaning, name_text, word_name}
+use Rattle.bcareful.specs.Runs.{finds_wraps, stays}
+use Rattle.bcareful.specs.Warned.{Warnings, no_warnings, noted}
+use Rattle.bcareful.specs.declared.careful.Care.TheVariants as care
 use Rattle.bcareful.specs.declared.finding.Finding.{Finding}
-use Rattle.bcareful.specs.declared.finding.Finding.TheVariants.{Index, Low, Never, Over, Past}
+use Rattle.bcareful.specs.declared.finding.Finding.TheVariants.{Index, Low, Never, Over, Past, Wraps}
 
-told_lines : map finding_line (Never 18 ∷ Index v 18 ∷ Past 18 ∷ Over 18 ∷ Low 3 ∷ [])
+told_lines : map finding_line (Never 18 ∷ Index v 18 ∷ Past 18 ∷ Over 18 ∷ Low 3 ∷ Wraps op.Mul 5 8 ∷ [])
     ≡ codes "careful set\n" ∷ codes "careful index\n" ∷ codes "careful index\n" ∷ codes "careful index\n"
-    ∷ codes "careful low\n" ∷ []
+    ∷ codes "careful low\n" ∷ codes "careful wraps\n" ∷ []
 told_lines = refl
 
-told_words : map address_of (Never 18 ∷ Index v 19 ∷ Past 20 ∷ Over 21 ∷ Low 3 ∷ []) ≡ 18 ∷ 19 ∷ 20 ∷ 21 ∷ 3 ∷ []
+told_words : map address_of (Never 18 ∷ Index v 19 ∷ Past 20 ∷ Over 21 ∷ Low 3 ∷ Wraps op.Mul 5 8 ∷ [])
+    ≡ Some 18 ∷ Some 19 ∷ Some 20 ∷ Some 21 ∷ Some 3 ∷ None ∷ []
 told_words = refl
 
 -- the externals `x 1;` at 7, `w[2] 5;` at 8, and `f(a, b)` at 12, whose strings are at 13 and whose frame is at 20
@@ -33,6 +38,7 @@ atlas = record {
   functions = record { strings = 13; function = f } ∷ [];
   frames = frame_words ∷ [];
   address_of = λ x. 7;
+  wraps = false;
 }
 
 abbrev pub calls : List Active
@@ -52,7 +58,8 @@ names_in_frame = refl
 
 -- and of the data: an external, a vector and its words, a function and its strings
 names_of_data : map name_at (7 ∷ 8 ∷ 9 ∷ 11 ∷ 12 ∷ 13 ∷ 15 ∷ [])
-    ≡ codes "x" ∷ codes "w" ∷ codes "w[0]" ∷ codes "w[2]" ∷ codes "f" ∷ codes "a string of f" ∷ codes "a string of f" ∷ []
+    ≡ codes "x" ∷ codes "w" ∷ codes "w[0]" ∷ codes "w[2]" ∷ codes "f" ∷ codes "a string of f" ∷ codes "a string of f"
+    ∷ []
 unfolding digits
 names_of_data = refl
 
@@ -102,3 +109,25 @@ told_over = refl
 told_low : told (Low 3) ≡ codes "the address 3 is no word of the program"
 unfolding digits
 told_low = refl
+
+told_wraps : (told (Wraps op.Mul 5040 8) ≡ codes "5040 * 8 is no number from -32768 to 32767")
+    × (told (Wraps op.Sub 32768 1) ≡ codes "-32768 - 1 is no number from -32768 to 32767")
+unfolding digits
+told_wraps = (refl, refl)
+
+-- which runs stay at a finding, and which find a result that is no word
+cares : (map stays (care.Stay ∷ care.Wraps ∷ care.Warn ∷ []) ≡ true ∷ true ∷ false ∷ [])
+    × (map finds_wraps (care.Stay ∷ care.Wraps ∷ care.Warn ∷ []) ≡ false ∷ true ∷ false ∷ [])
+cares = (refl, refl)
+
+-- Two places of one function, and the same place of another one; a place that was told is not told again.
+abbrev pub at_place : (strings place : ℕ) → Active
+at_place strings place = record { strings = strings; parameters = 0; place = place; start = 30 }
+
+abbrev pub told_so : Warnings
+told_so = noted (at_place 9 4) (codes "a\n") no_warnings
+
+noted_once : (noted (at_place 9 4) (codes "b\n") told_so ≡ told_so)
+    × ((noted (at_place 9 5) (codes "b\n") told_so).text ≡ codes "a\nb\n")
+    × ((noted (at_place 8 4) (codes "b\n") told_so).text ≡ codes "a\nb\n")
+noted_once = (refl, refl, refl)

@@ -1,8 +1,11 @@
 -- Promise: what is told of a finding.
-use Rattle.std.specs.Prelude.{◌≡◌, ◌⊎◌, ℕ, ◌+◌, ◌-◌, ◌%◌, ◌&&◌, List, [], ◌∷◌, ◌++◌, Option, Some, None, codes, decimal, find}
+use Rattle.std.specs.Prelude.{◌≡◌, ◌⊎◌, ℕ, ◌+◌, ◌-◌, ◌%◌, ◌&&◌, List, [], ◌∷◌, ◌++◌, Option, Some, None, codes, decimal}
+use Rattle.std.specs.Prelude.{find}
 use Rattle.std.specs.Prelude.{Bool, false, nat_le, nat_lt, unwrap_or, if◌then◌else◌}
 use Rattle.std.specs.Option.{option_map_or}
 use Rattle.bword.specs.ByteEnds.{Outgoing}
+use Rattle.bword.specs.declared.operators.BinOp.{BinOp}
+use Rattle.bword.specs.declared.operators.BinOp.TheVariants as op
 use Rattle.blang.specs.Reports.{Finishes, Reported}
 use Rattle.blang.specs.declared.status.TheConstants.{MEMORY, TRAP}
 use Rattle.blang.specs.declared.code.Definition.{Definition}
@@ -19,13 +22,13 @@ use Rattle.btrace.specs.RowTexts.{Legend, place_line}
 use Rattle.bwatch.specs.Sights.{Sight}
 use Rattle.bcareful.specs.Things.{Atlas, Site, located}
 use Rattle.bcareful.specs.declared.finding.Finding.{Finding}
-use Rattle.bcareful.specs.declared.finding.Finding.TheVariants.{Index, Low, Never, Over, Past}
+use Rattle.bcareful.specs.declared.finding.Finding.TheVariants.{Index, Low, Never, Over, Past, Wraps}
 use Rattle.bcareful.specs.declared.naming as told
 use Rattle.bcareful.specs.declared.thing.Thing.{Thing}
 use Rattle.bcareful.specs.declared.watching.Found.{Found}
 
--- how a word of memory is told: whether it is one of a string; its name, if it is a word of the program; its index, if it
--- is one of a vector; and the name of the function in whose frame it is, if it is in one
+-- how a word of memory is told: whether it is one of a string; its name, if it is a word of the program; its index, if
+-- it is one of a vector; and the name of the function in whose frame it is, if it is in one
 pub record WordName : Type 0 where
   pub is_string : Bool
   pub name : Option (List ℕ)
@@ -106,7 +109,12 @@ data_index kind values offset = None
 
 abbrev pub shape_name : Shape → (offset : ℕ) → WordName
 shape_name d offset =
-    record { is_string = is_string d offset; name = Some d.name; index = data_index d.kind d.values offset; function = None }
+    record {
+      is_string = is_string d offset;
+      name = Some d.name;
+      index = data_index d.kind d.values offset;
+      function = None;
+    }
 
 -- the definition that has the word with this offset among the words of all
 abbrev pub data_name : List Definition → (offset : ℕ) → WordName
@@ -157,6 +165,18 @@ thing_text a calls t address =
 abbrev pub address_text : (address : ℕ) → List ℕ
 address_text address = codes "the address " ++ decimal address ++ codes " is "
 
+-- the operators whose results may be no word
+abbrev pub sign : BinOp → List ℕ
+sign op.Add = codes "+"
+sign op.Sub = codes "-"
+sign op.Mul = codes "*"
+sign operator = []
+
+abbrev pub wrap_text : BinOp → (left right : ℕ) → List ℕ
+wrap_text operator left right =
+    signed_text left ++ codes " " ++ sign operator ++ codes " " ++ signed_text right
+    ++ codes " is no number from -32768 to 32767"
+
 -- what is wrong with a step, as far as the name of its word
 abbrev pub fault_text : Atlas → List Active → Finding → List ℕ
 fault_text a calls (Never address) = codes "nothing has set "
@@ -164,17 +184,23 @@ fault_text a calls (Low address) = address_text address
 fault_text a calls (Index t address) = thing_text a calls t address
 fault_text a calls (Past address) = codes "a character after the end of "
 fault_text a calls (Over address) = codes "a word of a call that is over: this is "
+fault_text a calls (Wraps operator left right) = wrap_text operator left right
 
-abbrev pub address_of : Finding → ℕ
-address_of (Never address) = address
-address_of (Low address) = address
-address_of (Index t address) = address
-address_of (Past address) = address
-address_of (Over address) = address
+abbrev pub address_of : Finding → Option ℕ
+address_of (Never address) = Some address
+address_of (Low address) = Some address
+address_of (Index t address) = Some address
+address_of (Past address) = Some address
+address_of (Over address) = Some address
+address_of (Wraps operator left right) = None
+
+-- the name of the word, if the step reads or stores a wrong one
+abbrev pub fault_name : Atlas → List Active → Finding → List ℕ
+fault_name a calls f = option_map_or (λ address. name_text (word_name a calls address)) (address_of f) []
 
 -- what is wrong with a step
 abbrev pub meaning : Atlas → List Active → Finding → List ℕ
-meaning a calls f = fault_text a calls f ++ name_text (word_name a calls (address_of f))
+meaning a calls f = fault_text a calls f ++ fault_name a calls f
 
 -- the line of a finding
 abbrev pub finding_line : Finding → List ℕ
@@ -183,6 +209,7 @@ finding_line (Low address) = codes "careful low\n"
 finding_line (Index t address) = codes "careful index\n"
 finding_line (Past address) = codes "careful index\n"
 finding_line (Over address) = codes "careful index\n"
+finding_line (Wraps operator left right) = codes "careful wraps\n"
 
 -- the place of the step after so many, and its line of the source
 abbrev pub found_place : Legend → (source : List ℕ) → Found → List ℕ

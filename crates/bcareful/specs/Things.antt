@@ -1,5 +1,6 @@
 -- Promise: the things of a program to which the words of its memory belong.
-use Rattle.std.specs.Prelude.{ℕ, ◌+◌, ◌-◌, ◌/◌, ◌%◌, ◌==◌, ◌||◌, ◌&&◌, Bool, false, List, [], ◌∷◌, Option, Some, None, drop, length}
+use Rattle.std.specs.Prelude.{ℕ, ◌+◌, ◌-◌, ◌/◌, ◌%◌, ◌==◌, ◌||◌, ◌&&◌, Bool, false, List, [], ◌∷◌, Option, Some, None}
+use Rattle.std.specs.Prelude.{drop, length}
 use Rattle.std.specs.Prelude.{map, max, nat_le, nat_lt, unwrap_or, if◌then◌else◌}
 use Rattle.bword.specs.Words.{same_name}
 use Rattle.blang.specs.CodeParts.{Function, function_of}
@@ -92,20 +93,23 @@ located (f ∷ fs) (ws ∷ frames) strings =
     if f.strings == strings then Some (record { function = f.function; words = ws }) else located fs frames strings
 located fs frames strings = None
 
--- what is known of a program: its definitions, its functions, the words of their frames, and where its names lie
+-- what is known of a program: its definitions, its functions, the words of their frames, and where its names lie; and
+-- whether it is found, too, where a result is no word
 pub record Atlas : Type 0 where
   pub definitions : List Definition
   pub functions : List Placed
   pub frames : List (List NamedWord)
   pub address_of : List ℕ → ℕ
+  pub wraps : Bool
 
 -- that of definitions, whose frames have these names
-abbrev pub atlas_in : List Definition → List Frame → Atlas
-atlas_in ds frames = record {
+abbrev pub atlas_in : List Definition → List Frame → (wraps : Bool) → Atlas
+atlas_in ds frames wraps = record {
   definitions = ds;
   functions = functions_of ds;
   frames = map frame_seen frames;
   address_of = λ x. unwrap_or (address_in (addresses (map shape_of ds)) x) 0;
+  wraps = wraps;
 }
 
 abbrev pub atlas_of : told.Atlas.Atlas → Atlas
@@ -114,6 +118,7 @@ atlas_of a = record {
   functions = entries_of a.tables.now;
   frames = map frame_seen a.program.now.names.frames.items;
   address_of = λ x. unwrap_or (address_in a.program.now.image.addresses x) 0;
+  wraps = a.wraps;
 }
 
 abbrev pub site_of : told.Site.Site → Site

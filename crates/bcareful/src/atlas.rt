@@ -14,6 +14,8 @@ use bword::Name;
 pub struct Atlas<'a> {
     pub program: &'a Program,
     pub tables: &'a Tables<'a>,
+    /// Whether it is found, too, where a result is no word.
+    pub wraps: bool,
 }
 
 /// A function, and the words of its frame that have names.

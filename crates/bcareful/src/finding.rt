@@ -2,11 +2,12 @@
 ghost use Rattle.std.specs.Prelude.{◌≡◌, false};
 ghost use Rattle.bcareful.specs.Effects.{mark, moment_of, operand};
 ghost use Rattle.bcareful.specs.Findings.{call_touch, instr_finding, is_unset, thing_finding, touch, touch_finding};
-ghost use Rattle.bcareful.specs.Findings.{word_finding};
+ghost use Rattle.bcareful.specs.Findings.{found_word, is_address, result_finding, word_finding, wrap_finding, wraps};
 
 use crate::moment::Moment;
 use crate::thing::{Mark, Thing};
 use blang::Instr;
+use bword::BinOp;
 
 /// What is wrong with a step.
 #[derive(Clone, Copy)]
@@ -21,6 +22,8 @@ pub enum Finding {
     Past(u16),
     /// It reads or stores this word, of which the address was made in a call that is over.
     Over(u16),
+    /// The result of this operator on these words, as signed numbers, is no word.
+    Wraps(BinOp, u16, u16),
 }
 
 /// A word of memory that a step reads or stores.
@@ -81,12 +84,84 @@ fn call_touch(moment: &Moment<'_>, count: usize) -> Option<Touched>
 }
 
 /// What is found at an instruction.
-pub fn instr_finding(moment: &Moment<'_>, instr: Instr) -> Option<Finding>
-    ensures { result ≡ instr_finding (moment_of moment.now) instr }
+pub fn instr_finding(moment: &Moment<'_>, instr: &Instr) -> Option<Finding>
+    ensures { result ≡ instr_finding (moment_of moment.now) instr.now }
+{
+    found_word(moment, *instr).or(wrap_finding(moment, *instr))
+}
+
+// What is found at the word that an instruction reads or stores.
+fn found_word(moment: &Moment<'_>, instr: Instr) -> Option<Finding>
+    ensures { result ≡ found_word (moment_of moment.now) instr }
 {
     match touch(moment, instr) {
         Some(touch) => touch_finding(moment, touch),
         None => None,
+    }
+}
+
+// What is found at the result of an operation.
+fn wrap_finding(moment: &Moment<'_>, instr: Instr) -> Option<Finding>
+    ensures { result ≡ wrap_finding (moment_of moment.now) instr }
+{
+    let right = moment.operand(0);
+    let of_right = moment.marks.operand(0);
+    let address = moment.operand(1);
+    match instr {
+        Instr::Binary(operator) => {
+            let of_left = moment.marks.operand(1);
+            result_finding(moment, operator, (address, right), (of_left, of_right))
+        }
+        Instr::Modify(operator) => {
+            let of_left = moment.marks.word(address);
+            result_finding(
+                moment,
+                operator,
+                (moment.modified, right),
+                (of_left, of_right),
+            )
+        }
+        _ => None,
+    }
+}
+
+fn result_finding(
+    moment: &Moment<'_>,
+    operator: BinOp,
+    words: (u16, u16),
+    marks: (Mark, Mark),
+) -> Option<Finding>
+    ensures { result ≡ result_finding (moment_of moment.now) operator words.0 words.1 marks.0 marks.1 }
+{
+    let (left, right) = words;
+    let (of_left, of_right) = marks;
+    let is_number = !is_address(of_left) && !is_address(of_right);
+    if moment.atlas.wraps && is_number && wraps(operator, left, right) {
+        Some(Finding::Wraps(operator, left, right))
+    } else {
+        None
+    }
+}
+
+fn is_address(mark: Mark) -> bool
+    ensures { result ≡ is_address mark }
+{
+    match mark {
+        Mark::Of(_) => true,
+        Mark::Unset | Mark::Plain => false,
+    }
+}
+
+// Whether the sum, the difference or the product of two words, as signed numbers, is no word.
+fn wraps(operator: BinOp, left: u16, right: u16) -> bool
+    ensures { result ≡ wraps operator left right }
+{
+    let (left, right) = (left.cast_signed(), right.cast_signed());
+    match operator {
+        BinOp::Add => left.checked_add(right).is_none(),
+        BinOp::Sub => left.checked_sub(right).is_none(),
+        BinOp::Mul => left.checked_mul(right).is_none(),
+        _ => false,
     }
 }
 

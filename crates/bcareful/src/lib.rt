@@ -10,7 +10,8 @@ mod moment;
 mod naming;
 mod telling;
 mod thing;
+mod warnings;
 mod watching;
 
-pub use careful::go_careful;
+pub use careful::{go_careful, go_warned, go_wraps};
 pub use watching::careful_runs_stay_at_the_first_finding;

@@ -1,15 +1,16 @@
 //! The marks of words and operands.
-ghost use Rattle.std.specs.Prelude.{◌≡◌, ◌++◌, [], IfOk, OnOk, drop, map, slice_index_or, slice_set};
+ghost use Rattle.std.specs.Prelude.{◌≡◌, ◌+◌, ◌++◌, [], IfOk, OnOk, drop, map, slice_index_or, slice_set};
 ghost use Rattle.blang.specs.Layout.{shape_of};
 ghost use Rattle.bcareful.specs.Effects.{changed_in};
 ghost use Rattle.bcareful.specs.Things.{atlas_of};
-ghost use Rattle.bcareful.specs.Marks.{above, begun, below, data_marks, is_over, marks_of, operand_mark, running, shape_marks};
+ghost use Rattle.bcareful.specs.Marks.{above, begun, below, data_marks, grown, is_over, marks_of, operand_mark};
+ghost use Rattle.bcareful.specs.Marks.{running, shape_marks};
 ghost use Rattle.bcareful.specs.Marks.{unbegun, value_mark};
 
 use crate::atlas::Atlas;
 use crate::effect::Effect;
 use crate::thing::{Mark, Owner, Thing, string_at};
-use blang::{Definition, Ival, STORE_WORDS};
+use blang::{Definition, Ival};
 use bmach::{Active, FIRST_ADDRESS, size_of};
 use std::alloc::{AllocError, Global};
 
@@ -18,7 +19,7 @@ use std::alloc::{AllocError, Global};
 pub struct Marks {
     /// Those of the operands of all calls, the topmost last.
     pub operands: Vec<Mark>,
-    /// Those of the words of memory.
+    /// Those of the words of memory, up to the end of the highest frame so far.
     pub words: Vec<Mark>,
     /// The numbers of the active calls, the running one last.
     pub calls: Vec<u32>,
@@ -34,7 +35,6 @@ impl Marks {
         let mut words = Vec::new(alloc);
         words.resize(FIRST_ADDRESS as usize, Mark::Plain)?;
         push_definitions(alloc, &mut words, atlas)?;
-        words.resize(STORE_WORDS as usize, Mark::Unset)?;
         Ok(Marks {
             operands: Vec::new(alloc),
             words,
@@ -84,12 +84,28 @@ impl Marks {
 
     /// The mark of a word.
     pub fn word(&self, address: u16) -> Mark
-        ensures { result ≡ slice_index_or self.now.words.items address Mark.Plain }
+        ensures { result ≡ slice_index_or self.now.words.items address Mark.Unset }
     {
         match self.words.get(usize::from(address)) {
             Some(mark) => *mark,
-            None => Mark::Plain,
+            None => Mark::Unset,
         }
+    }
+
+    // Makes room for the marks of a frame of so many words that begins there.
+    fn grow(&mut self, start: u32, frame: u16) -> Result<(), AllocError>
+        ensures { OnOk result (marks_of self.new ≡ record {
+          operands = self.old.operands.items;
+          words = grown (start + frame) self.old.words.items;
+          calls = self.old.calls.items;
+          next = self.old.next;
+        }) }
+    {
+        let end = start as usize + usize::from(frame);
+        if self.words.len() < end {
+            self.words.resize(end, Mark::Unset)?;
+        }
+        Ok(())
     }
 
     /// Takes so many operands away.
@@ -164,6 +180,7 @@ impl Marks {
             }
             Effect::Begins(count) => {
                 let arguments = usize::from(count);
+                self.grow(call.start, site.parts.frame)?;
                 self.begin(call, site.parts.frame, arguments);
                 self.take(arguments + 1);
                 self.calls.push(self.next)?;

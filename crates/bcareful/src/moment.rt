@@ -17,7 +17,19 @@ pub struct Moment<'a> {
     pub site: Site<'a>,
     /// The operands of the call, the topmost last.
     pub operands: &'a [u16],
+    /// The word at the address that has one operand above it.
+    pub modified: u16,
     pub marks: &'a Marks,
+}
+
+/// The operand among these, the topmost last, that has so many above it, or 0.
+pub fn operand_of(operands: &[u16], above: usize) -> u16
+    ensures { result ≡ slice_index (reverse operands.now) above }
+{
+    if above >= operands.len() {
+        return 0;
+    }
+    operands[operands.len() - 1 - above]
 }
 
 impl<'a> Moment<'a> {
@@ -25,11 +37,7 @@ impl<'a> Moment<'a> {
     pub fn operand(&self, above: usize) -> u16
         ensures { result ≡ operand (moment_of self.now) above }
     {
-        let operands = self.operands;
-        if above >= operands.len() {
-            return 0;
-        }
-        operands[operands.len() - 1 - above]
+        operand_of(self.operands, above)
     }
 
     /// The thing of a word of the frame.
@@ -49,7 +57,8 @@ impl<'a> Moment<'a> {
 
     /// The string of the function with this offset.
     pub fn text(&self, offset: u16) -> Thing
-        ensures { result ≡ string_at (moment_of self.now).call.strings (moment_of self.now).site.function.strings offset }
+        ensures { result ≡ string_at (moment_of self.now).call.strings (moment_of self.now).site.function.strings
+            offset }
     {
         string_at(self.call.strings, &self.site.parts.strings, offset)
     }

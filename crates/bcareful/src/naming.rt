@@ -5,8 +5,10 @@ ghost use Rattle.btools.specs.FrameNames.{word_seen};
 ghost use Rattle.blang.specs.Layout.{shape_of, words_before_strings};
 ghost use Rattle.bmach.specs.Stops.{active_of};
 ghost use Rattle.bcareful.specs.Things.{atlas_of, site_of};
-ghost use Rattle.bcareful.specs.Tellings.{address_name, data_index, frame_name, function_text, held_name, holder, holds};
-ghost use Rattle.bcareful.specs.Tellings.{index_after, index_text, is_string, name_text, name_with, named_at, no_name, numbered_text};
+ghost use Rattle.bcareful.specs.Tellings.{address_name, data_index, frame_name, function_text, held_name, holder};
+ghost use Rattle.bcareful.specs.Tellings.{holds};
+ghost use Rattle.bcareful.specs.Tellings.{index_after, index_text, is_string, name_text, name_with, named_at, no_name};
+ghost use Rattle.bcareful.specs.Tellings.{numbered_text};
 ghost use Rattle.bcareful.specs.Tellings.{own_index_text, shape_name, start_text, string_mark, word_name, word_name_of};
 
 use crate::atlas::{Atlas, Site};
@@ -62,7 +64,8 @@ impl WordName {
 
     // Adds this name with another index.
     fn push_indexed(&self, text: &mut Text, index: u16) -> Result<(), AllocError>
-        ensures { OnOk result (text.new ≡ text.old ++ name_with (word_name_of self.now) (index_text (signed_text index))) }
+        ensures { OnOk result (text.new ≡ text.old
+            ++ name_with (word_name_of self.now) (index_text (signed_text index))) }
     {
         self.push_start(text)?;
         text.push(b"[")?;

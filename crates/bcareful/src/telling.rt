@@ -4,7 +4,8 @@ ghost use Rattle.bmach.specs.Stops.{active_of};
 ghost use Rattle.btrace.specs.RowTexts.{legend_of};
 ghost use Rattle.bcareful.specs.Things.{atlas_of};
 ghost use Rattle.bcareful.specs.Tellings.{Tells, TellsOver, address_of, address_text, extent_text, fault_text};
-ghost use Rattle.bcareful.specs.Tellings.{finding_line, finding_text, found_place, meaning, thing_text};
+ghost use Rattle.bcareful.specs.Tellings.{finding_line, finding_text, found_place, meaning, sign, thing_text};
+ghost use Rattle.bcareful.specs.Tellings.{wrap_text};
 ghost use Rattle.bwatch.specs.Sights.{sight_at};
 
 use crate::atlas::Atlas;
@@ -15,9 +16,9 @@ use crate::watching::Found;
 use blang::status::{self, Status};
 use bmach::{Stepper, Stop};
 use brun::finish;
-use btools::{Text, line_at, located_status, push_source_line, tell};
+use btools::{Text, line_at, located_status, push_signed, push_source_line, tell};
 use btrace::{Legend, line_of, push_site, tell_site};
-use bword::{ByteOut, Store};
+use bword::{BinOp, ByteOut, Store};
 use std::alloc::{AllocError, Global};
 
 /// Writes what is found at the next step of a run: its kind, its place, the line of the source, and what is wrong.
@@ -41,7 +42,8 @@ pub fn tell_found<S: Store + Drop, D: ByteOut>(
     }
 }
 
-fn found_text<S: Store + Drop>(
+/// The same, as a text.
+pub fn found_text<S: Store + Drop>(
     alloc: Global,
     atlas: &Atlas<'_>,
     legend: &Legend<'_, '_, '_>,
@@ -69,6 +71,7 @@ fn finding_line(finding: Finding) -> &'static [u8]
         Finding::Never(_) => b"careful set\n",
         Finding::Low(_) => b"careful low\n",
         Finding::Index(..) | Finding::Past(_) | Finding::Over(_) => b"careful index\n",
+        Finding::Wraps(..) => b"careful wraps\n",
     }
 }
 
@@ -104,11 +107,14 @@ fn push_meaning<S: Store + Drop>(
         ++ meaning (atlas_of atlas.now) (active_of stepper.now.call ∷ map active_of stepper.now.below) finding) }
 {
     push_fault(text, atlas, stepper, finding)?;
-    word_name(atlas, stepper, address_of(finding)).push_to(text)
+    match address_of(finding) {
+        Some(address) => word_name(atlas, stepper, address).push_to(text),
+        None => Ok(()),
+    }
 }
 
-// The word that a step reads or stores.
-fn address_of(finding: Finding) -> u16
+// The wrong word that a step reads or stores.
+fn address_of(finding: Finding) -> Option<u16>
     ensures { result ≡ address_of finding }
 {
     match finding {
@@ -116,7 +122,8 @@ fn address_of(finding: Finding) -> u16
         | Finding::Low(address)
         | Finding::Index(_, address)
         | Finding::Past(address)
-        | Finding::Over(address) => address,
+        | Finding::Over(address) => Some(address),
+        Finding::Wraps(..) => None,
     }
 }
 
@@ -136,7 +143,20 @@ fn push_fault<S: Store + Drop>(
         Finding::Index(thing, address) => push_thing(text, atlas, stepper, thing, address),
         Finding::Past(_) => text.push(b"a character after the end of "),
         Finding::Over(_) => text.push(b"a word of a call that is over: this is "),
+        Finding::Wraps(operator, left, right) => push_wrap(text, operator, left, right),
     }
+}
+
+// Adds an operation whose result is no word.
+fn push_wrap(text: &mut Text, operator: BinOp, left: u16, right: u16) -> Result<(), AllocError>
+    ensures { OnOk result (text.new ≡ text.old ++ wrap_text operator left right) }
+{
+    push_signed(text, left)?;
+    text.push(b" ")?;
+    text.push(sign(operator))?;
+    text.push(b" ")?;
+    push_signed(text, right)?;
+    text.push(b" is no number from -32768 to 32767")
 }
 
 fn push_address(text: &mut Text, address: u16) -> Result<(), AllocError>
@@ -156,7 +176,8 @@ fn push_thing<S: Store + Drop>(
     address: u16,
 ) -> Result<(), AllocError>
     ensures { OnOk result (text.new ≡ text.old
-        ++ thing_text (atlas_of atlas.now) (active_of stepper.now.call ∷ map active_of stepper.now.below) thing address) }
+        ++ thing_text (atlas_of atlas.now) (active_of stepper.now.call
+        ∷ map active_of stepper.now.below) thing address) }
 {
     let first = word_name(atlas, stepper, thing.start);
     first.push_numbered(text, address.wrapping_sub(thing.start))?;
@@ -175,6 +196,18 @@ fn push_extent(text: &mut Text, thing: Thing) -> Result<(), AllocError>
     }
 }
 
+// The operators whose results may be no word.
+fn sign(operator: BinOp) -> &'static [u8]
+    ensures { result.now ≡ sign operator }
+{
+    match operator {
+        BinOp::Add => b"+",
+        BinOp::Sub => b"-",
+        BinOp::Mul => b"*",
+        _ => b"",
+    }
+}
+
 /// Writes the line of a run without a finding, and where it is that of a trap or of the limit, the place after it.
 pub fn tell_over<D: ByteOut>(
     alloc: Global,
@@ -183,7 +216,8 @@ pub fn tell_over<D: ByteOut>(
     stop: Stop,
     diag: &mut D,
 ) -> Status
-    ensures tells { TellsOver (legend_of legend.now) source.now stop (D.outgoing diag.old) (D.outgoing diag.new) result }
+    ensures tells { TellsOver (legend_of legend.now) source.now stop
+        (D.outgoing diag.old) (D.outgoing diag.new) result }
     ensures same { D.lender diag.new ≡ D.lender diag.old }
 {
     let told = finish(stop.outcome, diag);

@@ -1,6 +1,7 @@
 //! What the words of memory belong to.
 ghost use Rattle.std.specs.Prelude.{◌≡◌, ◌<◌, ◌^◌, ◌+◌, ◌%◌, ◌≤◌, drop, length, map};
-ghost use Rattle.bcareful.specs.Things.{ends_string, frame_thing, is_cut, is_outside, is_past_end, next_offset, string_at, string_words};
+ghost use Rattle.bcareful.specs.Things.{ends_string, frame_thing, is_cut, is_outside, is_past_end, next_offset};
+ghost use Rattle.bcareful.specs.Things.{string_at, string_words};
 ghost use Rattle.bcareful.specs.Things.{owned, thing_among};
 ghost use Rattle.btools.specs.FrameNames.{word_seen};
 

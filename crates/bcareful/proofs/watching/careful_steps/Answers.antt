@@ -1,7 +1,6 @@
-use Rattle.std.proofs.Common.{◌≡◌, ◌∙◌, ◌+◌, arith, refl, sym}
+use Rattle.std.proofs.Common.{◌≡◌, ◌∙◌, ◌≤◌, ◌+◌, None, Some, arith, refl, sym}
 use Rattle.bmach.specs.Stops.{active_of}
-use Rattle.bcareful.specs.Effects.{changed_in, effect_of, step_by}
-use Rattle.bcareful.specs.Findings.{finding_of}
+use Rattle.bcareful.specs.Effects.{changed_in, effect_of, next_step}
 use Rattle.bcareful.specs.Marks.{marks_of}
 use Rattle.bcareful.specs.Things.{atlas_of}
 use Rattle.bcareful.proofs.Steps.{all_on, found_on, main_marks, none_on, one_on, over_on, refused_on}
@@ -18,20 +17,16 @@ returns-in-Some-clause-gives g c =
     let a = atlas_of c.args.atlas.now in
     let now = c.loop-made.stepper in
     let marks = marks_of c.loop-made.marks in
-    let looked : c.look_at-look.result.finding ≡ finding_of (step_by a (active_of now.call) now.call.operands marks) =
-    c.look_at-look.ensures.finding ∙ (λ k. finding_of (step_by a (c.top-call.ensures k) (c.operands.ensures k) marks)) in
     found_on a c.args.stepper.now now now c.loop-made.made marks c.loop-made.invariant.0 c.args.steps c.loop-made-test.true
-    (record { finding = c.in-Some.finding; call = c.top-call.result; made = c.loop-made.made }) (sym looked ∙ c.in-Some.is) refl c.top-call.ensures
+    (record { finding = c.in-Some.finding; call = c.top-call.result; made = c.loop-made.made }) (sym c.look_at-look.ensures.finding ∙ c.in-Some.is) refl c.top-call.ensures
 
 pub returns-in-Err-clause-gives : goal.returns-in-Err-clause-gives
 returns-in-Err-clause-gives g c =
     let a = atlas_of c.args.atlas.now in
     let now = c.loop-made.stepper in
     let marks = marks_of c.loop-made.marks in
-    let looked : c.look_at-look.result.finding ≡ finding_of (step_by a (active_of now.call) now.call.operands marks) =
-    c.look_at-look.ensures.finding ∙ (λ k. finding_of (step_by a (c.top-call.ensures k) (c.operands.ensures k) marks)) in
     over_on a c.args.stepper.now now c.step.new.self c.loop-made.made marks c.loop-made.invariant.0 c.args.steps c.loop-made-test.true
-    (sym looked ∙ c.in_default-finding.is) c.top-call.result c.top-call.ensures _ _ c.in-Err.outcome c.in-Err.ensures.gives
+    (sym c.look_at-look.ensures.finding ∙ c.in_default-finding.is) c.top-call.result c.top-call.ensures _ _ c.in-Err.outcome c.in-Err.ensures.gives
 
 pub returns-in-Err-change-clause-gives : goal.returns-in-Err-change-clause-gives
 returns-in-Err-change-clause-gives g c =
@@ -41,11 +36,9 @@ returns-in-Err-change-clause-gives g c =
     let after = c.step.new.self in
     let made = c.loop-made.made in
     let marks = marks_of c.loop-made.marks in
-    let looked : c.look_at-look.result.finding ≡ finding_of (step_by a (active_of now.call) now.call.operands marks) =
-    c.look_at-look.ensures.finding ∙ (λ k. finding_of (step_by a (c.top-call.ensures k) (c.operands.ensures k) marks)) in
-    let changed = changed_in a (effect_of (step_by a (active_of now.call) now.call.operands marks)) (active_of after.call) marks in
+    let changed = changed_in a (effect_of (next_step a now marks)) (active_of after.call) marks in
     refused_on a first after after (made + 1) changed
-    (one_on a first now after made marks c.loop-made.invariant.0 c.in-Ok-step.ensures.gives c.step.ensures.image (sym looked ∙ c.in_default-finding.is) changed refl)
+    (one_on a first now after made marks c.loop-made.invariant.0 c.in-Ok-step.ensures.gives c.step.ensures.image (sym c.look_at-look.ensures.finding ∙ c.in_default-finding.is) changed refl)
     c.args.steps (omega (arith, c.loop-made-test.true)) _ (made + 1)
 
 pub loop-made-preserved : goal.loop-made-preserved
@@ -53,13 +46,9 @@ loop-made-preserved g c =
     let a = atlas_of c.args.atlas.now in
     let now = c.loop-made.stepper in
     let after = c.step.new.self in
-    let marks = marks_of c.loop-made.marks in
-    let looked : c.look_at-look.result.finding ≡ finding_of (step_by a (active_of now.call) now.call.operands marks) =
-    c.look_at-look.ensures.finding ∙ (λ k. finding_of (step_by a (c.top-call.ensures k) (c.operands.ensures k) marks)) in
-    let does : c.look_at-look.result.effect ≡ effect_of (step_by a (active_of now.call) now.call.operands marks) =
-    c.look_at-look.ensures.effect ∙ (λ k. effect_of (step_by a (c.top-call.ensures k) (c.operands.ensures k) marks)) in (
-      one_on a c.args.stepper.now now after c.loop-made.made marks c.loop-made.invariant.0 c.in-Ok-step.ensures.gives c.step.ensures.image (sym looked ∙ c.in_default-finding.is) (marks_of c.change.new.self)
-          (c.in-Ok-change.ensures ∙ (λ k. changed_in a (does k) (c.top-in-loop-made.ensures k) marks)),
+    let marks = marks_of c.loop-made.marks in (
+      one_on a c.args.stepper.now now after c.loop-made.made marks c.loop-made.invariant.0 c.in-Ok-step.ensures.gives c.step.ensures.image (sym c.look_at-look.ensures.finding ∙ c.in_default-finding.is) (marks_of c.change.new.self)
+          (c.in-Ok-change.ensures ∙ (λ k. changed_in a (c.look_at-look.ensures.effect k) (c.top-in-loop-made.ensures k) marks)),
       c.step.ensures.input ∙ c.loop-made.invariant.1,
       c.step.ensures.out ∙ c.loop-made.invariant.2,
     )
