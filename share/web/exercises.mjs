@@ -1,6 +1,7 @@
 // The tests of an exercise, and what comes of them: the verdict is that of class/grade, word for word.
 import {bytesOf, bytesOfLatin} from './dom.mjs';
 import {withoutMain} from './mains.mjs';
+import {endOf} from './runs.mjs';
 
 const SOURCE_BYTES = 65536; // the longest hand-in
 const OUTPUT_BYTES = 65536; // how much more than the wanted output a run may write
@@ -96,7 +97,7 @@ export class Grading {
 
   placeIn(told) {
     const found = PLACE.exec(told);
-    return found && {line: Number(found[2]), file: found[3] ?? this.name, means: found[6]};
+    return found && {line: Number(found[2]), file: found[3] ?? this.name, means: found[6], loop: endOf(told).loop};
   }
 }
 
@@ -108,6 +109,7 @@ export function sentence({test, result, why, difference, place, status, libs, st
   if (why) return why;
   const given = inputOf(test.input ?? ''), start = test.source ? '' : given ? `for ${given} `
     : test.input ? `for the input ${JSON.stringify(test.input)} ` : 'input' in test ? 'without an input ' : '';
+  if (place?.loop) return `${start}it never ends: the loop is in line ${place.loop.line} of ${place.loop.file ?? place.file}`;
   if (place && result === 'limit') {
     return `${start}it didn't end within ${steps} steps, which it made in line ${place.line} of ${place.file} last`;
   }

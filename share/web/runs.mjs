@@ -3,13 +3,25 @@ import {$, button, bytesOf, save, say, textOf} from './dom.mjs';
 
 const PLACE = /^at +in (\S+) +place +\d+ +line +(\d+)(?: of (\S+))? +step (\d+)$/m;
 const MEANS = /^ +means: (.*)$/m;
+const LOOP = /^loop +in (\S+) +place +\d+ +line +(\d+)(?: of (\S+))?$/m;
+const ASKS = /^asks +in (\S+) +place +\d+ +line +(\d+)(?: of (\S+))?$/m;
+const IDLE = /^ +its conditions read, and nothing in it changes:(.*)$/m;
+
+const siteOf = found => found && {where: found[1], line: Number(found[2]), file: found[3]};
 
 /** What the lines on standard error tell of the end of a run. */
 export function endOf(told) {
   const place = PLACE.exec(told), line = told.split('\n')[0];
-  return {line, means: MEANS.exec(told)?.[1] ?? '', place: place && {
-    where: place[1], line: Number(place[2]), file: place[3], step: Number(place[4]),
-  }};
+  return {line, means: MEANS.exec(told)?.[1] ?? '', place: place && {...siteOf(place), step: Number(place[4])},
+    loop: siteOf(LOOP.exec(told)), asks: siteOf(ASKS.exec(told)), idle: IDLE.exec(told)?.[1].trim().split(' ') ?? []};
+}
+
+/** What is said of a run that never ends, after what its limit means. */
+export function endlessText({means, loop, asks, idle}, name) {
+  const at = site => `line ${site.line} of ${site.file ?? name}, in ${site.where}`;
+  return [`${means[0].toUpperCase()}${means.slice(1)}.`, `The loop is in ${at(loop)}.`,
+    ...asks ? [`It asks for input in ${at(asks)}, and there is none left.`] : [],
+    ...idle.length ? [`Its conditions read ${idle.join(', ')}, and nothing in it changes that.`] : []].join(' ');
 }
 
 const seconds = ms => `${(ms / 1000).toFixed(2)} s`;
@@ -98,9 +110,10 @@ export class Runs {
     this.session = null;
     this.typed = session.typed;
     this.ended(true);
-    const {line, means, place} = endOf(ended.told ?? '');
+    const end = endOf(ended.told ?? ''), {line, means, place} = end;
     if (ended.failed) say(`The program can't be run here: ${ended.failed}`, 'bad');
     else if (ended.status === 0) say(`Done, in ${seconds(ended.took)}.`, 'good');
+    else if (end.loop) this.sayEndless(end, session);
     else if (place) this.sayPlace(line, means, place, session);
     else if (ended.status === 1 && line) this.sayFault(line, 'the program has a fault, told below the editor', session);
     else if (line.startsWith('load')) this.sayFault(line, "it can't be run, as told below the editor", session);
@@ -114,6 +127,11 @@ export class Runs {
     const more = line === 'limit' ? [button('Run without a limit', () => this.run(['--no-limit']))] : [];
     say(text, 'bad', ...more);
     this.stopAt(file, place.line);
+  }
+
+  sayEndless(end, session) {
+    say(endlessText(end, session.name), 'bad');
+    this.stopAt(end.loop.file ?? session.name, end.loop.line);
   }
 
   sayFault(line, why, session) {

@@ -1,5 +1,5 @@
 /* Wrong: nothing is added to row, so the loop doesn't end. */
-/* Told: It never ends: the same comes again */
+/* Told: It never ends: after */
 main() {
     auto steps, row, i;
 

@@ -1,5 +1,5 @@
 /* Wrong: it is as it was, so i stays 1 in the loop. */
-/* Told: It never ends: the same comes again */
+/* Told: It never ends: after */
 main() {
     auto n, i;
 

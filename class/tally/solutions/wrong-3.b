@@ -1,5 +1,5 @@
 /* Wrong: the input ends with *e, which is 4, and not with 0, so the loop doesn't end. */
-/* Told: It never ends: the same comes again */
+/* Told: It never ends: after */
 main() {
     auto c, last, lines;
 

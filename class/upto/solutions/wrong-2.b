@@ -1,5 +1,5 @@
 /* Wrong: the loop has no braces, so i stays 1 in it. */
-/* Told: so it may never end */
+/* Told: It never ends: after */
 main() {
     auto n, i, sum;
 

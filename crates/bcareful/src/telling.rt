@@ -223,7 +223,7 @@ pub fn tell_over<D: ByteOut>(
     let told = finish(stop.outcome, diag);
     match located_status(stop.outcome) {
         Some(status) if status == told => {
-            tell_site(alloc, legend, source, stop, None, told, diag)
+            tell_site(alloc, legend, source, stop, &None, told, diag)
         }
         _ => told,
     }

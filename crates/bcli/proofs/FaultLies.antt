@@ -46,14 +46,14 @@ module _ (edition : Edition) (text : List ℕ) (d : Diagnostic) (faulty : HasFau
       the_same e = cc
 
   by_trace : (files : Files) (steps : ℕ) (shown : TraceRows) (name : Option (List ℕ)) (ends : RunEnds) → Traces (Source edition) text steps shown files name ends 1 → Writes ends.line (fault_lines files d) ends.line_after
-  by_trace files steps shown name ends (traces.traced ds image lines which result made t told has lined named watched reported tells) = absurd (no_program ds image has)
+  by_trace files steps shown name ends (traces.traced ds image lines which result made again t told has lined named back watched reported tells) = absurd (no_program ds image has)
   by_trace files steps shown name ends (traces.not_begun ds image which result has named never finishes quiet) = absurd (no_program ds image has)
   by_trace files steps shown name ends (traces.unnamed ds image has unknown reported quiet) = absurd (no_program ds image has)
   by_trace files steps shown name ends (traces.stopped why quiet) = why_told files ends.line ends.line_after why
   by_trace files steps shown name ends (traces.no_memory ds image has still same read e) = absurd (no_program ds image has)
 
   by_place : (files : Files) (steps : ℕ) (ends : RunEnds) → Locates edition text files steps ends 1 → Writes ends.line (fault_lines files d) ends.line_after
-  by_place files steps ends (locates.located told ds image lines result answer active made again has lined gives finishes at over comes tells) = absurd (no_program ds image has)
+  by_place files steps ends (locates.located told ds image frames lines result answer active made again has named lined gives finishes at over comes tells) = absurd (no_program ds image has)
   by_place files steps ends (locates.unlocated ds image result has gives finishes none) = absurd (no_program ds image has)
   by_place files steps ends (locates.not_begun ds image result has never finishes quiet) = absurd (no_program ds image has)
   by_place files steps ends (locates.stopped why quiet) = why_told files ends.line ends.line_after why
@@ -67,7 +67,7 @@ module _ (edition : Edition) (text : List ℕ) (d : Diagnostic) (faulty : HasFau
   by_count asked same ends (counts.no_memory ds image has still quiet read answer) = absurd (omega (arith, answer))
 
   by_page : (asked : Asked) (ends : RunEnds) → Shows edition text asked ends 1 → Writes ends.line (fault_lines asked.files d) ends.line_after
-  by_page asked ends (pages.shown ds image frames lines result made page has lined known still watched w) = absurd (no_program ds image has)
+  by_page asked ends (pages.shown ds image frames lines result made again page has lined known still back watched w) = absurd (no_program ds image has)
   by_page asked ends (pages.not_begun ds image frames kind has known still never w same) = absurd (no_program ds image has)
   by_page asked ends (pages.unread ds image output has still gives silent at) = absurd (no_program ds image has)
   by_page asked ends (pages.stopped why quiet) = why_told asked.files ends.line ends.line_after why

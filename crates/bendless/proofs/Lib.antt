@@ -4,3 +4,6 @@ pub mod Standing
 pub mod Searching
 pub mod Words
 pub mod Recordings
+pub mod LoopSteps
+pub mod IdleNames
+pub mod Found

@@ -1,12 +1,15 @@
 -- What is kept of the bytes that are read is what was taken.
-use Rattle.std.proofs.Common.{◌≡◌, ◌<◌, ℕ, zero, suc, Bool, true, List, [], ◌∷◌, ◌++◌, Ok, Option, None, Some, ap, append-nil, arith, refl, subst}
+use Rattle.std.proofs.Common.{◌≡◌, ◌∙◌, ◌<◌, ℕ, zero, suc, true, List, [], ◌∷◌, ◌++◌, MutBor, Ok, Option, None, Some, ap, append-nil, arith, refl, subst, sym}
 use Rattle.std.specs.Prelude.{if◌then◌else◌}
 use Rattle.bword.specs.ByteEnds.{Fails, Incoming, NextGives, Took}
 use Rattle.bword.proofs.Taking.{Took-append, Took-next}
 use Rattle.bmach.proofs.Turning.{took_nothing}
 use Rattle.std.specs.Prelude.{IfSome}
 use Rattle.blang.specs.Machine.{States}
-use Rattle.bendless.specs.Recordings.{coded, coded_list, coded_pair, lender_recording}
+use Rattle.blang.specs.declared.run.Outcome.{Outcome}
+use Rattle.blang.specs.declared.run.Outcome.TheVariants as outcome
+use Rattle.bendless.specs.Recordings.{IsRecording, Recording, Records, coded, coded_list, coded_pair, is_whole, lender_recording}
+use Rattle.bendless.specs.declared.recorder.Record.{Record}
 use Rattle.bendless.specs.Repeats.{ComesBack, Repeats}
 use Rattle.bendless.specs.declared.search.Repeat.{Repeat}
 use Rattle.bendless.proofs.Searching.{flag}
@@ -60,12 +63,27 @@ made_same i j xs ys e =
 pub names_same : (i j : Incoming) (x y : ℕ) (xs ys : List ℕ) → lender_recording i (x ∷ xs) ≡ lender_recording j (y ∷ ys) → (x ≡ y) × (xs ≡ ys)
 names_same i j x y xs ys e = ((cc), (cc))
 
--- what was found of a run on what was read
-pub comes_back : (states : States) (i j : Incoming) (bytes : List ℕ) (whole over : Bool) (found : Option Repeat) → (whole ≡ true → Took i bytes j) → (over ≡ true → j.is_over ≡ true)
-    → IfSome found (λ x. whole ≡ true) → IfSome found (λ x. (more : List ℕ) → (over ≡ true → more ≡ []) → Repeats (states (bytes ++ more)) x) → IfSome found (ComesBack states i j)
-comes_back states i j bytes whole over None took ends all repeats = tt
-comes_back states i j bytes whole over (Some x) took ends all repeats = record {
-  taken = bytes;
-  took = took all;
-  repeats = λ more can. repeats more (λ o. can (ends o));
+-- what was kept by the time that a stream was given back
+pub recorded : {D : Type 0} (incoming : D → Incoming) (r : Recording (MutBor D)) (kept : Record) (first now : D) → incoming r.first.now ≡ incoming first → now ≡ r.input.now → kept.bytes.items ≡ r.bytes
+    → is_whole kept.extent ≡ r.is_whole → kept.is_over ≡ r.is_over → IsRecording (λ (b : MutBor D). incoming b.now) r → Records kept (incoming first) (incoming now)
+recorded incoming r kept first now begun back bytes whole over is = record {
+  taken = λ all. subst (λ i. Took i kept.bytes.items (incoming now)) begun
+      (subst (λ xs. Took (incoming r.first.now) xs (incoming now)) (sym bytes)
+      (subst (λ x. Took (incoming r.first.now) r.bytes (incoming x)) (sym back) (is.taken (sym whole ∙ all))));
+  over = λ o. subst (λ x. (incoming x).is_over ≡ true) (sym back) (is.over (sym over ∙ o));
 }
+
+-- what was found of a run on what was read
+pub comes_back : (states : States) (i j : Incoming) (r : Record) (found : Option Repeat) → Records r i j → IfSome found (λ x. is_whole r.extent ≡ true)
+    → IfSome found (λ x. (more : List ℕ) → (r.is_over ≡ true → more ≡ []) → Repeats (states (r.bytes.items ++ more)) x) → IfSome found (ComesBack states i j)
+comes_back states i j r None records all repeats = tt
+comes_back states i j r (Some x) records all repeats = record {
+  taken = r.bytes.items;
+  took = records.taken all;
+  repeats = λ more can. repeats more (λ o. can (records.over o));
+}
+
+-- a state is found only at the limit
+pub limit_found : (found : Option Repeat) (r : Outcome) → IfSome found (λ x. r ≡ outcome.Limit) → (found ≡ None → ⊥) → r ≡ outcome.Device → ⊥
+limit_found None r limit some is = some refl
+limit_found (Some x) r limit some is = let bad : outcome.Limit ≡ outcome.Device = sym limit ∙ is in cc

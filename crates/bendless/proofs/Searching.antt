@@ -1,21 +1,25 @@
 -- A run that is made again in silence, and a state of it that was kept.
-use Rattle.std.proofs.Common.{◌≡◌, ◌∙◌, ℕ, ◌+◌, ◌-◌, ◌<◌, ◌≤◌, List, [], ◌∷◌, ◌++◌, length, Bool, true, false, None, Option, Some, ap, append_assoc, arith, length-append, replicate, refl, reverse, subst, sym}
-use Rattle.std.specs.Prelude.{IfSome, slice_index, if◌then◌else◌}
+use Rattle.std.proofs.Common.{◌≡◌, ◌∙◌, ℕ, ◌+◌, ◌-◌, ◌<◌, ◌≤◌, List, [], ◌∷◌, ◌++◌, length, Bool, true, false, Err, None, Ok, Option, Result, Some, ap, append_assoc, arith, length-append, map, replicate, refl, reverse, subst, sym}
+use Rattle.std.specs.Prelude.{IfOk, IfSome, slice_index, if◌then◌else◌}
+use Rattle.std.specs.Result.{result_ok}
 use Rattle.std.proofs.lemmas.List.{ext_get_or, length-replicate}
 use Rattle.std.proofs.lemmas.List.FromFn.{get_or-map-range_with_len, length-map-range_with_len}
 use Rattle.bword.specs.ByteEnds.{CanFollow, Outgoing}
-use Rattle.blang.specs.Layout.{World, first_world, padded, refusal}
+use Rattle.blang.specs.declared.code.Definition.{Definition}
+use Rattle.blang.specs.Layout.{World, address_in, addresses, data_end, first_world, load_fault, padded, refusal, shape_of}
 use Rattle.blang.specs.Machine.{Call, Image, Loaded, Running, Halted, Stuck, State, machine_started, main_begun, run, state_world, step, steps}
 use Rattle.blang.specs.declared.run.Trap.{Trap}
+use Rattle.bmach.specs.Resolved.{IsLoadedFrom}
 use Rattle.bmach.specs.Stepping.{IsUnstarted, Paused, machine_at}
 use Rattle.bmach.specs.Steps.{world_with}
-use Rattle.bmach.specs.Stops.{RunsCall}
 use Rattle.bmach.specs.Turns.{MovesOn}
 use Rattle.bmach.proofs.Beginning.{run_from}
 use Rattle.bmach.proofs.Running.{one_more}
+use Rattle.bmach.proofs.Whole.{length-words}
+use Rattle.btools.proofs.Functions.{data_fit}
 use Rattle.bendless.specs.Endless.{IsRunning, silent}
 use Rattle.bmach.specs.declared.machine.Active.{Active}
-use Rattle.bendless.specs.Keeps.{IsAt, IsKept, IsSameState, words_in}
+use Rattle.bendless.specs.Keeps.{IsAt, IsKept, IsSameState, repeat_of, words_in}
 use Rattle.bendless.specs.Repeats.{Repeats}
 use Rattle.bendless.specs.Replays.{IsReplay, Replayed, lender_replay, replay_in, replay_new}
 use Rattle.bendless.specs.declared.kept.Kept.{Kept}
@@ -158,7 +162,7 @@ module _ (first : Paused) (bytes : List ℕ) where
 
   -- the state that was kept has come again
   pub repeats : (k : Kept) (n : ℕ) (p : Paused) (left : List ℕ) (over : Bool) → Came n p left over → HasKept k n p left over → k.made < n → IsAt k p (length left)
-      → (more : List ℕ) → (over ≡ true → more ≡ []) → Repeats (states more) (record { first = k.made; again = n; call = k.call })
+      → (more : List ℕ) → (over ≡ true → more ≡ []) → Repeats (states more) (repeat_of k n)
   repeats k n p left over c h later is more can =
       let t = h.there in
       let s = h.kept.state in
@@ -170,20 +174,22 @@ module _ (first : Paused) (bytes : List ℕ) where
       let call : p.call ≡ t.call = rw (here.0.0, here.0.1, place, operands) refl in
       let same : machine_at p (left ++ more) [] ≡ machine_at t (h.was_left ++ more) [] = rw (call, here.1, store, same_left) refl in
       let before = h.came.comes more (λ o. can (h.over_since o)) in
-      let runs = as_running (states more k.made) t.call t.below (world_with t.store (h.was_left ++ more) []) before in (
-        record {
+      let runs = as_running (states more k.made) t.call t.below (world_with t.store (h.was_left ++ more) []) before in
+      record {
+        comes_again = record {
           later = later;
           runs = subst IsRunning (sym runs.1) tt;
           same = c.comes more can ∙ same ∙ sym before;
-        },
-        record {
+        };
+        runs = record {
           call = t.call;
           below = t.below;
           world = runs.0;
           state_is = runs.1;
           active_is = sym h.kept.call;
-        },
-      )
+        };
+        callers = s.callers;
+      }
 
 -- whether the end is known stays, since it tells which end it is
 pub flag : (a b : Bool) → ◌≡◌ {A = List ℕ} ((if a then 1 else 0) ∷ []) ((if b then 1 else 0) ∷ []) → a ≡ b
@@ -214,14 +220,23 @@ full_first image p begins fits =
 
 -- runs with the same states repeat the same
 pub repeats_alike : (f g : ℕ → State) (r : Repeat) → ((n : ℕ) → f n ≡ g n) → Repeats g r → Repeats f r
-repeats_alike f g r same h = (
-  record {
-    later = h.0.later;
-    runs = subst IsRunning (sym (same r.first)) h.0.runs;
-    same = ap silent (same r.again) ∙ h.0.same ∙ ap silent (sym (same r.first));
-  },
-  subst (λ s. RunsCall s r.call) (sym (same r.first)) h.1,
-)
+repeats_alike f g r same h =
+    let here : g r.first ≡ f r.first = sym (same r.first) in
+    record {
+      comes_again = record {
+        later = h.comes_again.later;
+        runs = subst IsRunning here h.comes_again.runs;
+        same = ap silent (same r.again) ∙ h.comes_again.same ∙ ap silent here;
+      };
+      runs = record {
+        call = h.runs.call;
+        below = h.runs.below;
+        world = h.runs.world;
+        state_is = same r.first ∙ h.runs.state_is;
+        active_is = h.runs.active_is;
+      };
+      callers = h.callers;
+    }
 
 -- what was found of a run on bytes that were read
 pub found_again : (image : Image) (p : Paused) (bytes read : List ℕ) (over : Bool) (found : Option Repeat) → IsUnstarted image p → read ≡ bytes
@@ -230,3 +245,17 @@ pub found_again : (image : Image) (p : Paused) (bytes read : List ℕ) (over : B
 found_again image p bytes read over None begins same h = tt
 found_again image p bytes read over (Some r) begins same h = λ more can. repeats_alike (run image (bytes ++ more)) (λ n. steps p.image n (machine_at p (bytes ++ more) [])) r (run_from image p begins (bytes ++ more))
     (subst (λ xs. Repeats (λ n. steps p.image n (machine_at p (xs ++ more) [])) r) same (h more can))
+
+-- The words of an image that was loaded lie within the store.
+pub store_fits : (ds : List Definition) (image : Image) → load_fault ds ≡ None → IsLoadedFrom ds image → length image.words ≤ 65536
+store_fits ds image loads l =
+    let long : length image.words ≡ data_end (map shape_of ds) = ap length l.words ∙ length-words (address_in (addresses (map shape_of ds))) ds in
+    omega (arith, long, data_fit ds loads)
+
+some_same : {A : Type 0} (a b : A) → Some a ≡ Some b → a ≡ b
+some_same a b e = cc
+
+-- what holds of a result that is given
+pub ok_given : {A E : Type 0} (r : Result A E) (x : A) (P : A → Type 0) → Some x ≡ result_ok r → IfOk r P → P x
+ok_given (Ok y) x P is h = subst P (some_same y x (sym is)) h
+ok_given (Err e) x P is h = cc

@@ -4,6 +4,7 @@ use Rattle.std.specs.List.{range_with_len}
 use Rattle.bmach.specs.Stepping.{Paused}
 use Rattle.bmach.specs.Stops.{active_of}
 use Rattle.bendless.specs.declared.kept.Kept.{Kept}
+use Rattle.bendless.specs.declared.search.Repeat.{Repeat}
 
 -- the words at all addresses
 abbrev pub words_in : List ℕ → List ℕ
@@ -31,3 +32,7 @@ pub record IsSameState (k new : Kept) : Type 0 where
   pub left : new.left ≡ k.left
   pub operands : new.operands.items ≡ k.operands.items
   pub words : new.words.items ≡ k.words.items
+
+-- this state, in which a run is again after so many steps
+abbrev pub repeat_of : Kept → (again : ℕ) → Repeat
+repeat_of k again = record { first = k.made; again = again; call = k.call; callers = k.callers }

@@ -4,3 +4,8 @@ pub mod Repeats
 pub mod Replays
 pub mod Keeps
 pub mod Recordings
+pub mod Loops
+pub mod Idle
+pub mod Tellings
+pub mod LoopRows
+pub mod IdleRows

@@ -4,6 +4,7 @@ use Rattle.std.specs.Prelude.{None}
 use Rattle.bword.specs.ByteEnds.{Incoming, Took}
 use Rattle.bendless.specs.declared.recorder.Extent.{Extent}
 use Rattle.bendless.specs.declared.recorder.Extent.TheVariants as extent
+use Rattle.bendless.specs.declared.recorder.Record.{Record}
 
 -- The other end when it was given and as it is now; the bytes that are kept; whether these are all that were taken; and
 -- whether the end was answered.
@@ -49,3 +50,9 @@ lender_recording first lender =
 pub record IsRecording {I : Type 0} (incoming : I → Incoming) (r : Recording I) : Type 0 where
   pub taken : r.is_whole ≡ true → Took (incoming r.first) r.bytes (incoming r.input)
   pub over : r.is_over ≡ true → (incoming r.input).is_over ≡ true
+
+-- What is kept of what was read, from one end to the other: all bytes that were taken, if it is all; and whether the
+-- end was answered.
+pub record Records (r : Record) (i j : Incoming) : Type 0 where
+  pub taken : is_whole r.extent ≡ true → Took i r.bytes.items j
+  pub over : r.is_over ≡ true → j.is_over ≡ true

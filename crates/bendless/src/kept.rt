@@ -1,7 +1,8 @@
 //! A state that is kept of a run, to be compared with later ones.
 ghost use Rattle.std.specs.Prelude.{◌≡◌, true, IfNone, IfOk, length};
-ghost use Rattle.bendless.specs.Keeps.{IsAt, IsKept, IsSameState, words_in};
+ghost use Rattle.bendless.specs.Keeps.{IsAt, IsKept, IsSameState, repeat_of, words_in};
 
+use crate::search::Repeat;
 use bmach::{Active, Stepper};
 use bword::Store;
 use std::alloc::{AllocError, Global};
@@ -67,6 +68,18 @@ impl Kept {
                 self.differs = address;
                 false
             }
+        }
+    }
+
+    /// This state, which the run is in again after so many steps.
+    pub fn again(&self, made: u64) -> Repeat
+        ensures { result ≡ repeat_of self.now made }
+    {
+        Repeat {
+            first: self.made,
+            again: made,
+            call: self.call,
+            callers: self.callers,
         }
     }
 

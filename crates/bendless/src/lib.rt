@@ -1,16 +1,22 @@
 //! Runs that never end.
 #![tactic(auto)]
 
+mod endless;
+mod idle;
 mod kept;
+mod looping;
 mod recorder;
 mod replay;
 mod search;
+mod telling;
 
 ghost use Rattle.bmean.specs.Laws.{OfCode};
 ghost use Rattle.bendless.specs.Endless.{NeverEnds, WantsForEver};
 
-pub use recorder::{Extent, Record, RecordedRun, run_recorded};
-pub use search::{Repeat, find_repeat};
+pub use endless::{Endless, endless_of};
+pub use recorder::{Extent, Record, RecordedRun, RecordedWatch, run_recorded, watch_recorded};
+pub use search::{Repeat, repeat_of};
+pub use telling::push_repeat;
 
 /// Where a state comes again, but for what was written, the machine halts after no number of steps, and the program of
 /// the code wants more fuel at every number.

@@ -1,15 +1,21 @@
 //! A stream of which it is kept what was read.
-ghost use Rattle.std.specs.Prelude.{◌≡◌, ◌++◌, [], ◌∷◌, true};
+ghost use Rattle.std.specs.Prelude.{◌≡◌, ◌++◌, [], ◌∷◌, IfOk, OnErr, true};
 ghost use Rattle.bword.specs.ByteEnds.{Took};
 ghost use Rattle.blang.specs.Machine as machine;
 ghost use Rattle.blang.specs.Reports.{RunGives};
+ghost use Rattle.bmach.specs.Readings.{ReadBySteps};
+ghost use Rattle.bmach.specs.Resolved.{IsLoadedFrom};
 ghost use Rattle.bmach.specs.Stepping.{machine_at};
 ghost use Rattle.bmach.specs.Stops.{IsOverAt};
-ghost use Rattle.bendless.specs.Recordings.{IsRecording, is_whole, lender_recording, recording_new};
+ghost use Rattle.bwatch.specs.Sights.{Sights};
+ghost use Rattle.bwatch.specs.Watches.{Leaves, WatchGives};
+ghost use Rattle.bendless.specs.Recordings.{IsRecording, Records, is_whole, lender_recording, recording_new};
 
 use bmach::{Stepper, Stop};
+use btools::Program;
+use bwatch::{Onlooker, Watched, watch};
 use bword::{ByteIn, ByteOut, Device, Store};
-use std::alloc::Global;
+use std::alloc::{AllocError, Global};
 use std::marker::Model;
 use std::mem;
 use std::snapshot::Snapshot;
@@ -156,9 +162,7 @@ pub fn run_recorded<S: Store + Drop, I: ByteIn, O: ByteOut>(
         (I.incoming input.old) (I.incoming input.new) (O.outgoing out.old) (O.outgoing out.new) result.stop.outcome }
     ensures stops { IsOverAt (λ left n. machine.steps stepper.entry.image n (machine_at stepper.entry left [])) steps
         (I.incoming input.old) (I.incoming input.new) result.stop.outcome result.stop.call result.stop.steps }
-    ensures taken { is_whole result.record.extent ≡ true
-        → Took (I.incoming input.old) result.record.bytes.items (I.incoming input.new) }
-    ensures over { result.record.is_over ≡ true → (I.incoming input.new).is_over ≡ true }
+    ensures records { Records result.record (I.incoming input.old) (I.incoming input.new) }
     ensures input_lender { I.lender input.new ≡ I.lender input.old }
     ensures out_lender { O.lender out.new ≡ O.lender out.old }
 {
@@ -167,4 +171,40 @@ pub fn run_recorded<S: Store + Drop, I: ByteIn, O: ByteOut>(
     let record = recorder.take_record(alloc);
     let _ = recorder.into_input();
     RecordedRun { stop, record }
+}
+
+/// A run on which somebody looked, and what was read in it.
+#[derive(Drop)]
+pub struct RecordedWatch {
+    pub watched: Watched,
+    pub record: Record,
+}
+
+/// Runs a program for at most so many steps, while somebody looks on, and keeps what is read; or fails where memory is
+/// refused to who looks on or to the run.
+pub fn watch_recorded<I: ByteIn, W: Onlooker>(
+    alloc: Global,
+    program: &Program,
+    steps: u64,
+    input: &mut I,
+    onlooker: &mut W,
+) -> Result<RecordedWatch, AllocError>
+    requires loaded { IsLoadedFrom program.now.definitions.items program.now.image }
+    requires begins { (sights : Sights) → W.has_seen onlooker.old onlooker.old sights 0 }
+    ensures gives { IfOk result (λ r. WatchGives program.now.definitions.items program.now.image steps
+        (I.incoming input.old) (I.incoming input.new)
+        (Leaves (W.awaits onlooker.old onlooker.new) (W.has_told onlooker.old onlooker.new)) r.watched) }
+    ensures records { IfOk result (λ r. Records r.record (I.incoming input.old) (I.incoming input.new)) }
+    ensures read { OnErr result (ReadBySteps (machine.machine program.now.definitions.items) steps
+        (I.incoming input.old) (I.incoming input.new)) }
+    ensures same { I.lender input.new ≡ I.lender input.old }
+{
+    let mut recorder = Recorder::new(alloc, input);
+    let watched = watch(alloc, program, steps, &mut recorder, onlooker);
+    let record = recorder.take_record(alloc);
+    let _ = recorder.into_input();
+    Ok(RecordedWatch {
+        watched: watched?,
+        record,
+    })
 }

@@ -13,7 +13,6 @@ use Rattle.blang.specs.declared.run.Outcome.TheVariants as outcome
 use Rattle.blang.specs.Machine.{image_of, machine}
 use Rattle.bmach.specs.Stepping.{Paused}
 use Rattle.bmach.specs.Stops.{active_of}
-use Rattle.bmach.specs.declared.machine.Active.{Active}
 use Rattle.bmach.specs.declared.machine.Stop.{Stop}
 use Rattle.bwatch.specs.Trails.{IsKept, Keeps, chosen, trail_text}
 use Rattle.bwatch.specs.declared.trail.TraceRows.{TraceRows}
@@ -22,10 +21,11 @@ use Rattle.bwatch.specs.Sights.{Sight, Sights, end_sight, sight_at, sights_of}
 use Rattle.bwatch.specs.Watches.{Ending, Leaves as EndLeaves, Watches}
 use Rattle.bshow.specs.Facts.{run_text, sentence}
 use Rattle.bshow.specs.Rows.{LinedCode, call_cells, done_cells, heard_between, heard_byte, hears_next, instr_of, is_getchar, row_text, sight_cells, step_cells, table_code, words_in}
-use Rattle.bshow.specs.Shows.{IsPageOf, calls_at, facts_text, head, heard_text, next_text, page_text, rows_text, run_page, said_text, tail, wanted_of}
+use Rattle.bendless.specs.declared.search.Repeat.{Repeat}
+use Rattle.bshow.specs.Shows.{IsPageOf, again_text, calls_at, head, heard_text, next_text, open_page, rows_text, run_page, said_text, tail, wanted_of}
 use Rattle.bshow.specs.Steps.{Awaits, AwaitsStep, EndsRows, FollowsCalls, HasSeen, HasTold, IsRun, KeepsLast, KeepsSteps, KnowsStored, Moves, may_show, next_row}
 use Rattle.bshow.specs.declared.recorder.Recorder.{Recorder}
-use Rattle.bwatch.proofs.Kept.{kept_more, kept_none, kept_same, kept_text, map-chosen, no_row, own_row}
+use Rattle.bwatch.proofs.Kept.{kept_more, kept_none, kept_same, kept_text, map-chosen}
 use Rattle.bshow.proofs.Calls.{is_run}
 use Rattle.btools.proofs.Ranges as ranges
 
@@ -209,17 +209,17 @@ module _ (first old new : Recorder) (p : Paused) (sights : Sights) (t : Trail) w
   end_code = table_code first.tables.now
 
   -- what is told of a run, by what is kept of it
-  whole : (made : ℕ) (r : Outcome) (rows next : List ℕ) → trail_text t ≡ head ++ rows ++ next → new.trail.text ≡ trail_text t ++ said_text (sentence r made) old.program ++ run_text (reverse old.calls.items) old.calls_at p.store old.heard old.output ++ tail
+  whole : (made : ℕ) (r : Outcome) (rows next : List ℕ) → trail_text t ≡ head ++ rows ++ next → new.trail.text ≡ trail_text t ++ said_text (sentence r made) old.program ++ run_text (reverse old.calls.items) old.calls_at p.store old.heard old.output
       → old.program ≡ first.program → rows ≡ rows_text end_code first.which sights made → next ≡ next_text end_code sights made r → reverse old.calls.items ≡ (sights (calls_at made r)).below → old.calls_at ≡ calls_at made r
-      → p.store ≡ (sights made).store → old.heard ≡ heard_text end_code sights made → old.output ≡ (sights made).output → new.trail.text ≡ run_page end_code first.which first.program sights made r
+      → p.store ≡ (sights made).store → old.heard ≡ heard_text end_code sights made → old.output ≡ (sights made).output → new.trail.text ≡ open_page end_code first.which first.program sights made r
   whole made r rows next kept text program rows_are next_is calls at store heard output =
-      text ∙ ap (λ x. x ++ said_text (sentence r made) old.program ++ run_text (reverse old.calls.items) old.calls_at p.store old.heard old.output ++ tail) (kept ∙ append_assoc head rows next)
-      ∙ (λ i. head ++ (rows_are i ++ next_is i) ++ said_text (sentence r made) (program i) ++ run_text (calls i) (at i) (store i) (heard i) (output i) ++ tail)
+      text ∙ ap (λ x. x ++ said_text (sentence r made) old.program ++ run_text (reverse old.calls.items) old.calls_at p.store old.heard old.output) (kept ∙ append_assoc head rows next)
+      ∙ (λ i. head ++ (rows_are i ++ next_is i) ++ said_text (sentence r made) (program i) ++ run_text (calls i) (at i) (store i) (heard i) (output i))
 
   -- all steps were made
   pub limit_told : (made : ℕ) → KeepsSteps first old sights made × (old.trail.row ≡ []) → sights made ≡ sight_at p (sights made).output → t ≡ record old.trail { row = old.trail.row ++ next_row (table_code old.tables.now) (made + 1) p }
-      → new.trail.text ≡ trail_text t ++ said_text (sentence outcome.Limit made) old.program ++ run_text (reverse old.calls.items) old.calls_at p.store old.heard old.output ++ tail
-      → new.trail.text ≡ run_page end_code first.which first.program sights made outcome.Limit
+      → new.trail.text ≡ trail_text t ++ said_text (sentence outcome.Limit made) old.program ++ run_text (reverse old.calls.items) old.calls_at p.store old.heard old.output
+      → new.trail.text ≡ open_page end_code first.which first.program sights made outcome.Limit
   limit_told made h at ends text =
       let k = h.0 in
       let row : t.row ≡ next_text end_code sights made outcome.Limit =
@@ -233,8 +233,8 @@ module _ (first old new : Recorder) (p : Paused) (sights : Sights) (t : Trail) w
   -- the run is over
   pub over_told : (made : ℕ) (r : Outcome) → calls_at made r ≡ made - 1 → next_text end_code sights made r ≡ [] → (last : ℕ) → made ≡ last + 1 → AwaitsStep first old sights last → sights made ≡ end_sight p.store (sights last).output
       → KeepsLast old.shows old.which old.trail t
-      → new.trail.text ≡ trail_text t ++ said_text (sentence r made) old.program ++ run_text (reverse old.calls.items) old.calls_at p.store old.heard old.output ++ tail
-      → new.trail.text ≡ run_page end_code first.which first.program sights made r
+      → new.trail.text ≡ trail_text t ++ said_text (sentence r made) old.program ++ run_text (reverse old.calls.items) old.calls_at p.store old.heard old.output
+      → new.trail.text ≡ open_page end_code first.which first.program sights made r
   over_told made r before none last is a over ends text =
       let k = a.keeps in
       let f = row_text end_code sights in
@@ -258,7 +258,7 @@ module _ (first old new : Recorder) (p : Paused) (sights : Sights) (t : Trail) w
       added_last false h = h
 
   pub told_at : (r : Outcome) (stop : Stop) → Ending p sights (HasSeen first old sights) (Awaits first old sights) r stop → EndsRows (table_code old.tables.now) old.which old.shows p r stop.steps old.trail t
-      → new.trail.text ≡ trail_text t ++ said_text (sentence r stop.steps) old.program ++ run_text (reverse old.calls.items) old.calls_at p.store old.heard old.output ++ tail
+      → new.trail.text ≡ trail_text t ++ said_text (sentence r stop.steps) old.program ++ run_text (reverse old.calls.items) old.calls_at p.store old.heard old.output
       → HasTold first new sights stop.steps r
   told_at (outcome.Exit status) stop h ends text run = over_told stop.steps (outcome.Exit status) refl refl h.last h.made (h.awaited run) h.over ends text
   told_at (outcome.Trap kind) stop h ends text run = over_told stop.steps (outcome.Trap kind) refl refl h.0.last h.0.made (h.0.awaited run) h.0.over ends text
@@ -266,24 +266,24 @@ module _ (first old new : Recorder) (p : Paused) (sights : Sights) (t : Trail) w
   told_at outcome.Device stop h ends text run = absurd h
   told_at outcome.Memory stop h ends text run = absurd h
 
--- what was told of a run without a failed read is its page
-pub page_so : (first now : Recorder) (code : LinedCode) → table_code first.tables.now ≡ code → (awaits : Sights → ℕ → Type 0) (r : Outcome) → (r ≡ outcome.Device → ⊥) → (made : ℕ) (sights : Sights) → IsRun sights
-    → EndLeaves awaits (λ s m x. HasTold first now s m x) sights made r → IsPageOf code first.which first.program now.trail.text sights made r
-page_so first now code same awaits r own made sights run told = by r own told
+-- what was told of a run without a failed read is its page, with what was added to it
+pub page_so : (first now : Recorder) (code : LinedCode) (again : Option Repeat) (text : List ℕ) → table_code first.tables.now ≡ code → text ≡ now.trail.text ++ again_text code again ++ tail → (awaits : Sights → ℕ → Type 0) (r : Outcome) → (r ≡ outcome.Device → ⊥)
+    → (made : ℕ) (sights : Sights) → IsRun sights → EndLeaves awaits (λ s m x. HasTold first now s m x) sights made r → IsPageOf code first.which again first.program text sights made r
+page_so first now code again text same added awaits r own made sights run told = by r own told
   where
-    page : (x : Outcome) → HasTold first now sights made x → now.trail.text ≡ run_page code first.which first.program sights made x
-    page x h = h run ∙ ap (λ c. run_page c first.which first.program sights made x) same
+    page : (x : Outcome) → HasTold first now sights made x → text ≡ run_page code first.which again first.program sights made x
+    page x h = added ∙ ap (λ t. t ++ again_text code again ++ tail) (h run ∙ ap (λ c. open_page c first.which first.program sights made x) same)
 
-    by : (x : Outcome) → (x ≡ outcome.Device → ⊥) → EndLeaves awaits (λ s m y. HasTold first now s m y) sights made x → IsPageOf code first.which first.program now.trail.text sights made x
+    by : (x : Outcome) → (x ≡ outcome.Device → ⊥) → EndLeaves awaits (λ s m y. HasTold first now s m y) sights made x → IsPageOf code first.which again first.program text sights made x
     by (outcome.Exit status) other h = page (outcome.Exit status) h
     by (outcome.Trap kind) other h = page (outcome.Trap kind) h
     by outcome.Limit other h = page outcome.Limit h
     by outcome.Device other h = absurd (other refl)
     by outcome.Memory other h = page outcome.Memory h
 
-pub paged : (ds : List Definition) (n : ℕ) (i j : Incoming) (r : Outcome) → (r ≡ outcome.Device → ⊥) → (made : ℕ) (first now : Recorder) (code : LinedCode) (which : TraceRows) (program : List ℕ) → table_code first.tables.now ≡ code → first.which ≡ which → first.program ≡ program
-    → Watches (image_of ds).functions (machine ds) n i j r made (EndLeaves (Awaits first now) (HasTold first now)) → Watches (image_of ds).functions (machine ds) n i j r made (IsPageOf code which program now.trail.text)
-paged ds n i j r own made first now code which program same rows text w = record {
+pub paged : (ds : List Definition) (n : ℕ) (i j : Incoming) (r : Outcome) → (r ≡ outcome.Device → ⊥) → (made : ℕ) (first now : Recorder) (code : LinedCode) (which : TraceRows) (program : List ℕ) (again : Option Repeat) (page : List ℕ) → table_code first.tables.now ≡ code → first.which ≡ which → first.program ≡ program → page ≡ now.trail.text ++ again_text code again ++ tail
+    → Watches (image_of ds).functions (machine ds) n i j r made (EndLeaves (Awaits first now) (HasTold first now)) → Watches (image_of ds).functions (machine ds) n i j r made (IsPageOf code which again program page)
+paged ds n i j r own made first now code which program again page same rows text added w = record {
   output = w.output;
   gives = w.gives;
   within = w.within;
@@ -292,6 +292,6 @@ paged ds n i j r own made first now code which program same rows text w = record
   ends = w.ends;
   told = λ more can.
       let sights = sights_of (image_of ds).functions (machine ds) (w.taken ++ more) in
-      let page = page_so first now code same (Awaits first now) r own made sights (is_run ds (w.taken ++ more)) (w.told more can) in
-      subst (λ (x : TraceRows). IsPageOf code x program now.trail.text sights made r) rows (subst (λ x. IsPageOf code first.which x now.trail.text sights made r) text page);
+      let is = page_so first now code again page same added (Awaits first now) r own made sights (is_run ds (w.taken ++ more)) (w.told more can) in
+      subst (λ (x : TraceRows). IsPageOf code x again program page sights made r) rows (subst (λ x. IsPageOf code first.which again x page sights made r) text is);
 }

@@ -90,7 +90,7 @@ abbrev pub run_text : (calls : List Active) → (at : ℕ) → (store heard outp
 run_text calls at store heard output =
     codes ",\"calls_at\":" ++ decimal at ++ codes ",\"calls\":" ++ calls_text calls ++ codes ",\"words\":"
     ++ memory_text store ++ codes ",\"heard\":\"" ++ escaped heard ++ codes "\",\"output\":\"" ++ escaped output
-    ++ codes "\"}"
+    ++ codes "\""
 
 abbrev pub no_run_text : List ℕ
 no_run_text = codes ",\"calls_at\":0,\"calls\":[0],\"words\":[0],\"heard\":\"\",\"output\":\"\"}"

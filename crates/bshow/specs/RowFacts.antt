@@ -1,5 +1,6 @@
 -- Closed facts: what stands in the rows and facts of a page, and which steps have a row, on small values.
-use Rattle.std.specs.Prelude.{◌≡◌, ℕ, ◌-◌, true, false, List, [], ◌∷◌, ◌++◌, Some, codes, drop, length, map, refl, take}
+use Rattle.std.specs.Prelude.{◌≡◌, ℕ, ◌-◌, true, false, List, [], ◌∷◌, ◌++◌, Some, None, codes, drop, length, map}
+use Rattle.std.specs.Prelude.{refl, take}
 use Rattle.std.specs.List.{list_all, range_with_len}
 use Rattle.std.specs.Fmt.{digits}
 use Rattle.blang.specs.declared.code.Definition.{Definition}
@@ -27,7 +28,7 @@ use Rattle.bshow.specs.Facts.{some_word, trap_words, unbegun_sentence}
 use Rattle.bshow.specs.OwnTexts.{own_texts}
 use Rattle.bshow.specs.Rows.{call_cells, done_cells, is_getchar, lined_code, words_cell}
 use Rattle.bshow.specs.declared.page.TheConstants.{BETWEEN, HEAD, SCRIPT, TAIL}
-use Rattle.bshow.specs.Shows.{calls_at, heard_text, next_text, rows_text, shown_of}
+use Rattle.bshow.specs.Shows.{again_text, calls_at, heard_text, next_text, rows_text, shown_of}
 
 -- The fixed parts of a page: the rows are those of a table, the sentence stands below it, the facts are a text of JSON
 -- of their own, and the script that shows them comes last.
@@ -180,6 +181,20 @@ sizes_told :
     ≡ codes ",1" ∷ codes ",2" ∷ codes ",[3]" ∷ codes ",[2]" ∷ []
 unfolding digits simple_of vector_of two_values
 sizes_told = refl
+
+-- the last fact of a run: a state that comes again, with its line, or none
+again_told : again_text (record { functions = []; lines = record { strings = 9; lines = 4 ∷ 5 ∷ [] } ∷ [] })
+    (Some (record {
+      first = 7;
+      again = 11;
+      call = record { strings = 9; parameters = 0; place = 1; start = 20 };
+      callers = 0;
+    })) ≡ codes ",\"again\":[7,11,9,5]}"
+unfolding digits
+again_told = refl
+
+none_again : again_text (record { functions = []; lines = [] }) None ≡ codes "}"
+none_again = refl
 
 no_run_told : no_run_text ≡ codes ",\"calls_at\":0,\"calls\":[0],\"words\":[0],\"heard\":\"\",\"output\":\"\"}"
 no_run_told = refl

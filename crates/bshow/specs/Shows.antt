@@ -1,5 +1,6 @@
 -- Promise: the page of a run.
-use Rattle.std.specs.Prelude.{◌≡◌, ℕ, ◌+◌, ◌-◌, List, [], ◌++◌, codes, filter, nat_le}
+use Rattle.std.specs.Prelude.{◌≡◌, ℕ, ◌+◌, ◌-◌, List, [], ◌++◌, Option, Some, None, IfSome, codes, decimal, filter}
+use Rattle.std.specs.Prelude.{nat_le}
 use Rattle.std.specs.List.{flat_map, range_with_len}
 use Rattle.bword.specs.declared.edition.Edition.{Edition}
 use Rattle.bword.specs.ByteEnds.{Kept, outgoing_of}
@@ -8,7 +9,7 @@ use Rattle.blang.specs.declared.run.Outcome.{Outcome}
 use Rattle.blang.specs.declared.run.Outcome.TheVariants as outcome
 use Rattle.blang.specs.declared.run.Trap.{Trap}
 use Rattle.blang.specs.declared.status.TheConstants.{DEVICE, DONE, MEMORY}
-use Rattle.blang.specs.Machine.{Image, image_of, machine}
+use Rattle.blang.specs.Machine.{Image, image_of, machine, run}
 use Rattle.blang.specs.Reports.{HasNotRun, Reported, RunEnds, RunGives}
 use Rattle.bmach.specs.Readings.{ReadBySteps}
 use Rattle.bmach.specs.Stepping.{BeginsNot}
@@ -16,7 +17,9 @@ use Rattle.bsources.specs.Files.{Files, files_shown}
 use Rattle.btools.specs.declared.names.Frame.{Frame}
 use Rattle.btools.specs.FaultPlaces.{fault_lines}
 use Rattle.btools.specs.FrameNames.{HasNames}
-use Rattle.btools.specs.ProgramLines.{HasLines}
+use Rattle.bendless.specs.Repeats.{ComesBack}
+use Rattle.bendless.specs.declared.search.Repeat.{Repeat}
+use Rattle.btools.specs.ProgramLines.{HasLines, line_at}
 use Rattle.btools.specs.Programs.{HasProgram, NoProgram, nothing_written}
 use Rattle.bwatch.specs.Trails.{chosen, first_of}
 use Rattle.bwatch.specs.declared.trail.TraceRows.{TraceRows}
@@ -68,19 +71,36 @@ tail = TAIL.now
 abbrev pub said_text : (sentence program : List ℕ) → List ℕ
 said_text sentence program = BETWEEN.now ++ sentence ++ SCRIPT.now ++ program
 
-abbrev pub page_text : (rows sentence program facts : List ℕ) → List ℕ
-page_text rows sentence program facts = head ++ rows ++ said_text sentence program ++ facts ++ tail
+abbrev pub open_text : (rows sentence program facts : List ℕ) → List ℕ
+open_text rows sentence program facts = head ++ rows ++ said_text sentence program ++ facts
 
--- that of so many steps of a run, with this text about its program
-abbrev pub run_page : LinedCode → TraceRows → (program : List ℕ) → Sights → (made : ℕ) → Outcome → List ℕ
-run_page code which program sights made result =
-    page_text (rows_text code which sights made ++ next_text code sights made result) (sentence result made) program
+abbrev pub page_text : (rows sentence program facts : List ℕ) → List ℕ
+page_text rows sentence program facts = open_text rows sentence program facts ++ tail
+
+-- that of so many steps of a run, with this text about its program, up to the last of its facts
+abbrev pub open_page : LinedCode → TraceRows → (program : List ℕ) → Sights → (made : ℕ) → Outcome → List ℕ
+open_page code which program sights made result =
+    open_text (rows_text code which sights made ++ next_text code sights made result) (sentence result made) program
     (facts_text code sights made result)
 
+-- the last fact, if a state comes again: after how many steps, and the function and the line of its call
+abbrev pub again_text : LinedCode → Option Repeat → List ℕ
+again_text code None = codes "}"
+again_text code (Some r) =
+    codes ",\"again\":[" ++ decimal r.first ++ codes "," ++ decimal r.again ++ codes "," ++ decimal r.call.strings
+    ++ codes "," ++ decimal (line_at code.lines r.call.strings r.call.place) ++ codes "]}"
+
+abbrev pub run_page : LinedCode → TraceRows → Option Repeat → (program : List ℕ) → Sights → (made : ℕ) → Outcome
+    → List ℕ
+run_page code which again program sights made result =
+    open_page code which program sights made result ++ again_text code again ++ tail
+
 -- A text is the page of a run. There is none where a read failed.
-abbrev pub IsPageOf : LinedCode → TraceRows → (program page : List ℕ) → Sights → (made : ℕ) → Outcome → Type 0
-IsPageOf code which program page sights made outcome.Device = ⊥
-IsPageOf code which program page sights made result = page ≡ run_page code which program sights made result
+abbrev pub IsPageOf : LinedCode → TraceRows → Option Repeat → (program page : List ℕ) → Sights → (made : ℕ) → Outcome
+    → Type 0
+IsPageOf code which again program page sights made outcome.Device = ⊥
+IsPageOf code which again program page sights made result =
+    page ≡ run_page code which again program sights made result
 
 -- what is asked for
 pub record Asked : Type 0 where
@@ -101,15 +121,17 @@ unbegun_page program kind = page_text [] (unbegun_sentence kind) program no_run_
 abbrev pub IsWritten : List ℕ → RunEnds → ℕ → Type 0
 IsWritten page ends status = Reported page DONE ends.out ends.out_after status
 
--- The program of the source was run for so many steps at most, as the machine runs it, and its page written; or it did
+-- The program of the source was run for so many steps at most, as the machine runs it, and its page written, which tells
+-- a state of its image that comes again, if one was found; or it did
 -- not begin, which the page says; or it could not read its input; or there is no program, and why was told; or memory
 -- was refused, and nothing was written, or read but by some of its steps.
 pub data Shows (edition : Edition) (source : List ℕ) (asked : Asked) (ends : RunEnds) (status : ℕ) : Type 0 where
   shown : (ds : List Definition) (image : Image) (frames : List Frame) (lines : List ℕ) (result : Outcome) (made : ℕ)
-      (page : List ℕ) → HasProgram edition source ds image → HasLines edition source lines
+      (again : Option Repeat) (page : List ℕ) → HasProgram edition source ds image → HasLines edition source lines
       → HasNames edition source frames → ends.line_after ≡ ends.line
+      → IfSome again (ComesBack (run image) ends.input ends.input_after)
       → Watches (image_of ds).functions (machine ds) asked.steps ends.input ends.input_after result made
-      (IsPageOf (lined_code ds lines) asked.which (program_text asked.files source asked.given ds frames) page)
+      (IsPageOf (lined_code ds lines) asked.which again (program_text asked.files source asked.given ds frames) page)
       → IsWritten page ends status → Shows edition source asked ends status
   not_begun : (ds : List Definition) (image : Image) (frames : List Frame) (kind : Trap)
       → HasProgram edition source ds image → HasNames edition source frames → ends.line_after ≡ ends.line

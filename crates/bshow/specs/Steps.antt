@@ -1,7 +1,7 @@
 -- Inner words: what is kept of a run for its page.
 use Rattle.std.specs.Prelude.{◌≡◌, ◌⊎◌, ℕ, ◌+◌, ◌-◌, ◌≤◌, Bool, true, false, List, [], ◌∷◌, ◌++◌, None, codes, length}
 use Rattle.std.specs.Prelude.{map, nat_le, reverse, if◌then◌else◌}
-use Rattle.std.specs.List.{flat_map, range_with_len}
+use Rattle.std.specs.List.{range_with_len}
 use Rattle.bword.specs.ByteEnds.{Outgoing}
 use Rattle.blang.specs.declared.code.Definition.{Definition}
 use Rattle.blang.specs.declared.run.Outcome.{Outcome}
@@ -20,7 +20,7 @@ use Rattle.bwatch.specs.declared.trail.Trail.{Trail}
 use Rattle.bwatch.specs.Sights.{Sight, Sights}
 use Rattle.bshow.specs.Facts.{program_text}
 use Rattle.bshow.specs.Rows.{LinedCode, call_cells, done_cells, hears_next, row_text, sight_cells, table_code, words_in}
-use Rattle.bshow.specs.Shows.{Asked, head, heard_text, run_page, unbegun_page, wanted_of}
+use Rattle.bshow.specs.Shows.{Asked, head, heard_text, open_page, unbegun_page, wanted_of}
 use Rattle.bshow.specs.declared.recorder.Recorder.{Recorder}
 
 -- A step went on in its call, or began one, or returned: so the calls below the running one became others.
@@ -92,11 +92,11 @@ EndsRows code which shows p outcome.Limit made old new =
     new ≡ record old { row = old.row ++ next_row code (made + 1) p }
 EndsRows code which shows p result made old new = KeepsLast shows which old new
 
--- the page is there
+-- the page is there, up to the last of its facts
 abbrev pub HasTold : (first now : Recorder) → Sights → (made : ℕ) → Outcome → Type 0
 HasTold first now sights made result =
     IsRun sights → now.trail.text
-    ≡ run_page (table_code first.tables.now) first.which first.program sights made result
+    ≡ open_page (table_code first.tables.now) first.which first.program sights made result
 
 -- the page of a run without a step was written, or memory was refused for it
 abbrev pub ShowsUnbegun : Asked → (source : List ℕ) → List Definition → List Frame → Trap → (out out_after : Outgoing)

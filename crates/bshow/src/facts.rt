@@ -190,7 +190,7 @@ pub fn push_run<S: Store + Drop>(
     push_escaped(text, heard)?;
     text.push(b"\",\"output\":\"")?;
     push_escaped(text, output)?;
-    text.push(b"\"}")
+    text.push(b"\"")
 }
 
 fn push_memory<S: Store + Drop>(text: &mut Text, stepper: &Stepper<'_, S>) -> Result<(), AllocError>

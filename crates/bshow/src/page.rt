@@ -618,14 +618,28 @@ function showFrame(call, fresh) {\n\
 \x20 return [...parts, some(singles, fresh, box)];\n\
 }\n\
 \n\
+// How many calls that wait at the same place are shown, one after another. The others are counted.\n\
+const CALLS = 8;\n\
 function showCalls(row, fresh, since) {\n\
 \x20 $(\"calls\").replaceChildren();\n\
+\x20 let last = null, alike = 0;\n\
+\x20 // Of calls from before the first row the place may not be known.\n\
+\x20 const isThere = call => call.name === last.name && (call.place ?? last.place) === (last.place ?? call.place);\n\
+\x20 const count = () => alike > CALLS && $(\"calls\").append(element(\"li\", `and ${alike - CALLS} more from there`));\n\
 \x20 for (let call = row; call; call = call.below) {\n\
+\x20   if (!last || last === row || !isThere(call)) {\n\
+\x20     count();\n\
+\x20     alike = 0;\n\
+\x20   }\n\
+\x20   last = call;\n\
+\x20   alike++;\n\
+\x20   if (alike > CALLS) continue;\n\
 \x20   const item = element(\"li\");\n\
 \x20   item.append(element(\"code\", call.name ?? \"?\"), call.line ? \" \" + place(call.line) : \"\");\n\
 \x20   item.append(...call === row ? given(since, row) : [], ...showFrame(call, fresh));\n\
 \x20   $(\"calls\").append(item);\n\
 \x20 }\n\
+\x20 count();\n\
 }\n\
 \n\
 // The characters that calls of `char` and `lchar` look at, from a position to the next step.\n\
@@ -1025,6 +1039,11 @@ $(\"all\").addEventListener(\"toggle\", () => $(\"all\").classList.toggle(\"show
 $(\"at\").max = made;\n\
 $(\"visit\").max = Math.max(0, visits.length - 1);\n\
 $(\"told\").prepend($(\"title\"));\n\
+if (facts.again) {\n\
+\x20 const [from, to, strings, line] = facts.again, { name } = spots.find(it => it.from === strings - 1);\n\
+\x20 $(\"end\").append(` It never ends: after ${to} steps all is as it was after ${from}.`);\n\
+\x20 $(\"end\").append(` The loop is in ${shown(name)}, ${place(line)}.`);\n\
+}\n\
 $(\"step\").after($(\"end\"));\n\
 $(\"end\").classList.toggle(\"stop\", isStopped);\n\
 $(\"input-part\").hidden = !facts.given && !facts.heard;\n\

@@ -4,14 +4,15 @@ ghost use Rattle.std.specs.List.{flat_map, range_with_len};
 ghost use Rattle.bwatch.specs.Trails.{trail_text};
 ghost use Rattle.bshow.specs.Facts.{sentence};
 ghost use Rattle.bshow.specs.Rows.{table_code};
-ghost use Rattle.bshow.specs.Shows.{head, said_text};
+ghost use Rattle.bshow.specs.Shows.{again_text, head, said_text, tail};
 ghost use Rattle.bshow.specs.Steps.{Awaits, EndsRows, FollowsCalls, HasSeen, HasTold, KeepsLast, may_show, next_row};
 
 use crate::ending::push_sentence;
 use crate::facts::push_run;
 use crate::page::{BETWEEN, HEAD, SCRIPT};
-use crate::parts::push_tail;
+use crate::parts::push_end;
 use crate::rows::{calls_getchar, operand, push_call, push_done, words_in};
+use bendless::Repeat;
 use blang::Outcome;
 use bmach::{Active, Stepper, Stop};
 use btools::{Tables, Text};
@@ -76,6 +77,15 @@ impl<'a, 'b> Recorder<'a, 'b> {
             stored: 0..0,
             before: Vec::new(alloc),
         })
+    }
+}
+
+impl Recorder<'_, '_> {
+    /// Ends the facts of a run, with a state that comes again, and the page.
+    pub fn push_end(&mut self, tables: &Tables<'_>, again: Option<Repeat>) -> Result<(), AllocError>
+        ensures { OnOk result (self.new.trail.text ≡ self.old.trail.text ++ again_text (table_code tables.now) again ++ tail) }
+    {
+        push_end(&mut self.trail.text, tables, again)
     }
 }
 
@@ -152,8 +162,7 @@ impl<'a, 'b> Onlooker for Recorder<'a, 'b> {
             self.calls_at,
             self.heard.as_slice(),
             self.output.as_slice(),
-        )?;
-        push_tail(page)
+        )
     }
 }
 

@@ -12,11 +12,12 @@ use crate::facts::push_program;
 use crate::page::{BETWEEN, SCRIPT};
 use crate::parts::{push_head, push_tail};
 use crate::recorder::Recorder;
+use bendless::{RecordedWatch, repeat_of, watch_recorded};
 use blang::status::{self, Status};
 use blang::{Outcome, Trap};
 use bsources::SourceFiles;
 use btools::{Origin, Program, Tables, Text, read_program, tell, tell_placed};
-use bwatch::{TraceRows, Watched, watch};
+use bwatch::{TraceRows, Watched};
 use bword::{ByteIn, ByteOut, Edition};
 use std::alloc::{AllocError, Global};
 
@@ -39,7 +40,8 @@ const NO_RUN: &[u8] =
 
 /// Compiles a source, runs its program for at most so many steps, and writes a page that shows the run.
 ///
-/// The status is 0 where the page was written, whatever came of the run, which the page tells. For a source that has no
+/// The status is 0 where the page was written, whatever came of the run, which the page tells. At the limit it tells
+/// whether a state comes again, so that the run never ends. For a source that has no
 /// program the line and the status are those of `go_edition`. If a read failed, there is no page, and the status is 133.
 /// If memory was refused, there is no page, either.
 pub fn show<I: ByteIn, O: ByteOut, D: ByteOut>(
@@ -76,17 +78,24 @@ pub fn show<I: ByteIn, O: ByteOut, D: ByteOut>(
     let Ok(mut recorder) = Recorder::new(alloc, &tables, wanted.rows, told) else {
         return status::MEMORY;
     };
-    let stop = match watch(alloc, &program, wanted.steps, input, &mut recorder) {
-        Ok(Watched::Ended(stop)) => stop,
-        Ok(Watched::Unbegun(trap)) => {
+    let Ok(ran) = watch_recorded(alloc, &program, wanted.steps, input, &mut recorder) else {
+        return status::MEMORY;
+    };
+    let RecordedWatch { watched, record } = ran;
+    let stop = match watched {
+        Watched::Ended(stop) => stop,
+        Watched::Unbegun(trap) => {
             return show_unbegun(alloc, &program, wanted, source, trap, out);
         }
-        Err(_) => return status::MEMORY,
     };
     match stop.outcome {
         Outcome::Device => return status::DEVICE,
         _ => {}
     }
+    let again = repeat_of(alloc, &program.image, &record, stop.outcome);
+    let Ok(()) = recorder.push_end(&tables, again) else {
+        return status::MEMORY;
+    };
     tell(recorder.trail.text.as_slice(), status::DONE, out)
 }
 

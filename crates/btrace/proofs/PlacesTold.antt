@@ -17,7 +17,7 @@ use Rattle.bsources.specs.Files.{Files}
 use Rattle.btools.specs.Programs.{located_status}
 use Rattle.btrace.specs.Locates.{told_site}
 use Rattle.std.specs.Prelude.{IfSome}
-use Rattle.bendless.specs.declared.search.Repeat.{Repeat}
+use Rattle.bendless.specs.declared.endless.Endless.{Endless}
 use Rattle.btrace.specs.PlacesTold.{PlacesTold, RunsForEver, TellsPlaceOf}
 use Rattle.btrace.specs.RowTexts.{legend_in}
 use Rattle.btrace.proofs.TraceExcluded.{Stops, limit_is, line_in, stops_so}
@@ -63,7 +63,7 @@ trap_is outcome.Device e = cc
 trap_is outcome.Memory e = cc
 
 module _ (edition : Edition) (source : List ℕ) (files : Files) (ds : List Definition) (n : ℕ) (ends : RunEnds) (text : List ℕ) where
-  at_limit : (call : Active) → ((input : List ℕ) → RunsCall (machine ds input n) call) → Stops files edition source ds n ends text 131 → (again : Option Repeat) × TellsPlaceOf edition source files ds n ends text (line_in files outcome.Limit) outcome.Limit call n again
+  at_limit : (call : Active) → ((input : List ℕ) → RunsCall (machine ds input n) call) → Stops files edition source ds n ends text 131 → (again : Option Endless) × TellsPlaceOf edition source files ds n ends text (line_in files outcome.Limit) outcome.Limit call n again
   at_limit call runs s =
       let limit = limit_is files s.result s.located in
       let e = subst (λ x. EndsAt (machine ds s.input) n x s.active s.made) limit s.stops in
@@ -76,7 +76,7 @@ module _ (edition : Edition) (source : List ℕ) (files : Files) (ds : List Defi
         ),
       )
 
-  endless_told : Stops files edition source ds n ends text 131 → (call : Active) × (again : Option Repeat) × TellsPlaceOf edition source files ds n ends text (line_in files outcome.Limit) outcome.Limit call n again × IfSome again (λ r. RunsForEver (machine ds) ends.input ends.input_after)
+  endless_told : Stops files edition source ds n ends text 131 → (call : Active) × (again : Option Endless) × TellsPlaceOf edition source files ds n ends text (line_in files outcome.Limit) outcome.Limit call n again × IfSome again (λ e. RunsForEver (machine ds) ends.input ends.input_after)
   endless_told s =
       let limit = limit_is files s.result s.located in
       let e = subst (λ x. EndsAt (machine ds s.input) n x s.active s.made) limit s.stops in (
@@ -91,7 +91,7 @@ module _ (edition : Edition) (source : List ℕ) (files : Files) (ds : List Defi
       )
 
   -- a run with a trap doesn't run for ever
-  none_again : (again : Option Repeat) (last : ℕ) (kind : Trap) → ((input : List ℕ) → state_outcome (machine ds input last) ≡ outcome.Trap kind) → IfSome again (λ r. RunsForEver (machine ds) ends.input ends.input_after) → again ≡ None
+  none_again : (again : Option Endless) (last : ℕ) (kind : Trap) → ((input : List ℕ) → state_outcome (machine ds input last) ≡ outcome.Trap kind) → IfSome again (λ e. RunsForEver (machine ds) ends.input ends.input_after) → again ≡ None
   none_again None last kind over endless = refl
   none_again (Some r) last kind over endless =
       let runs = endless.runs [] (λ e. refl) last in

@@ -20,7 +20,8 @@ use Rattle.blang.specs.declared.token.Diagnostic.{Diagnostic}
 use Rattle.blang.specs.Machine.{Halted, Image, Running, State, Stuck, image_of, machine, run}
 use Rattle.std.specs.Prelude.{IfSome}
 use Rattle.bendless.specs.Endless.{IsRunning}
-use Rattle.bendless.specs.Repeats.{ComesBack}
+use Rattle.bendless.specs.Repeats.{ComesBack, IsEndless}
+use Rattle.bendless.specs.declared.endless.Endless.{Endless}
 use Rattle.bendless.specs.declared.search.Repeat.{Repeat}
 use Rattle.bendless.proofs.Again.{never_ends}
 use Rattle.blang.specs.Reports.{Finishes, Reported, RunEnds, RunGives, report_text, state_outcome}
@@ -34,7 +35,9 @@ use Rattle.bmach.proofs.Running.{memory_unfailed}
 use Rattle.bmach.proofs.LoadedRuns.{shows_loaded}
 use Rattle.bsources.specs.Files.{Files}
 use Rattle.btools.specs.Origins.{Code, NoProgramOf, Origin, ProgramOf, Source}
+use Rattle.btools.specs.Functions.{functions_of}
 use Rattle.btools.specs.ProgramLines.{HasLines}
+use Rattle.btools.specs.declared.names.Frame.{Frame}
 use Rattle.btools.specs.Programs.{HasProgram, NoProgram, TellsEnd, located_status, nothing_written}
 use Rattle.btools.proofs.Compiled.{text_in}
 use Rattle.btools.proofs.CodesExcluded.{codes_excluded}
@@ -43,6 +46,7 @@ use Rattle.btrace.specs.TraceExcluded.{ComesAlways, IsCodeIn, IsSourceOf, Locate
 use Rattle.btrace.specs.Locates as locates
 use Rattle.btrace.specs.Locates.{Locates, TellsSite, told_site}
 use Rattle.btrace.specs.PlacesTold.{RunsForEver}
+use Rattle.btrace.specs.Loops.{again_text}
 use Rattle.btrace.specs.RowTexts.{Legend, legend_in}
 use Rattle.btrace.specs.Traces as traces
 use Rattle.btrace.specs.Traces.{Traces, ending_text, rows_text}
@@ -65,12 +69,12 @@ module _ (ds : List Definition) (image : Image) (loaded : IsLoadedFrom ds image)
     took = c.took;
     runs = λ more can n.
         (shows_loaded ds image loaded (c.taken ++ more) n).0
-        ∙ running_on (run image (c.taken ++ more) n) (never_ends image (c.taken ++ more) r.first r.again (c.repeats more can).0 n);
+        ∙ running_on (run image (c.taken ++ more) n) (never_ends image (c.taken ++ more) r.first r.again (c.repeats more can).comes_again n);
   }
 
-  endless_so : (again : Option Repeat) → IfSome again (ComesBack (run image) i j) → IfSome again (λ r. RunsForEver (machine ds) i j)
-  endless_so None comes = tt
-  endless_so (Some r) comes = endless_one r comes
+  endless_so : (frames : List Frame) (again : Option Endless) → IfSome again (IsEndless ds image (functions_of ds) frames i j) → IfSome again (λ e. RunsForEver (machine ds) i j)
+  endless_so frames None comes = tt
+  endless_so frames (Some e) comes = endless_one e.repeat comes.comes_back
 
 module _ (files : Files) where
   some_same : {A : Type 0} (a b : A) → Some a ≡ Some b → a ≡ b
@@ -159,7 +163,7 @@ module _ (files : Files) where
     finished text answer result reported (inr t) = let same : status ≡ answer = t.2 in absurd (t.0 ((told text DONE ends.out ends.out_after answer (omega arith) reported).1))
 
     status_told : (result : Outcome) → ComesAlways ds steps result → Traces origin source steps shown files name ends status → status ≡ status_of result
-    status_told result comes (traces.traced other image lines which r made text answer program lined named w reported tells) =
+    status_told result comes (traces.traced other image lines which r made again text answer program lined named back w reported tells) =
         let f = finished text answer r reported tells in
         let c = came other steps ends.input ends.input_after nothing_written (outgoing_of w.output) ends.line ends.line_after status less r w.gives f.1 in
         let at_end = subst (λ x. state_outcome (machine x c.1.0 steps) ≡ r) (only_in origin source ds is other image program) c.1.1 in
@@ -172,13 +176,15 @@ module _ (files : Files) where
 
     -- a run that begins has its trace written
     written_so : Traces origin source steps shown files name ends status → (more : List ℕ) × Writes ends.out (HEADING.now ++ more) ends.out_after
-    written_so (traces.traced other image lines which r made text answer program lined named w reported tells) =
+    written_so (traces.traced other image lines which r made again text answer program lined named back w reported tells) =
         let legend = legend_in other lines files in
         let sights = sights_of (image_of other).functions (machine other) (w.taken ++ []) in
         let rows = rows_text legend which sights made in
-        let ending = ending_text legend which sights made r in (
-          rows ++ ending,
-          subst (λ (x : List ℕ). Writes ends.out x ends.out_after) (w.told [] (λ e. refl) ∙ append_assoc HEADING.now rows ending) (finished text answer r reported tells).0,
+        let ending = ending_text legend which sights made r in
+        let after = again_text legend again in (
+          rows ++ (ending ++ after),
+          subst (λ (x : List ℕ). Writes ends.out x ends.out_after)
+              (w.told [] (λ e. refl) ∙ append_assoc (HEADING.now ++ rows) ending after ∙ append_assoc HEADING.now rows (ending ++ after)) (finished text answer r reported tells).0,
         )
     written_so (traces.not_begun other image which r program named never f quiet) = absurd (no_beginning other image r program never f)
     written_so (traces.unnamed other image program unknown r quiet) =
@@ -206,7 +212,7 @@ module _ (files : Files) where
       by_kind end_fault.Memory h e = refused h.counted.0
 
   read_told : (origin : Origin) (source : List ℕ) (steps : ℕ) (shown : TraceRows) (name : Option (List ℕ)) (ends : RunEnds) → (ends.input_after.failures ≡ ends.input.failures → ⊥) → (Grew ends.out.refusals ends.out_after.refusals → ⊥) → Traces origin source steps shown files name ends MEMORY → ⊥
-  read_told origin source steps shown name ends failed refused (traces.traced ds image lines which result made text answer program lined named w reported tells) =
+  read_told origin source steps shown name ends failed refused (traces.traced ds image lines which result made again text answer program lined named back w reported tells) =
       elim tells [
         | inl d ↦ read_whole ds steps ends.input ends.input_after nothing_written (outgoing_of w.output) ends.line ends.line_after result failed w.gives d.1
         | inr d ↦ cut_off text ends.out ends.out_after refused (subst (λ n. Reported text DONE ends.out ends.out_after n) (sym d.2) reported)
@@ -243,8 +249,8 @@ module _ (files : Files) where
     pub stops : EndsAt (machine ds input) steps result active made
     pub lines : List ℕ
     pub lined : HasLines edition source lines
-    pub again : Option Repeat
-    pub endless : IfSome again (λ r. RunsForEver (machine ds) ends.input ends.input_after)
+    pub again : Option Endless
+    pub endless : IfSome again (λ e. RunsForEver (machine ds) ends.input ends.input_after)
     pub text_is : text ≡ line_in result ++ told_site (legend_in ds lines files) source result active made again
 
   line_told : (result : Outcome) (answer : ℕ) (mid following : Outgoing) → located_status result ≡ Some answer → Finishes result mid following answer → Writes mid (line_in result) following
@@ -254,7 +260,7 @@ module _ (files : Files) where
   line_told outcome.Device answer mid following e f = cc
   line_told outcome.Memory answer mid following e f = cc
 
-  site_told : (legend : Legend) (source : List ℕ) (result : Outcome) (call : Active) (number : ℕ) (again : Option Repeat) (answer : ℕ) (old new : Outgoing) (status : ℕ) → status < 132 → TellsSite legend source result call number again answer old new status → Writes old (told_site legend source result call number again) new × (status ≡ answer)
+  site_told : (legend : Legend) (source : List ℕ) (result : Outcome) (call : Active) (number : ℕ) (again : Option Endless) (answer : ℕ) (old new : Outgoing) (status : ℕ) → status < 132 → TellsSite legend source result call number again answer old new status → Writes old (told_site legend source result call number again) new × (status ≡ answer)
   site_told legend source result call number again answer old new status less (inl t) = told _ answer old new status (omega arith) t
   site_told legend source result call number again answer old new status less (inr t) = let bad : status ≡ 134 = t.1 in absurd (omega arith)
 
@@ -273,7 +279,7 @@ module _ (files : Files) where
 
     -- the place is told
     pub stops_so : (text : List ℕ) → ends.line.written ≡ Some [] → ends.line_after.written ≡ Some text → (text ≡ [] → ⊥) → Locates edition source files steps ends status → Stops edition source ds steps ends text status
-    stops_so text before following some (locates.located out other image lines result answer active made again program lined gives f located stops comes tells) =
+    stops_so text before following some (locates.located out other image frames lines result answer active made again program named lined gives f located stops comes tells) =
         let same = only edition source ds is other image program in
         let site = site_told (legend_in other lines files) source result active made again answer out ends.line_after status less tells in
         let whole = Writes-append (line_told result answer ends.line out located f) site.0 in
@@ -287,7 +293,7 @@ module _ (files : Files) where
           lines = lines;
           lined = lined;
           again = again;
-          endless = endless_so other image program.loaded ends.input ends.input_after again comes;
+          endless = endless_so other image program.loaded ends.input ends.input_after frames again comes;
           text_is = wrote ends.line ends.line_after [] _ text before following whole;
         } in
         subst (λ x. Stops edition source x steps ends text status) same here
@@ -298,7 +304,7 @@ module _ (files : Files) where
 
     -- the status is that of the machine's outcome
     came_to : (result : Outcome) → ComesAlways ds steps result → Locates edition source files steps ends status → status ≡ status_of result
-    came_to result comes (locates.located out other image lines r answer active made again program lined gives f located stops back tells) =
+    came_to result comes (locates.located out other image frames lines r answer active made again program named lined gives f located stops back tells) =
         let same = only edition source ds is other image program in
         let site = site_told (legend_in other lines files) source r active made again answer out ends.line_after status less tells in
         let c = came other steps ends.input ends.input_after ends.out ends.out_after ends.line out answer (omega (arith, site.1)) r gives f in
@@ -333,7 +339,7 @@ module _ (files : Files) where
   trap_ends trap.BadBase text = refl
   trap_ends trap.Stuck text = refl
 
-  trap_alone : (result : Outcome) (kind : Trap) (legend : Legend) (source : List ℕ) (call : Active) (number : ℕ) (again : Option Repeat) → located_status result ≡ Some 130 → report_text (report.Trap kind) ≡ line_in result ++ told_site legend source result call number again → ⊥
+  trap_alone : (result : Outcome) (kind : Trap) (legend : Legend) (source : List ℕ) (call : Active) (number : ℕ) (again : Option Endless) → located_status result ≡ Some 130 → report_text (report.Trap kind) ≡ line_in result ++ told_site legend source result call number again → ⊥
   trap_alone (outcome.Exit n) kind legend source call number again e is = cc
   trap_alone (outcome.Trap other) kind legend source call number again e is =
       let nothing_more : at 8 (report_text (report.Trap kind)) ≡ 0 = ap (at 8) (sym (append-nil (report_text (report.Trap kind)))) ∙ trap_ends kind [] in
@@ -352,7 +358,7 @@ module _ (files : Files) where
   located_read ds steps i j o p outcome.Memory answer e h = cc
 
   place_read : (edition : Edition) (source : List ℕ) (steps : ℕ) (ends : RunEnds) → (ends.input_after.failures ≡ ends.input.failures → ⊥) → Locates edition source files steps ends MEMORY → ⊥
-  place_read edition source steps ends failed (locates.located out ds image lines result answer active made again program lined gives f located stops comes tells) =
+  place_read edition source steps ends failed (locates.located out ds image frames lines result answer active made again program named lined gives f located stops comes tells) =
       failed (located_read ds steps ends.input ends.input_after ends.out ends.out_after result answer located gives)
   place_read edition source steps ends failed (locates.unlocated ds image result program gives f unplaced) =
       read_whole ds steps ends.input ends.input_after ends.out ends.out_after ends.line ends.line_after result failed gives f

@@ -1,5 +1,5 @@
 -- Steps that are seen and kept, one after another.
-use Rattle.std.proofs.Common.{◌≡◌, ◌∙◌, ℕ, ◌+◌, ◌-◌, ◌≤◌, Bool, true, false, cond, List, [], ◌∷◌, ◌++◌, ap, append-nil, arith, map, refl, subst, sym, if◌then◌else◌}
+use Rattle.std.proofs.Common.{◌≡◌, ◌∙◌, ℕ, ◌+◌, ◌-◌, ◌≤◌, Bool, true, false, cond, List, [], ◌∷◌, ◌++◌, ap, append-nil, arith, map, Option, refl, subst, sym, if◌then◌else◌}
 use Rattle.std.specs.List.{flat_map, range_with_len}
 use Rattle.std.specs.Option.{option_map_or}
 use Rattle.std.proofs.Math.Seq.{drop-append_seam, drop-length}
@@ -14,6 +14,8 @@ use Rattle.bmach.specs.Stops.{active_of}
 use Rattle.bmach.specs.declared.machine.Stop.{Stop}
 use Rattle.bwatch.specs.Sights.{Sight, Sights, end_sight, sight_at}
 use Rattle.bwatch.specs.Watches.{Ending, IsLast, Leaves}
+use Rattle.bendless.specs.declared.search.Repeat.{Repeat}
+use Rattle.btrace.specs.Loops.{again_text}
 use Rattle.btrace.specs.RowTexts.{Legend, legend_of, places_text, stored_text, written_row}
 use Rattle.btrace.specs.Traces.{IsTrace, done_text, ending_text, is_shown, rows_text, sight_row, step_text, wanted_of, where_text}
 use Rattle.btrace.specs.Tracers.{AwaitsStep, HasTold, HasTraced, texts_of}
@@ -156,11 +158,12 @@ unread_told first t sights made a =
     ∙ ap (λ r. first.trail.text ++ rows_text l first.which sights made ++ r)
     (a.row ∙ ap (λ (b : Bool). if b then sight_row l (made + 1) (sights made) else []) a.shown)
 
--- what is kept in the end is the trace
-pub traced_so : (first t : Tracer) (legend : Legend) (which : Which) → legend_of first.legend ≡ legend → first.which ≡ which → first.trail.text ≡ HEADING.now → (r : Outcome) (made : ℕ) (sights : Sights)
-    → Leaves (AwaitsStep first t) (HasTold first t) sights made r → IsTrace legend which (trail_text t.trail) sights made r
-traced_so first t legend which same asked begun r made sights h =
-    told r h ∙ (λ i. begun i ++ rows_text (same i) (asked i) sights made ++ ending_text (same i) (asked i) sights made r)
+-- what is kept in the end, with what was added to it, is the trace
+pub traced_so : (first t : Tracer) (legend : Legend) (which : Which) (again : Option Repeat) (text : List ℕ) → legend_of first.legend ≡ legend → first.which ≡ which → first.trail.text ≡ HEADING.now
+    → text ≡ trail_text t.trail ++ again_text legend again → (r : Outcome) (made : ℕ) (sights : Sights) → Leaves (AwaitsStep first t) (HasTold first t) sights made r → IsTrace legend which again text sights made r
+traced_so first t legend which again text same asked begun added r made sights h =
+    added ∙ ap (λ x. x ++ again_text legend again)
+    (told r h ∙ (λ i. begun i ++ rows_text (same i) (asked i) sights made ++ ending_text (same i) (asked i) sights made r))
   where
     told : (x : Outcome) → Leaves (AwaitsStep first t) (HasTold first t) sights made x → HasTold first t sights made x
     told (outcome.Exit status) has = has

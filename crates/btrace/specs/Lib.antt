@@ -1,4 +1,5 @@
 pub mod RowTexts
+pub mod Loops
 pub mod Traces
 pub mod Tracers
 pub mod Locates

@@ -7,18 +7,23 @@ use Rattle.blang.specs.declared.run.Outcome.{Outcome}
 use Rattle.blang.specs.declared.run.Outcome.TheVariants as outcome
 use Rattle.blang.specs.declared.run.Trap.TheVariants as trap
 use Rattle.blang.specs.declared.status.TheConstants.{MEMORY}
-use Rattle.blang.specs.Machine.{Image, machine, run}
-use Rattle.bendless.specs.Repeats.{ComesBack}
-use Rattle.bendless.specs.declared.search.Repeat.{Repeat}
+use Rattle.blang.specs.Machine.{Image, machine}
+use Rattle.bendless.specs.Repeats.{IsEndless}
+use Rattle.bendless.specs.Tellings.{repeat_text}
+use Rattle.bendless.specs.declared.endless.Endless.{Endless}
 use Rattle.blang.specs.Reports.{Finishes, HasNotRun, RunEnds, RunGives, Reported}
 use Rattle.bmach.specs.Stepping.{BeginsNot}
 use Rattle.bmach.specs.Stops.{IsOverAt}
 use Rattle.bmach.specs.declared.machine.Active.{Active}
 use Rattle.btools.specs.FaultPlaces.{fault_lines}
+use Rattle.btools.specs.FrameNames.{HasNames}
+use Rattle.btools.specs.Functions.{functions_of}
 use Rattle.btools.specs.ProgramLines.{HasLines}
 use Rattle.btools.specs.Programs.{HasProgram, NoProgram, located_status}
 use Rattle.btools.specs.SourceLines.{line_at, shown_line}
 use Rattle.bsources.specs.Files.{Files}
+use Rattle.btools.specs.declared.names.Frame.{Frame}
+use Rattle.btrace.specs.Loops.{loop_text}
 use Rattle.btrace.specs.RowTexts.{Legend, legend_in, place_line, site_text}
 
 -- the place of a call, and the number of the step with which the run came there
@@ -38,38 +43,23 @@ meaning (outcome.Trap trap.Stuck) = codes "too few operands, or no instruction a
 meaning outcome.Limit = codes "no end within so many steps; --steps N or --no-limit gives more"
 meaning result = []
 
--- a state comes again
-abbrev pub repeat_text : Repeat → List ℕ
-repeat_text r =
-    codes "it never ends: after " ++ decimal r.again ++ codes " steps all is as it was after " ++ decimal r.first
-
-abbrev pub meaning_text : Outcome → Option Repeat → List ℕ
+abbrev pub meaning_text : Outcome → Option Endless → List ℕ
 meaning_text result None = meaning result
-meaning_text result (Some r) = repeat_text r
+meaning_text result (Some e) = repeat_text e.repeat
 
 -- the line of the source, and what the outcome means
-abbrev pub explanation : (source : List ℕ) → Outcome → Option Repeat → (line : ℕ) → List ℕ
+abbrev pub explanation : (source : List ℕ) → Outcome → Option Endless → (line : ℕ) → List ℕ
 explanation source result again line =
     codes "    " ++ shown_line (line_at source line) ++ codes "\n  means: " ++ meaning_text result again ++ codes "\n"
 
--- the place of the call in which a state comes again, and the line of the source
-abbrev pub loop_site : Legend → (source : List ℕ) → Active → List ℕ
-loop_site legend source call =
-    codes "loop   " ++ site_text legend call ++ codes "\n    "
-    ++ shown_line (line_at source (place_line legend call)) ++ codes "\n"
-
-abbrev pub loop_text : Legend → (source : List ℕ) → Option Repeat → List ℕ
-loop_text legend source None = []
-loop_text legend source (Some r) = loop_site legend source r.call
-
-abbrev pub told_site : Legend → (source : List ℕ) → Outcome → Active → (number : ℕ) → Option Repeat → List ℕ
+abbrev pub told_site : Legend → (source : List ℕ) → Outcome → Active → (number : ℕ) → Option Endless → List ℕ
 told_site legend source result call number again =
     site_line legend call number ++ explanation source result again (place_line legend call)
     ++ loop_text legend source again
 
 -- A line with this place and this step, the line there and the meaning were written, and the place of the loop; or memory
 -- was refused for it.
-abbrev pub TellsSite : Legend → (source : List ℕ) → Outcome → Active → (number : ℕ) → Option Repeat → (answer : ℕ)
+abbrev pub TellsSite : Legend → (source : List ℕ) → Outcome → Active → (number : ℕ) → Option Endless → (answer : ℕ)
     → (old new : Outgoing) → (status : ℕ) → Type 0
 TellsSite legend source result call number again answer old new status =
     Reported (told_site legend source result call number again) answer old new status
@@ -77,17 +67,17 @@ TellsSite legend source result call number again answer old new status =
 
 -- The program of the source was run for so many steps at most, as the machine runs it, and has its line and status; and
 -- if that is the line of a trap or of the limit, where it was over was told after it, and with which step, and that it
--- never ends if a state of its image comes again. Or the program did not begin, or there is none, and why was told; or
--- memory was refused.
+-- never ends if a state of its image comes again, with what its loop does. Or the program did not begin, or there is
+-- none, and why was told; or memory was refused.
 pub data Locates (edition : Edition) (source : List ℕ) (files : Files) (steps : ℕ) (ends : RunEnds) (status : ℕ)
     : Type 0 where
-  located : (told : Outgoing) (ds : List Definition) (image : Image) (lines : List ℕ) (result : Outcome) (answer : ℕ)
-      (active : Active) (made : ℕ) (again : Option Repeat)
-      → HasProgram edition source ds image → HasLines edition source lines
+  located : (told : Outgoing) (ds : List Definition) (image : Image) (frames : List Frame) (lines : List ℕ)
+      (result : Outcome) (answer : ℕ) (active : Active) (made : ℕ) (again : Option Endless)
+      → HasProgram edition source ds image → HasNames edition source frames → HasLines edition source lines
       → RunGives (machine ds) steps ends.input ends.input_after ends.out ends.out_after result
       → Finishes result ends.line told answer → located_status result ≡ Some answer
       → IsOverAt (machine ds) steps ends.input ends.input_after result active made
-      → IfSome again (ComesBack (run image) ends.input ends.input_after)
+      → IfSome again (IsEndless ds image (functions_of ds) frames ends.input ends.input_after)
       → TellsSite (legend_in ds lines files) source result active made again answer told ends.line_after status
       → Locates edition source files steps ends status
   unlocated : (ds : List Definition) (image : Image) (result : Outcome)

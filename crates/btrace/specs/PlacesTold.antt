@@ -1,7 +1,7 @@
 -- Promise: which place is told where a run was over, for each program.
 use Rattle.std.specs.Prelude.{◌≡◌, ℕ, ◌+◌, ◌<◌, List, [], ◌++◌, Option, Some, None, IfSome}
 use Rattle.bword.specs.ByteEnds.{CanFollow, Incoming, Took}
-use Rattle.bendless.specs.declared.search.Repeat.{Repeat}
+use Rattle.bendless.specs.declared.endless.Endless.{Endless}
 use Rattle.bword.specs.declared.edition.Edition.{Edition}
 use Rattle.blang.specs.declared.code.Definition.{Definition}
 use Rattle.blang.specs.declared.run.Outcome.{Outcome}
@@ -38,7 +38,7 @@ module _ (edition : Edition) (source : List ℕ) (files : Files) (ds : List Defi
     pub locates : Locates edition source files steps ends status
 
   -- It is this line, and then the place of this call, with the line of the source, after so many steps.
-  abbrev pub TellsPlaceOf : (line : List ℕ) → Outcome → Active → (number : ℕ) → Option Repeat → Type 0
+  abbrev pub TellsPlaceOf : (line : List ℕ) → Outcome → Active → (number : ℕ) → Option Endless → Type 0
   TellsPlaceOf line result call number again =
       (lines : List ℕ) × HasLines edition source lines
       × (text ≡ line ++ told_site (legend_in ds lines files) source result call number again)
@@ -48,11 +48,11 @@ module _ (edition : Edition) (source : List ℕ) (files : Files) (ds : List Defi
   pub record PlaceIsTold : Type 0 where
     pub at_limit : (call : Active) → ((input : List ℕ) → RunsCall (machine ds input steps) call)
         → IsLocated LIMIT
-        → (again : Option Repeat) × TellsPlaceOf (report_text report.Limit) outcome.Limit call steps again
+        → (again : Option Endless) × TellsPlaceOf (report_text report.Limit) outcome.Limit call steps again
     pub never_ends : IsLocated LIMIT
-        → (call : Active) × (again : Option Repeat)
+        → (call : Active) × (again : Option Endless)
         × TellsPlaceOf (report_text report.Limit) outcome.Limit call steps again
-        × IfSome again (λ r. RunsForEver (machine ds) ends.input ends.input_after)
+        × IfSome again (λ e. RunsForEver (machine ds) ends.input ends.input_after)
     pub at_trap : (call : Active) (last : ℕ) (kind : Trap) → last < steps
         → ((input : List ℕ) → RunsCall (machine ds input last) call)
         → ((input : List ℕ) → state_outcome (machine ds input (last + 1)) ≡ outcome.Trap kind)

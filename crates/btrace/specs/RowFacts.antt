@@ -5,7 +5,9 @@ use Rattle.std.specs.Fmt.{digits}
 use Rattle.blang.specs.declared.run.Outcome.TheVariants as outcome
 use Rattle.blang.specs.declared.run.Trap.TheVariants as trap
 use Rattle.btools.specs.Programs.{located_status}
+use Rattle.bendless.specs.declared.search.Repeat.{Repeat}
 use Rattle.btrace.specs.Locates.{explanation, meaning, site_line, told_site}
+use Rattle.btrace.specs.Loops.{again_text, loop_text}
 use Rattle.bmach.specs.declared.machine.Active.{Active}
 use Rattle.btools.specs.Columns.{instr_text}
 use Rattle.btools.specs.Characters.{signed_text}
@@ -258,13 +260,38 @@ told_limit : explanation (codes "main() f();") outcome.Limit None 1
 told_limit = refl
 
 -- where a state comes again: after how many steps, and the place of its call, in its own file
+abbrev repeats : Repeat
+repeats = record { first = 9; again = 11; call = a_place 2; callers = 0 }
+
 told_repeat : told_site (lined 7) (codes "1\n2\n3\n4\n5\n6\nwhile(1) ;\n") outcome.Limit (a_place 3) 100
-    (Some (record { first = 9; again = 11; call = a_place 2 }))
+    (Some (record { repeat = repeats; asks = None; names = [] }))
     ≡ codes "at     in          place    3  line    5 of l.b  step 100\n    while(1) ;\n"
     ++ codes "  means: it never ends: after 11 steps all is as it was after 9\n"
     ++ codes "loop   in          place    2  line    5 of l.b\n    while(1) ;\n"
 unfolding digits
 told_repeat = refl
+
+-- and what in its loop asks for input, and what its conditions read and nothing in it changes
+told_loop : loop_text (lined 7) (codes "1\n2\n3\n4\n5\n6\nwhile(i) g();\n")
+    (Some (record { repeat = repeats; asks = Some (a_place 5); names = codes " i n" }))
+    ≡ codes "loop   in          place    2  line    5 of l.b\n    while(i) g();\n"
+    ++ codes "asks   in          place    5  line    5 of l.b\n"
+    ++ codes "  means: at the end of the input getchar gives the same for ever\n"
+    ++ codes "  its conditions read, and nothing in it changes: i n\n"
+unfolding digits
+told_loop = refl
+
+told_again : again_text (lined 7) (Some repeats)
+    ≡ codes "means  it never ends: after 11 steps all is as it was after 9\n"
+    ++ codes "loop   in          place    2  line    5 of l.b\n"
+unfolding digits
+told_again = refl
+
+none_again : again_text (lined 7) None ≡ []
+none_again = refl
+
+no_loop : loop_text (lined 7) [] None ≡ []
+no_loop = refl
 
 -- what each trap and the limit means; an end, a failure and want of memory have no place
 meanings_told : map meaning

@@ -1,11 +1,11 @@
 -- Promise: what comes of a program whose steps are written.
 use Rattle.std.specs.Prelude.{◌≡◌, ℕ, ◌+◌, ◌-◌, ◌==◌, ◌&&◌, Bool, true, false, List, [], ◌++◌, Option, Some, None}
-use Rattle.std.specs.Prelude.{codes, drop, filter, length, nat_le, option_map, refl, if◌then◌else◌}
+use Rattle.std.specs.Prelude.{IfSome, codes, drop, filter, length, nat_le, option_map, refl, if◌then◌else◌}
 use Rattle.std.specs.List.{flat_map, range_with_len}
 use Rattle.std.specs.Option.{option_map_or}
 use Rattle.blang.specs.declared.code.Definition.{Definition}
 use Rattle.blang.specs.declared.status.TheConstants.{DONE, MEMORY, WRONG_COMMAND}
-use Rattle.blang.specs.Machine.{Image, image_of, machine}
+use Rattle.blang.specs.Machine.{Image, image_of, machine, run}
 use Rattle.blang.specs.Reports.{Finishes, HasNotRun, Reported, RunEnds}
 use Rattle.bmach.specs.Readings.{ReadBySteps}
 use Rattle.bmach.specs.Stepping.{BeginsNot}
@@ -19,6 +19,9 @@ use Rattle.btools.specs.Programs.{TellsEnd}
 use Rattle.bsources.specs.Files.{Files}
 use Rattle.bwatch.specs.Sights.{Sight, Sights, stored_between}
 use Rattle.bwatch.specs.Watches.{Watches}
+use Rattle.bendless.specs.Repeats.{ComesBack}
+use Rattle.bendless.specs.declared.search.Repeat.{Repeat}
+use Rattle.btrace.specs.Loops.{again_text}
 use Rattle.btrace.specs.RowTexts.{Legend, legend_in, places_text, step_row, stored_text, written_row}
 use Rattle.bwatch.specs.Trails.{chosen, first_of}
 use Rattle.btrace.specs.declared.tracing.TheConstants.{HEADING, UNNAMED}
@@ -95,20 +98,24 @@ abbrev pub trace_text : Legend → Which → Sights → (made : ℕ) → Outcome
 trace_text legend which sights made result =
     HEADING.now ++ rows_text legend which sights made ++ ending_text legend which sights made result
 
--- a text is the trace of a run of so many steps with this outcome
-abbrev pub IsTrace : Legend → Which → (text : List ℕ) → Sights → (made : ℕ) → Outcome → Type 0
-IsTrace legend which text sights made result = text ≡ trace_text legend which sights made result
+-- a text is the trace of a run of so many steps with this outcome, and then tells that a state comes again, if one does
+abbrev pub IsTrace : Legend → Which → Option Repeat → (text : List ℕ) → Sights → (made : ℕ) → Outcome → Type 0
+IsTrace legend which again text sights made result =
+    text ≡ trace_text legend which sights made result ++ again_text legend again
 
--- The program of this origin was run for so many steps at most, as the machine runs it, and its trace written; or it
+-- The program of this origin was run for so many steps at most, as the machine runs it, and its trace written, with a
+-- state of its image that comes again, if one was found; or it
 -- did not begin; or no function has the name, and that was told; or there is no program, and why was told; or memory
 -- was refused, and nothing was written, or read but by some of its steps.
 pub data Traces (origin : Origin) (source : List ℕ) (steps : ℕ) (shown : TraceRows) (files : Files)
     (name : Option (List ℕ)) (ends : RunEnds) (status : ℕ) : Type 0 where
   traced : (ds : List Definition) (image : Image) (lines : List ℕ) (which : Which) (result : Outcome) (made : ℕ)
-      (text : List ℕ) (told : ℕ) → ProgramOf origin source ds image → LinesOf origin source lines
+      (again : Option Repeat) (text : List ℕ) (told : ℕ) → ProgramOf origin source ds image
+      → LinesOf origin source lines
       → which_of (functions_of ds) shown name ≡ Some which
+      → IfSome again (ComesBack (run image) ends.input ends.input_after)
       → Watches (image_of ds).functions (machine ds) steps ends.input ends.input_after result made
-      (IsTrace (legend_in ds lines files) which text)
+      (IsTrace (legend_in ds lines files) which again text)
       → Reported text DONE ends.out ends.out_after told → TellsEnd told result ends.line ends.line_after status
       → Traces origin source steps shown files name ends status
   not_begun : (ds : List Definition) (image : Image) (which : Which) (result : Outcome)

@@ -3,6 +3,7 @@
 
 mod legend;
 mod locating;
+mod looping;
 mod places;
 mod rows;
 mod tracer;

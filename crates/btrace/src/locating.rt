@@ -1,22 +1,19 @@
 //! Telling where a run was over.
-ghost use Rattle.std.specs.Prelude.{◌≡◌, ◌≤◌, ◌++◌, List, ℕ, IfOk, IfSome, OnOk, [], length, true};
-ghost use Rattle.blang.specs.Machine.{run};
-ghost use Rattle.bendless.specs.Recordings.{is_whole};
-ghost use Rattle.bendless.specs.Repeats.{Repeats};
+ghost use Rattle.std.specs.Prelude.{◌≡◌, ◌++◌, IfOk, OnOk};
 ghost use Rattle.blang.specs.Reports.{run_ends};
 ghost use Rattle.btrace.specs.TraceExcluded.{LocatesExcluded};
 ghost use Rattle.bsources.specs.Files.{Files, files_shown};
 ghost use Rattle.btrace.specs.PlacesTold.{PlacesTold};
 ghost use Rattle.btrace.specs.RowTexts.{legend_of};
-ghost use Rattle.btrace.specs.Locates.{Locates, TellsSite, loop_site, loop_text, meaning, meaning_text};
-ghost use Rattle.btrace.specs.Locates.{repeat_text, told_site};
+ghost use Rattle.btrace.specs.Locates.{Locates, TellsSite, meaning, meaning_text, told_site};
 
 use crate::legend::Legend;
+use crate::looping::push_loop;
 use crate::places::{line_of, push_site};
-use bendless::{Extent, Record, Repeat, find_repeat, run_recorded};
+use bendless::{Endless, endless_of, push_repeat, run_recorded};
 use blang::status::{self, Status};
 use blang::{Outcome, Trap};
-use bmach::{Active, Image, Stepper, Stop};
+use bmach::{Stepper, Stop};
 use bpages::PagedStore;
 use brun::finish;
 use bsources::SourceFiles;
@@ -73,33 +70,11 @@ pub fn locate<I: ByteIn, O: ByteOut, D: ByteOut>(
     };
     let told = finish(stop.outcome, diag);
     match located_status(stop.outcome) {
-        Some(status) if status == told => match repeat_of(alloc, image, &ran.record, stop.outcome) {
-            Ok(again) => tell_site(alloc, &legend, source, stop, again, told, diag),
-            Err(_) => status::MEMORY,
-        },
+        Some(status) if status == told => {
+            let again = endless_of(alloc, &program, &tables, &ran.record, stop.outcome);
+            tell_site(alloc, &legend, source, stop, &again, told, diag)
+        }
         _ => told,
-    }
-}
-
-// The state that comes again in a run which came to its limit, if one is found.
-fn repeat_of(
-    alloc: Global,
-    image: &Image,
-    read: &Record,
-    outcome: Outcome,
-) -> Result<Option<Repeat>, AllocError>
-    requires { length image.now.words ≤ 65536 }
-    ensures whole { IfOk result (λ again. IfSome again (λ r. is_whole read.now.extent ≡ true)) }
-    ensures repeats { IfOk result (λ again. IfSome again (λ r. (more : List ℕ) → (read.now.is_over ≡ true → more ≡ [])
-        → Repeats (run image.now (read.now.bytes.items ++ more)) r)) }
-{
-    match (outcome, read.extent) {
-        (Outcome::Limit, Extent::Whole) => match PagedStore::new(alloc) {
-            Ok(store) => find_repeat(alloc, image, store, read.bytes.as_slice(), read.is_over),
-            Err(_) => Err(AllocError),
-        },
-        (Outcome::Limit, Extent::Refused) => Err(AllocError),
-        _ => Ok(None),
     }
 }
 
@@ -127,12 +102,12 @@ pub fn tell_site<D: ByteOut>(
     legend: &Legend<'_, '_, '_>,
     source: &[u8],
     stop: Stop,
-    again: Option<Repeat>,
+    again: &Option<Endless>,
     status: Status,
     diag: &mut D,
 ) -> Status
     ensures tells { TellsSite (legend_of legend.now) source.now stop.outcome stop.call stop.steps
-        again status (D.outgoing diag.old) (D.outgoing diag.new) result }
+        again.now status (D.outgoing diag.old) (D.outgoing diag.new) result }
     ensures same { D.lender diag.new ≡ D.lender diag.old }
 {
     match told_site(alloc, legend, source, stop, again) {
@@ -146,10 +121,10 @@ fn told_site(
     legend: &Legend<'_, '_, '_>,
     source: &[u8],
     stop: Stop,
-    again: Option<Repeat>,
+    again: &Option<Endless>,
 ) -> Result<Text, AllocError>
     ensures { IfOk result (λ text. text
-        ≡ told_site (legend_of legend.now) source.now stop.outcome stop.call stop.steps again) }
+        ≡ told_site (legend_of legend.now) source.now stop.outcome stop.call stop.steps again.now) }
 {
     let mut text = Text::new(alloc);
     text.push(b"at     ")?;
@@ -165,51 +140,17 @@ fn told_site(
     Ok(text)
 }
 
-fn push_meaning(text: &mut Text, outcome: Outcome, again: Option<Repeat>) -> Result<(), AllocError>
-    ensures { OnOk result (text.new ≡ text.old ++ meaning_text outcome again) }
+fn push_meaning(
+    text: &mut Text,
+    outcome: Outcome,
+    again: &Option<Endless>,
+) -> Result<(), AllocError>
+    ensures { OnOk result (text.new ≡ text.old ++ meaning_text outcome again.now) }
 {
     match again {
         None => text.push(meaning(outcome).as_bytes()),
-        Some(repeat) => push_repeat(text, repeat),
+        Some(endless) => push_repeat(text, endless.repeat),
     }
-}
-
-fn push_repeat(text: &mut Text, repeat: Repeat) -> Result<(), AllocError>
-    ensures { OnOk result (text.new ≡ text.old ++ repeat_text repeat) }
-{
-    text.push(b"it never ends: after ")?;
-    text.push_number(repeat.again)?;
-    text.push(b" steps all is as it was after ")?;
-    text.push_number(repeat.first)
-}
-
-fn push_loop(
-    text: &mut Text,
-    legend: &Legend<'_, '_, '_>,
-    source: &[u8],
-    again: Option<Repeat>,
-) -> Result<(), AllocError>
-    ensures { OnOk result (text.new ≡ text.old ++ loop_text (legend_of legend.now) source.now again) }
-{
-    match again {
-        None => Ok(()),
-        Some(repeat) => push_loop_site(text, legend, source, repeat.call),
-    }
-}
-
-fn push_loop_site(
-    text: &mut Text,
-    legend: &Legend<'_, '_, '_>,
-    source: &[u8],
-    call: Active,
-) -> Result<(), AllocError>
-    ensures { OnOk result (text.new ≡ text.old ++ loop_site (legend_of legend.now) source.now call) }
-{
-    text.push(b"loop   ")?;
-    push_site(text, legend, call)?;
-    text.push(b"\n    ")?;
-    push_source_line(text, line_at(source, line_of(legend, call)))?;
-    text.push(b"\n")
 }
 
 /// No run is answered by its trap or its limit without the place, or by the status of other steps.

@@ -1,11 +1,16 @@
 //! Who looks on at a run and keeps its rows.
-ghost use Rattle.std.specs.Prelude.{◌≡◌, ◌+◌, ◌<◌, ◌^◌, [], IfOk};
+ghost use Rattle.std.specs.Prelude.{◌≡◌, ◌+◌, ◌<◌, ◌^◌, ◌++◌, [], IfOk, None, OnErr, OnOk};
+ghost use Rattle.bwatch.specs.Trails.{trail_text};
+ghost use Rattle.btrace.specs.Loops.{again_text};
+ghost use Rattle.btrace.specs.RowTexts.{legend_of};
 ghost use Rattle.btrace.specs.Tracers.{AwaitsStep, HasTold, HasTraced};
 ghost use Rattle.btrace.specs.Traces.{is_wanted};
 
 use crate::legend::Legend;
+use crate::looping::push_again;
 use crate::places::push_places;
 use crate::rows::{push_step, push_stored, push_written};
+use bendless::Repeat;
 use blang::Outcome;
 use bmach::{Active, Stepper, Stop};
 use bwatch::{Onlooker, TraceRows, Trail};
@@ -70,6 +75,20 @@ impl<'a, 'b, 'c> Tracer<'a, 'b, 'c> {
             is_shown: false,
             stored: 0..0,
         })
+    }
+}
+
+impl Tracer<'_, '_, '_> {
+    /// Adds that a state comes again, and the place of the call in which it does.
+    pub fn push_again(
+        &mut self,
+        legend: &Legend<'_, '_, '_>,
+        again: Option<Repeat>,
+    ) -> Result<(), AllocError>
+        ensures told { OnOk result (trail_text self.new.trail ≡ trail_text self.old.trail ++ again_text (legend_of legend.now) again) }
+        ensures some { OnErr result (again ≡ None → ⊥) }
+    {
+        push_again(&mut self.trail, legend, again)
     }
 }
 

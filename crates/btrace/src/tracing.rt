@@ -9,12 +9,13 @@ ghost use Rattle.btrace.specs.Traces.{Traces, which_of};
 
 use crate::legend::Legend;
 use crate::tracer::{Tracer, Which};
+use bendless::{RecordedWatch, repeat_of, watch_recorded};
 use blang::Outcome;
 use blang::status::{self, Status};
 use brun::finish;
 use bsources::SourceFiles;
 use btools::{Origin, Tables, read_program, tell, tell_placed};
-use bwatch::{TraceRows, Watched, watch};
+use bwatch::{TraceRows, Watched};
 use bword::{ByteIn, ByteOut};
 use std::alloc::Global;
 
@@ -39,7 +40,8 @@ pub struct TraceRequest<'a> {
 
 /// Runs a program for at most so many steps, and writes each step when the run is over.
 ///
-/// The status and the line are those of `go_edition`, but all output goes into the trace. If no function has the name, a
+/// The status and the line are those of `go_edition`, but all output goes into the trace. At the limit the last rows tell
+/// whether a state comes again, so that the run never ends. If no function has the name, a
 /// line says so, and the status is 135. If the run is out of memory, nothing is written.
 pub fn trace<I: ByteIn, O: ByteOut, D: ByteOut>(
     alloc: Global,
@@ -74,10 +76,17 @@ pub fn trace<I: ByteIn, O: ByteOut, D: ByteOut>(
     let Ok(mut tracer) = Tracer::new(alloc, HEADING, legend, which) else {
         return status::MEMORY;
     };
-    let stop = match watch(alloc, &program, wanted.steps, input, &mut tracer) {
-        Ok(Watched::Ended(stop)) => stop,
-        Ok(Watched::Unbegun(trap)) => return finish(Outcome::Trap(trap), diag),
-        Err(_) => return status::MEMORY,
+    let Ok(ran) = watch_recorded(alloc, &program, wanted.steps, input, &mut tracer) else {
+        return status::MEMORY;
+    };
+    let RecordedWatch { watched, record } = ran;
+    let stop = match watched {
+        Watched::Ended(stop) => stop,
+        Watched::Unbegun(trap) => return finish(Outcome::Trap(trap), diag),
+    };
+    let again = repeat_of(alloc, &program.image, &record, stop.outcome);
+    let Ok(()) = tracer.push_again(&legend, again) else {
+        return status::MEMORY;
     };
     let told = tracer.trail.tell(out);
     if told != status::DONE {

@@ -1,6 +1,6 @@
 -- Promise: what comes of a code text that is run, where what went wrong is told.
 use Rattle.std.specs.Prelude.{◌≡◌, ◌⊎◌, ℕ, ◌+◌, ◌&&◌, nat_lt, Bool, if◌then◌else◌, List, [], ◌++◌, codes, decimal}
-use Rattle.std.specs.Prelude.{Option, Some, None, count_by, min, ◌==◌}
+use Rattle.std.specs.Prelude.{Option, Some, None, IfSome, count_by, min, ◌==◌}
 use Rattle.std.specs.List.{position}
 use Rattle.std.specs.Str.{bytes_eq}
 use Rattle.bcode.specs.Faults.{HasHeader, IsFaultLine}
@@ -8,7 +8,7 @@ use Rattle.bcode.specs.declared.fault.CodeFault.{CodeFault}
 use Rattle.bcode.specs.declared.fault.CodeFault.TheVariants as code_fault
 use Rattle.bword.specs.ByteEnds.{Outgoing, most}
 use Rattle.blang.specs.Layout.{load_fault}
-use Rattle.blang.specs.Machine.{Image, machine}
+use Rattle.blang.specs.Machine.{Image, machine, run}
 use Rattle.blang.specs.Reports.{Finishes, HasNotRun, RunEnds, RunGives, Reported, report_text}
 use Rattle.blang.specs.Text.{IsCodeText}
 use Rattle.blang.specs.declared.code.Definition.{Definition}
@@ -19,6 +19,9 @@ use Rattle.blang.specs.declared.run.Outcome.TheVariants as outcome
 use Rattle.blang.specs.declared.run.Report.TheVariants as report
 use Rattle.blang.specs.declared.run.Trap.TheVariants as trap
 use Rattle.blang.specs.declared.status.TheConstants.{MEMORY, REFUSED}
+use Rattle.bendless.specs.Repeats.{ComesBack}
+use Rattle.bendless.specs.Tellings.{repeat_text}
+use Rattle.bendless.specs.declared.search.Repeat.{Repeat}
 use Rattle.bmach.specs.Resolved.{IsLoadedFrom}
 use Rattle.bmach.specs.Stepping.{BeginsNot}
 use Rattle.bmach.specs.Stops.{IsOverAt}
@@ -89,16 +92,34 @@ code_meaning (outcome.Trap trap.Stuck) site place = if nat_lt place site.instruc
 code_meaning outcome.Limit site place = codes "no end within so many steps; --steps N or --no-limit gives more"
 code_meaning result site place = []
 
--- a place of a function, and the number of the step with which the run came there; the line there, and what it means
-abbrev pub code_site_text : (text : List ℕ) → Site → Outcome → (place number : ℕ) → List ℕ
-code_site_text text site result place number = let line = instr_line site place in
-    codes "at     in " ++ left 8 site.name ++ codes " place " ++ right 4 (decimal place) ++ codes "  line "
-    ++ right 4 (decimal line) ++ codes "  step " ++ decimal number ++ codes "\n    " ++ shown_line (line_at text line)
-    ++ codes "\n  means: " ++ code_meaning result site place ++ codes "\n"
+-- a place of a function, with its line, and this line
+abbrev pub site_text : Site → (place : ℕ) → List ℕ
+site_text site place =
+    codes "in " ++ left 8 site.name ++ codes " place " ++ right 4 (decimal place) ++ codes "  line "
+    ++ right 4 (decimal (instr_line site place))
+
+abbrev pub site_line_text : (text : List ℕ) → Site → (place : ℕ) → List ℕ
+site_line_text text site place = codes "\n    " ++ shown_line (line_at text (instr_line site place)) ++ codes "\n"
 
 -- the function whose string words lie there, in a text of these definitions
 abbrev pub site_of : (text : List ℕ) → List Definition → (strings : ℕ) → Site
 site_of text ds strings = site_among 7 (lines_before text) strings ds
+
+-- that a state comes again, and the place of the call in which it does
+abbrev pub loop_text : (text : List ℕ) → List Definition → Repeat → List ℕ
+loop_text text ds r = let site = site_of text ds r.call.strings in
+    repeat_text r ++ codes "\nloop   " ++ site_text site r.call.place ++ site_line_text text site r.call.place
+
+abbrev pub meaning_text : (text : List ℕ) → List Definition → Outcome → Active → Option Repeat → List ℕ
+meaning_text text ds result call None =
+    code_meaning result (site_of text ds call.strings) call.place ++ codes "\n"
+meaning_text text ds result call (Some r) = loop_text text ds r
+
+-- where a run was over, and the number of the step with which it came there; the line there, and what it means
+abbrev pub told_site : (text : List ℕ) → List Definition → Outcome → Active → (number : ℕ) → Option Repeat → List ℕ
+told_site text ds result call number again = let site = site_of text ds call.strings in
+    codes "at     " ++ site_text site call.place ++ codes "  step " ++ decimal number
+    ++ site_line_text text site call.place ++ codes "  means: " ++ meaning_text text ds result call again
 
 -- A text was told with this answer, or memory was refused for it.
 abbrev pub TellsOrNone : List ℕ → (answer : ℕ) → (old new : Outgoing) → (status : ℕ) → Type 0
@@ -114,20 +135,22 @@ TellsUnloaded text f None old new status = (new ≡ old) × (status ≡ MEMORY)
 
 -- A text that is no code text is told with its first wrong line. The definitions of others that don't load are told with
 -- their fault. Others are run for so many steps at most, as the machine runs them, and have its line and status; and if
--- that is the line of a trap or of the limit, where it was over is told after it. Or `main` did not begin; or memory was
+-- that is the line of a trap or of the limit, where it was over is told after it, and that it never ends if a state of
+-- its image comes again. Or `main` did not begin; or memory was
 -- refused.
 pub data LocatesCode (steps : ℕ) (text : List ℕ) (ends : RunEnds) (status : ℕ) : Type 0 where
   unread : (n : ℕ) → IsFaultLine text n → ((ds : List Definition) → IsCodeText text ds → ⊥) → HasNotRun ends
       → TellsUnread text (code_fault.Line n) ends.line ends.line_after status → LocatesCode steps text ends status
   unloaded : (ds : List Definition) (f : LoadFault) → IsCodeText text ds → load_fault ds ≡ Some f → HasNotRun ends
       → TellsUnloaded text f (load_line f) ends.line ends.line_after status → LocatesCode steps text ends status
-  located : (ds : List Definition) (result : Outcome) (told : Outgoing) (answer : ℕ) (active : Active) (made : ℕ)
-      → IsCodeText text ds → load_fault ds ≡ None
+  located : (ds : List Definition) (image : Image) (result : Outcome) (told : Outgoing) (answer : ℕ) (active : Active)
+      (made : ℕ) (again : Option Repeat) → IsLoadedFrom ds image → IsCodeText text ds → load_fault ds ≡ None
       → RunGives (machine ds) steps ends.input ends.input_after ends.out ends.out_after result
       → Finishes result ends.line told answer → located_status result ≡ Some answer
       → IsOverAt (machine ds) steps ends.input ends.input_after result active made
-      → TellsOrNone (code_site_text text (site_of text ds active.strings) result active.place made) answer told
-      ends.line_after status → LocatesCode steps text ends status
+      → IfSome again (ComesBack (run image) ends.input ends.input_after)
+      → TellsOrNone (told_site text ds result active made again) answer told ends.line_after status
+      → LocatesCode steps text ends status
   unlocated : (ds : List Definition) (result : Outcome) → IsCodeText text ds → load_fault ds ≡ None
       → RunGives (machine ds) steps ends.input ends.input_after ends.out ends.out_after result
       → Finishes result ends.line ends.line_after status → (located_status result ≡ Some status → ⊥)

@@ -1,15 +1,16 @@
 //! Running a code text, and telling where it went wrong.
-ghost use Rattle.std.specs.Prelude.{◌≡◌, ◌≤◌, ◌++◌, IfOk, map};
+ghost use Rattle.std.specs.Prelude.{◌≡◌, ◌≤◌, ◌++◌, IfOk, OnOk, map};
 ghost use Rattle.blang.specs.Layout.{data_end, shape_of};
 ghost use Rattle.blang.specs.Reports.{run_ends};
 ghost use Rattle.btools.specs.Programs.{load_line};
 ghost use Rattle.bwhere.specs.Sites.{site_shown};
-ghost use Rattle.bwhere.specs.Wheres.{LocatesCode, TellsUnloaded, TellsUnread, TellsOrNone, code_meaning, code_site_text, cut_text, site_of, unread_text, unloaded_text};
+ghost use Rattle.bwhere.specs.Wheres.{LocatesCode, TellsUnloaded, TellsUnread, TellsOrNone, code_meaning, cut_text, loop_text, meaning_text, site_line_text, site_text, told_site, unread_text, unloaded_text};
 
 use crate::due::push_due;
 use crate::loading::{push_line, push_unloaded};
 use crate::site::{Site, site_of};
 use bcode::{CodeFault, read_code};
+use bendless::{Repeat, push_repeat, repeat_of, run_recorded};
 use blang::status::{self, Status};
 use blang::{Definition, LoadFault, Outcome, Trap};
 use bmach::{Stepper, Stop, load_slice};
@@ -55,10 +56,14 @@ pub fn locate_code<I: ByteIn, O: ByteOut, D: ByteOut>(
         Ok(stepper) => stepper,
         Err(outcome) => return finish(outcome, diag),
     };
-    let stop = stepper.run(input, out, steps);
+    let ran = run_recorded(alloc, stepper, input, out, steps);
+    let stop = ran.stop;
     let told = finish(stop.outcome, diag);
     match located_status(stop.outcome) {
-        Some(status) if status == told => tell_place(alloc, code, &definitions, stop, told, diag),
+        Some(status) if status == told => {
+            let again = repeat_of(alloc, &image, &ran.record, stop.outcome);
+            tell_place(alloc, code, &definitions, stop, again, told, diag)
+        }
         _ => told,
     }
 }
@@ -138,46 +143,101 @@ fn tell_place<D: ByteOut>(
     code: &[u8],
     definitions: &[Definition],
     stop: Stop,
+    again: Option<Repeat>,
     status: Status,
     diag: &mut D,
 ) -> Status
     requires { data_end (map shape_of definitions.now) ≤ 65536 }
-    ensures tells { TellsOrNone (code_site_text code.now (site_of code.now definitions.now stop.call.strings) stop.outcome stop.call.place stop.steps)
+    ensures tells { TellsOrNone (told_site code.now definitions.now stop.outcome stop.call stop.steps again)
         status (D.outgoing diag.old) (D.outgoing diag.new) result }
     ensures same { D.lender diag.new ≡ D.lender diag.old }
 {
-    let site = site_of(definitions, lines_before(code), stop.call.strings);
-    match code_site_text(alloc, code, site, stop) {
+    match told_site(alloc, code, definitions, stop, again) {
         Ok(text) => tell(text.as_slice(), status, diag),
         Err(_) => status::MEMORY,
     }
 }
 
-fn code_site_text(
+fn told_site(
     alloc: Global,
     code: &[u8],
-    site: Site<'_>,
+    definitions: &[Definition],
     stop: Stop,
+    again: Option<Repeat>,
 ) -> Result<Text, AllocError>
-    ensures { IfOk result (λ text. text ≡ code_site_text code.now (site_shown site.entry) stop.outcome stop.call.place stop.steps) }
+    requires { data_end (map shape_of definitions.now) ≤ 65536 }
+    ensures { IfOk result (λ text. text ≡ told_site code.now definitions.now stop.outcome stop.call stop.steps again) }
 {
-    let place = stop.call.place;
-    let line = site.line(place);
+    let site = site_of(definitions, lines_before(code), stop.call.strings);
     let mut text = Text::new(alloc);
-    text.push(b"at     in ")?;
+    text.push(b"at     ")?;
+    push_site(&mut text, site, stop.call.place)?;
+    text.push(b"  step ")?;
+    text.push_number(stop.steps)?;
+    push_site_line(&mut text, code, site, stop.call.place)?;
+    text.push(b"  means: ")?;
+    push_meaning(&mut text, code, definitions, stop, again)?;
+    Ok(text)
+}
+
+fn push_meaning(
+    text: &mut Text,
+    code: &[u8],
+    definitions: &[Definition],
+    stop: Stop,
+    again: Option<Repeat>,
+) -> Result<(), AllocError>
+    requires { data_end (map shape_of definitions.now) ≤ 65536 }
+    ensures { OnOk result (text.new ≡ text.old ++ meaning_text code.now definitions.now stop.outcome stop.call again) }
+{
+    if let Some(repeat) = again {
+        return push_loop(text, code, definitions, repeat);
+    }
+    let site = site_of(definitions, lines_before(code), stop.call.strings);
+    text.push(code_meaning(stop.outcome, site, stop.call.place).as_bytes())?;
+    text.push(b"\n")
+}
+
+// That a state comes again, and the place of the call in which it does.
+fn push_loop(
+    text: &mut Text,
+    code: &[u8],
+    definitions: &[Definition],
+    repeat: Repeat,
+) -> Result<(), AllocError>
+    requires { data_end (map shape_of definitions.now) ≤ 65536 }
+    ensures { OnOk result (text.new ≡ text.old ++ loop_text code.now definitions.now repeat) }
+{
+    let site = site_of(definitions, lines_before(code), repeat.call.strings);
+    push_repeat(text, repeat)?;
+    text.push(b"\nloop   ")?;
+    push_site(text, site, repeat.call.place)?;
+    push_site_line(text, code, site, repeat.call.place)
+}
+
+fn push_site(text: &mut Text, site: Site<'_>, place: usize) -> Result<(), AllocError>
+    ensures { OnOk result (text.new ≡ text.old ++ site_text (site_shown site.entry) place) }
+{
+    text.push(b"in ")?;
     text.push_left(8, site.name)?;
     text.push(b" place ")?;
     text.push_right_number(4, place as u64)?;
     text.push(b"  line ")?;
-    text.push_right_number(4, line)?;
-    text.push(b"  step ")?;
-    text.push_number(stop.steps)?;
+    text.push_right_number(4, site.line(place))
+}
+
+// The line of a place, in a line of its own.
+fn push_site_line(
+    text: &mut Text,
+    code: &[u8],
+    site: Site<'_>,
+    place: usize,
+) -> Result<(), AllocError>
+    ensures { OnOk result (text.new ≡ text.old ++ site_line_text code.now (site_shown site.entry) place) }
+{
     text.push(b"\n    ")?;
-    push_source_line(&mut text, line_at(code, line))?;
-    text.push(b"\n  means: ")?;
-    text.push(code_meaning(stop.outcome, site, place).as_bytes())?;
-    text.push(b"\n")?;
-    Ok(text)
+    push_source_line(text, line_at(code, site.line(place)))?;
+    text.push(b"\n")
 }
 
 // What a trap or the limit means for an author of code; nothing for another outcome.

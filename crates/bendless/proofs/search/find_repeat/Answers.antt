@@ -1,5 +1,4 @@
 use Rattle.std.proofs.Common.{refl}
-use Rattle.std.proofs.lemmas.Result.{IfOk-weaker}
 use Rattle.bendless.proofs.Searching.{found_again, full_first}
 use Rattle.bendless.proofs.search.find_repeat.Goals as goal
 
@@ -9,4 +8,4 @@ search-requires g c = full_first c.args.image.now c.in-Ok.stepper c.in-Ok.ensure
 pub returns-in-Ok : goal.returns-in-Ok
 returns-in-Ok g c =
     let bytes = c.args.bytes.now in
-    IfOk-weaker c.search.result _ _ (λ found h. found_again c.args.image.now c.in-Ok.stepper bytes bytes c.args.has_end found c.in-Ok.ensures refl h) c.search.ensures
+    found_again c.args.image.now c.in-Ok.stepper bytes bytes c.args.has_end c.search.result c.in-Ok.ensures refl c.search.ensures

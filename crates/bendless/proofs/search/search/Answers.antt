@@ -1,7 +1,8 @@
-use Rattle.std.proofs.Common.{◌∙◌, ◌+◌, ◌<◌, ◌≤◌, ap, arith, length, subst, sym}
-use Rattle.bendless.specs.Keeps.{IsAt, IsKept}
+use Rattle.std.proofs.Common.{◌≡◌, ◌∙◌, ◌+◌, ◌<◌, ◌≤◌, ap, arith, length, subst, sym}
+use Rattle.bendless.specs.Keeps.{IsAt, IsKept, repeat_of}
+use Rattle.bendless.specs.Repeats.{Repeats}
 use Rattle.bendless.specs.Replays.{Replayed, lender_replay}
-use Rattle.bendless.proofs.Searching.{Came, HasKept, came_first, came_on, end_known, kept_full, kept_here, kept_on, kept_same, repeats}
+use Rattle.bendless.proofs.Searching.{Came, HasKept, came_first, came_on, end_known, kept_full, kept_here, kept_on, kept_same, ok_given, repeats, states}
 use Rattle.bendless.proofs.search.search.Goals as goal
 
 pub loop-made-init : goal.loop-made-init
@@ -11,7 +12,7 @@ loop-made-init g c =
     let came = came_first first bytes c.requires in
     record {
       came = subst (λ (u : Replayed). Came first bytes 0 first u.left u.is_over) (sym c.new-input.ensures) came;
-      kept = subst (λ (u : Replayed). HasKept first bytes c.in_ok-kept.kept 0 first u.left u.is_over) (sym c.new-input.ensures) (kept_here first bytes c.in_ok-kept.kept 0 first bytes _ came c.in_ok-kept.ensures);
+      kept = subst (λ (u : Replayed). HasKept first bytes c.in_ok-kept.kept 0 first u.left u.is_over) (sym c.new-input.ensures) (kept_here first bytes c.in_ok-kept.kept 0 first bytes _ came (ok_given c.of.result c.in_ok-kept.kept (λ k. IsKept k first (length bytes) 0) c.in_ok-kept.ensures.value c.of.ensures));
       which = ap lender_replay c.new-input.ensures;
       few = omega arith;
     }
@@ -37,7 +38,10 @@ returns-then-is_at g c more can =
     let kept = kept_on first bytes k n p p' u u' _ _ is inv.came c.in-Ok.ensures.gives long inv.kept in
     let later : k.made < n + 1 = let l = inv.kept.later in omega (arith, l) in
     let at : IsAt k p' (length u'.left) = subst (IsAt k p') c.left-left.ensures.count (c.is_at.ensures.is_at c.if-is_at.true) in
-    rw (c.is_at.ensures.same.made, c.is_at.ensures.same.call)
+    let same = c.is_at.ensures.same in
+    let found : repeat_of c.is_at.new.self (n + 1) ≡ repeat_of k (n + 1) =
+    λ i. record { first = same.made i; again = n + 1; call = same.call i; callers = same.callers i } in
+    subst (Repeats (states first bytes more)) (sym (c.again.ensures ∙ found))
     (repeats first bytes k (n + 1) p' u'.left u'.is_over came kept later at more (end_known u' bytes more c.args.has_end is (c.in-Ok.ensures.input ∙ inv.which) can))
 
 pub overflow_sub-made : goal.overflow_sub-made
@@ -79,7 +83,7 @@ loop-made-preserved g c =
     let came = came_on first bytes n p p' u u' _ _ is inv.came c.in-Ok.ensures.gives c.in-Ok.ensures.image in
     record {
       came = came;
-      kept = kept_here first bytes k (n + 1) p' u'.left u'.is_over came (subst (λ left. IsKept k p' left (n + 1)) c.left-left.ensures.count c.in_ok-kept-2.ensures);
+      kept = kept_here first bytes k (n + 1) p' u'.left u'.is_over came (subst (λ left. IsKept k p' left (n + 1)) c.left-left.ensures.count (ok_given c.of-in-loop-made.result k (λ x. IsKept x p' c.left-left.result (n + 1)) c.in_ok-kept-2.ensures.value c.of-in-loop-made.ensures));
       which = c.in-Ok.ensures.input ∙ inv.which;
       few = let f = inv.few in omega (arith, f, c.if-count-eq-MOST_KEPT.false);
     }

@@ -1,16 +1,15 @@
-use Rattle.std.proofs.Common.{◌∙◌, None, Some, ap, inr, refl, sym}
+use Rattle.std.proofs.Common.{◌∙◌, List, Some, ap, refl, subst, sym}
+use Rattle.std.specs.Prelude.{IfSome}
 use Rattle.bsources.specs.Files.{files_shown}
-use Rattle.btools.specs.Functions.{entries_of}
+use Rattle.btools.specs.Functions.{Placed, entries_of}
 use Rattle.btools.specs.ProgramLines.{lines_shown}
 use Rattle.btrace.specs.Locates.{not_begun, stopped}
 use Rattle.btools.specs.declared.program.ProgramFault.TheVariants.{Memory}
 use Rattle.btools.specs.Origins.{Source}
 use Rattle.btools.proofs.Functions.{data_fit}
 use Rattle.btools.proofs.Stopped.{no_other, not_none}
-use Rattle.blang.specs.Machine.{run}
-use Rattle.bendless.specs.Recordings.{is_whole}
-use Rattle.bendless.proofs.Recordings.{comes_back}
-use Rattle.btrace.proofs.Located.{located_whole, store_fits, unlocated_whole}
+use Rattle.bendless.specs.Repeats.{IsEndless}
+use Rattle.btrace.proofs.Located.{located_whole, unlocated_whole}
 use Rattle.btrace.proofs.locating.locate.Goals as goal
 use Rattle.btrace.proofs.locating.locate.Goals.{in_default-located_status-2, in_default-located_status}
 
@@ -45,29 +44,26 @@ returns-clause-locates g c =
           (not_none _ _ (sym c.located_status.ensures ∙ w.in_default-located_status.is)))
     ]
 
-pub repeat_of-requires : goal.repeat_of-requires
-repeat_of-requires g c = store_fits c.in-Ok.program.definitions.items c.in-Ok.program.image c.in-Ok.ensures.program.loads c.in-Ok.ensures.program.loaded
+pub endless_of-again-requires-clause-loads : goal.endless_of-again-requires-clause-loads
+endless_of-again-requires-clause-loads g c = c.in-Ok.ensures.program.loads
 
-pub returns-in-Ok-repeat_of-clause-locates : goal.returns-in-Ok-repeat_of-clause-locates
-returns-in-Ok-repeat_of-clause-locates g c =
-    let files = files_shown c.args.files in
-    let tables = c.in-Ok-new.tables in
-    let ran = c.run_recorded-ran in
-    let stop = ran.result.stop in
-    located_whole c.args.edition c.args.source.now files c.args.steps _ c.tell_site.result c.in-Ok.program.definitions.items c.in-Ok.program.image c.in-Ok-begin.stepper stop.outcome
-    (g.D.ByteOut.outgoing c.finish-told.new.diag) (record { functions = entries_of tables; lines = lines_shown tables; files = files }) c.in-Ok.program.names.lines.items c.finish-told.result stop.call stop.steps c.in-Ok-repeat_of.again
-    c.in-Ok.ensures.program c.in-Ok.ensures.lines (λ i. record { functions = c.in-Ok-new.ensures.functions i; lines = c.in-Ok-new.ensures.lines i; files = files }) c.in-Ok-begin.ensures ran.ensures.gives c.finish-told.ensures.gives
-    (sym c.located_status.ensures ∙ c.in-Some.is ∙ ap Some c.if-status-told.true) ran.ensures.stops
-    (comes_back (run c.in-Ok.program.image) (g.I.ByteIn.incoming c.args.input.now) (g.I.ByteIn.incoming ran.new.input) ran.result.record.bytes.items (is_whole ran.result.record.extent) ran.result.record.is_over c.in-Ok-repeat_of.again ran.ensures.taken ran.ensures.over c.in-Ok-repeat_of.ensures.whole c.in-Ok-repeat_of.ensures.repeats)
-    c.tell_site.ensures.tells
+pub endless_of-again-requires-clause-loaded : goal.endless_of-again-requires-clause-loaded
+endless_of-again-requires-clause-loaded g c = c.in-Ok.ensures.program.loaded
 
 pub returns-in-Some-clause-locates : goal.returns-in-Some-clause-locates
 returns-in-Some-clause-locates g c =
+    let ds = c.in-Ok.program.definitions.items in
+    let image = c.in-Ok.program.image in
+    let frames = c.in-Ok.program.names.frames.items in
     let files = files_shown c.args.files in
     let tables = c.in-Ok-new.tables in
     let ran = c.run_recorded-ran in
     let stop = ran.result.stop in
-    located_whole c.args.edition c.args.source.now files c.args.steps _ _ c.in-Ok.program.definitions.items c.in-Ok.program.image c.in-Ok-begin.stepper stop.outcome
-    (g.D.ByteOut.outgoing c.finish-told.new.diag) (record { functions = entries_of tables; lines = lines_shown tables; files = files }) c.in-Ok.program.names.lines.items c.finish-told.result stop.call stop.steps None
-    c.in-Ok.ensures.program c.in-Ok.ensures.lines (λ i. record { functions = c.in-Ok-new.ensures.functions i; lines = c.in-Ok-new.ensures.lines i; files = files }) c.in-Ok-begin.ensures ran.ensures.gives c.finish-told.ensures.gives
-    (sym c.located_status.ensures ∙ c.in-Some.is ∙ ap Some c.if-status-told.true) ran.ensures.stops tt (inr (refl, refl))
+    let again = c.endless_of-again.result in
+    let found = c.endless_of-again.ensures (g.I.ByteIn.incoming c.args.input.now) (g.I.ByteIn.incoming ran.new.input) ran.ensures.records in
+    located_whole c.args.edition c.args.source.now files c.args.steps _ c.tell_site.result ds image c.in-Ok-begin.stepper stop.outcome
+    (g.D.ByteOut.outgoing c.finish-told.new.diag) (record { functions = entries_of tables; lines = lines_shown tables; files = files }) frames c.in-Ok.program.names.lines.items c.finish-told.result stop.call stop.steps again
+    c.in-Ok.ensures.program c.in-Ok.ensures.names c.in-Ok.ensures.lines (λ i. record { functions = c.in-Ok-new.ensures.functions i; lines = c.in-Ok-new.ensures.lines i; files = files }) c.in-Ok-begin.ensures ran.ensures.gives c.finish-told.ensures.gives
+    (sym c.located_status.ensures ∙ c.in-Some.is ∙ ap Some c.if-status-told.true) ran.ensures.stops
+    (subst (λ (fs : List Placed). IfSome again (IsEndless ds image fs frames (g.I.ByteIn.incoming c.args.input.now) (g.I.ByteIn.incoming ran.new.input))) c.in-Ok-new.ensures.functions found)
+    c.tell_site.ensures.tells

@@ -1,7 +1,8 @@
 use Rattle.std.proofs.Common.{◌≡◌, ◌∙◌, ◌++◌, List, ℕ, ap, codes, decimal}
 use Rattle.btools.specs.SourceLines.{line_at, shown_line}
 use Rattle.btools.proofs.AddedTexts.{piece}
-use Rattle.btrace.specs.Locates.{explanation, loop_text, meaning_text, site_line, told_site}
+use Rattle.btrace.specs.Locates.{explanation, meaning_text, site_line, told_site}
+use Rattle.btrace.specs.Loops.{loop_text}
 use Rattle.btrace.specs.RowTexts.{legend_of, place_line, site_text}
 use Rattle.btrace.proofs.PlaceParts.{told_parts}
 use Rattle.btrace.proofs.locating.told_site.Goals as goal
@@ -15,7 +16,7 @@ returns c =
     let line = place_line legend stop.call in
     let site = site_text legend stop.call in
     let shown = shown_line (line_at source line) in
-    let again = c.args.again in
+    let again = c.args.again.now in
     let means = meaning_text stop.outcome again in
     let again_at = loop_text legend source again in
     let placed = codes "at     " ++ site in

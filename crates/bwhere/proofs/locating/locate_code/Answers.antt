@@ -8,10 +8,13 @@ use Rattle.blang.specs.Text.{IsCodeText}
 use Rattle.blang.specs.declared.code.Definition.{Definition}
 use Rattle.blang.specs.declared.run.LoadFault.{LoadFault}
 use Rattle.blang.specs.declared.run.LoadFault.TheVariants as fault
+use Rattle.blang.specs.Machine.{run}
+use Rattle.bendless.proofs.Recordings.{comes_back}
+use Rattle.bendless.proofs.Searching.{store_fits}
 use Rattle.bmach.specs.Loading.{IsFault}
 use Rattle.btools.specs.Programs.{load_line}
 use Rattle.btools.proofs.Functions.{data_fit}
-use Rattle.bwhere.specs.Wheres.{LocatesCode, TellsOrNone, TellsUnloaded, TellsUnread, code_site_text, located, no_memory, not_begun, site_of, unlocated, unloaded, unread}
+use Rattle.bwhere.specs.Wheres.{LocatesCode, TellsOrNone, TellsUnloaded, TellsUnread, located, no_memory, not_begun, told_site, unlocated, unloaded, unread}
 use Rattle.btools.proofs.Stopped.{no_other, not_none, runs_whole, stops_run}
 use Rattle.bwhere.proofs.locating.locate_code.Goals as goal
 use Rattle.bwhere.proofs.locating.locate_code.Goals.{in_default-located_status-2, in_default-located_status}
@@ -50,26 +53,33 @@ returns-in-Err-begin-clause-locates g c =
     let is = subst (IsCodeText c.args.code.now) (sym c.deref.ensures.value) c.in-Ok.ensures.ok in
     not_begun c.deref.result.now c.in-Ok-load_slice.image c.in-Err-begin.outcome is c.in-Ok-load_slice.ensures.loads c.in-Ok-load_slice.ensures.ok c.in-Err-begin.ensures c.finish.ensures.gives (record { unread = refl; silent = refl })
 
+pub repeat_of-again-requires : goal.repeat_of-again-requires
+repeat_of-again-requires g c =
+    store_fits c.deref.result.now c.in-Ok-load_slice.image c.in-Ok-load_slice.ensures.loads c.in-Ok-load_slice.ensures.ok
+
 pub returns-in-Some-clause-locates : goal.returns-in-Some-clause-locates
 returns-in-Some-clause-locates g c =
     let ds = c.deref.result.now in
     let is = subst (IsCodeText c.args.code.now) (sym c.deref.ensures.value) c.in-Ok.ensures.ok in
-    let stop = c.run-stop.result in
+    let ran = c.run_recorded-ran in
+    let stop = ran.result.stop in
+    let again = c.repeat_of-again in
     let image = c.in-Ok-load_slice.image in
     let loaded = c.in-Ok-load_slice.ensures.ok in
-    located ds stop.outcome (g.D.ByteOut.outgoing c.finish-told.new.diag) c.finish-told.result stop.call stop.steps is c.in-Ok-load_slice.ensures.loads
-    (runs_whole ds image c.in-Ok-begin.stepper loaded c.in-Ok-begin.ensures c.args.steps _ _ stop.outcome _ _ c.run-stop.ensures.gives)
+    located ds image stop.outcome (g.D.ByteOut.outgoing c.finish-told.new.diag) c.finish-told.result stop.call stop.steps again.result loaded is c.in-Ok-load_slice.ensures.loads
+    (runs_whole ds image c.in-Ok-begin.stepper loaded c.in-Ok-begin.ensures c.args.steps _ _ stop.outcome _ _ ran.ensures.gives)
     c.finish-told.ensures.gives (sym c.located_status.ensures ∙ c.in-Some.is ∙ ap Some c.if-status-told.true)
-    (stops_run ds image c.in-Ok-begin.stepper loaded c.in-Ok-begin.ensures c.args.steps _ _ stop.outcome stop.call stop.steps c.run-stop.ensures.stops)
-    (subst (λ (es : List Definition). TellsOrNone (code_site_text c.args.code.now (site_of c.args.code.now es stop.call.strings) stop.outcome stop.call.place stop.steps) c.finish-told.result (g.D.ByteOut.outgoing c.finish-told.new.diag) (g.D.ByteOut.outgoing c.tell_place.new.diag) c.tell_place.result)
+    (stops_run ds image c.in-Ok-begin.stepper loaded c.in-Ok-begin.ensures c.args.steps _ _ stop.outcome stop.call stop.steps ran.ensures.stops)
+    (comes_back (run image) _ _ ran.result.record again.result ran.ensures.records again.ensures.whole again.ensures.repeats)
+    (subst (λ (es : List Definition). TellsOrNone (told_site c.args.code.now es stop.outcome stop.call stop.steps again.result) c.finish-told.result (g.D.ByteOut.outgoing c.finish-told.new.diag) (g.D.ByteOut.outgoing c.tell_place.new.diag) c.tell_place.result)
     (c.deref-in-Some.ensures.value ∙ sym c.deref.ensures.value) c.tell_place.ensures.tells)
 
 pub returns-clause-locates : goal.returns-clause-locates
 returns-clause-locates g c =
     let ds = c.deref.result.now in
     let is = subst (IsCodeText c.args.code.now) (sym c.deref.ensures.value) c.in-Ok.ensures.ok in
-    let outcome = c.run-stop.result.outcome in
-    let gives = runs_whole ds c.in-Ok-load_slice.image c.in-Ok-begin.stepper c.in-Ok-load_slice.ensures.ok c.in-Ok-begin.ensures c.args.steps _ _ outcome _ _ c.run-stop.ensures.gives in
+    let outcome = c.run_recorded-ran.result.stop.outcome in
+    let gives = runs_whole ds c.in-Ok-load_slice.image c.in-Ok-begin.stepper c.in-Ok-load_slice.ensures.ok c.in-Ok-begin.ensures c.args.steps _ _ outcome _ _ c.run_recorded-ran.ensures.gives in
     elim c.match-located_status.branch [
       | in_default-located_status-2 w ↦
           rw w.result-is

@@ -1,7 +1,7 @@
-use Rattle.std.proofs.Common.{◌∙◌, ◌++◌, ap, reverse}
+use Rattle.std.proofs.Common.{◌∙◌, ◌++◌, reverse}
 use Rattle.std.proofs.lemmas.Result.{on_ok_weaker}
 use Rattle.bshow.specs.Facts.{run_text, sentence}
-use Rattle.bshow.specs.Shows.{said_text, tail}
+use Rattle.bshow.specs.Shows.{said_text}
 use Rattle.bshow.proofs.Recorded.{told_at}
 use Rattle.bshow.proofs.recorder.RecorderOnlooker.end.Goals as goal
 
@@ -9,8 +9,8 @@ pub returns : goal.returns
 returns g c =
     let t = c.args.self.now in
     let stop = c.args.stop in
-    let new = record t { trail = record c.gather.new.trail { text = c.push_tail.new.page } } in
+    let new = record t { trail = record c.gather.new.trail { text = c.push_run.new.text } } in
     let said = c.in_ok-push_said.ensures ∙ (λ i. c.in_ok-gather.ensures i ++ said_text (sentence stop.outcome stop.steps) (c.as_slice.ensures i)) in
-    let told = c.in_ok-push_run.ensures ∙ (λ i. said i ++ run_text (reverse (c.deref.ensures.value i)) t.calls_at c.args.stepper.now.store (c.as_slice-2.ensures i) (c.as_slice-3.ensures i)) in
-    on_ok_weaker c.push_tail.result (λ end first sights ends.
-    told_at first t new c.args.stepper.now sights c.end_rows.new.trail stop.outcome stop ends c.in_ok-end_rows.ensures (end ∙ ap (λ x. x ++ tail) told)) c.push_tail.ensures
+    on_ok_weaker c.push_run.result (λ end first sights ends.
+    told_at first t new c.args.stepper.now sights c.end_rows.new.trail stop.outcome stop ends c.in_ok-end_rows.ensures
+    (end ∙ (λ i. said i ++ run_text (reverse (c.deref.ensures.value i)) t.calls_at c.args.stepper.now.store (c.as_slice-2.ensures i) (c.as_slice-3.ensures i)))) c.push_run.ensures

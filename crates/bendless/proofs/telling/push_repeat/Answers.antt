@@ -1,7 +1,7 @@
 use Rattle.std.proofs.Common.{◌++◌, codes, decimal}
 use Rattle.std.proofs.lemmas.Result.{on_ok_weaker}
 use Rattle.btools.proofs.AddedTexts.{piece}
-use Rattle.btrace.proofs.locating.push_repeat.Goals as goal
+use Rattle.bendless.proofs.telling.push_repeat.Goals as goal
 
 pub returns : goal.returns
 returns c =

@@ -3,7 +3,7 @@ use Rattle.std.proofs.lemmas.Result.{on_ok_weaker}
 use Rattle.btools.specs.SourceLines.{line_at, shown_line}
 use Rattle.btools.proofs.AddedTexts.{piece}
 use Rattle.btrace.specs.RowTexts.{legend_of, place_line, site_text}
-use Rattle.btrace.proofs.locating.push_loop_site.Goals as goal
+use Rattle.btrace.proofs.looping.push_loop_site.Goals as goal
 
 pub returns : goal.returns
 returns c =
