@@ -1,5 +1,5 @@
 -- What is said of the loops in a function's row is what is said of its tree.
-use Rattle.std.proofs.Common.{◌≡◌, ◌∙◌, ◌+◌, ◌||◌, false, ap, append-nil, arith, List, [], ◌∷◌, ◌++◌, ℕ, refl, sym}
+use Rattle.std.proofs.Common.{◌≡◌, ◌∙◌, ◌+◌, ◌||◌, ap, append-nil, arith, List, [], ◌∷◌, ◌++◌, ℕ, refl, sym}
 use Rattle.std.proofs.lemmas.List.{length-append}
 use Rattle.blang.specs.Trees.{Expr, Stmt, Headed, Compound, If, IfElse, While, Switch, Goto, Break, Return, ReturnValue, Evaluate, Empty, Stmts, Nothing, More, Definition, Function, Simple, Vector}
 use Rattle.blang.specs.Walk.{walk, walk_body, walk_definition, walk_heading, walk_parenthesized, walk_statement}

@@ -1,12 +1,11 @@
 -- Closed facts: which loops of small trees nothing leaves, and some that look alike.
-use Rattle.std.specs.Prelude.{◌≡◌, ℕ, codes, Bool, true, false, List, [], ◌∷◌, ◌++◌, map, refl, replicate}
+use Rattle.std.specs.Prelude.{◌≡◌, ℕ, codes, true, false, List, [], ◌∷◌, ◌++◌, map, refl, replicate}
 use Rattle.bword.specs.declared.operators.BinOp.TheVariants as op
 use Rattle.blang.specs.declared.token.Keyword.TheVariants as keyword
 use Rattle.blang.specs.Trees.{Another, Break, Called, Character, Compound, Definition, Empty, Evaluate, Function, Goto}
 use Rattle.blang.specs.Trees.{Grouped, Headed, If, IfElse, Label, Literal, More, Named, No_arguments, Nothing, Return}
-use Rattle.blang.specs.Trees.{ReturnValue, Stmt, Switch, While, bare}
+use Rattle.blang.specs.Trees.{ReturnValue, Stmt, Switch, While}
 use Rattle.blang.specs.Walk.{walk_definition, walk_statement}
-use Rattle.blex.specs.declared.lexeme.Lexeme.{Lexeme}
 use Rattle.blex.specs.declared.lexeme.Lexeme.TheVariants as lexeme
 use Rattle.brules.specs.declared.rules.Notice.{Notice}
 use Rattle.brules.specs.declared.rules.Rule.TheVariants as rule

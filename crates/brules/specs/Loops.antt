@@ -1,6 +1,6 @@
 -- Promise: which loops nothing leaves, by the tree of a function and its tokens. A token has a number, from 0.
 use Rattle.std.specs.Prelude.{◌≡◌, ℕ, zero, suc, ◌+◌, ◌-◌, ◌==◌, ◌&&◌, ◌||◌, Bool, true, false, not, codes, List, []}
-use Rattle.std.specs.Prelude.{◌∷◌, ◌++◌}
+use Rattle.std.specs.Prelude.{◌++◌}
 use Rattle.bword.specs.Words.{same_name}
 use Rattle.blang.specs.declared.token.Keyword.TheVariants as keyword
 use Rattle.blang.specs.Trees.{Compound, Definition, Function, Headed, If, IfElse, More, Nothing, Stmt, Stmts, Switch}
