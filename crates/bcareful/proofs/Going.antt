@@ -3,7 +3,7 @@ use Rattle.std.proofs.Common.{◌≡◌, ◌∙◌, ℕ, ◌+◌, List, [], ◌+
 use Rattle.bword.specs.ByteEnds.{CanFollow, Incoming, Outgoing}
 use Rattle.bword.proofs.Putting.{Writes-append}
 use Rattle.bword.proofs.Taking.{Took-append}
-use Rattle.blang.specs.Machine.{Image, State, step, steps}
+use Rattle.blang.specs.Machine.{Image, step, steps}
 use Rattle.bmach.specs.Stepping.{Paused, machine_at}
 use Rattle.bmach.specs.Turns.{MovesOn, TurnGives}
 use Rattle.bmach.proofs.Running.{following, one_more}

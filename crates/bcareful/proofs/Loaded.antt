@@ -1,9 +1,9 @@
 -- What a careful run of a program that was loaded comes to is what one of its definitions comes to.
-use Rattle.std.proofs.Common.{◌≡◌, ◌∙◌, ℕ, List, [], ◌∷◌, ◌++◌, Some, ap, map, refl, subst, sym, unwrap_or}
-use Rattle.bword.specs.ByteEnds.{CanFollow, Incoming, Outgoing}
+use Rattle.std.proofs.Common.{◌≡◌, ◌∙◌, ℕ, List, [], ◌∷◌, ◌++◌, Some, ap, map, refl, subst, sym}
+use Rattle.bword.specs.ByteEnds.{Incoming, Outgoing}
 use Rattle.blang.specs.declared.code.Definition.{Definition}
 use Rattle.blang.specs.declared.run.Outcome.{Outcome}
-use Rattle.blang.specs.Machine.{Call, Halted, Image, Loaded, Running, State, States, Stuck, image_of, machine, state_world}
+use Rattle.blang.specs.Machine.{Call, Halted, Image, Running, State, States, Stuck, image_of, machine, state_world}
 use Rattle.blang.specs.Reports.{AsksForByte, RunGives, state_outcome}
 use Rattle.bmach.specs.Resolved.{IsLoadedFrom, call_resolved, resolved, state_resolved}
 use Rattle.bmach.specs.Stepping.{IsUnstarted, Paused}

@@ -1,13 +1,12 @@
 -- Looking for the function of a call, the external of a name, and the thing of a word.
-use Rattle.std.proofs.Common.{◌≡◌, ◌∙◌, ℕ, zero, suc, ◌+◌, ◌-◌, ◌<◌, ◌≤◌, Bool, true, false, min, List, [], ◌∷◌, ◌++◌, ◌%◌, append_assoc, Option, None, Some, ap, arith, drop, get_or, length, map, refl, sym}
-use Rattle.std.specs.Prelude.{◌==◌, ◌&&◌, nat_le, nat_lt, slice_get, if◌then◌else◌}
-use Rattle.std.proofs.lemmas.List.{at_drop_more, drop_more}
+use Rattle.std.proofs.Common.{◌≡◌, ◌∙◌, ℕ, zero, suc, ◌+◌, ◌<◌, ◌≤◌, false, min, List, [], ◌∷◌, ◌++◌, ◌%◌, append_assoc, Option, None, Some, ap, arith, drop, get_or, length, map, refl, sym}
+use Rattle.std.specs.Prelude.{◌==◌, nat_le, slice_get, if◌then◌else◌}
+use Rattle.std.proofs.lemmas.List.{drop_more}
 use Rattle.std.proofs.lemmas.Option.{get_or_from_slice_get, slice_get_within}
 use Rattle.std.specs.Option.{option_map}
 use Rattle.std.proofs.lemmas.Bool.{cond-true, le-leb}
 use Rattle.bparse.specs.Locals.{NamedWord}
 use Rattle.bcareful.specs.Tellings.{holder, holds, named_at}
-use Rattle.bword.specs.Words.{same_name}
 use Rattle.blang.specs.declared.code.Definition.{Definition}
 use Rattle.blang.specs.Layout.{shape_of, size_of}
 use Rattle.blang.specs.Machine.{Call}
@@ -19,7 +18,7 @@ use Rattle.btools.specs.declared.names.Frame.{Frame}
 use Rattle.btools.specs.declared.names.FrameWord.{FrameWord}
 use Rattle.btools.specs.declared.tables.FunctionEntry.{FunctionEntry}
 use Rattle.bcareful.specs.Marks.{data_marks, shape_marks}
-use Rattle.bcareful.specs.Things.{Atlas, Site, ends_string, external_words, located, next_offset, own_words, string_words, thing_among}
+use Rattle.bcareful.specs.Things.{Atlas, Site, located}
 use Rattle.bcareful.specs.declared.thing.Mark.{Mark}
 
 -- what stands from an index on in tables of functions and frames

@@ -1,6 +1,6 @@
 -- Steps of a careful run, one after another.
-use Rattle.std.proofs.Common.{◌≡◌, ◌∙◌, ◌⊎◌, ℕ, zero, suc, ◌+◌, ◌-◌, ◌<◌, ◌≤◌, List, [], ◌++◌, Err, None, Ok, Option, Some, ap, append_assoc, arith, inl, inr, refl, subst, sym, ⊎_elim}
-use Rattle.std.specs.Prelude.{Bool, true, false, is_some, if◌then◌else◌}
+use Rattle.std.proofs.Common.{◌≡◌, ◌∙◌, ℕ, zero, suc, ◌+◌, ◌-◌, ◌<◌, ◌≤◌, List, [], ◌++◌, Err, None, Ok, Some, ap, append_assoc, arith, inl, inr, refl, subst, sym, ⊎_elim}
+use Rattle.std.specs.Prelude.{true, false, is_some, if◌then◌else◌}
 use Rattle.bword.specs.ByteEnds.{CanFollow, Incoming, Outgoing, Took, Writes}
 use Rattle.bword.proofs.Putting.{Writes-append}
 use Rattle.bword.proofs.Taking.{Took-append}
@@ -8,19 +8,19 @@ use Rattle.bword.specs.declared.ends.EndFault.{EndFault}
 use Rattle.bword.specs.declared.ends.EndFault.TheVariants as end_fault
 use Rattle.blang.specs.declared.run.Outcome.{Outcome}
 use Rattle.blang.specs.declared.run.Outcome.TheVariants as outcome
-use Rattle.blang.specs.Machine.{Halted, Image, Loaded, Running, State, States, Stuck, state_world, step, steps}
-use Rattle.blang.specs.Reports.{AsksForByte, ComesTo, RunGives, Shows, StopsAtRead, StopsAtWrite, StopsForMemory, state_outcome}
+use Rattle.blang.specs.Machine.{Halted, Image, Running, State, States, Stuck, state_world, step, steps}
+use Rattle.blang.specs.Reports.{AsksForByte, ComesTo, Shows, StopsAtRead, StopsAtWrite, StopsForMemory, state_outcome}
 use Rattle.bmach.specs.Stepping.{Paused, machine_at}
 use Rattle.bmach.specs.Stops.{IsOverAt, active_of}
 use Rattle.bmach.specs.declared.machine.Active.{Active}
 use Rattle.bmach.specs.declared.machine.Stop.{Stop}
 use Rattle.bmach.proofs.Stopping.{stands_after, stops_before}
-use Rattle.bmach.specs.Turns.{FailsAtRead, FailsAtWrite, FailsForMemory, HasHalted, MovesOn, Shown, TurnGives}
+use Rattle.bmach.specs.Turns.{FailsAtRead, FailsAtWrite, FailsForMemory, HasHalted, TurnGives}
 use Rattle.bmach.proofs.Asking.{asks_if_taken}
-use Rattle.bmach.proofs.Running.{IsOver, following, one_more, over_stays, steps_add}
+use Rattle.bmach.proofs.Running.{IsOver, one_more, over_stays, steps_add}
 use Rattle.bmach.proofs.Turning.{follows, runs_on}
 use Rattle.btools.specs.Programs.{steps_from}
-use Rattle.bwatch.specs.Sights.{Sight, Sights, sight_at, sight_of, sights_of}
+use Rattle.bwatch.specs.Sights.{Sight, Sights, sight_at, sights_of}
 use Rattle.bcareful.proofs.Going as going
 use Rattle.bcareful.proofs.Going.{IsOn, seen_from}
 use Rattle.bcareful.specs.Things.{Atlas}
@@ -28,7 +28,7 @@ use Rattle.bcareful.specs.Marks.{Marks, unbegun}
 use Rattle.bcareful.specs.Effects.{changed_in, changed_to, effect_of, marks_at, next_step, step_in}
 use Rattle.bcareful.specs.Findings.{careful, finding_at, finding_of, made_by}
 use Rattle.bcareful.specs.Stays.{StaysAtFirst}
-use Rattle.bcareful.specs.Carefuls.{CarefulGives, IsClean, IsFound, IsUnfound, StaysAt}
+use Rattle.bcareful.specs.Carefuls.{CarefulGives, IsClean}
 use Rattle.bcareful.specs.declared.effect.Effect.TheVariants.{Begins}
 use Rattle.bcareful.specs.declared.finding.Finding.{Finding}
 use Rattle.bcareful.specs.declared.watching.Ended.TheVariants as ended

@@ -1,5 +1,5 @@
 -- Steps of a run that goes on after its findings.
-use Rattle.std.proofs.Common.{◌≡◌, ◌∙◌, ℕ, zero, suc, ◌+◌, ◌<◌, ◌≤◌, List, [], ◌++◌, Err, Ok, Option, ap, append_assoc, arith, inl, inr, refl, subst, sym}
+use Rattle.std.proofs.Common.{◌≡◌, ◌∙◌, ℕ, ◌+◌, ◌<◌, ◌≤◌, List, [], ◌++◌, Err, Ok, ap, append_assoc, arith, inl, inr, refl, subst, sym}
 use Rattle.bword.specs.ByteEnds.{CanFollow, Incoming, Outgoing, Took}
 use Rattle.bword.proofs.Taking.{Took-append, Took-none}
 use Rattle.blang.specs.declared.run.Outcome.{Outcome}
@@ -21,7 +21,6 @@ use Rattle.bcareful.specs.Marks.{Marks}
 use Rattle.bcareful.specs.Effects.{changed_in, effect_of, marks_at, next_step}
 use Rattle.bcareful.specs.Findings.{finding_of}
 use Rattle.bcareful.specs.Warned.{IsAll, WarnGives, Warnings, kept_text, no_warnings, warned, warnings_at}
-use Rattle.bcareful.specs.declared.finding.Finding.{Finding}
 use Rattle.bcareful.proofs.Going as going
 use Rattle.bcareful.proofs.Going.{IsOn, seen_from}
 use Rattle.bcareful.proofs.Steps.{add_one, finding_next, main_marks, marks_next, stop_at}

@@ -1,12 +1,11 @@
 -- What comes of a source that is run carefully.
-use Rattle.std.proofs.Common.{◌≡◌, ◌∙◌, ◌+◌, ◌<◌, ◌≤◌, ◌^◌, ℕ, List, [], ◌++◌, ap, arith, false, refl, subst, sym, true}
-use Rattle.bword.specs.ByteEnds.{CanFollow, Incoming, Outgoing}
+use Rattle.std.proofs.Common.{◌≡◌, ◌∙◌, ◌+◌, ◌<◌, ◌^◌, ℕ, List, [], ap, arith, false, refl, subst, sym, true}
+use Rattle.bword.specs.ByteEnds.{Incoming, Outgoing}
 use Rattle.bword.specs.declared.edition.Edition.{Edition}
 use Rattle.blang.specs.declared.code.Definition.{Definition}
-use Rattle.blang.specs.declared.run.Outcome.{Outcome}
 use Rattle.blang.specs.declared.run.Outcome.TheVariants as outcome
-use Rattle.blang.specs.Machine.{Image, Loaded, States, image_of, machine}
-use Rattle.blang.specs.Reports.{Finishes, Reported, RunEnds}
+use Rattle.blang.specs.Machine.{Image, Loaded, States}
+use Rattle.blang.specs.Reports.{Reported, RunEnds}
 use Rattle.bmach.specs.Stepping.{IsUnstarted, Paused}
 use Rattle.bmach.specs.declared.machine.Stop.{Stop}
 use Rattle.bsources.specs.Files.{Files}
@@ -15,9 +14,9 @@ use Rattle.btools.specs.ProgramLines.{HasLines}
 use Rattle.btools.specs.Programs.{HasProgram, steps_from}
 use Rattle.btools.specs.declared.names.Frame.{Frame}
 use Rattle.btrace.specs.RowTexts.{Legend, legend_in}
-use Rattle.bwatch.specs.Sights.{Sight, sight_at, sights_of}
+use Rattle.bwatch.specs.Sights.{Sight, sight_at}
 use Rattle.bcareful.specs.Things.{Atlas, atlas_in}
-use Rattle.bcareful.specs.Carefuls.{CarefulGives, IsClean, IsFound, StaysAt}
+use Rattle.bcareful.specs.Carefuls.{CarefulGives, IsClean, IsFound}
 use Rattle.bcareful.specs.Runs.{RunsBy, finds_wraps, found, stays, unfound, warned}
 use Rattle.bcareful.specs.Tellings.{Tells, TellsOver, finding_text}
 use Rattle.bcareful.specs.Warned.{WarnGives}

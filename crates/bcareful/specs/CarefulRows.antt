@@ -10,7 +10,7 @@ use Rattle.blang.specs.declared.code.Instr.TheVariants as instr
 use Rattle.blang.specs.declared.code.Ival.TheVariants as ival
 use Rattle.bmach.specs.declared.machine.Active.{Active}
 use Rattle.bparse.specs.Locals.{NamedWord}
-use Rattle.bcareful.specs.Things.{Atlas, Site, external_words, frame_thing, is_cut, is_outside, is_past_end, of_data}
+use Rattle.bcareful.specs.Things.{Atlas, external_words, frame_thing, is_cut, is_outside, is_past_end, of_data}
 use Rattle.bcareful.specs.Things.{owned}
 use Rattle.bcareful.specs.Things.{string_at, string_words}
 use Rattle.bcareful.specs.Marks.{Marks, begun, data_marks, is_over, running}

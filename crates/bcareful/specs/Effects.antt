@@ -1,5 +1,5 @@
 -- Promise: what a step does to the marks of words and operands.
-use Rattle.std.specs.Prelude.{ℕ, zero, suc, ◌+◌, ◌-◌, ◌/◌, ◌%◌, ◌^◌, ◌==◌, List, [], ◌∷◌, ◌++◌, Option, Some, None}
+use Rattle.std.specs.Prelude.{ℕ, zero, suc, ◌+◌, ◌-◌, ◌%◌, ◌^◌, ◌==◌, List, [], ◌∷◌, ◌++◌, Option}
 use Rattle.std.specs.Prelude.{length, nat_le, nat_lt, slice_get}
 use Rattle.std.specs.Prelude.{option_and_then, option_map, reverse, slice_index, slice_index_or, slice_set}
 use Rattle.std.specs.Prelude.{if◌then◌else◌}
@@ -9,8 +9,6 @@ use Rattle.bword.specs.declared.operators.BinOp.{BinOp}
 use Rattle.bword.specs.declared.operators.BinOp.TheVariants.{Add, Sub}
 use Rattle.blang.specs.declared.code.Instr.{Instr}
 use Rattle.blang.specs.declared.code.Instr.TheVariants as instr
-use Rattle.blang.specs.CodeParts.{Function}
-use Rattle.blang.specs.Layout.{store_words}
 use Rattle.bmach.specs.Stepping.{Paused}
 use Rattle.bmach.specs.Stops.{active_of}
 use Rattle.bmach.specs.declared.machine.Active.{Active}

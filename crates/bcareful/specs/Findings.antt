@@ -1,26 +1,25 @@
 -- Promise: what is found at a step.
-use Rattle.std.specs.Prelude.{ℕ, zero, suc, ◌+◌, ◌%◌, ◌==◌, ◌&&◌, ◌||◌, Bool, true, false, List, [], Option, Some, None}
+use Rattle.std.specs.Prelude.{ℕ, zero, suc, ◌+◌, ◌%◌, ◌==◌, ◌&&◌, ◌||◌, Bool, true, false, List, Option, Some, None}
 use Rattle.std.specs.Prelude.{is_some, nat_le, nat_lt}
-use Rattle.std.specs.Prelude.{option_and_then, option_map, slice_get, if◌then◌else◌}
+use Rattle.std.specs.Prelude.{option_and_then, if◌then◌else◌}
 use Rattle.std.specs.Prelude.{ℤ, pos, neg_ℤ, ◌+ℤ◌, ◌-ℤ◌, ◌*ℤ◌, int_le, not}
-use Rattle.std.specs.Option.{option_map_or, option_or}
+use Rattle.std.specs.Option.{option_or}
 use Rattle.bword.specs.Words.{signed_of}
 use Rattle.bword.specs.declared.operators.BinOp.{BinOp}
 use Rattle.bword.specs.declared.operators.BinOp.TheVariants as op
 use Rattle.blang.specs.declared.code.Instr.{Instr}
 use Rattle.blang.specs.declared.code.Instr.TheVariants as instr
-use Rattle.bmach.specs.declared.machine.Active.{Active}
 use Rattle.blang.specs.Machine.{Loaded, States}
-use Rattle.bwatch.specs.Sights.{Sight, Sights, sights_of}
+use Rattle.bwatch.specs.Sights.{Sights, sights_of}
 use Rattle.bcareful.specs.Things.{Atlas, is_outside, is_past_end}
-use Rattle.bcareful.specs.Marks.{Marks, is_over}
+use Rattle.bcareful.specs.Marks.{is_over}
 use Rattle.bcareful.specs.Effects.{Moment, Step, argument, argument_mark, character_address, mark, marks_at, operand}
 use Rattle.bcareful.specs.Effects.{step_in, word_mark}
 use Rattle.bcareful.specs.declared.finding.Finding.{Finding}
 use Rattle.bcareful.specs.declared.finding.Finding.TheVariants.{Index, Low, Never, Over, Past, Wraps}
 use Rattle.bcareful.specs.declared.finding.Touched.{Touched}
 use Rattle.bcareful.specs.declared.thing.Mark.{Mark}
-use Rattle.bcareful.specs.declared.thing.Mark.TheVariants.{Of, Plain, Unset}
+use Rattle.bcareful.specs.declared.thing.Mark.TheVariants.{Of, Unset}
 use Rattle.bcareful.specs.declared.thing.Thing.{Thing}
 
 abbrev pub is_unset : Mark → Bool

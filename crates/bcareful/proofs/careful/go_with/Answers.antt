@@ -1,12 +1,8 @@
-use Rattle.std.proofs.Common.{◌≡◌, ◌+◌, ◌<◌, ◌^◌, arith, refl}
-use Rattle.std.specs.Prelude.{unwrap_or}
-use Rattle.bsources.specs.Files.{files_shown}
-use Rattle.btools.specs.Functions.{entries_of}
+use Rattle.std.proofs.Common.{refl}
 use Rattle.btools.specs.Origins.{Source}
-use Rattle.btools.specs.ProgramLines.{lines_shown}
 use Rattle.btools.specs.declared.program.ProgramFault.TheVariants.{Memory}
 use Rattle.btools.proofs.Functions.{data_fit}
-use Rattle.bcareful.specs.Runs.{not_begun, stopped}
+use Rattle.bcareful.specs.Runs.{stopped}
 use Rattle.bcareful.proofs.careful.go_with.Goals as goal
 
 pub new-requires : goal.new-requires

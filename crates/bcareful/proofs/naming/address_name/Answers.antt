@@ -1,7 +1,7 @@
-use Rattle.std.proofs.Common.{◌≡◌, ◌∙◌, ◌-◌, ap, nat_lt, sym}
+use Rattle.std.proofs.Common.{◌∙◌, ◌-◌, ap, nat_lt, sym}
 use Rattle.std.proofs.Math.ListN.{drop_of_length-le}
 use Rattle.std.proofs.lemmas.Bool.{cond-false, le-ltb}
-use Rattle.bcareful.specs.Tellings.{address_name, data_name, no_name}
+use Rattle.bcareful.specs.Tellings.{data_name, no_name}
 use Rattle.bcareful.proofs.naming.address_name.Goals as goal
 
 pub returns : goal.returns

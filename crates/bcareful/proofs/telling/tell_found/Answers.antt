@@ -1,4 +1,4 @@
-use Rattle.std.proofs.Common.{◌∙◌, List, ℕ, inl, inr, refl, subst}
+use Rattle.std.proofs.Common.{◌∙◌, List, ℕ, inl, subst}
 use Rattle.blang.specs.Reports.{Reported}
 use Rattle.blang.specs.declared.status.TheConstants.{TRAP}
 use Rattle.bcareful.proofs.telling.tell_found.Goals as goal

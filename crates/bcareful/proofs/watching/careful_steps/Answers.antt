@@ -1,4 +1,4 @@
-use Rattle.std.proofs.Common.{◌≡◌, ◌∙◌, ◌≤◌, ◌+◌, None, Some, arith, refl, sym}
+use Rattle.std.proofs.Common.{◌≡◌, ◌∙◌, ◌+◌, arith, refl, sym}
 use Rattle.bmach.specs.Stops.{active_of}
 use Rattle.bcareful.specs.Effects.{changed_in, effect_of, next_step}
 use Rattle.bcareful.specs.Marks.{marks_of}

@@ -1,4 +1,4 @@
-use Rattle.std.proofs.Common.{◌≡◌, ◌∙◌, ◌≤◌, ◌+◌, List, ℕ, ap, arith, refl, sym}
+use Rattle.std.proofs.Common.{◌≡◌, ◌∙◌, ◌+◌, List, ℕ, ap, arith, refl}
 use Rattle.btrace.specs.RowTexts.{legend_of}
 use Rattle.bwatch.specs.Sights.{sight_at}
 use Rattle.bcareful.specs.Effects.{changed_in, effect_of, next_step}
@@ -6,7 +6,7 @@ use Rattle.bcareful.specs.Marks.{marks_of}
 use Rattle.bcareful.specs.Things.{atlas_of}
 use Rattle.bcareful.specs.Warned.{warned, warnings_of}
 use Rattle.bmach.specs.Stops.{active_of}
-use Rattle.bcareful.proofs.WarnedSteps.{all_told, as_told, none_told, one_told, over_told, refused_told, told_next}
+use Rattle.bcareful.proofs.WarnedSteps.{all_told, as_told, one_told, over_told, refused_told, told_next}
 use Rattle.bcareful.proofs.watching.warned_steps.Goals as goal
 
 pub returns-in-Err-clause-gives : goal.returns-in-Err-clause-gives

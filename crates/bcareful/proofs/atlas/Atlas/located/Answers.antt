@@ -1,4 +1,4 @@
-use Rattle.std.proofs.Common.{◌∙◌, ◌<◌, ap, arith, length, sym}
+use Rattle.std.proofs.Common.{◌∙◌, ◌<◌, arith, length, sym}
 use Rattle.btools.proofs.Finding.{other_number}
 use Rattle.bcareful.proofs.Looking.{located_from, missed, none_left}
 use Rattle.bcareful.proofs.atlas.Atlas.located.Goals as goal

@@ -1,4 +1,4 @@
-use Rattle.std.proofs.Common.{◌≡◌, ◌∙◌, ◌-◌, ◌++◌, ap, length, replicate, take}
+use Rattle.std.proofs.Common.{◌≡◌, ◌∙◌, ◌-◌, ◌++◌, ap, replicate, take}
 use Rattle.bcareful.specs.Marks.{data_marks}
 use Rattle.bcareful.specs.Things.{atlas_of}
 use Rattle.bcareful.specs.declared.thing.Mark.TheVariants.{Plain}
