@@ -132,15 +132,10 @@ fn put(look: &Look<'_>, argument: &Branch) -> Option<Remark> {
     if argument.node != Node::Text {
         return None;
     }
-    let warning = if is_short(look, argument) {
+    let warning = if look.tree.tokens.is_short(argument.token) {
         Warning::StringForCharacter
     } else {
         Warning::StringPut
     };
     Remark::new(argument.token, warning)
-}
-
-/// Whether a string has one character or two, or an escape.
-pub(crate) fn is_short(look: &Look<'_>, text: &Branch) -> bool {
-    look.tree.tokens.bytes(text.token).len() <= 4
 }

@@ -1,15 +1,11 @@
-//! Operators that probably mean something else, and comparisons that are probably mistakes.
-use crate::calls::is_short;
-use crate::ends::input_or_string_end;
+//! Operators that probably mean something else, and comparisons of names that are probably mistakes.
 use crate::linting::Look;
-use crate::locals::{compares, relates};
+use crate::locals::compares;
 use crate::remarks::Remark;
 use crate::strings::is_word_of_string;
 use crate::tokens::Tokens;
 use crate::tree::Branch;
 use crate::warnings::Warning;
-use blex::Lexeme;
-use btree::Node;
 use bword::BinOp;
 
 /// What is found of an operator between two operands.
@@ -17,8 +13,7 @@ pub(crate) fn operated(look: &Look<'_>, branch: &Branch, op: BinOp) -> Option<Re
     match op {
         BinOp::And => doubled(look.tree.tokens, branch.token, Warning::AndAnd),
         BinOp::Mul => doubled(look.tree.tokens, branch.token, Warning::Power),
-        _ if relates(op) => related(look, branch, op),
-        _ if compares(op) => compared(look, branch, op),
+        _ if compares(op) => compared(look, branch),
         _ => None,
     }
 }
@@ -32,37 +27,21 @@ fn doubled(tokens: &Tokens<'_>, operator: usize, warning: Warning) -> Option<Rem
     None
 }
 
-fn related(look: &Look<'_>, branch: &Branch, op: BinOp) -> Option<Remark> {
-    for part in [branch.left, branch.right] {
-        let part = look.tree.branch(part);
-        if part.node == Node::Constant
-            && matches!(look.tree.tokens.at(part.token), Lexeme::Number(0x8000..))
-        {
-            return Remark::new(part.token, Warning::NegativeNumber);
-        }
-    }
-    input_or_string_end(look, branch, op)
-}
-
-fn compared(look: &Look<'_>, branch: &Branch, op: BinOp) -> Option<Remark> {
+fn compared(look: &Look<'_>, branch: &Branch) -> Option<Remark> {
     let (left, right) = (
         look.tree.branch(branch.left),
         look.tree.branch(branch.right),
     );
-    if right.node == Node::Text && is_short(look, &right) {
-        return Remark::new(right.token, Warning::StringForCharacter);
-    }
-    for part in [branch.right, branch.left] {
-        let part = look.tree.branch(part);
-        if part.node == Node::Text {
-            return Remark::new(part.token, Warning::StringCompared);
-        }
-    }
     if is_word_of_string(look, &left, &right) {
         return Remark::new(left.first, Warning::WordOfString);
     }
     if is_word_of_string(look, &right, &left) {
         return Remark::new(right.first, Warning::WordOfString);
     }
-    input_or_string_end(look, branch, op)
+    // A name to which a character of the input is assigned somewhere.
+    let is_input = matches!(look.locals.of(look.tree, &left), Some(local) if local.inputs > 0);
+    if is_input && look.tree.is_minus_one(&right) {
+        return Remark::new(right.first, Warning::InputEnd);
+    }
+    None
 }

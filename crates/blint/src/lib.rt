@@ -4,7 +4,6 @@
 mod calls;
 mod cautions;
 mod comparisons;
-mod conditions;
 mod declared;
 mod defined;
 mod ends;

@@ -2,7 +2,6 @@
 use crate::calls::called;
 use crate::cautions::{Caution, Program};
 use crate::comparisons::operated;
-use crate::conditions::{empty, tested};
 use crate::declared::declared_in;
 use crate::defined::{Defined, Told};
 use crate::ends::loop_end;
@@ -261,18 +260,12 @@ fn by_branch(look: &Look<'_>, branch: &Branch, remarks: &mut Remarks) -> Result<
             remarks.say(Remark::new(branch.token, Warning::OperatorAssigns))
         }
         Node::Evaluated => remarks.say(overwritten(look, branch)),
-        Node::Tested => by_condition(look, branch, remarks),
+        Node::Tested if look.tree.is_loop(branch) => {
+            remarks.say(loop_end(look, &look.tree.branch(branch.left)))?;
+            remarks.say(unchanged(look, branch))
+        }
         _ => Ok(()),
     }
-}
-
-fn by_condition(look: &Look<'_>, branch: &Branch, remarks: &mut Remarks) -> Result<(), AllocError> {
-    if look.tree.is_loop(branch) {
-        remarks.say(loop_end(look, &look.tree.branch(branch.left)))?;
-        remarks.say(unchanged(look, branch))?;
-    }
-    remarks.say(tested(look, branch))?;
-    remarks.say(empty(look, branch))
 }
 
 // A label `default` that nothing else names, where the other edition has a keyword.

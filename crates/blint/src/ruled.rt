@@ -40,7 +40,7 @@ fn remark_of(tokens: &Tokens<'_>, locals: &Locals, notice: &Notice) -> Option<Re
 // Whether a string after an operator has one character or two, or an escape.
 fn is_for_character(tokens: &Tokens<'_>, token: usize) -> bool {
     let is_right = matches!(tokens.at(token.wrapping_sub(1)), Lexeme::Operator(_));
-    is_right && tokens.at(token) == Lexeme::String && tokens.bytes(token).len() <= 4
+    is_right && tokens.is_short(token)
 }
 
 fn is_parameter(tokens: &Tokens<'_>, locals: &Locals, token: usize) -> bool {

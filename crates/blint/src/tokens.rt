@@ -91,6 +91,11 @@ impl<'a> Tokens<'a> {
         self.text.get(place.start..place.end()).unwrap_or(&[])
     }
 
+    /// Whether a string has one character or two, or an escape.
+    pub(crate) fn is_short(&self, token: usize) -> bool {
+        self.bytes(token).len() <= 4
+    }
+
     /// The blanks before a token that is the first one of its line.
     pub(crate) fn indentation(&self, token: usize) -> Option<&'a [u8]> {
         let start = self.place(token).start;

@@ -273,14 +273,6 @@ impl<'a> Tree<'a> {
         branch.node == Node::Negate && self.is_value(&self.branch(branch.left), 1)
     }
 
-    /// A branch, or what is in its parentheses.
-    pub(crate) fn inner(&self, branch: Branch) -> Branch {
-        match branch.node {
-            Node::Grouped => self.branch(branch.left),
-            _ => branch,
-        }
-    }
-
     /// Whether a branch is the condition of a `while`.
     pub(crate) fn is_loop(&self, tested: &Branch) -> bool {
         tested.node == Node::Tested
