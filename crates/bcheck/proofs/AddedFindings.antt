@@ -1,13 +1,13 @@
 -- Findings one after another, and what stands in each.
-use Rattle.std.proofs.Common.{◌≡◌, ◌∙◌, ◌+◌, ◌<◌, List, [], ℕ, ◌∷◌, ◌++◌, IsTrue, OnOk, Result, Ok, Err, ap, arith, append-nil, append_assoc, codes, decimal, get_or, length, map, None, Option, replicate, Some, refl, subst, sym, take}
-use Rattle.std.specs.Prelude.{◌-◌, drop, min, nat_lt}
+use Rattle.std.proofs.Common.{◌≡◌, ◌∙◌, ◌+◌, ◌<◌, List, [], ℕ, ◌∷◌, ◌++◌, IsTrue, OnOk, Result, Ok, Err, ap, arith, append-nil, append_assoc, codes, decimal, get_or, length, map, None, Option, replicate, Some, refl, subst, suc, sym, take}
+use Rattle.std.specs.Prelude.{◌-◌, ◌≤◌, drop, min, nat_le, nat_lt}
 use Rattle.bword.specs.ByteEnds.{most}
 use Rattle.std.proofs.lemmas.Bool.Decides.{nat_tests}
 use Rattle.std.specs.List.{All, AllZip, flat_map, list_all}
 use Rattle.std.proofs.lemmas.List.{get_or_default, take-append-drop, take_all, take_more}
 use Rattle.std.proofs.lemmas.Slice.Zip.{AllZip-long}
 use Rattle.std.proofs.lemmas.List.Concat.{flat_map-append}
-use Rattle.std.proofs.lemmas.List.Elements.{All-push, All-weaker}
+use Rattle.std.proofs.lemmas.List.Elements.{All-cons, All-head, All-nil, All-push, All-tail, All-weaker}
 use Rattle.btools.proofs.AddedTexts.{each_more}
 use Rattle.bword.specs.declared.edition.Edition.{Edition}
 use Rattle.blang.specs.Code.{code_of}
@@ -20,15 +20,17 @@ use Rattle.blang.specs.declared.code.Definition.{Definition}
 use Rattle.blang.specs.declared.run.LoadFault.{LoadFault}
 use Rattle.blang.specs.declared.run.LoadFault.TheVariants as fault
 use Rattle.blang.specs.declared.token.Diagnostic.{Diagnostic}
+use Rattle.bcheck.specs.Checks.{EditParts, IsMended, Mends, edit_object, edits_text, file_member, mended_line, mended_lines}
 use Rattle.bcheck.specs.Checks.{AreFindings, EachOutcome, FindingParts, IsReason, IsWhole, Reason, Says, Second, fault_in, finding_at, finding_column, finding_end, finding_line, finding_unit, finding_unit_end, finding_text, findings_text, is_on_line, outcome_of, second_text, severity_of, severity_word, shown_text, is_of_several, spot_words}
 use Rattle.bplaces.specs.Columns.{column_after}
 use Rattle.btools.specs.Quoting.{file_text, json_text}
 use Rattle.bplaces.specs.Units.{unit_column}
-use Rattle.bcheck.specs.Findings.{AddsFinding, AreWhole, IsExcerpt, IsOn, IsSecond, ReasonAt, TellsOf}
+use Rattle.bcheck.specs.Findings.{AddsFinding, AreWhole, Improves, IsExcerpt, IsOn, IsSecond, IsTried, MendsIn, ReasonAt, TellsOf}
 use Rattle.bcheck.specs.UndefinedNames.{IsAtName, Tells, name_in, told_subjects}
 use Rattle.bcheck.specs.declared.mention.Subject.{Subject}
 use Rattle.bcheck.specs.declared.finding.Finding.{Finding}
-use Rattle.bcheck.specs.Pieces.{piece_text, spot_text}
+use Rattle.bcheck.specs.Pieces.{edit_text, line_text, piece_text, spot_text}
+use Rattle.bcheck.specs.declared.edit.Edit.{Edit}
 use Rattle.bcheck.specs.declared.excerpt.Excerpt.{Excerpt}
 use Rattle.bcheck.specs.declared.pieces.Fragment.{Fragment}
 use Rattle.bcheck.specs.declared.finding.Severity.{Severity}
@@ -45,17 +47,49 @@ pub piece_more : (head text new : List ℕ) (pieces : List Fragment) (i : ℕ) (
     → new ≡ head ++ flat_map piece_text (take (i + 1) pieces)
 piece_more head text new pieces i other lt e f = each_more piece_text head text new pieces i (get_or pieces i other) lt (get_or_default _ _ _ _ lt) e f
 
--- the pieces of a finding for people, and of one for editors, in its three parts
-people_pieces : (f a l b c d w e s x p r y m n z k q : List ℕ)
-    → f ++ (a ++ (l ++ (b ++ (c ++ (d ++ (w ++ (e ++ (s ++ (x ++ (p ++ (r ++ (y ++ (m ++ (n ++ (z ++ (k ++ q)))))))))))))))) ≡ f ++ a ++ l ++ b ++ c ++ d ++ w ++ e ++ (s ++ x ++ (p ++ r) ++ y ++ (m ++ n) ++ z ++ k) ++ q
-people_pieces f a l b c d w e s x p r y m n z k q = simp append_assoc refl
+-- the text of one thing more
+pub item_more : {A : Type 0} (f : A → List ℕ) (head text new : List ℕ) (items : List A) (i : ℕ) (other : A) → i < length items → text ≡ head ++ flat_map f (take i items) → new ≡ text ++ f (get_or items i other) → new ≡ head ++ flat_map f (take (i + 1) items)
+item_more f head text new items i other lt e g = each_more f head text new items i (get_or items i other) lt (get_or_default _ _ _ _ lt) e g
 
-editor_pieces : (o a f b l c d e w g k h s i m u v x y z j n q : List ℕ)
-    → ((o ++ (a ++ (f ++ (b ++ (l ++ (c ++ (d ++ (e ++ (w ++ (g ++ (k ++ (h ++ (s ++ (i ++ (m ++ (u ++ (v ++ (x ++ (y ++ (z ++ j)))))))))))))))))))) ++ n) ++ q ≡ o ++ (a ++ f ++ b ++ l ++ c ++ d ++ e ++ w ++ g ++ (k ++ h ++ s ++ i ++ (m ++ ((u ++ (v ++ (x ++ (y ++ (z ++ j))))) ++ n))) ++ q)
-editor_pieces o a f b l c d e w g k h s i m u v x y z j n q = simp append_assoc refl
+-- the pieces of a finding for people, and of one for editors, in their parts
+people_pieces : (o f a l b c d w e s x p r y m n g z k q : List ℕ)
+    → ((o ++ (f ++ (a ++ (l ++ (b ++ (c ++ (d ++ (w ++ (e ++ (s ++ (x ++ (p ++ (r ++ (y ++ (m ++ n))))))))))))))) ++ g) ++ (z ++ (k ++ q)) ≡ o ++ (f ++ a ++ l ++ b ++ c ++ d ++ w ++ e ++ (s ++ x ++ (p ++ r) ++ y ++ (m ++ n) ++ g ++ z ++ k) ++ q)
+people_pieces o f a l b c d w e s x p r y m n g z k q = simp append_assoc refl
+
+editor_pieces : (o a f b l c d e w g k h s i m u v x y z j n r q : List ℕ)
+    → (((o ++ (a ++ (f ++ (b ++ (l ++ (c ++ (d ++ (e ++ (w ++ (g ++ (k ++ (h ++ (s ++ (i ++ (m ++ (u ++ (v ++ (x ++ (y ++ (z ++ j)))))))))))))))))))) ++ n) ++ r) ++ q ≡ o ++ (a ++ f ++ b ++ l ++ c ++ d ++ e ++ w ++ g ++ (k ++ h ++ s ++ i ++ (m ++ ((u ++ (v ++ (x ++ (y ++ (z ++ j))))) ++ (n ++ r)))) ++ q)
+editor_pieces o a f b l c d e w g k h s i m u v x y z j n r q = simp append_assoc refl
 
 pub three_more : (o a m r : List ℕ) → ((o ++ a) ++ m) ++ r ≡ o ++ (a ++ (m ++ r))
 three_more o a m r = simp append_assoc refl
+
+-- the pieces of an edit
+edit_pieces : (o b m l p c q e f u g v h s i n j t w k : List ℕ)
+    → ((o ++ b) ++ m) ++ (l ++ (p ++ (c ++ (q ++ (e ++ (f ++ (u ++ (g ++ (v ++ (h ++ (s ++ (i ++ (n ++ (j ++ (t ++ (w ++ k))))))))))))))))
+    ≡ o ++ (b ++ (m ++ (l ++ (p ++ (c ++ (q ++ ((e ++ (f ++ (u ++ (g ++ (v ++ h))))) ++ (s ++ (i ++ (n ++ (j ++ (t ++ (w ++ k)))))))))))))
+edit_pieces o b m l p c q e f u g v h s i n j t w k = simp append_assoc refl
+
+pub adds_edit : (e : Edit) (old one two new : List ℕ) (stop : ℕ) → stop ≡ min (e.column + e.len) most → one ≡ old ++ codes "{" → two ≡ one ++ file_member e.is_of_several e.at.file.now
+    → new ≡ two ++ (codes "\"line\":" ++ (decimal e.at.line ++ (codes ",\"column\":" ++ (decimal e.column ++ (codes ",\"end\":" ++ (decimal stop ++ (codes ",\"utf16_column\":" ++ (decimal e.unit ++ (codes ",\"utf16_end\":" ++ (decimal e.unit_end ++ (codes ",\"offset\":" ++ (decimal e.start ++ (codes ",\"length\":" ++ (decimal e.len ++ (codes ",\"text\":" ++ (json_text e.text.now ++ codes "}"))))))))))))))))
+    → new ≡ old ++ edit_text e
+adds_edit e old one two new stop is e0 e1 e2 =
+    let member = file_member e.is_of_several e.at.file.now in
+    let rest = λ (n : ℕ). codes "\"line\":" ++ (decimal e.at.line ++ (codes ",\"column\":" ++ (decimal e.column ++ (codes ",\"end\":" ++ (decimal n ++ (codes ",\"utf16_column\":" ++ (decimal e.unit ++ (codes ",\"utf16_end\":" ++ (decimal e.unit_end ++ (codes ",\"offset\":" ++ (decimal e.start ++ (codes ",\"length\":" ++ (decimal e.len ++ (codes ",\"text\":" ++ (json_text e.text.now ++ codes "}"))))))))))))))) in
+    e2 ∙ ap (λ n. two ++ rest n) is ∙ ap (λ t. t ++ rest (min (e.column + e.len) most)) (e1 ∙ ap (λ t. t ++ member) e0)
+    ∙ edit_pieces old (codes "{") member (codes "\"line\":") (decimal e.at.line) (codes ",\"column\":") (decimal e.column) (codes ",\"end\":") (decimal (min (e.column + e.len) most)) (codes ",\"utf16_column\":") (decimal e.unit) (codes ",\"utf16_end\":") (decimal e.unit_end) (codes ",\"offset\":") (decimal e.start) (codes ",\"length\":") (decimal e.len) (codes ",\"text\":") (json_text e.text.now) (codes "}")
+
+pub adds_line : (e : Edit) (old new : List ℕ)
+    → new ≡ old ++ (codes "\n  line " ++ (decimal e.at.line ++ (codes " mended: " ++ (flat_map shown_text e.left.now ++ (e.text.now ++ (flat_map shown_text e.right.now ++ []))))))
+    → new ≡ old ++ line_text e
+adds_line e old new is = is ∙ ap (λ t. old ++ (codes "\n  line " ++ (decimal e.at.line ++ (codes " mended: " ++ (flat_map shown_text e.left.now ++ (e.text.now ++ t)))))) (append-nil (flat_map shown_text e.right.now))
+
+-- the first edit and the others
+pub first_and_others : (es : List Edit) (d : Edit) → 1 ≤ length es → get_or es 0 d ∷ take (length es - 1) (drop 1 es) ≡ es
+first_and_others [] d h = absurd (omega (arith, h))
+first_and_others (e ∷ es) d h = ap (λ t. e ∷ t) (take_all (length (e ∷ es) - 1) es (omega arith))
+
+pub adds_list : (o a b f k : List ℕ) → (((o ++ a) ++ b) ++ f) ++ k ≡ o ++ (a ++ (b ++ (f ++ k)))
+adds_list o a b f k = simp append_assoc refl
 
 -- the second place
 abbrev pub second_of : (files : Files) (source : List ℕ) (s : Option SecondPlace) → IsSecond files source s → Option (Second source)
@@ -69,27 +103,60 @@ second_same files source (Some s) i =
     ∙ ap (λ n. spot_words (is_of_several files) (own_line files (line_number_after 1 i.0)) n s.unit) i.5
     ∙ ap (λ n. spot_words (is_of_several files) (own_line files (line_number_after 1 i.0)) (column_after 1 i.0) n) i.6
 
-text_finding : {source : List ℕ} (p : FindingParts source) (s : Severity) (files : Files) (f w t m old new : List ℕ) (line column blanks : ℕ) → f ≡ (finding_at files p).file → w ≡ severity_word s → t ≡ p.sentence → m ≡ p.fix → line ≡ (finding_at files p).line → column ≡ finding_column p → blanks ≡ length p.left
-    → new ≡ old ++ (file_text f ++ (codes ":" ++ (decimal line ++ (codes ":" ++ (decimal column ++ (codes ": " ++ (w ++ (codes ": " ++ (t ++ (codes "\n    " ++ (flat_map shown_text p.left ++ (flat_map shown_text p.right ++ (codes "\n    " ++ (replicate blanks 32 ++ (replicate p.marks 94 ++ (codes "\n  fix: " ++ (m ++ codes "\n")))))))))))))))))
-    → new ≡ old ++ finding_text form.Text s files p
-text_finding p s files f w t m old new line column blanks ef ew et em el ec eb e =
-    (rw (ef, ew, et, em, el, ec, eb) at e) ∙ ap (λ x. old ++ x) (people_pieces (file_text (finding_at files p).file) (codes ":") (decimal (finding_at files p).line) (codes ":") (decimal (finding_column p)) (codes ": ") (severity_word s) (codes ": ") p.sentence (codes "\n    ") (flat_map shown_text p.left) (flat_map shown_text p.right) (codes "\n    ") (replicate (length p.left) 32) (replicate p.marks 94) (codes "\n  fix: ") p.fix (codes "\n"))
+-- the edits of a source that are told
+pub record EditsTold (edition : Edition) (files : Files) (source : List ℕ) (es : List Edit) : Type 0 where
+  pub parts : List (EditParts source)
+  pub long : length parts ≡ length es
+  pub others : flat_map (λ e. codes "," ++ edit_text e) es ≡ flat_map (λ e. codes "," ++ edit_object files e) parts
+  pub array : edits_text edit_text es ≡ edits_text (edit_object files) parts
+  pub lines : flat_map line_text es ≡ flat_map (mended_line files) parts
+  pub mend : All (MendsIn edition) parts
 
-json_finding : {source : List ℕ} (p : FindingParts source) (s : Severity) (files : Files) (f w k t m n old first both new : List ℕ) (line column stop unit unit_end : ℕ) → f ≡ (finding_at files p).file → w ≡ severity_word s → k ≡ p.code → t ≡ p.sentence → m ≡ p.fix → n ≡ second_text files p.second → line ≡ (finding_at files p).line → column ≡ finding_column p → stop ≡ finding_end p
+pub edits_told : (edition : Edition) (files : Files) (source : List ℕ) (es : List Edit) → All (IsTried edition files source) es → EditsTold edition files source es
+edits_told edition files source [] h = record { parts = []; long = refl; others = refl; array = refl; lines = refl; mend = All-nil (MendsIn edition) }
+edits_told edition files source (e ∷ es) h =
+    let it = All-head (IsTried edition files source) e es h in
+    let more = edits_told edition files source es (All-tail (IsTried edition files source) e es h) in
+    let p = it.1.parts in
+    let those = flat_map (λ x. codes "," ++ edit_text x) es in
+    record {
+      parts = p ∷ more.parts;
+      long = ap suc more.long;
+      others = ap (λ x. (codes "," ++ x) ++ those) it.1.object ∙ ap (λ x. (codes "," ++ edit_object files p) ++ x) more.others;
+      array =
+          ap (λ x. codes ",\"edits\":[" ++ (x ++ (those ++ codes "]"))) it.1.object
+          ∙ ap (λ x. codes ",\"edits\":[" ++ (edit_object files p ++ (x ++ codes "]"))) more.others;
+      lines = ap (λ x. x ++ flat_map line_text es) it.1.line ∙ ap (λ x. mended_line files p ++ x) more.lines;
+      mend = All-cons (MendsIn edition) p more.parts (subst (λ t. Improves edition source t) (sym it.1.makes) it.2) more.mend;
+    }
+
+text_finding : {source : List ℕ} (p : FindingParts source) (s : Severity) (files : Files) (f w t m g old first both new : List ℕ) (line column blanks : ℕ) → f ≡ (finding_at files p).file → w ≡ severity_word s → t ≡ p.sentence → m ≡ p.fix → g ≡ mended_lines files p → line ≡ (finding_at files p).line → column ≡ finding_column p → blanks ≡ length p.left
+    → first ≡ old ++ (file_text f ++ (codes ":" ++ (decimal line ++ (codes ":" ++ (decimal column ++ (codes ": " ++ (w ++ (codes ": " ++ (t ++ (codes "\n    " ++ (flat_map shown_text p.left ++ (flat_map shown_text p.right ++ (codes "\n    " ++ (replicate blanks 32 ++ (replicate p.marks 94 ++ [])))))))))))))))
+    → both ≡ first ++ g → new ≡ both ++ (codes "\n  fix: " ++ (m ++ codes "\n"))
+    → new ≡ old ++ finding_text form.Text s files p
+text_finding p s files f w t m g old first both new line column blanks ef ew et em eg el ec eb e0 e1 e2 =
+    let none = append-nil {A = ℕ} (replicate p.marks 94) in
+    let e = (rw (ef, ew, et, el, ec, eb, none) at e0) in
+    e2 ∙ ap (λ x. both ++ (codes "\n  fix: " ++ (x ++ codes "\n"))) em
+    ∙ ap (λ x. x ++ (codes "\n  fix: " ++ (p.fix ++ codes "\n"))) (e1 ∙ ap (λ x. first ++ x) eg ∙ ap (λ x. x ++ mended_lines files p) e)
+    ∙ people_pieces old (file_text (finding_at files p).file) (codes ":") (decimal (finding_at files p).line) (codes ":") (decimal (finding_column p)) (codes ": ") (severity_word s) (codes ": ") p.sentence (codes "\n    ") (flat_map shown_text p.left) (flat_map shown_text p.right) (codes "\n    ") (replicate (length p.left) 32) (replicate p.marks 94) (mended_lines files p) (codes "\n  fix: ") p.fix (codes "\n")
+
+json_finding : {source : List ℕ} (p : FindingParts source) (s : Severity) (files : Files) (f w k t m n a old first both three new : List ℕ) (line column stop unit unit_end : ℕ) → f ≡ (finding_at files p).file → w ≡ severity_word s → k ≡ p.code → t ≡ p.sentence → m ≡ p.fix → n ≡ second_text files p.second → a ≡ edits_text (edit_object files) p.edits → line ≡ (finding_at files p).line → column ≡ finding_column p → stop ≡ finding_end p
     → unit ≡ finding_unit p → unit_end ≡ finding_unit_end p
     → first ≡ old ++ (codes "{\"file\":" ++ (json_text f ++ (codes ",\"line\":" ++ (decimal line ++ (codes ",\"column\":" ++ (decimal column ++ (codes ",\"severity\":\"" ++ (w ++ (codes "\",\"code\":" ++ (json_text k ++ (codes ",\"message\":" ++ (json_text t ++ (codes ",\"fix\":" ++ (json_text m ++ (codes ",\"end\":" ++ (decimal stop ++ (codes ",\"utf16_column\":" ++ (decimal unit ++ (codes ",\"utf16_end\":" ++ (decimal unit_end ++ []))))))))))))))))))))
-    → both ≡ first ++ n → new ≡ both ++ codes "}\n"
+    → both ≡ first ++ n → three ≡ both ++ a → new ≡ three ++ codes "}\n"
     → new ≡ old ++ finding_text form.Json s files p
-json_finding p s files f w k t m n old first both new line column stop unit unit_end ef ew ek et em en el ec es eu ev e0 e1 e2 =
+json_finding p s files f w k t m n a old first both three new line column stop unit unit_end ef ew ek et em en ea el ec es eu ev e0 e1 e2 e3 =
     let none = append-nil (decimal (finding_unit_end p)) in
+    let array = edits_text (edit_object files) p.edits in
     let e = (rw (ef, ew, ek, et, em, el, ec, es, eu, ev, none) at e0) in
-    e2 ∙ ap (λ x. x ++ codes "}\n") (e1 ∙ ap (λ x. first ++ x) en ∙ ap (λ x. x ++ second_text files p.second) e) ∙ editor_pieces old (codes "{\"file\":") (json_text (finding_at files p).file) (codes ",\"line\":") (decimal (finding_at files p).line) (codes ",\"column\":") (decimal (finding_column p)) (codes ",\"severity\":\"") (severity_word s) (codes "\",\"code\":") (json_text p.code) (codes ",\"message\":") (json_text p.sentence) (codes ",\"fix\":") (json_text p.fix) (codes ",\"end\":") (decimal (finding_end p)) (codes ",\"utf16_column\":") (decimal (finding_unit p)) (codes ",\"utf16_end\":") (decimal (finding_unit_end p)) (second_text files p.second) (codes "}\n")
+    e3 ∙ ap (λ x. x ++ codes "}\n") (e2 ∙ ap (λ x. both ++ x) ea ∙ ap (λ x. x ++ array) (e1 ∙ ap (λ x. first ++ x) en ∙ ap (λ x. x ++ second_text files p.second) e)) ∙ editor_pieces old (codes "{\"file\":") (json_text (finding_at files p).file) (codes ",\"line\":") (decimal (finding_at files p).line) (codes ",\"column\":") (decimal (finding_column p)) (codes ",\"severity\":\"") (severity_word s) (codes "\",\"code\":") (json_text p.code) (codes ",\"message\":") (json_text p.sentence) (codes ",\"fix\":") (json_text p.fix) (codes ",\"end\":") (decimal (finding_end p)) (codes ",\"utf16_column\":") (decimal (finding_unit p)) (codes ",\"utf16_end\":") (decimal (finding_unit_end p)) (second_text files p.second) array (codes "}\n")
 
-less : (a b : ℕ) → a < b → IsTrue (nat_lt a b)
+pub less : (a b : ℕ) → a < b → IsTrue (nat_lt a b)
 less a b h = grind (arith, nat_tests)
 
 -- the finding of an excerpt
-module _ (source : List ℕ) (start : ℕ) (e : Excerpt) (x : IsExcerpt source start e) (code sentence fix : List ℕ) (are : IsTrue (list_all is_on_line (code ∷ sentence ∷ fix ∷ []))) (second : Option (Second source)) where
+module _ (source : List ℕ) (start : ℕ) (e : Excerpt) (x : IsExcerpt source start e) (code sentence fix : List ℕ) (are : IsTrue (list_all is_on_line (code ∷ sentence ∷ fix ∷ []))) (second : Option (Second source)) (edition : Edition) (edits : List (EditParts source)) (mend : All (MendsIn edition) edits) (few : IsTrue (nat_le (length edits) 3)) where
   abbrev this_finding : FindingParts source
   this_finding = record {
     before = x.before;
@@ -106,6 +173,8 @@ module _ (source : List ℕ) (start : ℕ) (e : Excerpt) (x : IsExcerpt source s
     fix = fix;
     on_lines = are;
     second = second;
+    edits = edits;
+    few = few;
   }
 
   on_its_line : e.line ≡ finding_line this_finding
@@ -127,20 +196,29 @@ module _ (source : List ℕ) (start : ℕ) (e : Excerpt) (x : IsExcerpt source s
   in_its_file : (files : Files) (at : Line) → at ≡ own_line files e.line → at ≡ own_line files (finding_line this_finding)
   in_its_file files at is = is ∙ ap (own_line files) on_its_line
 
-  pub adds_text : (s : Severity) (files : Files) (at : FileLine) (f w t m old new : List ℕ) (blanks : ℕ) → line_shown at ≡ own_line files e.line → f ≡ at.file.now → w ≡ severity_word s → t ≡ sentence → m ≡ fix → blanks ≡ length e.left.now
-      → new ≡ old ++ (file_text f ++ (codes ":" ++ (decimal at.line ++ (codes ":" ++ (decimal e.column ++ (codes ": " ++ (w ++ (codes ": " ++ (t ++ (codes "\n    " ++ (flat_map shown_text e.left.now ++ (flat_map shown_text e.right.now ++ (codes "\n    " ++ (replicate blanks 32 ++ (replicate e.marks 94 ++ (codes "\n  fix: " ++ (m ++ codes "\n")))))))))))))))))
-      → AddsFinding form.Text s files source start code sentence old new
-  adds_text s files at f w t m old new blanks is ef ew et em eb e1 =
+  pub adds_text : (s : Severity) (files : Files) (at : FileLine) (f w t m g old first both new : List ℕ) (blanks : ℕ) → line_shown at ≡ own_line files e.line → f ≡ at.file.now → w ≡ severity_word s → t ≡ sentence → m ≡ fix → g ≡ flat_map (mended_line files) edits → blanks ≡ length e.left.now
+      → first ≡ old ++ (file_text f ++ (codes ":" ++ (decimal at.line ++ (codes ":" ++ (decimal e.column ++ (codes ": " ++ (w ++ (codes ": " ++ (t ++ (codes "\n    " ++ (flat_map shown_text e.left.now ++ (flat_map shown_text e.right.now ++ (codes "\n    " ++ (replicate blanks 32 ++ (replicate e.marks 94 ++ [])))))))))))))))
+      → both ≡ first ++ g → new ≡ both ++ (codes "\n  fix: " ++ (m ++ codes "\n"))
+      → AddsFinding form.Text s edition files source start code sentence old new
+  adds_text s files at f w t m g old first both new blanks is ef ew et em eg eb e0 e1 e2 =
       let here = in_its_file files (line_shown at) is in
-      (this_finding, refl, x.first, x.rest, text_finding this_finding s files f w t m old new at.line e.column blanks (ef ∙ ap (λ (l : Line). l.file) here) ew et em (ap (λ (l : Line). l.line) here) at_its_column eb e1, refl)
+      (this_finding, refl, x.first, x.rest, text_finding this_finding s files f w t m g old first both new at.line e.column blanks (ef ∙ ap (λ (l : Line). l.file) here) ew et em eg (ap (λ (l : Line). l.line) here) at_its_column eb e0 e1 e2, refl, mend)
 
-  pub adds_json : (s : Severity) (files : Files) (at : FileLine) (f w k t m n old first both new : List ℕ) (stop unit unit_end : ℕ) → stop ≡ min (e.column + e.marks) most → unit ≡ e.unit → unit_end ≡ e.unit_end → line_shown at ≡ own_line files e.line → f ≡ at.file.now → w ≡ severity_word s → k ≡ code → t ≡ sentence → m ≡ fix → n ≡ second_text files second
+  pub adds_json : (s : Severity) (files : Files) (at : FileLine) (f w k t m n a old first both three new : List ℕ) (stop unit unit_end : ℕ) → stop ≡ min (e.column + e.marks) most → unit ≡ e.unit → unit_end ≡ e.unit_end → line_shown at ≡ own_line files e.line → f ≡ at.file.now → w ≡ severity_word s → k ≡ code → t ≡ sentence → m ≡ fix → n ≡ second_text files second → a ≡ edits_text (edit_object files) edits
       → first ≡ old ++ (codes "{\"file\":" ++ (json_text f ++ (codes ",\"line\":" ++ (decimal at.line ++ (codes ",\"column\":" ++ (decimal e.column ++ (codes ",\"severity\":\"" ++ (w ++ (codes "\",\"code\":" ++ (json_text k ++ (codes ",\"message\":" ++ (json_text t ++ (codes ",\"fix\":" ++ (json_text m ++ (codes ",\"end\":" ++ (decimal stop ++ (codes ",\"utf16_column\":" ++ (decimal unit ++ (codes ",\"utf16_end\":" ++ (decimal unit_end ++ []))))))))))))))))))))
-      → both ≡ first ++ n → new ≡ both ++ codes "}\n"
-      → AddsFinding form.Json s files source start code sentence old new
-  adds_json s files at f w k t m n old first both new stop unit unit_end ends eu ev is ef ew ek et em en e0 e1 e2 =
+      → both ≡ first ++ n → three ≡ both ++ a → new ≡ three ++ codes "}\n"
+      → AddsFinding form.Json s edition files source start code sentence old new
+  adds_json s files at f w k t m n a old first both three new stop unit unit_end ends eu ev is ef ew ek et em en ea e0 e1 e2 e3 =
       let here = in_its_file files (line_shown at) is in
-      (this_finding, refl, x.first, x.rest, json_finding this_finding s files f w k t m n old first both new at.line e.column stop unit unit_end (ef ∙ ap (λ (l : Line). l.file) here) ew ek et em en (ap (λ (l : Line). l.line) here) at_its_column (at_its_end stop ends) (eu ∙ at_its_unit) (ev ∙ at_its_unit_end) e0 e1 e2, refl)
+      (this_finding, refl, x.first, x.rest, json_finding this_finding s files f w k t m n a old first both three new at.line e.column stop unit unit_end (ef ∙ ap (λ (l : Line). l.file) here) ew ek et em en ea (ap (λ (l : Line). l.line) here) at_its_column (at_its_end stop ends) (eu ∙ at_its_unit) (ev ∙ at_its_unit_end) e0 e1 e2 e3, refl, mend)
+
+-- so few edits
+pub so_few : (n m : ℕ) → n ≡ m → m ≤ 3 → IsTrue (nat_le n 3)
+so_few n m e h = grind (arith, nat_tests)
+
+-- each edit of the finding mends
+abbrev pub MendedIn : Edition → {source : List ℕ} → FindingParts source → Type 0
+MendedIn edition p = All (MendsIn edition) p.edits
 
 -- the finding is one of whatever the source comes to
 abbrev pub Reasoned : Edition → (source : List ℕ) → FindingParts source → Type 0
@@ -153,7 +231,7 @@ SaysIts {source} f p = (subject : Subject) → TellsOf source subject f → Says
 -- the text of the first findings
 abbrev pub FindingsSoFar : FindingForm → Edition → (status : ℕ) → Files → (source : List ℕ) → (found : List Finding) → (count : ℕ) → (text : List ℕ) → Type 0
 FindingsSoFar form edition status files source found count text =
-    (findings : List (FindingParts source)) × AllZip SaysIts (take count found) findings × All (Reasoned edition source) findings × (text ≡ findings_text form status files findings)
+    (findings : List (FindingParts source)) × AllZip SaysIts (take count found) findings × All (Reasoned edition source) findings × (text ≡ findings_text form status files findings) × All (MendedIn edition) findings
 
 -- one pair more
 pub zip_more : {A B : Type 0} (R : A → B → Type 0) (xs : List A) (ys : List B) (x : A) (y : B) → AllZip R xs ys → R x y → AllZip R (xs ++ x ∷ []) (ys ++ y ∷ [])
@@ -166,12 +244,12 @@ zip_more R (a ∷ xs) (b ∷ ys) x y h r = (h.0, zip_more R xs ys x y h.1 r)
 module _ (form f : FindingForm) (edition : Edition) (status : ℕ) (s : Severity) (files : Files) (source : List ℕ) (found : List Finding) (it : Finding) (code sentence old new said : List ℕ) (count : ℕ) where
   pub finding_more : form ≡ f → s ≡ severity_of status → said ≡ new → count < length found → it ≡ get_or found count it → EachOutcome edition source (ReasonAt code it.place.start)
       → ((subject : Subject) → IsOn subject it → Tells subject sentence)
-      → FindingsSoFar form edition status files source found count old → AddsFinding f s files source it.place.start code sentence old new → FindingsSoFar form edition status files source found (count + 1) said
+      → FindingsSoFar form edition status files source found count old → AddsFinding f s edition files source it.place.start code sentence old new → FindingsSoFar form edition status files source found (count + 1) said
   finding_more same also is lt here reason tells a more =
       let severity = severity_of status in
       let text = finding_text form severity files in
-      let b : AddsFinding form severity files source it.place.start code sentence old said =
-      subst (λ x. AddsFinding x severity files source it.place.start code sentence old said) (sym same) (subst (λ y. AddsFinding f y files source it.place.start code sentence old said) also (subst (λ t. AddsFinding f s files source it.place.start code sentence old t) (sym is) more)) in
+      let b : AddsFinding form severity edition files source it.place.start code sentence old said =
+      subst (λ x. AddsFinding x severity edition files source it.place.start code sentence old said) (sym same) (subst (λ y. AddsFinding f y edition files source it.place.start code sentence old said) also (subst (λ t. AddsFinding f s edition files source it.place.start code sentence old t) (sym is) more)) in
       let reasoned : Reasoned edition source b.0 =
       λ r g. subst (λ c. Reason edition r.stop (load_fault (map code_of g.definitions)) c (b.0.before ++ b.0.left) (b.0.right ++ b.0.after)) (sym b.1)
       (subst (λ x. Reason edition r.stop (load_fault (map code_of g.definitions)) code x (b.0.right ++ b.0.after)) (sym b.2)
@@ -183,10 +261,16 @@ module _ (form f : FindingForm) (edition : Edition) (status : ℕ) (s : Severity
         subst (λ fs. AllZip SaysIts fs (a.0 ++ b.0 ∷ [])) (sym items) (zip_more SaysIts (take count found) a.0 it b.0 a.1 says),
         All-push (Reasoned edition source) a.0 b.0 a.2 reasoned,
         b.4 ∙ ap (λ t. t ++ text b.0) a.3 ∙ sym (flat_map-append text a.0 (b.0 ∷ []) ∙ ap (λ t. flat_map text a.0 ++ t) (append-nil (text b.0))),
+        All-push (MendedIn edition) a.0 b.0 a.4 b.6,
       )
 
 reasons_at : (edition : Edition) (source : List ℕ) (r : Compilation) (g : CompilesTo [] (tokens_from edition 1 source) r) (ps : List (FindingParts source)) → All (Reasoned edition source) ps → All (IsReason (outcome_of edition source r.stop (map code_of g.definitions))) ps
 reasons_at edition source r g ps h = All-weaker (Reasoned edition source) (IsReason (outcome_of edition source r.stop (map code_of g.definitions))) (λ p is. is r g) ps h
+
+mended_at : (edition : Edition) (source : List ℕ) (r : Compilation) (g : CompilesTo [] (tokens_from edition 1 source) r) (ps : List (FindingParts source)) → All (MendedIn edition) ps → All (IsMended (outcome_of edition source r.stop (map code_of g.definitions))) ps
+mended_at edition source r g ps h =
+    let o = outcome_of edition source r.stop (map code_of g.definitions) in
+    All-weaker (MendedIn edition) (IsMended o) (λ p each. All-weaker (MendsIn edition) (Mends o) (λ e is. is r g) p.edits each) ps h
 
 -- what the findings are on is told
 says_each : {source : List ℕ} (subjects : List Subject) (fs : List Finding) (ps : List (FindingParts source)) → AllZip (TellsOf source) subjects fs → AllZip SaysIts fs ps → AllZip Says subjects ps
@@ -211,4 +295,4 @@ pub all_findings : (form : FindingForm) (edition : Edition) (status : ℕ) (file
     → EachOutcome edition source (λ o. AreFindings form o status files said)
 all_findings form edition status files source said found count whole is a =
     let says : AllZip SaysIts found a.0 = subst (λ fs. AllZip SaysIts fs a.0) (take_all count found (omega (arith, is))) a.1 in
-    λ r g. (a.0, whole_said r.stop (load_fault (map code_of g.definitions)) (map code_of g.definitions) found a.0 says (whole r g), reasons_at edition source r g a.0 a.2, a.3)
+    λ r g. (a.0, whole_said r.stop (load_fault (map code_of g.definitions)) (map code_of g.definitions) found a.0 says (whole r g), reasons_at edition source r g a.0 a.2, a.3, mended_at edition source r g a.0 a.4)

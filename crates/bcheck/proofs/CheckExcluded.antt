@@ -11,6 +11,7 @@ use Rattle.bword.specs.declared.edition.Edition.{Edition}
 use Rattle.bword.specs.declared.edition.Edition.TheVariants as editions
 use Rattle.bword.specs.declared.ends.EndFault.{EndFault}
 use Rattle.bword.specs.declared.ends.EndFault.TheVariants as end_fault
+use Rattle.std.proofs.lemmas.List.Elements.{All-head, All-weaker}
 use Rattle.std.proofs.lemmas.Slice.Zip.{AllZip-long}
 use Rattle.blang.specs.Code.{code_of}
 use Rattle.blang.specs.declared.code.Definition.{Definition}
@@ -31,8 +32,9 @@ use Rattle.bsources.specs.Files.{File, Files, Line, own_line, own_line_among}
 use Rattle.bcheck.specs.Checks.{IsAtToken, IsOver, Reason, StandsOn, code_keyword, diagnostic_code, finding_at}
 use Rattle.bplaces.specs.Columns.{column_after}
 use Rattle.btools.specs.Quoting.{file_text, json_text}
+use Rattle.bcheck.specs.Checks.{EditParts, IsMended, Mends, mended_lines}
 use Rattle.bcheck.specs.Checks.{AreFindings, Check, Checks, FindingParts, Outcome, TellsFirst, finding_column, fix_and_places, finding_head, finding_line, finding_mark, finding_shown, finding_start, finding_text, IsWhole, Says, fault_in, outcome_of, findings_text, severity_of, shown_in_form, told_first}
-use Rattle.bcheck.specs.CheckExcluded.{BeginsWith, ComesTo, Excluded, IsTold, Never, NeverOf, file_at, file_of, finding_count, finding_lines, findings_of, has_no_colon, is_printed, newlines}
+use Rattle.bcheck.specs.CheckExcluded.{BeginsWith, ComesTo, Excluded, IsTold, Never, NeverOf, file_at, file_of, HasLines, finding_count, findings_of, outcome_in, has_no_colon, is_printed, newlines}
 use Rattle.bcheck.specs.Tokens.{has_token_on, is_in_token}
 use Rattle.bcheck.specs.UndefinedNames.{Tells, told_subjects}
 use Rattle.bcheck.specs.declared.mention.Subject.{Subject}
@@ -41,7 +43,7 @@ use Rattle.bcheck.specs.declared.finding.Severity.{Severity}
 use Rattle.bcheck.specs.declared.finding.Severity.TheVariants as severity
 use Rattle.bcheck.specs.declared.form.FindingForm.{FindingForm}
 use Rattle.bcheck.specs.declared.form.FindingForm.TheVariants as form
-use Rattle.bcheck.proofs.FindingTexts.{both_printed, findings_printed, first_byte, head_placed, lines_of_all, same_heads, same_places, newlines_in, no_cons, other_severity_after, starts_of, text_placed}
+use Rattle.bcheck.proofs.FindingTexts.{both_printed, findings_printed, first_byte, head_placed, lines_of_all, lines_unmended, same_heads, same_places, newlines_in, no_cons, other_severity_after, starts_of, text_placed}
 
 -- a check of a source that comes to this tells it
 abbrev comes_to : (c : Check) (line : List ℕ) (status : ℕ) → ComesTo c line status → Outcome
@@ -324,25 +326,50 @@ other_letters c line status text to d stop t one row column rest b wrong h =
     wrong.5 (letters_in d.letters (code_keyword d.letters d.about) words.0 wrong.1 wrong.2 wrong.3 code)
 
 lines_told : (c : Check) (o : Outcome) (line : List ℕ) (status : ℕ) (text : List ℕ) (w : WasTold c.form o c.files (shown_in_form c.form line) status c.status text)
-    → newlines text ≡ newlines (shown_in_form c.form line) + length w.are.0 * finding_lines c.form
+    → newlines text ≡ newlines (shown_in_form c.form line) + newlines (findings_text c.form status c.files w.are.0)
 lines_told c o line status text w =
-    ap newlines w.text_is ∙ newlines_in (shown_in_form c.form line) w.more
-    ∙ ap (λ n. newlines (shown_in_form c.form line) + n) (ap newlines w.are.3 ∙ lines_of_all c.form (severity_of status) c.files w.are.0)
+    ap newlines w.text_is ∙ newlines_in (shown_in_form c.form line) w.more ∙ ap (λ n. newlines (shown_in_form c.form line) + n) (ap newlines w.are.3)
+
+has_lines : (c : Check) (o : Outcome) (line : List ℕ) (status : ℕ) (text : List ℕ) (w : WasTold c.form o c.files (shown_in_form c.form line) status c.status text) → HasLines c.form (shown_in_form c.form line) (length w.are.0) text
+has_lines c o line status text w =
+    let is = lines_told c o line status text w in
+    let all = lines_of_all c.form (severity_of status) c.files w.are.0 in
+    let least = all.0 in
+    let most = all.1 in
+    record { least = omega (arith, is, least); most = omega (arith, is, most) }
 
 other_lines : (c : Check) (line : List ℕ) (status : ℕ) (text : List ℕ) (to : ComesTo c line status) → IsTold c text → status ≢ DONE
-    → newlines text ≢ newlines (shown_in_form c.form line) + findings_of to * finding_lines c.form → Checks c → ⊥
+    → (HasLines c.form (shown_in_form c.form line) (findings_of to) text → ⊥) → Checks c → ⊥
 other_lines c line status text to t wrong other h =
     let w = told_in c line status text to t h in
-    other (lines_told c (comes_to c line status to) line status text w ∙ ap (λ n. newlines (shown_in_form c.form line) + n * finding_lines c.form) (count_told c line status text to w wrong))
+    other (subst (λ n. HasLines c.form (shown_in_form c.form line) n text) (count_told c line status text to w wrong) (has_lines c (comes_to c line status to) line status text w))
+
+-- no edit is told where none mends
+none_mend : {source : List ℕ} (o : Outcome) (es : List (EditParts source)) → All (Mends o) es → ((e : EditParts source) → Mends o e → ⊥) → es ≡ []
+none_mend o [] all none = refl
+none_mend o (e ∷ es) all none = absurd (none e (All-head (Mends o) e es all))
+
+unmended : (o : Outcome) (ps : List (FindingParts o.source)) → All (IsMended o) ps → ((e : EditParts o.source) → Mends o e → ⊥) → All (λ p. p.edits ≡ []) ps
+unmended o ps all none = All-weaker (IsMended o) (λ p. p.edits ≡ []) (λ p mended. none_mend o p.edits mended none) ps all
+
+no_mend : (c : Check) (line : List ℕ) (status : ℕ) (text : List ℕ) (to : ComesTo c line status) → IsTold c text → status ≢ DONE → c.form ≡ form.Text → ((e : EditParts c.source) → Mends (outcome_in to) e → ⊥)
+    → newlines text ≢ newlines line + findings_of to * 4 → Checks c → ⊥
+no_mend c line status text to t wrong is none other h =
+    let o = comes_to c line status to in
+    let w = told_in c line status text to t h in
+    let each = unmended o w.are.0 w.are.4 none in
+    let lines : newlines (findings_text c.form status c.files w.are.0) ≡ length w.are.0 * 4 =
+    ap (λ f. newlines (findings_text f status c.files w.are.0)) is ∙ lines_unmended (severity_of status) c.files w.are.0 each in
+    other (lines_told c o line status text w ∙ ap (λ f. newlines (shown_in_form f line) + newlines (findings_text c.form status c.files w.are.0)) is ∙ ap (λ n. newlines line + n) (lines ∙ ap (λ n. n * 4) (count_told c line status text to w wrong)))
 
 -- the sentence of each finding stands in the text of all
-people_words : (h t a b c d e f n l : List ℕ) → (h ++ (t ++ a ++ b ++ c ++ d ++ e ++ f) ++ n) ++ l ≡ h ++ (t ++ (a ++ (b ++ (c ++ (d ++ (e ++ (f ++ (n ++ l))))))))
-people_words h t a b c d e f n l = simp append_assoc refl
+people_words : (h t a b c d g e f n l : List ℕ) → (h ++ (t ++ a ++ b ++ c ++ d ++ g ++ e ++ f) ++ n) ++ l ≡ h ++ (t ++ (a ++ (b ++ (c ++ (d ++ (g ++ (e ++ (f ++ (n ++ l)))))))))
+people_words h t a b c d g e f n l = simp append_assoc refl
 
 sentence_in : {source : List ℕ} (s : Severity) (files : Files) (p : FindingParts source) (later : List ℕ) → (more : List ℕ)
     × (finding_text form.Text s files p ++ later ≡ finding_head form.Text s (finding_at files p).file (finding_at files p).line (finding_column p) ++ (p.sentence ++ more))
 sentence_in s files p later =
-    (_, people_words (finding_head form.Text s (finding_at files p).file (finding_at files p).line (finding_column p)) p.sentence (codes "\n    ") (finding_shown p) (codes "\n    ") (finding_mark p) (codes "\n  fix: ") p.fix (codes "\n") later)
+    (_, people_words (finding_head form.Text s (finding_at files p).file (finding_at files p).line (finding_column p)) p.sentence (codes "\n    ") (finding_shown p) (codes "\n    ") (finding_mark p) (mended_lines files p) (codes "\n  fix: ") p.fix (codes "\n") later)
 
 said_in : {source : List ℕ} (s : Severity) (files : Files) (before after : List Subject) (it : Subject) (ps : List (FindingParts source)) → AllZip Says (before ++ it ∷ after) ps
     → (u : List ℕ) × (sentence : List ℕ) × (v : List ℕ) × (flat_map (finding_text form.Text s files) ps ≡ u ++ (sentence ++ v)) × Tells it sentence
@@ -368,10 +395,10 @@ name_left_out c line status text to name stop undefined t is before after it tol
     let more = w.are.3 ∙ ap (λ f. flat_map (finding_text f (severity_of status) c.files) w.are.0) is ∙ said.3 in
     wrong (first ++ said.0) said.2 said.1 (w.text_is ∙ ap (λ m. first ++ m) more ∙ sym (append_assoc first said.0 (said.1 ++ said.2))) said.4
 
-odd_lines : Never (λ c line status text. (count : ℕ) → newlines text ≢ newlines (shown_in_form c.form line) + count * finding_lines c.form)
+odd_lines : Never (λ c line status text. (count : ℕ) → HasLines c.form (shown_in_form c.form line) count text → ⊥)
 odd_lines c line status text to t wrong h =
     let w = told_in c line status text to t h in
-    wrong (length w.are.0) (lines_told c (comes_to c line status to) line status text w)
+    wrong (length w.are.0) (has_lines c (comes_to c line status to) line status text w)
 
 other_bytes : Never (λ c line status text. IsTrue (is_printed (shown_in_form c.form line)) × ((n : ℕ) → IsTrue (is_printed (finding_start c.form (file_at c n)))) × (is_printed text ≡ false))
 other_bytes c line status text to t wrong h =
@@ -461,6 +488,7 @@ excluded = record {
   other_lines = other_lines;
   name_left_out = name_left_out;
   odd_lines = odd_lines;
+  no_mend = no_mend;
   other_bytes = other_bytes;
   no_failure = λ c line status to is none h. device c.form (comes_to c line status to) c.files (shown_in_form c.form line) status c.status c.out c.out_after (comes_small c line status to) is none (tells c line status to h);
   no_refusal = λ c line status to is none some h. memory c.form (comes_to c line status to) c.files (shown_in_form c.form line) status c.status c.out c.out_after (comes_small c line status to) is none some (tells c line status to h);

@@ -1,9 +1,12 @@
 -- The texts of findings: where each ends, how many lines it has, and of which bytes it consists.
-use Rattle.std.proofs.Common.{◌≡◌, ◌≢◌, ◌∙◌, ◌<◌, ◌+◌, ◌*◌, ◌/◌, ◌%◌, ◌==◌, ℕ, zero, suc, List, [], ◌∷◌, ◌++◌, Bool, true, false, IsTrue, if◌then◌else◌, ap, append-nil, append_assoc, arith, codes, decimal, length, nat_le, Option, Some, None, refl, replicate, subst, sym}
-use Rattle.std.specs.Prelude.{◌&&◌, ◌||◌, not}
+use Rattle.std.proofs.Common.{get_or, ◌≡◌, ◌≢◌, ◌∙◌, ◌<◌, ◌≤◌, ◌+◌, ◌*◌, ◌/◌, ◌%◌, ◌==◌, ℕ, zero, suc, List, [], ◌∷◌, ◌++◌, Bool, true, false, IsTrue, if◌then◌else◌, ap, append-nil, append_assoc, arith, codes, decimal, length, nat_le, Option, Some, None, refl, replicate, subst, sym}
+use Rattle.std.specs.Prelude.{◌&&◌, ◌||◌, min, not}
+use Rattle.bword.specs.ByteEnds.{most}
 use Rattle.std.specs.Fmt.{digits, digits_onto, digit_glyph}
 use Rattle.std.specs.Int.{is_in_range}
 use Rattle.std.specs.List.{flat_map, list_all}
+use Rattle.std.specs.List as lists
+use Rattle.std.proofs.lemmas.List.Elements.{All-head, All-tail}
 use Rattle.std.proofs.lemmas.Bool.Decides.{nat_tests}
 use Rattle.std.proofs.lemmas.List.{append_cancel_left}
 use Rattle.std.proofs.Math.Nat.{add_comm, mod-lt, suc-mul, zero-add, zero-mul}
@@ -11,11 +14,12 @@ use Rattle.std.proofs.lemmas.List.Folds.{list_all-append}
 use Rattle.std.proofs.lemmas.List.Sums.{sum_by-append}
 use Rattle.blang.specs.Cut.{line_number_after}
 use Rattle.bsources.specs.Files.{Files, Line, own_line}
+use Rattle.bcheck.specs.Checks.{EditParts, edit_at, edit_object, edit_words, edits_text, mended_line, mended_lines}
 use Rattle.bcheck.specs.Checks.{FindingParts, Second, fix_and_places, second_text, file_member, finding_at, finding_column, finding_end, finding_unit, finding_unit_end, end_words, ends_text, is_of_several, spot_words, finding_head, finding_line, finding_mark, finding_shown, finding_start, finding_text, finding_words, is_on_line, shown_text, severity_word}
 use Rattle.bplaces.specs.Columns.{column_after}
 use Rattle.btools.specs.Quoting.{file_byte, file_text, json_byte, json_text}
 use Rattle.bplaces.specs.Units.{unit_column}
-use Rattle.bcheck.specs.CheckExcluded.{finding_lines, has_no_colon, is_printed, newlines}
+use Rattle.bcheck.specs.CheckExcluded.{has_no_colon, is_printed, least_lines, most_lines, newlines}
 use Rattle.bcheck.proofs.OnLine.{both, both_on_line, first, of_three, replicate_on_line, second, shown_on_line}
 use Rattle.bcheck.specs.declared.finding.Severity.{Severity}
 use Rattle.bcheck.specs.declared.finding.Severity.TheVariants as severity
@@ -237,9 +241,6 @@ shown_line p = codes "    " ++ (finding_shown p)
 abbrev mark_line : {source : List ℕ} → FindingParts source → List ℕ
 mark_line p = codes "    " ++ (finding_mark p)
 
-abbrev fix_line : {source : List ℕ} → FindingParts source → List ℕ
-fix_line p = codes "  fix: " ++ p.fix
-
 abbrev object_line : {source : List ℕ} → Severity → Files → FindingParts source → List ℕ
 object_line s files p =
     codes "{\"file\":" ++ (json_text (finding_at files p).file ++ (codes ",\"line\":" ++ (decimal (finding_at files p).line ++ (codes ",\"column\":" ++ (decimal (finding_column p) ++ (codes ",\"severity\":\"" ++ (severity_word s ++ (codes "\",\"code\":" ++ (json_text p.code ++ (codes ",\"message\":" ++ (json_text p.sentence ++ (codes ",\"fix\":" ++ (fix_and_places files p ++ codes "}")))))))))))))
@@ -258,9 +259,6 @@ shown_one p = all_more (nat_le 32) (codes "    ") (finding_shown p) refl (words_
 
 mark_one : {source : List ℕ} → (p : FindingParts source) → IsTrue (is_one_line (mark_line p))
 mark_one p = all_more (nat_le 32) (codes "    ") (finding_mark p) refl (words_line (finding_mark p) (parts_of p).3)
-
-fix_one : {source : List ℕ} → (p : FindingParts source) → IsTrue (is_one_line (fix_line p))
-fix_one p = all_more (nat_le 32) (codes "  fix: ") p.fix refl (words_line p.fix (parts_of p).4)
 
 member_one : (is_told : Bool) (file : List ℕ) → IsTrue (is_one_line (file_member is_told file))
 member_one false file = refl
@@ -281,8 +279,46 @@ end_one end unit unit_end =
     (more (codes ",\"end\":") _ refl (more (decimal end) _ (digits_line end) (more (codes ",\"utf16_column\":") _ refl (more (decimal unit) _ (digits_line unit)
     (more (codes ",\"utf16_end\":") _ refl (last_line (decimal unit_end) (digits_line unit_end))))))).line
 
+edit_one : (is_told : Bool) (at : Line) (column end unit unit_end offset count : ℕ) (text : List ℕ) → IsTrue (is_one_line (edit_words is_told at column end unit unit_end offset count text))
+edit_one is_told at column end unit unit_end offset count text =
+    (more (codes "{") _ refl (more (file_member is_told at.file) _ (member_one is_told at.file) (more (codes "\"line\":") _ refl (more (decimal at.line) _ (digits_line at.line)
+    (more (codes ",\"column\":") _ refl (more (decimal column) _ (digits_line column) (more (end_words end unit unit_end) _ (end_one end unit unit_end)
+    (more (codes ",\"offset\":") _ refl (more (decimal offset) _ (digits_line offset) (more (codes ",\"length\":") _ refl (more (decimal count) _ (digits_line count)
+    (more (codes ",\"text\":") _ refl (more (json_text text) _ (json_one text) (last_line (codes "}") refl)))))))))))))).line
+
+object_of_edit_one : {source : List ℕ} → (files : Files) (e : EditParts source) → IsTrue (is_one_line (edit_object files e))
+object_of_edit_one files e =
+    let here = e.before ++ e.left in
+    edit_one (is_of_several files) (edit_at files e) (column_after 1 here) (min (column_after 1 here + length e.old) most) (unit_column here (e.old ++ (e.right ++ e.after))) (unit_column (here ++ e.old) (e.right ++ e.after)) (length here) (length e.old) e.text
+
+others_one : {source : List ℕ} → (files : Files) (es : List (EditParts source)) → IsTrue (is_one_line (flat_map (λ x. codes "," ++ edit_object files x) es))
+others_one files [] = refl
+others_one files (e ∷ es) =
+    all_more (nat_le 32) (codes "," ++ edit_object files e) (flat_map (λ x. codes "," ++ edit_object files x) es) (all_more (nat_le 32) (codes ",") (edit_object files e) refl (object_of_edit_one files e)) (others_one files es)
+
+edits_one : {source : List ℕ} → (files : Files) (es : List (EditParts source)) → IsTrue (is_one_line (edits_text (edit_object files) es))
+edits_one files [] = refl
+edits_one files (e ∷ es) =
+    (more (codes ",\"edits\":[") _ refl (more (edit_object files e) _ (object_of_edit_one files e) (more (flat_map (λ x. codes "," ++ edit_object files x) es) _ (others_one files es) (last_line (codes "]") refl)))).line
+
+-- the line with an edit, after the newline before it
+abbrev edit_line : {source : List ℕ} → Files → EditParts source → List ℕ
+edit_line files e = codes "  line " ++ (decimal (edit_at files e).line ++ (codes " mended: " ++ (flat_map shown_text e.left ++ (e.text ++ flat_map shown_text e.right))))
+
+edit_line_one : {source : List ℕ} → (files : Files) (e : EditParts source) → IsTrue (is_one_line (edit_line files e))
+edit_line_one files e =
+    (more (codes "  line ") _ refl (more (decimal (edit_at files e).line) _ (digits_line (edit_at files e).line) (more (codes " mended: ") _ refl
+    (more (flat_map shown_text e.left) _ (words_line (flat_map shown_text e.left) (shown_on_line e.left)) (more e.text _ (words_line e.text e.on_line) (last_line (flat_map shown_text e.right) (words_line (flat_map shown_text e.right) (shown_on_line e.right)))))))).line
+
+-- what comes after the marks: lines with edits, the fix and the rest
+abbrev after_marks : {source : List ℕ} → Files → List (EditParts source) → (fix rest : List ℕ) → List ℕ
+after_marks files es fix rest = flat_map (mended_line files) es ++ 10 ∷ ((codes "  fix: " ++ fix) ++ 10 ∷ rest)
+
+one_edit : {source : List ℕ} → (files : Files) (e : EditParts source) (es : List (EditParts source)) (fix rest : List ℕ) → after_marks files (e ∷ es) fix rest ≡ 10 ∷ (edit_line files e ++ after_marks files es fix rest)
+one_edit files e es fix rest = append_assoc (mended_line files e) (flat_map (mended_line files) es) (10 ∷ ((codes "  fix: " ++ fix) ++ 10 ∷ rest))
+
 fix_json_one : {source : List ℕ} → (files : Files) (p : FindingParts source) → IsTrue (is_one_line (fix_and_places files p))
-fix_json_one files p = (more (json_text p.fix) _ (json_one p.fix) (more (ends_text p) _ (end_one (finding_end p) (finding_unit p) (finding_unit_end p)) (last_line (second_text files p.second) (second_one files p.second)))).line
+fix_json_one files p = (more (json_text p.fix) _ (json_one p.fix) (more (ends_text p) _ (end_one (finding_end p) (finding_unit p) (finding_unit_end p)) (more (second_text files p.second) _ (second_one files p.second) (last_line (edits_text (edit_object files) p.edits) (edits_one files p.edits))))).line
 
 object_one : {source : List ℕ} → (s : Severity) (files : Files) (p : FindingParts source) → IsTrue (is_one_line (object_line s files p))
 object_one s files p =
@@ -301,7 +337,7 @@ after_start : (f l c d e w g k h s i m q : List ℕ)
 after_start f l c d e w g k h s i m q = simp append_assoc refl
 
 people_is : {source : List ℕ} → (s : Severity) (files : Files) (p : FindingParts source) (rest : List ℕ)
-    → finding_text form.Text s files p ++ rest ≡ opening_line s files p ++ 10 ∷ (shown_line p ++ 10 ∷ (mark_line p ++ 10 ∷ (fix_line p ++ 10 ∷ rest)))
+    → finding_text form.Text s files p ++ rest ≡ opening_line s files p ++ 10 ∷ (shown_line p ++ 10 ∷ (mark_line p ++ after_marks files p.edits p.fix rest))
 people_is s files p rest = simp append_assoc refl
 
 object_is : {source : List ℕ} → (s : Severity) (files : Files) (p : FindingParts source) (rest : List ℕ) → finding_text form.Json s files p ++ rest ≡ object_line s files p ++ 10 ∷ rest
@@ -316,13 +352,33 @@ tails xs ys e = cc
 following : (a b u v : List ℕ) → IsTrue (is_one_line a) → IsTrue (is_one_line b) → a ++ 10 ∷ u ≡ b ++ 10 ∷ v → u ≡ v
 following a b u v g h e = tails u v (same_to (nat_le 32) a b u v 10 10 g h refl refl e).1
 
+-- after lines with edits and a fix that both begin with, both go on alike
+fix_is_one : (fix : List ℕ) → IsTrue (is_on_line fix) → IsTrue (is_one_line (codes "  fix: " ++ fix))
+fix_is_one fix h = all_more (nat_le 32) (codes "  fix: ") fix refl (words_line fix h)
+
+no_fix : {A : Type 0} (a b : List ℕ) → codes "  fix: " ++ a ≡ codes "  line " ++ b → A
+no_fix a b e = let no : 102 ≡ 108 = ap (λ t. get_or t 2 0) e in absurd (omega (arith, no))
+
+after_alike : {source : List ℕ} → (files : Files) (m n : List ℕ) (es fs : List (EditParts source)) (f g a b : List ℕ) → IsTrue (is_one_line m) → IsTrue (is_one_line n) → IsTrue (is_on_line f) → IsTrue (is_on_line g)
+    → m ++ after_marks files es f a ≡ n ++ after_marks files fs g b → a ≡ b
+after_alike files m n [] [] f g a b hm hn hf hg e =
+    following (codes "  fix: " ++ f) (codes "  fix: " ++ g) a b (fix_is_one f hf) (fix_is_one g hg) (following m n _ _ hm hn e)
+after_alike files m n [] (x ∷ fs) f g a b hm hn hf hg e =
+    let here = following m n ((codes "  fix: " ++ f) ++ 10 ∷ a) (edit_line files x ++ after_marks files fs g b) hm hn (e ∙ ap (λ t. n ++ t) (one_edit files x fs g b)) in
+    no_fix (f ++ 10 ∷ a) ((decimal (edit_at files x).line ++ (codes " mended: " ++ (flat_map shown_text x.left ++ (x.text ++ flat_map shown_text x.right)))) ++ after_marks files fs g b) here
+after_alike files m n (x ∷ es) [] f g a b hm hn hf hg e =
+    let here = following m n (edit_line files x ++ after_marks files es f a) ((codes "  fix: " ++ g) ++ 10 ∷ b) hm hn (ap (λ t. m ++ t) (sym (one_edit files x es f a)) ∙ e) in
+    no_fix (g ++ 10 ∷ b) ((decimal (edit_at files x).line ++ (codes " mended: " ++ (flat_map shown_text x.left ++ (x.text ++ flat_map shown_text x.right)))) ++ after_marks files es f a) (sym here)
+after_alike files m n (x ∷ es) (y ∷ fs) f g a b hm hn hf hg e =
+    after_alike files (edit_line files x) (edit_line files y) es fs f g a b (edit_line_one files x) (edit_line_one files y) hf hg
+    (following m n (edit_line files x ++ after_marks files es f a) (edit_line files y ++ after_marks files fs g b) hm hn (ap (λ t. m ++ t) (sym (one_edit files x es f a)) ∙ e ∙ ap (λ t. n ++ t) (one_edit files y fs g b)))
+
 -- after a finding that both begin with, both go on alike
 pub one_of : {source : List ℕ} → (form : FindingForm) (s : Severity) (files : Files) (p q : FindingParts source) (a b : List ℕ) → finding_text form s files p ++ a ≡ finding_text form s files q ++ b → a ≡ b
 one_of form.Text s files p q a b e =
     let l1 = following (opening_line s files p) (opening_line s files q) _ _ (opening_one s files p) (opening_one s files q) (sym (people_is s files p a) ∙ e ∙ people_is s files q b) in
     let l2 = following (shown_line p) (shown_line q) _ _ (shown_one p) (shown_one q) l1 in
-    let l3 = following (mark_line p) (mark_line q) _ _ (mark_one p) (mark_one q) l2 in
-    following (fix_line p) (fix_line q) a b (fix_one p) (fix_one q) l3
+    after_alike files (mark_line p) (mark_line q) p.edits q.edits p.fix q.fix a b (mark_one p) (mark_one q) (parts_of p).4 (parts_of q).4 l2
 one_of form.Json s files p q a b e =
     following (object_line s files p) (object_line s files q) a b (object_one s files p) (object_one s files q) (sym (object_is s files p a) ∙ e ∙ object_is s files q b)
 
@@ -367,26 +423,69 @@ other_severity_after form s t files file one (p ∷ ps) (q ∷ qs) line column r
     (one_of form t files p q _ _ (sym (append_assoc (text p) (flat_map text ps) (finding_head form s file line column ++ rest)) ∙ e))
 
 -- the lines of findings
-pub lines_of : {source : List ℕ} → (form : FindingForm) (s : Severity) (files : Files) (p : FindingParts source) → newlines (finding_text form s files p) ≡ finding_lines form
-lines_of form.Text s files p =
-    let is : newlines (finding_text form.Text s files p) ≡ newlines (opening_line s files p ++ 10 ∷ (shown_line p ++ 10 ∷ (mark_line p ++ 10 ∷ (fix_line p ++ 10 ∷ [])))) =
+after_lines : {source : List ℕ} → (files : Files) (es : List (EditParts source)) (fix rest : List ℕ) → IsTrue (is_on_line fix) → newlines (after_marks files es fix rest) ≡ newlines rest + 2 + length es
+after_lines files [] fix rest h =
+    let one = line_more [] ((codes "  fix: " ++ fix) ++ 10 ∷ rest) refl in
+    let two = line_more (codes "  fix: " ++ fix) rest (fix_is_one fix h) in
+    one ∙ ap (λ n. n + 1) two ∙ omega arith
+after_lines files (e ∷ es) fix rest h =
+    let others = after_marks files es fix rest in
+    let first = ap newlines (one_edit files e es fix rest) ∙ line_more [] (edit_line files e ++ others) refl in
+    let line = newlines_in (edit_line files e) others in
+    let none = no_newlines (edit_line files e) (edit_line_one files e) in
+    let more = after_lines files es fix rest h in
+    omega (arith, first, line, none, more)
+
+pub lines_of_text : {source : List ℕ} → (s : Severity) (files : Files) (p : FindingParts source) → newlines (finding_text form.Text s files p) ≡ 4 + length p.edits
+lines_of_text s files p =
+    let last = after_marks files p.edits p.fix [] in
+    let is : newlines (finding_text form.Text s files p) ≡ newlines (opening_line s files p ++ 10 ∷ (shown_line p ++ 10 ∷ (mark_line p ++ last))) =
     ap newlines (sym (append-nil (finding_text form.Text s files p)) ∙ people_is s files p []) in
-    let l1 = line_more (opening_line s files p) (shown_line p ++ 10 ∷ (mark_line p ++ 10 ∷ (fix_line p ++ 10 ∷ []))) (opening_one s files p) in
-    let l2 = line_more (shown_line p) (mark_line p ++ 10 ∷ (fix_line p ++ 10 ∷ [])) (shown_one p) in
-    let l3 = line_more (mark_line p) (fix_line p ++ 10 ∷ []) (mark_one p) in
-    let l4 : newlines (fix_line p ++ 10 ∷ []) ≡ 1 = line_more (fix_line p) [] (fix_one p) in
-    omega (arith, is, l1, l2, l3, l4)
-lines_of form.Json s files p =
+    let l1 = line_more (opening_line s files p) (shown_line p ++ 10 ∷ (mark_line p ++ last)) (opening_one s files p) in
+    let l2 = line_more (shown_line p) (mark_line p ++ last) (shown_one p) in
+    let l3 = newlines_in (mark_line p) last in
+    let l4 = no_newlines (mark_line p) (mark_one p) in
+    let l5 : newlines last ≡ 0 + 2 + length p.edits = after_lines files p.edits p.fix [] (parts_of p).4 in
+    omega (arith, is, l1, l2, l3, l4, l5)
+
+lines_of_object : {source : List ℕ} → (s : Severity) (files : Files) (p : FindingParts source) → newlines (finding_text form.Json s files p) ≡ 1
+lines_of_object s files p =
     let is : newlines (finding_text form.Json s files p) ≡ newlines (object_line s files p ++ 10 ∷ []) = ap newlines (sym (append-nil (finding_text form.Json s files p)) ∙ object_is s files p []) in
     is ∙ line_more (object_line s files p) [] (object_one s files p)
 
-pub lines_of_all : {source : List ℕ} → (form : FindingForm) (s : Severity) (files : Files) (ps : List (FindingParts source)) → newlines (flat_map (finding_text form s files) ps) ≡ length ps * finding_lines form
-lines_of_all form s files [] = sym (zero-mul (finding_lines form))
+few_edits : (n : ℕ) → IsTrue (nat_le n 3) → n ≤ 3
+few_edits n h = grind (arith, nat_tests)
+
+lines_of : {source : List ℕ} → (form : FindingForm) (s : Severity) (files : Files) (p : FindingParts source) → (least_lines form ≤ newlines (finding_text form s files p)) × (newlines (finding_text form s files p) ≤ most_lines form)
+lines_of form.Text s files p =
+    let is = lines_of_text s files p in
+    let few = few_edits (length p.edits) p.few in
+    (omega (arith, is), omega (arith, is, few))
+lines_of form.Json s files p = let is = lines_of_object s files p in (omega (arith, is), omega (arith, is))
+
+pub lines_of_all : {source : List ℕ} → (form : FindingForm) (s : Severity) (files : Files) (ps : List (FindingParts source))
+    → (length ps * least_lines form ≤ newlines (flat_map (finding_text form s files) ps)) × (newlines (flat_map (finding_text form s files) ps) ≤ length ps * most_lines form)
+lines_of_all form s files [] = let least = zero-mul (least_lines form) in let most = zero-mul (most_lines form) in (omega (arith, least), omega (arith, most))
 lines_of_all form s files (p ∷ ps) =
-    newlines_in (finding_text form s files p) (flat_map (finding_text form s files) ps)
-    ∙ ap (λ n. n + newlines (flat_map (finding_text form s files) ps)) (lines_of form s files p)
-    ∙ ap (λ n. finding_lines form + n) (lines_of_all form s files ps)
-    ∙ sym (suc-mul (length ps) (finding_lines form) ∙ add_comm (length ps * finding_lines form) (finding_lines form))
+    let both = newlines_in (finding_text form s files p) (flat_map (finding_text form s files) ps) in
+    let it = lines_of form s files p in
+    let others = lines_of_all form s files ps in
+    let least = suc-mul (length ps) (least_lines form) in
+    let most = suc-mul (length ps) (most_lines form) in
+    let a = it.0 in
+    let b = it.1 in
+    let c = others.0 in
+    let d = others.1 in
+    (omega (arith, both, a, c, least), omega (arith, both, b, d, most))
+
+-- those of findings without edits
+pub lines_unmended : {source : List ℕ} → (s : Severity) (files : Files) (ps : List (FindingParts source)) → lists.All (λ p. p.edits ≡ []) ps → newlines (flat_map (finding_text form.Text s files) ps) ≡ length ps * 4
+lines_unmended s files [] h = refl
+lines_unmended {source = source} s files (p ∷ ps) h =
+    let both = newlines_in (finding_text form.Text s files p) (flat_map (finding_text form.Text s files) ps) in
+    let it : newlines (finding_text form.Text s files p) ≡ 4 = lines_of_text s files p ∙ ap (λ (es : List (EditParts source)). 4 + length es) (All-head (λ q. q.edits ≡ []) p ps h) in
+    let others = lines_unmended s files ps (All-tail (λ q. q.edits ≡ []) p ps h) in
+    omega (arith, both, it, others)
 
 -- bytes that can be printed, and newlines
 pub both_printed : (a b : List ℕ) → IsTrue (is_printed a) → IsTrue (is_printed b) → IsTrue (is_printed (a ++ b))
@@ -440,6 +539,13 @@ ends_printed end unit unit_end =
     (add (codes ",\"end\":") _ refl (add (decimal end) _ (digits_printed end) (add (codes ",\"utf16_column\":") _ refl (add (decimal unit) _ (digits_printed unit)
     (add (codes ",\"utf16_end\":") _ refl (last_words (decimal unit_end) (digits_printed unit_end))))))).printed
 
+edit_printed : (is_told : Bool) (at : Line) (column end unit unit_end offset count : ℕ) (text : List ℕ) → IsTrue (is_printed (json_text at.file)) → IsTrue (is_on_line text) → IsTrue (is_printed (edit_words is_told at column end unit unit_end offset count text))
+edit_printed is_told at column end unit unit_end offset count text h g =
+    (add (codes "{") _ refl (add (file_member is_told at.file) _ (member_printed is_told at.file h) (add (codes "\"line\":") _ refl (add (decimal at.line) _ (digits_printed at.line)
+    (add (codes ",\"column\":") _ refl (add (decimal column) _ (digits_printed column) (add (end_words end unit unit_end) _ (ends_printed end unit unit_end)
+    (add (codes ",\"offset\":") _ refl (add (decimal offset) _ (digits_printed offset) (add (codes ",\"length\":") _ refl (add (decimal count) _ (digits_printed count)
+    (add (codes ",\"text\":") _ refl (add (json_text text) _ (json_printed text g) (last_words (codes "}") refl)))))))))))))).printed
+
 module _ (files : Files) where
   -- the name of each file, in JSON and as a finding begins
   abbrev InJson : Type 0
@@ -449,20 +555,44 @@ module _ (files : Files) where
   second_printed None h = refl
   second_printed (Some s) h = spot_printed (is_of_several files) (own_line files (line_number_after 1 s.before)) (column_after 1 s.before) (unit_column s.before s.after) (h (line_number_after 1 s.before))
 
+  object_printed : {source : List ℕ} → (e : EditParts source) → InJson → IsTrue (is_printed (edit_object files e))
+  object_printed e h =
+      let here = e.before ++ e.left in
+      edit_printed (is_of_several files) (edit_at files e) (column_after 1 here) (min (column_after 1 here + length e.old) most) (unit_column here (e.old ++ (e.right ++ e.after))) (unit_column (here ++ e.old) (e.right ++ e.after)) (length here) (length e.old) e.text (h (line_number_after 1 here)) e.on_line
+
+  others_printed : {source : List ℕ} → (es : List (EditParts source)) → InJson → IsTrue (is_printed (flat_map (λ x. codes "," ++ edit_object files x) es))
+  others_printed [] h = refl
+  others_printed (e ∷ es) h =
+      both_printed (codes "," ++ edit_object files e) (flat_map (λ x. codes "," ++ edit_object files x) es) (both_printed (codes ",") (edit_object files e) refl (object_printed e h)) (others_printed es h)
+
+  edits_printed : {source : List ℕ} → (es : List (EditParts source)) → InJson → IsTrue (is_printed (edits_text (edit_object files) es))
+  edits_printed [] h = refl
+  edits_printed (e ∷ es) h =
+      (add (codes ",\"edits\":[") _ refl (add (edit_object files e) _ (object_printed e h) (add (flat_map (λ x. codes "," ++ edit_object files x) es) _ (others_printed es h) (last_words (codes "]") refl)))).printed
+
+  lines_printed : {source : List ℕ} → (es : List (EditParts source)) → IsTrue (is_printed (flat_map (mended_line files) es))
+  lines_printed [] = refl
+  lines_printed (e ∷ es) =
+      both_printed (mended_line files e) (flat_map (mended_line files) es)
+      ((add (codes "\n  line ") _ refl (add (decimal (edit_at files e).line) _ (digits_printed (edit_at files e).line) (add (codes " mended: ") _ refl
+      (add (flat_map shown_text e.left) _ (words_printed (flat_map shown_text e.left) (shown_on_line e.left)) (add e.text _ (words_printed e.text e.on_line) (last_words (flat_map shown_text e.right) (words_printed (flat_map shown_text e.right) (shown_on_line e.right)))))))).printed)
+      (lines_printed es)
+
   fix_json_printed : {source : List ℕ} → (p : FindingParts source) → IsTrue (is_on_line p.fix) → InJson → IsTrue (is_printed (fix_and_places files p))
   fix_json_printed p h named =
-      both_printed (json_text p.fix) (ends_text p ++ second_text files p.second) (json_printed p.fix h)
-      (both_printed (ends_text p) (second_text files p.second) (ends_printed (finding_end p) (finding_unit p) (finding_unit_end p)) (second_printed p.second named))
+      both_printed (json_text p.fix) (ends_text p ++ (second_text files p.second ++ edits_text (edit_object files) p.edits)) (json_printed p.fix h)
+      (both_printed (ends_text p) (second_text files p.second ++ edits_text (edit_object files) p.edits) (ends_printed (finding_end p) (finding_unit p) (finding_unit_end p))
+      (both_printed (second_text files p.second) (edits_text (edit_object files) p.edits) (second_printed p.second named) (edits_printed p.edits named)))
 
   text_printed : {source : List ℕ} → (form : FindingForm) (s : Severity) (p : FindingParts source) → ((n : ℕ) → IsTrue (is_printed (finding_start form (own_line files n).file))) → IsTrue (is_printed (finding_text form s files p))
   text_printed form.Text s p h =
       let parts = parts_of p in
       let at = finding_at files p in
-      let text : finding_text form.Text s files p ≡ finding_start form.Text at.file ++ (decimal at.line ++ (codes ":" ++ (decimal (finding_column p) ++ (codes ": " ++ (severity_word s ++ (codes ": " ++ (p.sentence ++ (codes "\n    " ++ (finding_shown p ++ (codes "\n    " ++ (finding_mark p ++ (codes "\n  fix: " ++ (p.fix ++ codes "\n"))))))))))))) = simp append_assoc refl in
+      let text : finding_text form.Text s files p ≡ finding_start form.Text at.file ++ (decimal at.line ++ (codes ":" ++ (decimal (finding_column p) ++ (codes ": " ++ (severity_word s ++ (codes ": " ++ (p.sentence ++ (codes "\n    " ++ (finding_shown p ++ (codes "\n    " ++ (finding_mark p ++ (mended_lines files p ++ (codes "\n  fix: " ++ (p.fix ++ codes "\n")))))))))))))) = simp append_assoc refl in
       subst (λ t. IsTrue (is_printed t)) (sym text)
       (add (finding_start form.Text at.file) _ (h (finding_line p)) (add (decimal at.line) _ (digits_printed at.line) (add (codes ":") _ refl (add (decimal (finding_column p)) _ (digits_printed (finding_column p)) (add (codes ": ") _ refl
       (add (severity_word s) _ (word_printed s) (add (codes ": ") _ refl (add p.sentence _ (words_printed p.sentence parts.1) (add (codes "\n    ") _ refl (add (finding_shown p) _ (words_printed (finding_shown p) parts.2) (add (codes "\n    ") _ refl
-      (add (finding_mark p) _ (words_printed (finding_mark p) parts.3) (add (codes "\n  fix: ") _ refl (add p.fix _ (words_printed p.fix parts.4) (last_words (codes "\n") refl))))))))))))))).printed
+      (add (finding_mark p) _ (words_printed (finding_mark p) parts.3) (add (mended_lines files p) _ (lines_printed p.edits) (add (codes "\n  fix: ") _ refl (add p.fix _ (words_printed p.fix parts.4) (last_words (codes "\n") refl)))))))))))))))).printed
   text_printed form.Json s p h =
       let parts = parts_of p in
       let at = finding_at files p in

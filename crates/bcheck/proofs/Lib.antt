@@ -1,8 +1,10 @@
 pub mod AddedFindings
 pub mod CheckSteps
 pub mod CheckExcluded
+pub mod EditSteps
 pub mod FilledWords
 pub mod FindingTexts
+pub mod MendSteps
 pub mod MentionLoops
 pub mod MentionSteps
 pub mod OnLine

@@ -16,7 +16,7 @@ use Rattle.blang.specs.declared.run.LoadFault.TheVariants as fault
 use Rattle.blang.specs.Layout.{load_fault}
 use Rattle.blang.specs.declared.status.TheConstants.{DONE, DEVICE, MEMORY}
 use Rattle.bsources.specs.Files.{own_line}
-use Rattle.bcheck.specs.Checks.{Check, Checks, FindingParts, IsOver, finding_head}
+use Rattle.bcheck.specs.Checks.{Check, Checks, EditParts, FindingParts, IsOver, Mends, Outcome, finding_head, outcome_of}
 use Rattle.bplaces.specs.Columns.{column_after}
 use Rattle.bcheck.specs.Tokens.{has_token_on, is_in_token}
 use Rattle.bcheck.specs.UndefinedNames.{Tells, told_subjects}
@@ -79,16 +79,29 @@ abbrev pub finding_count : Option Diagnostic → Option LoadFault → List Defin
 finding_count None (Some (fault.Undefined name)) ds = length (told_subjects ds)
 finding_count stop f ds = 1
 
+-- the outcome that a source comes to
+abbrev pub outcome_in : {c : Check} → {line : List ℕ} → {status : ℕ} → ComesTo c line status → Outcome
+outcome_in {c} to = outcome_of c.edition c.source to.outcome.stop (map code_of to.goes.definitions)
+
 -- how many are told of a source
 abbrev pub findings_of : {c : Check} → {line : List ℕ} → {status : ℕ} → ComesTo c line status → ℕ
 findings_of to =
     let ds = map code_of to.goes.definitions in
     finding_count to.outcome.stop (load_fault ds) ds
 
--- how many newlines the text of a finding has
-abbrev pub finding_lines : FindingForm → ℕ
-finding_lines form.Text = 4
-finding_lines form.Json = 1
+-- how many newlines the text of a finding has at least, and at most
+abbrev pub least_lines : FindingForm → ℕ
+least_lines form.Text = 4
+least_lines form.Json = 1
+
+abbrev pub most_lines : FindingForm → ℕ
+most_lines form.Text = 7
+most_lines form.Json = 1
+
+-- a text after this line has as many lines as this number of findings can have
+pub record HasLines (form : FindingForm) (first : List ℕ) (count : ℕ) (text : List ℕ) : Type 0 where
+  pub least : newlines first + count * least_lines form ≤ newlines text
+  pub most : newlines text ≤ newlines first + count * most_lines form
 
 -- printable ASCII and newlines
 abbrev pub is_printed : List ℕ → Bool
@@ -141,7 +154,7 @@ pub record Excluded : Type 0 where
   -- its words, its piece of the source or the name of its file
   pub other_lines : (c : Check) (line : List ℕ) (status : ℕ) (text : List ℕ) (to : ComesTo c line status)
       → IsTold c text → status ≢ DONE
-      → newlines text ≢ newlines (shown_in_form c.form line) + findings_of to * finding_lines c.form → Checks c → ⊥
+      → (HasLines c.form (shown_in_form c.form line) (findings_of to) text → ⊥) → Checks c → ⊥
   -- of names that nothing defines, for people, no sentence on one of those that are to be told
   pub name_left_out : (c : Check) (line : List ℕ) (status : ℕ) (text : List ℕ) (to : ComesTo c line status)
       (name : List ℕ) → to.outcome.stop ≡ None
@@ -151,7 +164,11 @@ pub record Excluded : Type 0 where
       → ((u v sentence : List ℕ) → text ≡ u ++ (sentence ++ v) → Tells subject sentence → ⊥) → Checks c → ⊥
   -- lines after the first one that are no whole findings
   pub odd_lines : Never (λ c line status text.
-      (count : ℕ) → newlines text ≢ newlines (shown_in_form c.form line) + count * finding_lines c.form)
+      (count : ℕ) → HasLines c.form (shown_in_form c.form line) count text → ⊥)
+  -- for people, of a fault that no edit mends, lines that tell one
+  pub no_mend : (c : Check) (line : List ℕ) (status : ℕ) (text : List ℕ) (to : ComesTo c line status)
+      → IsTold c text → status ≢ DONE → c.form ≡ form.Text → ((e : EditParts c.source) → Mends (outcome_in to) e → ⊥)
+      → newlines text ≢ newlines line + findings_of to * 4 → Checks c → ⊥
   -- a byte that can't be printed, where the line and the name of the file have none
   pub other_bytes : Never (λ c line status text.
       IsTrue (is_printed (shown_in_form c.form line))

@@ -1,5 +1,5 @@
 -- Closed facts: what is told of a source, each at its limits and one past them.
-use Rattle.std.specs.Prelude.{◌≡◌, ℕ, List, [], ◌∷◌, ◌++◌, codes, length, map, Option, None, Some, refl, true, false}
+use Rattle.std.specs.Prelude.{◌≡◌, ◌<◌, ℕ, List, [], ◌∷◌, ◌++◌, codes, length, map, Option, None, Some, refl, true, false}
 use Rattle.std.specs.Fmt.{digits}
 use Rattle.bword.specs.declared.edition.Edition.TheVariants as editions
 use Rattle.blang.specs.declared.token.Diagnostic.{Diagnostic}
@@ -15,7 +15,8 @@ use Rattle.bcheck.specs.declared.mention.Subject.{Subject}
 use Rattle.bcheck.specs.Checks.{FindingParts, IsWhole, Reason, finding_text, findings_text, is_in_line, is_on_line, second_text}
 use Rattle.bcheck.specs.Checks.{diagnostic_code, severity_of, severity_word, shown_byte}
 use Rattle.bcheck.specs.Checks.{shown_in_form, told_first}
-use Rattle.bcheck.specs.CheckExcluded.{has_no_colon, is_printed, newlines}
+use Rattle.bcheck.specs.Checks.{EditParts, IsBetter, IsLater, Outcome, edit_object, edits_text, fault_in, mended, mended_line}
+use Rattle.bcheck.specs.CheckExcluded.{has_no_colon, is_printed, least_lines, most_lines, newlines}
 use Rattle.bcheck.specs.Findings.{warning_code}
 use Rattle.bcheck.specs.Tokens.{has_token_on, is_in_token, pieces_from}
 use Rattle.blang.specs.Cut.{fixed_of, greatest, keyword_of, line_number_after, longest, number_in, operator_of}
@@ -146,6 +147,8 @@ undefined = record {
   fix = codes "auto n;";
   on_lines = refl;
   second = None;
+  edits = [];
+  few = refl;
 }
 
 -- one file of this name; and one that has fewer lines, with another one after it
@@ -226,6 +229,8 @@ again = record {
   fix = codes "a \"b\"";
   on_lines = refl;
   second = Some (record { before = codes "n 5;\n"; after = codes "size 1; size 2;\n"; split = refl });
+  edits = [];
+  few = refl;
 }
 
 warning_for_people : finding_text form.Text severity.Warning (alone (codes "x.b")) again
@@ -241,9 +246,115 @@ error_for_editors : finding_text form.Json severity.Error (alone (codes "x.b")) 
 unfolding digits
 error_for_editors = refl
 
+-- an edit that puts a `;` after a name of a letter of two bytes in quotes, and one that takes a word out
+abbrev quoted : List ℕ
+quoted = codes "\tx \"" ++ (195 ∷ 169 ∷ []) ++ codes "\"\ny 1;\n"
+
+abbrev closed : EditParts quoted
+closed = record {
+  before = codes "\t";
+  left = codes "x \"" ++ (195 ∷ 169 ∷ []) ++ codes "\"";
+  old = [];
+  right = [];
+  after = codes "\ny 1;\n";
+  split = refl;
+  from_line = refl;
+  in_line = refl;
+  text = codes ";";
+  on_line = refl;
+}
+
+abbrev shortened : EditParts quoted
+shortened = record {
+  before = codes "\tx \"" ++ (195 ∷ 169 ∷ []) ++ codes "\"\n";
+  left = codes "y";
+  old = codes " 1";
+  right = codes ";";
+  after = codes "\n";
+  split = refl;
+  from_line = refl;
+  in_line = refl;
+  text = codes "[\"]";
+  on_line = refl;
+}
+
+-- the source with each, which is else as it was
+mended_sources : map mended (closed ∷ shortened ∷ [])
+    ≡ (codes "\tx \"" ++ (195 ∷ 169 ∷ []) ++ codes "\";\ny 1;\n")
+    ∷ (codes "\tx \"" ++ (195 ∷ 169 ∷ []) ++ codes "\"\ny[\"];\n") ∷ []
+mended_sources = refl
+
+edit_objects : map (edit_object (alone (codes "x.b"))) (closed ∷ shortened ∷ [])
+    ≡ codes "{\"line\":1,\"column\":8,\"end\":8,\"utf16_column\":7,\"utf16_end\":7,\"offset\":7,\"length\":0,\"text\":\";\"}"
+    ∷ codes "{\"line\":2,\"column\":2,\"end\":4,\"utf16_column\":2,\"utf16_end\":4,\"offset\":9,\"length\":2,\"text\":\"[\\\"]\"}"
+    ∷ []
+unfolding digits
+edit_objects = refl
+
+edit_of_several : edit_object (followed 1) shortened
+    ≡ codes "{\"file\":\"l\\u000a.b\",\"line\":1,\"column\":2,\"end\":4,\"utf16_column\":2,\"utf16_end\":4,\"offset\":9,"
+    ++ codes "\"length\":2,\"text\":\"[\\\"]\"}"
+unfolding digits
+edit_of_several = refl
+
+mended_as_shown : map (mended_line (followed 1)) (closed ∷ shortened ∷ [])
+    ≡ codes "\n  line 1 mended: x \"??\";" ∷ codes "\n  line 1 mended: y[\"];" ∷ []
+unfolding digits
+mended_as_shown = refl
+
+-- none, one and two in an array
+edit_arrays : map (edits_text (λ (n : ℕ). n ∷ [])) ([] ∷ (65 ∷ []) ∷ (65 ∷ 66 ∷ []) ∷ [])
+    ≡ [] ∷ codes ",\"edits\":[A]" ∷ codes ",\"edits\":[A,B]" ∷ []
+edit_arrays = refl
+
+-- a finding with both
+abbrev open_quote : FindingParts quoted
+open_quote = record {
+  before = [];
+  left = codes "\tx \"" ++ (195 ∷ 169 ∷ []) ++ codes "\"";
+  right = [];
+  after = codes "\ny 1;\n";
+  split = refl;
+  from_line = refl;
+  in_line = refl;
+  marks = 1;
+  marked = refl;
+  code = codes "sx";
+  sentence = codes "s";
+  fix = codes "f";
+  on_lines = refl;
+  second = None;
+  edits = closed ∷ shortened ∷ [];
+  few = refl;
+}
+
+edits_for_people : finding_text form.Text severity.Error (alone (codes "x.b")) open_quote
+    ≡ codes "x.b:1:8: error: s\n     x \"??\"\n           ^\n  line 1 mended: x \"??\";\n  line 2 mended: y[\"];\n  fix: f\n"
+unfolding digits
+edits_for_people = refl
+
+-- a diagnostic on a later line, on the same one, where there was none, and none
+abbrev at_line : ℕ → Diagnostic
+at_line line = record { letters = letters.Syntax; about = about.Nothing; line = line }
+
+later_lines : (a b : ℕ) → IsLater (Some (at_line a)) (Some (at_line b)) → b < a
+later_lines a b h = h
+
+new_one_is_not : (d : Diagnostic) → IsLater (Some d) None → ⊥
+new_one_is_not d h = h
+
+-- what mends is better: the fault is gone or later, and what loaded loads
+mends_are_better : (new old : Outcome) → IsBetter new old
+    → IsLater new.stop old.stop
+    × ((told_first old.stop (fault_in old)).1 ≡ 0 → (told_first new.stop (fault_in new)).1 ≡ 0)
+mends_are_better new old h = h
+
 -- what the theorems count and look for: newlines, bytes that can be printed, and colons
 newline_counts : map newlines ([] ∷ codes "a" ∷ codes "a\n" ∷ codes "\na\n" ∷ []) ≡ (0 ∷ 0 ∷ 1 ∷ 2 ∷ [])
 newline_counts = refl
+
+line_counts : map least_lines (form.Text ∷ form.Json ∷ []) ++ map most_lines (form.Text ∷ form.Json ∷ []) ≡ 4 ∷ 1 ∷ 7 ∷ 1 ∷ []
+line_counts = refl
 
 printed : map (λ b. is_printed (b ∷ [])) (9 ∷ 10 ∷ 11 ∷ 31 ∷ 32 ∷ 126 ∷ 127 ∷ 128 ∷ [])
     ≡ (false ∷ true ∷ false ∷ false ∷ true ∷ true ∷ false ∷ false ∷ [])

@@ -1,7 +1,7 @@
 -- Promise: what is written of a source that is checked.
 use Rattle.std.specs.Prelude.{◌≡◌, ℕ, ◌+◌, ◌<◌, ◌==◌, nat_lt, not, Bool, true, false, IsTrue, if◌then◌else◌}
 use Rattle.std.specs.Prelude.{List, [], ◌∷◌, ◌++◌, ◌⊎◌, codes, decimal, length, map, min, replicate, Option, Some, None}
-use Rattle.std.specs.Prelude.{◌-◌, drop, take, unwrap_or}
+use Rattle.std.specs.Prelude.{◌-◌, ◌&&◌, drop, nat_le, take, unwrap_or}
 use Rattle.std.specs.Int.{is_in_range}
 use Rattle.std.specs.List.{All, AllZip, flat_map, list_all}
 use Rattle.bword.specs.declared.edition.Edition.{Edition}
@@ -111,8 +111,27 @@ pub record Second (source : List ℕ) : Type 0 where
   pub after : List ℕ
   pub split : source ≡ before ++ after
 
+-- An edit within a line of a source, which puts a text in the place of some bytes. Of the line with it some bytes are
+-- shown before the text, and some after it.
+pub record EditParts (source : List ℕ) : Type 0 where
+  pub before : List ℕ
+  pub left : List ℕ
+  pub old : List ℕ
+  pub right : List ℕ
+  pub after : List ℕ
+  pub split : source ≡ (before ++ left) ++ (old ++ (right ++ after))
+  pub from_line : IsTrue (nat_lt (length left) (column_after 1 (before ++ left)))
+  pub in_line : IsTrue (is_in_line old && is_in_line right)
+  pub text : List ℕ
+  pub on_line : IsTrue (is_on_line text)
+
+-- the source with an edit
+abbrev pub mended : {source : List ℕ} → EditParts source → List ℕ
+mended e = (e.before ++ e.left) ++ (e.text ++ (e.right ++ e.after))
+
 -- A finding. It stands at a place of the source, of whose line it shows some bytes before the place, and some from it
--- on. A sentence and a fix are told of it, and for editors a code, and the second place of which it speaks.
+-- on. A sentence and a fix are told of it, at most three edits, of which each mends it, and for editors a code, and the
+-- second place of which it speaks.
 pub record FindingParts (source : List ℕ) : Type 0 where
   pub before : List ℕ
   pub left : List ℕ
@@ -128,6 +147,8 @@ pub record FindingParts (source : List ℕ) : Type 0 where
   pub fix : List ℕ
   pub on_lines : IsTrue (list_all is_on_line (code ∷ sentence ∷ fix ∷ []))
   pub second : Option (Second source)
+  pub edits : List (EditParts source)
+  pub few : IsTrue (nat_le (length edits) 3)
 
 -- the line in the source and the column of its place, from 1
 abbrev pub finding_line : {source : List ℕ} → FindingParts source → ℕ
@@ -187,13 +208,51 @@ end_words end unit unit_end =
 abbrev pub ends_text : {source : List ℕ} → FindingParts source → List ℕ
 ends_text p = end_words (finding_end p) (finding_unit p) (finding_unit_end p)
 
--- the fix, where the marks end, and the second place, if there is one
+-- an edit for an editor: the place that it changes, in columns and in bytes of the source, and the text for it
+abbrev pub edit_words : (is_told : Bool) → Line → (column end unit unit_end offset count : ℕ) → (text : List ℕ) → List ℕ
+edit_words is_told at column end unit unit_end offset count text =
+    codes "{" ++ (file_member is_told at.file ++ (codes "\"line\":" ++ (decimal at.line ++ (codes ",\"column\":"
+    ++ (decimal column ++ (end_words end unit unit_end ++ (codes ",\"offset\":" ++ (decimal offset
+    ++ (codes ",\"length\":" ++ (decimal count ++ (codes ",\"text\":" ++ (json_text text ++ codes "}"))))))))))))
+
+-- the file in which it stands, and the line there
+abbrev pub edit_at : {source : List ℕ} → Files → EditParts source → Line
+edit_at files e = own_line files (line_number_after 1 (e.before ++ e.left))
+
+abbrev pub edit_object : {source : List ℕ} → Files → EditParts source → List ℕ
+edit_object files e =
+    let here = e.before ++ e.left in
+    edit_words (is_of_several files) (edit_at files e) (column_after 1 here)
+    (min (column_after 1 here + length e.old) most) (unit_column here (e.old ++ (e.right ++ e.after)))
+    (unit_column (here ++ e.old) (e.right ++ e.after)) (length here) (length e.old) e.text
+
+-- each edit by such a text, if there are any
+abbrev pub edits_text : {A : Type 0} → (A → List ℕ) → List A → List ℕ
+edits_text object [] = []
+edits_text object (e ∷ es) =
+    codes ",\"edits\":[" ++ (object e ++ (flat_map (λ x. codes "," ++ object x) es ++ codes "]"))
+
+-- the line with an edit, for people
+abbrev pub mended_words : (line : ℕ) → (left text right : List ℕ) → List ℕ
+mended_words line left text right =
+    codes "\n  line " ++ (decimal line ++ (codes " mended: " ++ (flat_map shown_text left ++ (text
+    ++ flat_map shown_text right))))
+
+abbrev pub mended_line : {source : List ℕ} → Files → EditParts source → List ℕ
+mended_line files e = mended_words (edit_at files e).line e.left e.text e.right
+
+abbrev pub mended_lines : {source : List ℕ} → Files → FindingParts source → List ℕ
+mended_lines files p = flat_map (mended_line files) p.edits
+
+-- the fix, where the marks end, the second place, if there is one, and the edits
 abbrev pub fix_and_places : {source : List ℕ} → Files → FindingParts source → List ℕ
-fix_and_places files p = json_text p.fix ++ (ends_text p ++ second_text files p.second)
+fix_and_places files p =
+    json_text p.fix ++ (ends_text p ++ (second_text files p.second ++ edits_text (edit_object files) p.edits))
 
 abbrev pub finding_words : {source : List ℕ} → FindingForm → Files → FindingParts source → List ℕ
 finding_words form.Text files p =
-    p.sentence ++ codes "\n    " ++ finding_shown p ++ codes "\n    " ++ finding_mark p ++ codes "\n  fix: " ++ p.fix
+    p.sentence ++ codes "\n    " ++ finding_shown p ++ codes "\n    " ++ finding_mark p ++ mended_lines files p
+    ++ codes "\n  fix: " ++ p.fix
 finding_words form.Json files p =
     json_text p.code ++ codes ",\"message\":" ++ json_text p.sentence ++ codes ",\"fix\":" ++ fix_and_places files p
 
@@ -264,6 +323,25 @@ Reason edition None f code before rest = Unit {0}
 abbrev pub IsReason : (o : Outcome) → FindingParts o.source → Type 0
 IsReason o p = Reason o.edition o.stop (fault_in o) p.code (p.before ++ p.left) (p.right ++ p.after)
 
+-- a diagnostic with an edit is none, or one on a later line than before
+abbrev pub IsLater : (new old : Option Diagnostic) → Type 0
+IsLater None old = Unit {0}
+IsLater (Some e) None = ⊥
+IsLater (Some e) (Some d) = d.line < e.line
+
+-- what compiled and loaded does so with an edit, and else the first fault is gone, if it is one of the source
+abbrev pub IsBetter : (new old : Outcome) → Type 0
+IsBetter new old =
+    IsLater new.stop old.stop
+    × ((told_first old.stop (fault_in old)).1 ≡ DONE → (told_first new.stop (fault_in new)).1 ≡ DONE)
+
+-- An edit mends a source that comes to this: it was tried.
+abbrev pub Mends : {source : List ℕ} → Outcome → EditParts source → Type 0
+Mends o e = EachOutcome o.edition (mended e) (λ new. IsBetter new o)
+
+abbrev pub IsMended : (o : Outcome) → FindingParts o.source → Type 0
+IsMended o p = All (Mends o) p.edits
+
 -- All is told: one thing of a diagnostic and of data that are too many, and each name that nothing defines.
 abbrev pub IsWhole : {A : Type 0} → (Subject → A → Type 0) → Option Diagnostic → Option LoadFault → List Definition
     → (told : List A) → Type 0
@@ -285,7 +363,7 @@ Says subject p = Tells subject p.sentence × IsAtName (name_in subject) (p.befor
 abbrev pub AreFindings : FindingForm → Outcome → (status : ℕ) → Files → (text : List ℕ) → Type 0
 AreFindings form o status files text =
     (findings : List (FindingParts o.source)) × TellsAll Says o findings × All (IsReason o) findings
-    × (text ≡ findings_text form status files findings)
+    × (text ≡ findings_text form status files findings) × All (IsMended o) findings
 
 -- A text and then findings were told with this status; or memory was refused, and nothing was written.
 pub data TellsFirst (form : FindingForm) (o : Outcome) (files : Files) (first : List ℕ) (status : ℕ)

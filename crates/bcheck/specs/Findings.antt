@@ -1,12 +1,15 @@
 -- Promise: what is known of a finding before it is told.
 use Rattle.std.specs.Prelude.{◌≡◌, ℕ, ◌+◌, ◌<◌, ◌⊎◌, ◌&&◌, Bool, IsTrue, true, false, List, [], ◌∷◌, ◌++◌, codes, drop}
-use Rattle.std.specs.Prelude.{Option, Some, None, IfSome, Result, Ok, Err, MatchResult, ◌≤◌, ◌-◌, length, min, take}
+use Rattle.std.specs.Prelude.{Option, Some, None, IfSome, Result, Ok, Err, MatchResult, ◌≤◌, ◌-◌, length, min, nat_lt}
+use Rattle.std.specs.Prelude.{take}
 use Rattle.bword.specs.declared.edition.Edition.{Edition}
 use Rattle.bword.specs.ByteEnds.{most}
 use Rattle.blang.specs.Cut.{line_number_after}
 use Rattle.blang.specs.declared.token.Diagnostic.{Diagnostic}
 use Rattle.bsources.specs.Files.{Files, line_shown, own_line}
-use Rattle.bcheck.specs.Checks.{EachOutcome, FindingParts, IsAtToken, Outcome, Reason, StandsOn, TellsAll}
+use Rattle.bcheck.specs.Checks.{EachOutcome, EditParts, FindingParts, IsAtToken, IsBetter, Mends, Outcome, Reason}
+use Rattle.bcheck.specs.Checks.{StandsOn, TellsAll, edit_object, mended, mended_line}
+use Rattle.bcheck.specs.Pieces.{edit_text, line_text}
 use Rattle.bplaces.specs.Columns.{column_after}
 use Rattle.bcheck.specs.Checks.{diagnostic_code, fault_in, finding_text, is_in_line, is_of_several}
 use Rattle.bcheck.specs.UndefinedNames.{IsAtName, beginnings, ends_name, name_in}
@@ -15,7 +18,7 @@ use Rattle.bcheck.specs.declared.mention.Subject.TheVariants as subject
 use Rattle.blang.specs.declared.code.Definition.{Definition}
 use Rattle.bword.specs.Words.{same_name}
 use Rattle.std.specs.Global.{Vec}
-use Rattle.std.specs.List.{list_any}
+use Rattle.std.specs.List.{All, list_any}
 use Rattle.blex.specs.declared.scanner.PlacedPiece.{PlacedPiece}
 use Rattle.bcheck.specs.Tokens.{has_token_on, is_on, pieces_of}
 use Rattle.bplaces.specs.Units.{first_unit, unit_column, units_after}
@@ -25,6 +28,7 @@ use Rattle.blint.specs.declared.warnings.Warning.{Warning}
 use Rattle.blint.specs.declared.warnings.Warning.TheVariants as warning
 use Rattle.btools.specs.Programs.{HasFault, IsCodeOf}
 use Rattle.bcheck.specs.declared.compiled.Compiled.{Compiled}
+use Rattle.bcheck.specs.declared.edit.Edit.{Edit}
 use Rattle.bcheck.specs.declared.excerpt.Excerpt.{Excerpt}
 use Rattle.bcheck.specs.declared.finding.Finding.{Finding}
 use Rattle.bcheck.specs.declared.finding.SecondPlace.{SecondPlace}
@@ -231,9 +235,37 @@ IsSpot files source s =
 abbrev pub IsSecond : Files → (source : List ℕ) → Option SecondPlace → Type 0
 IsSecond files source s = IfSome s (IsSpot files source)
 
+-- the edit makes this text of a source, and both of its texts are told of it
+pub record IsEdit (files : Files) (source new : List ℕ) (e : Edit) : Type 0 where
+  pub parts : EditParts source
+  pub makes : mended parts ≡ new
+  pub object : edit_text e ≡ edit_object files parts
+  pub line : line_text e ≡ mended_line files parts
+
+-- what comes of a text is better than what comes of a source
+abbrev pub Improves : Edition → (source new : List ℕ) → Type 0
+Improves edition source new = EachOutcome edition source (λ o. EachOutcome edition new (λ n. IsBetter n o))
+
+-- the edit was tried
+abbrev pub IsTried : Edition → Files → (source : List ℕ) → Edit → Type 0
+IsTried edition files source e = (new : List ℕ) × IsEdit files source new e × Improves edition source new
+
+-- it mends whatever the source comes to
+abbrev pub MendsIn : Edition → {source : List ℕ} → EditParts source → Type 0
+MendsIn edition {source} e = EachOutcome edition source (λ o. Mends o e)
+
+-- a source with this verdict is better than one with that one
+abbrev pub is_better : (new old : Verdict) → Bool
+is_better (verdict.Faulty line e) (verdict.Faulty other d) = nat_lt d.line e.line
+is_better (verdict.Faulty line e) old = false
+is_better verdict.Clean old = true
+is_better (verdict.Unloaded f) verdict.Clean = false
+is_better (verdict.Unloaded f) old = true
+
 -- the text has a finding of this code and this sentence at this place more
-abbrev pub AddsFinding : FindingForm → Severity → Files → (source : List ℕ) → (start : ℕ)
+abbrev pub AddsFinding : FindingForm → Severity → Edition → Files → (source : List ℕ) → (start : ℕ)
     → (code sentence old new : List ℕ) → Type 0
-AddsFinding form s files source start code sentence old new =
+AddsFinding form s edition files source start code sentence old new =
     (p : FindingParts source) × (p.code ≡ code) × (p.before ++ p.left ≡ take start source)
     × (p.right ++ p.after ≡ drop start source) × (new ≡ old ++ finding_text form s files p) × (p.sentence ≡ sentence)
+    × All (MendsIn edition) p.edits

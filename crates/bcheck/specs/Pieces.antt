@@ -1,9 +1,11 @@
 -- Inner words: the text of each piece.
-use Rattle.std.specs.Prelude.{ℕ, ◌==◌, List, [], ◌∷◌, Option, Some, None, decimal, if◌then◌else◌, replicate}
+use Rattle.std.specs.Prelude.{ℕ, ◌+◌, ◌==◌, List, [], ◌∷◌, Option, Some, None, decimal, if◌then◌else◌, min, replicate}
 use Rattle.std.specs.List.{flat_map}
 use Rattle.bsources.specs.Files.{line_shown}
-use Rattle.bcheck.specs.Checks.{shown_text, spot_words}
+use Rattle.bword.specs.ByteEnds.{most}
+use Rattle.bcheck.specs.Checks.{edit_words, mended_words, shown_text, spot_words}
 use Rattle.btools.specs.Quoting.{file_text, json_text}
+use Rattle.bcheck.specs.declared.edit.Edit.{Edit}
 use Rattle.bcheck.specs.declared.finding.SecondPlace.{SecondPlace}
 use Rattle.bcheck.specs.declared.words.Given.{Given}
 use Rattle.bcheck.specs.declared.pieces.Fragment.{Fragment}
@@ -13,6 +15,15 @@ use Rattle.bcheck.specs.declared.pieces.Fragment.TheVariants as piece
 abbrev pub spot_text : Option SecondPlace → List ℕ
 spot_text None = []
 spot_text (Some s) = spot_words s.is_of_several (line_shown s.at) s.column s.unit
+
+-- an edit for an editor, and its line for people
+abbrev pub edit_text : Edit → List ℕ
+edit_text e =
+    edit_words e.is_of_several (line_shown e.at) e.column (min (e.column + e.len) most) e.unit e.unit_end e.start e.len
+    e.text.now
+
+abbrev pub line_text : Edit → List ℕ
+line_text e = mended_words e.at.line e.left.now e.text.now e.right.now
 
 abbrev pub piece_text : Fragment → List ℕ
 piece_text (piece.Words words) = words.now

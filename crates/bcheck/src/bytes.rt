@@ -88,6 +88,7 @@ pub(crate) enum Constant {
     Escape,
     Letter,
     Control,
+    Star,
     Unclosed,
 }
 
@@ -111,6 +112,7 @@ impl Constant {
             Constant::Letter =>
                 ("this is a letter beyond ASCII, and quotes have none", "take other letters in its place"),
             Constant::Control => ("this byte can't be in quotes", "*t is a tab, *n a newline and *0 the byte 0"),
+            Constant::Star => ("*' in quotes is the character ' and ends nothing", "'**' is the character *"),
             Constant::Unclosed =>
                 ("no quote ends this on its line", "write the quote at its end; *n is a newline in quotes"),
         }
@@ -121,6 +123,7 @@ impl Constant {
 pub(crate) fn constant_at(source: &[u8], place: &Place) -> (Constant, Place) {
     let text = source.get(place.start..).unwrap_or(&[]);
     match text.get(0) {
+        Some(b'\'') if text.starts_with(b"'*'") => (Constant::Star, *place),
         Some(b'\'' | b'"') => quoted_at(text, place),
         _ => (number_of(text), *place),
     }

@@ -90,8 +90,8 @@ fn left_length(column: usize, len: usize) -> usize
     }
 }
 
-// How many bytes stand before the end of the line, up to so many.
-fn line_length(rest: &[u8], most: usize) -> usize
+/// How many bytes stand before the end of the line, up to so many.
+pub(crate) fn line_length(rest: &[u8], most: usize) -> usize
     ensures within { result ≤ length rest.now }
     ensures in_line { IsTrue (is_in_line (take result rest.now)) }
 {

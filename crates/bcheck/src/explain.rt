@@ -11,6 +11,8 @@ use crate::compiled::{Compiled, Extent};
 use crate::excerpt::excerpt_at;
 use crate::finding::{Finding, Place, Told};
 use crate::form::{FindingForm, Request};
+use crate::mending::{Bench, tried_edits};
+use crate::mends::{proposals, tokens_of};
 use crate::places::{milestones, place_on, spot_of};
 use crate::spans::{SourceText, Spans, place_of};
 use crate::undefined::undefined_names;
@@ -42,6 +44,15 @@ pub(crate) fn explain(
     let findings = findings(alloc, source, &asked.files, judgement)?;
     let milestones = milestones(alloc, source.text)?;
     let severity = judgement.verdict.severity();
+    let bench = Bench {
+        source,
+        files: asked.files,
+        milestones: milestones.as_slice(),
+        verdict: &judgement.verdict,
+        ends: judgement.compiled.ends.as_slice(),
+        findings: findings.as_slice(),
+    };
+    let tokens = tokens_of(alloc, &bench)?;
     for finding in findings.as_slice() {
         let excerpt = excerpt_at(source.text, milestones.as_slice(), &finding.place);
         let at = asked.files.own_line(excerpt.line);
@@ -52,12 +63,15 @@ pub(crate) fn explain(
             &finding.related,
         );
         let words = Words::new(alloc, finding, at.file, &second)?;
+        let proposals = proposals(alloc, &bench, &tokens, finding)?;
+        let edits = tried_edits(alloc, &bench, proposals.as_slice())?;
         let told = Told {
             at,
             excerpt,
             second,
             severity,
             words: &words,
+            edits: edits.as_slice(),
         };
         match asked.form {
             FindingForm::Text => text::write(&mut said, &told)?,
@@ -67,7 +81,8 @@ pub(crate) fn explain(
     Ok(said)
 }
 
-fn findings(
+/// What is found in a source with this verdict.
+pub(crate) fn findings(
     alloc: Global,
     source: SourceText<'_>,
     files: &SourceFiles<'_>,

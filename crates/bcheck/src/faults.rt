@@ -81,7 +81,13 @@ fn finding_of(
             fault,
             around,
         ),
-        (Letters::NotLvalue, _) => without_address(source, spans, token, diagnostic.line),
+        (Letters::NotLvalue, _) => without_address(
+            source,
+            spans,
+            fault.extent,
+            token,
+            diagnostic.line,
+        ),
         (Letters::Undefined, About::Name(name)) => unknown_name(
             source,
             spans,

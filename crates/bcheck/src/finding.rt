@@ -3,6 +3,7 @@ ghost use Rattle.std.specs.Prelude.{◌≡◌};
 ghost use Rattle.bcheck.specs.Checks.{severity_word};
 
 use crate::advice::Matter;
+use crate::edit::Edit;
 use crate::excerpt::Excerpt;
 use crate::words::Words;
 use bsources::FileLine;
@@ -67,6 +68,8 @@ pub(crate) struct Told<'a> {
     pub second: Option<SecondPlace<'a>>,
     pub severity: Severity,
     pub words: &'a Words,
+    /// Edits that mend it.
+    pub edits: &'a [Edit<'a>],
 }
 
 /// Whether a source is refused for what was found.

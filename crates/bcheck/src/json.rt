@@ -1,13 +1,14 @@
 //! Findings for editors: an object a line.
-ghost use Rattle.std.specs.List.{list_all};
-ghost use Rattle.std.specs.Prelude.{ℕ, ◌≡◌, ◌∷◌, List, [], IsTrue, OnOk};
+ghost use Rattle.std.specs.List.{All, list_all};
+ghost use Rattle.std.specs.Prelude.{ℕ, ◌≡◌, ◌≤◌, ◌∷◌, List, [], IsTrue, OnOk, length};
 ghost use Rattle.bcheck.specs.Checks.{is_on_line};
-ghost use Rattle.bcheck.specs.Findings.{AddsFinding, IsExcerpt, IsSecond};
+ghost use Rattle.bword.specs.declared.edition.Edition.{Edition};
+ghost use Rattle.bcheck.specs.Findings.{AddsFinding, IsExcerpt, IsSecond, IsTried};
 ghost use Rattle.bsources.specs.Files.{Files, line_shown, own_line};
 ghost use Rattle.bcheck.specs.declared.form.FindingForm.TheVariants as form;
 
 use crate::finding::Told;
-use crate::pieces::{Fragment, push_all, push_second};
+use crate::pieces::{Fragment, push_all, push_edits, push_second};
 use btools::Text;
 use std::alloc::AllocError;
 
@@ -15,10 +16,12 @@ use std::alloc::AllocError;
 pub(crate) fn write(text: &mut Text, told: &Told<'_>) -> Result<(), AllocError>
     requires { IsTrue (list_all is_on_line
         (told.now.words.now.code.now ∷ told.now.words.now.sentence ∷ told.now.words.now.fix ∷ [])) }
-    ensures { (files : Files) (source : List ℕ) (start : ℕ) → IsExcerpt source start told.now.excerpt
-        → line_shown told.now.at ≡ own_line files told.now.excerpt.line → IsSecond files source told.now.second
-        → OnOk result (AddsFinding form.Json told.now.severity files source start told.now.words.now.code.now
-        told.now.words.now.sentence text.old text.new) }
+    ensures { (edition : Edition) (files : Files) (source : List ℕ) (start : ℕ)
+        → IsExcerpt source start told.now.excerpt → line_shown told.now.at ≡ own_line files told.now.excerpt.line
+        → IsSecond files source told.now.second → All (IsTried edition files source) told.now.edits.now
+        → length told.now.edits.now ≤ 3
+        → OnOk result (AddsFinding form.Json told.now.severity edition files source start
+        told.now.words.now.code.now told.now.words.now.sentence text.old text.new) }
 {
     let excerpt = &told.excerpt;
     push_all(
@@ -47,5 +50,6 @@ pub(crate) fn write(text: &mut Text, told: &Told<'_>) -> Result<(), AllocError>
         ],
     )?;
     push_second(text, told.second)?;
+    push_edits(text, told.edits)?;
     text.push(b"}\n")
 }

@@ -3,9 +3,13 @@
 
 mod advice;
 mod around;
+mod byte_mends;
 mod bytes;
 mod checking;
 mod compiled;
+mod declared_mends;
+mod draft;
+mod edit;
 mod excerpt;
 mod explain;
 mod faults;
@@ -15,17 +19,22 @@ mod form;
 mod json;
 mod kinds;
 mod limits;
+mod mending;
+mod mends;
 mod mention;
+mod name_mends;
 mod named;
 mod near;
 mod pieces;
 mod places;
 mod spans;
 mod syntax;
+mod syntax_mends;
 mod text;
 mod undefined;
 mod unknown;
 mod verdict;
+mod warning_mends;
 mod warnings;
 mod words;
 

@@ -1,9 +1,10 @@
 //! The pieces that the text of a finding consists of.
 ghost use Rattle.std.specs.List.{flat_map};
-ghost use Rattle.std.specs.Prelude.{◌≡◌, ◌<◌, ◌++◌, OnOk, Some, replicate, true};
-ghost use Rattle.bcheck.specs.Checks.{file_member, shown_byte, shown_text};
-ghost use Rattle.bcheck.specs.Pieces.{piece_text, spot_text};
+ghost use Rattle.std.specs.Prelude.{◌≡◌, ◌<◌, ◌∷◌, ◌++◌, OnOk, Some, codes, replicate, true};
+ghost use Rattle.bcheck.specs.Checks.{edits_text, file_member, shown_byte, shown_text};
+ghost use Rattle.bcheck.specs.Pieces.{edit_text, line_text, piece_text, spot_text};
 
+use crate::edit::Edit;
 use crate::finding::SecondPlace;
 use btools::{Text, push_file, push_quoted};
 use std::alloc::AllocError;
@@ -54,7 +55,7 @@ fn push_spot(text: &mut Text, spot: &SecondPlace<'_>) -> Result<(), AllocError>
     ensures { OnOk result (text.new ≡ text.old ++ spot_text (Some spot.now)) }
 {
     text.push(b",\"related\":{")?;
-    push_file_of(text, spot)?;
+    push_file_of(text, spot.is_of_several, spot.at.file)?;
     push_all(
         text,
         &[
@@ -69,14 +70,97 @@ fn push_spot(text: &mut Text, spot: &SecondPlace<'_>) -> Result<(), AllocError>
     )
 }
 
-fn push_file_of(text: &mut Text, spot: &SecondPlace<'_>) -> Result<(), AllocError>
-    ensures { OnOk result (text.new ≡ text.old ++ file_member spot.now.is_of_several spot.now.at.file.now) }
+fn push_file_of(text: &mut Text, is_told: bool, file: &str) -> Result<(), AllocError>
+    ensures { OnOk result (text.new ≡ text.old ++ file_member is_told file.now) }
 {
-    if spot.is_of_several {
-        push_file_member(text, spot.at.file.as_bytes())
+    if is_told {
+        push_file_member(text, file.as_bytes())
     } else {
         Ok(())
     }
+}
+
+/// Adds edits, for an editor, if there are any.
+pub(crate) fn push_edits(text: &mut Text, edits: &[Edit<'_>]) -> Result<(), AllocError>
+    ensures { OnOk result (text.new ≡ text.old ++ edits_text edit_text edits.now) }
+{
+    match edits {
+        [] => Ok(()),
+        [first, others @ ..] => push_list(text, first, others),
+    }
+}
+
+fn push_list(text: &mut Text, first: &Edit<'_>, others: &[Edit<'_>]) -> Result<(), AllocError>
+    ensures { OnOk result (text.new ≡ text.old ++ edits_text edit_text (first.now ∷ others.now)) }
+{
+    text.push(b",\"edits\":[")?;
+    push_edit(text, first)?;
+    for edit in others {
+        push_next(text, edit)?;
+    }
+    text.push(b"]")
+}
+
+fn push_next(text: &mut Text, edit: &Edit<'_>) -> Result<(), AllocError>
+    ensures { OnOk result (text.new ≡ text.old ++ (codes "," ++ edit_text edit.now)) }
+{
+    text.push(b",")?;
+    push_edit(text, edit)
+}
+
+fn push_edit(text: &mut Text, edit: &Edit<'_>) -> Result<(), AllocError>
+    ensures { OnOk result (text.new ≡ text.old ++ edit_text edit.now) }
+{
+    text.push(b"{")?;
+    push_file_of(text, edit.is_of_several, edit.at.file)?;
+    push_all(
+        text,
+        &[
+            Fragment::Words(b"\"line\":"),
+            Fragment::Number(edit.at.line),
+            Fragment::Words(b",\"column\":"),
+            Fragment::Number(edit.column as u64),
+            Fragment::Words(b",\"end\":"),
+            Fragment::Number(edit.end()),
+            Fragment::Words(b",\"utf16_column\":"),
+            Fragment::Number(edit.unit as u64),
+            Fragment::Words(b",\"utf16_end\":"),
+            Fragment::Number(edit.unit_end as u64),
+            Fragment::Words(b",\"offset\":"),
+            Fragment::Number(edit.start as u64),
+            Fragment::Words(b",\"length\":"),
+            Fragment::Number(edit.len as u64),
+            Fragment::Words(b",\"text\":"),
+            Fragment::Quoted(edit.text),
+            Fragment::Words(b"}"),
+        ],
+    )
+}
+
+/// Adds for people the line with each edit.
+pub(crate) fn push_lines(text: &mut Text, edits: &[Edit<'_>]) -> Result<(), AllocError>
+    ensures { OnOk result (text.new ≡ text.old ++ flat_map line_text edits.now) }
+{
+    for edit in edits {
+        push_line(text, edit)?;
+    }
+    Ok(())
+}
+
+fn push_line(text: &mut Text, edit: &Edit<'_>) -> Result<(), AllocError>
+    ensures { OnOk result (text.new ≡ text.old ++ line_text edit.now) }
+{
+    push_all(
+        text,
+        &[
+            Fragment::Words(b"\n  line "),
+            Fragment::Number(edit.at.line),
+            Fragment::Words(b" mended: "),
+            Fragment::Shown(edit.left),
+            Fragment::Words(edit.text),
+            Fragment::Shown(edit.right),
+        ],
+    )
 }
 
 // Adds the member of an object that names a file.

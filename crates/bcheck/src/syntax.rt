@@ -43,6 +43,7 @@ pub(crate) enum Syntax {
     TypeInside,
     CaseSign,
     CaseValue,
+    CaseString,
     CaseList,
     CaseRange,
     CaseColon,
@@ -114,7 +115,7 @@ impl Syntax {
             Syntax::AutoValue => ("auto gives no value", "auto i; i = 0;"),
             Syntax::AutoBrackets =>
                 ("auto has the last index of a vector without brackets", "auto v 10; has v[0] to v[10]"),
-            Syntax::AutoList => ("auto has names with commas between them", "auto a, b, v 10;"),
+            Syntax::AutoList => ("auto has names, with commas; a vector has a number", "auto a, b, v 10;"),
             Syntax::ExtrnList => ("extrn has names alone, with commas between them", "extrn n, v;"),
             Syntax::For => ("there is no for: this is taken for a call", "i = 0; while(i < 3) { .. i++; }"),
             Syntax::ForEach => ("there is no for: a while counts", "i = 0; while(i < 3) { .. i++; }"),
@@ -123,6 +124,9 @@ impl Syntax {
             Syntax::TypeInside => ("there are no types", "auto i;"),
             Syntax::CaseSign => ("a case has a number without a sign", "case 65535: is the case of -1"),
             Syntax::CaseValue => ("a case has a number or a character", "case 1: or case 'a':"),
+            Syntax::CaseString =>
+                ("a case has a number or a character, and no string",
+                 "case 'a': has one character; compare of lib/strings.b takes strings"),
             Syntax::CaseList => ("a case has one value", "case 1: case 2: .."),
             Syntax::CaseRange =>
                 ("a case has one value, and no range", "before the switch: if(c >= 'a' & c <= 'z') .."),
@@ -321,7 +325,7 @@ const DECLARATIONS: [Mistake; 7] = [
 
 /// Words, with what has to come after them.
 #[rattlefmt::skip]
-const WORDS: [Mistake; 15] = [
+const WORDS: [Mistake; 16] = [
     Mistake(BODY, If::For, [ANY, ANY, ANY, ANY, ANY], Syntax::For, Marking::Head),
     Mistake(BODY, If::Always, [ANY, ANY, Like::Word("for"), Like::Name, ANY], Syntax::ForEach, Marking::Before),
     Mistake(BODY, If::Always, [ANY, ANY, Like::Word("do"), ANY, ANY], Syntax::Do, Marking::Before),
@@ -330,6 +334,7 @@ const WORDS: [Mistake; 15] = [
         Marking::Before),
     Mistake(BODY, If::Always, [ANY, ANY, Like::Type, Like::Name, ANY], Syntax::TypeInside, Marking::Before),
     Mistake(BODY, If::Always, [ANY, ANY, CASE, SUB, ANY], Syntax::CaseSign, Marking::Here),
+    Mistake(BODY, If::Always, [ANY, ANY, CASE, STRING, ANY], Syntax::CaseString, Marking::Here),
     Mistake(BODY, If::Always, [ANY, ANY, CASE, ANY, ANY], Syntax::CaseValue, Marking::Here),
     Mistake(BODY, If::Always, [ANY, CASE, Like::Constant, COMMA, ANY], Syntax::CaseList, Marking::Here),
     Mistake(BODY, If::Always, [ANY, CASE, Like::Constant, SUB, Like::Constant], Syntax::CaseRange, Marking::Here),

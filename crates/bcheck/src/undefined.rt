@@ -39,6 +39,7 @@ pub(crate) enum UndefinedName {
     LikePrint,
     LikeStrings,
     LikeVectors,
+    LikeMemory,
     Other,
 }
 
@@ -143,6 +144,9 @@ impl UndefinedName {
                 ("nothing defines @: here it is #", "lib/strings.b has #: b go FILE --with strings"),
             UndefinedName::LikeVectors =>
                 ("nothing defines @: here it is #", "lib/vectors.b has #: b go FILE --with vectors"),
+            UndefinedName::LikeMemory =>
+                ("nothing defines @: here it is #",
+                 "givevec(v, 999); once, then #(n): b go FILE --with vectors"),
             UndefinedName::Other => ("nothing defines @", "define it, or take one of the six library calls"),
         }
     }
@@ -261,6 +265,9 @@ fn on_name(spans: &Spans, extent: Extent, definitions: &[Definition], name: Name
     let alike = near_library(&name).or(defined);
     let (what, other) = match (name.as_str(), in_library(&name), foreign_word(&name)) {
         ("break" | "default", _, _) => (UndefinedName::OtherEdition, None),
+        (_, Some((_, Some(here))), _) if here.as_str() == "getvec" => {
+            (UndefinedName::LikeMemory, Some(here))
+        }
         (_, Some(found), _) => found,
         (_, None, Some(word)) if defined.is_none() => (UndefinedName::Foreign(word), None),
         _ if alike.is_some() => (UndefinedName::Near, alike),

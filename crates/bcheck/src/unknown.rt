@@ -11,7 +11,7 @@ use crate::finding::{Finding, Place};
 use crate::foreign::{Foreign, foreign_word};
 use crate::kinds::{Like, is_ended, is_word};
 use crate::near::{find_definitions, library_arguments, near_library, near_token};
-use crate::spans::{SourceText, Spans, lexeme_at, place_of};
+use crate::spans::{SourceText, SpanReader, Spans, lexeme_at, place_of};
 use blang::Keyword;
 use blex::Lexeme;
 use bword::{BinOp, Name};
@@ -25,6 +25,7 @@ pub(crate) enum Unknown {
     Function,
     Library,
     Foreign(Foreign),
+    Elsewhere,
     Near,
     NoLabel,
     Other,
@@ -48,6 +49,9 @@ impl Unknown {
             Unknown::Library =>
                 ("@ is a function of the library", "@() calls it, and after extrn @; its name is its value"),
             Unknown::Foreign(word) => word.advice(),
+            Unknown::Elsewhere =>
+                ("@ is a word of another function, of line %",
+                 "hand it over as an argument, or make it external: extrn @; in both"),
             Unknown::Near => ("no @ is declared here: did you mean #?", "write #, or declare @"),
             Unknown::NoLabel => ("this function has no label @", "put @: before a statement of this function"),
             Unknown::Other =>
@@ -63,6 +67,8 @@ pub(crate) enum Lvalue {
     Call,
     External,
     Typed,
+    Elsewhere,
+    Near,
     Label,
     Other,
 }
@@ -78,6 +84,10 @@ impl Lvalue {
             Lvalue::Call => ("the value of a call has no address", "take a name, x[i] or *x as the operand"),
             Lvalue::External => ("@ is an external of line %, not declared here", "extrn @; before it"),
             Lvalue::Typed => ("@ isn't declared: there are no types, and line % multiplies", "auto @; in its place"),
+            Lvalue::Elsewhere =>
+                ("@ is a word of another function, of line %",
+                 "hand it over as an argument, or make it external: extrn @; in both"),
+            Lvalue::Near => ("no @ is declared here: did you mean #?", "write #, or declare @"),
             Lvalue::Label =>
                 ("@ is taken for a label here, which has no address", "declare it first: auto @; or extrn @;"),
             Lvalue::Other =>
@@ -105,6 +115,11 @@ pub(crate) fn unknown_name(
         own.or(near_library(&name)).or(defined.near)
     };
     let word = if is_label { None } else { foreign_word(&name) };
+    let elsewhere = if is_label {
+        None
+    } else {
+        declared_elsewhere(source, extent, &name)
+    };
     let what = match (name.as_str(), word) {
         ("break" | "default", _) => Unknown::OtherEdition,
         ("continue", _) => Unknown::Continue,
@@ -112,6 +127,7 @@ pub(crate) fn unknown_name(
         _ if defined.same.is_some() => Unknown::External,
         _ if library_arguments(&name).is_some() => Unknown::Library,
         (_, Some(word)) => Unknown::Foreign(word),
+        _ if elsewhere.is_some() => Unknown::Elsewhere,
         _ if other.is_some() => Unknown::Near,
         _ if is_label => Unknown::NoLabel,
         _ => Unknown::Other,
@@ -121,14 +137,35 @@ pub(crate) fn unknown_name(
         name: Some(name),
         other,
         place: place_of(spans, token),
-        related: defined.same,
+        related: defined.same.or(elsewhere),
     }
+}
+
+// Where another function than that of these tokens declares a name.
+fn declared_elsewhere(source: SourceText<'_>, extent: Extent, name: &Name) -> Option<Place> {
+    let mut reader = SpanReader::new(source);
+    let mut is_declared = false;
+    for token in 0..=source.text.len() {
+        let span = reader.next();
+        let is_inside = extent.first <= token && token < extent.end;
+        if is_declared && !is_inside && span.lexeme == Lexeme::Name(*name) {
+            return Some(span.place);
+        }
+        match span.lexeme {
+            Lexeme::Keyword(Keyword::Auto) => is_declared = true,
+            Lexeme::Semicolon => is_declared = false,
+            Lexeme::End => return None,
+            _ => {}
+        }
+    }
+    None
 }
 
 /// What is said of the operand that the operator at this place wants the address of, on this line.
 pub(crate) fn without_address(
     source: SourceText<'_>,
     spans: &Spans,
+    extent: Extent,
     operator: usize,
     line: u64,
 ) -> Finding
@@ -147,15 +184,19 @@ pub(crate) fn without_address(
     }
     let defined = find_definitions(source, &name);
     let typed = pointer_of(spans, operand, &name);
-    let (what, related) = match (defined.same, typed) {
-        (Some(_), _) => (Lvalue::External, defined.same),
-        (None, Some(_)) => (Lvalue::Typed, typed),
-        (None, None) => (Lvalue::Label, None),
+    let elsewhere = declared_elsewhere(source, extent, &name);
+    let other = near_token(spans, extent, &name, false);
+    let (what, related) = match (defined.same, typed, elsewhere) {
+        (Some(_), _, _) => (Lvalue::External, defined.same),
+        (None, Some(_), _) => (Lvalue::Typed, typed),
+        (None, None, Some(_)) => (Lvalue::Elsewhere, elsewhere),
+        (None, None, None) if other.is_some() => (Lvalue::Near, None),
+        (None, None, None) => (Lvalue::Label, None),
     };
     Finding {
         matter: Matter::NotLvalue(what),
         name: Some(name),
-        other: None,
+        other,
         place,
         related,
     }

@@ -30,7 +30,7 @@ pub(crate) fn advice_of(warning: Warning) -> (&'static str, &'static str, &'stat
         Warning::EmptyLoop => ("em", "this ; is all that the loop repeats", "take it out"),
         Warning::PastVector =>
             ("ix", "the vector @ has no word of this index",
-             "auto v 5; has v[0] to v[5], and so has v[5]; outside"),
+             "auto v 5; has v[0] to v[5], as v[5]; outside; @ alone is the vector"),
         Warning::VectorForWord =>
             ("ix", "@ is a vector, and used as a word", "auto @; is a word: its value comes by @ = 5;"),
         Warning::WordForVector =>
@@ -87,7 +87,7 @@ pub(crate) fn advice_of(warning: Warning) -> (&'static str, &'static str, &'stat
             ("us", "@ is declared and never used", "take it out, or look for another spelling of it"),
         Warning::Unset =>
             ("in", "@ is used here, and nothing has set it before",
-             "@ = 0; before this, or the value that it begins with"),
+             "set it first: @ = 0; or getnum(&@); or auto @ 40; for a text"),
         Warning::UnsetVector =>
             ("in", "@ is used as a vector here, and has no words", "auto @ 10; has @[0] to @[10]"),
         Warning::HidesExternal =>

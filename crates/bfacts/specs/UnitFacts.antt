@@ -30,6 +30,8 @@ accented = record {
     after = 240 ∷ 144 ∷ 128 ∷ 128 ∷ 226 ∷ 130 ∷ 172 ∷ 110 ∷ 10 ∷ [];
     split = refl;
   });
+  edits = [];
+  few = refl;
 }
 
 abbrev one_file : Files

@@ -1,0 +1,7 @@
+main() {
+    auto c;
+    c = getchar();
+    switch c {
+    case "a": putchar('a');
+    }
+}

@@ -1,0 +1,8 @@
+main() {
+    auto count;
+    count = 0;
+    more();
+}
+more() {
+    count = count + 1;
+}

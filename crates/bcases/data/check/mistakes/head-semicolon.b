@@ -1,0 +1,4 @@
+cube(n);
+{
+    return(n * n * n);
+}

@@ -1,0 +1,8 @@
+main() {
+    auto i;
+    i = getchar();
+    if(i) goto done;
+    putchar(i);
+done;
+    putchar('*n');
+}

@@ -1,0 +1,5 @@
+main() {
+    auto v;
+    v = malloc(10);
+    v[0] = 1;
+}

@@ -1,0 +1,6 @@
+main() {
+    auto count;
+    count = 0;
+    cuont++;
+    printn(count, 10);
+}

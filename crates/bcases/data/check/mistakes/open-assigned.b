@@ -1,0 +1,6 @@
+main() {
+    auto c;
+    while((c = getchar() != '*e') {
+        putchar(c);
+    }
+}

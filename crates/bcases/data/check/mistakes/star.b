@@ -1,0 +1,4 @@
+main() {
+    putchar('*');
+    putchar('*n');
+}

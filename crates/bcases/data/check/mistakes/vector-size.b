@@ -1,0 +1,5 @@
+f(n) {
+    auto v n, i;
+    i = 0;
+    return(i + n);
+}

@@ -1,0 +1,220 @@
+//! Edits that mend what was found. Each is tried on the source before it is told.
+ghost use Rattle.std.specs.List.{All};
+ghost use Rattle.std.specs.Prelude.{ℕ, List, ◌≡◌, ◌≤◌, ◌++◌, IfOk, IfSome, IsTrue, OnOk, drop, length, take, vec_items};
+ghost use Rattle.bword.specs.declared.edition.Edition.{Edition};
+ghost use Rattle.bsources.specs.Files.{Files, files_shown};
+ghost use Rattle.bcheck.specs.Checks.{Judged};
+ghost use Rattle.bcheck.specs.Findings.{Improves, IsCompiled, IsMilestone, IsStopOf, IsTried, is_better};
+
+use crate::edit::{Edit, Proposal, edit_of};
+use crate::explain::findings;
+use crate::finding::{Finding, MOST_FINDINGS};
+use crate::places::{Milestone, parts};
+use crate::spans::SourceText;
+use crate::verdict::{Judgement, Verdict, judge};
+use bsources::SourceFiles;
+use btools::Text;
+use bword::Name;
+use std::alloc::{AllocError, Global};
+
+/// The most edits that are told of a finding.
+const MOST_EDITS: usize = 3;
+
+/// How many bytes of sources with edits are compiled in one check, at most.
+const TRIED_BYTES: usize = 2097152;
+
+/// A source on which edits are tried, and what is known of it.
+#[derive(Clone, Copy)]
+pub(crate) struct Bench<'a> {
+    pub source: SourceText<'a>,
+    pub files: SourceFiles<'a>,
+    pub milestones: &'a [Milestone],
+    pub verdict: &'a Verdict,
+    /// The places after the last tokens of the definitions that were written.
+    pub ends: &'a [usize],
+    pub findings: &'a [Finding],
+}
+
+impl Bench<'_> {
+    /// How many edits are tried for each finding.
+    pub(crate) fn tries(&self) -> usize {
+        let each = TRIED_BYTES / self.findings.len().max(1);
+        each / self.source.text.len().max(1)
+    }
+}
+
+/// Those of the proposals that mend what was found, the first ones of as many as are tried.
+pub(crate) fn tried_edits<'a>(
+    alloc: Global,
+    bench: &Bench<'a>,
+    proposals: &'a [Proposal],
+) -> Result<Vec<Edit<'a>>, AllocError>
+    requires milestones { All (IsMilestone bench.now.source.text.now) bench.now.milestones.now }
+    requires judged { Judged bench.now.source.edition bench.now.source.text.now bench.now.verdict.now }
+    requires stop { IsStopOf bench.now.source.edition bench.now.source.text.now bench.now.verdict.now }
+    ensures tried { IfOk result (λ edits. All (IsTried bench.now.source.edition (files_shown bench.now.files)
+        bench.now.source.text.now) (vec_items edits)) }
+    ensures few { IfOk result (λ edits. length (vec_items edits) ≤ 3) }
+{
+    let most = bench.tries();
+    let mut edits = Vec::new(alloc);
+    for index in 0..proposals.len() {
+        if index >= most || edits.len() >= MOST_EDITS {
+            break;
+        }
+        let found = tried(alloc, bench, &proposals[index])?;
+        push_found(&mut edits, found)?;
+    }
+    Ok(edits)
+}
+
+// Adds an edit, if there is one and not too many are there.
+fn push_found<'a>(edits: &mut Vec<Edit<'a>>, found: Option<Edit<'a>>) -> Result<(), AllocError>
+    ensures tried { (edition : Edition) (files : Files) (source : List ℕ)
+        → All (IsTried edition files source) (vec_items edits.old) → IfSome found.entry (IsTried edition files source)
+        → OnOk result (All (IsTried edition files source) (vec_items edits.new)) }
+    ensures few { length (vec_items edits.old) ≤ 3 → OnOk result (length (vec_items edits.new) ≤ 3) }
+{
+    let Some(edit) = found else {
+        return Ok(());
+    };
+    if edits.len() >= MOST_EDITS {
+        return Ok(());
+    }
+    edits.push(edit)?;
+    Ok(())
+}
+
+// The edit that a proposal is, if it mends what was found.
+fn tried<'a>(
+    alloc: Global,
+    bench: &Bench<'a>,
+    proposal: &'a Proposal,
+) -> Result<Option<Edit<'a>>, AllocError>
+    requires milestones { All (IsMilestone bench.now.source.text.now) bench.now.milestones.now }
+    requires judged { Judged bench.now.source.edition bench.now.source.text.now bench.now.verdict.now }
+    requires stop { IsStopOf bench.now.source.edition bench.now.source.text.now bench.now.verdict.now }
+    ensures { IfOk result (λ edit. IfSome edit (IsTried bench.now.source.edition (files_shown bench.now.files)
+        bench.now.source.text.now)) }
+{
+    let source = bench.source.text;
+    let Some(edit) = edit_of(source, &bench.files, bench.milestones, proposal) else {
+        return Ok(None);
+    };
+    let new = mended(alloc, source, proposal)?;
+    let spot = Spot {
+        line: edit.at.line,
+        name: proposal.name,
+    };
+    if improves(alloc, bench, new.as_slice(), spot)? {
+        Ok(Some(edit))
+    } else {
+        Ok(None)
+    }
+}
+
+// A source with an edit.
+fn mended(alloc: Global, source: &[u8], proposal: &Proposal) -> Result<Text, AllocError>
+    ensures { IfOk result (λ new. new ≡ take proposal.now.start source.now
+        ++ (proposal.now.text ++ drop proposal.now.len (drop proposal.now.start source.now))) }
+{
+    let (before, rest) = parts(source, proposal.start);
+    let (_, after) = parts(rest, proposal.len);
+    let mut new = Text::new(alloc);
+    new.push(before)?;
+    new.push(proposal.text.as_slice())?;
+    new.push(after)?;
+    Ok(new)
+}
+
+/// The line of an edit, and the name that was found fault with.
+#[derive(Clone, Copy)]
+struct Spot {
+    line: u64,
+    name: Option<Name>,
+}
+
+// Whether what was found is gone in a text that an edit made, and nothing new is found.
+fn improves(alloc: Global, bench: &Bench<'_>, new: &[u8], spot: Spot) -> Result<bool, AllocError>
+    requires judged { Judged bench.now.source.edition bench.now.source.text.now bench.now.verdict.now }
+    requires stop { IsStopOf bench.now.source.edition bench.now.source.text.now bench.now.verdict.now }
+    ensures { IfOk result (λ is. IsTrue is → Improves bench.now.source.edition bench.now.source.text.now new.now) }
+{
+    let source = SourceText {
+        text: new,
+        edition: bench.source.edition,
+    };
+    let judgement = judge(alloc, source)?;
+    if !is_better(&judgement.verdict, bench.verdict) {
+        return Ok(false);
+    }
+    is_quiet(alloc, bench, source, &judgement, spot)
+}
+
+// Whether a verdict is better than an old one.
+fn is_better(new: &Verdict, old: &Verdict) -> bool
+    ensures { result ≡ is_better new.now old.now }
+{
+    match (new, old) {
+        (Verdict::Faulty(_, after), Verdict::Faulty(_, before)) => before.line < after.line,
+        (Verdict::Faulty(_, _), _) => false,
+        (Verdict::Clean, _) => true,
+        (Verdict::Unloaded(_), Verdict::Clean) => false,
+        (Verdict::Unloaded(_), _) => true,
+    }
+}
+
+// Whether nothing is found in a text with an edit that wasn't found before, and less than before.
+fn is_quiet(
+    alloc: Global,
+    bench: &Bench<'_>,
+    source: SourceText<'_>,
+    judgement: &Judgement,
+    spot: Spot,
+) -> Result<bool, AllocError>
+    requires judged { Judged source.edition source.text.now judgement.now.verdict }
+    requires stop { IsStopOf source.edition source.text.now judgement.now.verdict }
+    requires compiled { IsCompiled source.edition source.text.now judgement.now.compiled }
+{
+    if let Verdict::Faulty(_, _) = judgement.verdict {
+        return Ok(true);
+    }
+    let found = findings(alloc, source, &bench.files, judgement)?;
+    let new = found.as_slice();
+    Ok(match (&judgement.verdict, bench.verdict) {
+        (Verdict::Clean, Verdict::Clean) => are_fewer(new, bench.findings),
+        (Verdict::Clean, _) => none_at(new, spot),
+        (_, Verdict::Unloaded(_)) => new.len() < bench.findings.len(),
+        _ => true,
+    })
+}
+
+// Whether findings are some of others, but not all of them. Where no more are told, another one may come last.
+fn are_fewer(new: &[Finding], old: &[Finding]) -> bool {
+    let mut count: usize = 0;
+    for finding in old {
+        if let Some(next) = new.get(count) {
+            if is_same(next, finding) {
+                count = count.saturating_add(1);
+            }
+        }
+    }
+    let spare: usize = if old.len() < MOST_FINDINGS { 0 } else { 1 };
+    count.saturating_add(spare) >= new.len() && count < old.len()
+}
+
+// Whether two findings say the same of the same name.
+fn is_same(one: &Finding, other: &Finding) -> bool {
+    one.name == other.name && one.matter.advice().1 == other.matter.advice().1
+}
+
+// Whether no finding stands on the line of an edit, or speaks of its name.
+fn none_at(findings: &[Finding], spot: Spot) -> bool {
+    for finding in findings {
+        let is_named = finding.name.is_some() && finding.name == spot.name;
+        if is_named || finding.place.line == spot.line {
+            return false;
+        }
+    }
+    true
+}

@@ -1,0 +1,85 @@
+//! Which edits may mend a finding, the likelier first. They are tried before one is told.
+use crate::advice::Matter;
+use crate::compiled::Extent;
+use crate::draft::Draft;
+use crate::edit::Proposal;
+use crate::finding::Finding;
+use crate::mending::Bench;
+use crate::spans::Spans;
+use crate::{byte_mends, name_mends, syntax_mends, warning_mends};
+use std::alloc::{AllocError, Global};
+
+/// Where a finding stands among the tokens.
+#[derive(Clone, Copy)]
+pub(crate) struct Site {
+    /// The token at its place.
+    pub token: usize,
+    /// The first token of its definition.
+    pub first: usize,
+}
+
+/// The tokens of a source, if edits of it are tried.
+pub(crate) fn tokens_of(alloc: Global, bench: &Bench<'_>) -> Result<Spans, AllocError> {
+    let is_tried = bench.tries() > 0 && !bench.findings.is_empty();
+    let extent = Extent {
+        first: 0,
+        end: if is_tried { usize::MAX } else { 0 },
+    };
+    Spans::between(alloc, bench.source, extent)
+}
+
+/// The edits that may mend a finding of a source with these tokens.
+pub(crate) fn proposals(
+    alloc: Global,
+    bench: &Bench<'_>,
+    tokens: &Spans,
+    finding: &Finding,
+) -> Result<Vec<Proposal>, AllocError> {
+    let mut draft = Draft::new(alloc, bench.source.text, tokens, finding.name);
+    if bench.tries() == 0 || bench.files.beyond_first(finding.place.line).is_some() {
+        return Ok(draft.all);
+    }
+    let token = token_at(tokens, finding.place.start);
+    let site = Site {
+        token,
+        first: first_of(bench.ends, token),
+    };
+    match finding.matter {
+        Matter::Character(byte) => byte_mends::character(&mut draft, byte, finding.place.start)?,
+        Matter::Constant(constant) => byte_mends::constant(&mut draft, constant, token)?,
+        Matter::Syntax(syntax) => syntax_mends::of_syntax(&mut draft, site, syntax, finding)?,
+        Matter::PrototypeBefore => name_mends::prototype(&mut draft, finding)?,
+        Matter::NotLvalue(lvalue) => name_mends::of_lvalue(&mut draft, site, lvalue, finding)?,
+        Matter::Unknown(unknown) => name_mends::of_unknown(&mut draft, site, unknown, finding)?,
+        Matter::NotDefined(undefined) => name_mends::of_undefined(
+            &mut draft, site, undefined, finding,
+        )?,
+        Matter::Warning(warning) => warning_mends::of_warning(&mut draft, site, warning, finding)?,
+        _ => {}
+    }
+    Ok(draft.all)
+}
+
+/// The last token that begins at a place or before it.
+pub(crate) fn token_at(tokens: &Spans, start: usize) -> usize {
+    let (mut low, mut high): (usize, usize) = (0, tokens.end());
+    for _ in 0..64 {
+        let middle = low.saturating_add(high) / 2;
+        match tokens.get(middle) {
+            Some(span) if span.place.start <= start => low = middle,
+            _ => high = middle,
+        }
+    }
+    low
+}
+
+// The first token of the definition that a token belongs to, by the ends of those that were written.
+fn first_of(ends: &[usize], token: usize) -> usize {
+    let mut first = 0;
+    for end in ends {
+        if *end <= token {
+            first = *end;
+        }
+    }
+    first
+}

@@ -1,0 +1,209 @@
+//! Edits for names that mean nothing where they are, and for operands without an address.
+use crate::declared_mends::local;
+use crate::draft::{Draft, Part};
+use crate::finding::Finding;
+use crate::kinds::is_word;
+use crate::mends::{Site, token_at};
+use crate::syntax_mends::{after_brackets, word_here};
+use crate::undefined::UndefinedName;
+use crate::unknown::{Lvalue, Unknown};
+use blang::Keyword;
+use blex::Lexeme;
+use bword::Name;
+use std::alloc::AllocError;
+
+/// What may mend a definition of a name that a prototype has, which is the second place.
+pub(crate) fn prototype(draft: &mut Draft<'_>, finding: &Finding) -> Result<(), AllocError> {
+    let Some(place) = finding.related else {
+        return Ok(());
+    };
+    let first = token_at(draft.spans, place.start);
+    match draft.on_line(first, Lexeme::Semicolon) {
+        Some(last) => draft.remove(first, last),
+        None => Ok(()),
+    }
+}
+
+/// What may mend an operand without an address.
+pub(crate) fn of_lvalue(
+    draft: &mut Draft<'_>,
+    site: Site,
+    lvalue: Lvalue,
+    finding: &Finding,
+) -> Result<(), AllocError> {
+    match (lvalue, finding.name) {
+        (Lvalue::Character, _) => stored(draft, site.token),
+        (Lvalue::External, Some(name)) => declare(draft, site, Keyword::Extrn, &name),
+        (Lvalue::Label, Some(name)) => declare(draft, site, Keyword::Auto, &name),
+        (Lvalue::Near, Some(name)) => {
+            near(draft, site.token, &finding.other)?;
+            declare(draft, site, Keyword::Auto, &name)
+        }
+        (Lvalue::Typed, _) => match finding.related {
+            Some(place) => local(draft, token_at(draft.spans, place.start)),
+            None => Ok(()),
+        },
+        _ => Ok(()),
+    }
+}
+
+/// What may mend a name of a function that is neither declared nor a label.
+pub(crate) fn of_unknown(
+    draft: &mut Draft<'_>,
+    site: Site,
+    unknown: Unknown,
+    finding: &Finding,
+) -> Result<(), AllocError> {
+    let Some(name) = finding.name else {
+        return Ok(());
+    };
+    match unknown {
+        Unknown::External => declare(draft, site, Keyword::Extrn, &name),
+        Unknown::Function | Unknown::Library => {
+            draft.after(site.token, b"()")?;
+            declare(draft, site, Keyword::Extrn, &name)
+        }
+        Unknown::Foreign(word) => word_here(draft, site.token, word),
+        Unknown::Near => {
+            near(draft, site.token, &finding.other)?;
+            declare(draft, site, Keyword::Auto, &name)
+        }
+        Unknown::NoLabel => label(draft, site, &name),
+        Unknown::Other => declare(draft, site, Keyword::Auto, &name),
+        _ => Ok(()),
+    }
+}
+
+/// What may mend a name that nothing defines.
+pub(crate) fn of_undefined(
+    draft: &mut Draft<'_>,
+    site: Site,
+    undefined: UndefinedName,
+    finding: &Finding,
+) -> Result<(), AllocError> {
+    match undefined {
+        UndefinedName::Foreign(word) => word_here(draft, site.token, word),
+        UndefinedName::Near => near(draft, site.token, &finding.other),
+        _ => Ok(()),
+    }
+}
+
+// A colon after a name that stands alone as a statement, for the label that is missing.
+fn label(draft: &mut Draft<'_>, site: Site, name: &Name) -> Result<(), AllocError> {
+    for token in site.first..draft.spans.end() {
+        let end = token.saturating_add(1);
+        let begins = matches!(
+            draft.at(token.wrapping_sub(1)),
+            Lexeme::Semicolon | Lexeme::OpenBrace | Lexeme::CloseBrace
+        );
+        let is_alone = draft.at(token) == Lexeme::Name(*name) && draft.at(end) == Lexeme::Semicolon;
+        if begins && is_alone {
+            return draft.rename(end, b":");
+        }
+    }
+    Ok(())
+}
+
+// The name that is meant perhaps, in the place of another one.
+fn near(draft: &mut Draft<'_>, token: usize, other: &Option<Name>) -> Result<(), AllocError> {
+    match other {
+        Some(other) => draft.rename(token, other.as_bytes()),
+        None => Ok(()),
+    }
+}
+
+// A call of `lchar` in the place of an assignment to a call of `char`, whose `=` this token is.
+fn stored(draft: &mut Draft<'_>, token: usize) -> Result<(), AllocError> {
+    let Some(end) = draft.on_line(token, Lexeme::Semicolon) else {
+        return Ok(());
+    };
+    for back in 1..token {
+        let callee = token.saturating_sub(back);
+        let opener = callee.saturating_add(1);
+        if is_word(&draft.at(callee), "char") && after_brackets(draft, opener) == token {
+            return draft.replace(
+                callee,
+                end.wrapping_sub(1),
+                &[
+                    Part::Words(b"lchar("),
+                    Part::Tokens(opener.saturating_add(1), token.saturating_sub(2)),
+                    Part::Words(b", "),
+                    Part::Tokens(token.saturating_add(1), end.wrapping_sub(1)),
+                    Part::Words(b")"),
+                ],
+            );
+        }
+    }
+    Ok(())
+}
+
+/// A declaration of a name at the beginning of a function: in the one of its kind that is there, or before all else.
+pub(crate) fn declare(
+    draft: &mut Draft<'_>,
+    site: Site,
+    keyword: Keyword,
+    name: &Name,
+) -> Result<(), AllocError> {
+    let Some(brace) = body_of(draft, site) else {
+        return Ok(());
+    };
+    let first = brace.saturating_add(1);
+    if draft.at(first) == Lexeme::Keyword(keyword) {
+        if let Some(end) = draft.on_line(first, Lexeme::Semicolon) {
+            let place = draft.start(end);
+            return draft.put(
+                place,
+                place,
+                &[Part::Words(b", "), Part::Words(name.as_bytes())],
+            );
+        }
+    }
+    let word: &[u8] = if keyword == Keyword::Extrn {
+        b"extrn "
+    } else {
+        b"auto "
+    };
+    let is_alone = draft.line(first) != draft.line(brace);
+    let (place, before, after): (usize, &[u8], &[u8]) = if is_alone {
+        (draft.start(first), b"", b"; ")
+    } else {
+        (draft.end(brace), b" ", b";")
+    };
+    draft.put(
+        place,
+        place,
+        &[
+            Part::Words(before),
+            Part::Words(word),
+            Part::Words(name.as_bytes()),
+            Part::Words(after),
+        ],
+    )
+}
+
+/// The brace with which the body of a function begins, before a token.
+pub(crate) fn body_of(draft: &Draft<'_>, site: Site) -> Option<usize> {
+    for token in site.first..site.token {
+        if draft.at(token) == Lexeme::OpenBrace {
+            return Some(token);
+        }
+    }
+    None
+}
+
+/// Where a name stands in the declaration of this kind of a function, before a token.
+pub(crate) fn declared_at(draft: &Draft<'_>, site: Site, name: &Name) -> Option<usize> {
+    let mut is_declared = false;
+    for token in site.first..site.token {
+        let lexeme = draft.at(token);
+        if is_declared && lexeme == Lexeme::Name(*name) {
+            return Some(token);
+        }
+        match lexeme {
+            Lexeme::Keyword(Keyword::Auto) => is_declared = true,
+            Lexeme::Semicolon => is_declared = false,
+            _ => {}
+        }
+    }
+    None
+}

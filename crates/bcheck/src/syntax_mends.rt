@@ -1,0 +1,531 @@
+//! Edits for a token with which no program goes on.
+use crate::byte_mends::remark;
+use crate::declared_mends::{definition, head, local, names_alone};
+use crate::draft::{Draft, Part};
+use crate::finding::Finding;
+use crate::foreign::Foreign;
+use crate::kinds::{Like, closes_bracket, is_ended, opens_bracket};
+use crate::mends::Site;
+use crate::name_mends::body_of;
+use crate::syntax::Syntax;
+use blang::Keyword;
+use blex::Lexeme;
+use bword::BinOp;
+use std::alloc::AllocError;
+
+/// What may mend a token with which no program goes on.
+pub(crate) fn of_syntax(
+    draft: &mut Draft<'_>,
+    site: Site,
+    syntax: Syntax,
+    finding: &Finding,
+) -> Result<(), AllocError> {
+    of_braces(draft, site, syntax, finding)?;
+    of_definition(draft, site, syntax)?;
+    of_statement(draft, site, syntax)?;
+    of_expression(draft, site, syntax)
+}
+
+// What stands outside of functions, and in the heads of functions.
+fn of_definition(draft: &mut Draft<'_>, site: Site, syntax: Syntax) -> Result<(), AllocError> {
+    let (token, first) = (site.token, site.first);
+    match syntax {
+        Syntax::Slashes => remark(draft, draft.start(token), 2),
+        Syntax::BraceSemicolon | Syntax::BraceCloses => draft.remove(token, token),
+        Syntax::TypeFirst | Syntax::TypeParameter => {
+            head(draft, first)?;
+            definition(draft, first)
+        }
+        Syntax::VectorParameter => head(draft, first),
+        Syntax::EqualsOutside | Syntax::SignOutside | Syntax::BracesOutside => definition(
+            draft, first,
+        ),
+        Syntax::Prototype => match draft.on_line(token, Lexeme::Semicolon) {
+            Some(last) => draft.remove(token, last),
+            None => Ok(()),
+        },
+        Syntax::NameMissing if draft.at(token) == Lexeme::OpenBrace => {
+            let before = token.wrapping_sub(1);
+            draft.put(draft.start(before), draft.end(before), &[])
+        }
+        _ => Ok(()),
+    }
+}
+
+// A brace that is missing, where it is that of the function before, or the one before an `else`.
+fn of_braces(
+    draft: &mut Draft<'_>,
+    site: Site,
+    syntax: Syntax,
+    finding: &Finding,
+) -> Result<(), AllocError> {
+    let is_whole = match (finding.related, body_of(draft, site)) {
+        (Some(open), Some(brace)) => open.start == draft.start(brace),
+        _ => false,
+    };
+    match syntax {
+        Syntax::FunctionInside if is_whole => draft.before(site.token, b"} "),
+        Syntax::ElseInBraces => draft.before(site.token, b"} "),
+        _ => Ok(()),
+    }
+}
+
+// What begins and ends statements, and what stands between them.
+fn of_statement(draft: &mut Draft<'_>, site: Site, syntax: Syntax) -> Result<(), AllocError> {
+    let token = site.token;
+    let before = token.wrapping_sub(1);
+    match syntax {
+        Syntax::SemicolonMissing | Syntax::SemicolonBefore | Syntax::NoStatement => draft.after(
+            before, b";",
+        ),
+        Syntax::AutoValue | Syntax::AutoBrackets | Syntax::AutoList => {
+            local(draft, statement_of(draft, token))
+        }
+        Syntax::TypeInside => local(draft, token),
+        Syntax::ExtrnList => names_alone(draft, statement_of(draft, token)),
+        Syntax::Then => draft.remove(token, token),
+        Syntax::CaseSign => case_sign(draft, token),
+        Syntax::CaseString => case_value(draft, token),
+        Syntax::CaseList => cases(draft, token),
+        Syntax::CaseColon if draft.at(token) == Lexeme::Semicolon => draft.rename(token, b":"),
+        Syntax::CaseColon => draft.after(before, b":"),
+        Syntax::Condition => condition(draft, token),
+        Syntax::ReturnValue => parenthesized(draft, token, Lexeme::Semicolon, b"("),
+        Syntax::CallParens => parenthesized(draft, token, Lexeme::Semicolon, b"("),
+        Syntax::ElseAlone => else_alone(draft, before),
+        Syntax::HeadColon => draft.remove(token, token),
+        Syntax::CallBody => call_body(draft, token),
+        Syntax::CommaAlone => draft.rename(token, b";"),
+        Syntax::Foreign(word) => foreign(draft, site, word),
+        _ => Ok(()),
+    }
+}
+
+// What stands in expressions.
+fn of_expression(draft: &mut Draft<'_>, site: Site, syntax: Syntax) -> Result<(), AllocError> {
+    let token = site.token;
+    let before = token.wrapping_sub(1);
+    let next = token.wrapping_add(1);
+    match syntax {
+        Syntax::ParenOpen => closing(draft, token),
+        Syntax::OrOr => or_or(draft, token),
+        Syntax::EqualsAfter => draft.replace(
+            before,
+            token,
+            &[Part::Words(b"="), Part::Tokens(before, before)],
+        ),
+        Syntax::QuoteEscaped => quotes(draft, before),
+        Syntax::NumberName => number(draft, token),
+        Syntax::CompareSigns => compared(draft, token),
+        Syntax::LessGreater => draft.replace(token, next, &[Part::Words(b"!=")]),
+        Syntax::ColonEquals => draft.replace(token, next, &[Part::Words(b"=")]),
+        Syntax::OperandMissing if draft.at(before) == Lexeme::Comma => draft.remove(before, before),
+        Syntax::OperandMissing if draft.at(before) == Lexeme::OpenBracket => {
+            draft.replace(before, token, &[])
+        }
+        Syntax::AssignLeft => draft.rename(token, b"=="),
+        Syntax::Unopened => draft.remove(token, token),
+        Syntax::TwoOperands => {
+            let is_inside = opener_before(draft, token).is_some();
+            draft.after(before, if is_inside { b"," } else { b";" })
+        }
+        _ => Ok(()),
+    }
+}
+
+/// The innermost bracket that is open before a token, if no brace is.
+pub(crate) fn opener_before(draft: &Draft<'_>, token: usize) -> Option<usize> {
+    let mut depth: u64 = 0;
+    for back in 0..token {
+        let at = token.saturating_sub(back).saturating_sub(1);
+        let lexeme = draft.at(at);
+        if matches!(
+            lexeme,
+            Lexeme::OpenBrace | Lexeme::CloseBrace | Lexeme::Semicolon
+        ) {
+            return None;
+        }
+        if closes_bracket(&lexeme) {
+            depth = depth.saturating_add(1);
+        } else if opens_bracket(&lexeme) {
+            if depth == 0 {
+                return Some(at);
+            }
+            depth = depth.saturating_sub(1);
+        }
+    }
+    None
+}
+
+/// The token after the bracket that an opening one is closed by, or after the last one of its line.
+pub(crate) fn after_brackets(draft: &Draft<'_>, opener: usize) -> usize {
+    let mut depth: u64 = 0;
+    for token in opener..draft.spans.end() {
+        let lexeme = draft.at(token);
+        if opens_bracket(&lexeme) {
+            depth = depth.saturating_add(1);
+        } else if closes_bracket(&lexeme) {
+            depth = depth.saturating_sub(1);
+        }
+        if depth == 0 || lexeme == Lexeme::End {
+            return token.saturating_add(1);
+        }
+    }
+    draft.spans.end()
+}
+
+// The first token of the statement of a token, where braces and a `;` are before it.
+fn statement_of(draft: &Draft<'_>, token: usize) -> usize {
+    for back in 0..token {
+        let at = token.saturating_sub(back).saturating_sub(1);
+        if matches!(
+            draft.at(at),
+            Lexeme::OpenBrace | Lexeme::CloseBrace | Lexeme::Semicolon
+        ) {
+            return at.saturating_add(1);
+        }
+    }
+    0
+}
+
+// A closing bracket for the one that is open: after a call whose value is assigned and compared, before an assignment,
+// right before the token, or before a comma.
+fn closing(draft: &mut Draft<'_>, token: usize) -> Result<(), AllocError> {
+    let Some(opener) = opener_before(draft, token) else {
+        return Ok(());
+    };
+    let closer: &[u8] = if draft.at(opener) == Lexeme::OpenBracket {
+        b"]"
+    } else {
+        b")"
+    };
+    let mut is_assigned = false;
+    for at in opener.saturating_add(1)..token {
+        match draft.at(at) {
+            Lexeme::Assign(None) if draft.at(opener) == Lexeme::OpenBracket => {
+                draft.after(at.wrapping_sub(1), closer)?;
+            }
+            Lexeme::Assign(None) => is_assigned = true,
+            Lexeme::Operator(BinOp::Eq | BinOp::Ne | BinOp::Lt | BinOp::Le | BinOp::Gt | BinOp::Ge)
+                if is_assigned => {
+                return draft.after(at.wrapping_sub(1), closer);
+            }
+            _ => {}
+        }
+    }
+    draft.after(token.wrapping_sub(1), closer)?;
+    before_commas(draft, opener, token, closer)
+}
+
+// A closing bracket before a comma, from the last one back.
+fn before_commas(
+    draft: &mut Draft<'_>,
+    opener: usize,
+    token: usize,
+    closer: &[u8],
+) -> Result<(), AllocError> {
+    for back in 1..token.saturating_sub(opener) {
+        let at = token.saturating_sub(back);
+        if draft.at(at) == Lexeme::Comma {
+            draft.after(at.wrapping_sub(1), closer)?;
+        }
+    }
+    Ok(())
+}
+
+// Parentheses from a token to the one before the next of this kind on its line.
+fn parenthesized(
+    draft: &mut Draft<'_>,
+    token: usize,
+    end: Lexeme,
+    opener: &[u8],
+) -> Result<(), AllocError> {
+    let Some(last) = draft.on_line(token, end) else {
+        return Ok(());
+    };
+    if last == token {
+        return Ok(());
+    }
+    let last = last.wrapping_sub(1);
+    draft.put(
+        draft.end(token.wrapping_sub(1)),
+        draft.end(last),
+        &[
+            Part::Words(opener),
+            Part::Tokens(token, last),
+            Part::Words(b")"),
+        ],
+    )
+}
+
+// Parentheses around a condition, which goes to a `{`, or to a `:` that is taken out.
+fn condition(draft: &mut Draft<'_>, token: usize) -> Result<(), AllocError> {
+    parenthesized(draft, token, Lexeme::OpenBrace, b"(")?;
+    let Some(colon) = draft.on_line(token, Lexeme::Colon) else {
+        return Ok(());
+    };
+    let last = colon.wrapping_sub(1);
+    draft.put(
+        draft.end(token.wrapping_sub(1)),
+        draft.end(colon),
+        &[
+            Part::Words(b"("),
+            Part::Tokens(token, last),
+            Part::Words(b")"),
+        ],
+    )
+}
+
+// The number below 65536 that is the same word as a negative one.
+fn case_sign(draft: &mut Draft<'_>, token: usize) -> Result<(), AllocError> {
+    let next = token.wrapping_add(1);
+    match draft.at(next) {
+        Lexeme::Number(number) => draft.replace(
+            token,
+            next,
+            &[Part::Number(u64::from(number.wrapping_neg()))],
+        ),
+        _ => Ok(()),
+    }
+}
+
+// A case for each value up to the colon, from the first comma on.
+fn cases(draft: &mut Draft<'_>, token: usize) -> Result<(), AllocError> {
+    let Some(colon) = draft.on_line(token, Lexeme::Colon) else {
+        return Ok(());
+    };
+    let mut text = draft.text();
+    for at in token..colon {
+        if draft.at(at) == Lexeme::Comma {
+            text.push(b": case ")?;
+        } else {
+            text.push(draft.bytes(at, at))?;
+        }
+    }
+    let start = draft.end(token.wrapping_sub(1));
+    draft.put_text(start, draft.start(colon), text)
+}
+
+// A character in the place of a string of one or two.
+fn case_value(draft: &mut Draft<'_>, token: usize) -> Result<(), AllocError> {
+    let (start, end) = (draft.start(token), draft.end(token));
+    if draft.at(token) != Lexeme::String || end.saturating_sub(start) > 4 {
+        return Ok(());
+    }
+    let inner = draft
+        .source
+        .get(start.saturating_add(1)..end.saturating_sub(1))
+        .unwrap_or(&[]);
+    draft.put(
+        start,
+        end,
+        &[Part::Words(b"'"), Part::Words(inner), Part::Words(b"'")],
+    )
+}
+
+// A `;` that ends an `if` before its `else`.
+fn else_alone(draft: &mut Draft<'_>, before: usize) -> Result<(), AllocError> {
+    if draft.at(before) == Lexeme::Semicolon {
+        draft.remove(before, before)
+    } else {
+        Ok(())
+    }
+}
+
+// A keyword that is spelt almost like what is called.
+fn call_body(draft: &mut Draft<'_>, token: usize) -> Result<(), AllocError> {
+    let Lexeme::Name(name) = draft.at(token) else {
+        return Ok(());
+    };
+    match name.as_str() {
+        "If" | "IF" | "fi" | "iff" | "when" | "unless" => draft.rename(token, b"if"),
+        "While" | "WHILE" | "wihle" | "whlie" | "whiel" | "whle" | "wile" | "hwile" | "until" => {
+            draft.rename(token, b"while")
+        }
+        "Switch" | "swich" | "swtich" | "siwtch" | "switc" => draft.rename(token, b"switch"),
+        _ => Ok(()),
+    }
+}
+
+// One `|` in the place of two, where nothing is done twice or not at all by that.
+fn or_or(draft: &mut Draft<'_>, token: usize) -> Result<(), AllocError> {
+    if has_no_effect_after(draft, token.wrapping_add(1)) {
+        draft.replace(token.wrapping_sub(1), token, &[Part::Words(b"|")])
+    } else {
+        Ok(())
+    }
+}
+
+/// Whether what comes up to the end of the brackets or of the statement does nothing and reads through no address.
+pub(crate) fn has_no_effect_after(draft: &Draft<'_>, from: usize) -> bool {
+    for token in from..draft.spans.end() {
+        match draft.at(token) {
+            Lexeme::CloseParen | Lexeme::Semicolon | Lexeme::End | Lexeme::OpenBrace => return true,
+            Lexeme::OpenParen
+            | Lexeme::OpenBracket
+            | Lexeme::Assign(_)
+            | Lexeme::Increment
+            | Lexeme::Decrement
+            | Lexeme::Operator(BinOp::Mul | BinOp::Div | BinOp::Rem) => return false,
+            _ => {}
+        }
+    }
+    true
+}
+
+// A star in the place of each backslash before a quote, in the rest of the line from a string on.
+fn quotes(draft: &mut Draft<'_>, token: usize) -> Result<(), AllocError> {
+    let start = draft.start(token);
+    let mut text = draft.text();
+    let mut end = start;
+    for index in start..draft.source.len() {
+        let byte = draft.source.get(index).copied().unwrap_or(b'\n');
+        if byte == b'\n' || byte == b'\r' {
+            break;
+        }
+        let next = draft.source.get(index.saturating_add(1)).copied();
+        if byte == b'\\' && next == Some(b'"') {
+            text.push(b"*")?;
+        } else {
+            text.push(&[byte])?;
+        }
+        end = index.saturating_add(1);
+    }
+    draft.put_text(start, end, text)
+}
+
+// The digits of a hexadecimal number, whose name begins with `x`, to the base 10; or a number without a letter after it.
+fn number(draft: &mut Draft<'_>, token: usize) -> Result<(), AllocError> {
+    let before = token.wrapping_sub(1);
+    let Lexeme::Name(name) = draft.at(token) else {
+        return Ok(());
+    };
+    match name.as_bytes() {
+        [b'x' | b'X', digits @ ..] => match hexadecimal(digits) {
+            Some(number) => draft.replace(before, token, &[Part::Number(number)]),
+            None => Ok(()),
+        },
+        [b'L' | b'l' | b'u' | b'U'] => draft.put(draft.start(token), draft.end(token), &[]),
+        _ => Ok(()),
+    }
+}
+
+fn hexadecimal(digits: &[u8]) -> Option<u64> {
+    let mut value: u64 = 0;
+    for digit in digits {
+        let next = match *digit {
+            b'0'..=b'9' => u64::from(*digit).saturating_sub(48),
+            b'a'..=b'f' => u64::from(*digit).saturating_sub(87),
+            b'A'..=b'F' => u64::from(*digit).saturating_sub(55),
+            _ => return None,
+        };
+        value = value.saturating_mul(16).saturating_add(next);
+    }
+    if digits.is_empty() || value > 65535 {
+        None
+    } else {
+        Some(value)
+    }
+}
+
+// One comparison in the place of its sign and an `=` after it.
+fn compared(draft: &mut Draft<'_>, token: usize) -> Result<(), AllocError> {
+    let next = token.wrapping_add(1);
+    let words: &[u8] = match draft.at(token) {
+        Lexeme::Operator(BinOp::Eq) => b"==",
+        Lexeme::Operator(BinOp::Ne) => b"!=",
+        Lexeme::Operator(BinOp::Lt | BinOp::Le) => b"<=",
+        Lexeme::Operator(BinOp::Gt | BinOp::Ge) => b">=",
+        _ => return Ok(()),
+    };
+    draft.replace(token, next, &[Part::Words(words)])
+}
+
+// What stands here for a word of another language.
+fn foreign(draft: &mut Draft<'_>, site: Site, word: Foreign) -> Result<(), AllocError> {
+    let token = site.token;
+    let is_outside = token == site.first;
+    match word {
+        Foreign::Function => draft.remove(token, token),
+        Foreign::Declares if is_outside => definition(draft, token),
+        Foreign::Declares => local(draft, token),
+        Foreign::External if !is_outside => draft.rename(token, b"extrn"),
+        _ => word_here(draft, token, word),
+    }
+}
+
+/// What stands for a word of another language, where it is one word.
+pub(crate) fn word_here(
+    draft: &mut Draft<'_>,
+    token: usize,
+    word: Foreign,
+) -> Result<(), AllocError> {
+    let Lexeme::Name(name) = draft.at(token) else {
+        return Ok(());
+    };
+    match (word, name.as_str()) {
+        (Foreign::And, _) if compares_around(draft, token, token) => draft.rename(token, b"&"),
+        (Foreign::Or, _) if has_no_effect_after(draft, token.wrapping_add(1)) => {
+            draft.rename(token, b"|")
+        }
+        (Foreign::Not, _) => draft.rename(token, b"!"),
+        (Foreign::Truth, "True" | "true" | "TRUE") => draft.rename(token, b"1"),
+        (Foreign::Truth | Foreign::Nothing, _) => draft.rename(token, b"0"),
+        (Foreign::InputEnd, _) => draft.rename(token, b"'*e'"),
+        (Foreign::Block, "begin") => draft.rename(token, b"{"),
+        (Foreign::Block, "end") => draft.rename(token, b"}"),
+        (Foreign::ElseIf, _) => draft.rename(token, b"else if"),
+        _ => Ok(()),
+    }
+}
+
+/// Whether a comparison is on both sides of an operator of these tokens, up to brackets and other such operators.
+pub(crate) fn compares_around(draft: &Draft<'_>, first: usize, last: usize) -> bool {
+    compares_before(draft, first) && compares_after(draft, last)
+}
+
+fn compares_before(draft: &Draft<'_>, first: usize) -> bool {
+    for back in 1..first {
+        let lexeme = draft.at(first.saturating_sub(back));
+        if is_comparison(&lexeme) {
+            return true;
+        }
+        if ends_operand(&lexeme) {
+            return false;
+        }
+    }
+    false
+}
+
+fn compares_after(draft: &Draft<'_>, last: usize) -> bool {
+    for token in last.saturating_add(1)..draft.spans.end() {
+        let lexeme = draft.at(token);
+        if is_comparison(&lexeme) {
+            return true;
+        }
+        if ends_operand(&lexeme) {
+            return false;
+        }
+    }
+    false
+}
+
+fn is_comparison(lexeme: &Lexeme) -> bool {
+    Like::Compares.fits(lexeme) || Like::Relates.fits(lexeme)
+}
+
+// Whether no comparison goes on over a token.
+fn ends_operand(lexeme: &Lexeme) -> bool {
+    matches!(
+        lexeme,
+        Lexeme::Operator(BinOp::And | BinOp::Or)
+            | Lexeme::Semicolon
+            | Lexeme::Comma
+            | Lexeme::OpenBrace
+            | Lexeme::CloseBrace
+            | Lexeme::Assign(_)
+            | Lexeme::Keyword(Keyword::If | Keyword::While | Keyword::Return)
+            | Lexeme::Bad(_)
+            | Lexeme::End
+    ) || !is_ended(lexeme) && matches!(lexeme, Lexeme::Question | Lexeme::Colon)
+}

@@ -1,0 +1,359 @@
+//! Edits for code that compiles and is probably a mistake.
+use crate::byte_mends::escapes;
+use crate::draft::{Draft, Part};
+use crate::finding::Finding;
+use crate::kinds::{Like, is_operand, is_word};
+use crate::mends::Site;
+use crate::name_mends::declared_at;
+use crate::near::library_arguments;
+use crate::syntax_mends::{after_brackets, compares_around, opener_before};
+use blang::Keyword;
+use blex::Lexeme;
+use blint::Warning;
+use bword::{BinOp, Name};
+use std::alloc::AllocError;
+
+/// What may mend what is probably a mistake.
+pub(crate) fn of_warning(
+    draft: &mut Draft<'_>,
+    site: Site,
+    warning: Warning,
+    finding: &Finding,
+) -> Result<(), AllocError> {
+    of_operators(draft, site, warning)?;
+    of_operands(draft, site, warning, finding)?;
+    of_statements(draft, site, warning, finding)
+}
+
+// Operators that are others than they look.
+fn of_operators(draft: &mut Draft<'_>, site: Site, warning: Warning) -> Result<(), AllocError> {
+    let token = site.token;
+    let next = token.wrapping_add(1);
+    match warning {
+        Warning::AndAnd => and_and(draft, token),
+        Warning::OperatorAssigns => apart(draft, token),
+        Warning::ConditionAssigns => compares(draft, token),
+        Warning::AssignsComparison => around_assignment(draft, token),
+        Warning::AssignsCompared => draft.rename(token, turned(draft.bytes(token, token))),
+        Warning::BitsCompared => around_bits(draft, token),
+        Warning::ComparesTwice => again(draft, token),
+        Warning::NotCompared => not_equal(draft, token),
+        Warning::ComparesAlone if draft.at(token) == Lexeme::Operator(BinOp::Eq) => {
+            draft.rename(token, b"=")
+        }
+        Warning::VectorAddress => draft.put(draft.start(token), draft.start(next), &[]),
+        _ => Ok(()),
+    }
+}
+
+// Operands that mean another thing than it seems.
+fn of_operands(
+    draft: &mut Draft<'_>,
+    site: Site,
+    warning: Warning,
+    finding: &Finding,
+) -> Result<(), AllocError> {
+    let token = site.token;
+    match warning {
+        Warning::StringEnd | Warning::InputZero => end_for_zero(draft, token),
+        Warning::InputEnd => end_for_minus_one(draft, token),
+        Warning::StringForCharacter => as_character(draft, token),
+        Warning::Backslash => escapes(draft, token),
+        Warning::LibraryArguments => base_ten(draft, token),
+        Warning::PastVector => whole_vector(draft, token),
+        Warning::Unset => unset(draft, site, finding),
+        Warning::UnsetVector => sized(draft, site, finding, b" 10"),
+        _ => Ok(()),
+    }
+}
+
+// Statements that do nothing, and names that nothing uses.
+fn of_statements(
+    draft: &mut Draft<'_>,
+    site: Site,
+    warning: Warning,
+    finding: &Finding,
+) -> Result<(), AllocError> {
+    let token = site.token;
+    match warning {
+        Warning::EmptyIf | Warning::EmptyLoop => draft.remove(token, token),
+        Warning::NameAlone if is_function(draft, token) => draft.after(token, b"()"),
+        Warning::NeverUsed | Warning::HidesLibrary => undeclared(draft, token),
+        Warning::NearMain if finding.name.is_none() => draft.rename(token, b"main"),
+        _ => Ok(()),
+    }
+}
+
+// One `&` in the place of two between comparisons.
+fn and_and(draft: &mut Draft<'_>, token: usize) -> Result<(), AllocError> {
+    let before = token.wrapping_sub(1);
+    let is_second = draft.at(before) == Lexeme::Operator(BinOp::And);
+    let first = if is_second { before } else { token };
+    let last = first.wrapping_add(1);
+    if compares_around(draft, first, last) {
+        draft.replace(first, last, &[Part::Words(b"&")])
+    } else {
+        Ok(())
+    }
+}
+
+// A blank after the `=` of an assignment with an operator.
+fn apart(draft: &mut Draft<'_>, token: usize) -> Result<(), AllocError> {
+    let place = draft.start(token).saturating_add(1);
+    draft.put(place, place, &[Part::Words(b" ")])
+}
+
+// `==` in the place of an assignment.
+fn compares(draft: &mut Draft<'_>, token: usize) -> Result<(), AllocError> {
+    match draft.at(token) {
+        Lexeme::Assign(None | Some(BinOp::Eq)) => draft.rename(token, b"=="),
+        Lexeme::Assign(Some(BinOp::Sub)) => draft.rename(token, b"== -"),
+        _ => Ok(()),
+    }
+}
+
+// Parentheses around an assignment up to the comparison after it. The token is its `=`.
+fn around_assignment(draft: &mut Draft<'_>, token: usize) -> Result<(), AllocError> {
+    let first = token.wrapping_sub(1);
+    let mut at = token.saturating_add(1);
+    for _ in token..draft.spans.end() {
+        match draft.at(at) {
+            Lexeme::OpenParen | Lexeme::OpenBracket => at = after_brackets(draft, at),
+            Lexeme::Operator(
+                BinOp::Eq | BinOp::Ne | BinOp::Lt | BinOp::Le | BinOp::Gt | BinOp::Ge,
+            ) => {
+                let last = at.wrapping_sub(1);
+                return draft.replace(
+                    first,
+                    last,
+                    &[
+                        Part::Words(b"("),
+                        Part::Tokens(first, last),
+                        Part::Words(b")"),
+                    ],
+                );
+            }
+            Lexeme::Semicolon | Lexeme::CloseParen | Lexeme::End => break,
+            _ => at = at.saturating_add(1),
+        }
+    }
+    Ok(())
+}
+
+// The comparison that an assignment of one looks like.
+fn turned(words: &[u8]) -> &'static [u8] {
+    match words {
+        b"=>" => b">=",
+        b"=<" => b"<=",
+        b"=>=" => b">=",
+        b"=<=" => b"<=",
+        b"=!=" => b"!=",
+        _ => b"==",
+    }
+}
+
+// Parentheses around an operator on bits, whose first operand is one token, up to the comparison after it.
+fn around_bits(draft: &mut Draft<'_>, token: usize) -> Result<(), AllocError> {
+    let first = token.wrapping_sub(1);
+    let mut after = token.saturating_add(2);
+    for _ in 0..4 {
+        if matches!(draft.at(after), Lexeme::OpenParen | Lexeme::OpenBracket) {
+            after = after_brackets(draft, after);
+        }
+    }
+    let last = after.wrapping_sub(1);
+    let is_compared = Like::Compares.fits(&draft.at(after)) || Like::Relates.fits(&draft.at(after));
+    if !is_compared || !is_operand(&draft.at(first)) {
+        return Ok(());
+    }
+    draft.replace(
+        first,
+        last,
+        &[
+            Part::Words(b"("),
+            Part::Tokens(first, last),
+            Part::Words(b")"),
+        ],
+    )
+}
+
+// The operand between two comparisons once more, where it is one token.
+fn again(draft: &mut Draft<'_>, token: usize) -> Result<(), AllocError> {
+    let operand = token.wrapping_sub(1);
+    let end = draft.end(operand);
+    draft.put(
+        end,
+        end,
+        &[Part::Words(b" & "), Part::Tokens(operand, operand)],
+    )
+}
+
+// `!=` in the place of `==`, and no `!` before the operand.
+fn not_equal(draft: &mut Draft<'_>, token: usize) -> Result<(), AllocError> {
+    let not = if draft.at(token) == Lexeme::Not {
+        token
+    } else {
+        token.wrapping_sub(2)
+    };
+    let operand = not.wrapping_add(1);
+    let operator = not.wrapping_add(2);
+    match draft.at(operator) {
+        Lexeme::Operator(BinOp::Eq) => draft.replace(
+            not,
+            operator,
+            &[Part::Tokens(operand, operand), Part::Words(b" !=")],
+        ),
+        _ => Ok(()),
+    }
+}
+
+// The end of a string or of the input, in the place of a 0.
+fn end_for_zero(draft: &mut Draft<'_>, token: usize) -> Result<(), AllocError> {
+    for at in token..token.saturating_add(4) {
+        if matches!(draft.at(at), Lexeme::Number(0) | Lexeme::Character(0)) {
+            return draft.rename(at, b"'*e'");
+        }
+    }
+    Ok(())
+}
+
+fn end_for_minus_one(draft: &mut Draft<'_>, token: usize) -> Result<(), AllocError> {
+    draft.replace(token, token.wrapping_add(1), &[Part::Words(b"'*e'")])
+}
+
+// Single quotes around a string of one or two characters.
+fn as_character(draft: &mut Draft<'_>, token: usize) -> Result<(), AllocError> {
+    let (start, end) = (draft.start(token), draft.end(token));
+    let inner = draft
+        .source
+        .get(start.saturating_add(1)..end.saturating_sub(1))
+        .unwrap_or(&[]);
+    draft.put(
+        start,
+        end,
+        &[Part::Words(b"'"), Part::Words(inner), Part::Words(b"'")],
+    )
+}
+
+// The base 10 for a call of `printn` without one.
+fn base_ten(draft: &mut Draft<'_>, token: usize) -> Result<(), AllocError> {
+    let opener = token.wrapping_add(1);
+    if !is_word(&draft.at(token), "printn") {
+        return Ok(());
+    }
+    let closer = after_brackets(draft, opener).wrapping_sub(1);
+    draft.before(closer, b", 10")
+}
+
+// A vector without an index past its end, as an argument.
+fn whole_vector(draft: &mut Draft<'_>, index: usize) -> Result<(), AllocError> {
+    let after = draft.at(index.wrapping_add(2));
+    let bracket = index.wrapping_sub(1);
+    if opener_before(draft, bracket).is_some()
+        && matches!(after, Lexeme::Comma | Lexeme::CloseParen)
+    {
+        draft.replace(bracket, index.wrapping_add(1), &[])
+    } else {
+        Ok(())
+    }
+}
+
+// A word that nothing has set: what a call sets takes its address, or words for a string; a sum begins with 0.
+fn unset(draft: &mut Draft<'_>, site: Site, finding: &Finding) -> Result<(), AllocError> {
+    let token = site.token;
+    if draft.at(token.wrapping_sub(1)) == Lexeme::OpenParen {
+        let callee = draft.at(token.wrapping_sub(2));
+        if is_word(&callee, "getnum") {
+            return draft.before(token, b"&");
+        }
+        if is_word(&callee, "getstr") || is_word(&callee, "getline") {
+            return sized(draft, site, finding, b" 40");
+        }
+    }
+    if opener_before(draft, token).is_some() {
+        return Ok(());
+    }
+    let Some(name) = finding.name else {
+        return Ok(());
+    };
+    begun(draft, site, &name)
+}
+
+// A 0 for a word, after the declarations in which it is.
+fn begun(draft: &mut Draft<'_>, site: Site, name: &Name) -> Result<(), AllocError> {
+    let Some(declared) = declared_at(draft, site, name) else {
+        return Ok(());
+    };
+    let Some(end) = draft.on_line(declared, Lexeme::Semicolon) else {
+        return Ok(());
+    };
+    if draft.at(end.wrapping_add(1)) == Lexeme::Keyword(Keyword::Extrn) {
+        return Ok(());
+    }
+    let place = draft.end(end);
+    draft.put(
+        place,
+        place,
+        &[
+            Part::Words(b" "),
+            Part::Words(name.as_bytes()),
+            Part::Words(b" = 0;"),
+        ],
+    )
+}
+
+// A last index for a word in its declaration.
+fn sized(
+    draft: &mut Draft<'_>,
+    site: Site,
+    finding: &Finding,
+    words: &[u8],
+) -> Result<(), AllocError> {
+    let Some(name) = finding.name else {
+        return Ok(());
+    };
+    match declared_at(draft, site, &name) {
+        Some(declared) => draft.after(declared, words),
+        None => Ok(()),
+    }
+}
+
+// Whether the name of a token is a function of the library, or one that the source defines.
+fn is_function(draft: &Draft<'_>, token: usize) -> bool {
+    let Lexeme::Name(name) = draft.at(token) else {
+        return false;
+    };
+    if library_arguments(&name).is_some() {
+        return true;
+    }
+    for at in 1..draft.spans.end() {
+        let begins = matches!(
+            draft.at(at.wrapping_sub(1)),
+            Lexeme::CloseBrace | Lexeme::Semicolon
+        );
+        let is_head = draft.at(at) == Lexeme::Name(name)
+            && draft.at(at.saturating_add(1)) == Lexeme::OpenParen;
+        if begins && is_head && is_definition(draft, at) {
+            return true;
+        }
+    }
+    false
+}
+
+// Whether a body comes after the parentheses that follow a name.
+fn is_definition(draft: &Draft<'_>, name: usize) -> bool {
+    draft.at(after_brackets(draft, name.saturating_add(1))) != Lexeme::Semicolon
+}
+
+// A declaration without the name of this token.
+fn undeclared(draft: &mut Draft<'_>, token: usize) -> Result<(), AllocError> {
+    let (before, next) = (token.wrapping_sub(1), token.wrapping_add(1));
+    match (draft.at(before), draft.at(next)) {
+        (Lexeme::Comma, Lexeme::Comma | Lexeme::Semicolon) => {
+            draft.put(draft.end(before.wrapping_sub(1)), draft.end(token), &[])
+        }
+        (_, Lexeme::Comma) => draft.remove(token, next),
+        (Lexeme::Keyword(_), Lexeme::Semicolon) => draft.remove(before, next),
+        _ => Ok(()),
+    }
+}
