@@ -73,6 +73,18 @@ export interface Finding {
   utf16_column: number;
   utf16_end: number;
   related?: {file?: string; line: number; column: number; utf16_column: number};
+  /** Ways to mend it, each alone and tried: `text` goes into the place of `length` bytes from `offset` on. */
+  edits?: {
+    file?: string;
+    line: number;
+    column: number;
+    end: number;
+    utf16_column: number;
+    utf16_end: number;
+    offset: number;
+    length: number;
+    text: string;
+  }[];
 }
 
 export interface Program {

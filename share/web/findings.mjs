@@ -1,5 +1,6 @@
-// What `check` finds while one types: marks at its lines, a list below the editor, and fixes to apply by a click. An
-// edit is tried before it is offered: with it the finding is gone, and no other one came before its place.
+// What `check` finds while one types: marks at its lines, a list below the editor, and fixes to apply by a click. The
+// program has tried the edits that it tells. Another one is tried before it is offered: with it the finding is gone, and
+// no other one came before its place.
 import {$, button, element, shown} from './dom.mjs';
 import {edited, edits, told} from './fixes.mjs';
 
@@ -49,7 +50,7 @@ export class Findings {
   }
 
   async holds(edit, finding, before, program, text) {
-    if (edit.lib && edit.text === undefined) return true;
+    if (edit.isTried || (edit.lib && edit.text === undefined)) return true;
     const after = await this.check(program, {text: edited(text, edit), lib: edit.lib});
     if (!after || after.some(it => isSame(it, finding) && it.line <= finding.line + 1)) return false;
     const [first] = errors(after), isWarning = finding.severity === 'warning';
