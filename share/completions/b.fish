@@ -39,7 +39,7 @@ complete -c b -n '__fish_seen_subcommand_from go' -l edition -x -a '1 2' -d 'The
 complete -c b -n '__fish_seen_subcommand_from go' -l steps -x -d 'At most N steps, 1 to 4000000000; 10000000 if not given'
 complete -c b -n '__fish_seen_subcommand_from go' -l no-limit -d 'Makes as many steps as the run takes'
 complete -c b -n '__fish_seen_subcommand_from go' -l where -d 'Tells where a trap or the limit came, and what it means'
-complete -c b -n '__fish_seen_subcommand_from go' -l careful -d 'Stops at a word never set, or an index off its vector'
+complete -c b -n '__fish_seen_subcommand_from go' -l careful -d 'Stops at a word never set or off a vector; =warn, =wraps'
 complete -c b -n '__fish_seen_subcommand_from go' -l with -r -a 'input numbers print strings test vectors' -d 'Puts the source in LIB after FILE; as often as wanted'
 complete -c b -n '__fish_seen_subcommand_from try' -l edition -x -a '1 2' -d 'The edition of the source, 1 or 2; 1 if not given'
 complete -c b -n '__fish_seen_subcommand_from try' -l steps -x -d 'At most N steps, 1 to 4000000000; 10000000 if not given'

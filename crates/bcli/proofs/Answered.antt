@@ -1,5 +1,5 @@
 -- What is answered where memory was refused, and what is done for a job.
-use Rattle.std.proofs.Common.{ap, ◌∙◌, subst, ◌≡◌, ◌⊎◌, ℕ, List, [], ◌∷◌, map, length, refl, false, sym, inl, inr}
+use Rattle.std.proofs.Common.{ap, ◌∙◌, subst, ◌≡◌, ◌⊎◌, ℕ, List, [], ◌∷◌, map, length, refl, true, false, sym, inl, inr}
 use Rattle.clap.specs.declared.error.kind.ErrorKind.{ErrorKind}
 use Rattle.clap.specs.declared.error.kind.ErrorKind.TheVariants as kind
 use Rattle.blang.specs.declared.status.TheConstants.{DEVICE, MEMORY}
@@ -10,10 +10,10 @@ use Rattle.bword.specs.declared.edition.Edition.{Edition}
 use Rattle.brun.specs.OneRun.{unread}
 use Rattle.std.specs.Borrow.{Bor}
 use Rattle.blang.specs.Compiles.{CompileHeadline, Compiles}
-use Rattle.bcommand.specs.CommandLine.{OriginAsked, Question, SourceAsked, ask, compile, asked_of, go, from_code, from_made, from_source, question_of}
+use Rattle.bcommand.specs.CommandLine.{Asked, OriginAsked, Question, SourceAsked, ask, asked, command_line, compile, asked_of, full_words, go, from_code, from_made, from_source, question_of}
 use Rattle.bcommand.specs.declared.job.Job.{Job}
 use Rattle.bcommand.specs.declared.job.Question.{Question as Questioned}
-use Rattle.clap.specs.Words.{Text}
+use Rattle.clap.specs.Words.{IsAmong, Row, Text, fault_of, subcommand_of}
 use Rattle.bsources.specs.Files.{Files, Followed, file_shown}
 use Rattle.bcli.specs.declared.sources.NamedFault.{NamedFault}
 use Rattle.bcli.specs.declared.sources.Whole.{Whole}
@@ -25,7 +25,7 @@ use Rattle.bshow.specs.Shows.{Asked as PageAsked}
 use Rattle.bwatch.specs.declared.trail.TraceRows.{TraceRows as Traced}
 use Rattle.std.specs.Prelude.{◌==◌, None, Option, Some, option_map}
 use Rattle.btools.specs.Origins.{Origin}
-use Rattle.bcli.specs.Serves.{OnOrigin, ShowsRun, CompilesJoined, NamesLib, NamesLibOf, compiling, files_read, origin_of, whole, Answers, AnswersOf, Does, HasNoFile, IsHelp, NamesFile, SaysNothing, RefusesWords}
+use Rattle.bcli.specs.Serves.{OnOrigin, ShowsRun, CompilesJoined, NamesLib, NamesLibOf, compiling, files_read, origin_of, whole, Answers, AnswersOf, Does, HasNoFile, IsHelp, NamesFile, SaysNothing, RefusesWords, Serves, did, no_memory, refused}
 use Rattle.bcli.specs.declared.shelf.FileFault.{FileFault}
 use Rattle.bcli.specs.declared.shelf.FileFault.TheVariants as file_fault
 use Rattle.bcli.specs.Shelves.{Holdings}
@@ -202,3 +202,27 @@ shown_given edition files text steps rows (Some other) given asked first after t
       subst (λ (i : Incoming). Shows edition text (page_asked steps rows files other.now) (record ends { input = i; input_after = incoming_of after }) status) first_is
           (subst (λ (q : PageAsked). Shows edition text q (record ends { input = incoming_of first; input_after = incoming_of after }) status) asked_is shows),
     )
+
+-- the words that were read are the full ones of a command line
+read_full : (given kept : List (Bor Text)) (words : List Text) → given ≡ kept → map (λ w. w.now) kept ≡ full_words true words
+    → map (λ w. w.now) given ≡ full_words true words
+read_full given kept words same full = ap (λ (ws : List (Bor Text)). map (λ w. w.now) ws) same ∙ full
+
+-- they have no fault, and what they ask for was done
+pub served : (shelf : Holdings) (words : List Text) (given kept : List (Bor Text)) (job : Job) (rows : Option (Text × List Row)) (ends : RunEnds) (status : ℕ)
+    → given ≡ kept → map (λ w. w.now) kept ≡ full_words true words
+    → (fault_of command_line (map (λ w. w.now) given) ≡ []) × (rows ≡ subcommand_of command_line (map (λ w. w.now) given))
+    → asked_of job ≡ asked rows → Does shelf (asked_of job) ends status → Serves shelf words ends status
+served shelf words given kept job rows ends status same full found asks does =
+    let read = read_full given kept words same full in
+    did (subst (λ (ws : List Text). fault_of command_line ws ≡ []) read found.0)
+    (subst (λ (a : Asked). Does shelf a ends status) (asks ∙ (ap asked found.1 ∙ ap (λ (ws : List Text). asked (subcommand_of command_line ws)) read)) does)
+
+-- they have this fault, or memory was refused
+pub complained : (shelf : Holdings) (words : List Text) (given kept : List (Bor Text)) (k : ErrorKind) (ends : RunEnds) (status : ℕ)
+    → given ≡ kept → map (λ w. w.now) kept ≡ full_words true words
+    → (k ≡ kind.OutOfMemory) ⊎ IsAmong k (fault_of command_line (map (λ w. w.now) given)) → RefusesWords k ends status
+    → Serves shelf words ends status
+complained shelf words given kept k ends status same full (inl memory) refuses = no_memory (memory_alone k ends status memory refuses)
+complained shelf words given kept k ends status same full (inr among) refuses =
+    refused k (subst (λ (ws : List Text). IsAmong k (fault_of command_line ws)) (read_full given kept words same full) among) refuses

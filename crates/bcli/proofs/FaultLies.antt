@@ -84,7 +84,7 @@ fault_told shelf edition files text (trace from_source steps shown function) end
 fault_told shelf edition files text (trace from_code steps shown function) ends d faulty tells answers = cc
 fault_told shelf edition files text (trace (from_made made lined) steps shown function) ends d faulty tells answers = cc
 fault_told shelf edition files text (locate steps) ends d faulty tells answers = by_place edition text d faulty files steps ends answers
-fault_told shelf edition files text (go_careful steps) ends d faulty tells answers = cc
+fault_told shelf edition files text (go_careful it steps) ends d faulty tells answers = cc
 fault_told shelf edition files text (try_out steps) ends d faulty tells answers = cc
 fault_told shelf edition files text (count from_source steps for_editor) ends d faulty tells answers = by_count edition text d faulty _ refl ends answers
 fault_told shelf edition files text (count from_code steps for_editor) ends d faulty tells answers = cc

@@ -2,7 +2,7 @@
 use Rattle.std.proofs.Common.{◌≡◌, ◌∙◌, ◌⊎◌, ℕ, List, [], ◌∷◌, ◌++◌, Some, None, ap, refl, sym, subst, arith, inl, inr, map, append-nil}
 use Rattle.std.specs.Prelude.{All, codes}
 use Rattle.std.specs.Io.KnownBytes.{Appends}
-use Rattle.clap.specs.Words.{IsAmong, Text, fault_of, subcommand_of}
+use Rattle.clap.specs.Words.{IsAmong, Text}
 use Rattle.clap.specs.declared.error.kind.ErrorKind.{ErrorKind}
 use Rattle.clap.specs.declared.error.kind.ErrorKind.TheVariants as kind
 use Rattle.bword.specs.ByteEnds.{Kept, Outgoing, Unread, Writes, incoming_of, outgoing_of}
@@ -16,7 +16,7 @@ use Rattle.blang.specs.Reports.{HasNotRun, Reported, RunEnds}
 use Rattle.brun.specs.OneRun.{nothing_written, one_run_ends, unread}
 use Rattle.brun.specs.Runs.{RunsText}
 use Rattle.brun.proofs.OneRun.{one_run}
-use Rattle.bcommand.specs.CommandLine.{OriginAsked, Question, ask, asked, command_line, compile, from_code, from_made, go, locate_code, run}
+use Rattle.bcommand.specs.CommandLine.{OriginAsked, Question, ask, asked_in, compile, fault_in, from_code, from_made, go, locate_code, run}
 use Rattle.bwhere.specs.Wheres.{LocatesCode}
 use Rattle.bcli.specs.declared.shelf.MemFile.{MemFile}
 use Rattle.bcli.specs.Shelves.{Holdings, holding}
@@ -74,15 +74,15 @@ helped_aside k ends status help (inl helps) = (helps.unread, helps.no_line)
 helped_aside k ends status help (inr (inl complains)) = absurd (complains.no_help help)
 helped_aside k ends status help (inr (inr silent)) = (silent.unread.unread, silent.no_line)
 
-asks_help : (k : ErrorKind) (words : List Text) → fault_of command_line words ≡ kind.DisplayHelp ∷ []
-    → IsAmong k (fault_of command_line words) → IsHelp k
+asks_help : (k : ErrorKind) (words : List Text) → fault_in words ≡ kind.DisplayHelp ∷ []
+    → IsAmong k (fault_in words) → IsHelp k
 asks_help k words is among = only (subst (IsAmong k) is among)
   where
     only : IsAmong k (kind.DisplayHelp ∷ []) → IsHelp k
     only (inl same) = inl same
     only (inr other) = absurd other
 
-no_fault : (words : List Text) → fault_of command_line words ≡ kind.DisplayHelp ∷ [] → fault_of command_line words ≡ [] → ⊥
+no_fault : (words : List Text) → fault_in words ≡ kind.DisplayHelp ∷ [] → fault_in words ≡ [] → ⊥
 no_fault words is none = nothing (sym none ∙ is)
   where
     nothing : [] ≡ kind.DisplayHelp ∷ [] → ⊥
@@ -129,8 +129,8 @@ abbrev answered_of : Edition → Files → (text : List ℕ) → Question → Or
 answered_of edition files text question origin = AnswersOf origin edition files text question
 
 module _ (shelf : Holdings) where
-  asked_alone : (words : List Text) (ends : RunEnds) (status : ℕ) → fault_of command_line words ≡ [] → Serves shelf words ends status
-      → Does shelf (asked (subcommand_of command_line words)) ends status ⊎ SaysNothing ends status 134
+  asked_alone : (words : List Text) (ends : RunEnds) (status : ℕ) → fault_in words ≡ [] → Serves shelf words ends status
+      → Does shelf (asked_in words) ends status ⊎ SaysNothing ends status 134
   asked_alone words ends status none (did clean does) = inl does
   asked_alone words ends status none (refused k among answers) = absurd (subst (IsAmong k) none among)
   asked_alone words ends status none (no_memory silent) = inr silent
@@ -145,18 +145,18 @@ module _ (shelf : Holdings) where
   wrong_run words ends status wrong (refused k among answers) = refused_still k ends status (wrong.no_help k among) answers
   wrong_run words ends status wrong (no_memory silent) = silent.unread
 
-  help_refused : (words : List Text) (ends : RunEnds) → fault_of command_line words ≡ kind.DisplayHelp ∷ [] → Serves shelf words ends 135 → ⊥
+  help_refused : (words : List Text) (ends : RunEnds) → fault_in words ≡ kind.DisplayHelp ∷ [] → Serves shelf words ends 135 → ⊥
   help_refused words ends is (did clean does) = no_fault words is clean
   help_refused words ends is (refused k among answers) = helped k ends (asks_help k words is among) answers
   help_refused words ends is (no_memory silent) = silent_complaint ends silent
 
-  help_beside : (words : List Text) (ends : RunEnds) (status : ℕ) → fault_of command_line words ≡ kind.DisplayHelp ∷ [] → Serves shelf words ends status
+  help_beside : (words : List Text) (ends : RunEnds) (status : ℕ) → fault_in words ≡ kind.DisplayHelp ∷ [] → Serves shelf words ends status
       → (ends.input_after ≡ ends.input) × (ends.line_after ≡ ends.line)
   help_beside words ends status is (did clean does) = absurd (no_fault words is clean)
   help_beside words ends status is (refused k among answers) = helped_aside k ends status (asks_help k words is among) answers
   help_beside words ends status is (no_memory silent) = (silent.unread.unread, silent.no_line)
 
-  help_silent : (words : List Text) (ends : RunEnds) → fault_of command_line words ≡ kind.DisplayHelp ∷ [] → ends.out ≡ outgoing_of nothing_written → ends.out_after ≡ ends.out → Serves shelf words ends 0 → ⊥
+  help_silent : (words : List Text) (ends : RunEnds) → fault_in words ≡ kind.DisplayHelp ∷ [] → ends.out ≡ outgoing_of nothing_written → ends.out_after ≡ ends.out → Serves shelf words ends 0 → ⊥
   help_silent words ends is first same (did clean does) = no_fault words is clean
   help_silent words ends is first same (refused k among answers) = no_silent_help k ends (asks_help k words is among) first same answers
   help_silent words ends is first same (no_memory silent) = silent_done ends silent

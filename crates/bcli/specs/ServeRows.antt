@@ -9,7 +9,7 @@ use Rattle.bword.specs.declared.edition.Edition.{Edition}
 use Rattle.blang.specs.Compiles.{CompileHeadline, Compiles}
 use Rattle.blang.specs.Headline.{GoesOff, Headline}
 use Rattle.blang.specs.Reports.{RunEnds}
-use Rattle.bcareful.specs.Runs.{Runs}
+use Rattle.bcareful.specs.Runs.{Runs, RunsForWraps, Warns}
 use Rattle.bcheck.specs.Checks.{Checks}
 use Rattle.bcheck.specs.declared.form.FindingForm.TheVariants as forms
 use Rattle.bcount.specs.declared.table.CountStyle.TheVariants as styles
@@ -31,6 +31,7 @@ use Rattle.bcommand.specs.CommandLine.{OriginAsked, Question, SourceAsked, from_
 use Rattle.bcommand.specs.CommandLine.{ask, check, compile, count, draw, format, go, go_careful, list, locate}
 use Rattle.bcommand.specs.CommandLine.{locate_code, try_out}
 use Rattle.bcommand.specs.CommandLine.{map as layout, run, show, tell_names, trace}
+use Rattle.bcommand.specs.declared.job.Care.TheVariants as care
 use Rattle.bcommand.specs.declared.job.Rows.TheVariants as which
 use Rattle.bsources.specs.Files.{Files, NamedText, followed}
 use Rattle.bcli.specs.Shelves.{Holdings}
@@ -132,8 +133,15 @@ module _ (origin : Origin) (edition : Edition) (files : Files) (text : List ℕ)
   located : (steps : ℕ) → answered (locate steps) → Locates edition text files steps ends status
   located steps a = a
 
-  gone_carefully : (steps : ℕ) → answered (go_careful steps) → Runs edition text files steps ends status
+  gone_carefully : (steps : ℕ) → answered (go_careful care.Stays steps) → Runs edition text files steps ends status
   gone_carefully steps a = a
+
+  gone_on : (steps : ℕ) → answered (go_careful care.Warns steps) → Warns edition text files steps ends status
+  gone_on steps a = a
+
+  gone_for_wraps : (steps : ℕ) → answered (go_careful care.Wraps steps)
+      → RunsForWraps edition text files steps ends status
+  gone_for_wraps steps a = a
 
   tried : (steps : ℕ) → answered (try_out steps) → Tries edition files text steps ends status
   tried steps a = a
@@ -168,7 +176,7 @@ module _ (origin : Origin) (edition : Edition) (files : Files) (text : List ℕ)
 -- what each question asks a program to be read from
 origins_asked : (from : OriginAsked) → map origin_of
     (list from None ∷ trace from 3 (which.Last 2) None ∷ count from 3 true ∷ layout ∷ draw None ∷ check true
-    ∷ tell_names ∷ locate 3 ∷ go_careful 3 ∷ try_out 3 ∷ show 3 (which.From 1) None ∷ format true ∷ [])
+    ∷ tell_names ∷ locate 3 ∷ go_careful care.Warns 3 ∷ try_out 3 ∷ show 3 (which.From 1) None ∷ format true ∷ [])
     ≡ from ∷ from ∷ from ∷ from_source ∷ from_source ∷ from_source ∷ from_source ∷ from_source ∷ from_source
     ∷ from_source ∷ from_source ∷ from_source ∷ []
 origins_asked from = refl

@@ -1,7 +1,7 @@
 -- Promise: the answer to a command line.
 use Rattle.std.specs.Prelude.{◌≡◌, ◌≢◌, ℕ, Bool, List, [], ◌∷◌, ◌++◌, All, codes, if◌then◌else◌, ◌⊎◌}
 use Rattle.std.specs.Prelude.{Option, Some, None, map as map_each}
-use Rattle.clap.specs.Words.{IsAmong, Text, fault_of, subcommand_of}
+use Rattle.clap.specs.Words.{IsAmong, Text}
 use Rattle.clap.specs.declared.error.kind.ErrorKind.{ErrorKind}
 use Rattle.clap.specs.declared.error.kind.ErrorKind.TheVariants as kind
 use Rattle.bword.specs.ByteEnds.{Incoming, Unread, incoming_of}
@@ -26,7 +26,7 @@ use Rattle.btools.specs.Programs.{ToldEnds}
 use Rattle.bdraw.specs.Draws.{Draws}
 use Rattle.btrace.specs.Locates.{Locates}
 use Rattle.btrace.specs.Traces.{Traces}
-use Rattle.bcareful.specs.Runs.{Runs}
+use Rattle.bcareful.specs.Runs.{Runs, RunsForWraps, Warns}
 use Rattle.bwatch.specs.declared.trail.TraceRows.{TraceRows as Traced}
 use Rattle.bwatch.specs.declared.trail.TraceRows.TheVariants as traced
 use Rattle.bcount.specs.Counts.{Counts}
@@ -35,10 +35,12 @@ use Rattle.bcount.specs.declared.table.CountStyle.TheVariants as styles
 use Rattle.bshow.specs.Shows.{Shows}
 use Rattle.bformat.specs.Formats.{Formats}
 use Rattle.bwhere.specs.Wheres.{LocatesCode}
-use Rattle.bcommand.specs.CommandLine.{Asked, OriginAsked, Question, SourceAsked, asked, clash_line, command_line}
+use Rattle.bcommand.specs.CommandLine.{Asked, OriginAsked, Question, SourceAsked, asked_in, clash_line, fault_in}
 use Rattle.bcommand.specs.CommandLine.{from_source, from_code, from_made, try_out}
 use Rattle.bcommand.specs.CommandLine.{compile, run, locate_code, go, migrate, ask, contradiction}
 use Rattle.bcommand.specs.CommandLine.{list, map, draw, check, tell_names, trace, locate, go_careful, count, show, format}
+use Rattle.bcommand.specs.declared.job.Care.{Care}
+use Rattle.bcommand.specs.declared.job.Care.TheVariants as care
 use Rattle.bcommand.specs.declared.job.Rows.{Rows}
 use Rattle.bcommand.specs.declared.job.Rows.TheVariants as which
 use Rattle.bcli.specs.Shelves.{Holdings}
@@ -170,6 +172,12 @@ origin_of (trace origin steps shown function) = origin
 origin_of (count origin steps for_editor) = origin
 origin_of question = from_source
 
+-- what comes of a source whose run is looked at in this way
+abbrev pub RunsCarefully : Care → Edition → (text : List ℕ) → Files → (steps : ℕ) → RunEnds → ℕ → Type 0
+RunsCarefully care.Stays edition text files steps ends status = Runs edition text files steps ends status
+RunsCarefully care.Warns edition text files steps ends status = Warns edition text files steps ends status
+RunsCarefully care.Wraps edition text files steps ends status = RunsForWraps edition text files steps ends status
+
 -- what is asked of a source of these files and of this text is answered, or of the code text that is its origin
 abbrev pub AnswersOf : Origin → Edition → Files → (text : List ℕ) → Question → RunEnds → ℕ → Type 0
 AnswersOf origin edition files text (list asked name) ends status =
@@ -201,7 +209,8 @@ AnswersOf origin edition files text tell_names ends status =
 AnswersOf origin edition files text (trace asked steps shown function) ends status =
     Traces origin text steps (traced_rows shown) files function ends status
 AnswersOf origin edition files text (locate steps) ends status = Locates edition text files steps ends status
-AnswersOf origin edition files text (go_careful steps) ends status = Runs edition text files steps ends status
+AnswersOf origin edition files text (go_careful it steps) ends status =
+    RunsCarefully it edition text files steps ends status
 AnswersOf origin edition files text (try_out steps) ends status = Tries edition files text steps ends status
 AnswersOf origin edition files text (count asked steps for_editor) ends status =
     Counts (record { origin = origin; steps = steps; files = files; style = style_of for_editor }) text ends status
@@ -283,8 +292,8 @@ RefusesWords k ends status = AnswersHelp k ends status ⊎ Complains k ends stat
 -- Words without a fault get what they ask for, of the files on this shelf. Others are answered for one of their faults,
 -- of which help is one. To read any words takes memory; where it is refused, nothing is read or written.
 pub data Serves (shelf : Holdings) (words : List Text) (ends : RunEnds) (status : ℕ) : Type 0 where
-  did : fault_of command_line words ≡ [] → Does shelf (asked (subcommand_of command_line words)) ends status
+  did : fault_in words ≡ [] → Does shelf (asked_in words) ends status
       → Serves shelf words ends status
-  refused : (k : ErrorKind) → IsAmong k (fault_of command_line words) → RefusesWords k ends status
+  refused : (k : ErrorKind) → IsAmong k (fault_in words) → RefusesWords k ends status
       → Serves shelf words ends status
   no_memory : SaysNothing ends status MEMORY → Serves shelf words ends status

@@ -2,7 +2,7 @@
 use Rattle.std.specs.Prelude.{◌≡◌, ◌⊎◌, ℕ, ◌+◌, ◌<◌, ◌≤◌, List, [], ◌∷◌, ◌++◌, All, length, codes, true}
 use Rattle.std.specs.Prelude.{Bool, IsTrue, false, Option, Some, None}
 use Rattle.std.specs.Io.KnownBytes.{Appends}
-use Rattle.clap.specs.Words.{IsAmong, Text, fault_of, subcommand_of}
+use Rattle.clap.specs.Words.{IsAmong, Text}
 use Rattle.clap.specs.declared.error.kind.ErrorKind.{ErrorKind}
 use Rattle.clap.specs.declared.error.kind.ErrorKind.TheVariants as kind
 use Rattle.bword.specs.ByteEnds.{Grew, Kept, Outgoing, Unread, Writes, incoming_of, most, outgoing_of}
@@ -17,7 +17,7 @@ use Rattle.blang.specs.Headline.{GoesOff}
 use Rattle.blang.specs.Reports.{HasNotRun, Reported, RunEnds}
 use Rattle.brun.specs.OneRun.{nothing_written, one_run_ends, unread}
 use Rattle.brun.specs.Runs.{RunsText}
-use Rattle.bcommand.specs.CommandLine.{Question, SourceAsked, ask, asked, command_line, compile, contradiction, go, run}
+use Rattle.bcommand.specs.CommandLine.{Question, SourceAsked, ask, asked_in, compile, contradiction, fault_in, go, run}
 use Rattle.bcommand.specs.CommandLine.{count, from_code, from_made, from_source, locate, locate_code, show, trace}
 use Rattle.bcommand.specs.CommandLine.{try_out}
 use Rattle.bsources.specs.Files.{Files, file_of}
@@ -36,8 +36,8 @@ use Rattle.bcli.specs.Shelves.{Holdings, holding}
 
 -- The words have a fault, and don't ask for help.
 pub record AreWrong (words : List Text) : Type 0 where
-  pub fault : fault_of command_line words ≡ [] → ⊥
-  pub no_help : (k : ErrorKind) → IsAmong k (fault_of command_line words) → IsHelp k → ⊥
+  pub fault : fault_in words ≡ [] → ⊥
+  pub no_help : (k : ErrorKind) → IsAmong k (fault_in words) → IsHelp k → ⊥
 
 -- Under the name of a file just this text is read.
 pub record HoldsOne (shelf : Holdings) (file text : List ℕ) : Type 0 where
@@ -73,21 +73,21 @@ tells_run question = false
 -- of the files on a shelf
 pub record Excluded (shelf : Holdings) : Type 0 where
   -- words without a fault get what they ask for, or a want of memory without a word
-  pub asked_alone : (words : List Text) (ends : RunEnds) (status : ℕ) → fault_of command_line words ≡ []
+  pub asked_alone : (words : List Text) (ends : RunEnds) (status : ℕ) → fault_in words ≡ []
       → Serves shelf words ends status
-      → Does shelf (asked (subcommand_of command_line words)) ends status ⊎ SaysNothing ends status MEMORY
+      → Does shelf (asked_in words) ends status ⊎ SaysNothing ends status MEMORY
   -- wrong words that end well, that read or write, or that are answered without a line and by another status
   pub wrong_done : (words : List Text) (ends : RunEnds) → AreWrong words → Serves shelf words ends DONE → ⊥
   pub wrong_run : (words : List Text) (ends : RunEnds) (status : ℕ) → AreWrong words → Serves shelf words ends status
       → HasNotRun ends
   -- help that is a complaint, that reads, or that writes a line
-  pub help_refused : (words : List Text) (ends : RunEnds) → fault_of command_line words ≡ kind.DisplayHelp ∷ []
+  pub help_refused : (words : List Text) (ends : RunEnds) → fault_in words ≡ kind.DisplayHelp ∷ []
       → Serves shelf words ends WRONG_COMMAND → ⊥
   pub help_beside : (words : List Text) (ends : RunEnds) (status : ℕ)
-      → fault_of command_line words ≡ kind.DisplayHelp ∷ [] → Serves shelf words ends status
+      → fault_in words ≡ kind.DisplayHelp ∷ [] → Serves shelf words ends status
       → (ends.input_after ≡ ends.input) × (ends.line_after ≡ ends.line)
   -- help without a text, and a complaint without one
-  pub help_silent : (words : List Text) (ends : RunEnds) → fault_of command_line words ≡ kind.DisplayHelp ∷ []
+  pub help_silent : (words : List Text) (ends : RunEnds) → fault_in words ≡ kind.DisplayHelp ∷ []
       → ends.out ≡ outgoing_of nothing_written → ends.out_after ≡ ends.out → Serves shelf words ends DONE → ⊥
   pub complaint_silent : (words : List Text) (ends : RunEnds) → AreWrong words
       → ends.line ≡ outgoing_of nothing_written → ends.line_after ≡ ends.line
@@ -207,7 +207,7 @@ silent_lines input told = record { input = input; line = Some told; line_after =
 -- of the streams of a process, whether the output was shown or not
 pub record ProcessExcluded (files : Holdings) : Type 0 where
   -- a call for help that is answered as no words or others are
-  pub help_unserved : (words : List Text) (known : KnownStreams) → fault_of command_line words ≡ kind.DisplayHelp ∷ []
+  pub help_unserved : (words : List Text) (known : KnownStreams) → fault_in words ≡ kind.DisplayHelp ∷ []
       → ServesProcess files (Some words) (Unit {0}) known WRONG_COMMAND → ⊥
   -- wrong words, or words that can't be read, after which all went well
   pub wrong_status : (words : List Text) (known : KnownStreams) → AreWrong words

@@ -17,11 +17,11 @@ ghost use Rattle.bcli.specs.Shelves.{opened};
 use crate::origins::read_origin;
 use crate::shelf::{FileFault, MemFile, Shelf, SystemFiles};
 use crate::sources::{Unread, Whole, read_libs, read_source};
-use crate::trying::{Attempt, try_source};
-use bcareful::go_careful;
+use crate::trying::{Attempt, run_carefully, try_source};
 use bcheck::{FindingForm, Request, check};
 use bcommand::{
-    Display, Job, OriginNames, Question, Rows, SourceNames, UNREAD, clash_text, job_of, parse,
+    Display, Job, OriginNames, Question, Rows, SourceNames, UNREAD, clash_text, full_words, job_of,
+    parse,
 };
 use bcount::{CountStyle, Counting, count};
 use bdraw::draw;
@@ -84,7 +84,10 @@ pub fn serve_with<S: Shelf, I: ByteIn, O: ByteOut, D: ByteOut>(
     ensures out_lender { O.lender out.new ≡ O.lender out.old }
     ensures diag_lender { D.lender diag.new ≡ D.lender diag.old }
 {
-    match parse(alloc, words) {
+    let Ok(words) = full_words(alloc, words) else {
+        return status::MEMORY;
+    };
+    match parse(alloc, words.as_slice()) {
         Ok(found) => perform(alloc, shelf, job_of(&found), input, out, diag),
         Err(error) => refuse(alloc, error, out, diag),
     }
@@ -285,7 +288,7 @@ fn origin_of(question: Question<'_>) -> OriginNames<'_>
         | Question::Check(_)
         | Question::Names
         | Question::Locate(_)
-        | Question::GoCareful(_)
+        | Question::GoCareful(..)
         | Question::Try(_)
         | Question::Show(_)
         | Question::Format(_) => OriginNames::Source,
@@ -335,8 +338,14 @@ fn answer<I: ByteIn, O: ByteOut, D: ByteOut>(
             trace(alloc, text, origin, wanted, input, out, diag)
         }
         Question::Locate(steps) => locate(alloc, text, edition, files, steps, input, out, diag),
-        Question::GoCareful(steps) => {
-            go_careful(alloc, text, edition, files, steps, input, out, diag)
+        Question::GoCareful(care, steps) => {
+            let attempt = Attempt {
+                edition,
+                files,
+                text,
+                steps,
+            };
+            run_carefully(alloc, attempt, care, input, out, diag)
         }
         Question::Try(steps) => {
             let attempt = Attempt {

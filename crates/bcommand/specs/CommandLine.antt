@@ -1,7 +1,7 @@
 -- Promise: the command line, and what its words ask for. How words are cut into options, and which have a fault, are
 -- definitions of `clap`, which reads them.
 use Rattle.std.specs.Prelude.{ℕ, ◌+◌, ◌==◌, ◌&&◌, ◌^◌, Bool, true, false, List, [], ◌∷◌, ◌++◌, length, codes, min}
-use Rattle.std.specs.Prelude.{Result, Ok, Err, nat_lt}
+use Rattle.std.specs.Prelude.{Result, Ok, Err, nat_lt, not}
 use Rattle.std.specs.Prelude.{Option, Some, None, if◌then◌else◌, map as map_each, option_and_then, option_map, unwrap_or}
 use Rattle.std.specs.Char.{digit_value}
 use Rattle.std.specs.List.{list_all}
@@ -9,7 +9,8 @@ use Rattle.std.specs.Option.{option_map_or}
 use Rattle.std.specs.Str.{bytes_eq}
 use Rattle.std.specs.Str.Parse.{digits_value, without_leading_plus}
 use Rattle.clap.specs.Words.{App, Row, Rule, Text, all_of, first_of, one_of}
-use Rattle.clap.specs.Words.{new_app, new_rule, with_rule, with_subcommand}
+use Rattle.clap.specs.Words.{fault_of, new_app, new_rule, subcommand_of, with_rule, with_subcommand}
+use Rattle.clap.specs.declared.error.kind.ErrorKind.{ErrorKind}
 use Rattle.clap.specs.Simple.{on_top}
 use Rattle.clap.specs.declared.builder.action.ArgAction.TheVariants.{Append, Set, SetTrue}
 use Rattle.clap.specs.declared.builder.value_parser.ValueParser.TheVariants as parser
@@ -24,6 +25,8 @@ use Rattle.bcommand.specs.declared.job.SourceNames.{SourceNames as Given}
 use Rattle.bcommand.specs.declared.job.Walk.{Walk}
 use Rattle.bcommand.specs.declared.job.OriginNames.{OriginNames}
 use Rattle.bcommand.specs.declared.job.OriginNames.TheVariants as origins
+use Rattle.bcommand.specs.declared.job.Care.{Care}
+use Rattle.bcommand.specs.declared.job.Care.TheVariants as care
 use Rattle.bcommand.specs.declared.job.Clash.{Clash}
 use Rattle.bcommand.specs.declared.job.Clash.TheVariants as clash
 use Rattle.bcommand.specs.declared.job.Display.{Display}
@@ -73,7 +76,7 @@ abbrev pub where_rule : Rule
 where_rule = flag_rule (codes "where")
 
 abbrev pub careful_rule : Rule
-careful_rule = flag_rule (codes "careful")
+careful_rule = text_rule (codes "careful")
 
 abbrev pub last_rule : Rule
 last_rule = number_rule (codes "last") MOST_STEPS
@@ -288,7 +291,7 @@ source_in rows = record { file = file_in rows; libs = libs_in rows; edition = ed
 -- What is asked of a source: its code, or that of its definitions of a name; its layout; a picture of its memory, after
 -- so many steps if there is a number; its faults, for an editor or for people; its names; the steps of its program
 -- among so many, which of them are shown, and of which function; a run of so many steps, and where it is over; the same
--- up to the first step with a finding; its faults, and such a run where there is none; how many steps each line takes in such a run, for an editor or for people; a page
+-- looked at carefully in some way; its faults, and such a run where there is none; how many steps each line takes in such a run, for an editor or for people; a page
 -- of a run, with this input if there is one; the source in one style, or whether it is in that. Its code, its steps and
 -- those of its lines may be asked of a code text, too.
 pub data Question : Type 0 where
@@ -299,7 +302,7 @@ pub data Question : Type 0 where
   tell_names : Question
   trace : OriginAsked → (steps : ℕ) (shown : Rows) (function : Option Text) → Question
   locate : (steps : ℕ) → Question
-  go_careful : (steps : ℕ) → Question
+  go_careful : Care → (steps : ℕ) → Question
   try_out : (steps : ℕ) → Question
   count : OriginAsked → (steps : ℕ) (for_editor : Bool) → Question
   show : (steps : ℕ) (shown : Rows) (input : Option Text) → Question
@@ -323,12 +326,23 @@ run_asked file false (Some steps) = run file steps
 run_asked file true (Some steps) = locate_code file steps
 run_asked file is_located None = contradiction clash.Limits
 
+-- how a run is looked at, if it is, by what comes after the `=` of `--careful`
+abbrev pub care_asked : (how : Option Text) → Result (Option Care) Clash
+care_asked None = Ok None
+care_asked (Some how) = if bytes_eq how (codes "stay") then Ok (Some care.Stays)
+    else (if bytes_eq how (codes "warn") then Ok (Some care.Warns)
+    else (if bytes_eq how (codes "wraps") then Ok (Some care.Wraps) else Err clash.Care))
+
+abbrev pub care_in : List Row → Result (Option Care) Clash
+care_in rows = care_asked (first_of (codes "careful") rows)
+
 -- A careful run tells its place, too.
-abbrev pub go_asked : SourceAsked → (is_located is_careful : Bool) → Option ℕ → Asked
-go_asked source false false (Some steps) = go source steps
-go_asked source true false (Some steps) = ask source (locate steps)
-go_asked source is_located true (Some steps) = ask source (go_careful steps)
-go_asked source is_located is_careful None = contradiction clash.Limits
+abbrev pub go_asked : SourceAsked → (is_located : Bool) → Result (Option Care) Clash → Option ℕ → Asked
+go_asked source false (Ok None) (Some steps) = go source steps
+go_asked source true (Ok None) (Some steps) = ask source (locate steps)
+go_asked source is_located (Ok (Some it)) (Some steps) = ask source (go_careful it steps)
+go_asked source is_located (Ok it) None = contradiction clash.Limits
+go_asked source is_located (Err it) steps = contradiction it
 
 abbrev pub try_asked : SourceAsked → Option ℕ → Asked
 try_asked source (Some steps) = ask source (try_out steps)
@@ -366,7 +380,7 @@ run_in rows = run_asked (file_in rows) (is_set_in (codes "where") rows) (steps_i
 
 abbrev pub go_in : List Row → Asked
 go_in rows =
-    go_asked (source_in rows) (is_set_in (codes "where") rows) (is_set_in (codes "careful") rows) (steps_in rows)
+    go_asked (source_in rows) (is_set_in (codes "where") rows) (care_in rows) (steps_in rows)
 
 abbrev pub try_in : List Row → Asked
 try_in rows = try_asked (source_in rows) (steps_in rows)
@@ -407,6 +421,23 @@ abbrev pub asked : Option (Text × List Row) → Asked
 asked None = compile editions.One []
 asked (Some command) = asked_by command.0 command.1
 
+-- The option --careful may have a value, and a rule of `clap` has one that has to be there. So --careful alone is read
+-- as --careful=stay, but not after the word --.
+abbrev pub full_word : (is_option : Bool) → Text → Text
+full_word is_option word = if is_option && bytes_eq word (codes "--careful") then codes "--careful=stay" else word
+
+abbrev pub full_words : (is_option : Bool) → List Text → List Text
+full_words is_option [] = []
+full_words is_option (word ∷ words) =
+    full_word is_option word ∷ full_words (is_option && not (bytes_eq word (codes "--"))) words
+
+-- the faults of the words of a command line, and what they ask for
+abbrev pub fault_in : List Text → List ErrorKind
+fault_in words = fault_of command_line (full_words true words)
+
+abbrev pub asked_in : List Text → Asked
+asked_in words = asked (subcommand_of command_line (full_words true words))
+
 abbrev pub source_shown : Given → SourceAsked
 source_shown source =
     record { file = source.file.now; libs = map_each (λ lib. lib.now) source.libs.now; edition = source.edition }
@@ -436,7 +467,7 @@ question_of (questioned.Check for_editor) = check for_editor
 question_of questioned.Names = tell_names
 question_of (questioned.Trace walk) = walk_shown walk
 question_of (questioned.Locate steps) = locate steps
-question_of (questioned.GoCareful steps) = go_careful steps
+question_of (questioned.GoCareful it steps) = go_careful it steps
 question_of (questioned.Try steps) = try_out steps
 question_of (questioned.Count origin steps for_editor) = count (origin_shown origin) steps for_editor
 question_of (questioned.Show it) = display_shown it
@@ -462,4 +493,6 @@ clash_line clash.Rows = clash_message (codes "'--from <N>' cannot be used with '
 clash_line clash.Origins = clash_message (codes "'--code' cannot be used with '--made <CODE>' or '--lines <LINES>'")
 clash_line clash.Libs = clash_message (codes "'--code' cannot be used with '--with <LIB>'")
 clash_line clash.Made = clash_message (codes "'--made <CODE>' cannot be used without '--lines <LINES>'")
+clash_line clash.Care =
+    clash_message (codes "'--careful' is '--careful', '--careful=warn' or '--careful=wraps'")
 clash_line clash.Lines = clash_message (codes "'--lines <LINES>' cannot be used without '--made <CODE>'")

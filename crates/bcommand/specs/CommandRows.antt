@@ -1,14 +1,15 @@
 -- Closed facts: what command lines ask for, and their faults.
 use Rattle.std.specs.Prelude.{◌≡◌, true, false, List, [], ◌∷◌, Some, None, codes, refl}
-use Rattle.clap.specs.Words.{Text, fault_of, is_simple, is_simple_and_free, subcommand_of}
+use Rattle.clap.specs.Words.{Text, is_simple, is_simple_and_free}
 use Rattle.clap.specs.declared.error.kind.ErrorKind.TheVariants as kind
 use Rattle.clap.proofs.OnLiterals.{clap_on_literals}
 use Rattle.bword.specs.declared.edition.Edition.TheVariants as editions
 use Rattle.bword.specs.declared.edition.Edition.{Edition}
-use Rattle.bcommand.specs.CommandLine.{Asked, SourceAsked, asked, command_line}
+use Rattle.bcommand.specs.CommandLine.{Asked, SourceAsked, asked_in, fault_in, command_line}
 use Rattle.bcommand.specs.CommandLine.{compile, run, locate_code, go, migrate, ask, contradiction}
 use Rattle.bcommand.specs.CommandLine.{list, map, draw, check, tell_names, trace, locate, go_careful, count, show, format}
 use Rattle.bcommand.specs.CommandLine.{from_source, try_out}
+use Rattle.bcommand.specs.declared.job.Care.TheVariants as care
 use Rattle.bcommand.specs.declared.job.Clash.TheVariants as clash
 use Rattle.bcommand.specs.declared.job.Rows.TheVariants as which
 
@@ -20,7 +21,7 @@ is_free_line = refl
 
 -- what words ask for that have no fault
 abbrev Asks : List Text → Asked → Type 0
-Asks words what = (fault_of command_line words ≡ []) × (asked (subcommand_of command_line words) ≡ what)
+Asks words what = (fault_in words ≡ []) × (asked_in words ≡ what)
 
 -- the source in the file x
 abbrev x : Edition → SourceAsked
@@ -71,12 +72,12 @@ unfolding clap_on_literals
 locates_within_limits = (refl, refl)
 
 goes_careful : Asks (codes "b" ∷ codes "go" ∷ codes "--careful" ∷ codes "x" ∷ codes "--steps" ∷ codes "50" ∷ [])
-    (ask (x editions.One) (go_careful 50))
+    (ask (x editions.One) (go_careful care.Stays 50))
 unfolding clap_on_literals
 goes_careful = (refl, refl)
 
 goes_careful_where : Asks (codes "b" ∷ codes "go" ∷ codes "x" ∷ codes "--where" ∷ codes "--careful" ∷ [])
-    (ask (x editions.One) (go_careful 10000000))
+    (ask (x editions.One) (go_careful care.Stays 10000000))
 unfolding clap_on_literals
 goes_careful_where = (refl, refl)
 
@@ -84,6 +85,26 @@ goes_careful_within_limits : Asks (codes "b" ∷ codes "go" ∷ codes "--careful
     ∷ codes "x" ∷ []) (contradiction clash.Limits)
 unfolding clap_on_literals
 goes_careful_within_limits = (refl, refl)
+
+goes_on : Asks (codes "b" ∷ codes "go" ∷ codes "--careful=warn" ∷ codes "x" ∷ codes "--steps=5" ∷ [])
+    (ask (x editions.One) (go_careful care.Warns 5))
+unfolding clap_on_literals
+goes_on = (refl, refl)
+
+goes_to_wraps : Asks (codes "b" ∷ codes "go" ∷ codes "x" ∷ codes "--careful=wraps" ∷ [])
+    (ask (x editions.One) (go_careful care.Wraps 10000000))
+unfolding clap_on_literals
+goes_to_wraps = (refl, refl)
+
+goes_otherwise : Asks (codes "b" ∷ codes "go" ∷ codes "--careful=war" ∷ codes "x" ∷ []) (contradiction clash.Care)
+unfolding clap_on_literals
+goes_otherwise = (refl, refl)
+
+-- after -- it is the name of a file
+goes_as_file : Asks (codes "b" ∷ codes "go" ∷ codes "--" ∷ codes "--careful" ∷ [])
+    (go (record { file = codes "--careful"; libs = []; edition = editions.One }) 10000000)
+unfolding clap_on_literals
+goes_as_file = (refl, refl)
 
 tries : Asks (codes "b" ∷ codes "try" ∷ codes "x" ∷ []) (ask (x editions.One) (try_out 10000000))
 unfolding clap_on_literals
@@ -99,7 +120,7 @@ tries_within_limits : Asks (codes "b" ∷ codes "try" ∷ codes "--no-limit" ∷
 unfolding clap_on_literals
 tries_within_limits = (refl, refl)
 
-tries_no_file : fault_of command_line (codes "b" ∷ codes "try" ∷ []) ≡ kind.MissingRequiredArgument ∷ []
+tries_no_file : fault_in (codes "b" ∷ codes "try" ∷ []) ≡ kind.MissingRequiredArgument ∷ []
 unfolding clap_on_literals
 tries_no_file = refl
 
@@ -125,11 +146,11 @@ migrates : Asks (codes "b" ∷ codes "migrate" ∷ []) migrate
 unfolding clap_on_literals
 migrates = (refl, refl)
 
-migrates_no_file : fault_of command_line (codes "b" ∷ codes "migrate" ∷ codes "x" ∷ []) ≡ kind.UnknownArgument ∷ []
+migrates_no_file : fault_in (codes "b" ∷ codes "migrate" ∷ codes "x" ∷ []) ≡ kind.UnknownArgument ∷ []
 unfolding clap_on_literals
 migrates_no_file = refl
 
-migrates_one_edition : fault_of command_line (codes "b" ∷ codes "migrate" ∷ codes "--edition=2" ∷ [])
+migrates_one_edition : fault_in (codes "b" ∷ codes "migrate" ∷ codes "--edition=2" ∷ [])
     ≡ kind.UnknownArgument ∷ []
 unfolding clap_on_literals
 migrates_one_edition = refl
@@ -143,7 +164,7 @@ lists_one : Asks (codes "b" ∷ codes "list" ∷ codes "--edition" ∷ codes "2"
 unfolding clap_on_literals
 lists_one = (refl, refl)
 
-lists_no_file : fault_of command_line (codes "b" ∷ codes "list" ∷ []) ≡ kind.MissingRequiredArgument ∷ []
+lists_no_file : fault_in (codes "b" ∷ codes "list" ∷ []) ≡ kind.MissingRequiredArgument ∷ []
 unfolding clap_on_literals
 lists_no_file = refl
 
@@ -151,7 +172,7 @@ maps : Asks (codes "b" ∷ codes "map" ∷ codes "x" ∷ codes "--edition=2" ∷
 unfolding clap_on_literals
 maps = (refl, refl)
 
-maps_no_name : fault_of command_line (codes "b" ∷ codes "map" ∷ codes "x" ∷ codes "f" ∷ []) ≡ kind.UnknownArgument ∷ []
+maps_no_name : fault_in (codes "b" ∷ codes "map" ∷ codes "x" ∷ codes "f" ∷ []) ≡ kind.UnknownArgument ∷ []
 unfolding clap_on_literals
 maps_no_name = refl
 
@@ -178,7 +199,7 @@ checks_for_editors : Asks (codes "b" ∷ codes "check" ∷ codes "--json" ∷ co
 unfolding clap_on_literals
 checks_for_editors = (refl, refl)
 
-checks_no_file : fault_of command_line (codes "b" ∷ codes "check" ∷ []) ≡ kind.MissingRequiredArgument ∷ []
+checks_no_file : fault_in (codes "b" ∷ codes "check" ∷ []) ≡ kind.MissingRequiredArgument ∷ []
 unfolding clap_on_literals
 checks_no_file = refl
 
@@ -192,12 +213,12 @@ unfolding clap_on_literals
 names_told_of_all = (refl, refl)
 
 -- there is no form of them but for an editor
-names_need_json : fault_of command_line (codes "b" ∷ codes "names" ∷ codes "x" ∷ [])
+names_need_json : fault_in (codes "b" ∷ codes "names" ∷ codes "x" ∷ [])
     ≡ kind.MissingRequiredArgument ∷ []
 unfolding clap_on_literals
 names_need_json = refl
 
-names_no_file : fault_of command_line (codes "b" ∷ codes "names" ∷ codes "--json" ∷ [])
+names_no_file : fault_in (codes "b" ∷ codes "names" ∷ codes "--json" ∷ [])
     ≡ kind.MissingRequiredArgument ∷ []
 unfolding clap_on_literals
 names_no_file = refl
@@ -213,11 +234,11 @@ traces_some : Asks (codes "b" ∷ codes "trace" ∷ codes "--edition=2" ∷ code
 unfolding clap_on_literals
 traces_some = (refl, refl)
 
-traces_no_file : fault_of command_line (codes "b" ∷ codes "trace" ∷ []) ≡ kind.MissingRequiredArgument ∷ []
+traces_no_file : fault_in (codes "b" ∷ codes "trace" ∷ []) ≡ kind.MissingRequiredArgument ∷ []
 unfolding clap_on_literals
 traces_no_file = refl
 
-traces_within_limits : fault_of command_line (codes "b" ∷ codes "trace" ∷ codes "--no-limit" ∷ codes "x" ∷ [])
+traces_within_limits : fault_in (codes "b" ∷ codes "trace" ∷ codes "--no-limit" ∷ codes "x" ∷ [])
     ≡ kind.UnknownArgument ∷ []
 unfolding clap_on_literals
 traces_within_limits = refl
@@ -267,12 +288,12 @@ shows_with : Asks (codes "b" ∷ codes "show" ∷ codes "x" ∷ codes "--with=l"
 unfolding clap_on_literals
 shows_with = (refl, refl)
 
-with_nothing : fault_of command_line (codes "b" ∷ codes "go" ∷ codes "x" ∷ codes "--with" ∷ [])
+with_nothing : fault_in (codes "b" ∷ codes "go" ∷ codes "x" ∷ codes "--with" ∷ [])
     ≡ kind.InvalidValue ∷ []
 unfolding clap_on_literals
 with_nothing = refl
 
-code_with : fault_of command_line (codes "b" ∷ codes "run" ∷ codes "x" ∷ codes "--with" ∷ codes "l" ∷ [])
+code_with : fault_in (codes "b" ∷ codes "run" ∷ codes "x" ∷ codes "--with" ∷ codes "l" ∷ [])
     ≡ kind.UnknownArgument ∷ []
 unfolding clap_on_literals
 code_with = refl
@@ -292,7 +313,7 @@ traces_from_and_last : Asks (codes "b" ∷ codes "trace" ∷ codes "--last=5" �
 unfolding clap_on_literals
 traces_from_and_last = (refl, refl)
 
-no_last : fault_of command_line (codes "b" ∷ codes "trace" ∷ codes "--last=0" ∷ codes "x" ∷ [])
+no_last : fault_in (codes "b" ∷ codes "trace" ∷ codes "--last=0" ∷ codes "x" ∷ [])
     ≡ kind.ValueValidation ∷ []
 unfolding clap_on_literals
 no_last = refl
@@ -339,52 +360,52 @@ compares_formats : Asks (codes "b" ∷ codes "format" ∷ codes "--check" ∷ co
 unfolding clap_on_literals
 compares_formats = (refl, refl)
 
-formats_alone : fault_of command_line (codes "b" ∷ codes "format" ∷ codes "x" ∷ codes "--with=l" ∷ [])
+formats_alone : fault_in (codes "b" ∷ codes "format" ∷ codes "x" ∷ codes "--with=l" ∷ [])
     ≡ kind.UnknownArgument ∷ []
 unfolding clap_on_literals
 formats_alone = refl
 
-no_command : fault_of command_line (codes "b" ∷ []) ≡ kind.MissingSubcommand ∷ []
+no_command : fault_in (codes "b" ∷ []) ≡ kind.MissingSubcommand ∷ []
 unfolding clap_on_literals
 no_command = refl
 
-another_command : fault_of command_line (codes "b" ∷ codes "walk" ∷ [])
+another_command : fault_in (codes "b" ∷ codes "walk" ∷ [])
     ≡ kind.UnknownArgument ∷ kind.InvalidSubcommand ∷ []
 unfolding clap_on_literals
 another_command = refl
 
-no_edition : fault_of command_line (codes "b" ∷ codes "compile" ∷ codes "--edition" ∷ codes "3" ∷ [])
+no_edition : fault_in (codes "b" ∷ codes "compile" ∷ codes "--edition" ∷ codes "3" ∷ [])
     ≡ kind.ValueValidation ∷ []
 unfolding clap_on_literals
 no_edition = refl
 
-no_steps : fault_of command_line (codes "b" ∷ codes "run" ∷ codes "--steps" ∷ codes "0" ∷ codes "x" ∷ [])
+no_steps : fault_in (codes "b" ∷ codes "run" ∷ codes "--steps" ∷ codes "0" ∷ codes "x" ∷ [])
     ≡ kind.ValueValidation ∷ []
 unfolding clap_on_literals
 no_steps = refl
 
-no_file : fault_of command_line (codes "b" ∷ codes "run" ∷ []) ≡ kind.MissingRequiredArgument ∷ []
+no_file : fault_in (codes "b" ∷ codes "run" ∷ []) ≡ kind.MissingRequiredArgument ∷ []
 unfolding clap_on_literals
 no_file = refl
 
-no_edition_of_code : fault_of command_line (codes "b" ∷ codes "run" ∷ codes "--edition" ∷ codes "1" ∷ codes "x" ∷ [])
+no_edition_of_code : fault_in (codes "b" ∷ codes "run" ∷ codes "--edition" ∷ codes "1" ∷ codes "x" ∷ [])
     ≡ kind.UnknownArgument ∷ []
 unfolding clap_on_literals
 no_edition_of_code = refl
 
-two_editions : fault_of command_line (codes "b" ∷ codes "compile" ∷ codes "--edition=1" ∷ codes "--edition=2" ∷ [])
+two_editions : fault_in (codes "b" ∷ codes "compile" ∷ codes "--edition=1" ∷ codes "--edition=2" ∷ [])
     ≡ kind.ArgumentConflict ∷ []
 unfolding clap_on_literals
 two_editions = refl
 
-help : fault_of command_line (codes "b" ∷ codes "--help" ∷ []) ≡ kind.DisplayHelp ∷ []
+help : fault_in (codes "b" ∷ codes "--help" ∷ []) ≡ kind.DisplayHelp ∷ []
 unfolding clap_on_literals
 help = refl
 
-help_of_a_command : fault_of command_line (codes "b" ∷ codes "go" ∷ codes "-h" ∷ []) ≡ kind.DisplayHelp ∷ []
+help_of_a_command : fault_in (codes "b" ∷ codes "go" ∷ codes "-h" ∷ []) ≡ kind.DisplayHelp ∷ []
 unfolding clap_on_literals
 help_of_a_command = refl
 
-version : fault_of command_line (codes "b" ∷ codes "--version" ∷ []) ≡ kind.DisplayVersion ∷ []
+version : fault_in (codes "b" ∷ codes "--version" ∷ []) ≡ kind.DisplayVersion ∷ []
 unfolding clap_on_literals
 version = refl

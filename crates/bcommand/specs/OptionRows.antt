@@ -1,13 +1,14 @@
 -- Closed facts: which options each command takes and no other, the limits of their numbers, and what they ask for.
 use Rattle.std.specs.Prelude.{◌≡◌, ◌==◌, true, false, List, [], ◌∷◌, ◌++◌, Some, None, codes, filter, length, map, refl}
-use Rattle.clap.specs.Words.{Text, fault_of, subcommand_of}
+use Rattle.clap.specs.Words.{Text}
 use Rattle.clap.proofs.OnLiterals.{clap_on_literals}
 use Rattle.bword.specs.declared.edition.Edition.TheVariants as editions
-use Rattle.bcommand.specs.CommandLine.{Asked, SourceAsked, asked, command_line}
+use Rattle.bcommand.specs.CommandLine.{Asked, SourceAsked, asked_in, fault_in}
 use Rattle.bcommand.specs.CommandLine.{compile, run, locate_code, go, ask, contradiction}
 use Rattle.bcommand.specs.CommandLine.{list, map as layout, draw, check, tell_names, trace, locate, go_careful}
 use Rattle.bcommand.specs.CommandLine.{count, show, format, try_out}
 use Rattle.bcommand.specs.CommandLine.{from_source}
+use Rattle.bcommand.specs.declared.job.Care.TheVariants as care
 use Rattle.bcommand.specs.declared.job.Clash.TheVariants as clash
 use Rattle.bcommand.specs.declared.job.Rows.TheVariants as which
 
@@ -23,7 +24,7 @@ of_code = codes "--code" ∷ codes "--made=c" ∷ codes "--lines=l" ∷ []
 
 -- those that a command takes, before this argument, if there is one
 abbrev taken : (name : Text) → (file : List Text) → List Text
-taken name file = filter (λ o. length (fault_of command_line (codes "b" ∷ name ∷ o ∷ file)) == 0) options
+taken name file = filter (λ o. length (fault_in (codes "b" ∷ name ∷ o ∷ file)) == 0) options
 
 abbrev x : List Text
 x = codes "x" ∷ []
@@ -92,7 +93,7 @@ format_takes = refl
 
 -- the words of these commands with this option that have a fault of the value alone
 abbrev refused : (names : List Text) → (option : Text) → List Text
-refused names option = filter (λ name. length (fault_of command_line (codes "b" ∷ name ∷ option ∷ x)) == 1) names
+refused names option = filter (λ name. length (fault_in (codes "b" ∷ name ∷ option ∷ x)) == 1) names
 
 abbrev with_steps : List Text
 with_steps =
@@ -129,7 +130,7 @@ editions_alone = refl
 
 -- what words ask for
 abbrev asked_by_words : List Text → Asked
-asked_by_words words = asked (subcommand_of command_line (codes "b" ∷ words))
+asked_by_words words = asked_in (codes "b" ∷ words)
 
 -- the source in the file x, and l after it
 abbrev both : SourceAsked
@@ -145,7 +146,7 @@ files_of_each :
     ∷ of_both (codes "map") [] ∷ of_both (codes "map") (codes "--svg" ∷ []) ∷ of_both (codes "check") []
     ∷ of_both (codes "names") (codes "--json" ∷ []) ∷ of_both (codes "trace") [] ∷ of_both (codes "count") []
     ∷ of_both (codes "show") [] ∷ []
-    ≡ go both 10000000 ∷ ask both (locate 10000000) ∷ ask both (go_careful 10000000)
+    ≡ go both 10000000 ∷ ask both (locate 10000000) ∷ ask both (go_careful care.Stays 10000000)
     ∷ ask both (try_out 10000000) ∷ ask both (list from_source None) ∷ ask both layout
     ∷ ask both (draw None) ∷ ask both (check false) ∷ ask both tell_names
     ∷ ask both (trace from_source 1000 (which.From 1) None) ∷ ask both (count from_source 10000000 false)
@@ -176,7 +177,7 @@ steps_of_each :
     ∷ of_x (codes "show" ∷ codes "--steps=5" ∷ codes "--last=7" ∷ []) ∷ []
     ≡ run (codes "x") 18446744073709551615 ∷ contradiction clash.Limits
     ∷ locate_code (codes "x") 18446744073709551615
-    ∷ go alone 5 ∷ ask alone (locate 18446744073709551615) ∷ ask alone (go_careful 18446744073709551615)
+    ∷ go alone 5 ∷ ask alone (locate 18446744073709551615) ∷ ask alone (go_careful care.Stays 18446744073709551615)
     ∷ ask alone (try_out 18446744073709551615)
     ∷ ask alone (trace from_source 5 (which.From 1) None) ∷ ask alone (trace from_source 1000 (which.From 5) None)
     ∷ ask alone (count from_source 5 false) ∷ ask alone (count from_source 10000000 true)

@@ -1,12 +1,12 @@
 -- Closed facts: what a program is read from, by the words of each command that takes a code text, and what is said of
 -- words that contradict each other.
 use Rattle.std.specs.Prelude.{◌≡◌, false, List, [], ◌∷◌, ◌++◌, None, codes, map, refl}
-use Rattle.clap.specs.Words.{Text, fault_of, subcommand_of}
+use Rattle.clap.specs.Words.{Text}
 use Rattle.clap.specs.declared.error.kind.ErrorKind.{ErrorKind}
 use Rattle.clap.specs.declared.error.kind.ErrorKind.TheVariants as kind
 use Rattle.clap.proofs.OnLiterals.{clap_on_literals}
 use Rattle.bword.specs.declared.edition.Edition.TheVariants as editions
-use Rattle.bcommand.specs.CommandLine.{Asked, OriginAsked, SourceAsked, asked, clash_line, command_line}
+use Rattle.bcommand.specs.CommandLine.{Asked, OriginAsked, SourceAsked, asked_in, clash_line, fault_in}
 use Rattle.bcommand.specs.CommandLine.{ask, contradiction, count, from_code, from_made, list, trace}
 use Rattle.bcommand.specs.declared.job.Clash.{Clash}
 use Rattle.bcommand.specs.declared.job.Clash.TheVariants as clash
@@ -20,10 +20,10 @@ words_of name words = codes "b" ∷ name ∷ words ++ codes "x" ∷ []
 
 -- the faults of these words in each of the commands, and what they ask for
 abbrev faults : (words : List Text) → List (List ErrorKind)
-faults words = map (λ name. fault_of command_line (words_of name words)) names
+faults words = map (λ name. fault_in (words_of name words)) names
 
 abbrev each : (words : List Text) → List Asked
-each words = map (λ name. asked (subcommand_of command_line (words_of name words))) names
+each words = map (λ name. asked_in (words_of name words)) names
 
 abbrev none : List (List ErrorKind)
 none = [] ∷ [] ∷ [] ∷ []
@@ -93,7 +93,7 @@ unfolding clap_on_literals
 code_and_lib = (refl, refl)
 
 -- a text that lacks its value, and two of them
-no_value : map (λ name. fault_of command_line (codes "b" ∷ name ∷ codes "x" ∷ codes "--made" ∷ [])) names
+no_value : map (λ name. fault_in (codes "b" ∷ name ∷ codes "x" ∷ codes "--made" ∷ [])) names
     ≡ (kind.InvalidValue ∷ []) ∷ (kind.InvalidValue ∷ []) ∷ (kind.InvalidValue ∷ []) ∷ []
 unfolding clap_on_literals
 no_value = refl
@@ -105,7 +105,7 @@ two_values = refl
 
 -- the other contradictions are told of a code text, too, and after these
 abbrev one : (name : Text) → (words : List Text) → Asked
-one name words = asked (subcommand_of command_line (words_of name words))
+one name words = asked_in (words_of name words)
 
 told_first : one (codes "trace") (codes "--made=c" ∷ codes "--from=5" ∷ codes "--last=5" ∷ [])
     ∷ one (codes "trace") (codes "--code" ∷ codes "--from=5" ∷ codes "--last=5" ∷ [])
@@ -120,11 +120,12 @@ abbrev hint : Text
 hint = codes "\n\nFor more information, try '--help'.\n"
 
 clashes_told : map clash_line
-    (clash.Limits ∷ clash.Rows ∷ clash.Origins ∷ clash.Libs ∷ clash.Made ∷ clash.Lines ∷ [])
+    (clash.Limits ∷ clash.Rows ∷ clash.Origins ∷ clash.Libs ∷ clash.Made ∷ clash.Lines ∷ clash.Care ∷ [])
     ≡ (codes "error: the argument '--steps <N>' cannot be used with '--no-limit'" ++ hint)
     ∷ (codes "error: the argument '--from <N>' cannot be used with '--last <N>'" ++ hint)
     ∷ (codes "error: the argument '--code' cannot be used with '--made <CODE>' or '--lines <LINES>'" ++ hint)
     ∷ (codes "error: the argument '--code' cannot be used with '--with <LIB>'" ++ hint)
     ∷ (codes "error: the argument '--made <CODE>' cannot be used without '--lines <LINES>'" ++ hint)
-    ∷ (codes "error: the argument '--lines <LINES>' cannot be used without '--made <CODE>'" ++ hint) ∷ []
+    ∷ (codes "error: the argument '--lines <LINES>' cannot be used without '--made <CODE>'" ++ hint)
+    ∷ (codes "error: the argument '--careful' is '--careful', '--careful=warn' or '--careful=wraps'" ++ hint) ∷ []
 clashes_told = refl

@@ -121,8 +121,8 @@ const WHERE: ArgumentRow = ArgumentRow {
 
 const CAREFUL: ArgumentRow = ArgumentRow {
     id: "careful",
-    kind: GivenAs::Flag(false),
-    help: "Stops at a word never set, or an index off its vector",
+    kind: GivenAs::Text("HOW"),
+    help: "Stops at a word never set or off a vector; =warn, =wraps",
 };
 
 const CODE_WHERE: ArgumentRow = ArgumentRow {

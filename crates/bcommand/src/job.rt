@@ -33,6 +33,8 @@ pub enum Clash {
     Made,
     /// Lines of a code text, and none that was made of FILE.
     Lines,
+    /// A way of a careful run that there isn't.
+    Care,
 }
 
 /// What is asked of a source.
@@ -51,8 +53,8 @@ pub enum Question<'a> {
     Trace(Walk<'a>),
     /// Where a run of so many steps at most is over.
     Locate(u64),
-    /// A run of so many steps at most, up to the first one with a finding.
-    GoCareful(u64),
+    /// A run of so many steps at most, which is looked at in this way.
+    GoCareful(Care, u64),
     /// Its faults, such a run where there is none, and what to do next.
     Try(u64),
     /// The steps of each of its lines in a run of so many at most, and whether an editor reads them.
@@ -60,6 +62,17 @@ pub enum Question<'a> {
     Show(Display<'a>),
     /// The same source in one style, or only whether it is in that.
     Format(bool),
+}
+
+/// What a careful run does at a finding, and whether a number that wraps is one.
+#[derive(Clone, Copy)]
+pub enum Care {
+    /// It stays at the first one.
+    Stays,
+    /// It goes on, and tells each place in the end.
+    Warns,
+    /// It stays at the first one, and a number that wraps is one, too.
+    Wraps,
 }
 
 /// What a program is read from.

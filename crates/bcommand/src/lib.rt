@@ -5,7 +5,11 @@ mod commands;
 mod job;
 mod parsing;
 mod texts;
+mod words;
 
-pub use job::{Clash, Display, Job, MadeNames, OriginNames, Question, Rows, SourceNames, Walk};
+pub use job::{
+    Care, Clash, Display, Job, MadeNames, OriginNames, Question, Rows, SourceNames, Walk,
+};
 pub use parsing::{job_of, parse};
 pub use texts::{UNREAD, clash_text};
+pub use words::full_words;

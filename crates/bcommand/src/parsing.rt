@@ -1,11 +1,13 @@
 //! The words of a command line, read.
-ghost use Rattle.std.specs.Prelude.{◌≡◌, [], IfOk, IfErr, map, option_map, string_bytes};
+ghost use Rattle.std.specs.Prelude.{◌≡◌, [], IfOk, IfErr, map, option_map};
 ghost use Rattle.clap.specs.Words.{HasKind, fault_of, first_of, found_of, rows_of, subcommand_of, subcommand_rows_of};
 ghost use Rattle.bcommand.specs.CommandLine.{asked, asked_of, command_line, edition_in, file_in, is_set_in, libs_in, option_number, question_of, source_in, source_shown, steps_in};
-ghost use Rattle.bcommand.specs.CommandLine.{count_in, go_in, list_in, map_in, origin_asked, origin_in, origin_or_clash, rows_asked, run_in, show_in, shown_steps, trace_in, trace_steps, try_in};
+ghost use Rattle.bcommand.specs.CommandLine.{care_asked, count_in, go_in, list_in, map_in, origin_asked, origin_in, origin_or_clash, rows_asked, run_in, show_in, shown_steps, trace_in, trace_steps, try_in};
 
 use crate::commands::command;
-use crate::job::{Clash, Display, Job, MadeNames, OriginNames, Question, Rows, SourceNames, Walk};
+use crate::job::{
+    Care, Clash, Display, Job, MadeNames, OriginNames, Question, Rows, SourceNames, Walk,
+};
 use bword::Edition;
 use clap::{ArgMatches, Error};
 use std::alloc::Global;
@@ -19,13 +21,13 @@ const DEFAULT_TRACE_STEPS: u64 = 1_000;
 /// The steps on a page if the command doesn't say how many.
 const DEFAULT_SHOWN_STEPS: u64 = 2_000;
 
-/// What is found in the words of a command line; the first one is the program's own name.
+/// What is found in the words of a command line, as `full_words` gives them; the first one is the program's own name.
 ///
 /// A request for help is an error, too.
-pub fn parse<'a>(alloc: Global, words: &'a [String]) -> Result<ArgMatches<'a>, Error>
-    ensures ok { IfOk result (λ m. (fault_of command_line (map string_bytes words.entry.now) ≡ [])
-        × (subcommand_rows_of m ≡ subcommand_of command_line (map string_bytes words.entry.now))) }
-    ensures err { IfErr result (HasKind (fault_of command_line (map string_bytes words.entry.now))) }
+pub fn parse<'a>(alloc: Global, words: &'a [&'a str]) -> Result<ArgMatches<'a>, Error>
+    ensures ok { IfOk result (λ m. (fault_of command_line (map (λ w. w.now) words.entry.now) ≡ [])
+        × (subcommand_rows_of m ≡ subcommand_of command_line (map (λ w. w.now) words.entry.now))) }
+    ensures err { IfErr result (HasKind (fault_of command_line (map (λ w. w.now) words.entry.now))) }
 {
     command(alloc)?.try_get_matches_from(words)
 }
@@ -69,12 +71,28 @@ fn go_of<'m, 'a: 'm>(given: &'m ArgMatches<'a>) -> Job<'m>
     ensures { asked_of result ≡ go_in (rows_of (found_of given.now)) }
 {
     let source = source_of(given);
-    let is_located = is_set(given, "where");
-    match (steps_of(given), is_set(given, "careful")) {
-        (Some(steps), true) => Job::Ask(source, Question::GoCareful(steps)),
-        (Some(steps), false) if is_located => Job::Ask(source, Question::Locate(steps)),
-        (Some(steps), false) => Job::Go(source, steps),
+    let care = match care_of(text_of(given, "careful")) {
+        Ok(care) => care,
+        Err(clash) => return Job::Contradiction(clash),
+    };
+    match (steps_of(given), care) {
+        (Some(steps), Some(care)) => Job::Ask(source, Question::GoCareful(care, steps)),
+        (Some(steps), None) if is_set(given, "where") => Job::Ask(source, Question::Locate(steps)),
+        (Some(steps), None) => Job::Go(source, steps),
         (None, _) => Job::Contradiction(Clash::Limits),
+    }
+}
+
+// How a run is looked at, by what comes after `--careful=`.
+fn care_of(how: Option<&str>) -> Result<Option<Care>, Clash>
+    ensures { result ≡ care_asked (option_map (λ t. t.now) how.entry) }
+{
+    match how {
+        None => Ok(None),
+        Some("stay") => Ok(Some(Care::Stays)),
+        Some("warn") => Ok(Some(Care::Warns)),
+        Some("wraps") => Ok(Some(Care::Wraps)),
+        Some(_) => Err(Clash::Care),
     }
 }
 

@@ -51,6 +51,12 @@ error: the argument '--lines <LINES>' cannot be used without '--made <CODE>'
 For more information, try '--help'.
 ";
 
+const CARE: &str = "\
+error: the argument '--careful' is '--careful', '--careful=warn' or '--careful=wraps'
+
+For more information, try '--help'.
+";
+
 /// The message for options that contradict each other.
 pub fn clash_text(clash: Clash) -> &'static str
     ensures { result.now ≡ clash_line clash }
@@ -62,6 +68,7 @@ pub fn clash_text(clash: Clash) -> &'static str
         Clash::Libs => LIBS,
         Clash::Made => MADE,
         Clash::Lines => LINES,
+        Clash::Care => CARE,
     }
 }
 
@@ -313,7 +320,10 @@ With --careful, the run stays at the first step with a finding. The line is
   careful index   its address has left the vector, the name, the parameters or
                   the string that it was made of
   careful low     no word of the program has its address
-Then come the place, as with --where, and the names of the words.
+Then come the place, as with --where, and the names of the words. With
+--careful=warn the run goes on, and each finding is told once, at the end. With
+--careful=wraps it stays at careful wraps, too: a sum, a difference or a product
+past 16 bits.
 
 Examples:
   b go --steps 1000 hello.b

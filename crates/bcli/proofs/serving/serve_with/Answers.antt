@@ -1,10 +1,12 @@
-use Rattle.std.proofs.Common.{inl, inr}
-use Rattle.bcli.specs.Serves.{no_memory, refused}
-use Rattle.bcli.proofs.Answered.{memory_alone}
+use Rattle.bcli.proofs.Answered.{complained, served}
 use Rattle.bcli.proofs.serving.serve_with.Goals as goal
 
-pub returns-in-Err-clause-serves : goal.returns-in-Err-clause-serves
-returns-in-Err-clause-serves g c = elim c.in-Err.ensures.err [
-  | inl memory ↦ no_memory (memory_alone _ _ _ memory (c.refuse.ensures.refuses _))
-  | inr among ↦ refused _ among (c.refuse.ensures.refuses _)
-]
+pub returns-in-Ok-parse-clause-serves : goal.returns-in-Ok-parse-clause-serves
+returns-in-Ok-parse-clause-serves g c =
+    served (g.S.Shelf.holdings c.args.shelf.now) _ c.as_slice.result.now c.in-Ok.words.items c.job_of.result _ _ _
+    c.as_slice.ensures.value c.in-Ok.ensures c.in-Ok-parse.ensures.ok c.job_of.ensures c.perform.ensures.does
+
+pub returns-clause-serves : goal.returns-clause-serves
+returns-clause-serves g c =
+    complained (g.S.Shelf.holdings c.args.shelf.now) _ c.as_slice.result.now c.in-Ok.words.items _ _ _
+    c.as_slice.ensures.value c.in-Ok.ensures c.in-Err.ensures.err (c.refuse.ensures.refuses _)
