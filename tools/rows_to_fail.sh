@@ -50,6 +50,7 @@ row 'try --steps 9' 'main() while(1) ;'
 row 'go --careful' "$reading" x
 row 'go --careful' 'main() { auto v 1; putchar(getchar()); v[2] = 5; }' x
 row 'go --careful --steps 40' 'main() { auto c; while((c = getchar()) != 4) printn(c, 10); }' xyz
+row 'go --careful=warn' 'main() { auto v 1; v[2] = 5; printn(1 / 0, 10); }'
 row 'go --where --steps 40' 'main() { auto n; n = 1; while(n) getchar(); }'
 row 'trace --steps 20 --last 2' 'main() while(1) ;'
 row count "$reading" x

@@ -19,7 +19,7 @@ use Rattle.bcareful.specs.Things.{Atlas, atlas_in}
 use Rattle.bcareful.specs.Carefuls.{CarefulGives, IsClean, IsFound}
 use Rattle.bcareful.specs.Runs.{RunsBy, finds_wraps, found, stays, unfound, warned}
 use Rattle.bcareful.specs.Tellings.{Tells, TellsOver, finding_text}
-use Rattle.bcareful.specs.Warned.{WarnGives}
+use Rattle.bcareful.specs.Warned.{WarnGives, told_after}
 use Rattle.bcareful.specs.declared.careful.Care.{Care}
 use Rattle.bcareful.specs.declared.watching.Ended.TheVariants as ended
 use Rattle.bcareful.specs.declared.watching.Found.{Found}
@@ -63,7 +63,7 @@ module _ (edition : Edition) (source : List ℕ) (files : Files) (n : ℕ) (ends
 
   -- one that goes on
   pub warned_whole : (stop : Stop) (text : List ℕ) (told : Outgoing) (answer : ℕ) → stays care ≡ false → WarnGives a legend source p.image.functions (steps_from p) n ends.input ends.input_after ends.out ends.out_after stop text
-      → TellsOver legend source stop ends.line told answer → Reported text answer told ends.line_after status → RunsBy care edition source files n ends status
+      → TellsOver legend source stop ends.line told answer → Reported (told_after answer text) answer told ends.line_after status → RunsBy care edition source files n ends status
   warned_whole stop text told answer going gives over reported =
       let b = atlas_in ds frames (finds_wraps care) in
       let l = legend_in ds lines files in

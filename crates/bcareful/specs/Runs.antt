@@ -21,7 +21,7 @@ use Rattle.bcareful.specs.Things.{atlas_in}
 use Rattle.bcareful.specs.Findings.{careful}
 use Rattle.bcareful.specs.Carefuls.{IsClean, IsFound}
 use Rattle.bcareful.specs.Tellings.{Tells, TellsOver, finding_text}
-use Rattle.bcareful.specs.Warned.{WarnGives}
+use Rattle.bcareful.specs.Warned.{WarnGives, told_after}
 use Rattle.bcareful.specs.declared.careful.Care.{Care}
 use Rattle.bcareful.specs.declared.careful.Care.TheVariants as care
 use Rattle.bcareful.specs.declared.watching.Found.{Found}
@@ -54,7 +54,8 @@ finds_wraps care = false
 -- The program of the source was run as a careful machine runs it, for so many steps at most. It stays at its first
 -- finding, and that was told; or it has none, and its own line and status, and the place of a trap or of the limit
 -- after the line. Or it was run as the machine runs it, with the same line, place and status, and all findings were
--- told after them. Or it did not begin, or there is none, and why was told; or memory was refused.
+-- told after them, unless a read or a write failed, or memory ran out. Or it did not begin, or there is none, and why
+-- was told; or memory was refused.
 pub data RunsBy (care : Care) (edition : Edition) (source : List ℕ) (files : Files) (steps : ℕ) (ends : RunEnds)
     (status : ℕ) : Type 0 where
   found : (ds : List Definition) (image : Image) (frames : List Frame) (lines : List ℕ) (found : Found) (text : List ℕ)
@@ -76,7 +77,8 @@ pub data RunsBy (care : Care) (edition : Edition) (source : List ℕ) (files : F
       → WarnGives (atlas_in ds frames (finds_wraps care)) (legend_in ds lines files) source (image_of ds).functions
       (machine ds) steps ends.input ends.input_after ends.out ends.out_after stop text
       → TellsOver (legend_in ds lines files) source stop ends.line told answer
-      → Reported text answer told ends.line_after status → RunsBy care edition source files steps ends status
+      → Reported (told_after answer text) answer told ends.line_after status
+      → RunsBy care edition source files steps ends status
   not_begun : (ds : List Definition) (image : Image) (result : Outcome)
       → HasProgram edition source ds image → BeginsNot image result → Finishes result ends.line ends.line_after status
       → HasNotRun ends → RunsBy care edition source files steps ends status

@@ -10,7 +10,7 @@ use Rattle.bcareful.specs.CarefulRows.{f, frame_words, thing, data_thing, v}
 use Rattle.bcareful.specs.Things.{Atlas, of_data}
 use Rattle.bcareful.specs.Tellings.{address_of, finding_line, meaning, name_text, word_name}
 use Rattle.bcareful.specs.Runs.{finds_wraps, stays}
-use Rattle.bcareful.specs.Warned.{Warnings, no_warnings, noted}
+use Rattle.bcareful.specs.Warned.{Warnings, no_warnings, noted, told_after}
 use Rattle.bcareful.specs.declared.careful.Care.TheVariants as care
 use Rattle.bcareful.specs.declared.finding.Finding.{Finding}
 use Rattle.bcareful.specs.declared.finding.Finding.TheVariants.{Index, Low, Never, Over, Past, Wraps}
@@ -131,3 +131,8 @@ noted_once : (noted (at_place 9 4) (codes "b\n") told_so ≡ told_so)
     × ((noted (at_place 9 5) (codes "b\n") told_so).text ≡ codes "a\nb\n")
     × ((noted (at_place 8 4) (codes "b\n") told_so).text ≡ codes "a\nb\n")
 noted_once = (refl, refl, refl)
+
+-- After 133 and 134 nothing more is told.
+told_after_statuses : map (λ answer. told_after answer (codes "a")) (0 ∷ 1 ∷ 127 ∷ 130 ∷ 131 ∷ 132 ∷ 133 ∷ 134 ∷ [])
+    ≡ codes "a" ∷ codes "a" ∷ codes "a" ∷ codes "a" ∷ codes "a" ∷ codes "a" ∷ [] ∷ [] ∷ []
+told_after_statuses = refl

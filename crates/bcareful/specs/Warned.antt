@@ -1,5 +1,5 @@
 -- Promise: what is told of a run that goes on after its findings.
-use Rattle.std.specs.Prelude.{◌≡◌, ℕ, zero, suc, ◌==◌, ◌&&◌, Bool, List, [], ◌∷◌, ◌++◌, Option, Some, None}
+use Rattle.std.specs.Prelude.{◌≡◌, ℕ, zero, suc, ◌==◌, ◌&&◌, ◌||◌, Bool, List, [], ◌∷◌, ◌++◌, Option, Some, None}
 use Rattle.std.specs.Prelude.{if◌then◌else◌}
 use Rattle.std.specs.List.{list_any}
 use Rattle.std.specs.Option.{option_map_or}
@@ -8,6 +8,7 @@ use Rattle.blang.specs.declared.run.Outcome.{Outcome}
 use Rattle.blang.specs.declared.run.Outcome.TheVariants as outcome
 use Rattle.blang.specs.Machine.{Loaded, States}
 use Rattle.blang.specs.Reports.{RunGives}
+use Rattle.blang.specs.declared.status.TheConstants.{DEVICE, MEMORY}
 use Rattle.bmach.specs.Stops.{IsOverAt}
 use Rattle.bmach.specs.declared.machine.Active.{Active}
 use Rattle.bmach.specs.declared.machine.Stop.{Stop}
@@ -47,6 +48,10 @@ noted call text w =
 abbrev pub kept_text : Outcome → (text : List ℕ) → List ℕ
 kept_text outcome.Memory text = []
 kept_text result text = text
+
+-- Nothing more is told where a write or a read failed, or memory ran out.
+abbrev pub told_after : (answer : ℕ) → (text : List ℕ) → List ℕ
+told_after answer text = if answer == DEVICE || answer == MEMORY then [] else text
 
 -- what is told with a run: its things and names, and the source
 module _ (a : Atlas) (legend : Legend) (source : List ℕ) where

@@ -8,6 +8,7 @@ ghost use Rattle.btools.specs.ProgramLines.{HasLines, lined_functions, lines_sho
 ghost use Rattle.btools.specs.Programs.{IsThisProgram};
 ghost use Rattle.bword.specs.declared.edition.Edition.{Edition};
 ghost use Rattle.bcareful.specs.Runs.{Runs, RunsBy, RunsForWraps, Warns, finds_wraps, stays};
+ghost use Rattle.bcareful.specs.Warned.{told_after};
 
 use crate::atlas::Atlas;
 use crate::telling::{tell_found, tell_over};
@@ -92,7 +93,7 @@ pub fn go_wraps<I: ByteIn, O: ByteOut, D: ByteOut>(
 }
 
 /// Compiles a source, and runs its program as `go_edition` does, with the place of a trap or of the limit after its
-/// line. In the end all findings are told, each place once.
+/// line. In the end all findings are told, each place once, unless a read or a write failed, or memory ran out.
 pub fn go_warned<I: ByteIn, O: ByteOut, D: ByteOut>(
     alloc: Global,
     source: &[u8],
@@ -247,7 +248,7 @@ fn run_task<I: ByteIn, O: ByteOut, D: ByteOut>(
     if !task.care.stays() {
         let warned = warned_steps(&teller, &mut stepper, steps, input, out);
         let told = tell_over(alloc, &legend, task.source, warned.stop, diag);
-        return tell(warned.text.as_slice(), told, diag);
+        return tell(told_after(told, warned.text.as_slice()), told, diag);
     }
     match careful_steps(alloc, &atlas, &mut stepper, steps, input, out) {
         Ended::Over(outcome, call, steps) => {
@@ -261,5 +262,16 @@ fn run_task<I: ByteIn, O: ByteOut, D: ByteOut>(
         Ended::Found(found) => {
             tell_found(alloc, &atlas, &legend, task.source, &stepper, found, diag)
         }
+    }
+}
+
+// What is told after what had this status: this text, unless a read or a write failed, or memory ran out.
+fn told_after(answer: Status, text: &[u8]) -> &[u8]
+    ensures { result.now ≡ told_after answer text.now }
+{
+    if answer == status::DEVICE || answer == status::MEMORY {
+        &[]
+    } else {
+        text
     }
 }

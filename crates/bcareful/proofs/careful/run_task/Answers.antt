@@ -1,4 +1,4 @@
-use Rattle.std.proofs.Common.{◌∙◌, List, ℕ, map, refl, subst, sym, unwrap_or}
+use Rattle.std.proofs.Common.{◌∙◌, List, ℕ, ap, map, refl, subst, sym, unwrap_or}
 use Rattle.bsources.specs.Files.{files_shown}
 use Rattle.blang.specs.Reports.{Reported}
 use Rattle.btools.specs.FrameNames.{frame_seen}
@@ -7,6 +7,7 @@ use Rattle.btools.specs.declared.program.ProgramFault.TheVariants.{Memory}
 use Rattle.btrace.specs.RowTexts.{legend_of}
 use Rattle.bcareful.specs.Runs.{not_begun, stopped}
 use Rattle.bcareful.specs.Things.{atlas_of}
+use Rattle.bcareful.specs.Warned.{told_after}
 use Rattle.bcareful.proofs.Whole.{counted, found_whole, unfound_whole, warned_whole}
 use Rattle.bcareful.proofs.careful.run_task.Goals as goal
 
@@ -36,7 +37,7 @@ returns-then-not-stays-clause-runs g c edition is named lined =
     (legend_of (record { tables = c.args.task.tables; files = c.args.task.files }))
     (λ k. record { functions = c.requires.functions k; lines = c.requires.lines k; files = files })
     w.stop w.text (g.D.ByteOut.outgoing c.tell_over-told.new.diag) c.tell_over-told.result (sym c.stays.ensures ∙ c.if-not-stays.true) c.warned_steps-warned.ensures.gives c.tell_over-told.ensures.tells
-    (subst (λ (t : List ℕ). Reported t c.tell_over-told.result (g.D.ByteOut.outgoing c.tell_over-told.new.diag) (g.D.ByteOut.outgoing c.tell.new.out) c.tell.result) c.as_slice.ensures c.tell.ensures.told)
+    (subst (λ (t : List ℕ). Reported t c.tell_over-told.result (g.D.ByteOut.outgoing c.tell_over-told.new.diag) (g.D.ByteOut.outgoing c.tell.new.out) c.tell.result) (c.told_after.ensures ∙ ap (told_after c.tell_over-told.result) c.as_slice.ensures) c.tell.ensures.told)
 
 pub returns-in-Over-clause-runs : goal.returns-in-Over-clause-runs
 returns-in-Over-clause-runs g c edition is named lined =
