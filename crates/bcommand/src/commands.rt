@@ -140,7 +140,7 @@ const JSON: ArgumentRow = ArgumentRow {
 const NEEDED_JSON: ArgumentRow = ArgumentRow {
     id: "json",
     kind: GivenAs::Flag(true),
-    help: "Writes one object on each line, for an editor; always needed",
+    help: "Writes an object on each line, for an editor; always needed",
 };
 
 const SVG: ArgumentRow = ArgumentRow {
@@ -215,7 +215,7 @@ const COMMANDS: [CommandRow; 13] = [
     },
     CommandRow {
         name: "try",
-        about: "Checks the source in FILE, runs it carefully, and tells what to do next",
+        about: "Checks the source in FILE, and runs it carefully",
         usage: None,
         help: TRY_HELP,
         arguments: &[EDITION, STEPS, NO_LIMIT, FILE, WITH],

@@ -321,9 +321,9 @@ With --careful, the run stays at the first step with a finding. The line is
                   the string that it was made of
   careful low     no word of the program has its address
 Then come the place, as with --where, and the names of the words. With
---careful=warn the run goes on, and each finding is told once, at the end. With
+--careful=warn the run goes on, and each place is told once, at the end. With
 --careful=wraps it stays at careful wraps, too: a sum, a difference or a product
-past 16 bits.
+that is below -32768 or above 32767.
 
 Examples:
   b go --steps 1000 hello.b
