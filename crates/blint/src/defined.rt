@@ -3,11 +3,14 @@ use crate::cautions::Program;
 use crate::locals::Locals;
 use crate::tokens::TokenPlace;
 use crate::tree::Tree;
-use blang::{Definition, Ival, View};
+use blang::{Definition, Instr, Ival, View};
 use bnames::{NameTable, Probes};
 use btree::Node;
 use bword::Name;
 use std::alloc::{AllocError, Global};
+
+/// The function of the library that ends a program.
+const EXIT: &str = "exit";
 
 /// What a definition defines.
 #[derive(Clone, Copy)]
@@ -27,14 +30,18 @@ pub(crate) struct Defined<'a> {
     definitions: &'a [Definition],
     names: NameTable,
     library: &'a [(&'static str, u64)],
+    /// Whether one of them names the function that ends a program.
+    pub exits: bool,
 }
 
 impl<'a> Defined<'a> {
     pub(crate) fn new(alloc: Global, program: &Program<'a>) -> Result<Self, AllocError> {
         let mut names = NameTable::new(alloc);
+        let mut exits = false;
         for index in 0..program.definitions.len() {
             let place = u32::try_from(index).unwrap_or(u32::MAX);
             if let Some(definition) = program.definitions.get(index) {
+                exits = exits || names_exit(definition);
                 if names.insert(name_of(definition), place).is_err() {
                     return Err(AllocError);
                 }
@@ -44,6 +51,7 @@ impl<'a> Defined<'a> {
             definitions: program.definitions,
             names,
             library: program.library,
+            exits,
         })
     }
 
@@ -74,6 +82,35 @@ fn name_of(definition: &Definition) -> Name {
     match definition.view() {
         View::Function { name, .. } | View::Simple { name, .. } | View::Vector { name, .. } => name,
     }
+}
+
+fn names_exit(definition: &Definition) -> bool {
+    match definition.view() {
+        View::Function { code, .. } => puts_exit(code),
+        View::Simple { values, .. } | View::Vector { values, .. } => has_exit(values),
+    }
+}
+
+fn puts_exit(code: &[Instr]) -> bool {
+    for instr in code {
+        if let Instr::External(name) = instr {
+            if name.as_str() == EXIT {
+                return true;
+            }
+        }
+    }
+    false
+}
+
+fn has_exit(values: &[Ival]) -> bool {
+    for value in values {
+        if let Ival::Name(name) = value {
+            if name.as_str() == EXIT {
+                return true;
+            }
+        }
+    }
+    false
 }
 
 fn what_of(definition: &Definition) -> What {

@@ -109,8 +109,8 @@ fn calls_in(tree: &Tree<'_>, statement: &Statement) -> Calls {
     other
 }
 
-// Whether a call is one of the library after which the program goes on.
-fn is_plain_call(tree: &Tree<'_>, call: &Branch) -> bool {
+/// Whether a call is one of the library after which the program goes on.
+pub(crate) fn is_plain_call(tree: &Tree<'_>, call: &Branch) -> bool {
     match tree.callee(call) {
         Some(name) => matches!(
             name.as_str(),

@@ -1,4 +1,5 @@
 //! Loops that never end.
+use crate::functions::is_plain_call;
 use crate::linting::Look;
 use crate::remarks::Remark;
 use crate::tree::{Branch, Tree};
@@ -23,7 +24,7 @@ pub(crate) fn unchanged(look: &Look<'_>, tested: &Branch) -> Option<Remark> {
     }
     let end = look.tree.statement(look.tree.around(tested.token)).end;
     for token in tested.last..end {
-        if leaves(look.tree, token) || changes(look.tree, token, &condition) {
+        if leaves(look, token) || changes(look.tree, token, &condition) {
             return None;
         }
     }
@@ -50,12 +51,18 @@ fn asks_own_words(look: &Look<'_>, condition: &Branch) -> bool {
 }
 
 // Whether the loop may be left at a token, or come to it from elsewhere.
-fn leaves(tree: &Tree<'_>, token: usize) -> bool {
+fn leaves(look: &Look<'_>, token: usize) -> bool {
     let leaves = matches!(
-        tree.tokens.at(token),
+        look.tree.tokens.at(token),
         Lexeme::Keyword(Keyword::Return | Keyword::Goto | Keyword::Break)
     );
-    leaves || tree.tokens.is_word(token, "exit") || tree.is_label(token)
+    leaves || look.tree.is_label(token) || may_exit(look, token)
+}
+
+// Whether a call may end the program, which a function does somewhere.
+fn may_exit(look: &Look<'_>, token: usize) -> bool {
+    let call = look.tree.made_by(token);
+    look.defined.exits && call.node == Node::Called && !is_plain_call(look.tree, &call)
 }
 
 // Whether a name of the condition may be changed at a token.
