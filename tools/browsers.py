@@ -1,6 +1,7 @@
 """Browsers without a screen, for the scripts that try pages: Chromium and WebKit by their drivers, and Firefox by
 Marionette. `kinds()` gives those that are here, and `missing()` the packages of Debian that have the others."""
 import base64
+import contextlib
 import json
 import os
 import pathlib
@@ -151,7 +152,9 @@ class Driven(Browser):
         finally:
             self.driver.terminate()
             self.driver.wait()
-            self.folder.cleanup()
+            # A desktop's portal may have mounted a folder of its own in it.
+            with contextlib.suppress(OSError):
+                self.folder.cleanup()
 
 
 class Chromium(Driven):
