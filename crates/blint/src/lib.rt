@@ -4,6 +4,7 @@
 mod calls;
 mod cautions;
 mod comparisons;
+mod cutting;
 mod declared;
 mod defined;
 mod ends;
@@ -18,6 +19,7 @@ mod ruled;
 mod spelling;
 mod stores;
 mod strings;
+mod telling;
 mod tokens;
 mod tree;
 mod vectors;

@@ -1,7 +1,12 @@
 //! Looking at a program, one definition after another.
+ghost use Rattle.std.specs.Prelude.{IfOk};
+ghost use Rattle.bsources.specs.Files.{files_shown};
+ghost use Rattle.blint.specs.Warns.{Warns};
+
 use crate::calls::called;
 use crate::cautions::{Caution, Program};
 use crate::comparisons::operated;
+use crate::cutting::cut;
 use crate::declared::declared_in;
 use crate::defined::{Defined, Told};
 use crate::ends::loop_end;
@@ -11,10 +16,11 @@ use crate::layout::indented;
 use crate::locals::Locals;
 use crate::loops::unchanged;
 use crate::remarks::{Remark, Remarks};
-use crate::ruled::ruled_in;
+use crate::ruled::{constructs_of, rules_of, starts_in};
 use crate::stores::overwritten;
 use crate::strings::backslash;
-use crate::tokens::{TokenPlace, TokenReader, Tokens};
+use crate::telling::{MOST_CAUTIONS, told};
+use crate::tokens::{TokenPlace, Tokens};
 use crate::tree::{Branch, NONE, Tree};
 use crate::vectors::{addressed, indexed, returned};
 use crate::warnings::Warning;
@@ -22,9 +28,6 @@ use blex::Lexeme;
 use btree::{Construct, Node};
 use bword::BinOp;
 use std::alloc::{AllocError, Global};
-
-/// The most that is said of a program, which is as much as a person reads.
-const MOST_CAUTIONS: usize = 100;
 
 /// A function, and what is known of its names.
 #[derive(Clone, Copy)]
@@ -40,7 +43,37 @@ pub(crate) struct Look<'a> {
 /// # Errors
 ///
 /// If memory was refused.
-pub fn lint(alloc: Global, program: &Program<'_>) -> Result<Vec<Caution>, AllocError> {
+pub fn lint(alloc: Global, program: &Program<'_>) -> Result<Vec<Caution>, AllocError>
+    ensures { IfOk result (λ cautions.
+        Warns program.now.edition (files_shown program.now.files) program.now.text.now cautions.items) }
+{
+    let cut = cut(alloc, program)?;
+    let tags = constructs_of(alloc, cut.lexemes.as_slice())?;
+    let starts = starts_in(alloc, tags.as_slice())?;
+    let rules = rules_of(alloc, cut.lexemes.as_slice(), starts.as_slice())?;
+    let tokens = Tokens {
+        text: program.text,
+        lexemes: cut.lexemes.as_slice(),
+        places: cut.places.as_slice(),
+    };
+    let others = others(alloc, program, &tokens, starts.as_slice(), cut.across)?;
+    told(
+        alloc,
+        &program.files,
+        &tokens,
+        rules.as_slice(),
+        others.as_slice(),
+    )
+}
+
+// What is found beside what the rules say.
+fn others(
+    alloc: Global,
+    program: &Program<'_>,
+    tokens: &Tokens<'_>,
+    starts: &[usize],
+    across: Option<TokenPlace>,
+) -> Result<Vec<Caution>, AllocError> {
     let mut linting = Linting {
         defined: Defined::new(alloc, program)?,
         told: Vec::new(alloc),
@@ -48,20 +81,15 @@ pub fn lint(alloc: Global, program: &Program<'_>) -> Result<Vec<Caution>, AllocE
         found: Vec::new(alloc),
         sure: 0,
     };
-    for _ in program.ends {
+    for _ in starts {
         linting.used.push(false)?;
     }
-    let mut reader = TokenReader::new(program);
-    let mut tokens = Tokens::new(alloc, program.text);
-    let mut first: usize = 0;
-    for end in program.ends {
-        reader.refill(&mut tokens, end.saturating_sub(first))?;
-        first = *end;
-        let is_own = program.files.beyond_first(tokens.place(0).line).is_none();
-        linting.take(alloc, &tokens, is_own)?;
+    for index in 0..starts.len() {
+        let own = tokens.of_definition(starts, index);
+        let is_own = program.files.beyond_first(own.place(0).line).is_none();
+        linting.take(alloc, &own, is_own)?;
     }
-    reader.finish();
-    linting.finish(alloc, reader.across)
+    linting.finish(alloc, across)
 }
 
 /// What is said of a place, if that is so when all definitions are known.
@@ -107,7 +135,6 @@ impl Linting<'_> {
             further.say(calls_itself(&look))?;
         }
         quoted_in(tokens, &mut remarks)?;
-        ruled_in(alloc, &tree, &locals, &mut remarks)?;
         for token in 0..tokens.len() {
             if is_own {
                 self.push(tokens, remarks.at(token))?;

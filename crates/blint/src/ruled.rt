@@ -1,78 +1,125 @@
-//! What the promised rules say of a function.
-use crate::locals::{Locals, NameRole};
-use crate::remarks::{Remark, Remarks};
-use crate::tokens::Tokens;
-use crate::tree::Tree;
-use crate::warnings::Warning;
+//! What the rules say of the tokens of a program.
+ghost use Rattle.std.specs.Prelude.{◌≡◌, IfOk, List, None, map, replicate, slice_get};
+ghost use Rattle.btree.specs.Machine.{sort_of_lexeme};
+ghost use Rattle.btree.specs.Reading.{AreTags};
+ghost use Rattle.blang.specs.Trees.{Definition};
+ghost use Rattle.blang.specs.WellFormed.{IsFormed};
+ghost use Rattle.blex.specs.declared.lexeme.Lexeme.{Lexeme};
+ghost use Rattle.blint.specs.ProgramRules.{AreRules, IsDefinition, definition_rules, own_lexemes, rules_from, starts_in, with_rule};
+
 use blex::Lexeme;
 use brules::{Notice, Rule, loops_of, notices_of};
+use btree::{Construct, Sort, Tag, nodes_of, tags_of};
 use std::alloc::{AllocError, Global};
 
-/// Says what these rules say.
-pub(crate) fn ruled_in(
+/// The tokens with which definitions begin, among tokens of these constructs.
+pub(crate) fn starts_in(alloc: Global, tags: &[Tag]) -> Result<Vec<usize>, AllocError>
+    ensures { IfOk result (λ starts. starts.items ≡ starts_in 0 tags.now) }
+{
+    let mut starts = Vec::new(alloc);
+    let mut place: usize = 0;
+    for tag in tags {
+        match *tag {
+            Tag::Begins(Construct::Definition) => starts.push(place)?,
+            Tag::Token => place += 1,
+            _ => {}
+        }
+    }
+    Ok(starts)
+}
+
+/// The constructs of tokens.
+pub(crate) fn constructs_of(alloc: Global, lexemes: &[Lexeme]) -> Result<Vec<Tag>, AllocError>
+    ensures { IfOk result (λ tags. AreTags (map sort_of_lexeme lexemes.now) tags.items) }
+{
+    let sorts = sorts_of(alloc, lexemes)?;
+    tags_of(alloc, sorts.as_slice())
+}
+
+fn sorts_of(alloc: Global, lexemes: &[Lexeme]) -> Result<Vec<Sort>, AllocError>
+    ensures { IfOk result (λ sorts. sorts.items ≡ map sort_of_lexeme lexemes.now) }
+{
+    lexemes
+        .iter()
+        .map(|lexeme| Sort::of(*lexeme))
+        .collect(alloc)
+}
+
+/// For each token the rule that speaks of it first, where definitions begin with these tokens.
+pub(crate) fn rules_of(
     alloc: Global,
-    tree: &Tree<'_>,
-    locals: &Locals,
-    remarks: &mut Remarks,
-) -> Result<(), AllocError> {
-    let lexemes = tree.tokens.all();
-    let notices = notices_of(alloc, lexemes, tree.nodes.as_slice())?;
-    for notice in &notices {
-        remarks.say(remark_of(tree.tokens, locals, notice))?;
+    lexemes: &[Lexeme],
+    starts: &[usize],
+) -> Result<Vec<Option<Rule>>, AllocError>
+    ensures { IfOk result (λ rules. AreRules lexemes.now starts.now rules.items) }
+{
+    let mut rules = Vec::new(alloc);
+    for index in 0..starts.len() {
+        let next = start_at(starts, index + 1);
+        let own = definition_at(lexemes, starts[index], next);
+        let own_rules = definition_rules(alloc, own)?;
+        rules.extend_from_slice(own_rules.as_slice())?;
     }
-    let loops = loops_of(alloc, lexemes, tree.tags.as_slice())?;
-    for notice in &loops {
-        remarks.say(remark_of(tree.tokens, locals, notice))?;
+    Ok(rules)
+}
+
+fn start_at(starts: &[usize], index: usize) -> Option<usize>
+    ensures { result ≡ slice_get starts.now index }
+{
+    starts.get(index).copied()
+}
+
+// The tokens of a definition: up to the next one, or all.
+fn definition_at(lexemes: &[Lexeme], first: usize, next: Option<usize>) -> &[Lexeme]
+    ensures { (own more : List Lexeme) → IsDefinition lexemes.now first next own more → result.now ≡ own }
+{
+    let end = next.unwrap_or(lexemes.len());
+    lexemes.get(first..end).unwrap_or(&[])
+}
+
+fn definition_rules(alloc: Global, own: &[Lexeme]) -> Result<Vec<Option<Rule>>, AllocError>
+    ensures { IfOk result (λ rules. (d : Definition) → IsFormed d → own.now ≡ own_lexemes d
+        → rules.items ≡ definition_rules d) }
+{
+    let nodes = nodes_of(alloc, own)?;
+    let tags = constructs_of(alloc, own)?;
+    let mut notices = notices_of(alloc, own, nodes.as_slice())?;
+    let loops = loops_of(alloc, own, tags.as_slice())?;
+    notices.extend_from_slice(loops.as_slice())?;
+    by_token(alloc, own.len(), notices.as_slice())
+}
+
+// The rule of the first notice of each of so many tokens.
+fn by_token(
+    alloc: Global,
+    count: usize,
+    notices: &[Notice],
+) -> Result<Vec<Option<Rule>>, AllocError>
+    ensures { IfOk result (λ rules. rules.items ≡ rules_from notices.now 0 count) }
+{
+    let mut rules = nothing(alloc, count)?;
+    let mut left = notices.len();
+    while left > 0 {
+        left -= 1;
+        put(&mut rules, &notices[left]);
     }
-    Ok(())
+    Ok(rules)
 }
 
-fn remark_of(tokens: &Tokens<'_>, locals: &Locals, notice: &Notice) -> Option<Remark> {
-    let token = notice.token;
-    let warning = match notice.rule {
-        Rule::StringCompared if is_for_character(tokens, token) => Warning::StringForCharacter,
-        Rule::PassesOldValue if !is_parameter(tokens, locals, token) => return None,
-        rule => warning_of(rule),
-    };
-    Remark::new(token, warning)
-}
-
-// Whether a string after an operator has one character or two, or an escape.
-fn is_for_character(tokens: &Tokens<'_>, token: usize) -> bool {
-    let is_right = matches!(tokens.at(token.wrapping_sub(1)), Lexeme::Operator(_));
-    is_right && tokens.is_short(token)
-}
-
-fn is_parameter(tokens: &Tokens<'_>, locals: &Locals, token: usize) -> bool {
-    let Some(name) = tokens.name(token) else {
-        return false;
-    };
-    matches!(locals.find(&name), Some(local) if local.role == NameRole::Parameter)
-}
-
-fn warning_of(rule: Rule) -> Warning {
-    match rule {
-        Rule::BitsCompared => Warning::BitsCompared,
-        Rule::ComparesTwice => Warning::ComparesTwice,
-        Rule::NotCompared => Warning::NotCompared,
-        Rule::OrConstant => Warning::OrConstant,
-        Rule::StringsAdded => Warning::StringsAdded,
-        Rule::StringCompared => Warning::StringCompared,
-        Rule::NegativeNumber => Warning::NegativeNumber,
-        Rule::StringEnd => Warning::StringEnd,
-        Rule::InputEnd => Warning::InputEnd,
-        Rule::InputZero => Warning::InputZero,
-        Rule::AssignsItself => Warning::AssignsItself,
-        Rule::PassesOldValue => Warning::PassesOldValue,
-        Rule::ConditionAssigns => Warning::ConditionAssigns,
-        Rule::AssignsComparison => Warning::AssignsComparison,
-        Rule::AssignsCompared => Warning::AssignsCompared,
-        Rule::EmptyIf => Warning::EmptyIf,
-        Rule::EmptyLoop => Warning::EmptyLoop,
-        Rule::EndlessLoop => Warning::EndlessLoop,
-        Rule::NameAlone => Warning::NameAlone,
-        Rule::ComparesAlone => Warning::ComparesAlone,
-        Rule::ValueDropped => Warning::ValueDropped,
-        Rule::NoEffect => Warning::NoEffect,
+fn put(rules: &mut Vec<Option<Rule>>, notice: &Notice)
+    ensures { rules.new.items ≡ with_rule notice.now rules.old.items }
+{
+    if let Some(rule) = rules.get_mut(notice.token) {
+        *rule = Some(notice.rule);
     }
+}
+
+fn nothing(alloc: Global, count: usize) -> Result<Vec<Option<Rule>>, AllocError>
+    ensures { IfOk result (λ rules. rules.items ≡ replicate count None) }
+{
+    let mut rules = Vec::new(alloc);
+    for _ in 0..count {
+        rules.push(None)?;
+    }
+    Ok(rules)
 }

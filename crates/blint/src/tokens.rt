@@ -1,9 +1,6 @@
 //! The tokens of a source, one definition after another.
-use crate::cautions::Program;
-use blex::{Lexeme, PlacedPiece, Scanner};
-use bsources::SourceFiles;
+use blex::Lexeme;
 use bword::Name;
-use std::alloc::{AllocError, Global};
 
 /// Where a token or a comment stands.
 #[derive(Clone, Copy)]
@@ -23,25 +20,24 @@ impl TokenPlace {
 }
 
 /// The tokens of a definition, which are counted from 0, and where each stands.
-#[derive(Drop)]
+#[derive(Clone, Copy)]
 pub(crate) struct Tokens<'a> {
-    text: &'a [u8],
-    lexemes: Vec<Lexeme>,
-    places: Vec<TokenPlace>,
+    pub text: &'a [u8],
+    pub lexemes: &'a [Lexeme],
+    pub places: &'a [TokenPlace],
 }
 
 impl<'a> Tokens<'a> {
-    /// No tokens of a source.
-    pub(crate) fn new(alloc: Global, text: &'a [u8]) -> Self {
+    /// Those of a definition, where definitions begin with these tokens.
+    pub(crate) fn of_definition(&self, starts: &[usize], index: usize) -> Tokens<'a> {
+        let first = starts.get(index).copied().unwrap_or(0);
+        let next = index.saturating_add(1);
+        let end = starts.get(next).copied().unwrap_or(self.len());
         Tokens {
-            text,
-            lexemes: Vec::new(alloc),
-            places: Vec::new(alloc),
+            text: self.text,
+            lexemes: self.lexemes.get(first..end).unwrap_or(&[]),
+            places: self.places.get(first..end).unwrap_or(&[]),
         }
-    }
-
-    pub(crate) fn all(&self) -> &[Lexeme] {
-        self.lexemes.as_slice()
     }
 
     pub(crate) fn len(&self) -> usize {
@@ -106,12 +102,6 @@ impl<'a> Tokens<'a> {
             _ => None,
         }
     }
-
-    fn push(&mut self, lexeme: Lexeme, place: TokenPlace) -> Result<(), AllocError> {
-        self.lexemes.push(lexeme)?;
-        self.places.push(place)?;
-        Ok(())
-    }
 }
 
 // How many blanks are directly before a place.
@@ -123,95 +113,4 @@ fn blanks_before(text: &[u8], start: usize) -> usize {
         }
     }
     start
-}
-
-/// Cuts a source, once.
-#[derive(Drop)]
-pub(crate) struct TokenReader<'a> {
-    files: SourceFiles<'a>,
-    scanner: Scanner<'a>,
-    text: &'a [u8],
-    /// The comment that begins in the first file and ends in another one, once it was passed: it is the last of that
-    /// file.
-    pub across: Option<TokenPlace>,
-}
-
-impl<'a> TokenReader<'a> {
-    pub(crate) fn new(program: &Program<'a>) -> Self {
-        TokenReader {
-            files: program.files,
-            scanner: Scanner::new(program.text, program.edition),
-            text: program.text,
-            across: None,
-        }
-    }
-
-    /// Takes the next tokens in the place of those that were there.
-    pub(crate) fn refill(
-        &mut self,
-        tokens: &mut Tokens<'a>,
-        count: usize,
-    ) -> Result<(), AllocError> {
-        tokens.lexemes.clear();
-        tokens.places.clear();
-        for _ in 0..count {
-            let piece = self.next();
-            let place = place_of(&piece);
-            if let Some(lexeme) = piece.lexeme {
-                tokens.push(lexeme, place)?;
-            }
-        }
-        Ok(())
-    }
-
-    /// Passes the comments after the last token.
-    pub(crate) fn finish(&mut self) {
-        let _ = self.next();
-    }
-
-    // The next token, with the comments before it.
-    fn next(&mut self) -> PlacedPiece {
-        let mut piece = self.scanner.next();
-        for _ in 0..self.text.len() {
-            if piece.lexeme.is_some() {
-                return piece;
-            }
-            self.pass_comment(&piece);
-            piece = self.scanner.next();
-        }
-        piece
-    }
-
-    fn pass_comment(&mut self, comment: &PlacedPiece) {
-        if self.files.rest.is_empty() || self.files.beyond_first(comment.line).is_some() {
-            return;
-        }
-        let text = self.text.get(comment.first..comment.end).unwrap_or(&[]);
-        let last = comment.line.saturating_add(newlines(text));
-        if self.files.beyond_first(last).is_some() {
-            self.across = Some(TokenPlace {
-                line: comment.line,
-                start: comment.first,
-                len: 2,
-            });
-        }
-    }
-}
-
-fn place_of(piece: &PlacedPiece) -> TokenPlace {
-    TokenPlace {
-        line: piece.line,
-        start: piece.first,
-        len: piece.end.saturating_sub(piece.first),
-    }
-}
-
-fn newlines(text: &[u8]) -> u64 {
-    let mut count: u64 = 0;
-    for byte in text {
-        if *byte == b'\n' {
-            count = count.saturating_add(1);
-        }
-    }
-    count
 }

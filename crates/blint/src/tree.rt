@@ -1,8 +1,9 @@
 //! The constructs of a definition, and the nodes of its expressions with their parts.
+use crate::ruled::constructs_of;
 use crate::tokens::Tokens;
 use blang::Keyword;
 use blex::Lexeme;
-use btree::{Construct, Node, NodeTag, Sort, Tag, nodes_of, tags_of};
+use btree::{Construct, Node, NodeTag, Tag, nodes_of};
 use std::alloc::{AllocError, Global};
 
 /// In the place of a token, of a branch or of a statement: there is none.
@@ -52,12 +53,8 @@ pub(crate) struct Tree<'a> {
 
 impl<'a> Tree<'a> {
     pub(crate) fn new(alloc: Global, tokens: &'a Tokens<'a>) -> Result<Self, AllocError> {
-        let nodes = nodes_of(alloc, tokens.all())?;
-        let mut sorts = Vec::new(alloc);
-        for lexeme in tokens.all() {
-            sorts.push(Sort::of(*lexeme))?;
-        }
-        let tags = tags_of(alloc, sorts.as_slice())?;
+        let nodes = nodes_of(alloc, tokens.lexemes)?;
+        let tags = constructs_of(alloc, tokens.lexemes)?;
         let mut tree = Tree {
             tokens,
             nodes,

@@ -161,22 +161,29 @@ counts : map told (set x (Postfixed PostIncrement 1 x) ∷ set x (Postfixed Post
     ≡ each rule.AssignsItself (1 ∷ 1 ∷ []) ++ silent 7
 counts = refl
 
--- Of y(){ ..; }, where an expression begins with token 4.
-abbrev in_y : Expr → List Notice
-in_y e = defined (Function (name (codes "y")) [] (Compound (More Nothing (Evaluate e))))
+-- Of y(..){ ..; }, where an expression begins with token 4 or, after one parameter, 5.
+abbrev in_y : List Identifier → Expr → List Notice
+in_y parameters e = defined (Function (name (codes "y")) parameters (Compound (More Nothing (Evaluate e))))
 
 abbrev minus : Expr
 minus = Postfixed PostDecrement 1 x
 
 -- y(a--)   y(1,a--)   y(a--,1)   a(y(a--)); a(a--)   y(a)   y((a--))   y(a[1]--)
-passed : map in_y (Called y (Another No_arguments minus) ∷ Called y (Another (Another No_arguments one) minus)
+passed : map (in_y (a ∷ [])) (Called y (Another No_arguments minus)
+    ∷ Called y (Another (Another No_arguments one) minus)
     ∷ Called y (Another (Another No_arguments minus) one)
     ∷ Called x (Another No_arguments (Called y (Another No_arguments minus)))
     ∷ Called x (Another No_arguments minus) ∷ Called y (Another No_arguments x)
     ∷ Called y (Another No_arguments (Grouped minus))
     ∷ Called y (Another No_arguments (Postfixed PostDecrement 1 word)) ∷ [])
-    ≡ each rule.PassesOldValue (6 ∷ 8 ∷ 6 ∷ 8 ∷ []) ++ silent 4
+    ≡ each rule.PassesOldValue (7 ∷ 9 ∷ 7 ∷ 9 ∷ []) ++ silent 4
 passed = refl
+
+-- y(a--) in y(){..}, y(y){..}, y(y,a){..}
+of_parameters : map (λ ps. in_y ps (Called y (Another No_arguments minus)))
+    ([] ∷ (name (codes "y") ∷ []) ∷ (name (codes "y") ∷ a ∷ []) ∷ [])
+    ≡ silent 2 ++ each rule.PassesOldValue (9 ∷ [])
+of_parameters = refl
 
 -- if(..)a();
 abbrev asked : Expr → List Notice
@@ -189,12 +196,13 @@ assigned : map asked (set x one ∷ set x x ∷ set x minus_one ∷ set x s ∷ 
 assigned = refl
 
 -- (a=1)   !((a=1))   a=a()   a=a+1   a=a[1]   a=-a with =-   a=+1   a==1   a=(a==1)   a&(a=1)
--- (a=a()!=1)   (a=getchar())   a=a<1
+-- (a=a()!=1)   (a=getchar())   a=a<1   a=-(a)<1
 meant : map asked (Grouped (set x one) ∷ not (Grouped (Grouped (set x one))) ∷ set x call ∷ set x (b op.Add x one)
     ∷ set x word ∷ Assigned (Some op.Sub) 1 x x ∷ Assigned (Some op.Add) 1 x one ∷ b op.Eq x one
     ∷ set x (Grouped (b op.Eq x one)) ∷ b op.And x (Grouped (set x one)) ∷ Grouped (set x (b op.Ne call one))
-    ∷ Grouped (set x input) ∷ set x (b op.Lt x one) ∷ [])
-    ≡ silent 13
+    ∷ Grouped (set x input) ∷ set x (b op.Lt x one)
+    ∷ set x (b op.Lt (Prefixed Negate 1 (Grouped x)) one) ∷ [])
+    ≡ silent 14
 meant = refl
 
 -- a=a==1   a=a()<1   !(a=a!=1)   (a=getchar()!=1)   (a=char(a,1)==1)
@@ -246,6 +254,12 @@ whiles : map stated (While x Empty ∷ While (b op.Lt x one) Empty ∷ While one
     ∷ [])
     ≡ each rule.EmptyLoop (4 ∷ 6 ∷ []) ++ silent 5
 whiles = refl
+
+-- of two that fit the first: if(a=1);   while(a=1);   a<1<40000   {while(getchar());{}}
+first : stated (If (set x one) Empty) ∷ stated (While (set x one) Empty) ∷ told (b op.Lt (b op.Lt x one) (n 40000))
+    ∷ stated (Compound (More (More Nothing (While input Empty)) (Compound Nothing))) ∷ []
+    ≡ each rule.ConditionAssigns (3 ∷ 3 ∷ []) ++ each rule.ComparesTwice (3 ∷ []) ++ each rule.InputZero (3 ∷ [])
+first = refl
 
 -- {while(a());{}}   {while(a());a();}
 blocks : map (λ after. stated (Compound (More (More Nothing (While call Empty)) after)))

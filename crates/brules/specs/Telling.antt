@@ -1,7 +1,8 @@
 -- Promise: what is said of a node of a function, by its parts and the tokens there, and of which token. Where a node
 -- has several rules, the first that fits is the one.
 use Rattle.std.specs.Prelude.{ℕ, ◌+◌, ◌-◌, ◌==◌, ◌&&◌, ◌||◌, Bool, true, false, not, nat_lt, if◌then◌else◌, codes}
-use Rattle.std.specs.Prelude.{List, None, Option, Some, slice_get, unwrap_or}
+use Rattle.std.specs.Prelude.{List, [], ◌∷◌, None, Option, Some, slice_get, unwrap_or}
+use Rattle.std.specs.List.{list_any, take_while}
 use Rattle.std.specs.Option.{option_or}
 use Rattle.bword.specs.declared.operators.BinOp.{BinOp}
 use Rattle.bword.specs.declared.operators.BinOp.TheVariants as op
@@ -136,17 +137,33 @@ of_assigned lexemes left right =
     && is_same_name (lexeme_at lexemes left.first) (lexeme_at lexemes right.first)))
     rule.AssignsItself (right.first - 1))
 
--- in f itself: f(.., n--)
+abbrev pub is_no_close : Lexeme → Bool
+is_no_close lexeme.CloseParen = false
+is_no_close l = true
+
+-- whether a name is among those of a function up to the first ), after its own
+abbrev pub is_parameter : List Lexeme → (name : Lexeme) → Bool
+is_parameter [] name = false
+is_parameter (own ∷ ls) name = list_any (λ l. is_same_name l name) (take_while is_no_close ls)
+
+-- in f(.., n, ..) itself: f(.., n--)
 abbrev pub passes : List Lexeme → (called given : Option ℕ) → Option Notice
-passes lexemes (Some f) (Some n) = when (is_same_name (lexeme_at lexemes f) (lexeme_at lexemes 0)) rule.PassesOldValue n
+passes lexemes (Some f) (Some n) =
+    when (is_same_name (lexeme_at lexemes f) (lexeme_at lexemes 0) && is_parameter lexemes (lexeme_at lexemes n))
+    rule.PassesOldValue n
 passes lexemes _ given = None
 
 abbrev pub of_called : List Lexeme → (left right : Part) → Option Notice
 of_called lexemes left right = passes lexemes (if is_name left.node then Some left.first else None) right.name
 
+-- f(
+abbrev pub is_call : (first second : Lexeme) → Bool
+is_call (lexeme.Name f) second = is_opener second
+is_call first second = false
+
 -- what is asked of a condition: whether a call begins after its =
 abbrev pub calls_after : List Lexeme → (operator : ℕ) → Bool
-calls_after lexemes operator = is_opener (lexeme_at lexemes (operator + 2))
+calls_after lexemes operator = is_call (lexeme_at lexemes (operator + 1)) (lexeme_at lexemes (operator + 2))
 
 abbrev pub of_condition : List Lexeme → Part → Option Notice
 of_condition lexemes p = at (decided p.core p.inner (calls_after lexemes p.operator)) p.operator

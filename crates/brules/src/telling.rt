@@ -1,7 +1,8 @@
 //! What rules say of a node, by its parts and the tokens there.
 ghost use Rattle.std.specs.Prelude.{◌≡◌, ◌+◌};
+ghost use Rattle.std.specs.List.{list_any, take_while};
 ghost use Rattle.bword.specs.Words.{same_name};
-ghost use Rattle.brules.specs.Telling.{assigns_comparison, at, compares_constants, constant_of, dropped_at, empty_if, empty_loop, is_compared, is_constant_choice, is_constant_lexeme, is_of_constants, is_source, negated_of, of_assigned, of_binary, of_called, of_condition, of_statement, of_tested, of_use, of_value, of_whole, passes, is_same_name, source_at, source_of, told, until_zero, value_of, when, lexeme_at};
+ghost use Rattle.brules.specs.Telling.{assigns_comparison, at, compares_constants, constant_of, dropped_at, empty_if, empty_loop, is_compared, is_constant_choice, is_constant_lexeme, is_of_constants, is_source, negated_of, of_assigned, of_binary, of_called, of_condition, of_statement, of_tested, of_use, of_value, of_whole, passes, is_call, is_no_close, is_parameter, is_same_name, source_at, source_of, told, until_zero, value_of, when, lexeme_at};
 
 use crate::parts::{Part, Taken, is_counted};
 use crate::rules::{
@@ -251,25 +252,60 @@ fn of_called(lexemes: &[Lexeme], left: &Part, right: &Part) -> Option<Notice>
     passes(lexemes, called, right.name)
 }
 
-// What is said of a name that is counted after a call of a function, if that is this one.
+// What is said of a parameter that is counted after a call of a function, if that is this one.
 fn passes(lexemes: &[Lexeme], called: Option<usize>, given: Option<usize>) -> Option<Notice>
     ensures { result ≡ passes lexemes.now called given }
 {
     match (called, given) {
-        (Some(called), Some(given)) => when(
-            is_same_name(&lexeme_at(lexemes, called), &lexeme_at(lexemes, 0)),
-            Rule::PassesOldValue,
-            given,
-        ),
+        (Some(called), Some(given)) => {
+            let is_own = is_same_name(&lexeme_at(lexemes, called), &lexeme_at(lexemes, 0));
+            let holds = is_own && is_parameter(lexemes, &lexeme_at(lexemes, given));
+            when(holds, Rule::PassesOldValue, given)
+        }
         _ => None,
     }
+}
+
+// Whether it is one of the names in the parentheses of the function.
+fn is_parameter(lexemes: &[Lexeme], name: &Lexeme) -> bool
+    ensures { result ≡ is_parameter lexemes.now name.now }
+{
+    match lexemes {
+        [_own, after @ ..] => is_before_close(after, name),
+        _ => false,
+    }
+}
+
+fn is_before_close(lexemes: &[Lexeme], name: &Lexeme) -> bool
+    ensures { result ≡ list_any (λ l. is_same_name l name.now) (take_while is_no_close lexemes.now) }
+{
+    lexemes
+        .iter()
+        .take_while(|lexeme| is_no_close(lexeme))
+        .any(|lexeme| is_same_name(lexeme, name))
+}
+
+fn is_no_close(lexeme: &Lexeme) -> bool
+    ensures { result ≡ is_no_close lexeme.now }
+{
+    !matches!(*lexeme, Lexeme::CloseParen)
 }
 
 fn of_condition(lexemes: &[Lexeme], part: &Part) -> Option<Notice>
     ensures { result ≡ of_condition lexemes.now part.now }
 {
-    let calls = matches!(lexeme_after(lexemes, part.operator, 2), Lexeme::OpenParen);
+    let first = lexeme_after(lexemes, part.operator, 1);
+    let calls = is_call(&first, &lexeme_after(lexemes, part.operator, 2));
     at(decided(&part.core, &part.inner, calls), part.operator)
+}
+
+fn is_call(first: &Lexeme, second: &Lexeme) -> bool
+    ensures { result ≡ is_call first.now second.now }
+{
+    match *first {
+        Lexeme::Name(_) => matches!(*second, Lexeme::OpenParen),
+        _ => false,
+    }
 }
 
 // A condition of an `if` or a `while`.

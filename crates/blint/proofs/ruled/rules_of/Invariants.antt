@@ -1,0 +1,5 @@
+use Rattle.blint.proofs.RulesOfProgram.{SoFar}
+use Rattle.blint.proofs.ruled.rules_of.Given as goal
+
+abbrev pub invariant-loop-index : goal.invariant-loop-index
+invariant-loop-index l = SoFar l.lexemes l.starts l.index l.rules.items

@@ -1,0 +1,6 @@
+pub mod Cutting
+pub mod ProgramRows
+pub mod ProgramRules
+pub mod SourceTokens
+pub mod Told
+pub mod Warns
