@@ -1,6 +1,6 @@
 // The lessons: chapters made of the pages of the repository, their programs with Run beside them, and the exercises.
 import {$, button, element} from './dom.mjs';
-import {sentence} from './exercises.mjs';
+import {passes, sentence} from './exercises.mjs';
 
 const plural = (n, what) => `${n} ${what}${n === 1 ? '' : 's'}`;
 
@@ -135,7 +135,7 @@ export class Course {
   /** Keeps and shows what came of the tests of an exercise. */
   graded(exercise, {refused, results}) {
     const failed = results.filter(it => it.result !== 'ok').map(it => [it.test.name, sentence(it)]);
-    const passed = results.length - failed.length;
+    const passed = results.filter(passes).length;
     return this.keep(exercise, {passed, of: exercise.tests.length, failed, refused, isOld: false});
   }
 

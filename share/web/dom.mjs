@@ -41,3 +41,9 @@ export function say(text, kind = '', ...more) {
   $('said').className = kind;
   $('said').replaceChildren(text, ...more.flatMap(it => [' ', it]));
 }
+
+/** Says what is wrong after what was said. */
+export function alsoSay(text) {
+  $('said').className = 'bad';
+  $('said').append(` ${text}`);
+}

@@ -1,7 +1,7 @@
 // The tests of an exercise, and what comes of them: the verdict is that of class/grade, word for word.
 import {bytesOf, bytesOfLatin} from './dom.mjs';
 import {withoutMain} from './mains.mjs';
-import {endOf} from './runs.mjs';
+import {endOf, findingOf} from './runs.mjs';
 
 const SOURCE_BYTES = 65536; // the longest hand-in
 const OUTPUT_BYTES = 65536; // how much more than the wanted output a run may write
@@ -85,14 +85,23 @@ export class Grading {
   }
 
   async tryTest(test) {
-    const ran = await this.run(this.words('go', ['--where', `--steps=${this.exercise.steps}`], test), test);
-    const line = ran.told.split('\n')[0], difference = firstDifference(ran.text, test.out);
+    const words = option => this.words('go', [option, `--steps=${this.exercise.steps}`], test);
+    const ran = await this.run(words('--careful=warn'), test), found = this.foundIn(ran.told);
+    const [first] = ran.told.split('\n'), line = found && first.startsWith('careful ') ? '' : first;
+    const difference = firstDifference(ran.text, test.out);
     if (ran.why) return {test, result: 'stopped', why: ran.why};
-    if (!difference && ran.status === (test.status ?? 0)) return {test, result: 'ok'};
+    if (!difference && ran.status === (test.status ?? 0)) return {test, result: found ? 'luck' : 'ok', found};
     const result = line ? plain(line) : difference ? 'wrong' : `status ${ran.status}`;
     const libs = Object.keys(this.exercise.libs).map(it => `lib/${it}`).join(', ');
-    const {steps} = this.exercise, place = this.placeIn(ran.told);
-    return {test, result, status: ran.status, difference, libs, place, steps};
+    const isOpen = line === 'limit' && !endOf(ran.told).loop;
+    const {told} = isOpen ? await this.run(words('--where'), test) : ran;
+    const {steps} = this.exercise, place = line ? this.placeIn(told) : null;
+    return {test, result, status: ran.status, difference, libs, place, steps, found};
+  }
+
+  foundIn(told) {
+    const found = findingOf(told);
+    return found && {...found, file: found.file ?? this.name};
   }
 
   placeIn(told) {
@@ -103,8 +112,18 @@ export class Grading {
 
 const inputOf = text => text.length <= 40 && !text.trimEnd().includes('\n') && text.trimEnd();
 
-/** A sentence on a test that failed. */
-export function sentence({test, result, why, difference, place, status, libs, steps}) {
+/** Whether a test is passed: its output may be right by luck. */
+export const passes = ({result}) => result === 'ok' || result === 'luck';
+
+/** A sentence on a test that failed, or that has a finding. */
+export function sentence(it) {
+  const {result, found} = it;
+  const finding = found && `${found.means}, in line ${found.line} of ${found.file}`;
+  if (result === 'luck') return `the output is right, but by luck: ${finding}`;
+  return finding ? `${failure(it)}; a careful run finds: ${finding}` : failure(it);
+}
+
+function failure({test, result, why, difference, place, status, libs, steps}) {
   if (result === 'fault') return 'the program has a fault, which stands below the editor';
   if (why) return why;
   const given = inputOf(test.input ?? ''), start = test.source ? '' : given ? `for ${given} `

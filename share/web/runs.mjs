@@ -1,11 +1,14 @@
 // Run, Stop, Step through, Lay out, and the commands of the lessons.
-import {$, button, bytesOf, save, say, textOf} from './dom.mjs';
+import {$, alsoSay, button, bytesOf, save, say, textOf} from './dom.mjs';
 
 const PLACE = /^at +in (\S+) +place +\d+ +line +(\d+)(?: of (\S+))? +step (\d+)$/m;
 const MEANS = /^ +means: (.*)$/m;
 const LOOP = /^loop +in (\S+) +place +\d+ +line +(\d+)(?: of (\S+))?$/m;
 const ASKS = /^asks +in (\S+) +place +\d+ +line +(\d+)(?: of (\S+))?$/m;
 const IDLE = /^ +its conditions read, and nothing in it changes:(.*)$/m;
+
+const FOUND = /^careful \w+\nat +in (\S+) +place +\d+ +line +(\d+)(?: of (\S+))? +step (\d+)\n.*\n +means: (.*)$/m;
+const CAREFUL_STEPS = 300000; // of the careful run after a run, which takes a fifth of a second
 
 const siteOf = found => found && {where: found[1], line: Number(found[2]), file: found[3]};
 
@@ -14,6 +17,12 @@ export function endOf(told) {
   const place = PLACE.exec(told), line = told.split('\n')[0];
   return {line, means: MEANS.exec(told)?.[1] ?? '', place: place && {...siteOf(place), step: Number(place[4])},
     loop: siteOf(LOOP.exec(told)), asks: siteOf(ASKS.exec(told)), idle: IDLE.exec(told)?.[1].trim().split(' ') ?? []};
+}
+
+/** The first finding of a careful run, if what is told has one. */
+export function findingOf(told) {
+  const found = FOUND.exec(told);
+  return found && {...siteOf(found), step: Number(found[4]), means: found[5]};
 }
 
 /** What is said of a run that never ends, after what its limit means. */
@@ -44,6 +53,7 @@ export class Runs {
   }
 
   begin(name, text) {
+    this.looked = null;
     this.output.clear();
     $('of').textContent = name;
     this.editor.unmarkStop();
@@ -119,6 +129,19 @@ export class Runs {
     else if (line.startsWith('load')) this.sayFault(line, "it can't be run, as told below the editor", session);
     else say(line ? `${line}.` : `Ended with status ${ended.status}, in ${seconds(ended.took)}.`, 'bad');
     this.readOut();
+    if (!ended.failed) this.lookCarefully(session);
+  }
+
+  /** Runs carefully what was run, and shows none of its output. A finding is said after how the run ended. */
+  async lookCarefully({name, files, words, input, typed}) {
+    const own = words.slice(2).filter(it => it !== '--no-limit'), looked = this.looked = {};
+    const ended = await this.machine.ask(['go', '--careful', `--steps=${CAREFUL_STEPS}`, ...own],
+      {files, input: bytesOf(input + typed)});
+    const found = findingOf(ended.told ?? '');
+    if (!found || this.session || this.looked !== looked) return;
+    const file = found.file ?? name;
+    alsoSay(`A careful run finds, in line ${found.line} of ${file}, in ${found.where}: ${found.means}.`);
+    this.stopAt(file, found.line);
   }
 
   sayPlace(line, means, place, session) {
@@ -151,7 +174,8 @@ export class Runs {
     this.stop();
     const session = this.session = {};
     this.begin(line, 'It runs ..');
-    $('out').classList.toggle('table', words[0] !== 'go');
+    const isRun = ['go', 'try'].includes(words[0]);
+    $('out').classList.toggle('table', !isRun);
     const ended = await this.machine.ask(words, {files, input: bytesOf(input),
       write: it => this.session === session && this.output.write(it)});
     if (this.session !== session) return;
@@ -159,7 +183,7 @@ export class Runs {
     this.ended(true);
     this.output.flush();
     this.output.put(ended.told ?? '', 'told');
-    if (words[0] !== 'go') $('out').scrollTop = 0;
+    if (!isRun) $('out').scrollTop = 0;
     say(ended.failed ?? `Ended with status ${ended.status}.`, ended.failed ? 'bad' : '');
     this.readOut();
   }
