@@ -1,0 +1,4 @@
+pub mod Standing
+pub mod Searching
+pub mod FlawLists
+pub mod Tellings
