@@ -3,4 +3,5 @@ pub mod Loaded
 pub mod Looking
 pub mod Steps
 pub mod WarnedSteps
+pub mod Silent
 pub mod Whole

@@ -9,7 +9,7 @@ use Rattle.bmach.specs.Resolved.{IsLoadedFrom, call_resolved, resolved, state_re
 use Rattle.bmach.specs.Stepping.{IsUnstarted, Paused}
 use Rattle.bmach.specs.Stops.{active_of}
 use Rattle.bmach.specs.declared.machine.Stop.{Stop}
-use Rattle.bmach.proofs.LoadedRuns.{asks-resolved, outcome-resolved, world-resolved}
+use Rattle.bmach.proofs.LoadedRuns.{asks-resolved, outcome-resolved, read_of_loaded, world-resolved}
 use Rattle.bmach.proofs.Resolving.{stored-resolved}
 use Rattle.bmach.proofs.Running.{run_alike}
 use Rattle.btools.specs.Programs.{steps_from}
@@ -74,6 +74,7 @@ module _ (ds : List Definition) (image : Image) (p : Paused) (loaded : IsLoadedF
 
   pub found_alike : (n : ℕ) (i j : Incoming) (now : Paused) (found : Found) → IsFound a p.image.functions (steps_from p) n i j now found → IsFound a I.functions (machine ds) n i j now found
   found_alike n i j now found h = record {
+    read = read_of_loaded ds image p loaded begins n i j h.read;
     taken = h.taken;
     took = h.took;
     stays = λ more can. subst (λ (s : Sights). StaysAt a s n now found) (seen_alike (h.taken ++ more)) (h.stays more can);
@@ -91,6 +92,7 @@ module _ (ds : List Definition) (image : Image) (p : Paused) (loaded : IsLoadedF
     gives = gives_alike n i j o q stop.outcome h.gives;
     unfound = λ limit. unfound_alike n i j (h.unfound limit);
     stops = stops_run ds image p loaded begins n i j stop.outcome stop.call stop.steps h.stops;
+    read = λ other. read_of_loaded ds image p loaded begins n i j (h.read other);
   }
 
   -- a run that goes on after its findings

@@ -10,6 +10,7 @@ use Rattle.blang.specs.declared.run.Outcome.{Outcome}
 use Rattle.blang.specs.declared.run.Outcome.TheVariants as outcome
 use Rattle.blang.specs.Machine.{Halted, Image, Running, State, States, Stuck, state_world, step, steps}
 use Rattle.blang.specs.Reports.{AsksForByte, ComesTo, Shows, StopsAtRead, StopsAtWrite, StopsForMemory, state_outcome}
+use Rattle.bmach.specs.Readings.{ReadBySteps, ReadInStep}
 use Rattle.bmach.specs.Stepping.{Paused, machine_at}
 use Rattle.bmach.specs.Stops.{IsOverAt, active_of}
 use Rattle.bmach.specs.declared.machine.Active.{Active}
@@ -17,6 +18,7 @@ use Rattle.bmach.specs.declared.machine.Stop.{Stop}
 use Rattle.bmach.proofs.Stopping.{stands_after, stops_before}
 use Rattle.bmach.specs.Turns.{FailsAtRead, FailsAtWrite, FailsForMemory, HasHalted, TurnGives}
 use Rattle.bmach.proofs.Asking.{asks_if_taken}
+use Rattle.bmach.proofs.Readings.{read_more, turn_read}
 use Rattle.bmach.proofs.Running.{IsOver, one_more, over_stays, steps_add}
 use Rattle.bmach.proofs.Turning.{follows, runs_on}
 use Rattle.btools.specs.Programs.{steps_from}
@@ -162,6 +164,17 @@ module _ (a : Atlas) (first now after : Paused) (made : ℕ) (marks : Marks) {i 
     shows = λ more can. subst (Shows outcome.Limit more t.goes.output) (sym (careful_here more can)) (record { outcome = refl; left = refl; written = refl });
   }
 
+  -- what these steps have read
+  read_here : (n : ℕ) → made ≤ n → ReadBySteps (steps_from first) n i j
+  read_here n le = record {
+    made = made;
+    within = le;
+    taken = t.goes.taken;
+    took = t.goes.took;
+    no_failure = t.goes.no_failure;
+    left = λ more can. ap (λ s. (state_world s).input) (here more can);
+  }
+
   -- all steps were made
   pub all_on : (n : ℕ) → made ≡ n → (call : Active) → call ≡ active_of now.call → IsClean a first.image.functions (steps_from first) n i j o p (stop_at outcome.Limit call n)
   unfolding comes_here
@@ -174,6 +187,7 @@ module _ (a : Atlas) (first now after : Paused) (made : ℕ) (marks : Marks) {i 
     };
     stops = subst (λ (k : ℕ). IsOverAt (steps_from first) k i j outcome.Limit call k) is
         (subst (λ (x : Active). IsOverAt (steps_from first) made i j outcome.Limit x made) (sym here_is) (stands_after first.image made (machine_at first) now.call now.below now.store t.goes));
+    read = λ other. read_here n (omega (arith, is));
   }
 
   module _ (n : ℕ) (lt : made < n) where
@@ -198,6 +212,7 @@ module _ (a : Atlas) (first now after : Paused) (made : ℕ) (marks : Marks) {i 
                 (record { outcome = refl; left = refl; written = refl });
           },
           record {
+            read = read_here n (omega (arith, lt));
             taken = t.goes.taken;
             took = t.goes.took;
             stays = λ more can. record {
@@ -300,13 +315,19 @@ module _ (a : Atlas) (first now after : Paused) (made : ℕ) (marks : Marks) {i 
             (stops_before first.image made (machine_at first) now.call now.below now.store (machine_at after) n m q r lt t.goes
             (subst (λ (x : Image). TurnGives x (machine_at now) (machine_at after) j m p q (Err r)) t.image_is g))
 
+        -- what these steps and the next one have read
+        read_over : (r : Outcome) → TurnGives now.image (machine_at now) (machine_at after) j m p q (Err r) → (r ≡ outcome.Device → ⊥) → ReadBySteps (steps_from first) n i m
+        read_over r g other =
+            read_more first.image made n (machine_at first) (machine_at now) i j m o p (omega (arith, lt)) t.goes
+            (subst (λ (x : Image). ReadInStep x (machine_at now) j m) t.image_is (turn_read now j m p q after (Err r) (λ e. let same : r ≡ outcome.Device = cc in other same) g))
+
         pub over_on : (r : Outcome) → TurnGives now.image (machine_at now) (machine_at after) j m p q (Err r) → IsClean a first.image.functions (steps_from first) n i m o q (stop_at r call (made + 1))
-        over_on (outcome.Exit status) g = record { gives = halted_on (outcome.Exit status) (λ e. cc) g; unfound = λ limit. cc; stops = stops_here (outcome.Exit status) g }
-        over_on (outcome.Trap kind) g = record { gives = halted_on (outcome.Trap kind) (λ e. cc) g; unfound = λ limit. cc; stops = stops_here (outcome.Trap kind) g }
+        over_on (outcome.Exit status) g = record { gives = halted_on (outcome.Exit status) (λ e. cc) g; unfound = λ limit. cc; stops = stops_here (outcome.Exit status) g; read = read_over (outcome.Exit status) g }
+        over_on (outcome.Trap kind) g = record { gives = halted_on (outcome.Trap kind) (λ e. cc) g; unfound = λ limit. cc; stops = stops_here (outcome.Trap kind) g; read = read_over (outcome.Trap kind) g }
         over_on outcome.Limit g = absurd g
-        over_on outcome.Device g = record { gives = ⊎_elim (λ f. inl (read_on f)) (λ f. inr (write_on end_fault.Device f)) g; unfound = λ limit. cc; stops = stops_here outcome.Device g }
+        over_on outcome.Device g = record { gives = ⊎_elim (λ f. inl (read_on f)) (λ f. inr (write_on end_fault.Device f)) g; unfound = λ limit. cc; stops = stops_here outcome.Device g; read = read_over outcome.Device g }
         over_on outcome.Memory g =
-            record { gives = ⊎_elim (λ f. inl (memory_on f.0 f.1 f.2)) (λ f. inr (write_on end_fault.Memory f)) g; unfound = λ limit. cc; stops = stops_here outcome.Memory g }
+            record { gives = ⊎_elim (λ f. inl (memory_on f.0 f.1 f.2)) (λ f. inr (write_on end_fault.Memory f)) g; unfound = λ limit. cc; stops = stops_here outcome.Memory g; read = read_over outcome.Memory g }
 
   -- memory was refused after these steps
   pub refused_on : (n : ℕ) → made ≤ n → (call : Active) (count : ℕ) → IsClean a first.image.functions (steps_from first) n i j o p (stop_at outcome.Memory call count)
@@ -314,4 +335,5 @@ module _ (a : Atlas) (first now after : Paused) (made : ℕ) (marks : Marks) {i 
     gives = inl (record { made = made; within = le; comes = comes_here });
     unfound = λ limit. cc;
     stops = record { taken = t.goes.taken; took = t.goes.took; ends = λ more can. tt };
+    read = λ other. read_here n le;
   }

@@ -4,13 +4,14 @@ use Rattle.bword.specs.declared.operators.BinOp.TheVariants as op
 use Rattle.blang.specs.CodeParts.{Function}
 use Rattle.blang.specs.declared.code.Definition.{Definition}
 use Rattle.blang.specs.declared.code.Definition.TheVariants as definition
-use Rattle.blang.specs.declared.code.Increment.TheVariants.{PostIncrement}
+use Rattle.blang.specs.declared.code.Increment.{Increment}
+use Rattle.blang.specs.declared.code.Increment.TheVariants.{PostDecrement, PostIncrement, PreDecrement, PreIncrement}
 use Rattle.blang.specs.declared.code.Instr.{Instr}
 use Rattle.blang.specs.declared.code.Instr.TheVariants as instr
 use Rattle.blang.specs.declared.code.Ival.TheVariants as ival
 use Rattle.bmach.specs.declared.machine.Active.{Active}
 use Rattle.bparse.specs.Locals.{NamedWord}
-use Rattle.bcareful.specs.Things.{Atlas, external_words, frame_thing, is_cut, is_outside, is_past_end, of_data}
+use Rattle.bcareful.specs.Things.{Atlas, extents_of, frame_thing, is_cut, is_outside, is_past_end, of_data}
 use Rattle.bcareful.specs.Things.{owned}
 use Rattle.bcareful.specs.Things.{string_at, string_words}
 use Rattle.bcareful.specs.Marks.{Marks, begun, data_marks, is_over, running}
@@ -122,10 +123,17 @@ externals =
     ∷ []
 
 abbrev pub atlas : Atlas
-atlas = record { definitions = externals; functions = []; frames = []; address_of = λ x. 12; wraps = false }
+atlas = record {
+  definitions = externals;
+  functions = [];
+  frames = [];
+  address_of = λ x. 12;
+  extents = extents_of externals;
+  wraps = false;
+}
 
 abbrev pub no_atlas : Atlas
-no_atlas = record { definitions = []; functions = []; frames = []; address_of = λ x. 4; wraps = true }
+no_atlas = record { definitions = []; functions = []; frames = []; address_of = λ x. 4; extents = []; wraps = true }
 
 -- `a`, `b` and the own word of `v` are set, and so is its first word
 abbrev pub words : List Mark
@@ -138,7 +146,7 @@ before operands marks = record {
   call = call;
   site = record { function = f; words = frame_words };
   operands = operands;
-  modified = 32767;
+  pointed = record { counted = 32767; modified = 32767 };
   marks = record { operands = marks; words = words; calls = 0 ∷ 2 ∷ []; next = 3 };
 }
 
@@ -272,13 +280,30 @@ wraps_found : (instr_finding (before (8 ∷ 5040 ∷ []) (Plain ∷ Plain ∷ []
     × (on_modify 12 (Of (thing 12 1)) ≡ None)
 wraps_found = (refl, refl, refl, refl, refl)
 
+abbrev pub each_increment : List Increment
+each_increment = PreIncrement ∷ PreDecrement ∷ PostIncrement ∷ PostDecrement ∷ []
+
+-- the greatest and the least number that are counted on and back; and an address, which may wrap
+abbrev pub on_counting : (counted : ℕ) → Increment → Option Finding
+on_counting counted which = instr_finding
+    (record (before (11 ∷ []) (Of (thing 10 2) ∷ [])) { pointed = record { counted = counted; modified = 0 } })
+    (instr.Increment which)
+
+counts_found : (map (on_counting 32767) each_increment
+    ≡ Some (Wraps op.Add 32767 1) ∷ None ∷ Some (Wraps op.Add 32767 1) ∷ None ∷ [])
+    × (map (on_counting 32768) each_increment
+    ≡ None ∷ Some (Wraps op.Sub 32768 1) ∷ None ∷ Some (Wraps op.Sub 32768 1) ∷ [])
+    × (map (on_counting 65535) each_increment ≡ None ∷ None ∷ None ∷ None ∷ [])
+    × (on_count 12 (Of (thing 12 1)) ≡ None)
+counts_found = (refl, refl, refl, refl)
+
 -- where they are not asked for
 wraps_unasked : instr_finding (record {
   atlas = atlas;
   call = call;
   site = record { function = f; words = frame_words };
   operands = 8 ∷ 5040 ∷ [];
-  modified = 0;
+  pointed = record { counted = 0; modified = 0 };
   marks = record { operands = Plain ∷ Plain ∷ []; words = []; calls = []; next = 0 };
 }) (instr.Binary op.Mul) ≡ None
 wraps_unasked = refl
@@ -391,7 +416,7 @@ other_effects : (after (Takes 1) (marks (Plain ∷ Unset ∷ []) (Plain ∷ []) 
 other_effects = (refl, refl, refl)
 
 -- the sizes and the marks of its externals
-external_sizes : map (external_words externals) (codes "x" ∷ codes "v" ∷ codes "char" ∷ []) ≡ 3 ∷ 1 ∷ 1 ∷ []
+external_sizes : extents_of externals ≡ replicate 7 1 ++ 3 ∷ replicate 4 1 ++ replicate 4 1
 external_sizes = refl
 
 external_marks : data_marks atlas 7 externals

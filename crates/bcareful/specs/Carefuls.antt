@@ -4,6 +4,7 @@ use Rattle.bword.specs.ByteEnds.{CanFollow, Incoming, Outgoing, Took}
 use Rattle.blang.specs.declared.run.Outcome.TheVariants as outcome
 use Rattle.blang.specs.Machine.{Loaded, States}
 use Rattle.blang.specs.Reports.{ComesTo, RunGives}
+use Rattle.bmach.specs.Readings.{ReadBySteps}
 use Rattle.bmach.specs.Stepping.{Paused}
 use Rattle.bmach.specs.Stops.{IsOverAt, active_of}
 use Rattle.bmach.specs.declared.machine.Stop.{Stop}
@@ -23,8 +24,9 @@ pub record StaysAt (a : Atlas) (sights : Sights) (steps : ℕ) (p : Paused) (fou
   pub call : found.call ≡ active_of p.call
 
 module _ (a : Atlas) (functions : List Loaded) (states : States) (steps : ℕ) (i j : Incoming) where
-  -- So does it on each input that begins with the bytes that were taken.
+  -- So does it on each input that begins with the bytes that were taken. No step has read others.
   pub record IsFound (p : Paused) (found : Found) : Type 0 where
+    pub read : ReadBySteps states steps i j
     pub taken : List ℕ
     pub took : Took i taken j
     pub stays : (more : List ℕ) → CanFollow j more
@@ -37,15 +39,16 @@ module _ (a : Atlas) (functions : List Loaded) (states : States) (steps : ℕ) (
     pub all : (more : List ℕ) → CanFollow j more
         → made_by a (sights_of functions states (taken ++ more)) steps ≡ steps
 
-  -- The careful machine came to this without a finding, and the machine was over there.
+  -- The careful machine came to this without a finding, and the machine was over there. Unless a read or a write
+  -- failed, steps have read just what was taken.
   pub record IsClean (o p : Outgoing) (stop : Stop) : Type 0 where
     pub gives : RunGives (careful a functions states) steps i j o p stop.outcome
     pub unfound : stop.outcome ≡ outcome.Limit → IsUnfound
     pub stops : IsOverAt states steps i j stop.outcome stop.call stop.steps
+    pub read : (stop.outcome ≡ outcome.Device → ⊥) → ReadBySteps states steps i j
 
   -- what comes of so many steps of a careful machine
   abbrev pub CarefulGives : (o p : Outgoing) → (now : Paused) → Ended → Type 0
   CarefulGives o p now (ended.Found found) =
       ComesTo (careful a functions states) steps i j o p outcome.Limit × IsFound now found
-  CarefulGives o p now (ended.Over result call made) =
-      IsClean o p (record { outcome = result; call = call; steps = made })
+  CarefulGives o p now (ended.Over stop) = IsClean o p stop

@@ -18,17 +18,18 @@ use Rattle.bcareful.specs.Marks.{Marks, above, begun, below, grown, marks_of, op
 use Rattle.bcareful.specs.declared.effect.Effect.{Effect}
 use Rattle.bcareful.specs.declared.effect.Effect.TheVariants.{Begins, Ends, Puts, Stores, Takes}
 use Rattle.bcareful.specs.declared.moment as told
+use Rattle.bcareful.specs.declared.moment.Pointed.{Pointed}
 use Rattle.bcareful.specs.declared.thing.Mark.{Mark}
 use Rattle.bcareful.specs.declared.thing.Mark.TheVariants.{Of, Plain, Unset}
 
--- a run before a step, in a call of a function: its operands, the topmost first; the word at the address that has one
--- operand above it; and the marks of all
+-- a run before a step, in a call of a function: its operands, the topmost first; the words at the addresses that have
+-- no operand above them, and one; and the marks of all
 pub record Moment : Type 0 where
   pub atlas : Atlas
   pub call : Active
   pub site : Site
   pub operands : List ℕ
-  pub modified : ℕ
+  pub pointed : Pointed
   pub marks : Marks
 
 abbrev pub moment_of : told.Moment.Moment → Moment
@@ -37,7 +38,7 @@ moment_of m = record {
   call = m.call;
   site = site_of m.site;
   operands = reverse m.operands.now;
-  modified = m.modified;
+  pointed = m.pointed;
   marks = marks_of m.marks.now;
 }
 
@@ -145,8 +146,8 @@ pub record Step : Type 0 where
   pub moment : Moment
   pub instr : Instr
 
-abbrev pub step_of : Atlas → Active → Site → (operands : List ℕ) → (modified : ℕ) → Marks → Option Step
-step_of a call site operands modified marks =
+abbrev pub step_of : Atlas → Active → Site → (operands : List ℕ) → Pointed → Marks → Option Step
+step_of a call site operands pointed marks =
     option_map
     (λ i. record {
       moment = record {
@@ -154,7 +155,7 @@ step_of a call site operands modified marks =
         call = call;
         site = site;
         operands = operands;
-        modified = modified;
+        pointed = pointed;
         marks = marks;
       };
       instr = i;
@@ -162,23 +163,26 @@ step_of a call site operands modified marks =
     (slice_get site.function.code call.place)
 
 -- the next step of a call with these operands, if there is one
-abbrev pub step_by : Atlas → Active → (operands : List ℕ) → (modified : ℕ) → Marks → Option Step
-step_by a call operands modified marks =
-    option_and_then (λ site. step_of a call site operands modified marks) (located a.functions a.frames call.strings)
+abbrev pub step_by : Atlas → Active → (operands : List ℕ) → Pointed → Marks → Option Step
+step_by a call operands pointed marks =
+    option_and_then (λ site. step_of a call site operands pointed marks) (located a.functions a.frames call.strings)
 
--- the word at the address that has one operand above it
-abbrev pub modified_in : (store operands : List ℕ) → ℕ
-modified_in store operands = slice_index store (slice_index operands 1)
+-- the words at the addresses that have no operand above them, and one
+abbrev pub pointed_in : (store operands : List ℕ) → Pointed
+pointed_in store operands = record {
+  counted = slice_index store (slice_index operands 0);
+  modified = slice_index store (slice_index operands 1);
+}
 
 -- the next step of a run that is paused
 abbrev pub next_step : Atlas → Paused → Marks → Option Step
 next_step a p marks =
-    step_by a (active_of p.call) p.call.operands (modified_in p.store p.call.operands) marks
+    step_by a (active_of p.call) p.call.operands (pointed_in p.store p.call.operands) marks
 
 -- the next step of a run as it is seen
 abbrev pub step_in : Atlas → Sight → Marks → Option Step
 step_in a s marks =
-    option_and_then (λ call. step_by a call s.operands (modified_in s.store s.operands) marks) s.call
+    option_and_then (λ call. step_by a call s.operands (pointed_in s.store s.operands) marks) s.call
 
 -- what a step does to the marks
 abbrev pub effect_of : Option Step → Effect

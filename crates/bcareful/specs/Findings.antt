@@ -7,6 +7,8 @@ use Rattle.std.specs.Option.{option_or}
 use Rattle.bword.specs.Words.{signed_of}
 use Rattle.bword.specs.declared.operators.BinOp.{BinOp}
 use Rattle.bword.specs.declared.operators.BinOp.TheVariants as op
+use Rattle.blang.specs.declared.code.Increment.{Increment}
+use Rattle.blang.specs.declared.code.Increment.TheVariants as increment
 use Rattle.blang.specs.declared.code.Instr.{Instr}
 use Rattle.blang.specs.declared.code.Instr.TheVariants as instr
 use Rattle.blang.specs.Machine.{Loaded, States}
@@ -19,7 +21,7 @@ use Rattle.bcareful.specs.declared.finding.Finding.{Finding}
 use Rattle.bcareful.specs.declared.finding.Finding.TheVariants.{Index, Low, Never, Over, Past, Wraps}
 use Rattle.bcareful.specs.declared.finding.Touched.{Touched}
 use Rattle.bcareful.specs.declared.thing.Mark.{Mark}
-use Rattle.bcareful.specs.declared.thing.Mark.TheVariants.{Of, Unset}
+use Rattle.bcareful.specs.declared.thing.Mark.TheVariants.{Of, Plain, Unset}
 use Rattle.bcareful.specs.declared.thing.Thing.{Thing}
 
 abbrev pub is_unset : Mark → Bool
@@ -39,6 +41,13 @@ wraps op.Add left right = not (is_word (signed_of left +ℤ signed_of right))
 wraps op.Sub left right = not (is_word (signed_of left -ℤ signed_of right))
 wraps op.Mul left right = not (is_word (signed_of left *ℤ signed_of right))
 wraps operator left right = false
+
+-- `++` adds 1, and `--` takes it away.
+abbrev pub counts_by : Increment → BinOp
+counts_by increment.PreIncrement = op.Add
+counts_by increment.PostIncrement = op.Add
+counts_by increment.PreDecrement = op.Sub
+counts_by increment.PostDecrement = op.Sub
 
 module _ (m : Moment) where
   -- the word that a call of the library reads or stores; the functions `char` and `lchar` have the values 1 and 2
@@ -97,7 +106,10 @@ module _ (m : Moment) where
 
   abbrev pub wrap_finding : Instr → Option Finding
   wrap_finding (instr.Binary op) = result_finding op (operand m 1) (operand m 0) (mark m 1) (mark m 0)
-  wrap_finding (instr.Modify op) = result_finding op m.modified (operand m 0) (word_mark m (operand m 1)) (mark m 0)
+  wrap_finding (instr.Modify op) =
+      result_finding op m.pointed.modified (operand m 0) (word_mark m (operand m 1)) (mark m 0)
+  wrap_finding (instr.Increment which) =
+      result_finding (counts_by which) m.pointed.counted 1 (word_mark m (operand m 0)) Plain
   wrap_finding i = None
 
   abbrev pub found_word : Instr → Option Finding

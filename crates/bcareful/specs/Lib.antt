@@ -5,7 +5,9 @@ pub mod Findings
 pub mod Carefuls
 pub mod CarefulRows
 pub mod Tellings
+pub mod First
 pub mod Warned
 pub mod Runs
 pub mod Stays
 pub mod TellingRows
+pub mod SmallRuns

@@ -8,10 +8,10 @@ use Rattle.blang.specs.declared.code.Ival.TheVariants as ival
 use Rattle.bmach.specs.declared.machine.Active.{Active}
 use Rattle.bcareful.specs.CarefulRows.{f, frame_words, thing, data_thing, v}
 use Rattle.bcareful.specs.Things.{Atlas, of_data}
-use Rattle.bcareful.specs.Tellings.{address_of, finding_line, meaning, name_text, word_name}
+use Rattle.bcareful.specs.Tellings.{address_of, finding_line, finding_meaning, name_text, word_name}
 use Rattle.bcareful.specs.Runs.{finds_wraps, stays}
 use Rattle.bcareful.specs.Warned.{Warnings, no_warnings, noted, told_after}
-use Rattle.bcareful.specs.declared.careful.Care.TheVariants as care
+use Rattle.bcareful.specs.declared.care.Care.TheVariants as care
 use Rattle.bcareful.specs.declared.finding.Finding.{Finding}
 use Rattle.bcareful.specs.declared.finding.Finding.TheVariants.{Index, Low, Never, Over, Past, Wraps}
 
@@ -38,6 +38,7 @@ atlas = record {
   functions = record { strings = 13; function = f } ∷ [];
   frames = frame_words ∷ [];
   address_of = λ x. 7;
+  extents = [];
   wraps = false;
 }
 
@@ -48,7 +49,7 @@ abbrev pub name_at : (address : ℕ) → List ℕ
 name_at address = name_text (word_name atlas calls address)
 
 abbrev pub told : Finding → List ℕ
-told finding = meaning atlas calls finding
+told finding = finding_meaning atlas calls finding
 
 -- each word of the frame: parameters, the own word of the vector, its first and its last word, and the word after them
 names_in_frame : map name_at (20 ∷ 21 ∷ 22 ∷ 23 ∷ 27 ∷ 28 ∷ [])
@@ -116,8 +117,8 @@ unfolding digits
 told_wraps = (refl, refl)
 
 -- which runs stay at a finding, and which find a result that is no word
-cares : (map stays (care.Stay ∷ care.Wraps ∷ care.Warn ∷ []) ≡ true ∷ true ∷ false ∷ [])
-    × (map finds_wraps (care.Stay ∷ care.Wraps ∷ care.Warn ∷ []) ≡ false ∷ true ∷ false ∷ [])
+cares : (map stays (care.Stays ∷ care.Wraps ∷ care.Warns ∷ []) ≡ true ∷ true ∷ false ∷ [])
+    × (map finds_wraps (care.Stays ∷ care.Wraps ∷ care.Warns ∷ []) ≡ false ∷ true ∷ false ∷ [])
 cares = (refl, refl)
 
 -- Two places of one function, and the same place of another one; a place that was told is not told again.

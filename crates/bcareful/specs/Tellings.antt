@@ -20,6 +20,7 @@ use Rattle.btools.specs.SourceLines.{line_at, shown_line}
 use Rattle.btrace.specs.Locates.{TellsSite, site_line}
 use Rattle.btrace.specs.RowTexts.{Legend, place_line}
 use Rattle.bwatch.specs.Sights.{Sight}
+use Rattle.bendless.specs.declared.endless.Endless.{Endless}
 use Rattle.bcareful.specs.Things.{Atlas, Site, located}
 use Rattle.bcareful.specs.declared.finding.Finding.{Finding}
 use Rattle.bcareful.specs.declared.finding.Finding.TheVariants.{Index, Low, Never, Over, Past, Wraps}
@@ -199,8 +200,8 @@ abbrev pub fault_name : Atlas → List Active → Finding → List ℕ
 fault_name a calls f = option_map_or (λ address. name_text (word_name a calls address)) (address_of f) []
 
 -- what is wrong with a step
-abbrev pub meaning : Atlas → List Active → Finding → List ℕ
-meaning a calls f = fault_text a calls f ++ fault_name a calls f
+abbrev pub finding_meaning : Atlas → List Active → Finding → List ℕ
+finding_meaning a calls f = fault_text a calls f ++ fault_name a calls f
 
 -- the line of a finding
 abbrev pub finding_line : Finding → List ℕ
@@ -220,17 +221,20 @@ found_place legend source found =
 -- what is told of a run that stays at a finding
 abbrev pub finding_text : Atlas → Legend → (source : List ℕ) → Sight → Found → List ℕ
 finding_text a legend source s found =
-    finding_line found.finding ++ found_place legend source found ++ meaning a (calls_in s) found.finding ++ codes "\n"
+    finding_line found.finding ++ found_place legend source found ++ finding_meaning a (calls_in s) found.finding
+    ++ codes "\n"
 
 -- This was written, or a beginning of it; or memory was refused for it.
 abbrev pub Tells : (text : List ℕ) → Outgoing → Outgoing → (status : ℕ) → Type 0
 Tells text old new status = Reported text TRAP old new status ⊎ ((new ≡ old) × (status ≡ MEMORY))
 
--- The line of a run without a finding was written, and where it is that of a trap or of the limit, the place after it.
-pub data TellsOver (legend : Legend) (source : List ℕ) (stop : Stop) (old new : Outgoing) (status : ℕ) : Type 0 where
+-- The line of a run without a finding was written, and where it is that of a trap or of the limit, the place after it,
+-- and that a state comes again, if one does.
+pub data TellsOver (legend : Legend) (source : List ℕ) (stop : Stop) (again : Option Endless) (old new : Outgoing)
+    (status : ℕ) : Type 0 where
   placed : (told : Outgoing) (answer : ℕ) → Finishes stop.outcome old told answer
       → located_status stop.outcome ≡ Some answer
-      → TellsSite legend source stop.outcome stop.call stop.steps None answer told new status
-      → TellsOver legend source stop old new status
+      → TellsSite legend source stop.outcome stop.call stop.steps again answer told new status
+      → TellsOver legend source stop again old new status
   unplaced : Finishes stop.outcome old new status → (located_status stop.outcome ≡ Some status → ⊥)
-      → TellsOver legend source stop old new status
+      → TellsOver legend source stop again old new status

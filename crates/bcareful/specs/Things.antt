@@ -1,12 +1,12 @@
 -- Promise: the things of a program to which the words of its memory belong.
-use Rattle.std.specs.Prelude.{ℕ, ◌+◌, ◌-◌, ◌/◌, ◌%◌, ◌==◌, ◌||◌, ◌&&◌, Bool, false, List, [], ◌∷◌, Option, Some, None}
-use Rattle.std.specs.Prelude.{drop, length}
-use Rattle.std.specs.Prelude.{map, max, nat_le, nat_lt, unwrap_or, if◌then◌else◌}
-use Rattle.bword.specs.Words.{same_name}
+use Rattle.std.specs.Prelude.{ℕ, ◌+◌, ◌-◌, ◌/◌, ◌%◌, ◌==◌, ◌||◌, ◌&&◌, Bool, false, List, [], ◌∷◌, ◌++◌}
+use Rattle.std.specs.Prelude.{Option, Some, None, drop, length}
+use Rattle.std.specs.Prelude.{map, max, nat_le, nat_lt, replicate, slice_index_or, unwrap_or, if◌then◌else◌}
+use Rattle.std.specs.List.{flat_map}
 use Rattle.blang.specs.CodeParts.{Function, function_of}
 use Rattle.blang.specs.declared.code.Definition.{Definition}
 use Rattle.blang.specs.declared.code.Ival.{Ival}
-use Rattle.blang.specs.Layout.{DefinitionKind, Simple, address_in, addresses, shape_of, store_words}
+use Rattle.blang.specs.Layout.{DefinitionKind, Simple, address_in, addresses, shape_of, size_of, store_words}
 use Rattle.bmach.specs.declared.machine.Active.{Active}
 use Rattle.bparse.specs.Locals.{NamedWord}
 use Rattle.btools.specs.FrameNames.{frame_seen, word_seen}
@@ -76,11 +76,14 @@ abbrev pub own_words : DefinitionKind → List Ival → ℕ
 own_words Simple values = max 1 (length values)
 own_words kind values = 1
 
--- the same by its name; an external of the library has one word
-abbrev pub external_words : List Definition → (name : List ℕ) → ℕ
-external_words [] name = 1
-external_words (d ∷ ds) name =
-    if same_name (shape_of d).name name then own_words (shape_of d).kind (shape_of d).values else external_words ds name
+-- the same at the address where a definition begins, and 1 at those of its other words
+abbrev pub definition_extents : Definition → List ℕ
+definition_extents d =
+    own_words (shape_of d).kind (shape_of d).values ∷ replicate (size_of (shape_of d) - 1) 1
+
+-- at all addresses; an external of the library has one word
+abbrev pub extents_of : List Definition → List ℕ
+extents_of ds = replicate 7 1 ++ flat_map definition_extents ds
 
 -- a function, and the words of its frame that have names
 pub record Site : Type 0 where
@@ -93,13 +96,15 @@ located (f ∷ fs) (ws ∷ frames) strings =
     if f.strings == strings then Some (record { function = f.function; words = ws }) else located fs frames strings
 located fs frames strings = None
 
--- what is known of a program: its definitions, its functions, the words of their frames, and where its names lie; and
--- whether it is found, too, where a result is no word
+-- what is known of a program: its definitions, its functions, the words of their frames, where its names lie, and how
+-- many words the name of what begins at each address stands for; and whether it is found, too, where a result is no
+-- word
 pub record Atlas : Type 0 where
   pub definitions : List Definition
   pub functions : List Placed
   pub frames : List (List NamedWord)
   pub address_of : List ℕ → ℕ
+  pub extents : List ℕ
   pub wraps : Bool
 
 -- that of definitions, whose frames have these names
@@ -109,6 +114,7 @@ atlas_in ds frames wraps = record {
   functions = functions_of ds;
   frames = map frame_seen frames;
   address_of = λ x. unwrap_or (address_in (addresses (map shape_of ds)) x) 0;
+  extents = extents_of ds;
   wraps = wraps;
 }
 
@@ -118,6 +124,7 @@ atlas_of a = record {
   functions = entries_of a.tables.now;
   frames = map frame_seen a.program.now.names.frames.items;
   address_of = λ x. unwrap_or (address_in a.program.now.image.addresses x) 0;
+  extents = a.extents.now;
   wraps = a.wraps;
 }
 
@@ -126,4 +133,4 @@ site_of s = record { function = function_of s.parts.now; words = map word_seen s
 
 -- the thing that the external of this name is
 abbrev pub external_thing : Atlas → (name : List ℕ) → Thing
-external_thing a name = of_data (a.address_of name) (external_words a.definitions name) false
+external_thing a name = of_data (a.address_of name) (slice_index_or a.extents (a.address_of name) 1) false

@@ -1,19 +1,23 @@
 //! Where the things of a program lie.
-ghost use Rattle.std.specs.Prelude.{◌≡◌, ◌∷◌, ◌-◌, max, length, map, option_map};
-ghost use Rattle.blang.specs.Layout.{shape_of, words_before_strings};
-ghost use Rattle.bcareful.specs.Things.{Atlas, atlas_of, external_thing, external_words, located, own_words, site_of};
+ghost use Rattle.std.specs.Prelude.{◌≡◌, ◌++◌, IfOk, OnOk, option_map, slice_index_or};
+ghost use Rattle.blang.specs.Layout.{shape_of};
+ghost use Rattle.bcareful.specs.Things.{atlas_of, definition_extents, external_thing, extents_of, located, own_words};
+ghost use Rattle.bcareful.specs.Things.{site_of};
 
 use crate::thing::Thing;
 use blang::{Definition, FunctionParts};
-use bmach::name_of;
+use bmach::{FIRST_ADDRESS, size_of};
 use btools::{FrameWord, Program, Tables};
 use bword::Name;
+use std::alloc::{AllocError, Global};
 
 /// A program with its functions.
 #[derive(Clone, Copy)]
 pub struct Atlas<'a> {
     pub program: &'a Program,
     pub tables: &'a Tables<'a>,
+    /// How many words the name of the definition stands for that begins at each address, and 1 where none begins.
+    pub extents: &'a [usize],
     /// Whether it is found, too, where a result is no word.
     pub wraps: bool,
 }
@@ -47,26 +51,47 @@ impl<'a> Atlas<'a> {
     pub fn external(&self, name: &Name) -> Thing
         ensures { result ≡ external_thing (atlas_of self.now) name.now }
     {
+        let start = self.program.image.address(name).unwrap_or(0);
         Thing {
-            start: self.program.image.address(name).unwrap_or(0),
-            words: external_words(&self.program.definitions, name),
+            start,
+            words: self.extent(start),
             is_cut: false,
             depth: 0,
             number: 0,
         }
     }
-}
 
-// How many words an external of this name has.
-fn external_words(definitions: &[Definition], name: &Name) -> usize
-    ensures { result ≡ external_words definitions.now name.now }
-{
-    for definition in definitions {
-        if name_of(definition) == *name {
-            return own_words(definition);
+    // How many words the name of what begins there stands for.
+    fn extent(&self, address: u16) -> usize
+        ensures { result ≡ slice_index_or self.now.extents.now address 1 }
+    {
+        match self.extents.get(usize::from(address)) {
+            Some(words) => *words,
+            None => 1,
         }
     }
-    1
+}
+
+/// How many words the name of the definition stands for that begins at each address, and 1 where none begins.
+pub fn extents_of(alloc: Global, definitions: &[Definition]) -> Result<Vec<usize>, AllocError>
+    ensures { IfOk result (λ extents. extents.items ≡ extents_of definitions.now) }
+{
+    let mut extents = Vec::new(alloc);
+    extents.resize(FIRST_ADDRESS as usize, 1)?;
+    for definition in definitions {
+        push_extents(&mut extents, definition)?;
+    }
+    Ok(extents)
+}
+
+fn push_extents(extents: &mut Vec<usize>, definition: &Definition) -> Result<(), AllocError>
+    ensures { OnOk result (extents.new.items ≡ extents.old.items ++ definition_extents definition.now) }
+{
+    extents.push(own_words(definition))?;
+    for _ in 0..size_of(definition).saturating_sub(1) {
+        extents.push(1)?;
+    }
+    Ok(())
 }
 
 // How many words the name of an external stands for.

@@ -1,12 +1,12 @@
 //! What is found at a step.
 ghost use Rattle.std.specs.Prelude.{◌≡◌, false};
 ghost use Rattle.bcareful.specs.Effects.{mark, moment_of, operand};
-ghost use Rattle.bcareful.specs.Findings.{call_touch, instr_finding, is_unset, thing_finding, touch, touch_finding};
+ghost use Rattle.bcareful.specs.Findings.{call_touch, counts_by, instr_finding, is_unset, thing_finding, touch, touch_finding};
 ghost use Rattle.bcareful.specs.Findings.{found_word, is_address, result_finding, word_finding, wrap_finding, wraps};
 
 use crate::moment::Moment;
 use crate::thing::{Mark, Thing};
-use blang::Instr;
+use blang::{Increment, Instr};
 use bword::BinOp;
 
 /// What is wrong with a step.
@@ -117,11 +117,25 @@ fn wrap_finding(moment: &Moment<'_>, instr: Instr) -> Option<Finding>
             result_finding(
                 moment,
                 operator,
-                (moment.modified, right),
+                (moment.pointed.modified, right),
                 (of_left, of_right),
             )
         }
+        Instr::Increment(which) => {
+            let words = (moment.pointed.counted, 1);
+            let of_left = moment.marks.word(right);
+            result_finding(moment, counts_by(which), words, (of_left, Mark::Plain))
+        }
         _ => None,
+    }
+}
+
+fn counts_by(which: Increment) -> BinOp
+    ensures { result ≡ counts_by which }
+{
+    match which {
+        Increment::PreIncrement | Increment::PostIncrement => BinOp::Add,
+        Increment::PreDecrement | Increment::PostDecrement => BinOp::Sub,
     }
 }
 

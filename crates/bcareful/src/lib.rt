@@ -2,16 +2,21 @@
 #![tactic(auto)]
 
 mod atlas;
+mod care;
 mod careful;
 mod effect;
 mod finding;
+mod first;
 mod marks;
 mod moment;
 mod naming;
+mod recorded;
 mod telling;
 mod thing;
 mod warnings;
 mod watching;
 
-pub use careful::{go_careful, go_warned, go_wraps};
+pub use care::{Care, CarefulRequest};
+pub use careful::go_careful;
+pub use first::{SilentRun, find_first};
 pub use watching::careful_runs_stay_at_the_first_finding;

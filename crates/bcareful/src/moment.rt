@@ -17,9 +17,17 @@ pub struct Moment<'a> {
     pub site: Site<'a>,
     /// The operands of the call, the topmost last.
     pub operands: &'a [u16],
-    /// The word at the address that has one operand above it.
-    pub modified: u16,
+    pub pointed: Pointed,
     pub marks: &'a Marks,
+}
+
+/// The words of memory that a step may count or modify.
+#[derive(Clone, Copy)]
+pub struct Pointed {
+    /// The one at the address that has no operand above it.
+    pub counted: u16,
+    /// The one at the address that has one operand above it.
+    pub modified: u16,
 }
 
 /// The operand among these, the topmost last, that has so many above it, or 0.

@@ -4,7 +4,7 @@ ghost use Rattle.bmach.specs.Stops.{active_of};
 ghost use Rattle.btrace.specs.RowTexts.{legend_of};
 ghost use Rattle.bcareful.specs.Things.{atlas_of};
 ghost use Rattle.bcareful.specs.Tellings.{Tells, TellsOver, address_of, address_text, extent_text, fault_text};
-ghost use Rattle.bcareful.specs.Tellings.{finding_line, finding_text, found_place, meaning, sign, thing_text};
+ghost use Rattle.bcareful.specs.Tellings.{finding_line, finding_meaning, finding_text, found_place, sign, thing_text};
 ghost use Rattle.bcareful.specs.Tellings.{wrap_text};
 ghost use Rattle.bwatch.specs.Sights.{sight_at};
 
@@ -13,6 +13,7 @@ use crate::finding::Finding;
 use crate::naming::word_name;
 use crate::thing::Thing;
 use crate::watching::Found;
+use bendless::Endless;
 use blang::status::{self, Status};
 use bmach::{Stepper, Stop};
 use brun::finish;
@@ -96,15 +97,15 @@ fn push_found_place(
     Ok(())
 }
 
-// Adds what is wrong with a step.
-fn push_meaning<S: Store + Drop>(
+/// Adds what is wrong with the next step.
+pub fn push_meaning<S: Store + Drop>(
     text: &mut Text,
     atlas: &Atlas<'_>,
     stepper: &Stepper<'_, S>,
     finding: Finding,
 ) -> Result<(), AllocError>
     ensures { OnOk result (text.new ≡ text.old
-        ++ meaning (atlas_of atlas.now) (active_of stepper.now.call ∷ map active_of stepper.now.below) finding) }
+        ++ finding_meaning (atlas_of atlas.now) (active_of stepper.now.call ∷ map active_of stepper.now.below) finding) }
 {
     push_fault(text, atlas, stepper, finding)?;
     match address_of(finding) {
@@ -208,22 +209,24 @@ fn sign(operator: BinOp) -> &'static [u8]
     }
 }
 
-/// Writes the line of a run without a finding, and where it is that of a trap or of the limit, the place after it.
+/// Writes the line of a run without a finding, and where it is that of a trap or of the limit, the place after it, and
+/// that a state comes again, if one does.
 pub fn tell_over<D: ByteOut>(
     alloc: Global,
     legend: &Legend<'_, '_, '_>,
     source: &[u8],
     stop: Stop,
+    again: &Option<Endless>,
     diag: &mut D,
 ) -> Status
-    ensures tells { TellsOver (legend_of legend.now) source.now stop
+    ensures tells { TellsOver (legend_of legend.now) source.now stop again.now
         (D.outgoing diag.old) (D.outgoing diag.new) result }
     ensures same { D.lender diag.new ≡ D.lender diag.old }
 {
     let told = finish(stop.outcome, diag);
     match located_status(stop.outcome) {
         Some(status) if status == told => {
-            tell_site(alloc, legend, source, stop, &None, told, diag)
+            tell_site(alloc, legend, source, stop, again, told, diag)
         }
         _ => told,
     }

@@ -14,7 +14,7 @@ use crate::atlas::Atlas;
 use crate::effect::{Effect, instr_effect};
 use crate::finding::{Finding, instr_finding};
 use crate::marks::Marks;
-use crate::moment::{Moment, operand_of};
+use crate::moment::{Moment, Pointed, operand_of};
 use crate::warnings::{Teller, Warnings};
 use blang::Outcome;
 use bmach::{Active, Stepper, Stop};
@@ -37,8 +37,8 @@ pub struct Found {
 pub enum Ended {
     /// It stays at a finding.
     Found(Found),
-    /// It had none, up to this outcome, in this call, with so many steps.
-    Over(Outcome, Active, u64),
+    /// It had none, up to this stop.
+    Over(Stop),
 }
 
 /// What is known of the next step.
@@ -63,7 +63,7 @@ pub fn careful_steps<S: Store + Drop, I: ByteIn, O: ByteOut>(
     ensures out { O.lender out.new ≡ O.lender out.old }
 {
     let Ok(mut marks) = first_marks(alloc, atlas, stepper.top()) else {
-        return Ended::Over(Outcome::Memory, stepper.top(), 0);
+        return over(Outcome::Memory, stepper.top(), 0);
     };
     for made in 0..steps {
         let call = stepper.top();
@@ -77,15 +77,26 @@ pub fn careful_steps<S: Store + Drop, I: ByteIn, O: ByteOut>(
         }
         match stepper.step(input, out) {
             Ok(()) => {}
-            Err(outcome) => return Ended::Over(outcome, call, made + 1),
+            Err(outcome) => return over(outcome, call, made + 1),
         }
         match marks.change(atlas, look.effect, stepper.top()) {
             Ok(()) => {}
-            Err(_) => return Ended::Over(Outcome::Memory, call, made + 1),
+            Err(_) => return over(Outcome::Memory, call, made + 1),
         }
     }
     let last = stepper.top();
-    Ended::Over(Outcome::Limit, last, steps)
+    over(Outcome::Limit, last, steps)
+}
+
+// A run that had no finding up to this outcome, in this call, with so many steps.
+fn over(outcome: Outcome, call: Active, steps: u64) -> Ended
+    ensures { result ≡ Ended.Over (record { outcome = outcome; call = call; steps = steps }) }
+{
+    Ended::Over(Stop {
+        outcome,
+        call,
+        steps,
+    })
 }
 
 /// What came of a run that goes on after its findings.
@@ -186,16 +197,25 @@ fn look_at<S: Store + Drop>(atlas: &Atlas<'_>, stepper: &Stepper<'_, S>, marks: 
     ensures effect { result.effect ≡ effect_of (next_step (atlas_of atlas.now) stepper.now (marks_of marks.now)) }
 {
     let operands = stepper.operands();
-    let modified = stepper.word(operand_of(operands, 1));
-    look_by(atlas, stepper.top(), operands, modified, marks)
+    let pointed = Pointed {
+        counted: stepper.word(operand_of(operands, 0)),
+        modified: stepper.word(operand_of(operands, 1)),
+    };
+    look_by(atlas, stepper.top(), operands, pointed, marks)
 }
 
-// The same of a call with these operands, the topmost last, and this word at the address that has one above it.
-fn look_by(atlas: &Atlas<'_>, call: Active, operands: &[u16], modified: u16, marks: &Marks) -> Look
+// The same of a call with these operands, the topmost last, that point at these words.
+fn look_by(
+    atlas: &Atlas<'_>,
+    call: Active,
+    operands: &[u16],
+    pointed: Pointed,
+    marks: &Marks,
+) -> Look
     ensures finding { result.finding
-        ≡ finding_of (step_by (atlas_of atlas.now) call (reverse operands.now) modified (marks_of marks.now)) }
+        ≡ finding_of (step_by (atlas_of atlas.now) call (reverse operands.now) pointed (marks_of marks.now)) }
     ensures effect { result.effect
-        ≡ effect_of (step_by (atlas_of atlas.now) call (reverse operands.now) modified (marks_of marks.now)) }
+        ≡ effect_of (step_by (atlas_of atlas.now) call (reverse operands.now) pointed (marks_of marks.now)) }
 {
     let none = Look {
         finding: None,
@@ -209,7 +229,7 @@ fn look_by(atlas: &Atlas<'_>, call: Active, operands: &[u16], modified: u16, mar
         call,
         site,
         operands,
-        modified,
+        pointed,
         marks,
     };
     match site.parts.code.get(call.place) {

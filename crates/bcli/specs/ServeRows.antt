@@ -9,7 +9,8 @@ use Rattle.bword.specs.declared.edition.Edition.{Edition}
 use Rattle.blang.specs.Compiles.{CompileHeadline, Compiles}
 use Rattle.blang.specs.Headline.{GoesOff, Headline}
 use Rattle.blang.specs.Reports.{RunEnds}
-use Rattle.bcareful.specs.Runs.{Runs, RunsForWraps, Warns}
+use Rattle.bcareful.specs.Runs.{Runs}
+use Rattle.bcareful.specs.declared.care.Care.TheVariants as taken
 use Rattle.bcheck.specs.Checks.{Checks}
 use Rattle.bcheck.specs.declared.form.FindingForm.TheVariants as forms
 use Rattle.bcount.specs.declared.table.CountStyle.TheVariants as styles
@@ -133,14 +134,16 @@ module _ (origin : Origin) (edition : Edition) (files : Files) (text : List ℕ)
   located : (steps : ℕ) → answered (locate steps) → Locates edition text files steps ends status
   located steps a = a
 
-  gone_carefully : (steps : ℕ) → answered (go_careful care.Stays steps) → Runs edition text files steps ends status
+  gone_carefully : (steps : ℕ) → answered (go_careful care.Stays steps)
+      → Runs (record { edition = edition; files = files; care = taken.Stays; steps = steps }) text ends status
   gone_carefully steps a = a
 
-  gone_on : (steps : ℕ) → answered (go_careful care.Warns steps) → Warns edition text files steps ends status
+  gone_on : (steps : ℕ) → answered (go_careful care.Warns steps)
+      → Runs (record { edition = edition; files = files; care = taken.Warns; steps = steps }) text ends status
   gone_on steps a = a
 
   gone_for_wraps : (steps : ℕ) → answered (go_careful care.Wraps steps)
-      → RunsForWraps edition text files steps ends status
+      → Runs (record { edition = edition; files = files; care = taken.Wraps; steps = steps }) text ends status
   gone_for_wraps steps a = a
 
   tried : (steps : ℕ) → answered (try_out steps) → Tries edition files text steps ends status

@@ -26,7 +26,9 @@ use Rattle.btools.specs.Programs.{ToldEnds}
 use Rattle.bdraw.specs.Draws.{Draws}
 use Rattle.btrace.specs.Locates.{Locates}
 use Rattle.btrace.specs.Traces.{Traces}
-use Rattle.bcareful.specs.Runs.{Runs, RunsForWraps, Warns}
+use Rattle.bcareful.specs.Runs.{Runs}
+use Rattle.bcareful.specs.declared.care.Care as careful
+use Rattle.bcareful.specs.declared.care.Care.TheVariants as taken
 use Rattle.bwatch.specs.declared.trail.TraceRows.{TraceRows as Traced}
 use Rattle.bwatch.specs.declared.trail.TraceRows.TheVariants as traced
 use Rattle.bcount.specs.Counts.{Counts}
@@ -172,11 +174,11 @@ origin_of (trace origin steps shown function) = origin
 origin_of (count origin steps for_editor) = origin
 origin_of question = from_source
 
--- what comes of a source whose run is looked at in this way
-abbrev pub RunsCarefully : Care → Edition → (text : List ℕ) → Files → (steps : ℕ) → RunEnds → ℕ → Type 0
-RunsCarefully care.Stays edition text files steps ends status = Runs edition text files steps ends status
-RunsCarefully care.Warns edition text files steps ends status = Warns edition text files steps ends status
-RunsCarefully care.Wraps edition text files steps ends status = RunsForWraps edition text files steps ends status
+-- what a careful run does that is asked for so
+abbrev pub care_taken : Care → careful.Care
+care_taken care.Stays = taken.Stays
+care_taken care.Warns = taken.Warns
+care_taken care.Wraps = taken.Wraps
 
 -- what is asked of a source of these files and of this text is answered, or of the code text that is its origin
 abbrev pub AnswersOf : Origin → Edition → Files → (text : List ℕ) → Question → RunEnds → ℕ → Type 0
@@ -210,7 +212,7 @@ AnswersOf origin edition files text (trace asked steps shown function) ends stat
     Traces origin text steps (traced_rows shown) files function ends status
 AnswersOf origin edition files text (locate steps) ends status = Locates edition text files steps ends status
 AnswersOf origin edition files text (go_careful it steps) ends status =
-    RunsCarefully it edition text files steps ends status
+    Runs (record { edition = edition; files = files; care = care_taken it; steps = steps }) text ends status
 AnswersOf origin edition files text (try_out steps) ends status = Tries edition files text steps ends status
 AnswersOf origin edition files text (count asked steps for_editor) ends status =
     Counts (record { origin = origin; steps = steps; files = files; style = style_of for_editor }) text ends status

@@ -7,6 +7,7 @@ use Rattle.blang.specs.Reports.{HasNotRun, Reported, RunEnds}
 use Rattle.blang.specs.declared.status.TheConstants.{DEVICE, DONE, FAULT, LIMIT, MEMORY, REFUSED, TRAP}
 use Rattle.bsources.specs.Files.{Files}
 use Rattle.bcareful.specs.Runs.{Runs}
+use Rattle.bcareful.specs.declared.care.Care.TheVariants as taken
 use Rattle.bcheck.specs.Checks.{Checks}
 use Rattle.bcheck.specs.declared.form.FindingForm.TheVariants as forms
 
@@ -30,7 +31,8 @@ next_text checked ran =
 -- of the check.
 abbrev pub RunsWhere : (is_done : Bool) → (checked : ℕ) → Edition → Files → (text : List ℕ) → (steps : ℕ) → RunEnds → ℕ
     → Type 0
-RunsWhere true checked edition files text steps ends status = Runs edition text files steps ends status
+RunsWhere true checked edition files text steps ends status =
+    Runs (record { edition = edition; files = files; care = taken.Stays; steps = steps }) text ends status
 RunsWhere false checked edition files text steps ends status =
     HasNotRun ends × (ends.line_after ≡ ends.line) × (status ≡ checked)
 

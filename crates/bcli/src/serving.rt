@@ -11,17 +11,18 @@ ghost use Rattle.bshow.specs.Shows.{asked_of as page_of};
 ghost use Rattle.bsources.specs.Files.{file_shown, files_shown};
 ghost use Rattle.btools.specs.Origins.{origin_shown};
 ghost use Rattle.bcli.specs.Serves.{Answers, AnswersOf, CompilesJoined, Does, NamesFile, RefusesWords, Serves, ShowsRun};
-ghost use Rattle.bcli.specs.Serves.{form_of, origin_of, style_of, traced_rows, no_file_line, unread_line};
+ghost use Rattle.bcli.specs.Serves.{care_taken, form_of, origin_of, style_of, traced_rows, no_file_line, unread_line};
 ghost use Rattle.bcli.specs.Shelves.{opened};
 
 use crate::origins::read_origin;
 use crate::shelf::{FileFault, MemFile, Shelf, SystemFiles};
 use crate::sources::{Unread, Whole, read_libs, read_source};
-use crate::trying::{Attempt, run_carefully, try_source};
+use crate::trying::{Attempt, try_source};
+use bcareful::{CarefulRequest, go_careful};
 use bcheck::{FindingForm, Request, check};
 use bcommand::{
-    Display, Job, OriginNames, Question, Rows, SourceNames, UNREAD, clash_text, full_words, job_of,
-    parse,
+    Care, Display, Job, OriginNames, Question, Rows, SourceNames, UNREAD, clash_text, full_words,
+    job_of, parse,
 };
 use bcount::{CountStyle, Counting, count};
 use bdraw::draw;
@@ -339,13 +340,13 @@ fn answer<I: ByteIn, O: ByteOut, D: ByteOut>(
         }
         Question::Locate(steps) => locate(alloc, text, edition, files, steps, input, out, diag),
         Question::GoCareful(care, steps) => {
-            let attempt = Attempt {
+            let wanted = CarefulRequest {
                 edition,
                 files,
-                text,
+                care: care_taken(care),
                 steps,
             };
-            run_carefully(alloc, attempt, care, input, out, diag)
+            go_careful(alloc, text, wanted, input, out, diag)
         }
         Question::Try(steps) => {
             let attempt = Attempt {
@@ -430,6 +431,16 @@ fn traced_rows(rows: Rows) -> bwatch::TraceRows
     match rows {
         Rows::From(number) => bwatch::TraceRows::From(number),
         Rows::Last(count) => bwatch::TraceRows::Last(count),
+    }
+}
+
+fn care_taken(care: Care) -> bcareful::Care
+    ensures { result ≡ care_taken care }
+{
+    match care {
+        Care::Stays => bcareful::Care::Stays,
+        Care::Warns => bcareful::Care::Warns,
+        Care::Wraps => bcareful::Care::Wraps,
     }
 }
 

@@ -3,12 +3,10 @@ ghost use Rattle.std.specs.Prelude.{◌≡◌, ◌==◌};
 ghost use Rattle.blang.specs.Reports.{run_ends};
 ghost use Rattle.blang.specs.declared.status.TheConstants.{DONE};
 ghost use Rattle.bsources.specs.Files.{files_shown};
-ghost use Rattle.bcli.specs.Serves.{RunsCarefully};
 ghost use Rattle.bcli.specs.Tries.{RunsWhere, Tries, next_after, next_text};
 
-use bcareful::{go_careful, go_warned, go_wraps};
+use bcareful::{Care, CarefulRequest, go_careful};
 use bcheck::{FindingForm, Request, check};
-use bcommand::Care;
 use blang::status::{self, Status};
 use bsources::SourceFiles;
 use btools::tell;
@@ -70,37 +68,13 @@ fn run_checked<I: ByteIn, O: ByteOut, D: ByteOut>(
     if checked != status::DONE {
         return checked;
     }
-    run_carefully(alloc, attempt, Care::Stays, input, out, diag)
-}
-
-/// Runs a source, and looks at its run in this way.
-pub(crate) fn run_carefully<I: ByteIn, O: ByteOut, D: ByteOut>(
-    alloc: Global,
-    attempt: Attempt<'_>,
-    care: Care,
-    input: &mut I,
-    out: &mut O,
-    diag: &mut D,
-) -> Status
-    ensures runs { RunsCarefully care attempt.entry.edition attempt.entry.text.now (files_shown attempt.entry.files)
-        attempt.entry.steps (run_ends
-        (I.incoming input.old) (I.incoming input.new) (O.outgoing out.old) (O.outgoing out.new)
-        (D.outgoing diag.old) (D.outgoing diag.new)) result }
-    ensures input_lender { I.lender input.new ≡ I.lender input.old }
-    ensures out_lender { O.lender out.new ≡ O.lender out.old }
-    ensures diag_lender { D.lender diag.new ≡ D.lender diag.old }
-{
-    let Attempt {
-        edition,
-        files,
-        text,
-        steps,
-    } = attempt;
-    match care {
-        Care::Stays => go_careful(alloc, text, edition, files, steps, input, out, diag),
-        Care::Warns => go_warned(alloc, text, edition, files, steps, input, out, diag),
-        Care::Wraps => go_wraps(alloc, text, edition, files, steps, input, out, diag),
-    }
+    let wanted = CarefulRequest {
+        edition: attempt.edition,
+        files: attempt.files,
+        care: Care::Stays,
+        steps: attempt.steps,
+    };
+    go_careful(alloc, attempt.text, wanted, input, out, diag)
 }
 
 // What to do next, by the status of the check and that of the run.

@@ -1,5 +1,6 @@
 -- A step doesn't look at what was written, so a state that comes again goes on as it did before.
-use Rattle.std.proofs.Common.{◌≡◌, ℕ, zero, suc, ◌+◌, ◌-◌, ◌≤◌, List, [], ◌∷◌, length, Option, Some, None, Bool, true, false, refl, sym, ap, ◌∙◌, subst, arith, take, drop, reverse}
+use Rattle.std.proofs.Common.{◌≡◌, ℕ, zero, suc, ◌+◌, ◌-◌, ◌≤◌, List, [], ◌∷◌, ◌++◌, length, Option, Some, None, Bool, true, false, refl, sym, ap, ◌∙◌, subst, arith, take, drop, reverse, ⊎_elim}
+use Rattle.std.proofs.lemmas.Bool.{cases_lt}
 use Rattle.std.specs.Prelude.{slice_get, ◌==◌, if◌then◌else◌}
 use Rattle.bword.specs.Words.{binary_of}
 use Rattle.blang.specs.declared.code.Instr.{Instr}
@@ -9,10 +10,14 @@ use Rattle.blang.specs.declared.run.Library.TheVariants.{Getchar, Printn}
 use Rattle.blang.specs.declared.run.Trap.{Trap}
 use Rattle.blang.specs.declared.run.Trap.TheVariants.{BadBase}
 use Rattle.blang.specs.Layout.{label_target, World, Ending, Reply, Gives, Ends, word_at, with_word, with_words, parameter_words, next_byte, is_base, argument, printed, with_output, library, Trapped, Callee, NoFunction, OfLibrary, OfProgram, callee_of, refusal, first_world}
-use Rattle.blang.specs.Machine.{Loaded, Image, Call, fresh_call, with_operand, State, Running, Halted, Stuck, take_one, take_two, on_reply, operator_reply, at_place, returned, gone_to_place, program_function_called, callee_called, act, act_if, step, steps, machine_started}
+use Rattle.blang.specs.Machine.{Loaded, Image, Call, fresh_call, with_operand, State, Running, Halted, Stuck, take_one, take_two, on_reply, operator_reply, at_place, returned, gone_to_place, program_function_called, callee_called, act, act_if, machine, run, step, steps, machine_started}
+use Rattle.blang.specs.Reports.{state_outcome}
+use Rattle.blang.specs.declared.run.Outcome.TheVariants as outcome
+use Rattle.bmach.proofs.LoadedRuns.{shows_loaded}
 use Rattle.bmach.proofs.Running.{IsOver, steps_add}
 use Rattle.bmean.proofs.Runs.{over_later}
 use Rattle.bendless.specs.Endless.{IsRunning, unwritten, silent, ComesAgain, NeverEnds}
+use Rattle.bendless.specs.Repeats.{BackForEver, IsWithin}
 
 -- two replies that are the same but for what was written
 abbrev AreAlike : Reply → Reply → Type 0
@@ -151,6 +156,19 @@ over_or_running (Running call below w) over runs = over
 over_or_running (Halted e w) over runs = runs
 over_or_running (Stuck w) over runs = runs
 
+as_within : (callers : ℕ) (s : State) → IsWithin callers s → IsWithin callers (silent s)
+as_within callers (Running call below w) within = within
+as_within callers (Halted e w) within = within
+as_within callers (Stuck w) within = within
+
+of_within : (callers : ℕ) (s : State) → IsWithin callers (silent s) → IsWithin callers s
+of_within callers (Running call below w) within = within
+of_within callers (Halted e w) within = within
+of_within callers (Stuck w) within = within
+
+within_alike : (callers : ℕ) (s t : State) → silent s ≡ silent t → IsWithin callers t → IsWithin callers s
+within_alike callers s t same within = of_within callers s (subst (IsWithin callers) (sym same) (as_within callers t within))
+
 module _ (image : Image) (s : State) (m n : ℕ) (again : ComesAgain (λ k. steps image k s) m n) where
   again_after : silent (steps image (n - m) (steps image m s)) ≡ silent (steps image m s)
   again_after =
@@ -168,6 +186,47 @@ module _ (image : Image) (s : State) (m n : ℕ) (again : ComesAgain (λ k. step
       over_or_running (steps image k s) over
       (subst IsRunning (sym (steps_add image m r.0 s) ∙ stays) runs))
 
+  -- between the two times that it comes, and so later, too
+  pub within_on : (callers : ℕ) → ((k : ℕ) → m ≤ k → k ≤ n → IsWithin callers (steps image k s)) → (most d : ℕ) → d ≤ most → IsWithin callers (steps image (m + d) s)
+  within_on callers stays zero d le = let later = again.later in stays (m + d) (omega arith) (omega (arith, le, later))
+  within_on callers stays (suc most) d le =
+      ⊎_elim
+      (λ lt.
+      let later = again.later in
+      let rest = d - (n - m) in
+      let t = steps image m s in
+      let all : m + d ≡ m + (n - m + rest) = omega (arith, lt) in
+      let same : silent (steps image (m + d) s) ≡ silent (steps image (m + rest) s) =
+      ap (λ k. silent (steps image k s)) all
+      ∙ ap silent (steps_add image m (n - m + rest) s ∙ steps_add image (n - m) rest t)
+      ∙ steps_alike image rest (steps image (n - m) t) t again_after
+      ∙ ap silent (sym (steps_add image m rest s)) in
+      within_alike callers (steps image (m + d) s) (steps image (m + rest) s) same (within_on callers stays most rest (omega (arith, le, lt, later))))
+      (λ early. let later = again.later in stays (m + d) (omega arith) (omega (arith, early, later)))
+      (cases_lt (n - m) d)
+
 pub never_ends : NeverEnds
 never_ends image input m n again k =
     runs_on image (machine_started image image.main (first_world image input)) m n again k
+
+running_on : (s : State) → IsRunning s → state_outcome s ≡ outcome.Limit
+running_on (Running call below w) runs = refl
+running_on (Halted e w) runs = absurd runs
+running_on (Stuck w) runs = absurd runs
+
+-- a machine of which a state comes back runs for ever, and so does the one that was loaded so
+pub back_for_ever : BackForEver
+back_for_ever ds image i j r loaded back = (
+  record {
+    taken = back.taken;
+    took = back.took;
+    runs = λ more can n.
+        (shows_loaded ds image loaded (back.taken ++ more) n).0
+        ∙ running_on (run image (back.taken ++ more) n) (never_ends image (back.taken ++ more) r.first r.again (back.repeats more can).comes_again n);
+  },
+  λ more can n from.
+      let is = back.repeats more can in
+      let all : r.first + (n - r.first) ≡ n = omega (arith, from) in
+      subst (λ k. IsWithin r.callers (run image (back.taken ++ more) k)) all
+      (within_on image (machine_started image image.main (first_world image (back.taken ++ more))) r.first r.again is.comes_again r.callers is.stays (n - r.first) (n - r.first) (omega arith)),
+)

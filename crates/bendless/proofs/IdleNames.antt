@@ -10,7 +10,7 @@ use Rattle.btools.specs.Functions.{placed_entry}
 use Rattle.btools.specs.declared.names.Frame.{Frame}
 use Rattle.btools.specs.declared.names.FrameWord.{FrameWord}
 use Rattle.btools.specs.declared.tables.FunctionEntry.{FunctionEntry}
-use Rattle.bendless.specs.Idle.{external_name, external_names, frame_name, frame_names, words_with}
+use Rattle.bendless.specs.Idle.{external_name, external_names, idle_name, frame_names, words_with}
 use Rattle.bendless.specs.Loops.{Noted}
 
 -- what stands from an index on in tables of functions and frames
@@ -50,10 +50,10 @@ one_external n address ds i d lt is before after whole size added sized so_far =
     ∙ ap (λ xs. before ++ external_names n address xs) (sym first) ∙ so_far
 
 -- the name of one word of a frame more
-pub one_word : (n : Noted) (start : ℕ) (words : List FrameWord) (i : ℕ) (w : FrameWord) → i < length words → w ≡ get_or words i w → (before after whole : List ℕ) → after ≡ before ++ frame_name n start (word_seen w)
+pub one_word : (n : Noted) (start : ℕ) (words : List FrameWord) (i : ℕ) (w : FrameWord) → i < length words → w ≡ get_or words i w → (before after whole : List ℕ) → after ≡ before ++ idle_name n start (word_seen w)
     → before ++ frame_names n start (map word_seen (drop i words)) ≡ whole → after ++ frame_names n start (map word_seen (drop (i + 1) words)) ≡ whole
 one_word n start words i w lt is before after whole added so_far =
     let first : drop i words ≡ w ∷ drop (i + 1) words = drop_more words i w lt ∙ ap (λ x. x ∷ drop (i + 1) words) (sym is) in
     ap (λ t. t ++ frame_names n start (map word_seen (drop (i + 1) words))) added
-    ∙ append_assoc before (frame_name n start (word_seen w)) (frame_names n start (map word_seen (drop (i + 1) words)))
+    ∙ append_assoc before (idle_name n start (word_seen w)) (frame_names n start (map word_seen (drop (i + 1) words)))
     ∙ ap (λ xs. before ++ frame_names n start (map word_seen xs)) (sym first) ∙ so_far

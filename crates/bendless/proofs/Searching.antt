@@ -1,5 +1,6 @@
 -- A run that is made again in silence, and a state of it that was kept.
-use Rattle.std.proofs.Common.{◌≡◌, ◌∙◌, ℕ, ◌+◌, ◌-◌, ◌<◌, ◌≤◌, List, [], ◌∷◌, ◌++◌, length, Bool, true, false, Err, None, Ok, Option, Result, Some, ap, append_assoc, arith, length-append, map, replicate, refl, reverse, subst, sym}
+use Rattle.std.proofs.Common.{◌≡◌, ◌∙◌, ℕ, ◌+◌, ◌-◌, ◌<◌, ◌≤◌, List, [], ◌∷◌, ◌++◌, length, Bool, true, false, Err, None, Ok, Option, Result, Some, ap, append_assoc, arith, length-append, map, replicate, refl, reverse, subst, sym, ⊎_elim}
+use Rattle.std.proofs.lemmas.Bool.{cases_lt}
 use Rattle.std.specs.Prelude.{IfOk, IfSome, slice_index, if◌then◌else◌}
 use Rattle.std.specs.Result.{result_ok}
 use Rattle.std.proofs.lemmas.List.{ext_get_or, length-replicate}
@@ -20,7 +21,7 @@ use Rattle.btools.proofs.Functions.{data_fit}
 use Rattle.bendless.specs.Endless.{IsRunning, silent}
 use Rattle.bmach.specs.declared.machine.Active.{Active}
 use Rattle.bendless.specs.Keeps.{IsAt, IsKept, IsSameState, repeat_of, words_in}
-use Rattle.bendless.specs.Repeats.{Repeats}
+use Rattle.bendless.specs.Repeats.{IsWithin, Repeats}
 use Rattle.bendless.specs.Replays.{IsReplay, Replayed, lender_replay, replay_in, replay_new}
 use Rattle.bendless.specs.declared.kept.Kept.{Kept}
 use Rattle.bendless.specs.declared.search.Repeat.{Repeat}
@@ -96,6 +97,17 @@ module _ (first : Paused) (bytes : List ℕ) where
     pub reads : was_left ≡ between ++ left
     pub over_since : was_over ≡ true → over ≡ true
     pub stands : StandOn there.call there.below (p.call ∷ p.below)
+    pub within : (m : ℕ) → k.made ≤ m → m ≤ n → (more : List ℕ) → (over ≡ true → more ≡ []) → IsWithin k.callers (states more m)
+
+  -- where it is there are so many calls below
+  within_here : (callers n : ℕ) (p : Paused) (left : List ℕ) (over : Bool) → Came n p left over → callers ≤ length p.below → (more : List ℕ) → (over ≡ true → more ≡ []) → IsWithin callers (states more n)
+  within_here callers n p left over c long more can =
+      let is = as_running (states more n) p.call p.below (world_with p.store (left ++ more) []) (c.comes more can) in
+      subst (IsWithin callers) (sym is.1) long
+
+  -- so many steps more are this one, or fewer
+  within_all : (P : ℕ → Type 0) (least n : ℕ) → ((m : ℕ) → least ≤ m → m ≤ n → P m) → P (n + 1) → (m : ℕ) → least ≤ m → m ≤ n + 1 → P m
+  within_all P least n before last m at most = ⊎_elim (λ lt. let e : n + 1 ≡ m = omega (arith, most, lt) in subst P e last) (λ le. before m at le) (cases_lt n m)
 
   pub kept_here : (k : Kept) (n : ℕ) (p : Paused) (left : List ℕ) (over : Bool) → Came n p left over → IsKept k p (length left) n → HasKept k n p left over
   kept_here k n p left over c is = record {
@@ -109,13 +121,18 @@ module _ (first : Paused) (bytes : List ℕ) where
     reads = refl;
     over_since = λ o. o;
     stands = stand_first p.call p.below;
+    within = λ m at most more can.
+        let e = is.steps in
+        let now : n ≡ m = omega (arith, e, at, most) in
+        let callers = is.state.callers in
+        subst (λ x. IsWithin k.callers (states more x)) now (within_here k.callers n p left over c (omega (arith, callers)) more can);
   }
 
   -- a step more, after which the run hasn't returned from the call
   pub kept_on : (k : Kept) (n : ℕ) (p p' : Paused) (u u' : Replayed) (o q : Outgoing) → IsReplay u' → Came n p u.left u.is_over
       → MovesOn (λ left before. step p.image (machine_at p left before)) (machine_at p') (replay_in u) (replay_in u') o q
-      → k.callers ≤ length p'.below → HasKept k n p u.left u.is_over → HasKept k (n + 1) p' u'.left u'.is_over
-  kept_on k n p p' u u' o q is_replay c m long h = record {
+      → p'.image ≡ p.image → k.callers ≤ length p'.below → HasKept k n p u.left u.is_over → HasKept k (n + 1) p' u'.left u'.is_over
+  kept_on k n p p' u u' o q is_replay c m same long h = record {
     there = h.there;
     was_left = h.was_left;
     was_over = h.was_over;
@@ -126,6 +143,9 @@ module _ (first : Paused) (bytes : List ℕ) where
     reads = h.reads ∙ ap (λ l. h.between ++ l) (sym (read_on n p p' u u' o q is_replay c m)) ∙ sym (append_assoc h.between m.taken u'.left);
     over_since = λ over. (m.took.over (h.over_since over)).1;
     stands = let e = h.kept.state.callers in stand_on h.there.call p.call p'.call h.there.below p.below p'.below (moves n p p' u u' o q is_replay c m).0 (omega (arith, e, long)) h.stands;
+    within = λ x at most more can. within_all (λ y. IsWithin k.callers (states more y)) k.made n
+        (λ y from upto. h.within y from upto more (λ over. can (m.took.over over).1))
+        (within_here k.callers (n + 1) p' u'.left u'.is_over (came_on n p p' u u' o q is_replay c m same) long more can) x at most;
   }
 
   pub kept_same : (k k' : Kept) (n : ℕ) (p : Paused) (left : List ℕ) (over : Bool) → IsSameState k k' → HasKept k n p left over → HasKept k' n p left over
@@ -150,6 +170,9 @@ module _ (first : Paused) (bytes : List ℕ) where
     reads = h.reads;
     over_since = h.over_since;
     stands = h.stands;
+    within = λ m at most more can.
+        let made = same.made in
+        subst (λ callers. IsWithin callers (states more m)) (sym same.callers) (h.within m (omega (arith, made, at)) most more can);
   }
 
   -- its words are as many as there are addresses
@@ -189,6 +212,7 @@ module _ (first : Paused) (bytes : List ℕ) where
           active_is = sym h.kept.call;
         };
         callers = s.callers;
+        stays = λ m at most. h.within m at most more can;
       }
 
 -- whether the end is known stays, since it tells which end it is
@@ -236,6 +260,7 @@ repeats_alike f g r same h =
         active_is = h.runs.active_is;
       };
       callers = h.callers;
+      stays = λ n at most. subst (IsWithin r.callers) (sym (same n)) (h.stays n at most);
     }
 
 -- what was found of a run on bytes that were read

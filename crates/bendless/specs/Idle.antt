@@ -19,12 +19,12 @@ abbrev pub spaced : List ℕ → List ℕ
 spaced name = codes " " ++ name
 
 -- The name of a vector stands for its words, and isn't told.
-abbrev pub frame_name : Noted → (start : ℕ) → NamedWord → List ℕ
-frame_name n start w =
+abbrev pub idle_name : Noted → (start : ℕ) → NamedWord → List ℕ
+idle_name n start w =
     if w.is_vector then [] else (if is_idle n ((start + w.offset) % store_words) then spaced w.name else [])
 
 abbrev pub frame_names : Noted → (start : ℕ) → List NamedWord → List ℕ
-frame_names n start words = flat_map (frame_name n start) words
+frame_names n start words = flat_map (idle_name n start) words
 
 abbrev pub kind_name : DefinitionKind → (name : List ℕ) → List ℕ
 kind_name Simple name = spaced name

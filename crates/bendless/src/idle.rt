@@ -2,7 +2,7 @@
 ghost use Rattle.std.specs.Prelude.{◌≡◌, ◌++◌, OnOk, map};
 ghost use Rattle.btools.specs.FrameNames.{frame_seen, word_seen};
 ghost use Rattle.btools.specs.Functions.{entries_of};
-ghost use Rattle.bendless.specs.Idle.{external_name, external_names, frame_name, frame_names, idle_names, spaced, words_with};
+ghost use Rattle.bendless.specs.Idle.{external_name, external_names, idle_name, frame_names, idle_names, spaced, words_with};
 ghost use Rattle.bendless.specs.Loops.{noted_of};
 
 use crate::looping::LoopNotes;
@@ -62,7 +62,7 @@ fn push_frame_name(
     call: Active,
     notes: &LoopNotes,
 ) -> Result<(), AllocError>
-    ensures { OnOk result (text.new ≡ text.old ++ frame_name (noted_of notes.now) call.start (word_seen word)) }
+    ensures { OnOk result (text.new ≡ text.old ++ idle_name (noted_of notes.now) call.start (word_seen word)) }
 {
     let address = (call.start % 65536) as u16;
     if word.is_vector || !notes.is_idle(address.wrapping_add((word.offset % 65536) as u16)) {

@@ -35,7 +35,7 @@ pub enum Extent {
 
 /// A stream over another one, which keeps the bytes that this gives.
 #[derive(Drop)]
-struct Recorder<I: ByteIn> {
+pub struct Recorder<I: ByteIn> {
     // What it was made of, for contracts alone: this takes no room.
     made_of: Snapshot<I>,
     input: I,
@@ -65,7 +65,7 @@ pub struct Record {
 
 impl<I: ByteIn> Recorder<I> {
     /// A stream that gives the bytes of this one, and has kept none.
-    fn new(alloc: Global, input: I) -> Self
+    pub fn new(alloc: Global, input: I) -> Self
         ensures { result ≡ recording_new input }
     {
         Recorder {
@@ -78,7 +78,7 @@ impl<I: ByteIn> Recorder<I> {
     }
 
     /// What was read. After it nothing more is kept.
-    fn take_record(&mut self, alloc: Global) -> Record
+    pub fn take_record(&mut self, alloc: Global) -> Record
         ensures input { self.new.input ≡ self.old.input }
         ensures bytes { result.bytes.items ≡ self.old.bytes }
         ensures extent { is_whole result.extent ≡ self.old.is_whole }
@@ -95,7 +95,7 @@ impl<I: ByteIn> Recorder<I> {
     }
 
     /// The stream, as it was left.
-    fn into_input(self) -> I
+    pub fn into_input(self) -> I
         ensures { result ≡ self.input }
     {
         let Recorder {

@@ -18,7 +18,8 @@ use Rattle.btools.specs.Programs.{located_status}
 use Rattle.btrace.specs.Locates.{told_site}
 use Rattle.std.specs.Prelude.{IfSome}
 use Rattle.bendless.specs.declared.endless.Endless.{Endless}
-use Rattle.btrace.specs.PlacesTold.{PlacesTold, RunsForEver, TellsPlaceOf}
+use Rattle.bendless.specs.Repeats.{RunsForEver}
+use Rattle.btrace.specs.PlacesTold.{PlacesTold, TellsPlaceOf}
 use Rattle.btrace.specs.RowTexts.{legend_in}
 use Rattle.btrace.proofs.TraceExcluded.{Stops, limit_is, line_in, stops_so}
 

@@ -19,11 +19,10 @@ use Rattle.blang.specs.Compiles.{code_text}
 use Rattle.blang.specs.declared.token.Diagnostic.{Diagnostic}
 use Rattle.blang.specs.Machine.{Halted, Image, Running, State, Stuck, image_of, machine, run}
 use Rattle.std.specs.Prelude.{IfSome}
-use Rattle.bendless.specs.Endless.{IsRunning}
-use Rattle.bendless.specs.Repeats.{ComesBack, IsEndless}
+use Rattle.bendless.specs.Repeats.{IsEndless, RunsForEver}
 use Rattle.bendless.specs.declared.endless.Endless.{Endless}
 use Rattle.bendless.specs.declared.search.Repeat.{Repeat}
-use Rattle.bendless.proofs.Again.{never_ends}
+use Rattle.bendless.proofs.Again.{back_for_ever}
 use Rattle.blang.specs.Reports.{Finishes, Reported, RunEnds, RunGives, report_text, state_outcome}
 use Rattle.blang.specs.Text.{IsCodeText}
 use Rattle.bcode.proofs.FaultLaws.{unique_code}
@@ -45,7 +44,6 @@ use Rattle.btools.proofs.ProgramsExcluded as programs
 use Rattle.btrace.specs.TraceExcluded.{ComesAlways, IsCodeIn, IsSourceOf, LocatesExcluded, TracesExcluded, status_of}
 use Rattle.btrace.specs.Locates as locates
 use Rattle.btrace.specs.Locates.{Locates, TellsSite, told_site}
-use Rattle.btrace.specs.PlacesTold.{RunsForEver}
 use Rattle.btrace.specs.Loops.{again_text}
 use Rattle.btrace.specs.RowTexts.{Legend, legend_in}
 use Rattle.btrace.specs.Traces as traces
@@ -56,25 +54,11 @@ use Rattle.bwatch.specs.Sights.{sights_of}
 use Rattle.bwatch.proofs.Origins.{loaded_in}
 use Rattle.btrace.proofs.Unasked.{by_code, by_place, by_trace}
 
-running_on : (s : State) → IsRunning s → state_outcome s ≡ outcome.Limit
-running_on (Running call below w) runs = refl
-running_on (Halted e w) runs = absurd runs
-running_on (Stuck w) runs = absurd runs
-
 -- a machine of which a state comes again runs for ever, and so does the one that was loaded so
 module _ (ds : List Definition) (image : Image) (loaded : IsLoadedFrom ds image) (i j : Incoming) where
-  endless_one : (r : Repeat) → ComesBack (run image) i j r → RunsForEver (machine ds) i j
-  endless_one r c = record {
-    taken = c.taken;
-    took = c.took;
-    runs = λ more can n.
-        (shows_loaded ds image loaded (c.taken ++ more) n).0
-        ∙ running_on (run image (c.taken ++ more) n) (never_ends image (c.taken ++ more) r.first r.again (c.repeats more can).comes_again n);
-  }
-
   endless_so : (frames : List Frame) (again : Option Endless) → IfSome again (IsEndless ds image (functions_of ds) frames i j) → IfSome again (λ e. RunsForEver (machine ds) i j)
   endless_so frames None comes = tt
-  endless_so frames (Some e) comes = endless_one e.repeat comes.comes_back
+  endless_so frames (Some e) comes = (back_for_ever ds image i j e.repeat loaded comes.comes_back).0
 
 module _ (files : Files) where
   some_same : {A : Type 0} (a b : A) → Some a ≡ Some b → a ≡ b

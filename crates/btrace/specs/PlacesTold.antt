@@ -1,6 +1,6 @@
 -- Promise: which place is told where a run was over, for each program.
 use Rattle.std.specs.Prelude.{◌≡◌, ℕ, ◌+◌, ◌<◌, List, [], ◌++◌, Option, Some, None, IfSome}
-use Rattle.bword.specs.ByteEnds.{CanFollow, Incoming, Took}
+use Rattle.bendless.specs.Repeats.{RunsForEver}
 use Rattle.bendless.specs.declared.endless.Endless.{Endless}
 use Rattle.bword.specs.declared.edition.Edition.{Edition}
 use Rattle.blang.specs.declared.code.Definition.{Definition}
@@ -9,7 +9,7 @@ use Rattle.blang.specs.declared.run.Outcome.TheVariants as outcome
 use Rattle.blang.specs.declared.run.Report.TheVariants as report
 use Rattle.blang.specs.declared.run.Trap.{Trap}
 use Rattle.blang.specs.declared.status.TheConstants.{LIMIT, TRAP}
-use Rattle.blang.specs.Machine.{States, machine}
+use Rattle.blang.specs.Machine.{machine}
 use Rattle.blang.specs.Reports.{RunEnds, report_text, state_outcome}
 use Rattle.bmach.specs.Stops.{RunsCall}
 use Rattle.bmach.specs.declared.machine.Active.{Active}
@@ -18,13 +18,6 @@ use Rattle.btools.specs.ProgramLines.{HasLines}
 use Rattle.btrace.specs.Locates.{Locates, told_site}
 use Rattle.btrace.specs.RowTexts.{legend_in}
 use Rattle.btrace.specs.TraceExcluded.{ComesAlways, IsSourceOf}
-
--- It runs after every number of steps, on each input that begins with the bytes that were taken, or on the one whose end
--- was seen.
-pub record RunsForEver (states : States) (i j : Incoming) : Type 0 where
-  pub taken : List ℕ
-  pub took : Took i taken j
-  pub runs : (more : List ℕ) → CanFollow j more → (n : ℕ) → state_outcome (states (taken ++ more) n) ≡ outcome.Limit
 
 module _ (edition : Edition) (source : List ℕ) (files : Files) (ds : List Definition) (steps : ℕ) (ends : RunEnds)
     (text : List ℕ) where

@@ -11,7 +11,7 @@ use Rattle.blang.specs.declared.run.Trap.TheVariants as trap
 use Rattle.bmach.specs.declared.machine.Active.{Active}
 use Rattle.bwhere.specs.Dues.{due_text, number_in, opens}
 use Rattle.bwhere.specs.Sites.{Site, nowhere}
-use Rattle.bwhere.specs.Wheres.{code_meaning, site_of, told_site, unloaded_text, unread_text, uses}
+use Rattle.bwhere.specs.Wheres.{code_meaning, site_of, told_code_site, unloaded_text, unread_text, uses}
 
 opening : map opens (codes "E" ∷ codes "F f" ∷ codes "V v" ∷ codes "X n" ∷ codes "B 2" ∷ codes "x n" ∷ [] ∷ [])
     ≡ (true ∷ true ∷ true ∷ true ∷ false ∷ false ∷ false ∷ [])
@@ -116,13 +116,13 @@ places_by_line = refl
 abbrev at : (place : ℕ) → Active
 at place = record { strings = 9; parameters = 0; place = place; start = 10 }
 
-division_told : told_site text definitions (outcome.Trap trap.ZeroDivisor) (at 2) 3 None
+division_told : told_code_site text definitions (outcome.Trap trap.ZeroDivisor) (at 2) 3 None
     ≡ codes "at     in main     place    2  line    8  step 3\n    b /\n  means: the right operand of / or % is 0\n"
 unfolding digits
 division_told = refl
 
 -- where a state comes again: after how many steps, and the place of its call
-repeat_told : told_site text definitions outcome.Limit (at 1) 7
+repeat_told : told_code_site text definitions outcome.Limit (at 1) 7
     (Some (record { first = 2; again = 5; call = at 0; callers = 0 }))
     ≡ codes "at     in main     place    1  line    7  step 7\n    c 0\n"
     ++ codes "  means: it never ends: after 5 steps all is as it was after 2\n"

@@ -93,8 +93,8 @@ code_meaning outcome.Limit site place = codes "no end within so many steps; --st
 code_meaning result site place = []
 
 -- a place of a function, with its line, and this line
-abbrev pub site_text : Site → (place : ℕ) → List ℕ
-site_text site place =
+abbrev pub code_site_text : Site → (place : ℕ) → List ℕ
+code_site_text site place =
     codes "in " ++ left 8 site.name ++ codes " place " ++ right 4 (decimal place) ++ codes "  line "
     ++ right 4 (decimal (instr_line site place))
 
@@ -106,20 +106,20 @@ abbrev pub site_of : (text : List ℕ) → List Definition → (strings : ℕ) �
 site_of text ds strings = site_among 7 (lines_before text) strings ds
 
 -- that a state comes again, and the place of the call in which it does
-abbrev pub loop_text : (text : List ℕ) → List Definition → Repeat → List ℕ
-loop_text text ds r = let site = site_of text ds r.call.strings in
-    repeat_text r ++ codes "\nloop   " ++ site_text site r.call.place ++ site_line_text text site r.call.place
+abbrev pub code_loop_text : (text : List ℕ) → List Definition → Repeat → List ℕ
+code_loop_text text ds r = let site = site_of text ds r.call.strings in
+    repeat_text r ++ codes "\nloop   " ++ code_site_text site r.call.place ++ site_line_text text site r.call.place
 
-abbrev pub meaning_text : (text : List ℕ) → List Definition → Outcome → Active → Option Repeat → List ℕ
-meaning_text text ds result call None =
+abbrev pub code_meaning_text : (text : List ℕ) → List Definition → Outcome → Active → Option Repeat → List ℕ
+code_meaning_text text ds result call None =
     code_meaning result (site_of text ds call.strings) call.place ++ codes "\n"
-meaning_text text ds result call (Some r) = loop_text text ds r
+code_meaning_text text ds result call (Some r) = code_loop_text text ds r
 
 -- where a run was over, and the number of the step with which it came there; the line there, and what it means
-abbrev pub told_site : (text : List ℕ) → List Definition → Outcome → Active → (number : ℕ) → Option Repeat → List ℕ
-told_site text ds result call number again = let site = site_of text ds call.strings in
-    codes "at     " ++ site_text site call.place ++ codes "  step " ++ decimal number
-    ++ site_line_text text site call.place ++ codes "  means: " ++ meaning_text text ds result call again
+abbrev pub told_code_site : (text : List ℕ) → List Definition → Outcome → Active → (number : ℕ) → Option Repeat → List ℕ
+told_code_site text ds result call number again = let site = site_of text ds call.strings in
+    codes "at     " ++ code_site_text site call.place ++ codes "  step " ++ decimal number
+    ++ site_line_text text site call.place ++ codes "  means: " ++ code_meaning_text text ds result call again
 
 -- A text was told with this answer, or memory was refused for it.
 abbrev pub TellsOrNone : List ℕ → (answer : ℕ) → (old new : Outgoing) → (status : ℕ) → Type 0
@@ -149,7 +149,7 @@ pub data LocatesCode (steps : ℕ) (text : List ℕ) (ends : RunEnds) (status : 
       → Finishes result ends.line told answer → located_status result ≡ Some answer
       → IsOverAt (machine ds) steps ends.input ends.input_after result active made
       → IfSome again (ComesBack (run image) ends.input ends.input_after)
-      → TellsOrNone (told_site text ds result active made again) answer told ends.line_after status
+      → TellsOrNone (told_code_site text ds result active made again) answer told ends.line_after status
       → LocatesCode steps text ends status
   unlocated : (ds : List Definition) (result : Outcome) → IsCodeText text ds → load_fault ds ≡ None
       → RunGives (machine ds) steps ends.input ends.input_after ends.out ends.out_after result

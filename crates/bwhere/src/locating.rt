@@ -4,7 +4,7 @@ ghost use Rattle.blang.specs.Layout.{data_end, shape_of};
 ghost use Rattle.blang.specs.Reports.{run_ends};
 ghost use Rattle.btools.specs.Programs.{load_line};
 ghost use Rattle.bwhere.specs.Sites.{site_shown};
-ghost use Rattle.bwhere.specs.Wheres.{LocatesCode, TellsUnloaded, TellsUnread, TellsOrNone, code_meaning, cut_text, loop_text, meaning_text, site_line_text, site_text, told_site, unread_text, unloaded_text};
+ghost use Rattle.bwhere.specs.Wheres.{LocatesCode, TellsUnloaded, TellsUnread, TellsOrNone, code_meaning, cut_text, code_loop_text, code_meaning_text, site_line_text, code_site_text, told_code_site, unread_text, unloaded_text};
 
 use crate::due::push_due;
 use crate::loading::{push_line, push_unloaded};
@@ -148,17 +148,17 @@ fn tell_place<D: ByteOut>(
     diag: &mut D,
 ) -> Status
     requires { data_end (map shape_of definitions.now) ≤ 65536 }
-    ensures tells { TellsOrNone (told_site code.now definitions.now stop.outcome stop.call stop.steps again)
+    ensures tells { TellsOrNone (told_code_site code.now definitions.now stop.outcome stop.call stop.steps again)
         status (D.outgoing diag.old) (D.outgoing diag.new) result }
     ensures same { D.lender diag.new ≡ D.lender diag.old }
 {
-    match told_site(alloc, code, definitions, stop, again) {
+    match told_code_site(alloc, code, definitions, stop, again) {
         Ok(text) => tell(text.as_slice(), status, diag),
         Err(_) => status::MEMORY,
     }
 }
 
-fn told_site(
+fn told_code_site(
     alloc: Global,
     code: &[u8],
     definitions: &[Definition],
@@ -166,7 +166,7 @@ fn told_site(
     again: Option<Repeat>,
 ) -> Result<Text, AllocError>
     requires { data_end (map shape_of definitions.now) ≤ 65536 }
-    ensures { IfOk result (λ text. text ≡ told_site code.now definitions.now stop.outcome stop.call stop.steps again) }
+    ensures { IfOk result (λ text. text ≡ told_code_site code.now definitions.now stop.outcome stop.call stop.steps again) }
 {
     let site = site_of(definitions, lines_before(code), stop.call.strings);
     let mut text = Text::new(alloc);
@@ -188,7 +188,7 @@ fn push_meaning(
     again: Option<Repeat>,
 ) -> Result<(), AllocError>
     requires { data_end (map shape_of definitions.now) ≤ 65536 }
-    ensures { OnOk result (text.new ≡ text.old ++ meaning_text code.now definitions.now stop.outcome stop.call again) }
+    ensures { OnOk result (text.new ≡ text.old ++ code_meaning_text code.now definitions.now stop.outcome stop.call again) }
 {
     if let Some(repeat) = again {
         return push_loop(text, code, definitions, repeat);
@@ -206,7 +206,7 @@ fn push_loop(
     repeat: Repeat,
 ) -> Result<(), AllocError>
     requires { data_end (map shape_of definitions.now) ≤ 65536 }
-    ensures { OnOk result (text.new ≡ text.old ++ loop_text code.now definitions.now repeat) }
+    ensures { OnOk result (text.new ≡ text.old ++ code_loop_text code.now definitions.now repeat) }
 {
     let site = site_of(definitions, lines_before(code), repeat.call.strings);
     push_repeat(text, repeat)?;
@@ -216,7 +216,7 @@ fn push_loop(
 }
 
 fn push_site(text: &mut Text, site: Site<'_>, place: usize) -> Result<(), AllocError>
-    ensures { OnOk result (text.new ≡ text.old ++ site_text (site_shown site.entry) place) }
+    ensures { OnOk result (text.new ≡ text.old ++ code_site_text (site_shown site.entry) place) }
 {
     text.push(b"in ")?;
     text.push_left(8, site.name)?;

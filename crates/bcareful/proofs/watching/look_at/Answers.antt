@@ -10,12 +10,14 @@ pub returns-clause-finding : goal.returns-clause-finding
 returns-clause-finding g c =
     let a = atlas_of c.args.atlas.now in
     let marks = marks_of c.args.marks.now in
-    let word = c.word-modified.ensures ∙ (λ k. slice_index c.args.stepper.now.store ((c.operand_of.ensures ∙ (λ j. slice_index (c.operands-operands.ensures j) 1)) k)) in
-    c.look_by.ensures.finding ∙ (λ k. finding_of (step_by a (c.top.ensures k) (c.operands-operands.ensures k) (word k) marks))
+    let counted = c.word.ensures ∙ (λ k. slice_index c.args.stepper.now.store ((c.operand_of.ensures ∙ (λ j. slice_index (c.operands-operands.ensures j) 0)) k)) in
+    let modified = c.word-2.ensures ∙ (λ k. slice_index c.args.stepper.now.store ((c.operand_of-2.ensures ∙ (λ j. slice_index (c.operands-operands.ensures j) 1)) k)) in
+    c.look_by.ensures.finding ∙ (λ k. finding_of (step_by a (c.top.ensures k) (c.operands-operands.ensures k) (record { counted = counted k; modified = modified k }) marks))
 
 pub returns-clause-effect : goal.returns-clause-effect
 returns-clause-effect g c =
     let a = atlas_of c.args.atlas.now in
     let marks = marks_of c.args.marks.now in
-    let word = c.word-modified.ensures ∙ (λ k. slice_index c.args.stepper.now.store ((c.operand_of.ensures ∙ (λ j. slice_index (c.operands-operands.ensures j) 1)) k)) in
-    c.look_by.ensures.effect ∙ (λ k. effect_of (step_by a (c.top.ensures k) (c.operands-operands.ensures k) (word k) marks))
+    let counted = c.word.ensures ∙ (λ k. slice_index c.args.stepper.now.store ((c.operand_of.ensures ∙ (λ j. slice_index (c.operands-operands.ensures j) 0)) k)) in
+    let modified = c.word-2.ensures ∙ (λ k. slice_index c.args.stepper.now.store ((c.operand_of-2.ensures ∙ (λ j. slice_index (c.operands-operands.ensures j) 1)) k)) in
+    c.look_by.ensures.effect ∙ (λ k. effect_of (step_by a (c.top.ensures k) (c.operands-operands.ensures k) (record { counted = counted k; modified = modified k }) marks))

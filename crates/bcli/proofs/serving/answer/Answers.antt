@@ -50,7 +50,8 @@ returns-in-Locate-clause-answers g c =
 
 pub returns-in-GoCareful-clause-answers : goal.returns-in-GoCareful-clause-answers
 returns-in-GoCareful-clause-answers g c =
-    answered _ _ _ _ c.args.question (questions.GoCareful c.in-GoCareful.care c.in-GoCareful.steps) _ _ c.in-GoCareful.is c.run_carefully.ensures.runs
+    answered _ _ _ _ c.args.question (questions.GoCareful c.in-GoCareful.care c.in-GoCareful.steps) _ _ c.in-GoCareful.is
+    (rw (← c.care_taken.ensures) c.go_careful.ensures.runs)
 
 pub returns-in-Try-clause-answers : goal.returns-in-Try-clause-answers
 returns-in-Try-clause-answers g c =

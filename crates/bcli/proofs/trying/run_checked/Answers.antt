@@ -1,4 +1,4 @@
 use Rattle.bcli.proofs.trying.run_checked.Goals as goal
 
 pub returns-clause-runs : goal.returns-clause-runs
-returns-clause-runs g c = rw c.if-checked-ne-DONE.false c.run_carefully.ensures.runs
+returns-clause-runs g c = rw c.if-checked-ne-DONE.false c.go_careful.ensures.runs

@@ -35,7 +35,7 @@ returns-then-is_at g c more can =
     let is = c.left-left.ensures.stands in
     let long : k.callers ≤ length p'.below = omega (arith, c.if-callers-kept.true, c.callers.ensures) in
     let came = came_on first bytes n p p' u u' _ _ is inv.came c.in-Ok.ensures.gives c.in-Ok.ensures.image in
-    let kept = kept_on first bytes k n p p' u u' _ _ is inv.came c.in-Ok.ensures.gives long inv.kept in
+    let kept = kept_on first bytes k n p p' u u' _ _ is inv.came c.in-Ok.ensures.gives c.in-Ok.ensures.image long inv.kept in
     let later : k.made < n + 1 = let l = inv.kept.later in omega (arith, l) in
     let at : IsAt k p' (length u'.left) = subst (IsAt k p') c.left-left.ensures.count (c.is_at.ensures.is_at c.if-is_at.true) in
     let same = c.is_at.ensures.same in
@@ -60,7 +60,7 @@ loop-made-preserved-then-made-kept g c =
     let inv = c.loop-made.invariant in
     let is = c.left-left.ensures.stands in
     let long : k.callers ≤ length p'.below = omega (arith, c.if-callers-kept.true, c.callers.ensures) in
-    let kept = kept_on first bytes k n p p' u u' _ _ is inv.came c.in-Ok.ensures.gives long inv.kept in
+    let kept = kept_on first bytes k n p p' u u' _ _ is inv.came c.in-Ok.ensures.gives c.in-Ok.ensures.image long inv.kept in
     record {
       came = came_on first bytes n p p' u u' _ _ is inv.came c.in-Ok.ensures.gives c.in-Ok.ensures.image;
       kept = kept_same first bytes k c.is_at.new.self (n + 1) p' u'.left u'.is_over c.is_at.ensures.same kept;

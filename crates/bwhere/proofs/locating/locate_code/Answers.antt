@@ -14,7 +14,7 @@ use Rattle.bendless.proofs.Searching.{store_fits}
 use Rattle.bmach.specs.Loading.{IsFault}
 use Rattle.btools.specs.Programs.{load_line}
 use Rattle.btools.proofs.Functions.{data_fit}
-use Rattle.bwhere.specs.Wheres.{LocatesCode, TellsOrNone, TellsUnloaded, TellsUnread, located, no_memory, not_begun, told_site, unlocated, unloaded, unread}
+use Rattle.bwhere.specs.Wheres.{LocatesCode, TellsOrNone, TellsUnloaded, TellsUnread, located, no_memory, not_begun, told_code_site, unlocated, unloaded, unread}
 use Rattle.btools.proofs.Stopped.{no_other, not_none, runs_whole, stops_run}
 use Rattle.bwhere.proofs.locating.locate_code.Goals as goal
 use Rattle.bwhere.proofs.locating.locate_code.Goals.{in_default-located_status-2, in_default-located_status}
@@ -71,7 +71,7 @@ returns-in-Some-clause-locates g c =
     c.finish-told.ensures.gives (sym c.located_status.ensures ∙ c.in-Some.is ∙ ap Some c.if-status-told.true)
     (stops_run ds image c.in-Ok-begin.stepper loaded c.in-Ok-begin.ensures c.args.steps _ _ stop.outcome stop.call stop.steps ran.ensures.stops)
     (comes_back (run image) _ _ ran.result.record again.result ran.ensures.records again.ensures.whole again.ensures.repeats)
-    (subst (λ (es : List Definition). TellsOrNone (told_site c.args.code.now es stop.outcome stop.call stop.steps again.result) c.finish-told.result (g.D.ByteOut.outgoing c.finish-told.new.diag) (g.D.ByteOut.outgoing c.tell_place.new.diag) c.tell_place.result)
+    (subst (λ (es : List Definition). TellsOrNone (told_code_site c.args.code.now es stop.outcome stop.call stop.steps again.result) c.finish-told.result (g.D.ByteOut.outgoing c.finish-told.new.diag) (g.D.ByteOut.outgoing c.tell_place.new.diag) c.tell_place.result)
     (c.deref-in-Some.ensures.value ∙ sym c.deref.ensures.value) c.tell_place.ensures.tells)
 
 pub returns-clause-locates : goal.returns-clause-locates

@@ -1,0 +1,4 @@
+main() {
+    auto i;
+    while(i < 3) ;
+}
