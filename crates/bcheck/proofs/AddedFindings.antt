@@ -20,7 +20,7 @@ use Rattle.blang.specs.declared.code.Definition.{Definition}
 use Rattle.blang.specs.declared.run.LoadFault.{LoadFault}
 use Rattle.blang.specs.declared.run.LoadFault.TheVariants as fault
 use Rattle.blang.specs.declared.token.Diagnostic.{Diagnostic}
-use Rattle.bcheck.specs.Checks.{EditParts, IsMended, Mends, edit_object, edits_text, file_member, mended_line, mended_lines}
+use Rattle.bcheck.specs.Checks.{EditParts, IsMended, Mends, cut_mark, edit_object, edits_text, file_member, mended_line, mended_lines}
 use Rattle.bcheck.specs.Checks.{AreFindings, EachOutcome, FindingParts, IsReason, IsWhole, Reason, Says, Second, fault_in, finding_at, finding_column, finding_end, finding_line, finding_unit, finding_unit_end, finding_text, findings_text, is_on_line, outcome_of, second_text, severity_of, severity_word, shown_text, is_of_several, spot_words}
 use Rattle.bplaces.specs.Columns.{column_after}
 use Rattle.btools.specs.Quoting.{file_text, json_text}
@@ -29,7 +29,7 @@ use Rattle.bcheck.specs.Findings.{AddsFinding, AreWhole, Improves, IsExcerpt, Is
 use Rattle.bcheck.specs.UndefinedNames.{IsAtName, Tells, name_in, told_subjects}
 use Rattle.bcheck.specs.declared.mention.Subject.{Subject}
 use Rattle.bcheck.specs.declared.finding.Finding.{Finding}
-use Rattle.bcheck.specs.Pieces.{edit_text, line_text, piece_text, spot_text}
+use Rattle.bcheck.specs.Pieces.{change_text, edit_text, line_text, piece_text, spot_text}
 use Rattle.bcheck.specs.declared.edit.Edit.{Edit}
 use Rattle.bcheck.specs.declared.excerpt.Excerpt.{Excerpt}
 use Rattle.bcheck.specs.declared.pieces.Fragment.{Fragment}
@@ -78,10 +78,17 @@ adds_edit e old one two new stop is e0 e1 e2 =
     e2 ∙ ap (λ n. two ++ rest n) is ∙ ap (λ t. t ++ rest (min (e.column + e.len) most)) (e1 ∙ ap (λ t. t ++ member) e0)
     ∙ edit_pieces old (codes "{") member (codes "\"line\":") (decimal e.at.line) (codes ",\"column\":") (decimal e.column) (codes ",\"end\":") (decimal (min (e.column + e.len) most)) (codes ",\"utf16_column\":") (decimal e.unit) (codes ",\"utf16_end\":") (decimal e.unit_end) (codes ",\"offset\":") (decimal e.start) (codes ",\"length\":") (decimal e.len) (codes ",\"text\":") (json_text e.text.now) (codes "}")
 
-pub adds_line : (e : Edit) (old new : List ℕ)
-    → new ≡ old ++ (codes "\n  line " ++ (decimal e.at.line ++ (codes " mended: " ++ (flat_map shown_text e.left.now ++ (e.text.now ++ (flat_map shown_text e.right.now ++ []))))))
+pub adds_line : (e : Edit) (old new mark : List ℕ) → mark ≡ cut_mark e.is_cut
+    → new ≡ old ++ (codes "\n  line " ++ (decimal e.at.line ++ (codes " mended: " ++ (flat_map shown_text e.left.now ++ (e.text.now ++ (flat_map shown_text e.right.now ++ (mark ++ [])))))))
     → new ≡ old ++ line_text e
-adds_line e old new is = is ∙ ap (λ t. old ++ (codes "\n  line " ++ (decimal e.at.line ++ (codes " mended: " ++ (flat_map shown_text e.left.now ++ (e.text.now ++ t)))))) (append-nil (flat_map shown_text e.right.now))
+adds_line e old new mark em is = is ∙ ap (λ t. old ++ (codes "\n  line " ++ (decimal e.at.line ++ (codes " mended: " ++ (flat_map shown_text e.left.now ++ (e.text.now ++ (flat_map shown_text e.right.now ++ t))))))) (append-nil mark ∙ em)
+
+pub adds_change : (e : Edit) (old new file mark : List ℕ) → file ≡ e.at.file.now → mark ≡ cut_mark e.is_cut
+    → new ≡ old ++ (file_text file ++ (codes ":" ++ (decimal e.at.line ++ (codes ":" ++ (decimal e.column ++ (codes ": mended: " ++ (flat_map shown_text e.left.now ++ (e.text.now ++ (flat_map shown_text e.right.now ++ (mark ++ (codes "\n" ++ [])))))))))))
+    → new ≡ old ++ change_text e
+adds_change e old new file mark ef em is =
+    is ∙ ap (λ f. old ++ (file_text f ++ (codes ":" ++ (decimal e.at.line ++ (codes ":" ++ (decimal e.column ++ (codes ": mended: " ++ (flat_map shown_text e.left.now ++ (e.text.now ++ (flat_map shown_text e.right.now ++ (mark ++ codes "\n"))))))))))) ef
+    ∙ ap (λ t. old ++ (file_text e.at.file.now ++ (codes ":" ++ (decimal e.at.line ++ (codes ":" ++ (decimal e.column ++ (codes ": mended: " ++ (flat_map shown_text e.left.now ++ (e.text.now ++ (flat_map shown_text e.right.now ++ (t ++ codes "\n"))))))))))) em
 
 -- the first edit and the others
 pub first_and_others : (es : List Edit) (d : Edit) → 1 ≤ length es → get_or es 0 d ∷ take (length es - 1) (drop 1 es) ≡ es

@@ -1,11 +1,13 @@
 -- What the contract of a check excludes.
 use Rattle.std.proofs.Common.{◌≡◌, ◌≢◌, ◌∙◌, ◌<◌, ◌≤◌, ◌+◌, ◌*◌, ℕ, suc, List, [], ◌∷◌, ◌++◌, false, IsTrue, Option, Some, None, ap, append_assoc, arith, codes, decimal, drop, length, map, refl, subst, sym, take, inl, inr, ⊎_elim, true}
 use Rattle.std.specs.Io.{StartsWith}
-use Rattle.std.specs.Io.KnownBytes.{Appends}
 use Rattle.std.specs.List.{All, AllZip, flat_map}
 use Rattle.std.proofs.Math.Seq.{take-append_seam}
 use Rattle.std.proofs.lemmas.Bool.{both_ways}
-use Rattle.std.proofs.lemmas.List.{append_cancel_left}
+use Rattle.std.proofs.lemmas.List.{append_cancel_left, append_cancel_right}
+use Rattle.std.proofs.lemmas.Slice.Eq.{bytes_eq-Decides}
+use Rattle.std.specs.Prelude.{not}
+use Rattle.bword.specs.Words.{same_name}
 use Rattle.bword.specs.ByteEnds.{Grew, Outgoing, Refuses}
 use Rattle.bword.specs.declared.edition.Edition.{Edition}
 use Rattle.bword.specs.declared.edition.Edition.TheVariants as editions
@@ -32,7 +34,7 @@ use Rattle.bsources.specs.Files.{File, Files, Line, own_line, own_line_among}
 use Rattle.bcheck.specs.Checks.{IsAtToken, IsOver, Reason, StandsOn, code_keyword, diagnostic_code, finding_at}
 use Rattle.bplaces.specs.Columns.{column_after}
 use Rattle.btools.specs.Quoting.{file_text, json_text}
-use Rattle.bcheck.specs.Checks.{EditParts, IsMended, Mends, mended_lines}
+use Rattle.bcheck.specs.Checks.{EditParts, IsMended, Mends, mended, mended_lines}
 use Rattle.bcheck.specs.Checks.{AreFindings, Check, Checks, FindingParts, Outcome, TellsFirst, finding_column, fix_and_places, finding_head, finding_line, finding_mark, finding_shown, finding_start, finding_text, IsWhole, Says, fault_in, outcome_of, findings_text, severity_of, shown_in_form, told_first}
 use Rattle.bcheck.specs.CheckExcluded.{BeginsWith, ComesTo, Excluded, IsTold, Never, NeverOf, file_at, file_of, HasLines, finding_count, findings_of, outcome_in, has_no_colon, is_printed, newlines}
 use Rattle.bcheck.specs.Tokens.{has_token_on, is_in_token}
@@ -362,6 +364,20 @@ no_mend c line status text to t wrong is none other h =
     ap (λ f. newlines (findings_text f status c.files w.are.0)) is ∙ lines_unmended (severity_of status) c.files w.are.0 each in
     other (lines_told c o line status text w ∙ ap (λ f. newlines (shown_in_form f line) + newlines (findings_text c.form status c.files w.are.0)) is ∙ ap (λ n. newlines line + n) (lines ∙ ap (λ n. n * 4) (count_told c line status text to w wrong)))
 
+-- what an edit puts in isn't what it takes out
+other_text : (text old : List ℕ) → text ≡ old → IsTrue (not (same_name text old)) → ⊥
+other_text text old e h =
+    let same : same_name text old ≡ true = (bytes_eq-Decides text old).1 e in
+    let no : false ≡ true = ap not (sym same) ∙ h in
+    cc
+
+no_change : (source : List ℕ) (e : EditParts source) → mended e ≡ source → ⊥
+no_change source e h =
+    let here = e.before ++ e.left in
+    let after = e.right ++ e.after in
+    let same : e.text ++ after ≡ e.old ++ after = append_cancel_left here (e.text ++ after) (e.old ++ after) (h ∙ e.split) in
+    other_text e.text e.old (append_cancel_right e.text e.old after same) e.differs
+
 -- the sentence of each finding stands in the text of all
 people_words : (h t a b c d g e f n l : List ℕ) → (h ++ (t ++ a ++ b ++ c ++ d ++ g ++ e ++ f) ++ n) ++ l ≡ h ++ (t ++ (a ++ (b ++ (c ++ (d ++ (g ++ (e ++ (f ++ (n ++ l)))))))))
 people_words h t a b c d g e f n l = simp append_assoc refl
@@ -489,6 +505,7 @@ excluded = record {
   name_left_out = name_left_out;
   odd_lines = odd_lines;
   no_mend = no_mend;
+  no_change = no_change;
   other_bytes = other_bytes;
   no_failure = λ c line status to is none h. device c.form (comes_to c line status to) c.files (shown_in_form c.form line) status c.status c.out c.out_after (comes_small c line status to) is none (tells c line status to h);
   no_refusal = λ c line status to is none some h. memory c.form (comes_to c line status to) c.files (shown_in_form c.form line) status c.status c.out c.out_after (comes_small c line status to) is none some (tells c line status to h);

@@ -1,14 +1,13 @@
 -- An edit, by the parts of the source around it.
-use Rattle.std.proofs.Common.{◌≡◌, ◌∙◌, ◌+◌, ◌≤◌, ℕ, List, [], ◌++◌, Bool, ap, arith, drop, length, refl, sym, take}
+use Rattle.std.proofs.Common.{◌≡◌, ◌∙◌, ◌+◌, ℕ, List, [], ◌++◌, Bool, ap, arith, drop, length, sym, take}
 use Rattle.std.specs.Prelude.{min}
 use Rattle.std.proofs.lemmas.List.{drop_all, take-append-drop, take_all}
 use Rattle.bword.specs.ByteEnds.{most}
-use Rattle.bplaces.specs.Columns.{column_after}
 use Rattle.bplaces.specs.Units.{first_unit, unit_column, units_after}
 use Rattle.bplaces.specs.declared.units.UnitPlace.{UnitPlace}
 use Rattle.bplaces.proofs.UnitSteps.{units_marked}
 use Rattle.bsources.specs.Files.{Line}
-use Rattle.bcheck.specs.Checks.{edit_words}
+use Rattle.bcheck.specs.Checks.{change_words, edit_words, mended_words}
 
 -- the parts are those of a source, and with a text they are those of the source with it
 module _ (source before rest old after b left right tail text : List ℕ) (start len : ℕ) (e1 : before ≡ take start source) (e2 : rest ≡ drop start source) (e3 : old ≡ take len rest) (e4 : after ≡ drop len rest) (e5 : b ++ left ≡ before) (e6 : right ++ tail ≡ after) where
@@ -44,3 +43,10 @@ pub same_words : (t u : Bool) (l m : Line) (c d v w x y o p k : ℕ) (text : Lis
 same_words t u l m c d v w x y o p k text et el ec ev ex eo =
     ap (λ z. edit_words z l c (min (c + k) most) v x o k text) et ∙ ap (λ z. edit_words u z c (min (c + k) most) v x o k text) el ∙ ap (λ z. edit_words u m z (min (z + k) most) v x o k text) ec
     ∙ ap (λ z. edit_words u m d (min (d + k) most) z x o k text) ev ∙ ap (λ z. edit_words u m d (min (d + k) most) w z o k text) ex ∙ ap (λ z. edit_words u m d (min (d + k) most) w y z k text) eo
+
+pub same_line : (l m : Line) (left text right : List ℕ) (s t : Bool) → l ≡ m → s ≡ t → mended_words l.line left text right s ≡ mended_words m.line left text right t
+same_line l m left text right s t e f = ap (λ (x : Line). mended_words x.line left text right s) e ∙ ap (mended_words m.line left text right) f
+
+pub same_change : (l m : Line) (c d : ℕ) (left text right : List ℕ) (s t : Bool) → l ≡ m → c ≡ d → s ≡ t → change_words l c left text right s ≡ change_words m d left text right t
+same_change l m c d left text right s t e f g =
+    ap (λ x. change_words x c left text right s) e ∙ ap (λ x. change_words m x left text right s) f ∙ ap (change_words m d left text right) g

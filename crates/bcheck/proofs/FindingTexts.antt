@@ -1,6 +1,6 @@
 -- The texts of findings: where each ends, how many lines it has, and of which bytes it consists.
 use Rattle.std.proofs.Common.{get_or, ◌≡◌, ◌≢◌, ◌∙◌, ◌<◌, ◌≤◌, ◌+◌, ◌*◌, ◌/◌, ◌%◌, ◌==◌, ℕ, zero, suc, List, [], ◌∷◌, ◌++◌, Bool, true, false, IsTrue, if◌then◌else◌, ap, append-nil, append_assoc, arith, codes, decimal, length, nat_le, Option, Some, None, refl, replicate, subst, sym}
-use Rattle.std.specs.Prelude.{◌&&◌, ◌||◌, min, not}
+use Rattle.std.specs.Prelude.{◌||◌, min, not}
 use Rattle.bword.specs.ByteEnds.{most}
 use Rattle.std.specs.Fmt.{digits, digits_onto, digit_glyph}
 use Rattle.std.specs.Int.{is_in_range}
@@ -9,12 +9,12 @@ use Rattle.std.specs.List as lists
 use Rattle.std.proofs.lemmas.List.Elements.{All-head, All-tail}
 use Rattle.std.proofs.lemmas.Bool.Decides.{nat_tests}
 use Rattle.std.proofs.lemmas.List.{append_cancel_left}
-use Rattle.std.proofs.Math.Nat.{add_comm, mod-lt, suc-mul, zero-add, zero-mul}
+use Rattle.std.proofs.Math.Nat.{mod-lt, suc-mul, zero-add, zero-mul}
 use Rattle.std.proofs.lemmas.List.Folds.{list_all-append}
 use Rattle.std.proofs.lemmas.List.Sums.{sum_by-append}
 use Rattle.blang.specs.Cut.{line_number_after}
 use Rattle.bsources.specs.Files.{Files, Line, own_line}
-use Rattle.bcheck.specs.Checks.{EditParts, edit_at, edit_object, edit_words, edits_text, mended_line, mended_lines}
+use Rattle.bcheck.specs.Checks.{EditParts, cut_mark, edit_at, edit_object, edit_words, edits_text, goes_on, mended_line, mended_lines}
 use Rattle.bcheck.specs.Checks.{FindingParts, Second, fix_and_places, second_text, file_member, finding_at, finding_column, finding_end, finding_unit, finding_unit_end, end_words, ends_text, is_of_several, spot_words, finding_head, finding_line, finding_mark, finding_shown, finding_start, finding_text, finding_words, is_on_line, shown_text, severity_word}
 use Rattle.bplaces.specs.Columns.{column_after}
 use Rattle.btools.specs.Quoting.{file_byte, file_text, json_byte, json_text}
@@ -303,12 +303,20 @@ edits_one files (e ∷ es) =
 
 -- the line with an edit, after the newline before it
 abbrev edit_line : {source : List ℕ} → Files → EditParts source → List ℕ
-edit_line files e = codes "  line " ++ (decimal (edit_at files e).line ++ (codes " mended: " ++ (flat_map shown_text e.left ++ (e.text ++ flat_map shown_text e.right))))
+edit_line files e = codes "  line " ++ (decimal (edit_at files e).line ++ (codes " mended: " ++ (flat_map shown_text e.left ++ (e.text ++ (flat_map shown_text e.right ++ cut_mark (goes_on e.after))))))
+
+mark_one_line : (b : Bool) → IsTrue (is_one_line (cut_mark b))
+mark_one_line true = refl
+mark_one_line false = refl
+
+mark_printed : (b : Bool) → IsTrue (is_on_line (cut_mark b))
+mark_printed true = refl
+mark_printed false = refl
 
 edit_line_one : {source : List ℕ} → (files : Files) (e : EditParts source) → IsTrue (is_one_line (edit_line files e))
 edit_line_one files e =
     (more (codes "  line ") _ refl (more (decimal (edit_at files e).line) _ (digits_line (edit_at files e).line) (more (codes " mended: ") _ refl
-    (more (flat_map shown_text e.left) _ (words_line (flat_map shown_text e.left) (shown_on_line e.left)) (more e.text _ (words_line e.text e.on_line) (last_line (flat_map shown_text e.right) (words_line (flat_map shown_text e.right) (shown_on_line e.right)))))))).line
+    (more (flat_map shown_text e.left) _ (words_line (flat_map shown_text e.left) (shown_on_line e.left)) (more e.text _ (words_line e.text e.on_line) (more (flat_map shown_text e.right) _ (words_line (flat_map shown_text e.right) (shown_on_line e.right)) (last_line (cut_mark (goes_on e.after)) (mark_one_line (goes_on e.after))))))))).line
 
 -- what comes after the marks: lines with edits, the fix and the rest
 abbrev after_marks : {source : List ℕ} → Files → List (EditParts source) → (fix rest : List ℕ) → List ℕ
@@ -365,10 +373,10 @@ after_alike files m n [] [] f g a b hm hn hf hg e =
     following (codes "  fix: " ++ f) (codes "  fix: " ++ g) a b (fix_is_one f hf) (fix_is_one g hg) (following m n _ _ hm hn e)
 after_alike files m n [] (x ∷ fs) f g a b hm hn hf hg e =
     let here = following m n ((codes "  fix: " ++ f) ++ 10 ∷ a) (edit_line files x ++ after_marks files fs g b) hm hn (e ∙ ap (λ t. n ++ t) (one_edit files x fs g b)) in
-    no_fix (f ++ 10 ∷ a) ((decimal (edit_at files x).line ++ (codes " mended: " ++ (flat_map shown_text x.left ++ (x.text ++ flat_map shown_text x.right)))) ++ after_marks files fs g b) here
+    no_fix (f ++ 10 ∷ a) ((decimal (edit_at files x).line ++ (codes " mended: " ++ (flat_map shown_text x.left ++ (x.text ++ (flat_map shown_text x.right ++ cut_mark (goes_on x.after)))))) ++ after_marks files fs g b) here
 after_alike files m n (x ∷ es) [] f g a b hm hn hf hg e =
     let here = following m n (edit_line files x ++ after_marks files es f a) ((codes "  fix: " ++ g) ++ 10 ∷ b) hm hn (ap (λ t. m ++ t) (sym (one_edit files x es f a)) ∙ e) in
-    no_fix (g ++ 10 ∷ b) ((decimal (edit_at files x).line ++ (codes " mended: " ++ (flat_map shown_text x.left ++ (x.text ++ flat_map shown_text x.right)))) ++ after_marks files es f a) (sym here)
+    no_fix (g ++ 10 ∷ b) ((decimal (edit_at files x).line ++ (codes " mended: " ++ (flat_map shown_text x.left ++ (x.text ++ (flat_map shown_text x.right ++ cut_mark (goes_on x.after)))))) ++ after_marks files es f a) (sym here)
 after_alike files m n (x ∷ es) (y ∷ fs) f g a b hm hn hf hg e =
     after_alike files (edit_line files x) (edit_line files y) es fs f g a b (edit_line_one files x) (edit_line_one files y) hf hg
     (following m n (edit_line files x ++ after_marks files es f a) (edit_line files y ++ after_marks files fs g b) hm hn (ap (λ t. m ++ t) (sym (one_edit files x es f a)) ∙ e ∙ ap (λ t. n ++ t) (one_edit files y fs g b)))
@@ -575,7 +583,7 @@ module _ (files : Files) where
   lines_printed (e ∷ es) =
       both_printed (mended_line files e) (flat_map (mended_line files) es)
       ((add (codes "\n  line ") _ refl (add (decimal (edit_at files e).line) _ (digits_printed (edit_at files e).line) (add (codes " mended: ") _ refl
-      (add (flat_map shown_text e.left) _ (words_printed (flat_map shown_text e.left) (shown_on_line e.left)) (add e.text _ (words_printed e.text e.on_line) (last_words (flat_map shown_text e.right) (words_printed (flat_map shown_text e.right) (shown_on_line e.right)))))))).printed)
+      (add (flat_map shown_text e.left) _ (words_printed (flat_map shown_text e.left) (shown_on_line e.left)) (add e.text _ (words_printed e.text e.on_line) (add (flat_map shown_text e.right) _ (words_printed (flat_map shown_text e.right) (shown_on_line e.right)) (last_words (cut_mark (goes_on e.after)) (words_printed (cut_mark (goes_on e.after)) (mark_printed (goes_on e.after)))))))))).printed)
       (lines_printed es)
 
   fix_json_printed : {source : List ℕ} → (p : FindingParts source) → IsTrue (is_on_line p.fix) → InJson → IsTrue (is_printed (fix_and_places files p))

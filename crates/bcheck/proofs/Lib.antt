@@ -1,4 +1,5 @@
 pub mod AddedFindings
+pub mod ChangeSteps
 pub mod CheckSteps
 pub mod CheckExcluded
 pub mod EditSteps

@@ -1,6 +1,7 @@
 -- A source with an edit, by the verdicts on both.
-use Rattle.std.proofs.Common.{◌≡◌, ◌∙◌, ◌<◌, ℕ, List, [], Bool, true, false, Option, Some, None, ap, arith, map, refl, subst, sym}
-use Rattle.std.specs.Prelude.{nat_lt}
+use Rattle.std.proofs.Common.{◌≡◌, ◌∙◌, ◌<◌, ◌⊎◌, ℕ, List, [], Bool, true, false, Option, Some, None, Result, Ok, Err, ap, arith, inl, inr, length, map, refl, subst, sym}
+use Rattle.std.specs.Prelude.{MatchResult, nat_lt}
+use Rattle.std.specs.Global.{Vec}
 use Rattle.std.proofs.lemmas.Bool.Decides.{nat_tests}
 use Rattle.bword.specs.declared.edition.Edition.{Edition}
 use Rattle.blang.specs.Code.{code_of}
@@ -8,10 +9,14 @@ use Rattle.blang.specs.Compiles.{Compilation, CompilesTo}
 use Rattle.blang.specs.Cut.{tokens_from}
 use Rattle.blang.specs.Layout.{load_fault}
 use Rattle.blang.specs.declared.run.LoadFault.{LoadFault}
-use Rattle.blang.specs.declared.status.TheConstants.{DONE}
+use Rattle.blang.specs.declared.status.TheConstants.{DONE, REFUSED}
 use Rattle.blang.specs.declared.token.Diagnostic.{Diagnostic}
 use Rattle.bcheck.specs.Checks.{IsLater, Judged, status_told, told_first, verdict_line}
-use Rattle.bcheck.specs.Findings.{Improves, IsStopOf, is_better}
+use Rattle.bcheck.specs.Findings.{FewerNames, Improves, IsCompiled, IsStopOf, Surpasses, definitions_in, definitions_of, is_better}
+use Rattle.bcheck.specs.UndefinedNames.{told_subjects}
+use Rattle.bcheck.specs.declared.verdict.Judgement.{Judgement}
+use Rattle.blang.specs.declared.code.Definition.{Definition}
+use Rattle.btools.specs.Programs.{HasFault, IsCodeOf}
 use Rattle.bcheck.specs.declared.verdict.Verdict.{Verdict}
 use Rattle.bcheck.specs.declared.verdict.Verdict.TheVariants as verdict
 
@@ -60,10 +65,42 @@ still_done verdict.Clean (verdict.Unloaded f) is done = cc
 still_done (verdict.Faulty line d) w is done = let no : ◌≡◌ {A = ℕ} 1 0 = done in absurd (omega (arith, no))
 still_done (verdict.Unloaded f) w is done = let no : ◌≡◌ {A = ℕ} 132 0 = done in absurd (omega (arith, no))
 
--- a better verdict is one on a better source
-pub improved : (edition : Edition) (source new : List ℕ) (v w : Verdict) → Judged edition source v → IsStopOf edition source v → Judged edition new w → IsStopOf edition new w → is_better w v ≡ true → Improves edition source new
-improved edition source new v w j s k t is =
+-- the definitions that were compiled are those of the source, where it has no fault
+code_of_both : (edition : Edition) (source : List ℕ) (code : Result (Vec Definition) Diagnostic) → MatchResult code (λ v. IsCodeOf edition source v.items) (HasFault edition source)
+    → (r : Compilation) (g : CompilesTo [] (tokens_from edition 1 source) r) → r.stop ≡ None → map code_of g.definitions ≡ definitions_of code
+code_of_both edition source (Ok v) is r g none = (is r g).1
+code_of_both edition source (Err d) is r g none = let no : Some d ≡ None = sym (is r g) ∙ none in cc
+
+-- what didn't load does so, or has fewer names that nothing defines
+fewer_named : (v w : Verdict) (a b ds before : List Definition) (old new : Option Diagnostic) (g h : ℕ) → is_better w v ≡ true → FewerNames w v ds before → StopIs v old → StopIs w new → status_told v ≡ g → status_told w ≡ h
+    → (old ≡ None → a ≡ before) → (new ≡ None → b ≡ ds) → g ≡ REFUSED → (h ≡ DONE) ⊎ (length (told_subjects b) < length (told_subjects a))
+fewer_named v verdict.Clean a b ds before old new g h is few before_is after_is e f known also refused = inl (sym f)
+fewer_named (verdict.Unloaded x) (verdict.Unloaded y) a b ds before old new g h is few before_is after_is e f known also refused =
+    inr (subst (λ x. length (told_subjects x) < length (told_subjects a)) (sym (also after_is)) (subst (λ x. length (told_subjects ds) < length (told_subjects x)) (sym (known before_is)) few))
+fewer_named verdict.Clean (verdict.Unloaded y) a b ds before old new g h is few before_is after_is e f known also refused = absurd (no_way is)
+  where
+    no_way : ◌≡◌ {A = Bool} false true → ⊥
+    no_way h = cc
+fewer_named (verdict.Faulty line d) w a b ds before old new g h is few before_is after_is e f known also refused =
+    let no : ◌≡◌ {A = ℕ} 1 132 = e ∙ refused in absurd (omega (arith, no))
+fewer_named verdict.Clean (verdict.Faulty line d) a b ds before old new g h is few before_is after_is e f known also refused = absurd (no_way is)
+  where
+    no_way : ◌≡◌ {A = Bool} false true → ⊥
+    no_way h = cc
+fewer_named (verdict.Unloaded x) (verdict.Faulty line d) a b ds before old new g h is few before_is after_is e f known also refused = absurd (no_way is)
+  where
+    no_way : ◌≡◌ {A = Bool} false true → ⊥
+    no_way h = cc
+
+-- what was judged better is a better source
+pub improved : (edition : Edition) (source new : List ℕ) (old better : Judgement) → Judged edition source old.verdict → IsStopOf edition source old.verdict → IsCompiled edition source old.compiled
+    → Judged edition new better.verdict → IsStopOf edition new better.verdict → IsCompiled edition new better.compiled → Surpasses better old → Improves edition source new
+improved edition source new old better j s c k t d is =
+    let v = old.verdict in
+    let w = better.verdict in
     λ r g n h. (
-      later v w r.stop n.stop (stop_is edition source r g v j s) (stop_is edition new n h w k t) is,
-      λ done. sym (status_is edition new n h w k) ∙ still_done v w is (status_is edition source r g v j ∙ done),
+      later v w r.stop n.stop (stop_is edition source r g v j s) (stop_is edition new n h w k t) is.0,
+      λ done. sym (status_is edition new n h w k) ∙ still_done v w is.0 (status_is edition source r g v j ∙ done),
+      fewer_named v w (map code_of g.definitions) (map code_of h.definitions) (definitions_in better.compiled) (definitions_in old.compiled) r.stop n.stop _ _ is.0 is.1 (stop_is edition source r g v j s) (stop_is edition new n h w k t)
+          (status_is edition source r g v j) (status_is edition new n h w k) (code_of_both edition source old.compiled.code c r g) (code_of_both edition new better.compiled.code d n h),
     )

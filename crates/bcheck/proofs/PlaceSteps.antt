@@ -1,5 +1,5 @@
 -- Lines and columns along a text, and what stands where a source comes to a fault.
-use Rattle.std.proofs.Common.{◌≡◌, ◌∙◌, ◌+◌, ◌<◌, ◌⊎◌, ℕ, zero, suc, List, [], ◌∷◌, Bool, true, false, Some, Ok, ap, arith, drop, get_or, inl, inr, length, refl, subst, sym, take, if◌then◌else◌}
+use Rattle.std.proofs.Common.{◌≡◌, ◌∙◌, ◌+◌, ◌<◌, ◌⊎◌, ℕ, suc, List, [], ◌∷◌, Bool, true, false, Some, Ok, ap, arith, drop, inl, inr, length, refl, subst, sym, take, if◌then◌else◌}
 use Rattle.std.proofs.lemmas.List.{drop_all, take_all}
 use Rattle.std.proofs.Math.Nat.{min-le_right}
 use Rattle.std.specs.Prelude.{nat_lt, not, ◌==◌, ◌≤◌, min}
@@ -7,7 +7,7 @@ use Rattle.bsources.specs.Files.{File}
 use Rattle.std.proofs.lemmas.Bool.Decides.{nat_tests}
 use Rattle.bword.specs.declared.edition.Edition.{Edition}
 use Rattle.bword.specs.ByteEnds.{Incoming, most}
-use Rattle.blang.specs.Cut.{cut, line_number_after, next_line, placed, tokens_from}
+use Rattle.blang.specs.Cut.{cut, line_number_after, placed, tokens_from}
 use Rattle.blang.specs.declared.token.Placed.{Placed}
 use Rattle.blex.specs.Calls.{first_tokens}
 use Rattle.blex.specs.Lexemes.{placed_of, token_of_lexeme}
@@ -17,7 +17,7 @@ use Rattle.blex.specs.declared.lexeme.Lexeme.TheVariants as lexeme
 use Rattle.blex.specs.declared.lexeme.Seen.{Seen}
 use Rattle.blex.proofs.CallLaws.{calls_give_first}
 use Rattle.bcheck.specs.Checks.{IsOver, StandsOn}
-use Rattle.bplaces.specs.Columns.{column_after, next_column}
+use Rattle.bplaces.specs.Columns.{column_after}
 use Rattle.bcheck.specs.Findings.{IsMilestone}
 use Rattle.bplaces.specs.Units.{first_unit, units_after}
 use Rattle.bcheck.specs.declared.places.Milestone.{Milestone}

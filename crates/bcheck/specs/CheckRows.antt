@@ -1,5 +1,5 @@
 -- Closed facts: what is told of a source, each at its limits and one past them.
-use Rattle.std.specs.Prelude.{◌≡◌, ◌<◌, ℕ, List, [], ◌∷◌, ◌++◌, codes, length, map, Option, None, Some, refl, true, false}
+use Rattle.std.specs.Prelude.{◌≡◌, ◌<◌, ◌⊎◌, ℕ, List, [], ◌∷◌, ◌++◌, codes, length, map, Option, None, Some, refl, true, false}
 use Rattle.std.specs.Fmt.{digits}
 use Rattle.bword.specs.declared.edition.Edition.TheVariants as editions
 use Rattle.blang.specs.declared.token.Diagnostic.{Diagnostic}
@@ -15,6 +15,7 @@ use Rattle.bcheck.specs.declared.mention.Subject.{Subject}
 use Rattle.bcheck.specs.Checks.{FindingParts, IsWhole, Reason, finding_text, findings_text, is_in_line, is_on_line, second_text}
 use Rattle.bcheck.specs.Checks.{diagnostic_code, severity_of, severity_word, shown_byte}
 use Rattle.bcheck.specs.Checks.{shown_in_form, told_first}
+use Rattle.bcheck.specs.Checks.{change_line, cut_mark, goes_on}
 use Rattle.bcheck.specs.Checks.{EditParts, IsBetter, IsLater, Outcome, edit_object, edits_text, fault_in, mended, mended_line}
 use Rattle.bcheck.specs.CheckExcluded.{has_no_colon, is_printed, least_lines, most_lines, newlines}
 use Rattle.bcheck.specs.Findings.{warning_code}
@@ -262,6 +263,7 @@ closed = record {
   in_line = refl;
   text = codes ";";
   on_line = refl;
+  differs = refl;
 }
 
 abbrev shortened : EditParts quoted
@@ -276,6 +278,7 @@ shortened = record {
   in_line = refl;
   text = codes "[\"]";
   on_line = refl;
+  differs = refl;
 }
 
 -- the source with each, which is else as it was
@@ -301,6 +304,19 @@ mended_as_shown : map (mended_line (followed 1)) (closed ∷ shortened ∷ [])
     ≡ codes "\n  line 1 mended: x \"??\";" ∷ codes "\n  line 1 mended: y[\"];" ∷ []
 unfolding digits
 mended_as_shown = refl
+
+-- the line of each as it is told once it was made
+change_as_told : map (change_line (followed 1)) (closed ∷ shortened ∷ [])
+    ≡ codes "x.b:1:8: mended: x \"??\";\n" ∷ codes "l\\u000a.b:1:2: mended: y[\"];\n" ∷ []
+unfolding digits
+change_as_told = refl
+
+-- a line that ends, and one that goes on past what is shown
+lines_go_on : map goes_on ([] ∷ codes "\na" ∷ codes "a\n" ∷ []) ≡ false ∷ false ∷ true ∷ []
+lines_go_on = refl
+
+cut_marks : cut_mark true ∷ cut_mark false ∷ [] ≡ codes " .." ∷ [] ∷ []
+cut_marks = refl
 
 -- none, one and two in an array
 edit_arrays : map (edits_text (λ (n : ℕ). n ∷ [])) ([] ∷ (65 ∷ []) ∷ (65 ∷ 66 ∷ []) ∷ [])
@@ -343,10 +359,12 @@ later_lines a b h = h
 new_one_is_not : (d : Diagnostic) → IsLater (Some d) None → ⊥
 new_one_is_not d h = h
 
--- what mends is better: the fault is gone or later, and what loaded loads
+-- what mends is better: the fault is gone or later, what loaded loads, and what didn't has fewer undefined names
 mends_are_better : (new old : Outcome) → IsBetter new old
     → IsLater new.stop old.stop
     × ((told_first old.stop (fault_in old)).1 ≡ 0 → (told_first new.stop (fault_in new)).1 ≡ 0)
+    × ((told_first old.stop (fault_in old)).1 ≡ 132 → ((told_first new.stop (fault_in new)).1 ≡ 0)
+    ⊎ (length (told_subjects new.definitions) < length (told_subjects old.definitions)))
 mends_are_better new old h = h
 
 -- what the theorems count and look for: newlines, bytes that can be printed, and colons

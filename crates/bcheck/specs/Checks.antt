@@ -6,6 +6,7 @@ use Rattle.std.specs.Int.{is_in_range}
 use Rattle.std.specs.List.{All, AllZip, flat_map, list_all}
 use Rattle.bword.specs.declared.edition.Edition.{Edition}
 use Rattle.bword.specs.ByteEnds.{Outgoing, most}
+use Rattle.bword.specs.Words.{same_name}
 use Rattle.blang.specs.Cut.{tokens_from, placed, line_number_after}
 use Rattle.blang.specs.declared.token.About.{About}
 use Rattle.blang.specs.declared.token.About.TheVariants as about
@@ -124,6 +125,7 @@ pub record EditParts (source : List ℕ) : Type 0 where
   pub in_line : IsTrue (is_in_line old && is_in_line right)
   pub text : List ℕ
   pub on_line : IsTrue (is_on_line text)
+  pub differs : IsTrue (not (same_name text old))
 
 -- the source with an edit
 abbrev pub mended : {source : List ℕ} → EditParts source → List ℕ
@@ -232,14 +234,32 @@ edits_text object [] = []
 edits_text object (e ∷ es) =
     codes ",\"edits\":[" ++ (object e ++ (flat_map (λ x. codes "," ++ object x) es ++ codes "]"))
 
+-- whether a line goes on with these bytes, and the mark for those that aren't shown
+abbrev pub goes_on : List ℕ → Bool
+goes_on [] = false
+goes_on (b ∷ bs) = not (b == 10)
+
+abbrev pub cut_mark : (is_cut : Bool) → List ℕ
+cut_mark is_cut = if is_cut then codes " .." else []
+
 -- the line with an edit, for people
-abbrev pub mended_words : (line : ℕ) → (left text right : List ℕ) → List ℕ
-mended_words line left text right =
+abbrev pub mended_words : (line : ℕ) → (left text right : List ℕ) → (is_cut : Bool) → List ℕ
+mended_words line left text right is_cut =
     codes "\n  line " ++ (decimal line ++ (codes " mended: " ++ (flat_map shown_text left ++ (text
-    ++ flat_map shown_text right))))
+    ++ (flat_map shown_text right ++ cut_mark is_cut)))))
 
 abbrev pub mended_line : {source : List ℕ} → Files → EditParts source → List ℕ
-mended_line files e = mended_words (edit_at files e).line e.left e.text e.right
+mended_line files e = mended_words (edit_at files e).line e.left e.text e.right (goes_on e.after)
+
+-- the line that tells of an edit that was made: its place, and the line with it
+abbrev pub change_words : Line → (column : ℕ) → (left text right : List ℕ) → (is_cut : Bool) → List ℕ
+change_words at column left text right is_cut =
+    file_text at.file ++ (codes ":" ++ (decimal at.line ++ (codes ":" ++ (decimal column ++ (codes ": mended: "
+    ++ (flat_map shown_text left ++ (text ++ (flat_map shown_text right ++ (cut_mark is_cut ++ codes "\n")))))))))
+
+abbrev pub change_line : {source : List ℕ} → Files → EditParts source → List ℕ
+change_line files e =
+    change_words (edit_at files e) (column_after 1 (e.before ++ e.left)) e.left e.text e.right (goes_on e.after)
 
 abbrev pub mended_lines : {source : List ℕ} → Files → FindingParts source → List ℕ
 mended_lines files p = flat_map (mended_line files) p.edits
@@ -329,11 +349,21 @@ IsLater None old = Unit {0}
 IsLater (Some e) None = ⊥
 IsLater (Some e) (Some d) = d.line < e.line
 
--- what compiled and loaded does so with an edit, and else the first fault is gone, if it is one of the source
+-- the status of a source that comes to this
+abbrev pub outcome_status : Outcome → ℕ
+outcome_status o = (told_first o.stop (fault_in o)).1
+
+-- of the names that are told as undefined fewer are with an edit
+abbrev pub HasFewerNames : (new old : Outcome) → Type 0
+HasFewerNames new old = length (told_subjects new.definitions) < length (told_subjects old.definitions)
+
+-- What compiled and loaded does so with an edit. A fault of the source is gone, or the first one stands on a later
+-- line. What didn't load does so, or has fewer names that nothing defines.
 abbrev pub IsBetter : (new old : Outcome) → Type 0
 IsBetter new old =
     IsLater new.stop old.stop
-    × ((told_first old.stop (fault_in old)).1 ≡ DONE → (told_first new.stop (fault_in new)).1 ≡ DONE)
+    × (outcome_status old ≡ DONE → outcome_status new ≡ DONE)
+    × (outcome_status old ≡ REFUSED → (outcome_status new ≡ DONE) ⊎ HasFewerNames new old)
 
 -- An edit mends a source that comes to this: it was tried.
 abbrev pub Mends : {source : List ℕ} → Outcome → EditParts source → Type 0

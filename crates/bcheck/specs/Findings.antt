@@ -8,11 +8,13 @@ use Rattle.blang.specs.Cut.{line_number_after}
 use Rattle.blang.specs.declared.token.Diagnostic.{Diagnostic}
 use Rattle.bsources.specs.Files.{Files, line_shown, own_line}
 use Rattle.bcheck.specs.Checks.{EachOutcome, EditParts, FindingParts, IsAtToken, IsBetter, Mends, Outcome, Reason}
-use Rattle.bcheck.specs.Checks.{StandsOn, TellsAll, edit_object, mended, mended_line}
-use Rattle.bcheck.specs.Pieces.{edit_text, line_text}
+use Rattle.bcheck.specs.Checks.{StandsOn, TellsAll, change_line, edit_object, mended, mended_line}
+use Rattle.bcheck.specs.Pieces.{change_text, edit_text, line_text}
 use Rattle.bplaces.specs.Columns.{column_after}
 use Rattle.bcheck.specs.Checks.{diagnostic_code, fault_in, finding_text, is_in_line, is_of_several}
-use Rattle.bcheck.specs.UndefinedNames.{IsAtName, beginnings, ends_name, name_in}
+use Rattle.bcheck.specs.UndefinedNames.{IsAtName, beginnings, ends_name, name_in, told_subjects}
+use Rattle.bcheck.specs.declared.change.Change.{Change}
+use Rattle.bcheck.specs.declared.verdict.Judgement.{Judgement}
 use Rattle.bcheck.specs.declared.mention.Subject.{Subject}
 use Rattle.bcheck.specs.declared.mention.Subject.TheVariants as subject
 use Rattle.blang.specs.declared.code.Definition.{Definition}
@@ -241,6 +243,10 @@ pub record IsEdit (files : Files) (source new : List ℕ) (e : Edit) : Type 0 wh
   pub makes : mended parts ≡ new
   pub object : edit_text e ≡ edit_object files parts
   pub line : line_text e ≡ mended_line files parts
+  pub told : change_text e ≡ change_line files parts
+  pub start : e.start ≡ length (parts.before ++ parts.left)
+  pub len : e.len ≡ length parts.old
+  pub text : e.text.now ≡ parts.text
 
 -- what comes of a text is better than what comes of a source
 abbrev pub Improves : Edition → (source new : List ℕ) → Type 0
@@ -261,6 +267,31 @@ is_better (verdict.Faulty line e) old = false
 is_better verdict.Clean old = true
 is_better (verdict.Unloaded f) verdict.Clean = false
 is_better (verdict.Unloaded f) old = true
+
+-- of two sources that don't load, the new one has fewer names that nothing defines
+abbrev pub FewerNames : (new old : Verdict) → (definitions before : List Definition) → Type 0
+FewerNames (verdict.Unloaded f) (verdict.Unloaded g) definitions before =
+    length (told_subjects definitions) < length (told_subjects before)
+FewerNames new old definitions before = Unit {0}
+
+-- what was judged is better than what was judged before
+abbrev pub Surpasses : (new old : Judgement) → Type 0
+Surpasses new old =
+    (is_better new.verdict old.verdict ≡ true)
+    × FewerNames new.verdict old.verdict (definitions_in new.compiled) (definitions_in old.compiled)
+
+-- the change is this edit
+abbrev pub IsChanged : Edit → Change → Type 0
+IsChanged e c = (c.start ≡ e.start) × (c.len ≡ e.len) × (c.text ≡ e.text.now) × (c.line ≡ change_text e)
+
+-- the change is an edit of a source that mends it, and its line tells it
+pub record IsChange (edition : Edition) (files : Files) (source : List ℕ) (c : Change) : Type 0 where
+  pub edit : EditParts source
+  pub start : c.start ≡ length (edit.before ++ edit.left)
+  pub len : c.len ≡ length edit.old
+  pub text : c.text ≡ edit.text
+  pub line : c.line ≡ change_line files edit
+  pub mends : MendsIn edition edit
 
 -- the text has a finding of this code and this sentence at this place more
 abbrev pub AddsFinding : FindingForm → Severity → Edition → Files → (source : List ℕ) → (start : ℕ)

@@ -3,7 +3,7 @@ use Rattle.std.specs.Prelude.{ℕ, ◌+◌, ◌==◌, List, [], ◌∷◌, Optio
 use Rattle.std.specs.List.{flat_map}
 use Rattle.bsources.specs.Files.{line_shown}
 use Rattle.bword.specs.ByteEnds.{most}
-use Rattle.bcheck.specs.Checks.{edit_words, mended_words, shown_text, spot_words}
+use Rattle.bcheck.specs.Checks.{change_words, edit_words, mended_words, shown_text, spot_words}
 use Rattle.btools.specs.Quoting.{file_text, json_text}
 use Rattle.bcheck.specs.declared.edit.Edit.{Edit}
 use Rattle.bcheck.specs.declared.finding.SecondPlace.{SecondPlace}
@@ -23,7 +23,11 @@ edit_text e =
     e.text.now
 
 abbrev pub line_text : Edit → List ℕ
-line_text e = mended_words e.at.line e.left.now e.text.now e.right.now
+line_text e = mended_words e.at.line e.left.now e.text.now e.right.now e.is_cut
+
+-- the line that tells of it once it was made
+abbrev pub change_text : Edit → List ℕ
+change_text e = change_words (line_shown e.at) e.column e.left.now e.text.now e.right.now e.is_cut
 
 abbrev pub piece_text : Fragment → List ℕ
 piece_text (piece.Words words) = words.now

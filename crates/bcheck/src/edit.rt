@@ -1,9 +1,10 @@
 //! Edits of a source, and where each stands.
 ghost use Rattle.std.specs.List.{All};
-ghost use Rattle.std.specs.Prelude.{◌≡◌, ◌+◌, ◌<◌, ◌++◌, IfSome, drop, min, take};
+ghost use Rattle.std.specs.Prelude.{◌≡◌, ◌+◌, ◌<◌, ◌++◌, IfSome, drop, min, not, take};
 ghost use Rattle.bword.specs.ByteEnds.{most};
 ghost use Rattle.bsources.specs.Files.{files_shown};
-ghost use Rattle.bcheck.specs.Checks.{is_in_line, is_on_line};
+ghost use Rattle.bcheck.specs.Checks.{goes_on, is_in_line, is_on_line};
+ghost use Rattle.bword.specs.Words.{same_name};
 ghost use Rattle.bcheck.specs.Findings.{IsEdit, IsMilestone};
 
 use crate::excerpt::line_length;
@@ -12,8 +13,8 @@ use bsources::{FileLine, SourceFiles};
 use btools::Text;
 use bword::Name;
 
-/// The most bytes that are shown of a line with an edit, and of those before its text.
-const SHOWN_BYTES: usize = 60;
+/// The most bytes that are shown of a line with an edit, and of those before its text. A mark tells that it goes on.
+const SHOWN_BYTES: usize = 57;
 
 const SHOWN_BEFORE: usize = 30;
 
@@ -43,6 +44,8 @@ pub(crate) struct Edit<'a> {
     pub left: &'a [u8],
     pub text: &'a [u8],
     pub right: &'a [u8],
+    /// Whether the line goes on after what is shown.
+    pub is_cut: bool,
 }
 
 impl Edit<'_> {
@@ -54,7 +57,7 @@ impl Edit<'_> {
     }
 }
 
-/// The edit that a proposal is, if it changes one line alone and its text can be printed.
+/// The edit that a proposal is, if it changes something, within one line, and its text can be printed.
 pub(crate) fn edit_of<'a>(
     source: &'a [u8],
     files: &SourceFiles<'a>,
@@ -69,14 +72,14 @@ pub(crate) fn edit_of<'a>(
     let (before, rest) = parts(source, proposal.start);
     let (old, after) = parts(rest, proposal.len);
     let text = proposal.text.as_slice();
-    if !is_in_line(old) || !is_on_line(text) {
+    if !is_in_line(old) || !is_on_line(text) || !differs(text, old) {
         return None;
     }
     let (line, column, units) = position(source, milestones, proposal.start);
     let left_len = left_length(column, text.len()).min(before.len());
     let (_, left) = before.split_at(before.len() - left_len);
     let room = SHOWN_BYTES.saturating_sub(left_len.saturating_add(text.len()));
-    let (right, _) = after.split_at(line_length(after, room));
+    let (right, following) = after.split_at(line_length(after, room));
     Some(Edit {
         at: files.own_line(line),
         is_of_several: !files.rest.is_empty(),
@@ -88,7 +91,24 @@ pub(crate) fn edit_of<'a>(
         left,
         text,
         right,
+        is_cut: goes_on(following),
     })
+}
+
+fn differs(text: &[u8], old: &[u8]) -> bool
+    ensures { result ≡ not (same_name text.now old.now) }
+{
+    text != old
+}
+
+// Whether a line goes on with these bytes.
+fn goes_on(bytes: &[u8]) -> bool
+    ensures { result ≡ goes_on bytes.now }
+{
+    match bytes.first() {
+        Some(byte) => *byte != b'\n',
+        None => false,
+    }
 }
 
 // How many bytes before a text of so many are shown.

@@ -11,7 +11,7 @@ use crate::compiled::{Compiled, Extent};
 use crate::excerpt::excerpt_at;
 use crate::finding::{Finding, Place, Told};
 use crate::form::{FindingForm, Request};
-use crate::mending::{Bench, tried_edits};
+use crate::mending::{Bench, TRIED_BYTES, tried_edits};
 use crate::mends::{proposals, tokens_of};
 use crate::places::{milestones, place_on, spot_of};
 use crate::spans::{SourceText, Spans, place_of};
@@ -48,9 +48,9 @@ pub(crate) fn explain(
         source,
         files: asked.files,
         milestones: milestones.as_slice(),
-        verdict: &judgement.verdict,
-        ends: judgement.compiled.ends.as_slice(),
+        judgement,
         findings: findings.as_slice(),
+        budget: TRIED_BYTES / findings.len().max(1),
     };
     let tokens = tokens_of(alloc, &bench)?;
     for finding in findings.as_slice() {

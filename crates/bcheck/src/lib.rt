@@ -5,6 +5,7 @@ mod advice;
 mod around;
 mod byte_mends;
 mod bytes;
+mod change;
 mod checking;
 mod compiled;
 mod declared_mends;
@@ -38,5 +39,7 @@ mod warning_mends;
 mod warnings;
 mod words;
 
+pub use change::{Change, next_change, verdict_on};
 pub use checking::{check, wrong_checks_are_excluded};
 pub use form::{FindingForm, Request};
+pub use verdict::Verdict;

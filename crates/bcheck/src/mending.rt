@@ -1,17 +1,22 @@
 //! Edits that mend what was found. Each is tried on the source before it is told.
 ghost use Rattle.std.specs.List.{All};
-ghost use Rattle.std.specs.Prelude.{ℕ, List, ◌≡◌, ◌≤◌, ◌++◌, IfOk, IfSome, IsTrue, OnOk, drop, length, take, vec_items};
+ghost use Rattle.std.specs.Prelude.{ℕ, List, ◌≡◌, ◌<◌, ◌≤◌, ◌++◌, IfOk, IfSome, IsTrue, OnOk, drop, length, nat_lt, take, vec_items};
 ghost use Rattle.bword.specs.declared.edition.Edition.{Edition};
 ghost use Rattle.bsources.specs.Files.{Files, files_shown};
 ghost use Rattle.bcheck.specs.Checks.{Judged};
-ghost use Rattle.bcheck.specs.Findings.{Improves, IsCompiled, IsMilestone, IsStopOf, IsTried, is_better};
+ghost use Rattle.bcheck.specs.Findings.{Improves, IsCompiled, IsMilestone, IsStopOf, IsTried, Surpasses, is_better};
+ghost use Rattle.bcheck.specs.UndefinedNames.{told_subjects};
 
+use crate::advice::Matter;
 use crate::edit::{Edit, Proposal, edit_of};
 use crate::explain::findings;
 use crate::finding::{Finding, MOST_FINDINGS};
+use crate::mention::{Mention, undefined_mentions};
 use crate::places::{Milestone, parts};
 use crate::spans::SourceText;
 use crate::verdict::{Judgement, Verdict, judge};
+use blang::Definition;
+use blint::Warning;
 use bsources::SourceFiles;
 use btools::Text;
 use bword::Name;
@@ -21,7 +26,7 @@ use std::alloc::{AllocError, Global};
 const MOST_EDITS: usize = 3;
 
 /// How many bytes of sources with edits are compiled in one check, at most.
-const TRIED_BYTES: usize = 2097152;
+pub(crate) const TRIED_BYTES: usize = 2097152;
 
 /// A source on which edits are tried, and what is known of it.
 #[derive(Clone, Copy)]
@@ -29,17 +34,16 @@ pub(crate) struct Bench<'a> {
     pub source: SourceText<'a>,
     pub files: SourceFiles<'a>,
     pub milestones: &'a [Milestone],
-    pub verdict: &'a Verdict,
-    /// The places after the last tokens of the definitions that were written.
-    pub ends: &'a [usize],
+    pub judgement: &'a Judgement,
     pub findings: &'a [Finding],
+    /// How many bytes of sources with edits are compiled for a finding, at most.
+    pub budget: usize,
 }
 
 impl Bench<'_> {
     /// How many edits are tried for each finding.
     pub(crate) fn tries(&self) -> usize {
-        let each = TRIED_BYTES / self.findings.len().max(1);
-        each / self.source.text.len().max(1)
+        self.budget / self.source.text.len().max(1)
     }
 }
 
@@ -50,8 +54,9 @@ pub(crate) fn tried_edits<'a>(
     proposals: &'a [Proposal],
 ) -> Result<Vec<Edit<'a>>, AllocError>
     requires milestones { All (IsMilestone bench.now.source.text.now) bench.now.milestones.now }
-    requires judged { Judged bench.now.source.edition bench.now.source.text.now bench.now.verdict.now }
-    requires stop { IsStopOf bench.now.source.edition bench.now.source.text.now bench.now.verdict.now }
+    requires judged { Judged bench.now.source.edition bench.now.source.text.now bench.now.judgement.now.verdict }
+    requires stop { IsStopOf bench.now.source.edition bench.now.source.text.now bench.now.judgement.now.verdict }
+    requires compiled { IsCompiled bench.now.source.edition bench.now.source.text.now bench.now.judgement.now.compiled }
     ensures tried { IfOk result (λ edits. All (IsTried bench.now.source.edition (files_shown bench.now.files)
         bench.now.source.text.now) (vec_items edits)) }
     ensures few { IfOk result (λ edits. length (vec_items edits) ≤ 3) }
@@ -66,6 +71,45 @@ pub(crate) fn tried_edits<'a>(
         push_found(&mut edits, found)?;
     }
     Ok(edits)
+}
+
+/// The edit that one of the proposals is, where that one alone mends what was found. Each has to be tried for that.
+pub(crate) fn only_edit<'a>(
+    alloc: Global,
+    bench: &Bench<'a>,
+    proposals: &'a [Proposal],
+) -> Result<Option<Edit<'a>>, AllocError>
+    requires milestones { All (IsMilestone bench.now.source.text.now) bench.now.milestones.now }
+    requires judged { Judged bench.now.source.edition bench.now.source.text.now bench.now.judgement.now.verdict }
+    requires stop { IsStopOf bench.now.source.edition bench.now.source.text.now bench.now.judgement.now.verdict }
+    requires compiled { IsCompiled bench.now.source.edition bench.now.source.text.now bench.now.judgement.now.compiled }
+    ensures { IfOk result (λ edit. IfSome edit (IsTried bench.now.source.edition (files_shown bench.now.files)
+        bench.now.source.text.now)) }
+{
+    let mut only = None;
+    if proposals.len() > bench.tries() {
+        return Ok(None);
+    }
+    for index in 0..proposals.len() {
+        let found = tried(alloc, bench, &proposals[index])?;
+        if only.is_some() && found.is_some() {
+            return Ok(None);
+        }
+        only = either(only, found);
+    }
+    Ok(only)
+}
+
+// The first edit, or the other one where there is none.
+fn either<'a>(first: Option<Edit<'a>>, other: Option<Edit<'a>>) -> Option<Edit<'a>>
+    ensures { (edition : Edition) (files : Files) (source : List ℕ)
+        → IfSome first.entry (IsTried edition files source) → IfSome other.entry (IsTried edition files source)
+        → IfSome result (IsTried edition files source) }
+{
+    match first {
+        Some(edit) => Some(edit),
+        None => other,
+    }
 }
 
 // Adds an edit, if there is one and not too many are there.
@@ -92,8 +136,9 @@ fn tried<'a>(
     proposal: &'a Proposal,
 ) -> Result<Option<Edit<'a>>, AllocError>
     requires milestones { All (IsMilestone bench.now.source.text.now) bench.now.milestones.now }
-    requires judged { Judged bench.now.source.edition bench.now.source.text.now bench.now.verdict.now }
-    requires stop { IsStopOf bench.now.source.edition bench.now.source.text.now bench.now.verdict.now }
+    requires judged { Judged bench.now.source.edition bench.now.source.text.now bench.now.judgement.now.verdict }
+    requires stop { IsStopOf bench.now.source.edition bench.now.source.text.now bench.now.judgement.now.verdict }
+    requires compiled { IsCompiled bench.now.source.edition bench.now.source.text.now bench.now.judgement.now.compiled }
     ensures { IfOk result (λ edit. IfSome edit (IsTried bench.now.source.edition (files_shown bench.now.files)
         bench.now.source.text.now)) }
 {
@@ -136,8 +181,9 @@ struct Spot {
 
 // Whether what was found is gone in a text that an edit made, and nothing new is found.
 fn improves(alloc: Global, bench: &Bench<'_>, new: &[u8], spot: Spot) -> Result<bool, AllocError>
-    requires judged { Judged bench.now.source.edition bench.now.source.text.now bench.now.verdict.now }
-    requires stop { IsStopOf bench.now.source.edition bench.now.source.text.now bench.now.verdict.now }
+    requires judged { Judged bench.now.source.edition bench.now.source.text.now bench.now.judgement.now.verdict }
+    requires stop { IsStopOf bench.now.source.edition bench.now.source.text.now bench.now.judgement.now.verdict }
+    requires compiled { IsCompiled bench.now.source.edition bench.now.source.text.now bench.now.judgement.now.compiled }
     ensures { IfOk result (λ is. IsTrue is → Improves bench.now.source.edition bench.now.source.text.now new.now) }
 {
     let source = SourceText {
@@ -145,10 +191,48 @@ fn improves(alloc: Global, bench: &Bench<'_>, new: &[u8], spot: Spot) -> Result<
         edition: bench.source.edition,
     };
     let judgement = judge(alloc, source)?;
-    if !is_better(&judgement.verdict, bench.verdict) {
+    if !surpasses(alloc, &judgement, bench.judgement)? {
         return Ok(false);
     }
     is_quiet(alloc, bench, source, &judgement, spot)
+}
+
+// Whether what was judged is better than what was judged before.
+fn surpasses(alloc: Global, new: &Judgement, old: &Judgement) -> Result<bool, AllocError>
+    ensures { IfOk result (λ is. IsTrue is → Surpasses new.now old.now) }
+{
+    if !is_better(&new.verdict, &old.verdict) {
+        return Ok(false);
+    }
+    match (&new.verdict, &old.verdict) {
+        (Verdict::Unloaded(_), Verdict::Unloaded(_)) => {
+            has_fewer_names(
+                alloc,
+                new.compiled.definitions(),
+                old.compiled.definitions(),
+            )
+        }
+        _ => Ok(true),
+    }
+}
+
+// Whether fewer names are told that nothing defines.
+fn has_fewer_names(
+    alloc: Global,
+    new: &[Definition],
+    old: &[Definition],
+) -> Result<bool, AllocError>
+    ensures { IfOk result (λ is. IsTrue is → length (told_subjects new.now) < length (told_subjects old.now)) }
+{
+    let found = undefined_mentions(alloc, new)?;
+    let before = undefined_mentions(alloc, old)?;
+    Ok(are_less(found.as_slice(), before.as_slice()))
+}
+
+fn are_less(new: &[Mention], old: &[Mention]) -> bool
+    ensures { result ≡ nat_lt (length new.now) (length old.now) }
+{
+    new.len() < old.len()
 }
 
 // Whether a verdict is better than an old one.
@@ -181,10 +265,9 @@ fn is_quiet(
     }
     let found = findings(alloc, source, &bench.files, judgement)?;
     let new = found.as_slice();
-    Ok(match (&judgement.verdict, bench.verdict) {
+    Ok(match (&judgement.verdict, &bench.judgement.verdict) {
         (Verdict::Clean, Verdict::Clean) => are_fewer(new, bench.findings),
         (Verdict::Clean, _) => none_at(new, spot),
-        (_, Verdict::Unloaded(_)) => new.len() < bench.findings.len(),
         _ => true,
     })
 }
@@ -208,11 +291,12 @@ fn is_same(one: &Finding, other: &Finding) -> bool {
     one.name == other.name && one.matter.advice().1 == other.matter.advice().1
 }
 
-// Whether no finding stands on the line of an edit, or speaks of its name.
+// Whether no finding stands on the line of an edit, or speaks of its name. That a loop never ends comes of no edit.
 fn none_at(findings: &[Finding], spot: Spot) -> bool {
     for finding in findings {
         let is_named = finding.name.is_some() && finding.name == spot.name;
-        if is_named || finding.place.line == spot.line {
+        let is_here = is_named || finding.place.line == spot.line;
+        if is_here && !matches!(finding.matter, Matter::Warning(Warning::EndlessLoop)) {
             return false;
         }
     }

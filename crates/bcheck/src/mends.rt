@@ -42,7 +42,7 @@ pub(crate) fn proposals(
     let token = token_at(tokens, finding.place.start);
     let site = Site {
         token,
-        first: first_of(bench.ends, token),
+        first: first_of(bench.judgement.compiled.ends.as_slice(), token),
     };
     match finding.matter {
         Matter::Character(byte) => byte_mends::character(&mut draft, byte, finding.place.start)?,

@@ -1,8 +1,8 @@
 //! The pieces that the text of a finding consists of.
 ghost use Rattle.std.specs.List.{flat_map};
 ghost use Rattle.std.specs.Prelude.{◌≡◌, ◌<◌, ◌∷◌, ◌++◌, OnOk, Some, codes, replicate, true};
-ghost use Rattle.bcheck.specs.Checks.{edits_text, file_member, shown_byte, shown_text};
-ghost use Rattle.bcheck.specs.Pieces.{edit_text, line_text, piece_text, spot_text};
+ghost use Rattle.bcheck.specs.Checks.{cut_mark, edits_text, file_member, shown_byte, shown_text};
+ghost use Rattle.bcheck.specs.Pieces.{change_text, edit_text, line_text, piece_text, spot_text};
 
 use crate::edit::Edit;
 use crate::finding::SecondPlace;
@@ -159,8 +159,37 @@ fn push_line(text: &mut Text, edit: &Edit<'_>) -> Result<(), AllocError>
             Fragment::Shown(edit.left),
             Fragment::Words(edit.text),
             Fragment::Shown(edit.right),
+            Fragment::Words(cut_mark(edit.is_cut)),
         ],
     )
+}
+
+/// Adds the line that tells of an edit that was made.
+pub(crate) fn push_change(text: &mut Text, edit: &Edit<'_>) -> Result<(), AllocError>
+    ensures { OnOk result (text.new ≡ text.old ++ change_text edit.now) }
+{
+    push_all(
+        text,
+        &[
+            Fragment::File(edit.at.file.as_bytes()),
+            Fragment::Words(b":"),
+            Fragment::Number(edit.at.line),
+            Fragment::Words(b":"),
+            Fragment::Number(edit.column as u64),
+            Fragment::Words(b": mended: "),
+            Fragment::Shown(edit.left),
+            Fragment::Words(edit.text),
+            Fragment::Shown(edit.right),
+            Fragment::Words(cut_mark(edit.is_cut)),
+            Fragment::Words(b"\n"),
+        ],
+    )
+}
+
+fn cut_mark(is_cut: bool) -> &'static [u8]
+    ensures { result.now ≡ cut_mark is_cut }
+{
+    if is_cut { b" .." } else { b"" }
 }
 
 // Adds the member of an object that names a file.

@@ -8,6 +8,7 @@ use crate::kinds::{Like, closes_bracket, is_ended, opens_bracket};
 use crate::mends::Site;
 use crate::name_mends::body_of;
 use crate::syntax::Syntax;
+use crate::warning_mends::as_character;
 use blang::Keyword;
 use blex::Lexeme;
 use bword::BinOp;
@@ -40,16 +41,26 @@ fn of_definition(draft: &mut Draft<'_>, site: Site, syntax: Syntax) -> Result<()
         Syntax::EqualsOutside | Syntax::SignOutside | Syntax::BracesOutside => definition(
             draft, first,
         ),
-        Syntax::Prototype => match draft.on_line(token, Lexeme::Semicolon) {
-            Some(last) => draft.remove(token, last),
-            None => Ok(()),
-        },
+        Syntax::Prototype => prototype_out(draft, site),
         Syntax::NameMissing if draft.at(token) == Lexeme::OpenBrace => {
             let before = token.wrapping_sub(1);
             draft.put(draft.start(before), draft.end(before), &[])
         }
         _ => Ok(()),
     }
+}
+
+// A prototype taken out, from its name on where a type of its parameters was found fault with.
+fn prototype_out(draft: &mut Draft<'_>, site: Site) -> Result<(), AllocError> {
+    let (token, first) = (site.token, site.first);
+    let Some(last) = draft.on_line(token, Lexeme::Semicolon) else {
+        return Ok(());
+    };
+    let opener = first.saturating_add(1);
+    let is_whole = draft.at(opener) == Lexeme::OpenParen
+        && after_brackets(draft, opener) == last
+        && draft.line(first) == draft.line(last);
+    draft.remove(if is_whole { first } else { token }, last)
 }
 
 // A brace that is missing, where it is that of the function before, or the one before an `else`.
@@ -95,7 +106,7 @@ fn of_statement(draft: &mut Draft<'_>, site: Site, syntax: Syntax) -> Result<(),
         Syntax::ElseAlone => else_alone(draft, before),
         Syntax::HeadColon => draft.remove(token, token),
         Syntax::CallBody => call_body(draft, token),
-        Syntax::CommaAlone => draft.rename(token, b";"),
+        Syntax::CommaAlone if !is_headed(draft, token) => draft.rename(token, b";"),
         Syntax::Foreign(word) => foreign(draft, site, word),
         _ => Ok(()),
     }
@@ -172,6 +183,14 @@ pub(crate) fn after_brackets(draft: &Draft<'_>, opener: usize) -> usize {
         }
     }
     draft.spans.end()
+}
+
+// Whether the statement of a token begins with a heading, so that a `;` would end what the heading is of.
+fn is_headed(draft: &Draft<'_>, token: usize) -> bool {
+    matches!(
+        draft.at(statement_of(draft, token)),
+        Lexeme::Keyword(Keyword::If | Keyword::Else | Keyword::While | Keyword::Switch)
+    )
 }
 
 // The first token of the statement of a token, where braces and a `;` are before it.
@@ -312,15 +331,7 @@ fn case_value(draft: &mut Draft<'_>, token: usize) -> Result<(), AllocError> {
     if draft.at(token) != Lexeme::String || end.saturating_sub(start) > 4 {
         return Ok(());
     }
-    let inner = draft
-        .source
-        .get(start.saturating_add(1)..end.saturating_sub(1))
-        .unwrap_or(&[]);
-    draft.put(
-        start,
-        end,
-        &[Part::Words(b"'"), Part::Words(inner), Part::Words(b"'")],
-    )
+    as_character(draft, token)
 }
 
 // A `;` that ends an `if` before its `else`.

@@ -18,7 +18,7 @@ use std::alloc::{AllocError, Global};
 
 /// What is said of a source.
 #[derive(Drop)]
-pub(crate) enum Verdict {
+pub enum Verdict {
     /// It compiles, and its code loads but for a function `main`.
     Clean,
     /// It doesn't compile, and this is the line of the compiler.
@@ -36,7 +36,7 @@ pub(crate) struct Judgement {
 
 impl Verdict {
     /// The line of the compiler, or that of the code.
-    pub(crate) fn first(&self) -> &[u8]
+    pub fn first(&self) -> &[u8]
         ensures { result.now ≡ verdict_line self.now }
     {
         match self {
@@ -47,7 +47,7 @@ impl Verdict {
     }
 
     /// The status.
-    pub(crate) fn status(&self) -> Status
+    pub fn status(&self) -> Status
         ensures { result ≡ status_told self.now }
     {
         match self {

@@ -79,7 +79,7 @@ fn of_statements(
         Warning::EmptyIf | Warning::EmptyLoop => draft.remove(token, token),
         Warning::NameAlone if is_function(draft, token) => draft.after(token, b"()"),
         Warning::NeverUsed | Warning::HidesLibrary => undeclared(draft, token),
-        Warning::NearMain if finding.name.is_none() => draft.rename(token, b"main"),
+        Warning::NearMain => draft.rename(token, b"main"),
         _ => Ok(()),
     }
 }
@@ -217,12 +217,21 @@ fn end_for_zero(draft: &mut Draft<'_>, token: usize) -> Result<(), AllocError> {
     Ok(())
 }
 
+// The end of the input in the place of a -1. What is above -1 is no end, and what isn't above it is one.
 fn end_for_minus_one(draft: &mut Draft<'_>, token: usize) -> Result<(), AllocError> {
-    draft.replace(token, token.wrapping_add(1), &[Part::Words(b"'*e'")])
+    let (before, last) = (token.wrapping_sub(1), token.wrapping_add(1));
+    let next = last.wrapping_add(1);
+    match (draft.at(before), draft.at(next)) {
+        (Lexeme::Operator(BinOp::Gt), _) => draft.replace(before, last, &[Part::Words(b"!= '*e'")]),
+        (Lexeme::Operator(BinOp::Le), _) => draft.replace(before, last, &[Part::Words(b"== '*e'")]),
+        (_, Lexeme::Operator(BinOp::Lt)) => draft.replace(token, next, &[Part::Words(b"'*e' !=")]),
+        (_, Lexeme::Operator(BinOp::Ge)) => draft.replace(token, next, &[Part::Words(b"'*e' ==")]),
+        _ => draft.replace(token, last, &[Part::Words(b"'*e'")]),
+    }
 }
 
-// Single quotes around a string of one or two characters.
-fn as_character(draft: &mut Draft<'_>, token: usize) -> Result<(), AllocError> {
+/// Single quotes around a string of one or two characters, in the place of its own.
+pub(crate) fn as_character(draft: &mut Draft<'_>, token: usize) -> Result<(), AllocError> {
     let (start, end) = (draft.start(token), draft.end(token));
     let inner = draft
         .source

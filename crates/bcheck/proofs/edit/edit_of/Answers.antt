@@ -1,11 +1,11 @@
-use Rattle.std.proofs.Common.{◌≡◌, ◌∙◌, ◌<◌, ◌++◌, IsTrue, ap, drop, length, rules, subst, sym, take}
+use Rattle.std.proofs.Common.{◌≡◌, ◌∙◌, ◌<◌, ◌++◌, IsTrue, ap, drop, length, refl, rules, subst, sym, take}
 use Rattle.std.proofs.lemmas.List.{take-append-drop}
-use Rattle.bsources.specs.Files.{Line, files_shown, own_line}
+use Rattle.bsources.specs.Files.{files_shown, own_line}
 use Rattle.blang.specs.Cut.{line_number_after}
 use Rattle.bplaces.specs.Columns.{column_after}
-use Rattle.bcheck.specs.Checks.{is_in_line, is_on_line, mended_words}
+use Rattle.bcheck.specs.Checks.{goes_on, is_in_line}
 use Rattle.bcheck.proofs.AddedFindings.{less}
-use Rattle.bcheck.proofs.EditSteps.{here_is, makes_is, same_words, split_is, unit_end_is, unit_is}
+use Rattle.bcheck.proofs.EditSteps.{here_is, makes_is, same_change, same_line, same_words, split_is, unit_end_is, unit_is}
 use Rattle.bcheck.proofs.OnLine.{both}
 use Rattle.bcheck.proofs.PlaceSteps.{several_is}
 use Rattle.bcheck.proofs.edit.edit_of.Goals as goal
@@ -35,6 +35,7 @@ returns c =
     let line : c.position-line.result.0 ≡ line_number_after 1 (b ++ left) = c.position-line.ensures.line ∙ ap (line_number_after 1) (sym here) in
     let column : c.position-line.result.1 ≡ column_after 1 (b ++ left) = c.position-line.ensures.column ∙ ap (column_after 1) (sym here) in
     let at = c.own_line.ensures ∙ ap (own_line files) line in
+    let cut : c.goes_on.result ≡ goes_on tail = c.goes_on.ensures in
     let short : length left < c.position-line.result.1 = search rules in
     let shown : IsTrue (is_in_line right) = search rules in
     record {
@@ -49,6 +50,7 @@ returns c =
         in_line = both (is_in_line old) (is_in_line right) (search rules) shown;
         text = text;
         on_line = search rules;
+        differs = search rules;
       };
       makes = makes_is source before rest old after b left right tail text start len e1 e2 e3 e4 e5 e6 ∙ ap (λ t. take start source ++ (t ++ drop len (drop start source))) c.as_slice-text.ensures;
       object =
@@ -56,5 +58,9 @@ returns c =
           (unit_is source before rest old after b left right tail text start len e1 e2 e3 e4 e5 e6 c.position-line.result.2 c.position-line.ensures.units)
           (unit_end_is source before rest old after b left right tail text start len e1 e2 e3 e4 e5 e6 c.position-line.result.2 c.along.result c.position-line.ensures.units c.along.ensures)
           (ap length (sym e5));
-      line = ap (λ (l : Line). mended_words l.line left text right) at;
+      line = same_line _ _ left text right _ _ at cut;
+      told = same_change _ _ _ _ left text right _ _ at column cut;
+      start = ap length (sym e5);
+      len = refl;
+      text = refl;
     }

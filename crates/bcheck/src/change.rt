@@ -1,0 +1,166 @@
+//! The next edit of a source that mends it and needs no choice.
+ghost use Rattle.std.specs.List.{All};
+ghost use Rattle.std.specs.Prelude.{◌≡◌, IfOk, IfSome};
+ghost use Rattle.bsources.specs.Files.{files_shown};
+ghost use Rattle.bcheck.specs.Checks.{Judged};
+ghost use Rattle.bcheck.specs.Findings.{IsChange, IsChanged, IsCompiled, IsMilestone, IsStopOf};
+
+use crate::advice::Matter;
+use crate::bytes::Constant;
+use crate::edit::{Edit, Proposal};
+use crate::explain::findings;
+use crate::finding::Finding;
+use crate::mending::{Bench, TRIED_BYTES, only_edit};
+use crate::mends::{proposals, token_at, tokens_of};
+use crate::pieces::push_change;
+use crate::places::milestones;
+use crate::spans::{SourceText, Spans, lexeme_at};
+use crate::verdict::{Verdict, judge};
+use blex::Lexeme;
+use blint::Warning;
+use bsources::SourceFiles;
+use btools::Text;
+use bword::Edition;
+use std::alloc::{AllocError, Global};
+
+/// An edit of a source: the bytes that it takes out, and the text for them.
+#[derive(Drop)]
+pub struct Change {
+    /// The place of the first byte that it takes out, from 0, and how many it takes out.
+    pub start: usize,
+    pub len: usize,
+    pub text: Text,
+    /// The line that tells of it.
+    pub line: Text,
+}
+
+/// What the compiler and the loader say of a source.
+pub fn verdict_on(alloc: Global, source: &[u8], edition: Edition) -> Result<Verdict, AllocError>
+    ensures { IfOk result (Judged edition source.now) }
+{
+    let text = SourceText {
+        text: source,
+        edition,
+    };
+    Ok(judge(alloc, text)?.verdict)
+}
+
+/// The next edit of a source of these files that mends it and needs no choice, within so many of its first bytes, if
+/// there is one.
+///
+/// What is found has just one edit that mends it, of all that may do so. A warning is mended where what the code says
+/// can't be meant.
+pub fn next_change(
+    alloc: Global,
+    source: &[u8],
+    edition: Edition,
+    files: &SourceFiles<'_>,
+    within: usize,
+) -> Result<Option<Change>, AllocError>
+    ensures { IfOk result (λ found. IfSome found (IsChange edition (files_shown files.now) source.now)) }
+{
+    let text = SourceText {
+        text: source,
+        edition,
+    };
+    let judgement = judge(alloc, text)?;
+    let findings = findings(alloc, text, files, &judgement)?;
+    let milestones = milestones(alloc, source)?;
+    let bench = Bench {
+        source: text,
+        files: *files,
+        milestones: milestones.as_slice(),
+        judgement: &judgement,
+        findings: findings.as_slice(),
+        budget: TRIED_BYTES,
+    };
+    let tokens = tokens_of(alloc, &bench)?;
+    for finding in findings.as_slice() {
+        if !is_certain(&tokens, finding) {
+            continue;
+        }
+        let proposals = proposals(alloc, &bench, &tokens, finding)?;
+        let change = only_change(alloc, &bench, proposals.as_slice(), within)?;
+        if change.is_some() {
+            return Ok(change);
+        }
+    }
+    Ok(None)
+}
+
+// Whether what is found is a fault, or can't be meant.
+fn is_certain(tokens: &Spans, finding: &Finding) -> bool {
+    let token = token_at(tokens, finding.place.start);
+    match finding.matter {
+        Matter::Warning(Warning::ComparesAlone | Warning::InputEnd | Warning::NameAlone) => true,
+        Matter::Warning(Warning::AssignsComparison) => assigns_call(tokens, token),
+        Matter::Warning(Warning::ConditionAssigns) => assigns_constant(tokens, token),
+        Matter::Warning(_) | Matter::Constant(Constant::Escape) => false,
+        _ => true,
+    }
+}
+
+// Whether a token assigns, and a call comes after it.
+fn assigns_call(tokens: &Spans, token: usize) -> bool {
+    matches!(
+        (
+            lexeme_at(tokens, token.wrapping_add(1)),
+            lexeme_at(tokens, token.wrapping_add(2)),
+        ),
+        (Lexeme::Name(_), Lexeme::OpenParen)
+    )
+}
+
+// Whether a token assigns the constant after it.
+fn assigns_constant(tokens: &Spans, token: usize) -> bool {
+    matches!(
+        (
+            lexeme_at(tokens, token),
+            lexeme_at(tokens, token.wrapping_add(1))
+        ),
+        (
+            Lexeme::Assign(None),
+            Lexeme::Number(_) | Lexeme::Character(_)
+        )
+    )
+}
+
+// The change that one of the proposals is, where that one alone mends what was found, within so many bytes.
+fn only_change(
+    alloc: Global,
+    bench: &Bench<'_>,
+    proposals: &[Proposal],
+    within: usize,
+) -> Result<Option<Change>, AllocError>
+    requires milestones { All (IsMilestone bench.now.source.text.now) bench.now.milestones.now }
+    requires judged { Judged bench.now.source.edition bench.now.source.text.now bench.now.judgement.now.verdict }
+    requires stop { IsStopOf bench.now.source.edition bench.now.source.text.now bench.now.judgement.now.verdict }
+    requires compiled { IsCompiled bench.now.source.edition bench.now.source.text.now bench.now.judgement.now.compiled }
+    ensures { IfOk result (λ found. IfSome found (IsChange bench.now.source.edition (files_shown bench.now.files)
+        bench.now.source.text.now)) }
+{
+    let found = only_edit(alloc, bench, proposals)?;
+    let Some(edit) = found else {
+        return Ok(None);
+    };
+    if edit.start.saturating_add(edit.len) > within {
+        return Ok(None);
+    }
+    let change = change_of(alloc, &edit)?;
+    Ok(Some(change))
+}
+
+fn change_of(alloc: Global, edit: &Edit<'_>) -> Result<Change, AllocError>
+    ensures { IfOk result (IsChanged edit.now) }
+{
+    let mut text = Text::new(alloc);
+    text.push(edit.text)?;
+    let mut line = Text::new(alloc);
+    push_change(&mut line, edit)?;
+    Ok(Change {
+        start: edit.start,
+        len: edit.len,
+        text,
+        line,
+    })
+}
