@@ -39,7 +39,7 @@ _b() {
     migrate) words='--help' ;;
     list) words='--edition --with --code --made --lines --help' ;;
     map) words='--edition --with --svg --steps --help' ;;
-    check) words='--edition --with --json --help' ;;
+    check) words='--write --diff --edition --with --json --fix --help' ;;
     names) words='--edition --with --json --help' ;;
     trace) words='--edition --with --code --made --lines --steps --from --last --function --help' ;;
     count) words='--edition --with --code --made --lines --steps --no-limit --json --help' ;;

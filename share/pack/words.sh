@@ -2,15 +2,17 @@
 # Reads the words of a command line, for the script `b`, and puts others in their place: for a name of the library after
 # --with the path of its file in the folder `library`; and for a FILE `-` of a command that runs no source, standard
 # input. A path, as each word with a slash or a point is one, stays, and so do the values of --made and --lines, and all
-# else. `format --write FILE` it does whole, by the program that `program` names.
-b_command=${1-} b_with='' b_over='' b_at=0 b_words='' b_some='' b_write='' b_clash='' b_file='' b_files=0
+# else. `format --write FILE`, `check --fix --write FILE` and `check --fix --diff FILE` it does whole, by the program that
+# `program` names.
+b_command=${1-} b_with='' b_over='' b_at=0 b_words='' b_some='' b_write='' b_clash='' b_file='' b_files=0 b_fix=''
 
 b_fail() {
     printf 'error: %s\n' "$1" >&2
     exit "${2-133}"
 }
 
-# Looks for --write among the words of `format`, for a word that doesn't go with it, and for FILE.
+# Looks for --write and --diff among the words of `format` and `check`, for a word that doesn't go with them, and for
+# FILE.
 b_look() {
     b_skip=''
     shift
@@ -18,9 +20,13 @@ b_look() {
         case $b_skip$b_over:$b_word in
         skip*) b_skip='' ;;
         :--) b_over=over ;;
-        :--write) b_write=yes ;;
-        :--edition) b_skip=skip ;;
-        :--check | :--help | :-h) b_clash=$b_word ;;
+        :--write | :--diff)
+            [ "${b_write:-$b_word}" = "$b_word" ] || b_clash=$b_write
+            b_write=$b_word
+            ;;
+        :--fix) b_fix=yes ;;
+        :--edition | :--with) b_skip=skip ;;
+        :--check | :--json | :--help | :-h) b_clash=$b_word ;;
         :-) b_file=/dev/stdin b_files=$((b_files + 1)) ;;
         :-?*) ;;
         *) b_file=$b_word b_files=$((b_files + 1)) ;;
@@ -47,31 +53,57 @@ b_stop() {
     [ "${b_was##* }" = 1 ] || b_fail 'FILE has several names (hard links), so nothing is written'
 }
 
-# Puts what the program makes of FILE in its place. A new file beside it gets its mode and its owner and then the
-# layout, is written to the disk, and takes the name. Until then FILE has its old bytes.
-b_replace() {
-    case $b_file in /* | ./* | ../*) ;; *) b_file=./$b_file ;; esac
-    # A file that isn't there the program tells itself.
+# Has the program write what it makes of FILE into the new file. Only of a source at fault `check --fix` writes
+# something, too.
+b_make() {
+    b_status=0
     # shellcheck disable=SC2154
-    [ -e "$b_file" ] || [ -h "$b_file" ] || exec "$program" "$@" >/dev/null
-    b_stop
-    b_new=$(mktemp "${b_file%/*}/.b-format.XXXXXX") || b_fail 'no file can be made beside FILE, so nothing is written'
+    "$program" "$@" >"$b_new" || b_status=$?
+    case $b_command:$b_status in
+    *:0 | check:1 | check:132) ;;
+    *)
+        [ "$b_status" != 133 ] || echo 'error: FILE stays as it is' >&2
+        exit "$b_status"
+        ;;
+    esac
+}
+
+# Shows what would change in FILE.
+b_differ() {
+    [ "$b_file" != /dev/stdin ] || b_fail 'what would change is shown of a file alone'
+    [ -e "$b_file" ] || exec "$program" "$@" >/dev/null
+    b_new=$(mktemp) || b_fail 'no file can be made'
     trap 'rm -f "$b_new"' EXIT
     trap 'exit 129' HUP
     trap 'exit 130' INT
     trap 'exit 143' TERM
+    b_make "$@"
+    diff -u -L "$b_file" -L "$b_file mended" -- "$b_file" "$b_new" || [ "$?" = 1 ] || b_fail 'FILE can not be compared'
+    exit "$b_status"
+}
+
+# Puts what the program makes of FILE in its place. A new file beside it gets its mode and its owner and then the
+# new bytes, is written to the disk, and takes the name. Until then FILE has its old bytes, and a FILE that has others
+# by then keeps them.
+b_replace() {
+    case $b_file in /* | ./* | ../*) ;; *) b_file=./$b_file ;; esac
+    # A file that isn't there the program tells itself.
+    [ -e "$b_file" ] || [ -h "$b_file" ] || exec "$program" "$@" >/dev/null
+    b_stop
+    b_new=$(mktemp "${b_file%/*}/.b-format.XXXXXX") || b_fail 'no file can be made beside FILE, so nothing is written'
+    trap 'rm -f "$b_new" "$b_new.old"' EXIT
+    trap 'exit 129' HUP
+    trap 'exit 130' INT
+    trap 'exit 143' TERM
     cp -p "$b_file" "$b_new" || b_fail 'FILE stays as it is'
-    "$program" "$@" >"$b_new" || {
-        b_status=$?
-        [ "$b_status" != 133 ] || echo 'error: FILE stays as it is' >&2
-        exit "$b_status"
-    }
-    if cmp -s "$b_file" "$b_new"; then exit 0; fi
+    cp "$b_new" "$b_new.old" || b_fail 'FILE stays as it is'
+    b_make "$@"
+    cmp -s "$b_file" "$b_new.old" || b_fail 'FILE has changed meanwhile, so nothing is written'
+    if cmp -s "$b_file" "$b_new"; then exit "$b_status"; fi
     [ "$b_was" = "$(b_about "$b_new")" ] || b_fail "the mode and the owner of FILE can't be kept, so nothing is written"
     sync "$b_new" || b_fail 'FILE stays as it is'
     mv -f "$b_new" "$b_file" || b_fail 'FILE stays as it is'
-    trap - EXIT
-    exit 0
+    exit "$b_status"
 }
 
 # Has `b_put` name the path of a LIB that is a name of the library: the name, how it is written, and what comes before
@@ -88,32 +120,45 @@ b_lib() {
     fi
 }
 
-if [ "$b_command" = format ]; then
-    b_look "$@"
-    [ -z "$b_write" ] || [ "$b_clash" != --check ] ||
-        b_fail "the argument '--write' cannot be used with '--check'
+# Tells that the words don't go together.
+b_refuse() {
+    b_fail "the argument '$1' cannot be used $2
 
 For more information, try '--help'." 135
-fi
+}
+
+case $b_command in
+format)
+    b_look "$@"
+    b_fix=''
+    [ "$b_write" != --diff ] || b_write=''
+    ;;
+check) b_look "$@" ;;
+esac
+case $b_command$b_fix:$b_write:$b_clash in
+*::* | *:--help | *:-h) ;;
+format:--write:--check | *yes:*:--*) b_refuse "$b_write" "with '$b_clash'" ;;
+check:*) b_refuse "$b_write" "without '--fix'" ;;
+esac
 
 case $b_command in
 compile | go | try | list | map | check | names | trace | count | show | format)
     for b_word; do
         b_at=$((b_at + 1))
         b_put="\${$b_at}"
-        case $b_over$b_with$b_command:$b_word in
+        case $b_over$b_with$b_command$b_fix:$b_word in
         over*) ;;
         with*)
             b_lib "$b_word" "$b_put" ''
             b_with=''
             ;;
         file*) b_with='' ;;
-        "$b_command:--") b_over=over ;;
-        "$b_command:--with") b_with=with ;;
+        "$b_command$b_fix:--") b_over=over ;;
+        "$b_command$b_fix:--with") b_with=with ;;
         "$b_command:--made" | "$b_command:--lines") b_with='file' ;;
-        "$b_command:--with="*) b_lib "${b_word#--with=}" "\${$b_at#--with=}" --with= ;;
-        format:--write) b_put='' ;;
-        list:- | map:- | check:- | names:- | format:-) b_put=/dev/stdin ;;
+        "$b_command$b_fix:--with="*) b_lib "${b_word#--with=}" "\${$b_at#--with=}" --with= ;;
+        format:--write | checkyes:--write | checkyes:--diff) b_put='' ;;
+        list:- | map:- | check:- | checkyes:- | names:- | format:-) b_put=/dev/stdin ;;
         esac
         # A long text is seldom copied, so that many words are quick.
         b_some="$b_some${b_put:+ \"$b_put\"}"
@@ -123,4 +168,7 @@ compile | go | try | list | map | check | names | trace | count | show | format)
     ;;
 esac
 # Where there isn't one FILE, the program tells it.
-if [ -n "$b_write" ] && [ "$b_files" = 1 ] && [ -z "$b_clash" ]; then b_replace "$@"; fi
+if [ -n "$b_write" ] && [ "$b_files" = 1 ] && [ -z "$b_clash" ]; then
+    [ "$b_write" = --write ] || b_differ "$@"
+    b_replace "$@"
+fi

@@ -21,7 +21,7 @@ use Rattle.btrace.specs.Locates.{Locates}
 use Rattle.btrace.specs.Traces as traces
 use Rattle.btrace.specs.Traces.{Traces}
 use Rattle.bwatch.specs.declared.trail.TraceRows.{TraceRows}
-use Rattle.bcommand.specs.CommandLine.{Question, check, count, draw, format, from_code, from_made, from_source, go_careful, list, locate, map, show, tell_names, trace, try_out}
+use Rattle.bcommand.specs.CommandLine.{Question, check, count, draw, fix, format, from_code, from_made, from_source, go_careful, list, locate, map, show, tell_names, trace, try_out}
 use Rattle.btools.specs.Origins.{NoProgramOf, Origin, ProgramOf, Source}
 use Rattle.bsources.specs.Files.{Files}
 use Rattle.bcli.specs.ShellExcluded.{tells_run}
@@ -79,6 +79,7 @@ fault_told shelf edition files text (list origin name) ends d faulty tells answe
 fault_told shelf edition files text map ends d faulty tells answers = cc
 fault_told shelf edition files text (draw steps) ends d faulty tells answers = cc
 fault_told shelf edition files text (check for_editor) ends d faulty tells answers = cc
+fault_told shelf edition files text fix ends d faulty tells answers = cc
 fault_told shelf edition files text tell_names ends d faulty tells answers = cc
 fault_told shelf edition files text (trace from_source steps shown function) ends d faulty tells answers = by_trace edition text d faulty files steps _ function ends answers
 fault_told shelf edition files text (trace from_code steps shown function) ends d faulty tells answers = cc

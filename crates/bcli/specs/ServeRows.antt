@@ -12,6 +12,7 @@ use Rattle.blang.specs.Reports.{RunEnds}
 use Rattle.bcareful.specs.Runs.{Runs}
 use Rattle.bcareful.specs.declared.care.Care.TheVariants as taken
 use Rattle.bcheck.specs.Checks.{Checks}
+use Rattle.bfix.specs.Fixes.{Fixes}
 use Rattle.bcheck.specs.declared.form.FindingForm.TheVariants as forms
 use Rattle.bcount.specs.declared.table.CountStyle.TheVariants as styles
 use Rattle.bcount.specs.Counts.{Counts}
@@ -29,7 +30,7 @@ use Rattle.btrace.specs.Traces.{Traces}
 use Rattle.bwatch.specs.declared.trail.TraceRows.TheVariants as traced
 use Rattle.bwhere.specs.Wheres.{LocatesCode}
 use Rattle.bcommand.specs.CommandLine.{OriginAsked, Question, SourceAsked, from_code, from_made, from_source}
-use Rattle.bcommand.specs.CommandLine.{ask, check, compile, count, draw, format, go, go_careful, list, locate}
+use Rattle.bcommand.specs.CommandLine.{ask, check, compile, count, draw, fix, format, go, go_careful, list, locate}
 use Rattle.bcommand.specs.CommandLine.{locate_code, try_out}
 use Rattle.bcommand.specs.CommandLine.{map as layout, run, show, tell_names, trace}
 use Rattle.bcommand.specs.declared.job.Care.TheVariants as care
@@ -109,6 +110,18 @@ module _ (origin : Origin) (edition : Edition) (files : Files) (text : List ℕ)
         status = status;
       })
   checked for_editor a = a
+
+  mended : answered fix → (ends.input_after ≡ ends.input) × Fixes (record {
+    edition = edition;
+    files = files;
+    source = text;
+    out = ends.out;
+    out_after = ends.out_after;
+    line = ends.line;
+    line_after = ends.line_after;
+    status = status;
+  })
+  mended a = a
 
   named : answered tell_names
       → (ends.input_after ≡ ends.input) × (ends.line_after ≡ ends.line) × Names (record {

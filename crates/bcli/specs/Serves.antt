@@ -35,12 +35,13 @@ use Rattle.bcount.specs.Counts.{Counts}
 use Rattle.bcount.specs.declared.table.CountStyle.{CountStyle}
 use Rattle.bcount.specs.declared.table.CountStyle.TheVariants as styles
 use Rattle.bshow.specs.Shows.{Shows}
+use Rattle.bfix.specs.Fixes.{Fixes}
 use Rattle.bformat.specs.Formats.{Formats}
 use Rattle.bwhere.specs.Wheres.{LocatesCode}
 use Rattle.bcommand.specs.CommandLine.{Asked, OriginAsked, Question, SourceAsked, asked_in, clash_line, fault_in}
 use Rattle.bcommand.specs.CommandLine.{from_source, from_code, from_made, try_out}
 use Rattle.bcommand.specs.CommandLine.{compile, run, locate_code, go, migrate, ask, contradiction}
-use Rattle.bcommand.specs.CommandLine.{list, map, draw, check, tell_names, trace, locate, go_careful, count, show, format}
+use Rattle.bcommand.specs.CommandLine.{list, map, draw, check, fix, tell_names, trace, locate, go_careful, count, show, format}
 use Rattle.bcommand.specs.declared.job.Care.{Care}
 use Rattle.bcommand.specs.declared.job.Care.TheVariants as care
 use Rattle.bcommand.specs.declared.job.Rows.{Rows}
@@ -198,6 +199,16 @@ AnswersOf origin edition files text (check for_editor) ends status =
       out_after = ends.out_after;
       status = status;
     })
+AnswersOf origin edition files text fix ends status = (ends.input_after ≡ ends.input) × Fixes (record {
+  edition = edition;
+  files = files;
+  source = text;
+  out = ends.out;
+  out_after = ends.out_after;
+  line = ends.line;
+  line_after = ends.line_after;
+  status = status;
+})
 AnswersOf origin edition files text tell_names ends status =
     (ends.input_after ≡ ends.input) × (ends.line_after ≡ ends.line)
     × Names (record {

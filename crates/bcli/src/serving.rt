@@ -26,6 +26,7 @@ use bcommand::{
 };
 use bcount::{CountStyle, Counting, count};
 use bdraw::draw;
+use bfix::fix;
 use bformat::{House, format};
 use blang::status::{self, Status};
 use blist::{list, map};
@@ -287,6 +288,7 @@ fn origin_of(question: Question<'_>) -> OriginNames<'_>
         Question::Map
         | Question::Draw(_)
         | Question::Check(_)
+        | Question::Fix
         | Question::Names
         | Question::Locate(_)
         | Question::GoCareful(..)
@@ -328,6 +330,7 @@ fn answer<I: ByteIn, O: ByteOut, D: ByteOut>(
             };
             check(alloc, text, request, out)
         }
+        Question::Fix => fix(alloc, text, edition, files, out, diag),
         Question::Names => tell_names(alloc, text, edition, &files, out),
         Question::Trace(walk) => {
             let wanted = TraceRequest {

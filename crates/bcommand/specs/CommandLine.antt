@@ -94,6 +94,9 @@ json_rule = flag_rule (codes "json")
 abbrev pub needed_json_rule : Rule
 needed_json_rule = record json_rule { required = true }
 
+abbrev pub fix_rule : Rule
+fix_rule = flag_rule (codes "fix")
+
 abbrev pub svg_rule : Rule
 svg_rule = flag_rule (codes "svg")
 
@@ -153,7 +156,7 @@ abbrev pub map_command : App
 map_command = with_rule (with_rule (telling (new_app (codes "map"))) svg_rule) steps_rule
 
 abbrev pub check_command : App
-check_command = with_rule (telling (new_app (codes "check"))) json_rule
+check_command = with_rule (with_rule (telling (new_app (codes "check"))) json_rule) fix_rule
 
 abbrev pub names_command : App
 names_command = with_rule (telling (new_app (codes "names"))) needed_json_rule
@@ -289,7 +292,7 @@ abbrev pub source_in : List Row → SourceAsked
 source_in rows = record { file = file_in rows; libs = libs_in rows; edition = edition_in rows }
 
 -- What is asked of a source: its code, or that of its definitions of a name; its layout; a picture of its memory, after
--- so many steps if there is a number; its faults, for an editor or for people; its names; the steps of its program
+-- so many steps if there is a number; its faults, for an editor or for people; it mended; its names; the steps of its program
 -- among so many, which of them are shown, and of which function; a run of so many steps, and where it is over; the same
 -- looked at carefully in some way; its faults, and such a run where there is none; how many steps each line takes in such a run, for an editor or for people; a page
 -- of a run, with this input if there is one; the source in one style, or whether it is in that. Its code, its steps and
@@ -299,6 +302,7 @@ pub data Question : Type 0 where
   map : Question
   draw : (steps : Option ℕ) → Question
   check : (for_editor : Bool) → Question
+  fix : Question
   tell_names : Question
   trace : OriginAsked → (steps : ℕ) (shown : Rows) (function : Option Text) → Question
   locate : (steps : ℕ) → Question
@@ -344,6 +348,11 @@ go_asked source is_located (Ok (Some it)) (Some steps) = ask source (go_careful 
 go_asked source is_located (Ok it) None = contradiction clash.Limits
 go_asked source is_located (Err it) steps = contradiction it
 
+abbrev pub check_asked : SourceAsked → (is_fixed : Bool) → (for_editor : Bool) → Asked
+check_asked source true true = contradiction clash.Fix
+check_asked source true false = ask source fix
+check_asked source false for_editor = ask source (check for_editor)
+
 abbrev pub try_asked : SourceAsked → Option ℕ → Asked
 try_asked source (Some steps) = ask source (try_out steps)
 try_asked source None = contradiction clash.Limits
@@ -385,6 +394,9 @@ go_in rows =
 abbrev pub try_in : List Row → Asked
 try_in rows = try_asked (source_in rows) (steps_in rows)
 
+abbrev pub check_in : List Row → Asked
+check_in rows = check_asked (source_in rows) (is_set_in (codes "fix") rows) (is_set_in (codes "json") rows)
+
 abbrev pub map_in : List Row → Question
 map_in rows = map_asked (is_set_in (codes "svg") rows) (option_number (codes "steps") rows)
 
@@ -409,7 +421,7 @@ asked_by name rows = if bytes_eq name (codes "run") then run_in rows
     else (if bytes_eq name (codes "migrate") then migrate
     else (if bytes_eq name (codes "list") then list_in rows
     else (if bytes_eq name (codes "map") then ask (source_in rows) (map_in rows)
-    else (if bytes_eq name (codes "check") then ask (source_in rows) (check (is_set_in (codes "json") rows))
+    else (if bytes_eq name (codes "check") then check_in rows
     else (if bytes_eq name (codes "names") then ask (source_in rows) tell_names
     else (if bytes_eq name (codes "trace") then trace_in rows
     else (if bytes_eq name (codes "count") then count_in rows
@@ -464,6 +476,7 @@ question_of (questioned.List origin name) = list (origin_shown origin) (option_m
 question_of questioned.Map = map
 question_of (questioned.Draw steps) = draw steps
 question_of (questioned.Check for_editor) = check for_editor
+question_of questioned.Fix = fix
 question_of questioned.Names = tell_names
 question_of (questioned.Trace walk) = walk_shown walk
 question_of (questioned.Locate steps) = locate steps
@@ -493,6 +506,7 @@ clash_line clash.Rows = clash_message (codes "'--from <N>' cannot be used with '
 clash_line clash.Origins = clash_message (codes "'--code' cannot be used with '--made <CODE>' or '--lines <LINES>'")
 clash_line clash.Libs = clash_message (codes "'--code' cannot be used with '--with <LIB>'")
 clash_line clash.Made = clash_message (codes "'--made <CODE>' cannot be used without '--lines <LINES>'")
+clash_line clash.Fix = clash_message (codes "'--fix' cannot be used with '--json'")
 clash_line clash.Care =
     clash_message (codes "'--careful' is '--careful', '--careful=warn' or '--careful=wraps'")
 clash_line clash.Lines = clash_message (codes "'--lines <LINES>' cannot be used without '--made <CODE>'")

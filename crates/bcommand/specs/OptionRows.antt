@@ -5,7 +5,7 @@ use Rattle.clap.proofs.OnLiterals.{clap_on_literals}
 use Rattle.bword.specs.declared.edition.Edition.TheVariants as editions
 use Rattle.bcommand.specs.CommandLine.{Asked, SourceAsked, asked_in, fault_in}
 use Rattle.bcommand.specs.CommandLine.{compile, run, locate_code, go, ask, contradiction}
-use Rattle.bcommand.specs.CommandLine.{list, map as layout, draw, check, tell_names, trace, locate, go_careful}
+use Rattle.bcommand.specs.CommandLine.{list, map as layout, draw, check, fix, tell_names, trace, locate, go_careful}
 use Rattle.bcommand.specs.CommandLine.{count, show, format, try_out}
 use Rattle.bcommand.specs.CommandLine.{from_source}
 use Rattle.bcommand.specs.declared.job.Care.TheVariants as care
@@ -16,8 +16,8 @@ use Rattle.bcommand.specs.declared.job.Rows.TheVariants as which
 abbrev options : List Text
 options =
     codes "--edition=2" ∷ codes "--with=l" ∷ codes "--steps=5" ∷ codes "--no-limit" ∷ codes "--where"
-    ∷ codes "--careful" ∷ codes "--json" ∷ codes "--svg" ∷ codes "--from=5" ∷ codes "--last=5" ∷ codes "--function=f"
-    ∷ codes "--input=i" ∷ codes "--check" ∷ codes "--code" ∷ codes "--made=c" ∷ codes "--lines=l" ∷ []
+    ∷ codes "--careful" ∷ codes "--json" ∷ codes "--fix" ∷ codes "--svg" ∷ codes "--from=5" ∷ codes "--last=5"
+    ∷ codes "--function=f" ∷ codes "--input=i" ∷ codes "--check" ∷ codes "--code" ∷ codes "--made=c" ∷ codes "--lines=l" ∷ []
 
 abbrev of_code : List Text
 of_code = codes "--code" ∷ codes "--made=c" ∷ codes "--lines=l" ∷ []
@@ -60,7 +60,7 @@ map_takes : taken (codes "map") x ≡ codes "--edition=2" ∷ codes "--with=l" �
 unfolding clap_on_literals
 map_takes = refl
 
-check_takes : taken (codes "check") x ≡ codes "--edition=2" ∷ codes "--with=l" ∷ codes "--json" ∷ []
+check_takes : taken (codes "check") x ≡ codes "--edition=2" ∷ codes "--with=l" ∷ codes "--json" ∷ codes "--fix" ∷ []
 unfolding clap_on_literals
 check_takes = refl
 
@@ -144,11 +144,12 @@ files_of_each :
     of_both (codes "go") [] ∷ of_both (codes "go") (codes "--where" ∷ [])
     ∷ of_both (codes "go") (codes "--careful" ∷ []) ∷ of_both (codes "try") [] ∷ of_both (codes "list") []
     ∷ of_both (codes "map") [] ∷ of_both (codes "map") (codes "--svg" ∷ []) ∷ of_both (codes "check") []
+    ∷ of_both (codes "check") (codes "--fix" ∷ [])
     ∷ of_both (codes "names") (codes "--json" ∷ []) ∷ of_both (codes "trace") [] ∷ of_both (codes "count") []
     ∷ of_both (codes "show") [] ∷ []
     ≡ go both 10000000 ∷ ask both (locate 10000000) ∷ ask both (go_careful care.Stays 10000000)
     ∷ ask both (try_out 10000000) ∷ ask both (list from_source None) ∷ ask both layout
-    ∷ ask both (draw None) ∷ ask both (check false) ∷ ask both tell_names
+    ∷ ask both (draw None) ∷ ask both (check false) ∷ ask both fix ∷ ask both tell_names
     ∷ ask both (trace from_source 1000 (which.From 1) None) ∷ ask both (count from_source 10000000 false)
     ∷ ask both (show 2000 (which.From 1) None) ∷ []
 unfolding clap_on_literals
@@ -195,6 +196,10 @@ lasts_of_function : of_x (codes "trace" ∷ codes "--last=3" ∷ codes "--functi
     ≡ ask alone (trace from_source 10000000 (which.Last 3) (Some (codes "f")))
 unfolding clap_on_literals
 lasts_of_function = refl
+
+fixed_for_editors : of_x (codes "check" ∷ codes "--fix" ∷ codes "--json" ∷ []) ≡ contradiction clash.Fix
+unfolding clap_on_literals
+fixed_for_editors = refl
 
 layout_checked : of_x (codes "format" ∷ codes "--check" ∷ []) ≡ ask alone (format true)
 unfolding clap_on_literals

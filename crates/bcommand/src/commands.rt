@@ -137,6 +137,12 @@ const JSON: ArgumentRow = ArgumentRow {
     help: "Writes one object on each line, for an editor",
 };
 
+const FIX: ArgumentRow = ArgumentRow {
+    id: "fix",
+    kind: GivenAs::Flag(false),
+    help: "Writes the source with the mends that need no choice",
+};
+
 const NEEDED_JSON: ArgumentRow = ArgumentRow {
     id: "json",
     kind: GivenAs::Flag(true),
@@ -246,7 +252,7 @@ const COMMANDS: [CommandRow; 13] = [
         about: "Tells what is wrong in the source in FILE, where, and how to fix it",
         usage: None,
         help: CHECK_HELP,
-        arguments: &[EDITION, FILE_OR_INPUT, WITH, JSON],
+        arguments: &[EDITION, FILE_OR_INPUT, WITH, JSON, FIX],
     },
     CommandRow {
         name: "names",

@@ -35,6 +35,8 @@ pub enum Clash {
     Lines,
     /// A way of a careful run that there isn't.
     Care,
+    /// A source mended, and findings for an editor.
+    Fix,
 }
 
 /// What is asked of a source.
@@ -48,6 +50,8 @@ pub enum Question<'a> {
     Draw(Option<u64>),
     /// Its faults, and whether an editor reads them.
     Check(bool),
+    /// The same source, mended.
+    Fix,
     /// What each of its names is, and where it stands.
     Names,
     Trace(Walk<'a>),

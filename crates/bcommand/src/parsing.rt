@@ -2,7 +2,7 @@
 ghost use Rattle.std.specs.Prelude.{◌≡◌, [], IfOk, IfErr, map, option_map};
 ghost use Rattle.clap.specs.Words.{HasKind, fault_of, first_of, found_of, rows_of, subcommand_of, subcommand_rows_of};
 ghost use Rattle.bcommand.specs.CommandLine.{asked, asked_of, command_line, edition_in, file_in, is_set_in, libs_in, option_number, question_of, source_in, source_shown, steps_in};
-ghost use Rattle.bcommand.specs.CommandLine.{care_asked, count_in, go_in, list_in, map_in, origin_asked, origin_in, origin_or_clash, rows_asked, run_in, show_in, shown_steps, trace_in, trace_steps, try_in};
+ghost use Rattle.bcommand.specs.CommandLine.{care_asked, check_in, count_in, go_in, list_in, map_in, origin_asked, origin_in, origin_or_clash, rows_asked, run_in, show_in, shown_steps, trace_in, trace_steps, try_in};
 
 use crate::commands::command;
 use crate::job::{
@@ -46,7 +46,7 @@ pub fn job_of<'m, 'a: 'm>(matches: &'m ArgMatches<'a>) -> Job<'m>
         "migrate" => Job::Migrate,
         "list" => list_of(given),
         "map" => Job::Ask(source_of(given), map_of(given)),
-        "check" => Job::Ask(source_of(given), Question::Check(is_set(given, "json"))),
+        "check" => check_of(given),
         "names" => Job::Ask(source_of(given), Question::Names),
         "trace" => trace_of(given),
         "count" => count_of(given),
@@ -161,6 +161,16 @@ fn origin_named<'a>(
         (true, None, None) if libs.is_empty() => Ok(OriginNames::Code),
         (true, None, None) => Err(Clash::Libs),
         (true, _, _) => Err(Clash::Origins),
+    }
+}
+
+fn check_of<'m, 'a: 'm>(given: &'m ArgMatches<'a>) -> Job<'m>
+    ensures { asked_of result ≡ check_in (rows_of (found_of given.now)) }
+{
+    match (is_set(given, "fix"), is_set(given, "json")) {
+        (true, true) => Job::Contradiction(Clash::Fix),
+        (true, false) => Job::Ask(source_of(given), Question::Fix),
+        (false, for_editor) => Job::Ask(source_of(given), Question::Check(for_editor)),
     }
 }
 

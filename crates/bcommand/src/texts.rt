@@ -57,6 +57,12 @@ error: the argument '--careful' is '--careful', '--careful=warn' or '--careful=w
 For more information, try '--help'.
 ";
 
+const FIX: &str = "\
+error: the argument '--fix' cannot be used with '--json'
+
+For more information, try '--help'.
+";
+
 /// The message for options that contradict each other.
 pub fn clash_text(clash: Clash) -> &'static str
     ensures { result.now ≡ clash_line clash }
@@ -69,6 +75,7 @@ pub fn clash_text(clash: Clash) -> &'static str
         Clash::Made => MADE,
         Clash::Lines => LINES,
         Clash::Care => CARE,
+        Clash::Fix => FIX,
     }
 }
 
@@ -259,8 +266,17 @@ one object on one line, and nothing else. A source without a function main has
 no fault here. A place in a LIB is told by the name of LIB and its own line; the
 first line has the line in the whole, as b go has it.
 
+--fix writes FILE to standard output with each mend that needs no choice, and
+tells each beside it, then the first line of what is left, as check has it. No
+byte of a comment or of a string is lost. The script b, which runs this program,
+knows --write and --diff, too: b check --fix --write FILE puts the text in the
+place of FILE, and --diff shows what would change and writes nothing. A link is
+refused, and what is no plain file. FILE is never half written.
+
 Examples:
   b check hello.b
+  b check --fix hello.b > new.b
+  b check --fix --write hello.b
   b check --json --edition 2 menu.b
   b check --with print sum.b
 

@@ -35,6 +35,10 @@ returns-in-Check-clause-answers g c =
       })) c.form_of.ensures c.check.ensures.checks,
     )
 
+pub returns-in-Fix-clause-answers : goal.returns-in-Fix-clause-answers
+returns-in-Fix-clause-answers g c =
+    answered _ _ _ _ c.args.question questions.Fix _ _ c.in-Fix.is (refl, c.fix.ensures.fixes)
+
 pub returns-in-Names-clause-answers : goal.returns-in-Names-clause-answers
 returns-in-Names-clause-answers g c =
     answered _ _ _ _ c.args.question questions.Names _ _ c.in-Names.is (refl, refl, c.tell_names.ensures.names)

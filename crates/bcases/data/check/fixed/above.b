@@ -1,0 +1,5 @@
+main() {
+    auto c;
+    while((c = getchar()) > -1)
+        putchar(c);
+}

@@ -1,0 +1,5 @@
+main() {
+    auto s; /* "s" */
+    s = "// no comment"
+    putchar(char(s, 0)); /* ; */
+}

@@ -1,0 +1,5 @@
+main() {
+    auto c;
+    while(c = getchar() != '*e')
+        putchar(c);
+}

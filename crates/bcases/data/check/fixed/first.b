@@ -1,0 +1,4 @@
+main() {
+    twice(3)
+    twice(4);
+}

@@ -1,0 +1,5 @@
+main() {
+    auto n
+    n = 2;
+    case 1: printn(n, 10);
+}

@@ -1,0 +1,6 @@
+main() {
+    auto c, d;
+    d = getchar();
+    if(c = d)
+        putchar(c);
+}

@@ -1,0 +1,4 @@
+twice(n) {
+    printn(n * 2, 10)
+    putchar('*n');
+}

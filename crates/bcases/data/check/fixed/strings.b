@@ -1,0 +1,6 @@
+main() {
+    switch(getchar()) {
+    case "a": /* a */
+        putchar('y');
+    }
+}

@@ -1,0 +1,3 @@
+mod FixExcluded
+mod FixSteps
+mod Kept

@@ -1,0 +1,29 @@
+-- Promise: what the contract of a fix excludes, whatever its source and its streams are.
+use Rattle.std.specs.Prelude.{◌≡◌, ℕ, ◌*◌, ◌<◌, ◌≤◌, IsTrue, List, ◌++◌, length}
+use Rattle.bword.specs.ByteEnds.{Writes}
+use Rattle.blang.specs.declared.status.TheConstants.{DEVICE}
+use Rattle.bcheck.specs.Checks.{EachOutcome, EditParts, Mends, outcome_status}
+use Rattle.bfix.specs.Fixes.{Fix, Fixes, own_in, rest_in}
+use Rattle.bfix.specs.Keeping.{are_among, kept_of}
+
+-- the source, and the source with a text in the place of its first file
+abbrev pub source_in : Fix → List ℕ
+source_in f = own_in f ++ rest_in f
+
+abbrev pub with_text : Fix → (text : List ℕ) → List ℕ
+with_text f text = text ++ rest_in f
+
+-- What is excluded of a text that was written.
+pub record IsSound (f : Fix) (text : List ℕ) : Type 0 where
+  -- one in which a comment or a string of the source is lost, changed, or before one that it stood after
+  pub kept : IsTrue (are_among (kept_of f.edition (source_in f)) (kept_of f.edition (with_text f text)))
+  -- one of more than twice as many bytes
+  pub small : length text ≤ 2 * length (own_in f)
+  -- of a source that no edit mends, another text than the source
+  pub unmended : ((e : EditParts (source_in f)) → EachOutcome f.edition (source_in f) (λ o. Mends o e) → ⊥)
+      → text ≡ own_in f
+  -- another status than that of what was written
+  pub status : EachOutcome f.edition (with_text f text) (λ o. f.status ≡ outcome_status o)
+
+abbrev pub WrongFixes : Type 0
+WrongFixes = (f : Fix) → Fixes f → f.status < DEVICE → (text : List ℕ) × Writes f.out text f.out_after × IsSound f text

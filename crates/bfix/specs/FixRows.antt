@@ -1,0 +1,63 @@
+-- Closed facts: which comments and strings a source has, and what is written of one that is fixed.
+use Rattle.std.specs.Prelude.{◌≡◌, ℕ, true, false, List, [], ◌∷◌, Some, None, codes, map, refl}
+use Rattle.bword.specs.declared.edition.Edition.{Edition}
+use Rattle.bword.specs.declared.edition.Edition.TheVariants as editions
+use Rattle.bsources.specs.Files.{Files}
+use Rattle.blang.specs.Cut.{escape_of, fixed_of, greatest, keyword_of, longest, number_in, operator_of, other_of, whole}
+use Rattle.blang.specs.Cut.{with_quoted_byte, word_token}
+use Rattle.blex.specs.declared.lexeme.Lexeme.TheVariants as lexeme
+use Rattle.bword.specs.ByteEnds.{Outgoing}
+use Rattle.blang.specs.Reports.{Reported}
+use Rattle.bfix.specs.Fixes.{Lead, TellsAfter, all_lines, own_length}
+use Rattle.bfix.specs.Keeping.{are_among, is_kept, is_over, kept_from, kept_of}
+
+-- the end of a source, a comment, a string, and another token
+ends : map is_over (Some lexeme.End ∷ None ∷ Some lexeme.String ∷ Some lexeme.Comma ∷ [])
+    ≡ true ∷ false ∷ false ∷ false ∷ []
+ends = refl
+
+keeps : map is_kept (Some lexeme.End ∷ None ∷ Some lexeme.String ∷ Some lexeme.Comma ∷ Some (lexeme.Number 3) ∷ [])
+    ≡ false ∷ true ∷ true ∷ false ∷ false ∷ []
+keeps = refl
+
+-- comments and strings, after a wrong token, too
+kept_texts : kept_of editions.One (codes "\"a\"@/*b*/") ≡ codes "\"a\"" ∷ codes "/*b*/" ∷ []
+unfolding kept_from longest greatest whole word_token keyword_of number_in operator_of other_of fixed_of escape_of
+    with_quoted_byte
+kept_texts = refl
+
+-- texts among others: in their order, and as often
+among : are_among [] [] ∷ are_among [] (codes "a" ∷ []) ∷ are_among (codes "a" ∷ []) (codes "b" ∷ codes "a" ∷ []) ∷ []
+    ≡ true ∷ true ∷ true ∷ []
+among = refl
+
+not_among :
+    are_among (codes "a" ∷ []) [] ∷ are_among (codes "a" ∷ []) (codes "ab" ∷ codes "b" ∷ [])
+    ∷ are_among (codes "a" ∷ codes "a" ∷ []) (codes "a" ∷ codes "b" ∷ [])
+    ∷ are_among (codes "a" ∷ codes "b" ∷ []) (codes "b" ∷ codes "a" ∷ []) ∷ []
+    ≡ false ∷ false ∷ false ∷ false ∷ []
+not_among = refl
+
+-- how many bytes one line, two, and more than there are have
+own_lengths : map (λ lines. own_length lines (codes "ab\nc\nd")) (1 ∷ 2 ∷ 3 ∷ 4 ∷ []) ≡ 2 ∷ 4 ∷ 6 ∷ 6 ∷ []
+own_lengths = refl
+
+no_lines : map (λ text. own_length 1 text) ([] ∷ codes "\n" ∷ codes "a\n" ∷ []) ≡ 0 ∷ 0 ∷ 1 ∷ []
+no_lines = refl
+
+lines_of_all : map all_lines ([] ∷ (codes "a\n" ∷ []) ∷ (codes "a\n" ∷ codes "b\n" ∷ []) ∷ [])
+    ≡ [] ∷ codes "a\n" ∷ codes "a\nb\n" ∷ []
+lines_of_all = refl
+
+-- without a change the text is as it was
+as_it_was : (edition : Edition) (files : Files) (rest old new : List ℕ) → Lead edition files rest old [] new → new ≡ old
+as_it_was edition files rest old new h = h
+
+-- what is told after the text, and after a text that wasn't written
+after_text : (told : List ℕ) (status : ℕ) (line line_after : Outgoing) (result : ℕ)
+    → TellsAfter 0 told status line line_after result → Reported told status line line_after result
+after_text told status line line_after result h = h
+
+after_failure : (told : List ℕ) (status : ℕ) (line line_after : Outgoing) (result : ℕ)
+    → TellsAfter 133 told status line line_after result → (line_after ≡ line) × (result ≡ 133)
+after_failure told status line line_after result h = h

@@ -1,0 +1,4 @@
+pub mod FixExcluded
+mod FixRows
+pub mod Fixes
+pub mod Keeping

@@ -1,0 +1,186 @@
+//! The changes of a source, one after another.
+ghost use Rattle.std.specs.Prelude.{◌≡◌, ◌≤◌, IfOk, IfSome};
+ghost use Rattle.bsources.specs.Files.{files_shown};
+ghost use Rattle.bfix.specs.FixExcluded.{WrongFixes};
+ghost use Rattle.bfix.specs.declared.fixing.TheConstants.{MOST_CHANGES};
+ghost use Rattle.bfix.specs.Fixes.{Fixes, IsFixed, IsLed, IsMade, TellsBoth};
+
+use crate::edits::{edited, joined, own_length};
+use crate::keeping::keeps;
+use bcheck::{Change, next_change, verdict_on};
+use blang::status::{self, Status};
+use bsources::SourceFiles;
+use btools::{Text, tell};
+use bword::{ByteOut, Edition};
+use std::alloc::{AllocError, Global};
+
+/// The most changes of a source.
+pub const MOST_CHANGES: usize = 1000;
+
+/// How many bytes are looked at for one source, at most, each byte once for each change.
+const LOOKED_BYTES: usize = 16777216;
+
+/// A text that was fixed.
+#[derive(Drop)]
+pub struct FixedText {
+    pub text: Text,
+    /// A line for each change, and the line of the first fault that is left.
+    pub told: Text,
+    /// The status of a check of it.
+    pub status: Status,
+}
+
+/// A text, and the lines that tell how it came of another one.
+#[derive(Drop)]
+struct Led {
+    text: Text,
+    lines: Text,
+}
+
+/// What a text is fixed in: what comes after it in the source, and the most bytes that it may have.
+#[derive(Clone, Copy)]
+struct Frame<'a> {
+    edition: Edition,
+    files: SourceFiles<'a>,
+    rest: &'a [u8],
+    most: usize,
+}
+
+/// Mends the first file of a source wherever that needs no choice, and writes it. The changes are told beside it, and
+/// after them the first fault that is left.
+///
+/// The status is that of a check of what was written. If memory runs out nothing is written.
+pub fn fix<O: ByteOut, D: ByteOut>(
+    alloc: Global,
+    source: &[u8],
+    edition: Edition,
+    files: SourceFiles<'_>,
+    out: &mut O,
+    diag: &mut D,
+) -> Status
+    ensures fixes { Fixes (record {
+      edition = edition;
+      files = files_shown files.entry;
+      source = source.now;
+      out = O.outgoing out.old;
+      out_after = O.outgoing out.new;
+      line = D.outgoing diag.old;
+      line_after = D.outgoing diag.new;
+      status = result;
+    }) }
+    ensures out_lender { O.lender out.new ≡ O.lender out.old }
+    ensures diag_lender { D.lender diag.new ≡ D.lender diag.old }
+{
+    let (own, rest) = source.split_at(own_length(source, files.first.lines));
+    match fixed(alloc, edition, &files, own, rest) {
+        Ok(fixed) => tell_both(&fixed, out, diag),
+        Err(_) => status::MEMORY,
+    }
+}
+
+// Writes a text that was fixed, and what is told of it.
+fn tell_both<O: ByteOut, D: ByteOut>(fixed: &FixedText, out: &mut O, diag: &mut D) -> Status
+    ensures tells { TellsBoth fixed.now (O.outgoing out.old) (O.outgoing out.new) (D.outgoing diag.old)
+        (D.outgoing diag.new) result }
+    ensures out_lender { O.lender out.new ≡ O.lender out.old }
+    ensures diag_lender { D.lender diag.new ≡ D.lender diag.old }
+{
+    let written = tell(fixed.text.as_slice(), status::DONE, out);
+    if written != status::DONE {
+        return written;
+    }
+    tell(fixed.told.as_slice(), fixed.status, diag)
+}
+
+/// A text, before others in a source of these files, mended wherever that needs no choice.
+pub fn fixed(
+    alloc: Global,
+    edition: Edition,
+    files: &SourceFiles<'_>,
+    own: &[u8],
+    rest: &[u8],
+) -> Result<FixedText, AllocError>
+    ensures { IfOk result (IsFixed edition (files_shown files.now) own.now rest.now) }
+{
+    let frame = Frame {
+        edition,
+        files: *files,
+        rest,
+        most: own.len().saturating_mul(2),
+    };
+    let Led { text, lines } = follow(alloc, &frame, own)?;
+    let whole = joined(alloc, text.as_slice(), rest)?;
+    let verdict = verdict_on(alloc, whole.as_slice(), edition)?;
+    let told = joined(alloc, lines.as_slice(), verdict.first())?;
+    Ok(FixedText {
+        text,
+        told,
+        status: verdict.status(),
+    })
+}
+
+// Makes the changes of a text in turn.
+fn follow(alloc: Global, frame: &Frame<'_>, own: &[u8]) -> Result<Led, AllocError>
+    ensures { IfOk result (IsLed frame.now own.now) }
+{
+    let mut text = Text::new(alloc);
+    text.push(own)?;
+    let mut lines = Text::new(alloc);
+    for count in 0..most_changes(own.len()) {
+        let _ = count;
+        let found = made(alloc, frame, text.as_slice())?;
+        let Some(next) = found else {
+            break;
+        };
+        lines.push(next.lines.as_slice())?;
+        text = next.text;
+    }
+    Ok(Led { text, lines })
+}
+
+// How many changes are made of a text of so many bytes, at most.
+fn most_changes(len: usize) -> usize
+    ensures { result ≤ MOST_CHANGES }
+{
+    MOST_CHANGES.min(LOOKED_BYTES / len.max(1))
+}
+
+// What the next change makes of a text, and its line. No comment and no string is lost by it.
+fn made(alloc: Global, frame: &Frame<'_>, old: &[u8]) -> Result<Option<Led>, AllocError>
+    ensures { IfOk result (λ made. IfSome made (IsMade frame.now old.now)) }
+{
+    let whole = joined(alloc, old, frame.rest)?;
+    let found = next_change(
+        alloc,
+        whole.as_slice(),
+        frame.edition,
+        &frame.files,
+        old.len(),
+    )?;
+    let Some(change) = found else {
+        return Ok(None);
+    };
+    let Change {
+        start,
+        len,
+        text: words,
+        line,
+    } = change;
+    if len > old.len() || start > old.len() - len {
+        return Ok(None);
+    }
+    let text = edited(alloc, old, start, len, words.as_slice())?;
+    let new = joined(alloc, text.as_slice(), frame.rest)?;
+    let is_small = text.as_slice().len() <= frame.most;
+    if is_small && keeps(alloc, frame.edition, whole.as_slice(), new.as_slice())? {
+        Ok(Some(Led { text, lines: line }))
+    } else {
+        Ok(None)
+    }
+}
+
+/// What no fix writes: a text that has lost a comment or a string, that is more than twice as long, or that is another
+/// one than the source where no edit mends it; and no fix ends with another status than that of what it wrote.
+pub fn wrong_fixes_are_excluded()
+    ensures { WrongFixes }
+{}
