@@ -7,7 +7,7 @@ use Rattle.std.specs.List.{All, AllZip, flat_map, list_all}
 use Rattle.std.proofs.lemmas.List.{get_or_default, take-append-drop, take_all, take_more}
 use Rattle.std.proofs.lemmas.Slice.Zip.{AllZip-long}
 use Rattle.std.proofs.lemmas.List.Concat.{flat_map-append}
-use Rattle.std.proofs.lemmas.List.Elements.{All-cons, All-head, All-nil, All-push, All-tail, All-weaker}
+use Rattle.std.proofs.lemmas.List.Elements.{All-append, All-cons, All-head, All-nil, All-push, All-tail, All-weaker}
 use Rattle.btools.proofs.AddedTexts.{each_more}
 use Rattle.bword.specs.declared.edition.Edition.{Edition}
 use Rattle.blang.specs.Code.{code_of}
@@ -20,12 +20,20 @@ use Rattle.blang.specs.declared.code.Definition.{Definition}
 use Rattle.blang.specs.declared.run.LoadFault.{LoadFault}
 use Rattle.blang.specs.declared.run.LoadFault.TheVariants as fault
 use Rattle.blang.specs.declared.token.Diagnostic.{Diagnostic}
+use Rattle.bcheck.specs.Sections.{Section, at_fault, sections}
+use Rattle.bcheck.specs.declared.finding.TheConstants.{MOST_FINDINGS}
+use Rattle.bcheck.specs.declared.verdict.Verdict.{Verdict}
+use Rattle.bcheck.specs.declared.verdict.Verdict.TheVariants as verdict
+use Rattle.bcheck.specs.Checks.{IsFurther, IsOfSection, IsOfSections, Judged, TellsSection, status_told, told_first}
+use Rattle.bword.specs.ByteEnds.{Kept}
+use Rattle.bcheck.specs.declared.told.Setting.{Setting}
+use Rattle.bcheck.specs.Findings.{AddsAfter, AddsFurther, IsAfter, IsOnSection, IsReasoned, IsStopOf, TellsAfter, TellsFinding, matter_code}
 use Rattle.bcheck.specs.Checks.{EditParts, IsMended, Mends, cut_mark, edit_object, edits_text, file_member, mended_line, mended_lines}
 use Rattle.bcheck.specs.Checks.{AreFindings, EachOutcome, FindingParts, IsReason, IsWhole, Reason, Says, Second, fault_in, finding_at, finding_column, finding_end, finding_line, finding_unit, finding_unit_end, finding_text, findings_text, is_on_line, outcome_of, second_text, severity_of, severity_word, shown_text, is_of_several, spot_words}
 use Rattle.bplaces.specs.Columns.{column_after}
 use Rattle.btools.specs.Quoting.{file_text, json_text}
 use Rattle.bplaces.specs.Units.{unit_column}
-use Rattle.bcheck.specs.Findings.{AddsFinding, AreWhole, Improves, IsExcerpt, IsOn, IsSecond, IsTried, MendsIn, ReasonAt, TellsOf}
+use Rattle.bcheck.specs.Findings.{AddsFinding, AreWhole, Improves, IsExcerpt, IsOn, IsSecond, IsTried, MendsIn, TellsOf}
 use Rattle.bcheck.specs.UndefinedNames.{IsAtName, Tells, name_in, told_subjects}
 use Rattle.bcheck.specs.declared.mention.Subject.{Subject}
 use Rattle.bcheck.specs.declared.finding.Finding.{Finding}
@@ -235,6 +243,10 @@ Reasoned edition source p = EachOutcome edition source (λ o. Reason o.edition o
 abbrev pub SaysIts : {source : List ℕ} → Finding → FindingParts source → Type 0
 SaysIts {source} f p = (subject : Subject) → TellsOf source subject f → Says subject p
 
+-- the finding in its parts has the same code and place
+abbrev pub IsSame : {source : List ℕ} → Finding → FindingParts source → Type 0
+IsSame {source} f p = (p.code ≡ matter_code f.matter) × (p.before ++ p.left ≡ take f.place.start source)
+
 -- the text of the first findings
 abbrev pub FindingsSoFar : FindingForm → Edition → (status : ℕ) → Files → (source : List ℕ) → (found : List Finding) → (count : ℕ) → (text : List ℕ) → Type 0
 FindingsSoFar form edition status files source found count text =
@@ -247,22 +259,29 @@ zip_more R [] (b ∷ ys) x y h r = absurd h
 zip_more R (a ∷ xs) [] x y h r = absurd h
 zip_more R (a ∷ xs) (b ∷ ys) x y h r = (h.0, zip_more R xs ys x y h.1 r)
 
+-- a finding that was added in its form is told
+pub told_as : (form f : FindingForm) (s : Severity) (edition : Edition) (files : Files) (source : List ℕ) (it : Finding) (code sentence old new : List ℕ) → form ≡ f → code ≡ matter_code it.matter → ((subject : Subject) → IsOn subject it → Tells subject sentence)
+    → AddsFinding f s edition files source it.place.start code sentence old new → TellsFinding form s edition files source it old new
+told_as form f s edition files source it code sentence old new same is tells a =
+    (sentence, tells, subst (λ x. AddsFinding x s edition files source it.place.start (matter_code it.matter) sentence old new) (sym same) (subst (λ k. AddsFinding f s edition files source it.place.start k sentence old new) is a))
+
 -- one finding more
-module _ (form f : FindingForm) (edition : Edition) (status : ℕ) (s : Severity) (files : Files) (source : List ℕ) (found : List Finding) (it : Finding) (code sentence old new said : List ℕ) (count : ℕ) where
-  pub finding_more : form ≡ f → s ≡ severity_of status → said ≡ new → count < length found → it ≡ get_or found count it → EachOutcome edition source (ReasonAt code it.place.start)
-      → ((subject : Subject) → IsOn subject it → Tells subject sentence)
-      → FindingsSoFar form edition status files source found count old → AddsFinding f s edition files source it.place.start code sentence old new → FindingsSoFar form edition status files source found (count + 1) said
-  finding_more same also is lt here reason tells a more =
+module _ (form : FindingForm) (edition : Edition) (status : ℕ) (s : Severity) (files : Files) (source : List ℕ) (found : List Finding) (it : Finding) (old new : List ℕ) (count : ℕ) where
+  pub finding_more : s ≡ severity_of status → count < length found → it ≡ get_or found count it → IsReasoned edition source it
+      → FindingsSoFar form edition status files source found count old → TellsFinding form s edition files source it old new → FindingsSoFar form edition status files source found (count + 1) new
+  finding_more also lt here reason a more =
       let severity = severity_of status in
       let text = finding_text form severity files in
-      let b : AddsFinding form severity edition files source it.place.start code sentence old said =
-      subst (λ x. AddsFinding x severity edition files source it.place.start code sentence old said) (sym same) (subst (λ y. AddsFinding f y edition files source it.place.start code sentence old said) also (subst (λ t. AddsFinding f s edition files source it.place.start code sentence old t) (sym is) more)) in
+      let code = matter_code it.matter in
+      let sentence = more.0 in
+      let b : AddsFinding form severity edition files source it.place.start code sentence old new =
+      subst (λ y. AddsFinding form y edition files source it.place.start code sentence old new) also more.2 in
       let reasoned : Reasoned edition source b.0 =
       λ r g. subst (λ c. Reason edition r.stop (load_fault (map code_of g.definitions)) c (b.0.before ++ b.0.left) (b.0.right ++ b.0.after)) (sym b.1)
       (subst (λ x. Reason edition r.stop (load_fault (map code_of g.definitions)) code x (b.0.right ++ b.0.after)) (sym b.2)
       (subst (λ x. Reason edition r.stop (load_fault (map code_of g.definitions)) code (take it.place.start source) x) (sym b.3) (reason r g))) in
       let says : SaysIts it b.0 =
-      λ subject on. (subst (λ t. Tells subject t) (sym b.5) (tells subject on.0), subst (λ x. IsAtName (name_in subject) x (b.0.right ++ b.0.after)) (sym b.2) (subst (λ x. IsAtName (name_in subject) (take it.place.start source) x) (sym b.3) on.1)) in
+      λ subject on. (subst (λ t. Tells subject t) (sym b.5) (more.1 subject on.0), subst (λ x. IsAtName (name_in subject) x (b.0.right ++ b.0.after)) (sym b.2) (subst (λ x. IsAtName (name_in subject) (take it.place.start source) x) (sym b.3) on.1)) in
       let items : take (count + 1) found ≡ take count found ++ it ∷ [] = take_more found count it lt ∙ ap (λ y. take count found ++ y ∷ []) (sym here) in (
         a.0 ++ b.0 ∷ [],
         subst (λ fs. AllZip SaysIts fs (a.0 ++ b.0 ∷ [])) (sym items) (zip_more SaysIts (take count found) a.0 it b.0 a.1 says),
@@ -270,6 +289,69 @@ module _ (form f : FindingForm) (edition : Edition) (status : ℕ) (s : Severity
         b.4 ∙ ap (λ t. t ++ text b.0) a.3 ∙ sym (flat_map-append text a.0 (b.0 ∷ []) ∙ ap (λ t. flat_map text a.0 ++ t) (append-nil (text b.0))),
         All-push (MendedIn edition) a.0 b.0 a.4 b.6,
       )
+
+-- what is told of sections so far
+abbrev pub FurtherSoFar : FindingForm → Edition → Severity → Files → (source : List ℕ) → (found : List Finding) → (count : ℕ) → (old new : List ℕ) → Type 0
+FurtherSoFar form edition s files source found count old new =
+    (further : List (FindingParts source)) × AllZip IsSame (take count found) further × (new ≡ old ++ flat_map (finding_text form s files) further) × All (MendedIn edition) further
+
+module _ (form : FindingForm) (edition : Edition) (s : Severity) (files : Files) (source : List ℕ) (found : List Finding) (it : Finding) (first old new : List ℕ) (count : ℕ) where
+  pub further_more : count < length found → it ≡ get_or found count it → FurtherSoFar form edition s files source found count first old → TellsFinding form s edition files source it old new
+      → FurtherSoFar form edition s files source found (count + 1) first new
+  further_more lt here a more =
+      let text = finding_text form s files in
+      let b = more.2 in
+      let items : take (count + 1) found ≡ take count found ++ it ∷ [] = take_more found count it lt ∙ ap (λ y. take count found ++ y ∷ []) (sym here) in (
+        a.0 ++ b.0 ∷ [],
+        subst (λ fs. AllZip IsSame fs (a.0 ++ b.0 ∷ [])) (sym items) (zip_more IsSame (take count found) a.0 it b.0 a.1 (b.1, b.2)),
+        b.4 ∙ ap (λ t. t ++ text b.0) a.2 ∙ append_assoc first (flat_map text a.0) (text b.0)
+            ∙ ap (λ t. first ++ t) (sym (flat_map-append text a.0 (b.0 ∷ []) ∙ ap (λ t. flat_map text a.0 ++ t) (append-nil (text b.0)))),
+        All-push (MendedIn edition) a.0 b.0 a.3 b.6,
+      )
+
+-- what is told of them is on the same faults
+on_same : (edition : Edition) (source : List ℕ) (fault : Section × Diagnostic) (f : Finding) (p : FindingParts source) → IsOnSection edition source fault f → IsSame f p → TellsSection edition fault p
+on_same edition source fault f p on same =
+    subst (λ c. IsOfSection edition fault c (p.before ++ p.left)) (sym same.0) (subst (λ x. IsOfSection edition fault (matter_code f.matter) x) (sym same.1) on)
+
+on_sections : (edition : Edition) (source : List ℕ) (faults : List (Section × Diagnostic)) (fs : List Finding) (ps : List (FindingParts source)) → AllZip (IsOnSection edition source) faults fs → AllZip IsSame fs ps → AllZip (TellsSection edition) faults ps
+on_sections edition source [] [] [] on same = on
+on_sections edition source [] [] (p ∷ ps) on same = absurd same
+on_sections edition source [] (f ∷ fs) ps on same = absurd on
+on_sections edition source (x ∷ xs) [] ps on same = absurd on
+on_sections edition source (x ∷ xs) (f ∷ fs) [] on same = absurd same
+on_sections edition source (x ∷ xs) (f ∷ fs) (p ∷ ps) on same = (on_same edition source x f p on.0 same.0, on_sections edition source xs fs ps on.1 same.1)
+
+pub further_of : (edition : Edition) (source : List ℕ) (line : ℕ) (fs : List Finding) (ps : List (FindingParts source)) → TellsAfter edition source line fs → AllZip IsSame fs ps → IsOfSections (TellsSection edition) edition line source ps
+further_of edition source line fs ps told same =
+    (told.0, told.1, on_sections edition source (take (MOST_FINDINGS - 1) (at_fault (sections edition line source) told.0)) fs ps told.2 same)
+
+-- all of them were told
+pub further_all : (form : FindingForm) (edition : Edition) (s : Severity) (files : Files) (source : List ℕ) (line : ℕ) (found : List Finding) (count : ℕ) (old new : List ℕ) → count ≡ length found → TellsAfter edition source line found
+    → FurtherSoFar form edition s files source found count old new
+    → (further : List (FindingParts source)) × IsOfSections (TellsSection edition) edition line source further
+    × ((new ≡ old ++ flat_map (finding_text form s files) further) × All (MendedIn edition) further)
+further_all form edition s files source line found count old new is told a =
+    let same : AllZip IsSame found a.0 = subst (λ fs. AllZip IsSame fs a.0) (take_all count found (omega (arith, is))) a.1 in
+    (a.0, further_of edition source line found a.0 told same, (a.2, a.3))
+
+-- what is told after each verdict
+pub faulty_further : {E : Type 0} (setting : Setting) (v : Verdict) (old new : List ℕ) (line : Kept) (d : Diagnostic) (r : Result (Unit {0}) E) → v ≡ verdict.Faulty line d → OnOk r (AddsAfter setting d.line old new) → OnOk r (AddsFurther setting v old new)
+faulty_further setting v old new line d r is h =
+    on_ok r _ _ (λ a. (a.0, subst (λ x. IsAfter setting.source.edition x a.0) (sym is) a.1, a.2)) h
+
+nothing_further : (setting : Setting) (v : Verdict) (text : List ℕ) → IsAfter {source = setting.source.text.now} setting.source.edition v [] → AddsFurther setting v text text
+nothing_further setting v text none = ([], none, (sym (append-nil text), All-nil (MendedIn setting.source.edition)))
+
+pub clean_further : (setting : Setting) (v : Verdict) (text : List ℕ) → v ≡ verdict.Clean → AddsFurther setting v text text
+clean_further setting v text is = nothing_further setting v text (subst (λ x. IsAfter {source = setting.source.text.now} setting.source.edition x []) (sym is) refl)
+
+pub unloaded_further : (setting : Setting) (v : Verdict) (text : List ℕ) (f : LoadFault) → v ≡ verdict.Unloaded f → AddsFurther setting v text text
+unloaded_further setting v text f is = nothing_further setting v text (subst (λ x. IsAfter {source = setting.source.text.now} setting.source.edition x []) (sym is) refl)
+
+no_diagnostic : (stop : Option Diagnostic) (f : Option LoadFault) (line : List ℕ) (status : ℕ) → ◌≡◌ {A = List ℕ × ℕ} (line, status) (told_first stop f) → (status ≡ 1 → ⊥) → stop ≡ None
+no_diagnostic None f line status e other = refl
+no_diagnostic (Some d) f line status e other = absurd (other (ap (λ (p : List ℕ × ℕ). p.1) e))
 
 reasons_at : (edition : Edition) (source : List ℕ) (r : Compilation) (g : CompilesTo [] (tokens_from edition 1 source) r) (ps : List (FindingParts source)) → All (Reasoned edition source) ps → All (IsReason (outcome_of edition source r.stop (map code_of g.definitions))) ps
 reasons_at edition source r g ps h = All-weaker (Reasoned edition source) (IsReason (outcome_of edition source r.stop (map code_of g.definitions))) (λ p is. is r g) ps h
@@ -297,9 +379,26 @@ whole_said None (Some (fault.Undefined name)) ds fs ps says whole = says_each (t
 whole_said None (Some fault.NoMain) ds fs ps says whole = tt
 whole_said None (Some fault.Memory) ds fs ps says whole = AllZip-long SaysIts fs ps says ∙ whole
 
+-- what is told after a diagnostic
+further_at : (edition : Edition) (source : List ℕ) (v : Verdict) (r : Compilation) (g : CompilesTo [] (tokens_from edition 1 source) r) (further : List (FindingParts source)) → Judged edition source v → IsStopOf edition source v → IsAfter edition v further → IsFurther edition r.stop further
+further_at edition source verdict.Clean r g further j stop after = subst (λ o. IsFurther edition o further) (sym (no_diagnostic r.stop (load_fault (map code_of g.definitions)) [] 0 (j r g) (λ e. cc))) after
+further_at edition source (verdict.Faulty line d) r g further j stop after = subst (λ o. IsFurther edition o further) (sym (stop r g)) after
+further_at edition source (verdict.Unloaded f) r g further j stop after = subst (λ o. IsFurther edition o further) (sym (no_diagnostic r.stop (load_fault (map code_of g.definitions)) _ 132 (j r g) (λ e. cc))) after
+
 -- all of them
-pub all_findings : (form : FindingForm) (edition : Edition) (status : ℕ) (files : Files) (source said : List ℕ) (found : List Finding) (count : ℕ) → AreWhole edition source found → count ≡ length found → FindingsSoFar form edition status files source found count said
-    → EachOutcome edition source (λ o. AreFindings form o status files said)
-all_findings form edition status files source said found count whole is a =
+pub all_findings : (form : FindingForm) (edition : Edition) (v : Verdict) (files : Files) (source said whole_text : List ℕ) (found : List Finding) (count : ℕ) → Judged edition source v → IsStopOf edition source v → AreWhole edition source found → count ≡ length found
+    → FindingsSoFar form edition (status_told v) files source found count said
+    → (further : List (FindingParts source)) → IsAfter edition v further → whole_text ≡ said ++ flat_map (finding_text form (severity_of (status_told v)) files) further → All (MendedIn edition) further
+    → EachOutcome edition source (λ o. AreFindings form o (status_told v) files whole_text)
+all_findings form edition v files source said whole_text found count j stop whole is a further after also mended =
     let says : AllZip SaysIts found a.0 = subst (λ fs. AllZip SaysIts fs a.0) (take_all count found (omega (arith, is))) a.1 in
-    λ r g. (a.0, whole_said r.stop (load_fault (map code_of g.definitions)) (map code_of g.definitions) found a.0 says (whole r g), reasons_at edition source r g a.0 a.2, a.3, mended_at edition source r g a.0 a.4)
+    let text = finding_text form (severity_of (status_told v)) files in
+    λ r g. (
+      a.0,
+      whole_said r.stop (load_fault (map code_of g.definitions)) (map code_of g.definitions) found a.0 says (whole r g),
+      reasons_at edition source r g a.0 a.2,
+      further,
+      further_at edition source v r g further j stop after,
+      also ∙ ap (λ t. t ++ flat_map text further) a.3 ∙ sym (flat_map-append text a.0 further),
+      mended_at edition source r g (a.0 ++ further) (All-append (MendedIn edition) a.0 further a.4 mended),
+    )

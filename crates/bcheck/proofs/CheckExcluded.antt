@@ -1,10 +1,10 @@
 -- What the contract of a check excludes.
-use Rattle.std.proofs.Common.{◌≡◌, ◌≢◌, ◌∙◌, ◌<◌, ◌≤◌, ◌+◌, ◌*◌, ℕ, suc, List, [], ◌∷◌, ◌++◌, false, IsTrue, Option, Some, None, ap, append_assoc, arith, codes, decimal, drop, length, map, refl, subst, sym, take, inl, inr, ⊎_elim, true}
+use Rattle.std.proofs.Common.{◌≡◌, ◌≢◌, ◌∙◌, ◌<◌, ◌≤◌, ◌+◌, ◌*◌, ℕ, suc, List, [], ◌∷◌, ◌++◌, ◌-◌, false, IsTrue, Option, Some, None, ap, append-nil, append_assoc, arith, codes, decimal, drop, length, map, refl, subst, sym, take, inl, inr, ⊎_elim, true}
 use Rattle.std.specs.Io.{StartsWith}
 use Rattle.std.specs.List.{All, AllZip, flat_map}
 use Rattle.std.proofs.Math.Seq.{take-append_seam}
 use Rattle.std.proofs.lemmas.Bool.{both_ways}
-use Rattle.std.proofs.lemmas.List.{append_cancel_left, append_cancel_right}
+use Rattle.std.proofs.lemmas.List.{append_cancel_left, append_cancel_right, length-append}
 use Rattle.std.proofs.lemmas.Slice.Eq.{bytes_eq-Decides}
 use Rattle.std.specs.Prelude.{not}
 use Rattle.bword.specs.Words.{same_name}
@@ -34,9 +34,11 @@ use Rattle.bsources.specs.Files.{File, Files, Line, own_line, own_line_among}
 use Rattle.bcheck.specs.Checks.{IsAtToken, IsOver, Reason, StandsOn, code_keyword, diagnostic_code, finding_at}
 use Rattle.bplaces.specs.Columns.{column_after}
 use Rattle.btools.specs.Quoting.{file_text, json_text}
-use Rattle.bcheck.specs.Checks.{EditParts, IsMended, Mends, mended, mended_lines}
+use Rattle.bcheck.specs.Checks.{EditParts, IsFurther, IsMended, Mends, TellsSection, mended, mended_lines}
+use Rattle.bcheck.specs.Sections.{at_fault, sections}
+use Rattle.bcheck.specs.declared.finding.TheConstants.{MOST_FINDINGS}
 use Rattle.bcheck.specs.Checks.{AreFindings, Check, Checks, FindingParts, Outcome, TellsFirst, finding_column, fix_and_places, finding_head, finding_line, finding_mark, finding_shown, finding_start, finding_text, IsWhole, Says, fault_in, outcome_of, findings_text, severity_of, shown_in_form, told_first}
-use Rattle.bcheck.specs.CheckExcluded.{BeginsWith, ComesTo, Excluded, IsTold, Never, NeverOf, file_at, file_of, HasLines, finding_count, findings_of, outcome_in, has_no_colon, is_printed, newlines}
+use Rattle.bcheck.specs.CheckExcluded.{BeginsWith, ComesTo, Excluded, IsTold, Never, NeverOf, file_at, file_of, HasLines, IsCount, IsCountOf, outcome_in, has_no_colon, is_printed, newlines}
 use Rattle.bcheck.specs.Tokens.{has_token_on, is_in_token}
 use Rattle.bcheck.specs.UndefinedNames.{Tells, told_subjects}
 use Rattle.bcheck.specs.declared.mention.Subject.{Subject}
@@ -102,37 +104,51 @@ after_line form status files first text more (p ∷ ps) some e is =
     let start = finding_start form (finding_at files p).file in
     (finding_line p, begins text (first ++ start) f.0 (e ∙ ap (λ t. first ++ t) (is ∙ f.1) ∙ sym (append_assoc first start f.0)))
 
+-- there are findings before those of sections
+still_some : {source : List ℕ} (ps further : List (FindingParts source)) → (ps ≡ [] → ⊥) → ps ++ further ≡ [] → ⊥
+still_some [] further some e = some refl
+still_some (p ∷ ps) further some e = cc
+
 none_of_some : {source : List ℕ} (ps : List (FindingParts source)) → 0 < length ps → ps ≡ [] → ⊥
 none_of_some [] some e = let no : ◌<◌ 0 0 = some in absurd (omega (arith, no))
 none_of_some (p ∷ ps) some e = cc
 
--- how many findings there are of a fault
-counted : {source : List ℕ} (stop : Option Diagnostic) (f : Option LoadFault) (ds : List Definition) (line : List ℕ) (status : ℕ) (ps : List (FindingParts source)) → told_first stop f ≡ (line, status) → status ≢ DONE → IsWhole Says stop f ds ps → length ps ≡ finding_count stop f ds
-counted (Some d) f ds line status ps told wrong is = is
-counted None None ds line status ps told wrong is = absurd (wrong (sym (ap (λ (p : List ℕ × ℕ). p.1) told)))
-counted None (Some (fault.Duplicate name)) ds line status ps told wrong is = is
-counted None (Some fault.TooLarge) ds line status ps told wrong is = is
-counted None (Some (fault.Undefined name)) ds line status ps told wrong is = AllZip-long Says (told_subjects ds) ps is
-counted None (Some fault.NoMain) ds line status ps told wrong is = absurd (wrong (sym (ap (λ (p : List ℕ × ℕ). p.1) told)))
-counted None (Some fault.Memory) ds line status ps told wrong is = is
+-- how many findings there are of a fault, with those of sections
+counted : (o : Outcome) (stop : Option Diagnostic) (f : Option LoadFault) (line : List ℕ) (status : ℕ) (ps further : List (FindingParts o.source)) → told_first stop f ≡ (line, status) → status ≢ DONE → IsWhole Says stop f o.definitions ps → IsFurther o.edition stop further
+    → IsCount o stop f (length (ps ++ further))
+counted o (Some d) f line status ps further told wrong is more =
+    (more.0, more.1, length-append ps further ∙ ap (λ n. n + length further) is ∙ ap (λ n. 1 + n) (AllZip-long (TellsSection o.edition) (take (MOST_FINDINGS - 1) (at_fault (sections o.edition d.line o.source) more.0)) further more.2))
+counted o None None line status ps further told wrong is more = absurd (wrong (sym (ap (λ (p : List ℕ × ℕ). p.1) told)))
+counted o None (Some (fault.Duplicate name)) line status ps further told wrong is more = ap (λ qs. length (ps ++ qs)) more ∙ ap length (append-nil ps) ∙ is
+counted o None (Some fault.TooLarge) line status ps further told wrong is more = ap (λ qs. length (ps ++ qs)) more ∙ ap length (append-nil ps) ∙ is
+counted o None (Some (fault.Undefined name)) line status ps further told wrong is more = ap (λ qs. length (ps ++ qs)) more ∙ ap length (append-nil ps) ∙ AllZip-long Says (told_subjects o.definitions) ps is
+counted o None (Some fault.NoMain) line status ps further told wrong is more = absurd (wrong (sym (ap (λ (p : List ℕ × ℕ). p.1) told)))
+counted o None (Some fault.Memory) line status ps further told wrong is more = ap (λ qs. length (ps ++ qs)) more ∙ ap length (append-nil ps) ∙ is
 
 -- there is one
-some_counted : (stop : Option Diagnostic) (f : Option LoadFault) (ds : List Definition) → load_fault ds ≡ f → 0 < finding_count stop f ds
-some_counted (Some d) f ds is = omega arith
-some_counted None None ds is = omega arith
-some_counted None (Some (fault.Duplicate name)) ds is = omega arith
-some_counted None (Some fault.TooLarge) ds is = omega arith
-some_counted None (Some (fault.Undefined name)) ds is = names_told ds name is
-some_counted None (Some fault.NoMain) ds is = omega arith
-some_counted None (Some fault.Memory) ds is = omega arith
+some_found : {source : List ℕ} (stop : Option Diagnostic) (f : Option LoadFault) (ds : List Definition) (line : List ℕ) (status : ℕ) (ps : List (FindingParts source)) → load_fault ds ≡ f → told_first stop f ≡ (line, status) → status ≢ DONE → IsWhole Says stop f ds ps → 0 < length ps
+some_found (Some d) f ds line status ps at told wrong is = omega (arith, is)
+some_found None None ds line status ps at told wrong is = absurd (wrong (sym (ap (λ (p : List ℕ × ℕ). p.1) told)))
+some_found None (Some (fault.Duplicate name)) ds line status ps at told wrong is = omega (arith, is)
+some_found None (Some fault.TooLarge) ds line status ps at told wrong is = omega (arith, is)
+some_found None (Some (fault.Undefined name)) ds line status ps at told wrong is = subst (λ n. 0 < n) (sym (AllZip-long Says (told_subjects ds) ps is)) (names_told ds name at)
+some_found None (Some fault.NoMain) ds line status ps at told wrong is = absurd (wrong (sym (ap (λ (p : List ℕ × ℕ). p.1) told)))
+some_found None (Some fault.Memory) ds line status ps at told wrong is = omega (arith, is)
 
-count_told : (c : Check) (line : List ℕ) (status : ℕ) (text : List ℕ) (to : ComesTo c line status) (w : WasTold c.form (comes_to c line status to) c.files (shown_in_form c.form line) status c.status text) → status ≢ DONE → length w.are.0 ≡ findings_of to
+-- all findings
+abbrev all_of : {form : FindingForm} → {o : Outcome} → {files : Files} → {first : List ℕ} → {status result : ℕ} → {text : List ℕ} → WasTold form o files first status result text → List (FindingParts o.source)
+all_of w = w.are.0 ++ w.are.3
+
+count_told : (c : Check) (line : List ℕ) (status : ℕ) (text : List ℕ) (to : ComesTo c line status) (w : WasTold c.form (comes_to c line status to) c.files (shown_in_form c.form line) status c.status text) → status ≢ DONE → IsCountOf to (length (all_of w))
 count_told c line status text to w wrong =
-    counted to.outcome.stop (load_fault (map code_of to.goes.definitions)) (map code_of to.goes.definitions) line status w.are.0 to.told wrong w.are.1
+    counted (comes_to c line status to) to.outcome.stop (load_fault (map code_of to.goes.definitions)) line status w.are.0 w.are.3 to.told wrong w.are.1 w.are.4
 
-some_told : (c : Check) (line : List ℕ) (status : ℕ) (text : List ℕ) (to : ComesTo c line status) (w : WasTold c.form (comes_to c line status to) c.files (shown_in_form c.form line) status c.status text) → status ≢ DONE → w.are.0 ≡ [] → ⊥
-some_told c line status text to w wrong =
-    none_of_some w.are.0 (subst (λ n. 0 < n) (sym (count_told c line status text to w wrong)) (some_counted to.outcome.stop (load_fault (map code_of to.goes.definitions)) (map code_of to.goes.definitions) refl))
+first_some : (c : Check) (line : List ℕ) (status : ℕ) (text : List ℕ) (to : ComesTo c line status) (w : WasTold c.form (comes_to c line status to) c.files (shown_in_form c.form line) status c.status text) → status ≢ DONE → w.are.0 ≡ [] → ⊥
+first_some c line status text to w wrong =
+    none_of_some w.are.0 (some_found to.outcome.stop (load_fault (map code_of to.goes.definitions)) (map code_of to.goes.definitions) line status w.are.0 refl to.told wrong w.are.1)
+
+some_told : (c : Check) (line : List ℕ) (status : ℕ) (text : List ℕ) (to : ComesTo c line status) (w : WasTold c.form (comes_to c line status to) c.files (shown_in_form c.form line) status c.status text) → status ≢ DONE → all_of w ≡ [] → ⊥
+some_told c line status text to w wrong = still_some w.are.0 w.are.3 (first_some c line status text to w wrong)
 
 no_line : Never (λ c line status text. StartsWith text (shown_in_form c.form line) → ⊥)
 no_line c line status text to t wrong h = let w = told_in c line status text to t h in wrong (begins text (shown_in_form c.form line) w.more w.text_is)
@@ -140,7 +156,7 @@ no_line c line status text to t wrong h = let w = told_in c line status text to 
 no_finding : Never (λ c line status text. (status ≢ DONE) × ((n : ℕ) → StartsWith text (shown_in_form c.form line ++ finding_start c.form (file_at c n)) → ⊥))
 no_finding c line status text to t wrong h =
     let w = told_in c line status text to t h in
-    let begun = after_line c.form status c.files (shown_in_form c.form line) text w.more w.are.0 (some_told c line status text to w wrong.0) w.text_is w.are.3 in
+    let begun = after_line c.form status c.files (shown_in_form c.form line) text w.more (all_of w) (some_told c line status text to w wrong.0) w.text_is w.are.5 in
     wrong.1 begun.0 begun.1
 
 -- what has no fault has no line
@@ -170,7 +186,7 @@ findings_begin form status files text more (p ∷ ps) some e is =
 no_fault : Never (λ c line status text. (status ≡ DONE) × (text ≢ []) × ((n : ℕ) → StartsWith text (finding_start c.form (file_at c n)) → ⊥))
 no_fault c line status text to t wrong h =
     let w = told_in c line status text to t h in
-    let begun = findings_begin c.form status c.files text w.more w.are.0 wrong.1 (w.text_is ∙ ap (λ x. x ++ w.more) (nothing_shown c line status to wrong.0)) w.are.3 in
+    let begun = findings_begin c.form status c.files text w.more (all_of w) wrong.1 (w.text_is ∙ ap (λ x. x ++ w.more) (nothing_shown c line status to wrong.0)) w.are.5 in
     wrong.2 begun.0 begun.1
 
 -- each line of one file is its own
@@ -186,8 +202,8 @@ other_severity : Never (λ c line status text.
     × (text ≡ shown_in_form c.form line ++ (findings_text c.form status c.files before ++ (finding_head c.form s (file_of c) row column ++ rest))))
 other_severity c line status text to t wrong h =
     let w = told_in c line status text to t h in
-    other_severity_after c.form wrong.1 (severity_of status) c.files (file_of c) (λ n. ap (λ (l : Line). l.file) (alone c.files wrong.6 n)) wrong.0 w.are.0 wrong.2 wrong.3 wrong.4 wrong.5
-    (append_cancel_left (shown_in_form c.form line) _ _ (sym wrong.7 ∙ w.text_is ∙ ap (λ x. shown_in_form c.form line ++ x) w.are.3))
+    other_severity_after c.form wrong.1 (severity_of status) c.files (file_of c) (λ n. ap (λ (l : Line). l.file) (alone c.files wrong.6 n)) wrong.0 (all_of w) wrong.2 wrong.3 wrong.4 wrong.5
+    (append_cancel_left (shown_in_form c.form line) _ _ (sym wrong.7 ∙ w.text_is ∙ ap (λ x. shown_in_form c.form line ++ x) w.are.5))
 
 -- the first finding of a fault: it is one of what the source comes to, and the text begins with it
 record Begun (c : Check) (d : Diagnostic) (s : Severity) (file : List ℕ) (row column : ℕ) (rest : List ℕ) : Type 0 where
@@ -199,13 +215,13 @@ record Begun (c : Check) (d : Diagnostic) (s : Severity) (file : List ℕ) (row 
   stands : StandsOn c.edition d.line (parts.before ++ parts.left) (parts.right ++ parts.after)
   token : IsAtToken c.edition d.line (parts.before ++ parts.left) (parts.right ++ parts.after)
 
-begun_in : (c : Check) (o : Outcome) (s : Severity) (d : Diagnostic) (file : List ℕ) (row column : ℕ) (rest more : List ℕ) (ps : List (FindingParts c.source)) → o ≡ outcome_of c.edition c.source (Some d) o.definitions → (ps ≡ [] → ⊥)
-    → All (λ p. Reason o.edition o.stop (fault_in o) p.code (p.before ++ p.left) (p.right ++ p.after)) ps → more ≡ flat_map (finding_text c.form severity.Error c.files) ps → more ≡ finding_head c.form s file row column ++ rest → Begun c d s file row column rest
-begun_in c o s d file row column rest more [] is some all e f = absurd (some refl)
-begun_in c o s d file row column rest more (p ∷ ps) is some all e f =
+begun_in : (c : Check) (o : Outcome) (s : Severity) (d : Diagnostic) (file : List ℕ) (row column : ℕ) (rest more : List ℕ) (ps further : List (FindingParts c.source)) → o ≡ outcome_of c.edition c.source (Some d) o.definitions → (ps ≡ [] → ⊥)
+    → All (λ p. Reason o.edition o.stop (fault_in o) p.code (p.before ++ p.left) (p.right ++ p.after)) ps → more ≡ flat_map (finding_text c.form severity.Error c.files) (ps ++ further) → more ≡ finding_head c.form s file row column ++ rest → Begun c d s file row column rest
+begun_in c o s d file row column rest more [] further is some all e f = absurd (some refl)
+begun_in c o s d file row column rest more (p ∷ ps) further is some all e f =
     let text = text_placed c.form severity.Error c.files p in
     let at = finding_at c.files p in
-    let later = flat_map (finding_text c.form severity.Error c.files) ps in
+    let later = flat_map (finding_text c.form severity.Error c.files) (ps ++ further) in
     let reason : Reason c.edition (Some d) (fault_in o) p.code (p.before ++ p.left) (p.right ++ p.after) =
     subst (λ (x : Outcome). Reason x.edition x.stop (fault_in x) p.code (p.before ++ p.left) (p.right ++ p.after)) is (all 0 p (omega arith)) in
     record {
@@ -248,9 +264,9 @@ begun_told c line status text to d stop t file row column rest b h =
     let w = told_in c line status text to t h in
     let one : 1 ≡ status = status_one to.outcome.stop (load_fault (map code_of to.goes.definitions)) d line status stop to.told in
     let more : w.more ≡ finding_head c.form b.severity file row column ++ rest = append_cancel_left (shown_in_form c.form line) _ _ (sym w.text_is ∙ b.is) in
-    let texts : w.more ≡ findings_text c.form 1 c.files w.are.0 = w.are.3 ∙ ap (λ n. findings_text c.form n c.files w.are.0) (sym one) in
-    begun_in c (comes_to c line status to) b.severity d file row column rest w.more w.are.0 (ap (λ s. outcome_of c.edition c.source s (map code_of to.goes.definitions)) stop)
-    (some_told c line status text to w (λ done. let no : ◌≡◌ {A = ℕ} 1 0 = one ∙ done in absurd (omega (arith, no)))) w.are.2 texts more
+    let texts : w.more ≡ findings_text c.form 1 c.files (all_of w) = w.are.5 ∙ ap (λ n. findings_text c.form n c.files (all_of w)) (sym one) in
+    begun_in c (comes_to c line status to) b.severity d file row column rest w.more w.are.0 w.are.3 (ap (λ s. outcome_of c.edition c.source s (map code_of to.goes.definitions)) stop)
+    (first_some c line status text to w (λ done. let no : ◌≡◌ {A = ℕ} 1 0 = one ∙ done in absurd (omega (arith, no)))) w.are.2 texts more
 
 first_told : (c : Check) (line : List ℕ) (status : ℕ) (text : List ℕ) (to : ComesTo c line status) (d : Diagnostic) → to.outcome.stop ≡ Some d → IsTold c text → c.files.rest ≡ [] → (row column : ℕ) (rest : List ℕ) → BeginsWith c line text (file_of c) row column rest → Checks c
     → First c d row column rest
@@ -328,23 +344,23 @@ other_letters c line status text to d stop t one row column rest b wrong h =
     wrong.5 (letters_in d.letters (code_keyword d.letters d.about) words.0 wrong.1 wrong.2 wrong.3 code)
 
 lines_told : (c : Check) (o : Outcome) (line : List ℕ) (status : ℕ) (text : List ℕ) (w : WasTold c.form o c.files (shown_in_form c.form line) status c.status text)
-    → newlines text ≡ newlines (shown_in_form c.form line) + newlines (findings_text c.form status c.files w.are.0)
+    → newlines text ≡ newlines (shown_in_form c.form line) + newlines (findings_text c.form status c.files (all_of w))
 lines_told c o line status text w =
-    ap newlines w.text_is ∙ newlines_in (shown_in_form c.form line) w.more ∙ ap (λ n. newlines (shown_in_form c.form line) + n) (ap newlines w.are.3)
+    ap newlines w.text_is ∙ newlines_in (shown_in_form c.form line) w.more ∙ ap (λ n. newlines (shown_in_form c.form line) + n) (ap newlines w.are.5)
 
-has_lines : (c : Check) (o : Outcome) (line : List ℕ) (status : ℕ) (text : List ℕ) (w : WasTold c.form o c.files (shown_in_form c.form line) status c.status text) → HasLines c.form (shown_in_form c.form line) (length w.are.0) text
+has_lines : (c : Check) (o : Outcome) (line : List ℕ) (status : ℕ) (text : List ℕ) (w : WasTold c.form o c.files (shown_in_form c.form line) status c.status text) → HasLines c.form (shown_in_form c.form line) (length (all_of w)) text
 has_lines c o line status text w =
     let is = lines_told c o line status text w in
-    let all = lines_of_all c.form (severity_of status) c.files w.are.0 in
+    let all = lines_of_all c.form (severity_of status) c.files (all_of w) in
     let least = all.0 in
     let most = all.1 in
     record { least = omega (arith, is, least); most = omega (arith, is, most) }
 
 other_lines : (c : Check) (line : List ℕ) (status : ℕ) (text : List ℕ) (to : ComesTo c line status) → IsTold c text → status ≢ DONE
-    → (HasLines c.form (shown_in_form c.form line) (findings_of to) text → ⊥) → Checks c → ⊥
+    → ((count : ℕ) → IsCountOf to count → HasLines c.form (shown_in_form c.form line) count text → ⊥) → Checks c → ⊥
 other_lines c line status text to t wrong other h =
     let w = told_in c line status text to t h in
-    other (subst (λ n. HasLines c.form (shown_in_form c.form line) n text) (count_told c line status text to w wrong) (has_lines c (comes_to c line status to) line status text w))
+    other (length (all_of w)) (count_told c line status text to w wrong) (has_lines c (comes_to c line status to) line status text w)
 
 -- no edit is told where none mends
 none_mend : {source : List ℕ} (o : Outcome) (es : List (EditParts source)) → All (Mends o) es → ((e : EditParts source) → Mends o e → ⊥) → es ≡ []
@@ -355,14 +371,15 @@ unmended : (o : Outcome) (ps : List (FindingParts o.source)) → All (IsMended o
 unmended o ps all none = All-weaker (IsMended o) (λ p. p.edits ≡ []) (λ p mended. none_mend o p.edits mended none) ps all
 
 no_mend : (c : Check) (line : List ℕ) (status : ℕ) (text : List ℕ) (to : ComesTo c line status) → IsTold c text → status ≢ DONE → c.form ≡ form.Text → ((e : EditParts c.source) → Mends (outcome_in to) e → ⊥)
-    → newlines text ≢ newlines line + findings_of to * 4 → Checks c → ⊥
+    → ((count : ℕ) → IsCountOf to count → newlines text ≢ newlines line + count * 4) → Checks c → ⊥
 no_mend c line status text to t wrong is none other h =
     let o = comes_to c line status to in
     let w = told_in c line status text to t h in
-    let each = unmended o w.are.0 w.are.4 none in
-    let lines : newlines (findings_text c.form status c.files w.are.0) ≡ length w.are.0 * 4 =
-    ap (λ f. newlines (findings_text f status c.files w.are.0)) is ∙ lines_unmended (severity_of status) c.files w.are.0 each in
-    other (lines_told c o line status text w ∙ ap (λ f. newlines (shown_in_form f line) + newlines (findings_text c.form status c.files w.are.0)) is ∙ ap (λ n. newlines line + n) (lines ∙ ap (λ n. n * 4) (count_told c line status text to w wrong)))
+    let each = unmended o (all_of w) w.are.6 none in
+    let lines : newlines (findings_text c.form status c.files (all_of w)) ≡ length (all_of w) * 4 =
+    ap (λ f. newlines (findings_text f status c.files (all_of w))) is ∙ lines_unmended (severity_of status) c.files (all_of w) each in
+    other (length (all_of w)) (count_told c line status text to w wrong)
+    (lines_told c o line status text w ∙ ap (λ f. newlines (shown_in_form f line) + newlines (findings_text c.form status c.files (all_of w))) is ∙ ap (λ n. newlines line + n) lines)
 
 -- what an edit puts in isn't what it takes out
 other_text : (text old : List ℕ) → text ≡ old → IsTrue (not (same_name text old)) → ⊥
@@ -408,18 +425,20 @@ name_left_out c line status text to name stop undefined t is before after it tol
     let first = shown_in_form c.form line in
     let whole = subst (λ f. IsWhole Says None f ds w.are.0) undefined (subst (λ s. IsWhole Says s (load_fault ds) ds w.are.0) stop w.are.1) in
     let said = said_in (severity_of status) c.files before after it w.are.0 (subst (λ ss. AllZip Says ss w.are.0) told whole) in
-    let more = w.are.3 ∙ ap (λ f. flat_map (finding_text f (severity_of status) c.files) w.are.0) is ∙ said.3 in
+    let none : w.are.3 ≡ [] = subst (λ o. IsFurther c.edition o w.are.3) stop w.are.4 in
+    let text_of = λ (f : FindingForm) (ps : List (FindingParts c.source)). flat_map (finding_text f (severity_of status) c.files) ps in
+    let more = w.are.5 ∙ ap (λ qs. text_of c.form (w.are.0 ++ qs)) none ∙ ap (text_of c.form) (append-nil w.are.0) ∙ ap (λ f. text_of f w.are.0) is ∙ said.3 in
     wrong (first ++ said.0) said.2 said.1 (w.text_is ∙ ap (λ m. first ++ m) more ∙ sym (append_assoc first said.0 (said.1 ++ said.2))) said.4
 
 odd_lines : Never (λ c line status text. (count : ℕ) → HasLines c.form (shown_in_form c.form line) count text → ⊥)
 odd_lines c line status text to t wrong h =
     let w = told_in c line status text to t h in
-    wrong (length w.are.0) (has_lines c (comes_to c line status to) line status text w)
+    wrong (length (all_of w)) (has_lines c (comes_to c line status to) line status text w)
 
 other_bytes : Never (λ c line status text. IsTrue (is_printed (shown_in_form c.form line)) × ((n : ℕ) → IsTrue (is_printed (finding_start c.form (file_at c n)))) × (is_printed text ≡ false))
 other_bytes c line status text to t wrong h =
     let w = told_in c line status text to t h in
-    let all = both_printed (shown_in_form c.form line) w.more wrong.0 (subst (λ x. IsTrue (is_printed x)) (sym w.are.3) (findings_printed c.files c.form (severity_of status) wrong.1 w.are.0)) in
+    let all = both_printed (shown_in_form c.form line) w.more wrong.0 (subst (λ x. IsTrue (is_printed x)) (sym w.are.5) (findings_printed c.files c.form (severity_of status) wrong.1 (all_of w))) in
     let is : IsTrue (is_printed text) = subst (λ x. IsTrue (is_printed x)) (sym w.text_is) all in
     cc
 

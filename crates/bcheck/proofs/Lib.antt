@@ -14,3 +14,4 @@ pub mod ToldNames
 pub mod PlaceSteps
 pub mod FaultLines
 pub mod Reasons
+pub mod SectionSteps

@@ -53,7 +53,7 @@ module _ (edition : Edition) (source : List ℕ) where
   abbrev next : ℕ → PlacedPiece
   next at = next_piece edition source at
 
-  end_within : (at : ℕ) → at ≤ length source → piece_end edition source (after_blanks source at) ≤ length source
+  pub end_within : (at : ℕ) → at ≤ length source → piece_end edition source (after_blanks source at) ≤ length source
   end_within at h =
       let first = after_blanks source at in
       omega (arith, blanks_within source at h, longest_within edition (drop first source), length-drop first source)

@@ -1,6 +1,6 @@
 -- Promise: what the contract of a check excludes, whatever its source, its file and its output are.
 use Rattle.std.specs.Prelude.{◌≡◌, ◌≢◌, ℕ, ◌+◌, ◌*◌, ◌<◌, ◌≤◌, ◌==◌, Bool, ◌||◌, false, true, not, IsTrue}
-use Rattle.std.specs.Prelude.{List, [], ◌∷◌, ◌++◌, None, Some, codes, decimal, length, map, Option}
+use Rattle.std.specs.Prelude.{List, [], ◌∷◌, ◌++◌, ◌-◌, None, Some, codes, decimal, length, map, take, Option}
 use Rattle.std.specs.Int.{is_in_range}
 use Rattle.std.specs.Io.{StartsWith}
 use Rattle.std.specs.List.{count_by, list_all}
@@ -10,7 +10,6 @@ use Rattle.blang.specs.Code.{code_of}
 use Rattle.blang.specs.Compiles.{Compilation, CompilesTo, letters_text}
 use Rattle.blang.specs.Cut.{line_number_after, tokens_from}
 use Rattle.blang.specs.declared.token.Diagnostic.{Diagnostic}
-use Rattle.blang.specs.declared.code.Definition.{Definition}
 use Rattle.blang.specs.declared.run.LoadFault.{LoadFault}
 use Rattle.blang.specs.declared.run.LoadFault.TheVariants as fault
 use Rattle.blang.specs.Layout.{load_fault}
@@ -23,7 +22,9 @@ use Rattle.bcheck.specs.UndefinedNames.{Tells, told_subjects}
 use Rattle.bcheck.specs.declared.mention.Subject.{Subject}
 use Rattle.btools.specs.Quoting.{file_text}
 use Rattle.bcheck.specs.Checks.{finding_start}
-use Rattle.bcheck.specs.Checks.{findings_text}
+use Rattle.bcheck.specs.Checks.{fault_in, findings_text}
+use Rattle.bcheck.specs.Sections.{StopsEach, at_fault, sections}
+use Rattle.bcheck.specs.declared.finding.TheConstants.{MOST_FINDINGS}
 use Rattle.bcheck.specs.Checks.{severity_of, shown_in_form, told_first}
 use Rattle.bcheck.specs.declared.finding.Severity.{Severity}
 use Rattle.bcheck.specs.declared.form.FindingForm.{FindingForm}
@@ -74,20 +75,22 @@ has_no_colon text = list_all (λ b. not (b == 58)) text
 abbrev pub newlines : List ℕ → ℕ
 newlines text = count_by (λ b. b == 10) text
 
--- how many findings a diagnostic or a fault of loading has
-abbrev pub finding_count : Option Diagnostic → Option LoadFault → List Definition → ℕ
-finding_count None (Some (fault.Undefined name)) ds = length (told_subjects ds)
-finding_count stop f ds = 1
+-- So many findings are told of a diagnostic: one, and one for each section that is at fault alone, up to so many. Of a
+-- fault of loading it is one, and of names that nothing defines one for each.
+abbrev pub IsCount : Outcome → Option Diagnostic → Option LoadFault → (count : ℕ) → Type 0
+IsCount o (Some d) f count =
+    (stops : List (Option Diagnostic)) × StopsEach o.edition (sections o.edition d.line o.source) stops
+    × (count ≡ 1 + length (take (MOST_FINDINGS - 1) (at_fault (sections o.edition d.line o.source) stops)))
+IsCount o None (Some (fault.Undefined name)) count = count ≡ length (told_subjects o.definitions)
+IsCount o None f count = count ≡ 1
 
 -- the outcome that a source comes to
 abbrev pub outcome_in : {c : Check} → {line : List ℕ} → {status : ℕ} → ComesTo c line status → Outcome
 outcome_in {c} to = outcome_of c.edition c.source to.outcome.stop (map code_of to.goes.definitions)
 
--- how many are told of a source
-abbrev pub findings_of : {c : Check} → {line : List ℕ} → {status : ℕ} → ComesTo c line status → ℕ
-findings_of to =
-    let ds = map code_of to.goes.definitions in
-    finding_count to.outcome.stop (load_fault ds) ds
+-- so many are told of a source
+abbrev pub IsCountOf : {c : Check} → {line : List ℕ} → {status : ℕ} → ComesTo c line status → (count : ℕ) → Type 0
+IsCountOf to count = let o = outcome_in to in IsCount o o.stop (fault_in o) count
 
 -- how many newlines the text of a finding has at least, and at most
 abbrev pub least_lines : FindingForm → ℕ
@@ -150,11 +153,11 @@ pub record Excluded : Type 0 where
   -- of a fault, for an editor, other letters than the diagnostic's
   pub other_letters : NeverOf (λ c d row column rest. (c.form ≡ form.Json) × (first : ℕ) × (second : ℕ)
       × (more : List ℕ) × (rest ≡ 34 ∷ first ∷ second ∷ more) × (first ∷ second ∷ [] ≢ letters_text d.letters))
-  -- of a fault another number of findings than one, or of names that nothing defines than one for each; or a newline in
-  -- its words, its piece of the source or the name of its file
+  -- of a fault another number of findings than one for it and one for each later section that is at fault, or of names
+  -- that nothing defines than one for each; or a newline in their words, their pieces of the source or names of files
   pub other_lines : (c : Check) (line : List ℕ) (status : ℕ) (text : List ℕ) (to : ComesTo c line status)
       → IsTold c text → status ≢ DONE
-      → (HasLines c.form (shown_in_form c.form line) (findings_of to) text → ⊥) → Checks c → ⊥
+      → ((count : ℕ) → IsCountOf to count → HasLines c.form (shown_in_form c.form line) count text → ⊥) → Checks c → ⊥
   -- of names that nothing defines, for people, no sentence on one of those that are to be told
   pub name_left_out : (c : Check) (line : List ℕ) (status : ℕ) (text : List ℕ) (to : ComesTo c line status)
       (name : List ℕ) → to.outcome.stop ≡ None
@@ -168,7 +171,7 @@ pub record Excluded : Type 0 where
   -- for people, of a fault that no edit mends, lines that tell one
   pub no_mend : (c : Check) (line : List ℕ) (status : ℕ) (text : List ℕ) (to : ComesTo c line status)
       → IsTold c text → status ≢ DONE → c.form ≡ form.Text → ((e : EditParts c.source) → Mends (outcome_in to) e → ⊥)
-      → newlines text ≢ newlines line + findings_of to * 4 → Checks c → ⊥
+      → ((count : ℕ) → IsCountOf to count → newlines text ≢ newlines line + count * 4) → Checks c → ⊥
   -- an edit that changes nothing
   pub no_change : (source : List ℕ) (e : EditParts source) → mended e ≡ source → ⊥
   -- a byte that can't be printed, where the line and the name of the file have none

@@ -26,6 +26,7 @@ use Rattle.btools.specs.Programs.{load_line}
 use Rattle.btools.specs.Quoting.{file_text, json_text}
 use Rattle.blang.specs.Reports.{Reported}
 use Rattle.bsources.specs.Files.{Files, Line, own_line}
+use Rattle.bcheck.specs.Sections.{Section, StopsEach, at_fault, sections}
 use Rattle.bcheck.specs.Tokens.{has_token_on, is_in_token}
 use Rattle.bplaces.specs.Columns.{column_after}
 use Rattle.bplaces.specs.Units.{unit_column}
@@ -33,6 +34,7 @@ use Rattle.bcheck.specs.UndefinedNames.{IsAtName, Tells, name_in, told_subjects}
 use Rattle.bcheck.specs.declared.mention.Subject.{Subject}
 use Rattle.bcheck.specs.declared.finding.Severity.{Severity}
 use Rattle.bcheck.specs.declared.finding.Severity.TheVariants as severity
+use Rattle.bcheck.specs.declared.finding.TheConstants.{MOST_FINDINGS}
 use Rattle.bcheck.specs.declared.form.FindingForm.{FindingForm}
 use Rattle.bcheck.specs.declared.form.FindingForm.TheVariants as form
 use Rattle.bcheck.specs.declared.verdict.Verdict.{Verdict}
@@ -389,11 +391,33 @@ TellsAll On o told = IsWhole On o.stop (fault_in o) o.definitions told
 abbrev pub Says : {source : List ℕ} → Subject → FindingParts source → Type 0
 Says subject p = Tells subject p.sentence × IsAtName (name_in subject) (p.before ++ p.left) (p.right ++ p.after)
 
--- The text of such findings of a source with this status.
+-- An error of this code after these bytes is on the fault that a section has alone, on its line and in a token there.
+abbrev pub IsOfSection : Edition → Section × Diagnostic → (code before : List ℕ) → Type 0
+IsOfSection edition (s, d) code before =
+    (left : List ℕ) × (right : List ℕ) × (s.text ≡ left ++ right) × (before ≡ s.before ++ left)
+    × Reason edition (Some d) None code left right
+
+abbrev pub TellsSection : {source : List ℕ} → Edition → Section × Diagnostic → FindingParts source → Type 0
+TellsSection edition fault p = IsOfSection edition fault p.code (p.before ++ p.left)
+
+-- Of a source with a diagnostic, this is told of each section after its line that is at fault alone, up to so many.
+abbrev pub IsOfSections : {A : Type 0} → (Section × Diagnostic → A → Type 0) → Edition → (line : ℕ) → (source : List ℕ)
+    → (told : List A) → Type 0
+IsOfSections Tells edition line source told =
+    (stops : List (Option Diagnostic)) × StopsEach edition (sections edition line source) stops
+    × AllZip Tells (take (MOST_FINDINGS - 1) (at_fault (sections edition line source) stops)) told
+
+-- What is told after a diagnostic; else nothing.
+abbrev pub IsFurther : {source : List ℕ} → Edition → Option Diagnostic → (further : List (FindingParts source)) → Type 0
+IsFurther edition None further = further ≡ []
+IsFurther {source} edition (Some d) further = IsOfSections (TellsSection edition) edition d.line source further
+
+-- The text of such findings of a source with this status, and of those that are told after a diagnostic.
 abbrev pub AreFindings : FindingForm → Outcome → (status : ℕ) → Files → (text : List ℕ) → Type 0
 AreFindings form o status files text =
     (findings : List (FindingParts o.source)) × TellsAll Says o findings × All (IsReason o) findings
-    × (text ≡ findings_text form status files findings) × All (IsMended o) findings
+    × (further : List (FindingParts o.source)) × IsFurther o.edition o.stop further
+    × (text ≡ findings_text form status files (findings ++ further)) × All (IsMended o) (findings ++ further)
 
 -- A text and then findings were told with this status; or memory was refused, and nothing was written.
 pub data TellsFirst (form : FindingForm) (o : Outcome) (files : Files) (first : List ℕ) (status : ℕ)

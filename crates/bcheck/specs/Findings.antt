@@ -38,6 +38,13 @@ use Rattle.bcheck.specs.declared.finding.Severity.{Severity}
 use Rattle.bcheck.specs.declared.form.FindingForm.{FindingForm}
 use Rattle.bcheck.specs.declared.places.Milestone.{Milestone}
 use Rattle.bcheck.specs.declared.undefined.UndefinedName.{UndefinedName}
+use Rattle.bcheck.specs.Checks.{IsFurther, IsOfSection, IsOfSections, TellsSection}
+use Rattle.bcheck.specs.Sections.{Section, StopsAlone}
+use Rattle.bcheck.specs.UndefinedNames.{Tells}
+use Rattle.bcheck.specs.declared.finding.TheConstants.{MOST_FINDINGS}
+use Rattle.bcheck.specs.declared.told.Setting.{Setting}
+use Rattle.bsources.specs.Files.{files_shown}
+use Rattle.std.specs.List.{flat_map}
 use Rattle.bcheck.specs.declared.verdict.Verdict.{Verdict}
 use Rattle.bcheck.specs.declared.verdict.Verdict.TheVariants as verdict
 
@@ -300,3 +307,52 @@ AddsFinding form s edition files source start code sentence old new =
     (p : FindingParts source) × (p.code ≡ code) × (p.before ++ p.left ≡ take start source)
     × (p.right ++ p.after ≡ drop start source) × (new ≡ old ++ finding_text form s files p) × (p.sentence ≡ sentence)
     × All (MendsIn edition) p.edits
+
+-- a text has this finding more
+abbrev pub TellsFinding : FindingForm → Severity → Edition → Files → (source : List ℕ) → Finding → (old new : List ℕ)
+    → Type 0
+TellsFinding form s edition files source f old new =
+    (sentence : List ℕ) × ((subject : Subject) → IsOn subject f → Tells subject sentence)
+    × AddsFinding form s edition files source f.place.start (matter_code f.matter) sentence old new
+
+-- the finding is on the fault of a section
+abbrev pub IsOnSection : Edition → (source : List ℕ) → Section × Diagnostic → Finding → Type 0
+IsOnSection edition source fault f = IsOfSection edition fault (matter_code f.matter) (take f.place.start source)
+
+-- what is found of the sections after a line
+abbrev pub TellsAfter : Edition → (source : List ℕ) → (line : ℕ) → List Finding → Type 0
+TellsAfter edition source line found = IsOfSections (IsOnSection edition source) edition line source found
+
+-- There is a finding on the fault of a section, unless so many that are there are enough.
+abbrev pub TellsStop : Edition → (source : List ℕ) → Section → Option Diagnostic → (count : ℕ) → List Finding → Type 0
+TellsStop edition source s None count more = more ≡ []
+TellsStop edition source s (Some d) count more =
+    ((MOST_FINDINGS - 1 ≤ count) × (more ≡ []))
+    ⊎ ((count < MOST_FINDINGS - 1) × (f : Finding) × (more ≡ f ∷ []) × IsOnSection edition source (s, d) f)
+
+abbrev pub HasFaults : Edition → (source : List ℕ) → Section → (count : ℕ) → List Finding → Type 0
+HasFaults edition source s count more =
+    (stop : Option Diagnostic) × StopsAlone edition s.text stop × TellsStop edition source s stop count more
+
+-- a text has these findings more, with edits that mend
+abbrev pub AddsThese : (setting : Setting) → List (FindingParts setting.source.text.now) → (old new : List ℕ) → Type 0
+AddsThese setting further old new =
+    (new ≡ old ++ flat_map (finding_text setting.asked.form setting.severity (files_shown setting.asked.files)) further)
+    × All (λ p. All (MendsIn setting.source.edition) p.edits) further
+
+-- a text has the findings more that are told of the sections after a line
+abbrev pub AddsAfter : Setting → (line : ℕ) → (old new : List ℕ) → Type 0
+AddsAfter setting line old new =
+    (further : List (FindingParts setting.source.text.now))
+    × IsOfSections (TellsSection setting.source.edition) setting.source.edition line setting.source.text.now further
+    × AddsThese setting further old new
+
+-- what is told after the fault of a verdict; else nothing
+abbrev pub IsAfter : {source : List ℕ} → Edition → Verdict → (further : List (FindingParts source)) → Type 0
+IsAfter edition (verdict.Faulty line d) further = IsFurther edition (Some d) further
+IsAfter edition v further = IsFurther edition None further
+
+abbrev pub AddsFurther : Setting → Verdict → (old new : List ℕ) → Type 0
+AddsFurther setting v old new =
+    (further : List (FindingParts setting.source.text.now)) × IsAfter setting.source.edition v further
+    × AddsThese setting further old new

@@ -5,5 +5,7 @@ pub mod CheckExcluded
 pub mod Findings
 pub mod Mentions
 pub mod Pieces
+pub mod SectionRows
+pub mod Sections
 pub mod UndefinedNames
 pub mod UndefinedRows

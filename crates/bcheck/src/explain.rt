@@ -1,24 +1,25 @@
 //! What is said of a source after the line of the compiler.
 ghost use Rattle.std.specs.List.{All};
-ghost use Rattle.std.specs.Prelude.{◌≡◌, ◌<◌, ◌∷◌, [], IfOk, vec_items};
+ghost use Rattle.std.specs.Prelude.{◌≡◌, ◌<◌, ◌∷◌, [], IfOk, OnOk, vec_items};
 ghost use Rattle.bsources.specs.Files.{files_shown};
 ghost use Rattle.bcheck.specs.Checks.{AreFindings, EachOutcome, Judged, status_told};
-ghost use Rattle.bcheck.specs.Findings.{AreWhole, IsCompiled, IsReasoned, IsStopOf, TellsFault};
+ghost use Rattle.bcheck.specs.Findings.{AddsAfter, AddsFurther, AreWhole, IsCompiled, IsMilestone, IsReasoned, IsStopOf};
+ghost use Rattle.bcheck.specs.Findings.{TellsFault};
 ghost use Rattle.bcheck.specs.declared.verdict.Verdict.TheVariants as verdict;
 
 use crate::advice::Matter;
 use crate::compiled::{Compiled, Extent};
-use crate::excerpt::excerpt_at;
-use crate::finding::{Finding, Place, Told};
-use crate::form::{FindingForm, Request};
+use crate::faults;
+use crate::finding::{Finding, Place};
+use crate::form::Request;
+use crate::further::further_faults;
 use crate::mending::{Bench, TRIED_BYTES, tried_edits};
 use crate::mends::{proposals, tokens_of};
-use crate::places::{milestones, place_on, spot_of};
+use crate::places::{milestones, place_on};
 use crate::spans::{SourceText, Spans, place_of};
+use crate::told::{Setting, push_told};
 use crate::undefined::undefined_names;
 use crate::verdict::{Judgement, Verdict};
-use crate::words::Words;
-use crate::{faults, json, text};
 use blang::{Diagnostic, LoadFault};
 use blint::{Caution, Program, TokenPlace, lint};
 use bmach::LIBRARY;
@@ -43,7 +44,12 @@ pub(crate) fn explain(
     let mut said = Text::new(alloc);
     let findings = findings(alloc, source, &asked.files, judgement)?;
     let milestones = milestones(alloc, source.text)?;
-    let severity = judgement.verdict.severity();
+    let setting = Setting {
+        source,
+        asked,
+        milestones: milestones.as_slice(),
+        severity: judgement.verdict.severity(),
+    };
     let bench = Bench {
         source,
         files: asked.files,
@@ -54,31 +60,47 @@ pub(crate) fn explain(
     };
     let tokens = tokens_of(alloc, &bench)?;
     for finding in findings.as_slice() {
-        let excerpt = excerpt_at(source.text, milestones.as_slice(), &finding.place);
-        let at = asked.files.own_line(excerpt.line);
-        let second = spot_of(
-            source.text,
-            &asked.files,
-            milestones.as_slice(),
-            &finding.related,
-        );
-        let words = Words::new(alloc, finding, at.file, &second)?;
         let proposals = proposals(alloc, &bench, &tokens, finding)?;
         let edits = tried_edits(alloc, &bench, proposals.as_slice())?;
-        let told = Told {
-            at,
-            excerpt,
-            second,
-            severity,
-            words: &words,
-            edits: edits.as_slice(),
-        };
-        match asked.form {
-            FindingForm::Text => text::write(&mut said, &told)?,
-            FindingForm::Json => json::write(&mut said, &told)?,
-        }
+        let mends = edits.as_slice();
+        push_told(alloc, &mut said, &setting, finding, mends)?;
     }
+    push_further(alloc, &mut said, &setting, &judgement.verdict)?;
     Ok(said)
+}
+
+// Adds what is said after a fault of the functions that come later.
+fn push_further(
+    alloc: Global,
+    said: &mut Text,
+    setting: &Setting<'_>,
+    verdict: &Verdict,
+) -> Result<(), AllocError>
+    requires { All (IsMilestone setting.now.source.text.now) setting.now.milestones.now }
+    ensures { OnOk result (AddsFurther setting.now verdict.now said.old said.new) }
+{
+    match verdict {
+        Verdict::Faulty(_, diagnostic) => push_after(alloc, said, setting, diagnostic.line),
+        Verdict::Clean => Ok(()),
+        Verdict::Unloaded(_) => Ok(()),
+    }
+}
+
+// Adds what is said of the functions after a line.
+fn push_after(
+    alloc: Global,
+    said: &mut Text,
+    setting: &Setting<'_>,
+    line: u64,
+) -> Result<(), AllocError>
+    requires { All (IsMilestone setting.now.source.text.now) setting.now.milestones.now }
+    ensures { OnOk result (AddsAfter setting.now line said.old said.new) }
+{
+    let found = further_faults(alloc, setting, line)?;
+    for finding in found.as_slice() {
+        push_told(alloc, said, setting, finding, &[])?;
+    }
+    Ok(())
 }
 
 /// What is found in a source with this verdict.
@@ -108,8 +130,8 @@ pub(crate) fn findings(
     }
 }
 
-// One finding.
-fn alone(alloc: Global, finding: &Finding) -> Result<Vec<Finding>, AllocError>
+/// One finding.
+pub(crate) fn alone(alloc: Global, finding: &Finding) -> Result<Vec<Finding>, AllocError>
     ensures { IfOk result (λ found. vec_items found ≡ finding.now ∷ []) }
 {
     let mut findings = Vec::new(alloc);
@@ -123,8 +145,8 @@ fn alone(alloc: Global, finding: &Finding) -> Result<Vec<Finding>, AllocError>
     Ok(findings)
 }
 
-// What is said of the fault that a source has, on its line.
-fn fault_of(
+/// What is said of the fault that a source has, on its line.
+pub(crate) fn fault_of(
     alloc: Global,
     source: SourceText<'_>,
     compiled: &Compiled,

@@ -31,6 +31,7 @@ pub(crate) enum Syntax {
     EqualsOutside,
     SignOutside,
     BracesOutside,
+    HeadParens,
     CallOutside,
     AutoValue,
     AutoBrackets,
@@ -109,6 +110,7 @@ impl Syntax {
             Syntax::VectorParameter => ("a parameter is a word, and has no brackets", "f(v), and then v[i] in f"),
             Syntax::EqualsOutside => ("outside of functions a value comes without =", "n 5; or v[2] 1, 2, 3;"),
             Syntax::SignOutside => ("an initial value has no sign", "65535 is -1, and 65536 - x is -x"),
+            Syntax::HeadParens => ("a function has parentheses after its name", "main() { .. }"),
             Syntax::BracesOutside => ("the values of a vector come without braces", "v[2] 1, 2, 3;"),
             Syntax::CallOutside =>
                 ("outside of functions only definitions come", "look before it for a } too many, or put it in main"),
@@ -292,7 +294,7 @@ const BEGINNINGS: [Mistake; 10] = [
 
 /// Externals and the parameters of a function.
 #[rattlefmt::skip]
-const OUTSIDE: [Mistake; 15] = [
+const OUTSIDE: [Mistake; 16] = [
     Mistake(EXTERNAL, If::Prototype, [Like::Type, ANY, Like::Name, OPEN_PAREN, ANY], Syntax::Prototype, Marking::First),
     Mistake(HEADER, If::Prototype, [ANY, ANY, Like::Type, Like::Name, ANY], Syntax::Prototype, Marking::Before),
     Mistake(EXTERNAL, If::Always, [Like::Type, ANY, ANY, ANY, ANY], Syntax::TypeFirst, Marking::First),
@@ -303,6 +305,7 @@ const OUTSIDE: [Mistake; 15] = [
     Mistake(EXTERNAL, If::Always, [ANY, ANY, Like::Name, OPEN_PAREN, ANY], Syntax::TypeFirst, Marking::First),
     Mistake(EXTERNAL, If::Always, [ANY, ANY, ANY, Like::Assigns, ANY], Syntax::EqualsOutside, Marking::Here),
     Mistake(EXTERNAL, If::Always, [ANY, ANY, ANY, SUB, ANY], Syntax::SignOutside, Marking::Here),
+    Mistake(EXTERNAL, If::Second, [ANY, ANY, Like::Name, OPEN_BRACE, ANY], Syntax::HeadParens, Marking::Here),
     Mistake(EXTERNAL, If::Always, [ANY, ANY, ANY, OPEN_BRACE, ANY], Syntax::BracesOutside, Marking::Here),
     Mistake(HEADER, If::Always, [ANY, ANY, Like::Name, Like::Name, ANY], Syntax::TypeParameter, Marking::Before),
     Mistake(HEADER, If::Always, [ANY, ANY, Like::Name, OPEN_BRACKET, ANY], Syntax::VectorParameter, Marking::Here),

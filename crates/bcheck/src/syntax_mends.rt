@@ -4,7 +4,7 @@ use crate::declared_mends::{definition, head, local, names_alone};
 use crate::draft::{Draft, Part};
 use crate::finding::Finding;
 use crate::foreign::Foreign;
-use crate::kinds::{Like, closes_bracket, is_ended, opens_bracket};
+use crate::kinds::{Like, closes_bracket, is_ended, is_word, opens_bracket};
 use crate::mends::Site;
 use crate::name_mends::body_of;
 use crate::syntax::Syntax;
@@ -38,6 +38,7 @@ fn of_definition(draft: &mut Draft<'_>, site: Site, syntax: Syntax) -> Result<()
             definition(draft, first)
         }
         Syntax::VectorParameter => head(draft, first),
+        Syntax::HeadParens => draft.after(token.wrapping_sub(1), b"()"),
         Syntax::EqualsOutside | Syntax::SignOutside | Syntax::BracesOutside => definition(
             draft, first,
         ),
@@ -94,7 +95,11 @@ fn of_statement(draft: &mut Draft<'_>, site: Site, syntax: Syntax) -> Result<(),
         }
         Syntax::TypeInside => local(draft, token),
         Syntax::ExtrnList => names_alone(draft, statement_of(draft, token)),
-        Syntax::Then => draft.remove(token, token),
+        Syntax::Then if is_word(&draft.at(token), "then") => draft.remove(token, token),
+        Syntax::Then => {
+            let end = draft.end(before);
+            draft.put(draft.end(before.wrapping_sub(1)), end, &[])
+        }
         Syntax::CaseSign => case_sign(draft, token),
         Syntax::CaseString => case_value(draft, token),
         Syntax::CaseList => cases(draft, token),

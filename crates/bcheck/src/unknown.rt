@@ -10,7 +10,7 @@ use crate::compiled::Extent;
 use crate::finding::{Finding, Place};
 use crate::foreign::{Foreign, foreign_word};
 use crate::kinds::{Like, is_ended, is_word};
-use crate::near::{find_definitions, library_arguments, near_library, near_token};
+use crate::near::{Definitions, find_definitions, library_arguments, near_library, near_token};
 use crate::spans::{SourceText, SpanReader, Spans, lexeme_at, place_of};
 use blang::Keyword;
 use blex::Lexeme;
@@ -138,6 +138,59 @@ pub(crate) fn unknown_name(
         other,
         place: place_of(spans, token),
         related: defined.same.or(elsewhere),
+    }
+}
+
+/// A finding on a name that a part of a source doesn't declare, by what the whole source has of it.
+pub(crate) fn in_whole(source: SourceText<'_>, fault: Finding) -> Finding
+    ensures place { result.place ≡ fault.place }
+    ensures code { matter_code result.matter ≡ matter_code fault.matter }
+{
+    let Some(name) = fault.name else {
+        return fault;
+    };
+    let defined = find_definitions(source, &name);
+    let elsewhere = declared_elsewhere(source, Extent { first: 0, end: 0 }, &name);
+    let (matter, related) = known(&fault, &defined, elsewhere);
+    Finding {
+        matter,
+        name: fault.name,
+        other: fault.other,
+        place: fault.place,
+        related,
+    }
+}
+
+// What is said of a name, and the second place, where this defines it or another function declares it.
+fn known(
+    fault: &Finding,
+    defined: &Definitions,
+    elsewhere: Option<Place>,
+) -> (Matter, Option<Place>)
+    ensures { matter_code result.0 ≡ matter_code fault.now.matter }
+{
+    match fault.matter {
+        Matter::Unknown(Unknown::Near | Unknown::Other) if defined.is_function => (
+            Matter::Unknown(Unknown::Function),
+            defined.same,
+        ),
+        Matter::Unknown(Unknown::Near | Unknown::Other) if defined.same.is_some() => (
+            Matter::Unknown(Unknown::External),
+            defined.same,
+        ),
+        Matter::Unknown(Unknown::Near | Unknown::Other) if elsewhere.is_some() => (
+            Matter::Unknown(Unknown::Elsewhere),
+            elsewhere,
+        ),
+        Matter::NotLvalue(Lvalue::Near | Lvalue::Label) if defined.same.is_some() => (
+            Matter::NotLvalue(Lvalue::External),
+            defined.same,
+        ),
+        Matter::NotLvalue(Lvalue::Near | Lvalue::Label) if elsewhere.is_some() => (
+            Matter::NotLvalue(Lvalue::Elsewhere),
+            elsewhere,
+        ),
+        matter => (matter, fault.related),
     }
 }
 

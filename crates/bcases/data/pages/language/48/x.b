@@ -1,3 +1,12 @@
 main() {
-    pritn(42, 10);
+    auto a, b;
+    a = 5
+    b = 7;
+    swap(&a, &b);
+}
+
+swap(p, q) {
+    t = *p;
+    *p = *q;
+    *q = t;
 }

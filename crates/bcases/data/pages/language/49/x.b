@@ -1,5 +1,3 @@
-f(x) {
-    if(x=1)
-        x=-1;
-    return(x);
+main() {
+    pritn(42, 10);
 }

@@ -1,6 +1,5 @@
-main() {
-    auto i
-    i = 3;
-    if(i = 4)
-        putchar('y');
+f(x) {
+    if(x=1)
+        x=-1;
+    return(x);
 }

@@ -1,10 +1,2 @@
-main() {
-    auto a, b;
-    a = -1;
-    printn((a && b) == &b, 10);
-    a = 5;
-    if(a===3) putchar('t');
-    printn(a, 10);
-    putchar('\n');
-    printn("ab"[0], 10);
-}
+main(){auto i;i=0;while(i<3){putchar('a'+i);i++;}/* abc */
+if(i==3)putchar('*n');else return(1);}

@@ -1,0 +1,15 @@
+main() {
+    x = 1;
+}
+
+f() {
+    putchar('a');
+}
+
+f() {
+    putchar('b');
+}
+
+main() {
+    f();
+}

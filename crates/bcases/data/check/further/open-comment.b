@@ -1,0 +1,13 @@
+main() {
+    x = 1;
+}
+
+f(a) {
+    b = a;
+    /* the sum
+    return(b);
+}
+
+g() {
+    y = 2;
+}

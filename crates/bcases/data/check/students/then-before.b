@@ -1,0 +1,6 @@
+main() {
+    auto x;
+    x = 5;
+    if(x > 3) then
+        putchar('y');
+}
