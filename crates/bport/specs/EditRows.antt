@@ -1,0 +1,38 @@
+-- Closed facts: what edits make of a source, which ones fit, and how they are told.
+use Rattle.std.specs.Prelude.{◌≡◌, ℕ, true, false, List, [], ◌∷◌, ◌++◌, codes, map, refl}
+use Rattle.bport.specs.Changes.{listed}
+use Rattle.bport.specs.Edits.{are_edits_of, edited}
+use Rattle.bport.specs.declared.edit.Edit.{Edit}
+use Rattle.bport.specs.declared.row.Row.{Row}
+use Rattle.bport.specs.declared.row.Row.TheVariants as row
+
+abbrev at : (start end : ℕ) → (text : List ℕ) → Row → Edit
+at start end text row = record { start = start; end = end; text = text; row = row }
+
+edited_between : edited (codes "abcdef") 0 (at 1 3 (codes "X") row.And ∷ at 3 3 (codes "Y") row.Or ∷ []) ≡ codes "aXYdef"
+edited_between = refl
+
+in_order : map (are_edits_of (codes "abc"))
+    ((at 0 1 [] row.And ∷ at 1 1 [] row.And ∷ at 1 3 [] row.And ∷ []) ∷ (at 1 2 [] row.And ∷ at 1 1 [] row.And ∷ [])
+    ∷ (at 2 1 [] row.And ∷ []) ∷ (at 3 4 [] row.And ∷ []) ∷ [])
+    ≡ true ∷ false ∷ false ∷ false ∷ []
+in_order = refl
+
+-- the marks of a comment, its text, and a place in it
+free : map (are_edits_of (codes "a/*b*/"))
+    ((at 1 3 [] row.Remark ∷ []) ∷ (at 3 4 [] row.Remark ∷ []) ∷ (at 3 3 [] row.Remark ∷ []) ∷ [])
+    ≡ true ∷ false ∷ true ∷ []
+free = refl
+
+-- escapes, the same for another row and with another character, a half of one, and a character
+in_string : map (are_edits_of (codes "\"a\\n*b\""))
+    ((at 2 4 (codes "*n") row.Escape ∷ at 4 5 (codes "**") row.Escape ∷ []) ∷ (at 2 4 (codes "*n") row.And ∷ [])
+    ∷ (at 2 4 (codes "*t") row.Escape ∷ []) ∷ (at 3 4 (codes "n") row.Escape ∷ []) ∷ (at 1 2 [] row.Escape ∷ []) ∷ [])
+    ≡ true ∷ false ∷ false ∷ false ∷ false ∷ []
+in_string = refl
+
+told_by_line : listed (codes "f") (codes "a\nb") 1 0 []
+    (at 0 0 [] row.And ∷ at 0 1 [] row.Do ∷ at 1 1 [] row.And ∷ at 2 2 [] row.And ∷ [])
+    ≡ codes "f:1: ported: && is ?: or, between comparisons, &\nf:1: ported: do is a while, or a goto\n"
+    ++ codes "f:2: ported: && is ?: or, between comparisons, &\n"
+told_by_line = refl

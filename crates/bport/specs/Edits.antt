@@ -1,0 +1,78 @@
+-- Promise: what is edited in an old source, and what stays.
+use Rattle.std.specs.Prelude.{ℕ, ◌==◌, nat_le, Bool, true, false, List, [], ◌∷◌, ◌++◌, ◌≡◌, ◌⊎◌, drop, if◌then◌else◌, length, not, take, ◌&&◌}
+use Rattle.std.specs.List.{list_all}
+use Rattle.std.specs.Str.{bytes_eq}
+use Rattle.bword.specs.declared.edition.Edition.{Edition}
+use Rattle.btools.specs.Programs.{HasNoProgram}
+use Rattle.btools.specs.declared.program.ProgramFault.{ProgramFault}
+use Rattle.btools.specs.declared.program.ProgramFault.TheVariants as why
+use Rattle.bport.specs.Places.{is_own_text, places_of}
+use Rattle.bport.specs.declared.edit.Edit.{Edit}
+use Rattle.bport.specs.declared.row.Row.{Row}
+use Rattle.bport.specs.declared.row.Row.TheVariants as row
+use Rattle.bport.specs.declared.within.Within.{Within}
+use Rattle.bport.specs.declared.within.Within.TheVariants as within
+
+-- the source from a place on, with these edits
+abbrev pub edited : List ℕ → (at : ℕ) → List Edit → List ℕ
+edited source at [] = drop at source
+edited source at (e ∷ es) = drop at (take e.start source) ++ (e.text ++ edited source e.end es)
+
+-- the escape that stands here for what a backslash and this byte stand for
+abbrev pub escape_of : ℕ → List ℕ
+escape_of b =
+    if b == 110 then 42 ∷ 110 ∷ []
+    else (if b == 116 then 42 ∷ 116 ∷ []
+    else (if b == 48 then 42 ∷ 48 ∷ []
+    else (if b == 34 then 42 ∷ 34 ∷ []
+    else (if b == 39 then 42 ∷ 39 ∷ []
+    else (if b == 92 then 92 ∷ [] else [])))))
+
+-- The escape that stands here for these bytes in quotes. A `*` that begins none stands for itself by another one.
+abbrev pub escape_for : List ℕ → List ℕ
+escape_for [] = []
+escape_for (mark ∷ []) = if mark == 42 then 42 ∷ 42 ∷ [] else []
+escape_for (mark ∷ b ∷ []) = if mark == 92 then escape_of b else []
+escape_for (mark ∷ b ∷ c ∷ more) = []
+
+-- the first byte stands in quotes, and isn't that of an escape after its mark
+abbrev pub is_in_quotes : List Within → Bool
+is_in_quotes (within.String ∷ places) = true
+is_in_quotes (within.Char ∷ places) = true
+is_in_quotes _ = false
+
+abbrev pub is_escape_row : Row → Bool
+is_escape_row row.Escape = true
+is_escape_row _ = false
+
+-- an escape in the place of another one, by its bytes, their places, and its new text
+abbrev pub is_escape : (old : List ℕ) → List Within → (new : List ℕ) → Bool
+is_escape [] places new = false
+is_escape (b ∷ bs) places new =
+    is_in_quotes places && (not (bytes_eq new []) && bytes_eq new (escape_for (b ∷ bs)))
+
+-- An edit for an escape puts the same character there. Any other one takes out no byte of a comment or of a string.
+abbrev pub fits : List ℕ → List Within → Edit → Bool
+fits source places e =
+    if is_escape_row e.row
+    then is_escape (drop e.start (take e.end source)) (drop e.start (take e.end places)) e.text
+    else list_all (λ place. not (is_own_text place)) (drop e.start (take e.end places))
+
+-- edits from a place on, in order, apart, within the source, and each fits
+abbrev pub are_sound : List ℕ → List Within → (at : ℕ) → List Edit → Bool
+are_sound source places at [] = nat_le at (length source)
+are_sound source places at (e ∷ es) =
+    (nat_le at e.start && nat_le e.start e.end) && (fits source places e && are_sound source places e.end es)
+
+abbrev pub are_edits_of : List ℕ → List Edit → Bool
+are_edits_of source es = are_sound source (places_of within.Start source) 0 es
+
+-- why a source doesn't compile or load, but for want of memory
+abbrev pub is_reason : ProgramFault → Bool
+is_reason why.Memory = false
+is_reason _ = true
+
+-- A source is edited only where it, with what comes after it, doesn't compile or doesn't load.
+abbrev pub StaysIfItRuns : Edition → (whole : List ℕ) → List Edit → Type 0
+StaysIfItRuns edition whole es =
+    (es ≡ []) ⊎ ((fault : ProgramFault) × HasNoProgram edition whole fault × (is_reason fault ≡ true))

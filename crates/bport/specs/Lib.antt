@@ -1,0 +1,6 @@
+pub mod Places
+pub mod Edits
+pub mod Changes
+pub mod Ports
+pub mod EditRows
+pub mod PortRows

@@ -1,0 +1,69 @@
+-- Closed facts: in what bytes stand, which edits fit, what is made of them, and how they are told.
+use Rattle.std.specs.Prelude.{◌≡◌, ℕ, Bool, true, false, List, [], ◌∷◌, ◌++◌, None, codes, map, refl}
+use Rattle.blang.specs.declared.run.LoadFault.TheVariants as faults
+use Rattle.btools.specs.declared.program.ProgramFault.TheVariants as why
+use Rattle.bport.specs.Places.{after, is_own_text, places_of}
+use Rattle.bport.specs.Edits.{escape_for, is_reason}
+use Rattle.bport.specs.Ports.{own_length, verdict_status, verdict_text}
+use Rattle.bport.specs.declared.within.Within.{Within}
+use Rattle.bport.specs.declared.within.Within.TheVariants as within
+
+-- which bytes of a text are a comment's or a string's own
+abbrev own : List ℕ → List Bool
+own text = map is_own_text (places_of within.Start text)
+
+abbrev t : Bool
+t = true
+
+abbrev f : Bool
+f = false
+
+-- the marks of a comment that begins are none, nor is what comes after it
+of_comment : own (codes "a/*b*/c") ≡ f ∷ f ∷ f ∷ t ∷ t ∷ t ∷ f ∷ []
+of_comment = refl
+
+of_stars : own (codes "/***/*/") ≡ f ∷ f ∷ t ∷ t ∷ t ∷ f ∷ f ∷ []
+of_stars = refl
+
+of_line : own (codes "//b\nc") ≡ f ∷ f ∷ t ∷ t ∷ f ∷ []
+of_line = refl
+
+of_hash : own (codes " #b\n#\na#b") ≡ f ∷ f ∷ t ∷ t ∷ f ∷ t ∷ f ∷ f ∷ f ∷ []
+of_hash = refl
+
+-- a quote within, in both forms of escapes
+of_string : own (codes "\"a\\\"b*\"c\"d") ≡ f ∷ t ∷ t ∷ t ∷ t ∷ t ∷ t ∷ t ∷ t ∷ f ∷ []
+of_string = refl
+
+-- a character constant has none, and hides the quotes of a string
+of_char : own (codes "'\"'\"a\"") ≡ f ∷ f ∷ f ∷ f ∷ t ∷ t ∷ []
+of_char = refl
+
+of_escaped_char : own (codes "'*'\"a'\\'\"") ≡ f ∷ f ∷ f ∷ f ∷ t ∷ t ∷ t ∷ t ∷ t ∷ []
+of_escaped_char = refl
+
+-- a newline ends a string that isn't closed
+of_open_string : own (codes "\"a\nb") ≡ f ∷ t ∷ t ∷ f ∷ []
+of_open_string = refl
+
+escapes : map escape_for
+    (codes "\\n" ∷ codes "\\t" ∷ codes "\\0" ∷ codes "\\\"" ∷ codes "\\'" ∷ codes "\\\\" ∷ codes "*" ∷ [])
+    ≡ codes "*n" ∷ codes "*t" ∷ codes "*0" ∷ codes "*\"" ∷ codes "*'" ∷ codes "\\" ∷ codes "**" ∷ []
+escapes = refl
+
+no_escapes : map escape_for (codes "\\r" ∷ codes "n" ∷ codes "*n" ∷ codes "\\nn" ∷ [] ∷ []) ≡ [] ∷ [] ∷ [] ∷ [] ∷ [] ∷ []
+no_escapes = refl
+
+-- the first file ends before the newline before the next one
+own_lengths : map (λ lines. own_length lines (codes "a\nbc\n")) (1 ∷ 2 ∷ 3 ∷ []) ≡ 1 ∷ 4 ∷ 5 ∷ []
+own_lengths = refl
+
+load_faults : map verdict_text (why.Unloaded faults.TooLarge ∷ why.Unloaded faults.NoMain ∷ [])
+    ≡ codes "load 2\n" ∷ codes "load 4\n" ∷ []
+load_faults = refl
+
+load_statuses : map verdict_status (why.Unloaded faults.TooLarge ∷ why.Unloaded faults.NoMain ∷ []) ≡ 132 ∷ 132 ∷ []
+load_statuses = refl
+
+reasons : map is_reason (why.Memory ∷ why.Unloaded faults.NoMain ∷ why.Unread 1 ∷ []) ≡ false ∷ true ∷ true ∷ []
+reasons = refl

@@ -1,0 +1,43 @@
+//! The text of a source with its edits.
+ghost use Rattle.std.specs.Prelude.{◌≡◌, IfOk};
+ghost use Rattle.bport.specs.Edits.{edited};
+
+use crate::edit::{Edit, between};
+use btools::Text;
+use std::alloc::{AllocError, Global};
+
+/// A source with edits.
+pub(crate) fn apply(alloc: Global, source: &[u8], edits: &[Edit]) -> Result<Text, AllocError>
+    ensures { IfOk result (λ text. text ≡ edited source.now 0 edits.now) }
+{
+    let mut text = Text::new(alloc);
+    let mut at: usize = 0;
+    for edit in edits {
+        text.push(between(source, at, edit.start))?;
+        text.push(edit.text.as_slice())?;
+        at = edit.end;
+    }
+    text.push(between(source, at, source.len()))?;
+    Ok(text)
+}
+
+/// The bytes between two places, with those of the edits that are among them.
+pub(crate) fn render(
+    alloc: Global,
+    source: &[u8],
+    edits: &[Edit],
+    start: usize,
+    end: usize,
+) -> Result<Text, AllocError> {
+    let mut text = Text::new(alloc);
+    let mut at = start;
+    for edit in edits {
+        if edit.start >= at && edit.end <= end {
+            text.push(between(source, at, edit.start))?;
+            text.push(edit.text.as_slice())?;
+            at = edit.end;
+        }
+    }
+    text.push(between(source, at, end))?;
+    Ok(text)
+}

@@ -1,0 +1,143 @@
+//! Edits of an old source.
+ghost use Rattle.std.specs.Prelude.{◌≡◌, drop, not, take};
+ghost use Rattle.std.specs.List.{list_all};
+ghost use Rattle.bport.specs.Places.{is_own_text};
+ghost use Rattle.bport.specs.Edits.{are_sound, escape_for, escape_of, fits, is_escape, is_in_quotes};
+
+use crate::row::Row;
+use crate::within::Within;
+use btools::Text;
+
+/// A text in the place of the bytes from `start` up to `end`, and why.
+#[derive(Drop)]
+pub struct Edit {
+    pub start: usize,
+    pub end: usize,
+    pub text: Text,
+    pub row: Row,
+}
+
+/// The bytes between two places.
+pub(crate) fn between(source: &[u8], start: usize, end: usize) -> &[u8]
+    ensures { result.now ≡ drop start (take end source.now) }
+{
+    let head = up_to(source, end);
+    if start < head.len() {
+        let (_, part) = head.split_at(start);
+        part
+    } else {
+        &[]
+    }
+}
+
+fn up_to(source: &[u8], end: usize) -> &[u8]
+    ensures { result.now ≡ take end source.now }
+{
+    if end < source.len() {
+        let (head, _) = source.split_at(end);
+        head
+    } else {
+        source
+    }
+}
+
+// The same of the places of bytes.
+fn places_between(places: &[Within], start: usize, end: usize) -> &[Within]
+    ensures { result.now ≡ drop start (take end places.now) }
+{
+    let head = places_up_to(places, end);
+    if start < head.len() {
+        let (_, part) = head.split_at(start);
+        part
+    } else {
+        &[]
+    }
+}
+
+fn places_up_to(places: &[Within], end: usize) -> &[Within]
+    ensures { result.now ≡ take end places.now }
+{
+    if end < places.len() {
+        let (head, _) = places.split_at(end);
+        head
+    } else {
+        places
+    }
+}
+
+/// Whether no byte between two places is a comment's or a string's own.
+pub(crate) fn is_free(places: &[Within], start: usize, end: usize) -> bool {
+    no_own_text(places_between(places, start, end))
+}
+
+fn no_own_text(places: &[Within]) -> bool
+    ensures { result ≡ list_all (λ place. not (is_own_text place)) places.now }
+{
+    places.iter().all(|place| !place.is_own_text())
+}
+
+/// Whether edits are in order and apart, and each fits the bytes in whose place its text is.
+pub(crate) fn are_sound(source: &[u8], places: &[Within], edits: &[Edit]) -> bool
+    ensures { result ≡ are_sound source.now places.now 0 edits.now }
+{
+    let mut at: usize = 0;
+    for edit in edits {
+        if at > edit.start || edit.start > edit.end || !fits(source, places, edit) {
+            return false;
+        }
+        at = edit.end;
+    }
+    at <= source.len()
+}
+
+/// Whether an edit takes out no byte of a comment or of a string, or is one of an escape.
+pub(crate) fn fits(source: &[u8], places: &[Within], edit: &Edit) -> bool
+    ensures { result ≡ fits source.now places.now edit.now }
+{
+    let stood = places_between(places, edit.start, edit.end);
+    match edit.row {
+        Row::Escape => is_escape(
+            between(source, edit.start, edit.end),
+            stood,
+            edit.text.as_slice(),
+        ),
+        _ => no_own_text(stood),
+    }
+}
+
+fn is_escape(old: &[u8], places: &[Within], new: &[u8]) -> bool
+    ensures { result ≡ is_escape old.now places.now new.now }
+{
+    !old.is_empty() && is_in_quotes(places) && !new.is_empty() && new == escape_for(old)
+}
+
+fn is_in_quotes(places: &[Within]) -> bool
+    ensures { result ≡ is_in_quotes places.now }
+{
+    matches!(places, [Within::String | Within::Char, ..])
+}
+
+/// The escape that stands here for these bytes in quotes, or no byte.
+pub(crate) fn escape_for(old: &[u8]) -> &'static [u8]
+    ensures { result.now ≡ escape_for old.now }
+{
+    match old {
+        [b'*'] => b"**",
+        [b'\\', byte] => escape_of(*byte),
+        _ => b"",
+    }
+}
+
+fn escape_of(byte: u8) -> &'static [u8]
+    ensures { result.now ≡ escape_of byte }
+{
+    match byte {
+        b'n' => b"*n",
+        b't' => b"*t",
+        b'0' => b"*0",
+        b'"' => b"*\"",
+        b'\'' => b"*'",
+        b'\\' => b"\\",
+        _ => b"",
+    }
+}

@@ -1,0 +1,156 @@
+//! Operators that are written otherwise here.
+use crate::apply::render;
+use crate::row::{NoteKind, Row};
+use crate::shape::is_opening;
+use crate::source::{Draft, Source};
+use crate::tokens::TokenKind;
+use btools::Text;
+use std::alloc::AllocError;
+
+/// Edits a sign.
+pub(crate) fn sign(source: &Source<'_>, draft: &mut Draft, index: usize) -> Result<(), AllocError> {
+    match source.word(index) {
+        b"$(" => draft.replace(source, index, b"{", Row::Brackets),
+        b"$)" => draft.replace(source, index, b"}", Row::Brackets),
+        b"~" => complement(source, draft, index),
+        b"^=" | b"=^" => draft.note(source, index, NoteKind::Exclusive),
+        b"->" => draft.note(source, index, NoteKind::Structure),
+        b"+=" | b"-=" | b"*=" | b"/=" | b"%=" | b"&=" | b"|=" | b"<<=" | b">>=" => {
+            assignment(source, draft, index)
+        }
+        b"=-" | b"=*" | b"=&" if source.is_later && is_tight(source, index) => {
+            apart(source, draft, index)
+        }
+        _ => Ok(()),
+    }
+}
+
+// Whether a token comes right after this one.
+fn is_tight(source: &Source<'_>, index: usize) -> bool {
+    source.end(index) == source.start(index.wrapping_add(1))
+}
+
+// `+=` is `=+`. A sign right after it could make it longer.
+fn assignment(source: &Source<'_>, draft: &mut Draft, index: usize) -> Result<(), AllocError> {
+    let word = source.word(index);
+    let mut text = Text::new(draft.alloc);
+    text.push(b"=")?;
+    text.push(word.get(..word.len().saturating_sub(1)).unwrap_or(&[]))?;
+    let next = index.wrapping_add(1);
+    if is_tight(source, index) && source.kind(next) == Some(TokenKind::Sign) {
+        text.push(b" ")?;
+    }
+    draft.put_text(
+        source.start(index),
+        source.end(index),
+        text,
+        Row::Assignment,
+    )
+}
+
+fn apart(source: &Source<'_>, draft: &mut Draft, index: usize) -> Result<(), AllocError> {
+    let at = source.start(index).saturating_add(1);
+    draft.put(at, at, b" ", Row::Apart)
+}
+
+// `~x` is `(-x - 1)`.
+fn complement(source: &Source<'_>, draft: &mut Draft, index: usize) -> Result<(), AllocError> {
+    let next = index.wrapping_add(1);
+    let words: &[u8] = if source.word(next).starts_with(b"-") {
+        b"(- "
+    } else {
+        b"(-"
+    };
+    draft.replace(source, index, words, Row::Complement)?;
+    draft.after(source, operand_end(source, next), b" - 1)", Row::Complement)
+}
+
+// The last token of the operand that begins with a token.
+fn operand_end(source: &Source<'_>, first: usize) -> usize {
+    let mut last = first;
+    for index in first..source.tokens.len() {
+        last = index;
+        if !matches!(
+            source.word(index),
+            b"-" | b"!" | b"*" | b"&" | b"~" | b"++" | b"--"
+        ) {
+            break;
+        }
+    }
+    if is_opening(source.word(last)) {
+        last = source.partner(last);
+    }
+    for _ in 0..source.tokens.len() {
+        let next = last.wrapping_add(1);
+        match source.word(next) {
+            b"[" | b"(" => last = source.partner(next),
+            b"++" | b"--" => last = next,
+            _ => break,
+        }
+    }
+    last
+}
+
+/// An exclusive or: the first token of its left side, its sign, and the token after its right side.
+#[derive(Clone, Copy)]
+pub(crate) struct Exclusive {
+    pub first: usize,
+    pub sign: usize,
+    pub end: usize,
+}
+
+/// Edits `a ^ b`, where evaluating a and b twice does no harm.
+pub(crate) fn exclusive_or(
+    source: &Source<'_>,
+    draft: &mut Draft,
+    found: Exclusive,
+) -> Result<(), AllocError> {
+    let last = found.end.wrapping_sub(1);
+    if !is_pure(source, found.first, found.end) || !source.is_plain(found.first, last) {
+        return draft.note(source, found.sign, NoteKind::Exclusive);
+    }
+    let (start, end) = (source.start(found.first), source.end(last));
+    let (before, after) = (
+        source.end(found.sign.wrapping_sub(1)),
+        source.start(found.sign.wrapping_add(1)),
+    );
+    let left = render(draft.alloc, source.text, &draft.edits, start, before)?;
+    let right = render(draft.alloc, source.text, &draft.edits, after, end)?;
+    let mut text = Text::new(draft.alloc);
+    text.push(b") - (")?;
+    text.push(left.as_slice())?;
+    text.push(b" & ")?;
+    text.push(right.as_slice())?;
+    text.push(b"))")?;
+    draft.put(start, start, b"((", Row::Exclusive)?;
+    draft.replace(source, found.sign, b"|", Row::Exclusive)?;
+    draft.put_text(end, end, text, Row::Exclusive)
+}
+
+/// Whether no token from one up to another calls, stores or may end the run.
+pub(crate) fn is_pure(source: &Source<'_>, first: usize, end: usize) -> bool {
+    for index in first..end.min(source.tokens.len()) {
+        let before = index.wrapping_sub(1);
+        match source.word(index) {
+            b"++" | b"--" | b"/" | b"%" => return false,
+            b"(" if index > first && is_callee(source, before) => return false,
+            word if is_assignment(word) => return false,
+            _ => {}
+        }
+    }
+    true
+}
+
+fn is_callee(source: &Source<'_>, index: usize) -> bool {
+    source.is_name(index) || source.is(index, b")") || source.is(index, b"]")
+}
+
+/// Whether a sign assigns.
+pub(crate) fn is_assignment(word: &[u8]) -> bool {
+    match word {
+        b"==" | b"<=" | b">=" | b"!=" => false,
+        [b'=', ..] => true,
+        [_, b'='] | [_, _, b'='] => true,
+        _ => false,
+    }
+}

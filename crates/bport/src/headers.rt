@@ -1,0 +1,50 @@
+//! The parameters of functions.
+use crate::definitions::types;
+use crate::names::is_type;
+use crate::row::Row;
+use crate::source::{Draft, Source};
+use crate::table::NONE;
+use std::alloc::AllocError;
+
+/// How many declarations of parameters are looked at.
+const MOST_DECLARATIONS: usize = 64;
+
+/// Takes types out of a list of parameters.
+pub(crate) fn parameters(
+    source: &Source<'_>,
+    draft: &mut Draft,
+    open: usize,
+    close: usize,
+) -> Result<(), AllocError> {
+    for index in open.saturating_add(1)..close.min(source.tokens.len()) {
+        let next = index.wrapping_add(1);
+        let word = source.word(index);
+        if matches!(word, b"[") {
+            let end = source.partner(index).min(close);
+            draft.put(source.start(index), source.end(end), b"", Row::Parameters)?;
+        } else if matches!(word, b"*") || is_type(word) {
+            types(source, draft, index, next)?;
+            draft.remove(source, index, next, Row::Parameters)?;
+        }
+    }
+    Ok(())
+}
+
+/// Makes comments of the declarations of parameters that come after them, and tells the token after these.
+pub(crate) fn knr(
+    source: &Source<'_>,
+    draft: &mut Draft,
+    from: usize,
+) -> Result<usize, AllocError> {
+    let mut at = from;
+    for _ in 0..MOST_DECLARATIONS {
+        let last = source.semicolon(at);
+        if !is_type(source.word(at)) || last == NONE {
+            break;
+        }
+        types(source, draft, at, at.wrapping_add(1))?;
+        draft.comment(source, at, last, Row::Parameters)?;
+        at = last.wrapping_add(1);
+    }
+    Ok(at)
+}

@@ -1,0 +1,31 @@
+//! Old and later forms of B, ported to this one.
+#![tactic(auto)]
+
+mod apply;
+mod command;
+mod definitions;
+mod edit;
+mod expressions;
+mod headers;
+mod listing;
+mod logic;
+mod loops;
+mod mentions;
+mod names;
+mod porting;
+mod quotes;
+mod remarks;
+mod row;
+mod shape;
+mod source;
+mod statements;
+mod table;
+mod tokens;
+mod within;
+
+pub use command::port;
+pub use edit::Edit;
+pub use listing::{push_changes, push_notes};
+pub use porting::{Ported, port_text};
+pub use row::{Note, NoteKind, Row};
+pub use within::Within;

@@ -1,0 +1,310 @@
+//! Porting a source.
+ghost use Rattle.std.specs.Prelude.{◌≡◌, ◌++◌, [], IfOk, true};
+ghost use Rattle.bport.specs.Edits.{StaysIfItRuns, are_edits_of, edited};
+
+use crate::apply::apply;
+use crate::command::joined;
+use crate::definitions::outline_of;
+use crate::edit::{Edit, are_sound, fits};
+use crate::expressions::{exclusive_or, sign};
+use crate::logic::signs;
+use crate::loops::loops_of;
+use crate::mentions::{heap, mentions};
+use crate::names::{Constants, name, number, short_names};
+use crate::quotes::quoted;
+use crate::remarks::remarks;
+use crate::row::{Note, NoteKind};
+use crate::shape::{ends_of, partners_of, semicolons_of};
+use crate::source::{Draft, Source};
+use crate::statements::statement;
+use crate::table::{first_names, word_of};
+use crate::tokens::{Token, TokenKind, tokens_of};
+use crate::within::{Within, places_of};
+use btools::{Origin, ProgramFault, Text, read_program};
+use bword::Edition;
+use std::alloc::{AllocError, Global};
+
+/// What came of porting a source.
+#[derive(Drop)]
+pub struct Ported {
+    /// The source with the edits.
+    pub text: Text,
+    /// What was changed, in the order of the source.
+    pub edits: Vec<Edit>,
+    /// What was left as it stands, or may mean something else.
+    pub notes: Vec<Note>,
+}
+
+/// Ports a source of an old or a later form of B to this edition, with what comes after it.
+///
+/// A source that compiles and loads stays as it is.
+///
+/// # Errors
+///
+/// If memory was refused.
+pub fn port_text(
+    alloc: Global,
+    source: &[u8],
+    rest: &[u8],
+    edition: Edition,
+) -> Result<Ported, AllocError>
+    ensures text { IfOk result (λ p. p.text ≡ edited source.now 0 p.edits.items) }
+    ensures edits { IfOk result (λ p. are_edits_of source.now p.edits.items ≡ true) }
+    ensures stays { IfOk result (λ p. StaysIfItRuns edition (source.now ++ rest.now) p.edits.items) }
+{
+    let whole = joined(alloc, source, rest)?;
+    match read_program(alloc, whole.as_slice(), Origin::Source(edition)) {
+        Ok(_) => {
+            let mut kept = unchanged(alloc, source)?;
+            plain_notes(alloc, &mut kept.notes, source)?;
+            Ok(kept)
+        }
+        Err(ProgramFault::Memory) => Err(AllocError),
+        Err(_) => rewrite(alloc, source, rest, edition),
+    }
+}
+
+fn unchanged(alloc: Global, source: &[u8]) -> Result<Ported, AllocError>
+    ensures text { IfOk result (λ p. p.text ≡ edited source.now 0 p.edits.items) }
+    ensures edits { IfOk result (λ p. are_edits_of source.now p.edits.items ≡ true) }
+    ensures none { IfOk result (λ p. p.edits.items ≡ []) }
+{
+    let mut text = Text::new(alloc);
+    text.push(source)?;
+    Ok(Ported {
+        text,
+        edits: Vec::new(alloc),
+        notes: Vec::new(alloc),
+    })
+}
+
+// Tells what a source that stays as it is may not mean.
+fn plain_notes(alloc: Global, notes: &mut Vec<Note>, source: &[u8]) -> Result<(), AllocError> {
+    let places = places_of(alloc, source)?;
+    let has_heap = has_word(source, b"givevec(");
+    for at in 0..source.len() {
+        let rest = source.get(at..).unwrap_or(&[]);
+        if let Some(kind) = plain_note(rest, places.get(at).copied(), has_heap) {
+            if !notes.iter().any(|note| note.kind == kind) {
+                notes.push(Note { start: at, kind })?;
+            }
+        }
+    }
+    Ok(())
+}
+
+fn plain_note(rest: &[u8], place: Option<Within>, has_heap: bool) -> Option<NoteKind> {
+    match (rest, place) {
+        ([b'\\', b'n' | b't' | b'0' | b'"' | b'\\', ..], Some(Within::String)) => {
+            Some(NoteKind::Backslash)
+        }
+        ([b'&', b'&', ..], Some(Within::Code)) => Some(NoteKind::Ampersands),
+        ([b'g', ..], Some(Within::Code)) if !has_heap && rest.starts_with(b"getvec(") => {
+            Some(NoteKind::Heap)
+        }
+        _ => None,
+    }
+}
+
+fn has_word(source: &[u8], word: &[u8]) -> bool {
+    for at in 0..source.len() {
+        if source.get(at..).unwrap_or(&[]).starts_with(word) {
+            return true;
+        }
+    }
+    false
+}
+
+// Makes the edits, and takes those that are sound, unless the source would grow too much.
+fn rewrite(
+    alloc: Global,
+    source: &[u8],
+    rest: &[u8],
+    edition: Edition,
+) -> Result<Ported, AllocError>
+    ensures text { IfOk result (λ p. p.text ≡ edited source.now 0 p.edits.items) }
+    ensures edits { IfOk result (λ p. are_edits_of source.now p.edits.items ≡ true) }
+{
+    let places = places_of(alloc, source)?;
+    let Draft {
+        alloc: _,
+        edits,
+        mut notes,
+    } = draft_of(alloc, source, rest, edition)?;
+    let edits = apart(source, &places, edits, &mut notes, alloc)?;
+    let text = apply(alloc, source, &edits)?;
+    let is_small = text.as_slice().len() / 2 <= source.len().saturating_add(SPARE);
+    if is_small && are_sound(source, &places, &edits) {
+        return Ok(Ported { text, edits, notes });
+    }
+    let mut kept = unchanged(alloc, source)?;
+    kept.notes.push(Note {
+        start: 0,
+        kind: NoteKind::Growth,
+    })?;
+    Ok(kept)
+}
+
+// The edits that are made of a source, in the order in which they are made.
+fn draft_of(
+    alloc: Global,
+    text: &[u8],
+    rest: &[u8],
+    edition: Edition,
+) -> Result<Draft, AllocError> {
+    let places = places_of(alloc, text)?;
+    let tokens = tokens_of(alloc, text, &places)?;
+    let partners = partners_of(alloc, text, &tokens)?;
+    let semicolons = semicolons_of(alloc, text, &tokens, &partners)?;
+    let firsts = first_names(alloc, text, &tokens)?;
+    let is_later = is_later(text, &tokens);
+    let bare = Source {
+        text,
+        places: &places,
+        tokens: &tokens,
+        partners: &partners,
+        semicolons: &semicolons,
+        ends: &[],
+        firsts: &firsts,
+        edition,
+        is_later,
+    };
+    let ends = ends_of(alloc, &bare)?;
+    let source = Source {
+        text,
+        places: &places,
+        tokens: &tokens,
+        partners: &partners,
+        semicolons: &semicolons,
+        ends: &ends,
+        firsts: &firsts,
+        edition,
+        is_later,
+    };
+    let mut draft = Draft::new(alloc);
+    draft_rows(alloc, &source, rest, &mut draft)?;
+    Ok(draft)
+}
+
+// Whether a source has assignment operators or types of later forms, and none of the early ones.
+fn is_later(text: &[u8], tokens: &[Token]) -> bool {
+    let mut found = false;
+    for index in 0..tokens.len() {
+        let token = tokens[index];
+        let word = word_of(text, tokens, index);
+        match word {
+            b"+=" | b"-=" | b"*=" | b"/=" | b"int" => found = true,
+            b"=+" | b"=-" | b"=*" | b"=&" | b"=/" | b"=|" => {
+                if matches!(text.get(token.end), Some(b' ')) {
+                    return false;
+                }
+            }
+            _ => {}
+        }
+    }
+    found
+}
+
+fn draft_rows(
+    alloc: Global,
+    source: &Source<'_>,
+    rest: &[u8],
+    draft: &mut Draft,
+) -> Result<(), AllocError> {
+    let mut constants = Constants::new(alloc);
+    remarks(draft, &mut constants, source.text, source.places)?;
+    let mut outline = outline_of(alloc, source, draft, &mut constants)?;
+    let places = places_of(alloc, rest)?;
+    let tokens = tokens_of(alloc, rest, &places)?;
+    let firsts = first_names(alloc, rest, &tokens)?;
+    let others = Source {
+        text: rest,
+        places: &places,
+        tokens: &tokens,
+        partners: &[],
+        semicolons: &[],
+        ends: &[],
+        firsts: &firsts,
+        edition: source.edition,
+        is_later: false,
+    };
+    let short = short_names(alloc, source, &others)?;
+    for index in 0..source.tokens.len() {
+        if !outline.is_gone(index) {
+            token(source, draft, &constants, &short, index)?;
+        }
+    }
+    mentions(alloc, source, draft, &outline, &short)?;
+    heap(source, &others, draft, &outline)?;
+    let exclusives = signs(alloc, source, draft, &outline)?;
+    sort(draft)?;
+    for found in &exclusives {
+        exclusive_or(source, draft, *found)?;
+    }
+    let loops = loops_of(alloc, source)?;
+    for step in 0..source.tokens.len() {
+        let index = source.tokens.len() - 1 - step;
+        if !outline.is_gone(index) {
+            statement(source, draft, &mut outline, &loops, index)?;
+        }
+    }
+    Ok(())
+}
+
+fn token(
+    source: &Source<'_>,
+    draft: &mut Draft,
+    constants: &Constants,
+    short: &[Option<Text>],
+    index: usize,
+) -> Result<(), AllocError> {
+    match source.kind(index) {
+        Some(TokenKind::Name) => name(source, draft, constants, short, index),
+        Some(TokenKind::Number) => number(source, draft, index),
+        Some(TokenKind::Char | TokenKind::String) => quoted(source, draft, index),
+        Some(TokenKind::Sign) => sign(source, draft, index),
+        None => Ok(()),
+    }
+}
+
+fn sort(draft: &mut Draft) -> Result<(), AllocError> {
+    draft.edits.sort_by_key(|edit| key_of(edit))
+}
+
+/// How many bytes a small source may grow by beside twice its size.
+const SPARE: usize = 1024;
+
+// The edits in order, without those within what another one takes out, and those that would take out a comment, which
+// are told.
+fn apart(
+    source: &[u8],
+    places: &[Within],
+    edits: Vec<Edit>,
+    notes: &mut Vec<Note>,
+    alloc: Global,
+) -> Result<Vec<Edit>, AllocError> {
+    let mut sorted = edits;
+    sorted.sort_by_key(|edit| key_of(edit))?;
+    let mut kept = Vec::new(alloc);
+    let mut at: usize = 0;
+    for edit in sorted {
+        if edit.start < at || edit.start > edit.end {
+            continue;
+        }
+        if fits(source, places, &edit) {
+            at = edit.end;
+            kept.push(edit)?;
+        } else {
+            notes.push(Note {
+                start: edit.start,
+                kind: NoteKind::Remark,
+            })?;
+        }
+    }
+    Ok(kept)
+}
+
+// Edits go by their places; at one place those that take nothing out come first.
+fn key_of(edit: &Edit) -> (usize, bool) {
+    (edit.start, edit.end > edit.start)
+}

@@ -1,0 +1,149 @@
+//! What is changed in an old source, and what is left.
+ghost use Rattle.std.specs.List.{list_all};
+ghost use Rattle.std.specs.Prelude.{◌≡◌, IsTrue};
+ghost use Rattle.bport.specs.Changes.{sentence};
+
+/// Why an edit is made.
+#[derive(Clone, Copy, PartialEq, Eq)]
+pub enum Row {
+    Remark,
+    Directive,
+    Escape,
+    Brackets,
+    Assignment,
+    Apart,
+    And,
+    Or,
+    Exclusive,
+    Complement,
+    Number,
+    Constant,
+    Characters,
+    Name,
+    InputEnd,
+    Vector,
+    Type,
+    Parameters,
+    Prototype,
+    External,
+    Mention,
+    Heap,
+    Value,
+    Head,
+    Return,
+    For,
+    Do,
+    Repeat,
+    Continue,
+    Range,
+    Switch,
+    Empty,
+}
+
+impl Row {
+    /// One sentence on it.
+    #[rattlefmt::skip]
+    pub(crate) fn sentence(self) -> &'static [u8]
+        ensures { result.now ≡ sentence self }
+    {
+        match self {
+            Row::Remark => b"a comment is between /* and */",
+            Row::Directive => b"a line for a preprocessor is a comment",
+            Row::Escape => b"in quotes * begins an escape",
+            Row::Brackets => b"statements are in braces",
+            Row::Assignment => b"an assignment operator begins with =",
+            Row::Apart => b"= is apart from the operator after it",
+            Row::And => b"&& is ?: or, between comparisons, &",
+            Row::Or => b"|| is ?: or, between comparisons, |",
+            Row::Exclusive => b"^ is the difference of | and &",
+            Row::Complement => b"~ is the negative less 1",
+            Row::Number => b"a number is decimal, or octal with digits up to 7",
+            Row::Constant => b"a constant stands for its name",
+            Row::Characters => b"a constant has two characters at most",
+            Row::Name => b"a name has eight letters at most",
+            Row::InputEnd => b"the input ends with '*e'",
+            Row::Vector => b"auto has the last index of a vector without brackets",
+            Row::Type => b"there are no types",
+            Row::Parameters => b"parameters are names alone",
+            Row::Prototype => b"a function that is elsewhere isn't declared here",
+            Row::External => b"extrn declares externals in a function",
+            Row::Mention => b"extrn names the externals of a function",
+            Row::Heap => b"getvec takes its words from a vector that givevec was given",
+            Row::Value => b"an initial value has no = and no braces",
+            Row::Head => b"a function has parentheses after its name",
+            Row::Return => b"the value of return is in parentheses",
+            Row::For => b"for is a while",
+            Row::Do => b"do is a while, or a goto",
+            Row::Repeat => b"repeat is while(1)",
+            Row::Continue => b"the next turn is a goto to the end of the body",
+            Row::Range => b"each case has one constant",
+            Row::Switch => b"the cases of a switch are in braces",
+            Row::Empty => b"a statement comes after a label",
+        }
+    }
+}
+
+/// What is left as it stands, or means something else.
+#[derive(Clone, Copy, PartialEq, Eq)]
+pub enum NoteKind {
+    Structure,
+    Floating,
+    Wide,
+    Static,
+    Pointer,
+    Words,
+    Arguments,
+    Macro,
+    Comma,
+    Escape,
+    Characters,
+    Remark,
+    Exclusive,
+    Condition,
+    Loop,
+    Large,
+    Break,
+    Number,
+    Heap,
+    Backslash,
+    Ampersands,
+    Growth,
+}
+
+impl NoteKind {
+    /// One sentence on it.
+    #[rattlefmt::skip]
+    pub(crate) fn sentence(self) -> &'static [u8] {
+        match self {
+            NoteKind::Structure => b"there are no structures: a vector has its parts by numbers",
+            NoteKind::Floating => b"there are no fractions: all words are whole numbers",
+            NoteKind::Wide => b"a word has 16 bits and a sign, also where the type said otherwise",
+            NoteKind::Static => b"a word of a call isn't kept for the next one: make it an external",
+            NoteKind::Pointer => b"a string has two characters in a word: char(s, i) and lchar(s, i, c) take them apart",
+            NoteKind::Words => b"this vector has a word for each character, and a string two in a word",
+            NoteKind::Arguments => b"a program gets no words: its parameters are 0",
+            NoteKind::Macro => b"a macro with parameters is left out: make a function of it",
+            NoteKind::Comma => b"a comma between expressions: write two statements",
+            NoteKind::Escape => b"this escape stands for no byte that quotes can have here",
+            NoteKind::Characters => b"a word holds two characters: the others need words of their own",
+            NoteKind::Remark => b"this comment has */ or stands among code that moves",
+            NoteKind::Exclusive => b"write (a | b) - (a & b) for a ^ b, with a and b evaluated before",
+            NoteKind::Condition => b"this && or || is too large to change",
+            NoteKind::Loop => b"this loop has a comment or a string in what would move, or no end",
+            NoteKind::Large => b"a word is at most 65535",
+            NoteKind::Break => b"break and default are in edition 2: b port --edition 2",
+            NoteKind::Number => b"this number has letters or digits that none has here",
+            NoteKind::Heap => b"getvec gives 0 until main has called givevec",
+            NoteKind::Backslash => b"\\ in quotes is a character here, and the next one, too: *n is a newline",
+            NoteKind::Ampersands => b"&& is & before the address of what comes after it",
+            NoteKind::Growth => b"the ported source would have more than twice its size: nothing is changed",
+        }
+    }
+}
+
+/// What is left, and the place of its first byte.
+#[derive(Clone, Copy)]
+pub struct Note {
+    pub start: usize,
+    pub kind: NoteKind,
+}

@@ -1,0 +1,251 @@
+//! An old source, its tokens, and the edits that are made of it.
+use crate::edit::{Edit, between, is_free};
+use crate::row::{Note, NoteKind, Row};
+use crate::table::{NONE, slot, word_of};
+use crate::tokens::{Token, TokenKind};
+use crate::within::Within;
+use btools::Text;
+use bword::Edition;
+use std::alloc::{AllocError, Global};
+
+/// An old source, as far as it is known.
+#[derive(Clone, Copy)]
+pub(crate) struct Source<'a> {
+    pub text: &'a [u8],
+    pub places: &'a [Within],
+    pub tokens: &'a [Token],
+    /// For each bracket the other one of its pair.
+    pub partners: &'a [usize],
+    /// For each token the next semicolon at its level.
+    pub semicolons: &'a [usize],
+    /// For each token the one after the statement that begins with it.
+    pub ends: &'a [usize],
+    /// For each name the first token with it.
+    pub firsts: &'a [usize],
+    pub edition: Edition,
+    /// Whether it has forms that early B hadn't.
+    pub is_later: bool,
+}
+
+impl<'a> Source<'a> {
+    /// The bytes of a token, or none.
+    pub(crate) fn word(&self, index: usize) -> &'a [u8] {
+        word_of(self.text, self.tokens, index)
+    }
+
+    pub(crate) fn is(&self, index: usize, word: &[u8]) -> bool {
+        self.word(index) == word
+    }
+
+    pub(crate) fn kind(&self, index: usize) -> Option<TokenKind> {
+        Some(self.tokens.get(index)?.kind)
+    }
+
+    pub(crate) fn is_name(&self, index: usize) -> bool {
+        self.kind(index) == Some(TokenKind::Name)
+    }
+
+    /// The place of the first byte of a token, or the end of the source.
+    pub(crate) fn start(&self, index: usize) -> usize {
+        match self.tokens.get(index) {
+            Some(token) => token.start,
+            None => self.text.len(),
+        }
+    }
+
+    /// The place after the last byte of a token.
+    pub(crate) fn end(&self, index: usize) -> usize {
+        match self.tokens.get(index) {
+            Some(token) => token.end,
+            None => self.text.len(),
+        }
+    }
+
+    pub(crate) fn partner(&self, index: usize) -> usize {
+        slot(self.partners, index)
+    }
+
+    pub(crate) fn semicolon(&self, index: usize) -> usize {
+        slot(self.semicolons, index)
+    }
+
+    /// The token after the statement that begins with this one.
+    pub(crate) fn statement_end(&self, index: usize) -> usize {
+        slot(self.ends, index)
+    }
+
+    pub(crate) fn is_open_paren(&self, index: usize) -> bool {
+        self.is(index, b"(") && self.partner(index) != NONE
+    }
+
+    pub(crate) fn is_open_brace(&self, index: usize) -> bool {
+        (self.is(index, b"{") || self.is(index, b"$(")) && self.partner(index) != NONE
+    }
+
+    pub(crate) fn is_close_brace(&self, index: usize) -> bool {
+        self.is(index, b"}") || self.is(index, b"$)")
+    }
+
+    /// Whether no comment and no string stands between two tokens, these included.
+    pub(crate) fn is_plain(&self, first: usize, last: usize) -> bool {
+        is_free(self.places, self.start(first), self.end(last))
+    }
+
+    /// Whether a token is the first one of a statement, by the token before it.
+    pub(crate) fn begins_statement(&self, index: usize) -> bool {
+        let before = index.wrapping_sub(1);
+        match self.word(before) {
+            b";" | b"{" | b"}" | b":" | b"$(" | b"$)" | b"else" | b"do" | b"repeat" => true,
+            b")" => self.is_head(before),
+            _ => false,
+        }
+    }
+
+    /// Whether a parenthesis ends the head of a statement.
+    pub(crate) fn is_head(&self, close: usize) -> bool {
+        let open = self.partner(close);
+        matches!(
+            self.word(open.wrapping_sub(1)),
+            b"if" | b"while" | b"for" | b"switch"
+        )
+    }
+}
+
+/// The edits and the notes that were made.
+#[derive(Drop)]
+pub(crate) struct Draft {
+    pub alloc: Global,
+    pub edits: Vec<Edit>,
+    pub notes: Vec<Note>,
+}
+
+impl Draft {
+    pub(crate) fn new(alloc: Global) -> Self {
+        Draft {
+            alloc,
+            edits: Vec::new(alloc),
+            notes: Vec::new(alloc),
+        }
+    }
+
+    /// Puts a text in the place of some bytes.
+    pub(crate) fn put(
+        &mut self,
+        start: usize,
+        end: usize,
+        words: &[u8],
+        row: Row,
+    ) -> Result<(), AllocError> {
+        let mut text = Text::new(self.alloc);
+        text.push(words)?;
+        self.put_text(start, end, text, row)
+    }
+
+    pub(crate) fn put_text(
+        &mut self,
+        start: usize,
+        end: usize,
+        text: Text,
+        row: Row,
+    ) -> Result<(), AllocError> {
+        self.edits.push(Edit {
+            start,
+            end,
+            text,
+            row,
+        })?;
+        Ok(())
+    }
+
+    /// Puts a text before a token.
+    pub(crate) fn before(
+        &mut self,
+        source: &Source<'_>,
+        index: usize,
+        words: &[u8],
+        row: Row,
+    ) -> Result<(), AllocError> {
+        let at = source.start(index);
+        self.put(at, at, words, row)
+    }
+
+    /// Puts a text after a token.
+    pub(crate) fn after(
+        &mut self,
+        source: &Source<'_>,
+        index: usize,
+        words: &[u8],
+        row: Row,
+    ) -> Result<(), AllocError> {
+        let at = source.end(index);
+        self.put(at, at, words, row)
+    }
+
+    /// Puts a text in the place of a token.
+    pub(crate) fn replace(
+        &mut self,
+        source: &Source<'_>,
+        index: usize,
+        words: &[u8],
+        row: Row,
+    ) -> Result<(), AllocError> {
+        self.put(source.start(index), source.end(index), words, row)
+    }
+
+    /// Takes the bytes out from a token up to another one, unless a comment stands between them.
+    pub(crate) fn remove(
+        &mut self,
+        source: &Source<'_>,
+        first: usize,
+        next: usize,
+        row: Row,
+    ) -> Result<(), AllocError> {
+        let start = source.start(first);
+        let mut end = source.start(next);
+        if !is_free(source.places, start, end) {
+            end = source.end(first);
+        }
+        self.put(start, end, b"", row)
+    }
+
+    /// Makes a comment of all from a token up to the end of another one. Where a comment stands there, it is told.
+    pub(crate) fn comment(
+        &mut self,
+        source: &Source<'_>,
+        first: usize,
+        last: usize,
+        row: Row,
+    ) -> Result<(), AllocError> {
+        if has_mark(between(source.text, source.start(first), source.end(last))) {
+            return self.note(source, first, NoteKind::Remark);
+        }
+        self.before(source, first, b"/* ", row)?;
+        self.after(source, last, b" */", row)
+    }
+
+    pub(crate) fn note(
+        &mut self,
+        source: &Source<'_>,
+        index: usize,
+        kind: NoteKind,
+    ) -> Result<(), AllocError> {
+        self.note_at(source.start(index), kind)
+    }
+
+    pub(crate) fn note_at(&mut self, start: usize, kind: NoteKind) -> Result<(), AllocError> {
+        self.notes.push(Note { start, kind })?;
+        Ok(())
+    }
+}
+
+/// Whether the end of a comment is among bytes.
+pub(crate) fn has_mark(bytes: &[u8]) -> bool {
+    let mut before: u8 = 0;
+    for byte in bytes {
+        if before == b'*' && *byte == b'/' {
+            return true;
+        }
+        before = *byte;
+    }
+    false
+}

@@ -1,0 +1,313 @@
+//! Statements that are written otherwise here.
+use crate::apply::render;
+use crate::definitions::{Outline, after_types, negative, types};
+use crate::edit::is_free;
+use crate::logic::after_part;
+use crate::loops::{Loops, do_loop, for_loop, repeat, turn, while_loop};
+use crate::names::is_type;
+use crate::row::{NoteKind, Row};
+use crate::shape::case_colon;
+use crate::source::{Draft, Source};
+use crate::table::{NONE, slot};
+use crate::tokens::TokenKind;
+use btools::Text;
+use bword::Edition;
+use std::alloc::AllocError;
+
+/// The most cases of a range that are written out.
+const MOST_CASES: u64 = 64;
+
+/// Edits the statement that begins with a token, if one does.
+pub(crate) fn statement(
+    source: &Source<'_>,
+    draft: &mut Draft,
+    outline: &mut Outline,
+    loops: &Loops,
+    index: usize,
+) -> Result<(), AllocError> {
+    let next = index.wrapping_add(1);
+    match source.word(index) {
+        b"return" => return_value(source, draft, index),
+        b"for" => for_loop(source, draft, loops, index),
+        b"do" => do_loop(source, draft, loops, index),
+        b"while" if !loops.is_tail(index) => {
+            while_loop(
+                source,
+                draft,
+                loops,
+                index,
+                source.partner(next).wrapping_add(1),
+            )
+        }
+        b"repeat" => repeat(source, draft, loops, index),
+        b"continue" | b"next" => turn(source, draft, loops, index),
+        b"switch" => switch(source, draft, index),
+        b"case" => case(source, draft, outline, index),
+        b"break" | b"default" => newer(source, draft, index),
+        b"extern" | b"extrn" => external(source, draft, index),
+        b"auto" => locals(source, draft, next, next),
+        b":" if source.is_close_brace(next) && ends_label(source, index) => {
+            draft.after(source, index, b" ;", Row::Empty)
+        }
+        word if is_type(word) => declaration(source, draft, outline, index),
+        _ => Ok(()),
+    }
+}
+
+fn ends_label(source: &Source<'_>, colon: usize) -> bool {
+    let before = colon.wrapping_sub(1);
+    let is_label = source.is_name(before) && source.begins_statement(before);
+    is_label || source.is(before.wrapping_sub(1), b"case")
+}
+
+fn newer(source: &Source<'_>, draft: &mut Draft, index: usize) -> Result<(), AllocError> {
+    if source.edition == Edition::Two
+        || draft.notes.iter().any(|note| note.kind == NoteKind::Break)
+    {
+        return Ok(());
+    }
+    draft.note(source, index, NoteKind::Break)
+}
+
+// The value of a return, unless it is in parentheses as a whole.
+fn return_value(source: &Source<'_>, draft: &mut Draft, index: usize) -> Result<(), AllocError> {
+    let first = index.wrapping_add(1);
+    let end = source.semicolon(first);
+    let is_closed = source.is(first, b"(") && source.partner(first).wrapping_add(1) == end;
+    if end == NONE || end == first || is_closed {
+        return Ok(());
+    }
+    let from = source.end(index);
+    if is_free(source.places, from, source.start(first)) {
+        draft.put(from, source.start(first), b"(", Row::Return)?;
+    } else {
+        draft.before(source, first, b"(", Row::Return)?;
+    }
+    draft.after(source, end.wrapping_sub(1), b")", Row::Return)
+}
+
+// Braces around the cases of a switch that has none.
+fn switch(source: &Source<'_>, draft: &mut Draft, index: usize) -> Result<(), AllocError> {
+    let body = source.partner(index.wrapping_add(1)).wrapping_add(1);
+    let end = source.statement_end(index);
+    if !source.is(body, b"case") || end == NONE {
+        return Ok(());
+    }
+    draft.before(source, body, b"{ ", Row::Switch)?;
+    draft.after(source, end.wrapping_sub(1), b" }", Row::Switch)
+}
+
+// A range of cases, and negative ones.
+fn case(
+    source: &Source<'_>,
+    draft: &mut Draft,
+    outline: &mut Outline,
+    index: usize,
+) -> Result<(), AllocError> {
+    let first = index.wrapping_add(1);
+    let sign = first.wrapping_add(1);
+    let last = sign.wrapping_add(1);
+    if source.is(first, b"-") && source.kind(sign) == Some(TokenKind::Number) {
+        return negative(source, draft, outline, first);
+    }
+    if !source.is(sign, b"::") || case_colon(source, index) == NONE {
+        return Ok(());
+    }
+    let (Some(low), Some(high)) = (single(source.word(first)), single(source.word(last))) else {
+        return Ok(());
+    };
+    let mut text = Text::new(draft.alloc);
+    for value in low.saturating_add(1)..high.saturating_add(1).min(low.saturating_add(MOST_CASES)) {
+        text.push(b": case ")?;
+        push_constant(&mut text, value, source.kind(first))?;
+    }
+    draft.put_text(source.end(first), source.end(last), text, Row::Range)
+}
+
+// The value of a constant of one plain character, or of a number of few digits.
+fn single(word: &[u8]) -> Option<u64> {
+    match word {
+        [b'\'', b'*' | b'\\', b'\''] => None,
+        [b'\'', byte @ b' '..=b'~', b'\''] => Some(*byte as u64),
+        [b'0', _, ..] => None,
+        _ => decimal(word),
+    }
+}
+
+fn decimal(word: &[u8]) -> Option<u64> {
+    let mut value: u64 = 0;
+    for byte in word {
+        if !byte.is_ascii_digit() {
+            return None;
+        }
+        value = value
+            .saturating_mul(10)
+            .saturating_add((*byte - b'0') as u64);
+    }
+    Some(value)
+}
+
+fn push_constant(text: &mut Text, value: u64, kind: Option<TokenKind>) -> Result<(), AllocError> {
+    match value {
+        32..=126 if kind == Some(TokenKind::Char) && value != 39 && value != 42 => {
+            text.push(&[b'\'', value as u8, b'\''])
+        }
+        _ => text.push_number(value),
+    }
+}
+
+// Names of externals in a function, without types and brackets.
+fn external(source: &Source<'_>, draft: &mut Draft, index: usize) -> Result<(), AllocError> {
+    let last = source.semicolon(index);
+    if last == NONE || !source.begins_statement(index) {
+        return Ok(());
+    }
+    if source.is(index, b"extern") {
+        draft.replace(source, index, b"extrn", Row::External)?;
+    }
+    for at in index.wrapping_add(1)..last {
+        let next = at.wrapping_add(1);
+        match source.word(at) {
+            b"[" | b"(" => {
+                let close = source.partner(at).min(last);
+                draft.put(source.start(at), source.end(close), b"", Row::External)?;
+            }
+            b"*" => draft.remove(source, at, next, Row::External)?,
+            word if is_type(word) && source.is_name(next) => {
+                draft.remove(source, at, next, Row::External)?;
+            }
+            _ => {}
+        }
+    }
+    Ok(())
+}
+
+// `int i;` in a function is `auto i;`.
+fn declaration(
+    source: &Source<'_>,
+    draft: &mut Draft,
+    outline: &Outline,
+    index: usize,
+) -> Result<(), AllocError> {
+    let name = after_types(source, index);
+    let last = source.semicolon(index);
+    let is_inside = slot(&outline.owners, index) != NONE && !outline.is_gone(index);
+    let is_typed = name != index && source.is_name(name) && last != NONE;
+    if !is_inside || !is_typed || !source.begins_statement(index) {
+        return Ok(());
+    }
+    if source.is(name.wrapping_add(1), b"(") {
+        return draft.comment(source, index, last, Row::Prototype);
+    }
+    if source.is(index, b"static") {
+        draft.note(source, index, NoteKind::Static)?;
+    }
+    types(source, draft, index, name)?;
+    if !source.is_plain(index, name) {
+        return draft.note(source, index, NoteKind::Remark);
+    }
+    draft.put(source.start(index), source.start(name), b"auto ", Row::Type)?;
+    locals(source, draft, index, name)
+}
+
+// The names of a declaration: vectors without brackets, and values as statements after it.
+fn locals(
+    source: &Source<'_>,
+    draft: &mut Draft,
+    first: usize,
+    name: usize,
+) -> Result<(), AllocError> {
+    let last = source.semicolon(first);
+    if last == NONE {
+        return Ok(());
+    }
+    let mut values = Text::new(draft.alloc);
+    let mut next = name;
+    for at in name..last {
+        if at < next {
+            continue;
+        }
+        let end = declarator_end(source, at, last);
+        local(source, draft, &mut values, at, end)?;
+        next = end.wrapping_add(1);
+    }
+    let place = source.end(last);
+    if values.as_slice().is_empty() {
+        return Ok(());
+    }
+    draft.put_text(place, place, values, Row::Value)
+}
+
+// The comma or the semicolon after a name with its brackets and its value.
+fn declarator_end(source: &Source<'_>, from: usize, last: usize) -> usize {
+    let mut next = from;
+    for index in from..last {
+        if index < next {
+            continue;
+        }
+        if source.is(index, b",") {
+            return index;
+        }
+        next = after_part(source, index);
+    }
+    last
+}
+
+fn local(
+    source: &Source<'_>,
+    draft: &mut Draft,
+    values: &mut Text,
+    from: usize,
+    end: usize,
+) -> Result<(), AllocError> {
+    let name = after_types(source, from);
+    if name != from && source.is(from, b"*") {
+        draft.remove(source, from, name, Row::Type)?;
+    }
+    let sign = name.wrapping_add(1);
+    let close = source.partner(sign);
+    match source.word(sign) {
+        b"[" if close == sign.wrapping_add(2) => {
+            draft.put(
+                source.end(name),
+                source.start(sign.wrapping_add(1)),
+                b" ",
+                Row::Vector,
+            )?;
+            draft.replace(source, close, b"", Row::Vector)
+        }
+        b"=" if sign < end => value(source, draft, values, name, end),
+        _ => Ok(()),
+    }
+}
+
+// Makes a statement of the value of a name.
+fn value(
+    source: &Source<'_>,
+    draft: &mut Draft,
+    values: &mut Text,
+    name: usize,
+    end: usize,
+) -> Result<(), AllocError> {
+    let sign = name.wrapping_add(1);
+    let last = end.wrapping_sub(1);
+    if !source.is_plain(name, last) {
+        return draft.note(source, name, NoteKind::Loop);
+    }
+    let text = render(
+        draft.alloc,
+        source.text,
+        &draft.edits,
+        source.start(name),
+        source.end(last),
+    )?;
+    values.push(b" ")?;
+    values.push(text.as_slice())?;
+    values.push(b";")?;
+    draft.put(
+        source.end(name),
+        source.end(last).max(source.end(sign)),
+        b"",
+        Row::Value,
+    )
+}
