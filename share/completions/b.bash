@@ -3,12 +3,12 @@ _b() {
     local words=''
     COMPREPLY=()
     if [ "$COMP_CWORD" -eq 1 ]; then
-        words='compile run go try migrate list map check names trace count show format help --help --version'
+        words='compile run go try migrate verify list map check names trace count show format help --help --version'
         mapfile -t COMPREPLY < <(compgen -W "$words" -- "${COMP_WORDS[COMP_CWORD]}")
         return
     fi
     if [ "${COMP_WORDS[1]}" = help ]; then
-        words='compile run go try migrate list map check names trace count show format'
+        words='compile run go try migrate verify list map check names trace count show format'
         [ "$COMP_CWORD" -gt 2 ] || mapfile -t COMPREPLY < <(compgen -W "$words" -- "${COMP_WORDS[COMP_CWORD]}")
         return
     fi
@@ -37,6 +37,7 @@ _b() {
     go) words='--edition --steps --no-limit --where --careful --with --help' ;;
     try) words='--edition --steps --no-limit --with --help' ;;
     migrate) words='--help' ;;
+    verify) words='--help' ;;
     list) words='--edition --with --code --made --lines --help' ;;
     map) words='--edition --with --svg --steps --help' ;;
     check) words='--write --diff --edition --with --json --fix --help' ;;

@@ -27,11 +27,12 @@ use Rattle.bshow.specs.Shows.{Shows}
 use Rattle.btools.specs.Origins.{Code, Origin, Source}
 use Rattle.btrace.specs.Locates.{Locates}
 use Rattle.btrace.specs.Traces.{Traces}
+use Rattle.bverify.specs.Verifies.{VerifiesText}
 use Rattle.bwatch.specs.declared.trail.TraceRows.TheVariants as traced
 use Rattle.bwhere.specs.Wheres.{LocatesCode}
 use Rattle.bcommand.specs.CommandLine.{OriginAsked, Question, SourceAsked, from_code, from_made, from_source}
 use Rattle.bcommand.specs.CommandLine.{ask, check, compile, count, draw, fix, format, go, go_careful, list, locate}
-use Rattle.bcommand.specs.CommandLine.{locate_code, try_out}
+use Rattle.bcommand.specs.CommandLine.{locate_code, try_out, verify}
 use Rattle.bcommand.specs.CommandLine.{map as layout, run, show, tell_names, trace}
 use Rattle.bcommand.specs.declared.job.Care.TheVariants as care
 use Rattle.bcommand.specs.declared.job.Rows.TheVariants as which
@@ -216,6 +217,10 @@ module _ (shelf : Holdings) (source : SourceAsked) (edition : Edition) (steps : 
   code_located : (file : Text) (text : List ℕ) → shelf.holds file text → LocatesCode steps text ends status
       → Does shelf (locate_code file steps) ends status
   code_located file text held l = inr (text, held, l)
+
+  code_verified : (file : Text) (text : List ℕ) → shelf.holds file text → VerifiesText text (telling_ends ends) status
+      → ends.input_after ≡ ends.input → Does shelf (verify file) ends status
+  code_verified file text held v unread = inr (text, held, v, unread)
 
   source_run : (r : Reads shelf source) (following : Unread)
       → GoesOff source.edition steps (unread (whole r)) (incoming_of following) ends status

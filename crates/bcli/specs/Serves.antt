@@ -18,6 +18,7 @@ use Rattle.bsources.specs.JoinedEnds.{IsJoined, Joined, joined_in, joined_new, l
 use Rattle.bcheck.specs.Checks.{Checks}
 use Rattle.bcheck.specs.declared.form.FindingForm.{FindingForm}
 use Rattle.bcheck.specs.declared.form.FindingForm.TheVariants as forms
+use Rattle.bverify.specs.Verifies.{VerifiesText}
 use Rattle.blist.specs.Listings.{Lists}
 use Rattle.blist.specs.Maps.{Maps}
 use Rattle.bnaming.specs.Names.{Names}
@@ -40,8 +41,8 @@ use Rattle.bformat.specs.Formats.{Formats}
 use Rattle.bwhere.specs.Wheres.{LocatesCode}
 use Rattle.bcommand.specs.CommandLine.{Asked, OriginAsked, Question, SourceAsked, asked_in, clash_line, fault_in}
 use Rattle.bcommand.specs.CommandLine.{from_source, from_code, from_made, try_out}
-use Rattle.bcommand.specs.CommandLine.{compile, run, locate_code, go, migrate, ask, contradiction}
-use Rattle.bcommand.specs.CommandLine.{list, map, draw, check, fix, tell_names, trace, locate, go_careful, count, show, format}
+use Rattle.bcommand.specs.CommandLine.{compile, run, locate_code, go, migrate, ask, contradiction, list, map, draw}
+use Rattle.bcommand.specs.CommandLine.{check, fix, tell_names, trace, locate, go_careful, count, show, format, verify}
 use Rattle.bcommand.specs.declared.job.Care.{Care}
 use Rattle.bcommand.specs.declared.job.Care.TheVariants as care
 use Rattle.bcommand.specs.declared.job.Rows.{Rows}
@@ -271,6 +272,9 @@ Does shelf (go source steps) ends status = HasNoFile (shelf.lacks source.file) e
     × Headline source.edition steps (unread (whole r)) (incoming_of following) ends status)
 Does shelf migrate ends status =
     Migrates (rewriting ends.input ends.input_after ends.out ends.out_after) ends.line ends.line_after status
+Does shelf (verify file) ends status = NamesFile (shelf.lacks file) file ends status
+    ⊎ ((text : List ℕ) × shelf.holds file text × VerifiesText text (telling_ends ends) status
+    × (ends.input_after ≡ ends.input))
 Does shelf (ask source question) ends status = NamesFile (shelf.lacks source.file) source.file ends status
     ⊎ NamesLibOf shelf source ends status
     ⊎ ((r : Reads shelf source) × Answers shelf source.edition (files_read r) (whole r) question ends status)

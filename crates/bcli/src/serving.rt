@@ -37,6 +37,7 @@ use bshow::show;
 use bsources::{Following, JoinedIn, SourceFile, SourceFiles};
 use btools::{Origin, tell};
 use btrace::{TraceRequest, locate, trace};
+use bverify::verify_text;
 use bwhere::locate_code;
 use bword::{ByteIn, ByteOut, Edition, MemIn};
 use clap::Error;
@@ -125,6 +126,10 @@ fn perform<S: Shelf, I: ByteIn, O: ByteOut, D: ByteOut>(
         },
         Job::Go(source, steps) => go_file(alloc, shelf, source, steps, input, out, diag),
         Job::Migrate => migrate(alloc, input, out, diag),
+        Job::Verify(file) => match shelf.read(alloc, file) {
+            Ok(code) => verify_text(alloc, code.as_slice(), out, diag),
+            Err(fault) => name_file(alloc, file, fault, diag),
+        },
         Job::Ask(source, question) => ask_file(alloc, shelf, source, question, input, out, diag),
         Job::Contradiction(clash) => refuse_with(clash_text(clash), diag),
     }

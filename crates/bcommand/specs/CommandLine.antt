@@ -141,6 +141,9 @@ try_command = with_rule (with_run_options (with_rule (new_app (codes "try")) edi
 abbrev pub migrate_command : App
 migrate_command = new_app (codes "migrate")
 
+abbrev pub verify_command : App
+verify_command = with_rule (new_app (codes "verify")) file_rule
+
 -- a command that tells of a source
 abbrev pub telling : App → App
 telling command = with_rule (with_rule (with_rule command edition_rule) file_rule) with_lib_rule
@@ -187,8 +190,8 @@ abbrev pub command_line : App
 command_line =
     with_subcommand (with_subcommand (with_subcommand (with_subcommand (with_subcommand (with_subcommand
     (with_subcommand (with_subcommand (with_subcommand (with_subcommand (with_subcommand (with_subcommand
-    (with_subcommand bare_line compile_command.top) run_command.top) go_command.top) try_command.top)
-    migrate_command.top) list_command.top) map_command.top) check_command.top) names_command.top) trace_command.top)
+    (with_subcommand (with_subcommand bare_line compile_command.top) run_command.top) go_command.top) try_command.top)
+    migrate_command.top) verify_command.top) list_command.top) map_command.top) check_command.top) names_command.top) trace_command.top)
     count_command.top) show_command.top) format_command.top
 
 -- the digits of a number that a u64 holds
@@ -314,13 +317,14 @@ pub data Question : Type 0 where
 
 -- What is asked for: that a source is compiled, with the files that come after it; that the code text in a file is run
 -- for so many steps; the same, and where it went wrong; that a source is compiled and run for so many; that a code text
--- is migrated; something of a source; or two options that contradict each other.
+-- is migrated; what may go wrong in a code text; something of a source; or two options that contradict each other.
 pub data Asked : Type 0 where
   compile : (edition : Edition) (libs : List Text) → Asked
   run : (file : Text) (steps : ℕ) → Asked
   locate_code : (file : Text) (steps : ℕ) → Asked
   go : SourceAsked → (steps : ℕ) → Asked
   migrate : Asked
+  verify : (file : Text) → Asked
   ask : SourceAsked → Question → Asked
   contradiction : Clash → Asked
 
@@ -419,6 +423,7 @@ asked_by name rows = if bytes_eq name (codes "run") then run_in rows
     else (if bytes_eq name (codes "go") then go_in rows
     else (if bytes_eq name (codes "try") then try_in rows
     else (if bytes_eq name (codes "migrate") then migrate
+    else (if bytes_eq name (codes "verify") then verify (file_in rows)
     else (if bytes_eq name (codes "list") then list_in rows
     else (if bytes_eq name (codes "map") then ask (source_in rows) (map_in rows)
     else (if bytes_eq name (codes "check") then check_in rows
@@ -427,7 +432,7 @@ asked_by name rows = if bytes_eq name (codes "run") then run_in rows
     else (if bytes_eq name (codes "count") then count_in rows
     else (if bytes_eq name (codes "show") then show_in rows
     else (if bytes_eq name (codes "format") then ask (source_in rows) (format (is_set_in (codes "check") rows))
-    else compile (edition_in rows) (libs_in rows))))))))))))
+    else compile (edition_in rows) (libs_in rows)))))))))))))
 
 abbrev pub asked : Option (Text × List Row) → Asked
 asked None = compile editions.One []
@@ -493,6 +498,7 @@ asked_of (job.Run file steps) = run file.now steps
 asked_of (job.LocateCode file steps) = locate_code file.now steps
 asked_of (job.Go source steps) = go (source_shown source) steps
 asked_of job.Migrate = migrate
+asked_of (job.Verify file) = verify file.now
 asked_of (job.Ask source question) = ask (source_shown source) (question_of question)
 asked_of (job.Contradiction it) = contradiction it
 

@@ -6,7 +6,7 @@ use Rattle.clap.proofs.OnLiterals.{clap_on_literals}
 use Rattle.bword.specs.declared.edition.Edition.TheVariants as editions
 use Rattle.bword.specs.declared.edition.Edition.{Edition}
 use Rattle.bcommand.specs.CommandLine.{Asked, SourceAsked, asked_in, fault_in, command_line}
-use Rattle.bcommand.specs.CommandLine.{compile, run, locate_code, go, migrate, ask, contradiction}
+use Rattle.bcommand.specs.CommandLine.{compile, run, locate_code, go, migrate, verify, ask, contradiction}
 use Rattle.bcommand.specs.CommandLine.{list, map, draw, check, tell_names, trace, locate, go_careful, count, show, format}
 use Rattle.bcommand.specs.CommandLine.{from_source, try_out}
 use Rattle.bcommand.specs.declared.job.Care.TheVariants as care
@@ -154,6 +154,14 @@ migrates_one_edition : fault_in (codes "b" ∷ codes "migrate" ∷ codes "--edit
     ≡ kind.UnknownArgument ∷ []
 unfolding clap_on_literals
 migrates_one_edition = refl
+
+verifies : Asks (codes "b" ∷ codes "verify" ∷ codes "x" ∷ []) (verify (codes "x"))
+unfolding clap_on_literals
+verifies = (refl, refl)
+
+verifies_a_file : fault_in (codes "b" ∷ codes "verify" ∷ []) ≡ kind.MissingRequiredArgument ∷ []
+unfolding clap_on_literals
+verifies_a_file = refl
 
 lists : Asks (codes "b" ∷ codes "list" ∷ codes "x" ∷ []) (ask (x editions.One) (list from_source None))
 unfolding clap_on_literals

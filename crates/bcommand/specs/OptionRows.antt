@@ -52,6 +52,10 @@ migrate_takes : taken (codes "migrate") [] ≡ []
 unfolding clap_on_literals
 migrate_takes = refl
 
+verify_takes : taken (codes "verify") x ≡ []
+unfolding clap_on_literals
+verify_takes = refl
+
 list_takes : taken (codes "list") x ≡ codes "--edition=2" ∷ codes "--with=l" ∷ of_code
 unfolding clap_on_literals
 list_takes = refl

@@ -6,7 +6,7 @@ ghost use Rattle.bcommand.specs.Rows.{command_in, line_in, rule_in};
 
 use crate::texts::{
     ABOUT, CHECK_HELP, COMPILE_HELP, COUNT_HELP, FORMAT_HELP, GO_HELP, HELP, LIST_HELP, MAP_HELP,
-    MIGRATE_HELP, NAMES_HELP, RUN_HELP, SHOW_HELP, TRACE_HELP, TRY_HELP, VERSION,
+    MIGRATE_HELP, NAMES_HELP, RUN_HELP, SHOW_HELP, TRACE_HELP, TRY_HELP, VERIFY_HELP, VERSION,
 };
 use clap::{Arg, ArgAction, Command, value_parser};
 use std::alloc::{AllocError, Global};
@@ -197,7 +197,7 @@ const NAME: ArgumentRow = ArgumentRow {
     help: "The definition to list; all if not given",
 };
 
-const COMMANDS: [CommandRow; 13] = [
+const COMMANDS: [CommandRow; 14] = [
     CommandRow {
         name: "compile",
         about: "Compiles the source on standard input to code text on standard output",
@@ -232,6 +232,13 @@ const COMMANDS: [CommandRow; 13] = [
         usage: Some("b migrate < FILE"),
         help: MIGRATE_HELP,
         arguments: &[],
+    },
+    CommandRow {
+        name: "verify",
+        about: "Tells where operands can lack in the code text in FILE",
+        usage: None,
+        help: VERIFY_HELP,
+        arguments: &[FILE],
     },
     CommandRow {
         name: "list",

@@ -10,6 +10,8 @@ pub enum Job<'a> {
     Run(&'a str, u64),
     /// The same, and where it went wrong.
     LocateCode(&'a str, u64),
+    /// What may go wrong in any run of the code text in a file.
+    Verify(&'a str),
     /// A run of a source, of so many steps at most.
     Go(SourceNames<'a>, u64),
     Migrate,

@@ -44,6 +44,7 @@ pub fn job_of<'m, 'a: 'm>(matches: &'m ArgMatches<'a>) -> Job<'m>
         "go" => go_of(given),
         "try" => try_of(given),
         "migrate" => Job::Migrate,
+        "verify" => Job::Verify(file_of(given)),
         "list" => list_of(given),
         "map" => Job::Ask(source_of(given), map_of(given)),
         "check" => check_of(given),

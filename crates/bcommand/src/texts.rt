@@ -94,6 +94,7 @@ Examples:
   b run hello.code                    runs the code text
   b run --where hello.code            tells where it went wrong
   b migrate < hello.code > new.code   writes it as a code text of edition 2
+  b verify hello.code                 tells where operands can lack in it
   b list hello.b                      lists its code beside the source
   b map hello.b                       shows where its names lie in memory
   b map --svg hello.b > hello.svg     draws it as a picture
@@ -109,8 +110,8 @@ There are two editions of the language. In edition 2, break leaves the nearest
 while or switch, and a switch without a case for its value goes to its default.
 In edition 1 these two words are names like others. A source is of edition 1
 unless --edition 2 comes after the name of the command. Use 1 for old sources
-and 2 for new ones. b run and b migrate have no --edition: a code text begins
-with the line B 2 if it is of edition 2.
+and 2 for new ones. b run, b migrate and b verify have no --edition: a code
+text begins with the line B 2 if it is of edition 2.
 
 --with LIB puts the source in LIB after FILE, as often as wanted, and a newline
 before each. LIB is input, numbers, print, strings, test or vectors, which the
@@ -183,6 +184,21 @@ Example:
 
 Statuses: 0 written, 132 no code text of edition 1, 133 a failed read or write,
 134 out of memory, 135 a wrong command line. b --help explains the letters.";
+
+pub(crate) const VERIFY_HELP: &str = "\
+Each line tells a place of a function, the line of FILE, and what is wrong: an
+instruction that takes more operands than there are, a way to a place to which
+another way comes with another number of operands, or a way past the last
+instruction. Where none of these is told, no run of the code gives the trap sk,
+on any input. A place that no way comes to, and operands that a return drops,
+are told, too, and do no harm.
+
+Example:
+  b verify hello.code
+
+Statuses: 0 no run gives sk, 1 some may, 132 no code text or one that doesn't
+load, 133 a failed read or write, 134 out of memory, 135 a wrong command line.
+b --help explains the letters.";
 
 pub(crate) const LIST_HELP: &str = "\
 The first column has the place of an instruction in its function, or @ and an

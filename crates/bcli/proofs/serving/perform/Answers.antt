@@ -34,6 +34,16 @@ returns-in-Go-clause-does g c =
 pub returns-in-Migrate-clause-does : goal.returns-in-Migrate-clause-does
 returns-in-Migrate-clause-does g c = done _ c.args.job jobs.Migrate _ _ c.in-Migrate.is c.migrate.ensures.migrates
 
+pub returns-in-Ok-read-2-clause-does : goal.returns-in-Ok-read-2-clause-does
+returns-in-Ok-read-2-clause-does g c =
+    done _ c.args.job (jobs.Verify c.in-Verify.file) _ _ c.in-Verify.is
+    (inr (c.as_slice-in-Ok-read-2.result.now, held (g.S.Shelf.holdings c.args.shelf.now) c.in-Verify.file.now _ _ c.as_slice-in-Ok-read-2.ensures.value c.in-Ok-read-2.ensures.text, c.verify_text.ensures.verifies, refl))
+
+pub returns-in-Err-read-2-clause-does : goal.returns-in-Err-read-2-clause-does
+returns-in-Err-read-2-clause-does g c =
+    done _ c.args.job (jobs.Verify c.in-Verify.file) _ _ c.in-Verify.is
+    (inl (named_for _ _ _ _ _ c.in-Err-read-2.ensures.fault (c.name_file.ensures.names (g.I.ByteIn.incoming c.args.input.now) (g.O.ByteOut.outgoing c.args.out.now))))
+
 pub returns-in-Ask-clause-does : goal.returns-in-Ask-clause-does
 returns-in-Ask-clause-does g c =
     done _ c.args.job (jobs.Ask c.in-Ask.source c.in-Ask.question) _ _ c.in-Ask.is c.ask_file.ensures.does
