@@ -3,12 +3,12 @@ _b() {
     local words=''
     COMPREPLY=()
     if [ "$COMP_CWORD" -eq 1 ]; then
-        words='compile run go try migrate verify list map check names trace count show format help --help --version'
+        words='compile run go try migrate verify list map check names trace count show format port help --help --version'
         mapfile -t COMPREPLY < <(compgen -W "$words" -- "${COMP_WORDS[COMP_CWORD]}")
         return
     fi
     if [ "${COMP_WORDS[1]}" = help ]; then
-        words='compile run go try migrate verify list map check names trace count show format'
+        words='compile run go try migrate verify list map check names trace count show format port'
         [ "$COMP_CWORD" -gt 2 ] || mapfile -t COMPREPLY < <(compgen -W "$words" -- "${COMP_WORDS[COMP_CWORD]}")
         return
     fi
@@ -46,6 +46,7 @@ _b() {
     count) words='--edition --with --code --made --lines --steps --no-limit --json --help' ;;
     show) words='--edition --with --steps --from --last --input --help' ;;
     format) words='--write --edition --check --help' ;;
+    port) words='--edition --with --help' ;;
     esac
     case ${COMP_WORDS[COMP_CWORD]} in
     -*) mapfile -t COMPREPLY < <(compgen -W "$words" -- "${COMP_WORDS[COMP_CWORD]}") ;;

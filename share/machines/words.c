@@ -69,8 +69,8 @@ static char *with_path(char *word, size_t begin) {
 
 int put_paths(char **words, size_t count) {
     static const char *const with_source[] = {"compile", "go",    "list", "map",    "check",
-                                              "trace",   "count", "show", "format", 0};
-    static const char *const reads_input[] = {"list", "map", "check", "format", 0};
+                                              "trace",   "count", "show", "format", "port", 0};
+    static const char *const reads_input[] = {"list", "map", "check", "format", "port", 0};
     static const char *const takes_value[] = {"--with", "--made", "--lines", 0};
     static const char with[] = "--with=";
     const char *value = NULL;

@@ -142,7 +142,7 @@ check:*) b_refuse "$b_write" "without '--fix'" ;;
 esac
 
 case $b_command in
-compile | go | try | list | map | check | names | trace | count | show | format)
+compile | go | try | list | map | check | names | trace | count | show | format | port)
     for b_word; do
         b_at=$((b_at + 1))
         b_put="\${$b_at}"
@@ -158,7 +158,7 @@ compile | go | try | list | map | check | names | trace | count | show | format)
         "$b_command:--made" | "$b_command:--lines") b_with='file' ;;
         "$b_command$b_fix:--with="*) b_lib "${b_word#--with=}" "\${$b_at#--with=}" --with= ;;
         format:--write | checkyes:--write | checkyes:--diff) b_put='' ;;
-        list:- | map:- | check:- | checkyes:- | names:- | format:-) b_put=/dev/stdin ;;
+        list:- | map:- | check:- | checkyes:- | names:- | format:- | port:-) b_put=/dev/stdin ;;
         esac
         # A long text is seldom copied, so that many words are quick.
         b_some="$b_some${b_put:+ \"$b_put\"}"

@@ -278,8 +278,8 @@ export async function load(given) {
 
 // ---- The command line, for Node alone ----
 
-const WITH_SOURCE = ['compile', 'go', 'try', 'list', 'map', 'check', 'trace', 'count', 'show', 'format'];
-const READS_INPUT = ['list', 'map', 'check', 'format'];
+const WITH_SOURCE = ['compile', 'go', 'try', 'list', 'map', 'check', 'trace', 'count', 'show', 'format', 'port'];
+const READS_INPUT = ['list', 'map', 'check', 'format', 'port'];
 
 /** The words, with the path of its file for a name of the library, and standard input for the FILE `-`. */
 function withPaths(words, pathOf) {

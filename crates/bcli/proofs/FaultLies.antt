@@ -21,7 +21,8 @@ use Rattle.btrace.specs.Locates.{Locates}
 use Rattle.btrace.specs.Traces as traces
 use Rattle.btrace.specs.Traces.{Traces}
 use Rattle.bwatch.specs.declared.trail.TraceRows.{TraceRows}
-use Rattle.bcommand.specs.CommandLine.{Question, check, count, draw, fix, format, from_code, from_made, from_source, go_careful, list, locate, map, show, tell_names, trace, try_out}
+use Rattle.bcommand.specs.CommandLine.{Question, check, count, draw, fix, format, from_code, from_made, from_source}
+use Rattle.bcommand.specs.CommandLine.{go_careful, list, locate, map, show, tell_names, trace, try_out, port}
 use Rattle.btools.specs.Origins.{NoProgramOf, Origin, ProgramOf, Source}
 use Rattle.bsources.specs.Files.{Files}
 use Rattle.bcli.specs.ShellExcluded.{tells_run}
@@ -93,3 +94,4 @@ fault_told shelf edition files text (count (from_made made lined) steps for_edit
 fault_told shelf edition files text (show steps shown None) ends d faulty tells answers = by_page edition text d faulty _ ends answers
 fault_told shelf edition files text (show steps shown (Some given)) ends d faulty tells answers = by_page edition text d faulty _ _ answers.2
 fault_told shelf edition files text (format is_check) ends d faulty tells answers = cc
+fault_told shelf edition files text port ends d faulty tells answers = cc

@@ -18,6 +18,7 @@ use Rattle.bcount.specs.declared.table.CountStyle.TheVariants as styles
 use Rattle.bcount.specs.Counts.{Counts}
 use Rattle.bdraw.specs.Draws.{Draws}
 use Rattle.bformat.specs.Formats.{Formats}
+use Rattle.bport.specs.Ports.{Ports}
 use Rattle.blist.specs.Listings.{Lists}
 use Rattle.blist.specs.Maps.{Maps}
 use Rattle.bnaming.specs.Names.{Names}
@@ -32,8 +33,7 @@ use Rattle.bwatch.specs.declared.trail.TraceRows.TheVariants as traced
 use Rattle.bwhere.specs.Wheres.{LocatesCode}
 use Rattle.bcommand.specs.CommandLine.{OriginAsked, Question, SourceAsked, from_code, from_made, from_source}
 use Rattle.bcommand.specs.CommandLine.{ask, check, compile, count, draw, fix, format, go, go_careful, list, locate}
-use Rattle.bcommand.specs.CommandLine.{locate_code, try_out, verify}
-use Rattle.bcommand.specs.CommandLine.{map as layout, run, show, tell_names, trace}
+use Rattle.bcommand.specs.CommandLine.{locate_code, try_out, verify, map as layout, run, show, tell_names, trace, port}
 use Rattle.bcommand.specs.declared.job.Care.TheVariants as care
 use Rattle.bcommand.specs.declared.job.Rows.TheVariants as which
 use Rattle.bsources.specs.Files.{Files, NamedText, followed}
@@ -190,12 +190,24 @@ module _ (origin : Origin) (edition : Edition) (files : Files) (text : List ℕ)
       })
   formatted is_check a = a
 
+  ported : answered port → (ends.input_after ≡ ends.input) × Ports (record {
+    edition = edition;
+    files = files;
+    source = text;
+    out = ends.out;
+    out_after = ends.out_after;
+    line = ends.line;
+    line_after = ends.line_after;
+    status = status;
+  })
+  ported a = a
+
 -- what each question asks a program to be read from
 origins_asked : (from : OriginAsked) → map origin_of
     (list from None ∷ trace from 3 (which.Last 2) None ∷ count from 3 true ∷ layout ∷ draw None ∷ check true
-    ∷ tell_names ∷ locate 3 ∷ go_careful care.Warns 3 ∷ try_out 3 ∷ show 3 (which.From 1) None ∷ format true ∷ [])
+    ∷ tell_names ∷ locate 3 ∷ go_careful care.Warns 3 ∷ try_out 3 ∷ show 3 (which.From 1) None ∷ format true ∷ port ∷ [])
     ≡ from ∷ from ∷ from ∷ from_source ∷ from_source ∷ from_source ∷ from_source ∷ from_source ∷ from_source
-    ∷ from_source ∷ from_source ∷ from_source ∷ []
+    ∷ from_source ∷ from_source ∷ from_source ∷ from_source ∷ []
 origins_asked from = refl
 
 -- What the shelf holds under the names that were asked for is compiled, run or told of, in the edition and for the

@@ -38,11 +38,13 @@ use Rattle.bcount.specs.declared.table.CountStyle.TheVariants as styles
 use Rattle.bshow.specs.Shows.{Shows}
 use Rattle.bfix.specs.Fixes.{Fixes}
 use Rattle.bformat.specs.Formats.{Formats}
+use Rattle.bport.specs.Ports.{Ports}
 use Rattle.bwhere.specs.Wheres.{LocatesCode}
 use Rattle.bcommand.specs.CommandLine.{Asked, OriginAsked, Question, SourceAsked, asked_in, clash_line, fault_in}
 use Rattle.bcommand.specs.CommandLine.{from_source, from_code, from_made, try_out}
 use Rattle.bcommand.specs.CommandLine.{compile, run, locate_code, go, migrate, ask, contradiction, list, map, draw}
 use Rattle.bcommand.specs.CommandLine.{check, fix, tell_names, trace, locate, go_careful, count, show, format, verify}
+use Rattle.bcommand.specs.CommandLine.{port}
 use Rattle.bcommand.specs.declared.job.Care.{Care}
 use Rattle.bcommand.specs.declared.job.Care.TheVariants as care
 use Rattle.bcommand.specs.declared.job.Rows.{Rows}
@@ -234,6 +236,16 @@ AnswersOf origin edition files text (format is_check) ends status = (ends.input_
   edition = edition;
   source = text;
   is_check = is_check;
+  out = ends.out;
+  out_after = ends.out_after;
+  line = ends.line;
+  line_after = ends.line_after;
+  status = status;
+})
+AnswersOf origin edition files text port ends status = (ends.input_after ≡ ends.input) × Ports (record {
+  edition = edition;
+  files = files;
+  source = text;
   out = ends.out;
   out_after = ends.out_after;
   line = ends.line;

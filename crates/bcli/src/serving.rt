@@ -32,6 +32,7 @@ use blang::status::{self, Status};
 use blist::{list, map};
 use bnaming::tell_names;
 use bparse::compile_edition;
+use bport::port;
 use brun::{go_edition, migrate, run_text};
 use bshow::show;
 use bsources::{Following, JoinedIn, SourceFile, SourceFiles};
@@ -299,7 +300,8 @@ fn origin_of(question: Question<'_>) -> OriginNames<'_>
         | Question::GoCareful(..)
         | Question::Try(_)
         | Question::Show(_)
-        | Question::Format(_) => OriginNames::Source,
+        | Question::Format(_)
+        | Question::Port => OriginNames::Source,
     }
 }
 
@@ -378,6 +380,7 @@ fn answer<I: ByteIn, O: ByteOut, D: ByteOut>(
             show_run(alloc, edition, files, text, display, input, out, diag)
         }
         Question::Format(is_check) => format(&House, alloc, text, edition, is_check, out, diag),
+        Question::Port => port(alloc, text, edition, files, out, diag),
     }
 }
 

@@ -181,6 +181,9 @@ show_command = with_rule (with_rows (telling (new_app (codes "show")))) input_ru
 abbrev pub format_command : App
 format_command = with_rule (with_rule (with_rule (new_app (codes "format")) edition_rule) file_rule) check_rule
 
+abbrev pub port_command : App
+port_command = telling (new_app (codes "port"))
+
 -- the command line without its commands, one of which there has to be
 abbrev pub bare_line : App
 bare_line = on_top (λ s. record s { has_version = true; subcommand_required = true }) (new_app (codes "b"))
@@ -188,11 +191,11 @@ bare_line = on_top (λ s. record s { has_version = true; subcommand_required = t
 -- with its commands
 abbrev pub command_line : App
 command_line =
-    with_subcommand (with_subcommand (with_subcommand (with_subcommand (with_subcommand (with_subcommand
+    with_subcommand (with_subcommand (with_subcommand (with_subcommand (with_subcommand (with_subcommand (with_subcommand
     (with_subcommand (with_subcommand (with_subcommand (with_subcommand (with_subcommand (with_subcommand
     (with_subcommand (with_subcommand bare_line compile_command.top) run_command.top) go_command.top) try_command.top)
-    migrate_command.top) verify_command.top) list_command.top) map_command.top) check_command.top) names_command.top) trace_command.top)
-    count_command.top) show_command.top) format_command.top
+    migrate_command.top) verify_command.top) list_command.top) map_command.top) check_command.top) names_command.top)
+    trace_command.top) count_command.top) show_command.top) format_command.top) port_command.top
 
 -- the digits of a number that a u64 holds
 abbrev pub is_number : Text → Bool
@@ -295,11 +298,11 @@ abbrev pub source_in : List Row → SourceAsked
 source_in rows = record { file = file_in rows; libs = libs_in rows; edition = edition_in rows }
 
 -- What is asked of a source: its code, or that of its definitions of a name; its layout; a picture of its memory, after
--- so many steps if there is a number; its faults, for an editor or for people; it mended; its names; the steps of its program
--- among so many, which of them are shown, and of which function; a run of so many steps, and where it is over; the same
--- looked at carefully in some way; its faults, and such a run where there is none; how many steps each line takes in such a run, for an editor or for people; a page
--- of a run, with this input if there is one; the source in one style, or whether it is in that. Its code, its steps and
--- those of its lines may be asked of a code text, too.
+-- so many steps if there is a number; its faults, for an editor or for people; it mended; its names; the steps of its
+-- program among so many, which of them are shown, and of which function; a run of so many steps, and where it is over;
+-- the same looked at carefully in some way; its faults, and such a run where there is none; how many steps each line
+-- takes in such a run, for an editor or for people; a page of a run, with this input if there is one; the source in one
+-- style, or whether it is in that; it ported. Its code, its steps and those of its lines may be asked of a code text, too.
 pub data Question : Type 0 where
   list : OriginAsked → (name : Option Text) → Question
   map : Question
@@ -314,6 +317,7 @@ pub data Question : Type 0 where
   count : OriginAsked → (steps : ℕ) (for_editor : Bool) → Question
   show : (steps : ℕ) (shown : Rows) (input : Option Text) → Question
   format : (is_check : Bool) → Question
+  port : Question
 
 -- What is asked for: that a source is compiled, with the files that come after it; that the code text in a file is run
 -- for so many steps; the same, and where it went wrong; that a source is compiled and run for so many; that a code text
@@ -432,7 +436,8 @@ asked_by name rows = if bytes_eq name (codes "run") then run_in rows
     else (if bytes_eq name (codes "count") then count_in rows
     else (if bytes_eq name (codes "show") then show_in rows
     else (if bytes_eq name (codes "format") then ask (source_in rows) (format (is_set_in (codes "check") rows))
-    else compile (edition_in rows) (libs_in rows)))))))))))))
+    else (if bytes_eq name (codes "port") then ask (source_in rows) port
+    else compile (edition_in rows) (libs_in rows))))))))))))))
 
 abbrev pub asked : Option (Text × List Row) → Asked
 asked None = compile editions.One []
@@ -490,6 +495,7 @@ question_of (questioned.Try steps) = try_out steps
 question_of (questioned.Count origin steps for_editor) = count (origin_shown origin) steps for_editor
 question_of (questioned.Show it) = display_shown it
 question_of (questioned.Format is_check) = format is_check
+question_of questioned.Port = port
 
 -- what a job is of what can be asked for
 abbrev pub asked_of : Job → Asked

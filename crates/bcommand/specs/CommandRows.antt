@@ -6,8 +6,8 @@ use Rattle.clap.proofs.OnLiterals.{clap_on_literals}
 use Rattle.bword.specs.declared.edition.Edition.TheVariants as editions
 use Rattle.bword.specs.declared.edition.Edition.{Edition}
 use Rattle.bcommand.specs.CommandLine.{Asked, SourceAsked, asked_in, fault_in, command_line}
-use Rattle.bcommand.specs.CommandLine.{compile, run, locate_code, go, migrate, verify, ask, contradiction}
-use Rattle.bcommand.specs.CommandLine.{list, map, draw, check, tell_names, trace, locate, go_careful, count, show, format}
+use Rattle.bcommand.specs.CommandLine.{compile, run, locate_code, go, migrate, verify, ask, contradiction, list, map}
+use Rattle.bcommand.specs.CommandLine.{draw, check, tell_names, trace, locate, go_careful, count, show, format, port}
 use Rattle.bcommand.specs.CommandLine.{from_source, try_out}
 use Rattle.bcommand.specs.declared.job.Care.TheVariants as care
 use Rattle.bcommand.specs.declared.job.Clash.TheVariants as clash
@@ -367,6 +367,11 @@ compares_formats : Asks (codes "b" ∷ codes "format" ∷ codes "--check" ∷ co
     (ask (x editions.Two) (format true))
 unfolding clap_on_literals
 compares_formats = (refl, refl)
+
+ports : Asks (codes "b" ∷ codes "port" ∷ codes "--edition=2" ∷ codes "x" ∷ codes "--with" ∷ codes "l" ∷ [])
+    (ask (record { file = codes "x"; libs = codes "l" ∷ []; edition = editions.Two }) port)
+unfolding clap_on_literals
+ports = (refl, refl)
 
 formats_alone : fault_in (codes "b" ∷ codes "format" ∷ codes "x" ∷ codes "--with=l" ∷ [])
     ≡ kind.UnknownArgument ∷ []

@@ -6,7 +6,7 @@ use Rattle.bword.specs.declared.edition.Edition.TheVariants as editions
 use Rattle.bcommand.specs.CommandLine.{Asked, SourceAsked, asked_in, fault_in}
 use Rattle.bcommand.specs.CommandLine.{compile, run, locate_code, go, ask, contradiction}
 use Rattle.bcommand.specs.CommandLine.{list, map as layout, draw, check, fix, tell_names, trace, locate, go_careful}
-use Rattle.bcommand.specs.CommandLine.{count, show, format, try_out}
+use Rattle.bcommand.specs.CommandLine.{count, show, format, try_out, port}
 use Rattle.bcommand.specs.CommandLine.{from_source}
 use Rattle.bcommand.specs.declared.job.Care.TheVariants as care
 use Rattle.bcommand.specs.declared.job.Clash.TheVariants as clash
@@ -95,6 +95,10 @@ format_takes : taken (codes "format") x ≡ codes "--edition=2" ∷ codes "--che
 unfolding clap_on_literals
 format_takes = refl
 
+port_takes : taken (codes "port") x ≡ codes "--edition=2" ∷ codes "--with=l" ∷ []
+unfolding clap_on_literals
+port_takes = refl
+
 -- the words of these commands with this option that have a fault of the value alone
 abbrev refused : (names : List Text) → (option : Text) → List Text
 refused names option = filter (λ name. length (fault_in (codes "b" ∷ name ∷ option ∷ x)) == 1) names
@@ -150,12 +154,12 @@ files_of_each :
     ∷ of_both (codes "map") [] ∷ of_both (codes "map") (codes "--svg" ∷ []) ∷ of_both (codes "check") []
     ∷ of_both (codes "check") (codes "--fix" ∷ [])
     ∷ of_both (codes "names") (codes "--json" ∷ []) ∷ of_both (codes "trace") [] ∷ of_both (codes "count") []
-    ∷ of_both (codes "show") [] ∷ []
+    ∷ of_both (codes "show") [] ∷ of_both (codes "port") [] ∷ []
     ≡ go both 10000000 ∷ ask both (locate 10000000) ∷ ask both (go_careful care.Stays 10000000)
     ∷ ask both (try_out 10000000) ∷ ask both (list from_source None) ∷ ask both layout
     ∷ ask both (draw None) ∷ ask both (check false) ∷ ask both fix ∷ ask both tell_names
     ∷ ask both (trace from_source 1000 (which.From 1) None) ∷ ask both (count from_source 10000000 false)
-    ∷ ask both (show 2000 (which.From 1) None) ∷ []
+    ∷ ask both (show 2000 (which.From 1) None) ∷ ask both port ∷ []
 unfolding clap_on_literals
 files_of_each = refl
 

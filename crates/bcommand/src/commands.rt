@@ -6,7 +6,7 @@ ghost use Rattle.bcommand.specs.Rows.{command_in, line_in, rule_in};
 
 use crate::texts::{
     ABOUT, CHECK_HELP, COMPILE_HELP, COUNT_HELP, FORMAT_HELP, GO_HELP, HELP, LIST_HELP, MAP_HELP,
-    MIGRATE_HELP, NAMES_HELP, RUN_HELP, SHOW_HELP, TRACE_HELP, TRY_HELP, VERIFY_HELP, VERSION,
+    MIGRATE_HELP, NAMES_HELP, PORT_HELP, RUN_HELP, SHOW_HELP, TRACE_HELP, TRY_HELP, VERIFY_HELP, VERSION,
 };
 use clap::{Arg, ArgAction, Command, value_parser};
 use std::alloc::{AllocError, Global};
@@ -308,6 +308,13 @@ const COMMANDS: [CommandRow; 14] = [
         usage: None,
         help: FORMAT_HELP,
         arguments: &[EDITION, FILE_OR_INPUT, CHECK],
+    },
+    CommandRow {
+        name: "port",
+        about: "Writes the source in FILE, of an old or a later form of B, in this one",
+        usage: None,
+        help: PORT_HELP,
+        arguments: &[EDITION, FILE_OR_INPUT, WITH],
     },
 ];
 

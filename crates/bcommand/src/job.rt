@@ -68,6 +68,8 @@ pub enum Question<'a> {
     Show(Display<'a>),
     /// The same source in one style, or only whether it is in that.
     Format(bool),
+    /// It, where it is of an old or a later form of the language, in this one.
+    Port,
 }
 
 /// What a careful run does at a finding, and whether a number that wraps is one.

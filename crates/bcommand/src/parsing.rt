@@ -53,6 +53,7 @@ pub fn job_of<'m, 'a: 'm>(matches: &'m ArgMatches<'a>) -> Job<'m>
         "count" => count_of(given),
         "show" => show_of(given),
         "format" => Job::Ask(source_of(given), Question::Format(is_set(given, "check"))),
+        "port" => Job::Ask(source_of(given), Question::Port),
         _ => Job::Compile(edition_of(given), libs_of(given)),
     }
 }

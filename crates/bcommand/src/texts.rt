@@ -104,6 +104,7 @@ Examples:
   b check hello.b                     tells what is wrong, where, how to fix it
   b names --json hello.b              tells an editor what each name is
   b format hello.b > new.b            lays it out in one style
+  b port old.b > new.b                writes an old program in this language
   b go --help                         tells more about a command
 
 There are two editions of the language. In edition 2, break leaves the nearest
@@ -428,6 +429,29 @@ Examples:
 Statuses: 0 written, 1 a fault of the source, 132 code that doesn't load,
 133 a failed read or write, 134 out of memory, 135 a wrong command line.
 b --help explains the letters.";
+
+pub(crate) const PORT_HELP: &str = "\
+FILE is of an old or a later form of B, or early C. It is written to standard
+output in this language. A source that compiles and loads is written as it is.
+Each change is told on standard error, with its line in FILE and a sentence;
+after left: comes what stays as it is, or may mean something else. Then comes
+the line that b go would write, if what was written doesn't compile or load:
+b check tells more of that. Comments and strings keep their texts.
+
+Changed are: assignment operators with = last, && and ||, ^ and ~, for, do,
+repeat, continue and next, brackets in auto, $( and $), comments after // or #,
+types, #define and other named constants, escapes by \\, hexadecimal numbers,
+names of more than eight characters, cases of a range, extern, and functions
+that name no externals. break and default stay, and are in edition 2 alone.
+--with LIB is for calls of the library: b --help tells more.
+
+Examples:
+  b port old.b > new.b
+  b port --edition 2 --with print old.b > new.b
+
+Statuses: 0 what was written compiles and loads, 1 a fault of it, 132 code that
+doesn't load, 133 a failed read or write, 134 out of memory, 135 a wrong command
+line. b --help explains the letters.";
 
 pub(crate) const FORMAT_HELP: &str = "\
 The tokens and the comments stay as they are, and in their order. Blanks and

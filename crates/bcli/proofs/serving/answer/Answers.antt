@@ -73,3 +73,7 @@ returns-in-Show-clause-answers g c =
 pub returns-in-Format-clause-answers : goal.returns-in-Format-clause-answers
 returns-in-Format-clause-answers g c =
     answered _ _ _ _ c.args.question (questions.Format c.in-Format.is_check) _ _ c.in-Format.is (refl, c.format.ensures.formats)
+
+pub returns-in-Port-clause-answers : goal.returns-in-Port-clause-answers
+returns-in-Port-clause-answers g c =
+    answered _ _ _ _ c.args.question questions.Port _ _ c.in-Port.is (refl, c.port.ensures.ports)

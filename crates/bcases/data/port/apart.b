@@ -1,0 +1,1 @@
+main() { int x, y; x=-1; y += x; return x; }

@@ -1,0 +1,1 @@
+main() { auto x; x=-1; putchar('\n'); return(x); }

@@ -1,0 +1,8 @@
+main() {
+    auto a, b;
+    a = ~b & 3;
+    b = a ^ 0xff;
+    a = f() ^ b;
+    return(~-a);
+}
+f() ;

@@ -1,0 +1,6 @@
+main $(
+    auto c;
+    c = '$)';
+    if(c) goto end;
+end:
+$)

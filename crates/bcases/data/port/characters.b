@@ -1,0 +1,5 @@
+main() {
+    if(1) putchar('hello*n');
+    putchar('abc');
+    return('abc');
+}

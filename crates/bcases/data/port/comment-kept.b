@@ -1,0 +1,1 @@
+main() { return /* a && b += c */ 1; }

@@ -1,0 +1,1 @@
+main() { auto i; i = 3; do i--; while(i); }

@@ -1,0 +1,1 @@
+main() { while(1) { if(1) break; } }

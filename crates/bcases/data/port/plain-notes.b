@@ -1,0 +1,4 @@
+main() {
+    auto a, b;
+    if(a && b) printf("%d\n", 2);
+}

@@ -1,0 +1,4 @@
+// a "b"
+# c
+#include <x.h> /* d */
+main() exit(); // e */ f

@@ -1,0 +1,1 @@
+main() { auto i[2]; printf("%d\n", 2); }
