@@ -1,4 +1,5 @@
 -- Closed facts: what edits make of a source, which ones fit, and how they are told.
+use Rattle.std.specs.Fmt.{digits}
 use Rattle.std.specs.Prelude.{◌≡◌, ℕ, true, false, List, [], ◌∷◌, ◌++◌, codes, map, refl}
 use Rattle.bport.specs.Changes.{listed}
 use Rattle.bport.specs.Edits.{are_edits_of, edited}
@@ -35,4 +36,5 @@ told_by_line : listed (codes "f") (codes "a\nb") 1 0 []
     (at 0 0 [] row.And ∷ at 0 1 [] row.Do ∷ at 1 1 [] row.And ∷ at 2 2 [] row.And ∷ [])
     ≡ codes "f:1: ported: && is ?: or, between comparisons, &\nf:1: ported: do is a while, or a goto\n"
     ++ codes "f:2: ported: && is ?: or, between comparisons, &\n"
+unfolding digits
 told_by_line = refl
