@@ -52,12 +52,16 @@ row 'go --careful' "$reading" x
 row 'go --careful' 'main() { auto v 1; putchar(getchar()); v[2] = 5; }' x
 row 'go --careful --steps 40' 'main() { auto c; while((c = getchar()) != 4) printn(c, 10); }' xyz
 row 'go --careful=warn' 'main() { auto v 1; v[2] = 5; printn(1 / 0, 10); }'
+row 'go --where' 'main() { pritn(n, 10); }'
+row 'go --where' 'f() ;'
 row 'go --where --steps 40' 'main() { auto n; n = 1; while(n) getchar(); }'
 row 'trace --steps 20 --last 2' 'main() while(1) ;'
 row count "$reading" x
 row 'count --json' "$reading" x
 row show "$reading" x
 row 'show --last 3 --input x' "$reading"
+row 'show --careful' 'main() { auto v 1; putchar(getchar()); v[2] = 5; }' x
+row 'show --careful --last 3 --input x' "$reading"
 row "list $made" $'PUT\nGET\n'
 row "trace $made" $'PUT\nGET\n' x
 row "count $made" $'PUT\nGET\n' x

@@ -44,7 +44,7 @@ _b() {
     names) words='--edition --with --json --help' ;;
     trace) words='--edition --with --code --made --lines --steps --from --last --function --help' ;;
     count) words='--edition --with --code --made --lines --steps --no-limit --json --help' ;;
-    show) words='--edition --with --steps --from --last --input --help' ;;
+    show) words='--edition --with --steps --from --last --input --careful --help' ;;
     format) words='--write --edition --check --help' ;;
     port) words='--edition --with --help' ;;
     esac

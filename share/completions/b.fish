@@ -90,6 +90,7 @@ complete -c b -n '__fish_seen_subcommand_from show' -l steps -x -d 'At most N st
 complete -c b -n '__fish_seen_subcommand_from show' -l from -x -d 'Shows steps from N on, 1 to 4000000000; 1 if not given'
 complete -c b -n '__fish_seen_subcommand_from show' -l last -x -d 'Shows the last N of the steps, 1 to 4000000000'
 complete -c b -n '__fish_seen_subcommand_from show' -l input -x -d 'The input of the program, in place of standard input'
+complete -c b -n '__fish_seen_subcommand_from show' -l careful -d 'Up to a word never set or off a vector; =wraps'
 complete -c b -n '__fish_seen_subcommand_from format' -l write -d 'Puts the layout in the place of FILE'
 complete -c b -n '__fish_seen_subcommand_from format' -l edition -x -a '1 2' -d 'The edition of the source, 1 or 2; 1 if not given'
 complete -c b -n '__fish_seen_subcommand_from format' -l check -d 'Writes nothing, and ends with 2 where it would change'

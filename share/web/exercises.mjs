@@ -85,17 +85,15 @@ export class Grading {
   }
 
   async tryTest(test) {
-    const words = option => this.words('go', [option, `--steps=${this.exercise.steps}`], test);
-    const ran = await this.run(words('--careful=warn'), test), found = this.foundIn(ran.told);
+    const words = this.words('go', ['--careful=warn', `--steps=${this.exercise.steps}`], test);
+    const ran = await this.run(words, test), found = this.foundIn(ran.told);
     const [first] = ran.told.split('\n'), line = found && first.startsWith('careful ') ? '' : first;
     const difference = firstDifference(ran.text, test.out);
     if (ran.why) return {test, result: 'stopped', why: ran.why};
     if (!difference && ran.status === (test.status ?? 0)) return {test, result: found ? 'luck' : 'ok', found};
     const result = line ? plain(line) : difference ? 'wrong' : `status ${ran.status}`;
     const libs = Object.keys(this.exercise.libs).map(it => `lib/${it}`).join(', ');
-    const isOpen = line === 'limit' && !endOf(ran.told).loop;
-    const {told} = isOpen ? await this.run(words('--where'), test) : ran;
-    const {steps} = this.exercise, place = line ? this.placeIn(told) : null;
+    const {steps} = this.exercise, place = line ? this.placeIn(ran.told) : null;
     return {test, result, status: ran.status, difference, libs, place, steps, found};
   }
 

@@ -20,12 +20,12 @@ use Rattle.bcli.specs.declared.sources.Whole.{Whole}
 use Rattle.bcli.specs.declared.sources.Unread.TheVariants as read_faults
 use Rattle.bcli.specs.declared.origins.OriginTexts.{OriginTexts}
 use Rattle.bcli.specs.Reading.{HasReadLibs, HasReadOrigin, HasReadSource, IsNamed, IsUnread, LibIsUnread, OriginIsUnread, origin_read}
-use Rattle.bshow.specs.Shows.{Shows}
+use Rattle.bcommand.specs.declared.job.Care.{Care}
 use Rattle.bshow.specs.Shows.{Asked as PageAsked}
 use Rattle.bwatch.specs.declared.trail.TraceRows.{TraceRows as Traced}
 use Rattle.std.specs.Prelude.{◌==◌, None, Option, Some, option_map}
 use Rattle.btools.specs.Origins.{Origin}
-use Rattle.bcli.specs.Serves.{OnOrigin, ShowsRun, CompilesJoined, NamesLib, NamesLibOf, compiling, files_read, origin_of, whole, Answers, AnswersOf, Does, HasNoFile, IsHelp, NamesFile, SaysNothing, RefusesWords, Serves, did, no_memory, refused}
+use Rattle.bcli.specs.Serves.{OnOrigin, ShowsBy, ShowsRun, page_asked, CompilesJoined, NamesLib, NamesLibOf, compiling, files_read, origin_of, whole, Answers, AnswersOf, Does, HasNoFile, IsHelp, NamesFile, SaysNothing, RefusesWords, Serves, did, no_memory, refused}
 use Rattle.bcli.specs.declared.shelf.FileFault.{FileFault}
 use Rattle.bcli.specs.declared.shelf.FileFault.TheVariants as file_fault
 use Rattle.bcli.specs.Shelves.{Holdings}
@@ -175,32 +175,28 @@ pub shown_some : (libs : List (Bor Text)) → (length libs == 0) ≡ false → m
 shown_some [] some e = cc
 shown_some (lib ∷ libs) some e = cc
 
--- what is asked of a page
-abbrev page_asked : ℕ → Traced → Files → List ℕ → PageAsked
-page_asked steps rows files given = record { steps = steps; which = rows; files = files; given = given }
-
 -- a page of a run that reads the program's input
-pub shown_alone : (edition : Edition) (files : Files) (text : List ℕ) (steps : ℕ) (rows : Traced) (input : Option (Bor Text)) (asked : PageAsked) (ends : RunEnds) (status : ℕ)
-    → input ≡ None → asked ≡ page_asked steps rows files [] → Shows edition text asked ends status
-    → ShowsRun edition files text steps rows (option_map (λ t. t.now) input) ends status
-shown_alone edition files text steps rows None asked ends status none is shows = subst (λ (q : PageAsked). Shows edition text q ends status) is shows
-shown_alone edition files text steps rows (Some given) asked ends status none is shows = cc
+pub shown_alone : (it : Option Care) (edition : Edition) (files : Files) (text : List ℕ) (steps : ℕ) (rows : Traced) (input : Option (Bor Text)) (asked : PageAsked) (ends : RunEnds) (status : ℕ)
+    → input ≡ None → asked ≡ page_asked steps rows files [] → ShowsBy it edition text asked ends status
+    → ShowsRun it edition files text steps rows (option_map (λ t. t.now) input) ends status
+shown_alone it edition files text steps rows None asked ends status none is shows = subst (λ (q : PageAsked). ShowsBy it edition text q ends status) is shows
+shown_alone it edition files text steps rows (Some given) asked ends status none is shows = cc
 
 -- a page of a run whose input is given
-pub shown_given : (edition : Edition) (files : Files) (text : List ℕ) (steps : ℕ) (rows : Traced) (input : Option (Bor Text)) (given : Bor Text) (asked : PageAsked) (first after : Unread) (told read : List ℕ) (ends : RunEnds) (status : ℕ)
+pub shown_given : (it : Option Care) (edition : Edition) (files : Files) (text : List ℕ) (steps : ℕ) (rows : Traced) (input : Option (Bor Text)) (given : Bor Text) (asked : PageAsked) (first after : Unread) (told read : List ℕ) (ends : RunEnds) (status : ℕ)
     → input ≡ Some given → told ≡ given.now → read ≡ given.now → asked ≡ page_asked steps rows files told → first ≡ record { left = read; is_over = false }
-    → ends.input_after ≡ ends.input → Shows edition text asked (record ends { input = incoming_of first; input_after = incoming_of after }) status
-    → ShowsRun edition files text steps rows (option_map (λ t. t.now) input) ends status
-shown_given edition files text steps rows None given asked first after told read ends status some t r a f still shows = cc
-shown_given edition files text steps rows (Some other) given asked first after told read ends status some t r a f still shows =
+    → ends.input_after ≡ ends.input → ShowsBy it edition text asked (record ends { input = incoming_of first; input_after = incoming_of after }) status
+    → ShowsRun it edition files text steps rows (option_map (λ t. t.now) input) ends status
+shown_given it edition files text steps rows None given asked first after told read ends status some t r a f still shows = cc
+shown_given it edition files text steps rows (Some other) given asked first after told read ends status some t r a f still shows =
     let same : given ≡ other = cc in
     let bytes : given.now ≡ other.now = ap (λ (b : Bor Text). b.now) same in
     let asked_is : asked ≡ page_asked steps rows files other.now = a ∙ ap (page_asked steps rows files) (t ∙ bytes) in
     let first_is : incoming_of first ≡ unread other.now = ap incoming_of f ∙ ap unread (r ∙ bytes) in (
       still,
       after,
-      subst (λ (i : Incoming). Shows edition text (page_asked steps rows files other.now) (record ends { input = i; input_after = incoming_of after }) status) first_is
-          (subst (λ (q : PageAsked). Shows edition text q (record ends { input = incoming_of first; input_after = incoming_of after }) status) asked_is shows),
+      subst (λ (i : Incoming). ShowsBy it edition text (page_asked steps rows files other.now) (record ends { input = i; input_after = incoming_of after }) status) first_is
+          (subst (λ (q : PageAsked). ShowsBy it edition text q (record ends { input = incoming_of first; input_after = incoming_of after }) status) asked_is shows),
     )
 
 -- the words that were read are the full ones of a command line

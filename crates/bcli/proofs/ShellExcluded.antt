@@ -24,7 +24,7 @@ use Rattle.std.proofs.lemmas.List.Elements.{All-cons, All-head, All-nil, All-tai
 use Rattle.blang.specs.Compiles.{CompileAnswers, Compilation, CompilesTo, HasOutcome, Tells}
 use Rattle.blang.specs.Cut.{tokens_from}
 use Rattle.bsources.specs.Files.{Files, NamedText, file_in, file_of, following}
-use Rattle.bcli.proofs.FaultLies.{fault_told}
+use Rattle.bcli.proofs.FaultLies.{fault_meant, fault_told}
 use Rattle.bcli.proofs.Joined.{failed_joined, joined_answers}
 use Rattle.bcli.proofs.TriedSources.{tried_unread}
 use Rattle.btools.specs.Origins.{Code, Origin}
@@ -352,6 +352,7 @@ module _ (shelf : Holdings) where
     made_alone = made_alone;
     lines_later = lines_later;
     fault_told = fault_told shelf;
+    fault_meant = fault_meant shelf;
     tried_unread = tried_unread;
     compiled_joined = compiled_joined;
     failed_joined = λ edition rest ends it counted none. failed_joined edition rest ends 133 it counted none refl;

@@ -6,3 +6,4 @@ pub mod Serves
 pub mod ServeRows
 pub mod Shelves
 pub mod Tries
+pub mod Explains

@@ -9,6 +9,11 @@ use Rattle.bword.specs.declared.edition.Edition.{Edition}
 use Rattle.blang.specs.Compiles.{CompileHeadline, Compiles}
 use Rattle.blang.specs.Headline.{GoesOff, Headline}
 use Rattle.blang.specs.Reports.{RunEnds}
+use Rattle.blang.specs.declared.run.LoadFault.TheVariants as load
+use Rattle.blang.specs.declared.token.About.TheVariants as about
+use Rattle.blang.specs.declared.token.Letters.{Letters}
+use Rattle.blang.specs.declared.token.Letters.TheVariants as letters
+use Rattle.btools.specs.declared.program.ProgramFault.TheVariants as why
 use Rattle.bcareful.specs.Runs.{Runs}
 use Rattle.bcareful.specs.declared.care.Care.TheVariants as taken
 use Rattle.bcheck.specs.Checks.{Checks}
@@ -24,9 +29,9 @@ use Rattle.blist.specs.Maps.{Maps}
 use Rattle.bnaming.specs.Names.{Names}
 use Rattle.brun.specs.OneRun.{unread}
 use Rattle.brun.specs.Runs.{RunsText}
+use Rattle.bshow.specs.CarefulPages.{ShowsCarefully}
 use Rattle.bshow.specs.Shows.{Shows}
 use Rattle.btools.specs.Origins.{Code, Origin, Source}
-use Rattle.btrace.specs.Locates.{Locates}
 use Rattle.btrace.specs.Traces.{Traces}
 use Rattle.bverify.specs.Verifies.{VerifiesText}
 use Rattle.bwatch.specs.declared.trail.TraceRows.TheVariants as traced
@@ -38,6 +43,7 @@ use Rattle.bcommand.specs.declared.job.Care.TheVariants as care
 use Rattle.bcommand.specs.declared.job.Rows.TheVariants as which
 use Rattle.bsources.specs.Files.{Files, NamedText, followed}
 use Rattle.bcli.specs.Shelves.{Holdings}
+use Rattle.bcli.specs.Explains.{LocatesAndExplains, fault_explained, letters_meaning}
 use Rattle.bcli.specs.Tries.{Tries, next_text}
 use Rattle.bcli.specs.Serves.{Answers, AnswersOf, CompilesJoined, Does, OnOrigin, Reads, ReadsLibs, compiling}
 use Rattle.bcli.specs.Serves.{files_read, form_of, no_file_line, origin_of, style_of, telling_ends, traced_rows, whole}
@@ -58,7 +64,7 @@ next_of_runs : map (next_text 0) (0 ∷ 1 ∷ 127 ∷ 130 ∷ 131 ∷ 132 ∷ 13
     ≡ codes "next: no finding; b show in place of b try, with > run.html, shows each step\n"
     ∷ codes "next: no finding; the status is the one that the program gave to exit\n"
     ∷ codes "next: no finding; the status is the one that the program gave to exit\n"
-    ∷ codes "next: b trace --last 20 in place of b try shows the steps that led there\n"
+    ∷ codes "next: b show --careful in place of b try, with > run.html, shows what led there\n"
     ∷ codes "next: b count in place of b try shows which lines take so many steps\n"
     ∷ codes "next: write a function main, with which a run begins\n"
     ∷ [] ∷ [] ∷ []
@@ -70,6 +76,34 @@ next_of_checks : map (λ status. next_text status status) (1 ∷ 132 ∷ 133 ∷
     ∷ codes "next: do what stands after fix, and try it again\n"
     ∷ [] ∷ [] ∷ []
 next_of_checks = refl
+
+-- what is told of a fault by `go --where`, and of what doesn't load
+abbrev of_letters : Letters → List ℕ
+of_letters it = fault_explained (why.Faulty (record { letters = it; about = about.Nothing; line = 1 }))
+
+fault_told_so : of_letters letters.Syntax
+    ≡ codes "  means: a token that can't be there\nnext: b check in place of b go --where shows the place, and a fix\n"
+fault_told_so = refl
+
+letters_told : map letters_meaning
+    (letters.OpenComment ∷ letters.Character ∷ letters.LongName ∷ letters.Constant ∷ letters.Syntax
+    ∷ letters.Redeclared ∷ letters.NotLvalue ∷ letters.TooManyNames ∷ letters.TooManyCases ∷ letters.Undefined
+    ∷ letters.TooLarge ∷ [])
+    ≡ codes "a comment without an end" ∷ codes "a byte that begins no token"
+    ∷ codes "a name of more than eight characters" ∷ codes "a wrong number, character constant or string"
+    ∷ codes "a token that can't be there" ∷ codes "a name or a case that is there already"
+    ∷ codes "an operand that must be an lvalue and isn't" ∷ codes "the 129th name of a function"
+    ∷ codes "the 257th case of a function" ∷ codes "a name that is neither declared nor a label"
+    ∷ codes "a definition past a limit of size" ∷ []
+letters_told = refl
+
+unloaded_told : map (λ f. fault_explained (why.Unloaded f))
+    (load.Duplicate (codes "f") ∷ load.TooLarge ∷ load.Undefined (codes "f") ∷ load.NoMain ∷ [])
+    ≡ codes "  means: a name is defined twice\nnext: b check in place of b go --where tells more\n"
+    ∷ codes "  means: there are too many data or labels\nnext: b check in place of b go --where tells more\n"
+    ∷ codes "  means: a name isn't defined\nnext: b check in place of b go --where tells more\n"
+    ∷ codes "  means: there is no function main\nnext: write a function main, with which a run begins\n" ∷ []
+unloaded_told = refl
 
 -- a file that can't be read is told by its own name
 no_file_told : no_file_line (codes "l.b") ≡ codes "error: the file 'l.b' can't be read\n"
@@ -145,7 +179,7 @@ module _ (origin : Origin) (edition : Edition) (files : Files) (text : List ℕ)
       → Traces origin text steps (traced.Last most) files function ends status
   traced_last from steps most function a = a
 
-  located : (steps : ℕ) → answered (locate steps) → Locates edition text files steps ends status
+  located : (steps : ℕ) → answered (locate steps) → LocatesAndExplains edition text files steps ends status
   located steps a = a
 
   gone_carefully : (steps : ℕ) → answered (go_careful care.Stays steps)
@@ -167,15 +201,28 @@ module _ (origin : Origin) (edition : Edition) (files : Files) (text : List ℕ)
       → Counts (record { origin = origin; steps = steps; files = files; style = style_of for_editor }) text ends status
   counted from steps for_editor a = a
 
-  shown : (steps number : ℕ) → answered (show steps (which.From number) None)
-      → Shows edition text (record { steps = steps; which = traced.From number; files = files; given = [] }) ends status
+  shown : (steps number : ℕ) → answered (show None steps (which.From number) None)
+      → Shows edition text
+      (record { steps = steps; which = traced.From number; files = files; given = []; finding = None }) ends status
   shown steps number a = a
 
-  shown_given : (steps most : ℕ) (given : Text) → answered (show steps (which.Last most) (Some given))
+  shown_given : (steps most : ℕ) (given : Text) → answered (show None steps (which.Last most) (Some given))
       → (ends.input_after ≡ ends.input) × (after : Unread) × Shows edition text
-      (record { steps = steps; which = traced.Last most; files = files; given = given })
+      (record { steps = steps; which = traced.Last most; files = files; given = given; finding = None })
       (record ends { input = unread given; input_after = incoming_of after }) status
   shown_given steps most given a = a
+
+  shown_carefully : (steps most : ℕ) → answered (show (Some care.Stays) steps (which.Last most) None)
+      → ShowsCarefully taken.Stays edition text
+      (record { steps = steps; which = traced.Last most; files = files; given = []; finding = None }) ends status
+  shown_carefully steps most a = a
+
+  shown_for_wraps : (steps number : ℕ) (given : Text)
+      → answered (show (Some care.Wraps) steps (which.From number) (Some given))
+      → (ends.input_after ≡ ends.input) × (after : Unread) × ShowsCarefully taken.Wraps edition text
+      (record { steps = steps; which = traced.From number; files = files; given = given; finding = None })
+      (record ends { input = unread given; input_after = incoming_of after }) status
+  shown_for_wraps steps number given a = a
 
   formatted : (is_check : Bool) → answered (format is_check)
       → (ends.input_after ≡ ends.input) × Formats (record {
@@ -205,7 +252,8 @@ module _ (origin : Origin) (edition : Edition) (files : Files) (text : List ℕ)
 -- what each question asks a program to be read from
 origins_asked : (from : OriginAsked) → map origin_of
     (list from None ∷ trace from 3 (which.Last 2) None ∷ count from 3 true ∷ layout ∷ draw None ∷ check true
-    ∷ tell_names ∷ locate 3 ∷ go_careful care.Warns 3 ∷ try_out 3 ∷ show 3 (which.From 1) None ∷ format true ∷ port ∷ [])
+    ∷ tell_names ∷ locate 3 ∷ go_careful care.Warns 3 ∷ try_out 3 ∷ show None 3 (which.From 1) None ∷ format true
+    ∷ port ∷ [])
     ≡ from ∷ from ∷ from ∷ from_source ∷ from_source ∷ from_source ∷ from_source ∷ from_source ∷ from_source
     ∷ from_source ∷ from_source ∷ from_source ∷ from_source ∷ []
 origins_asked from = refl

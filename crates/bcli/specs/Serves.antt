@@ -25,7 +25,6 @@ use Rattle.bnaming.specs.Names.{Names}
 use Rattle.btools.specs.Origins.{Origin, Source, Code}
 use Rattle.btools.specs.Programs.{ToldEnds}
 use Rattle.bdraw.specs.Draws.{Draws}
-use Rattle.btrace.specs.Locates.{Locates}
 use Rattle.btrace.specs.Traces.{Traces}
 use Rattle.bcareful.specs.Runs.{Runs}
 use Rattle.bcareful.specs.declared.care.Care as careful
@@ -35,8 +34,9 @@ use Rattle.bwatch.specs.declared.trail.TraceRows.TheVariants as traced
 use Rattle.bcount.specs.Counts.{Counts}
 use Rattle.bcount.specs.declared.table.CountStyle.{CountStyle}
 use Rattle.bcount.specs.declared.table.CountStyle.TheVariants as styles
-use Rattle.bshow.specs.Shows.{Shows}
+use Rattle.bshow.specs.Shows.{Shows, Asked as PageAsked}
 use Rattle.bfix.specs.Fixes.{Fixes}
+use Rattle.bshow.specs.CarefulPages.{ShowsCarefully}
 use Rattle.bformat.specs.Formats.{Formats}
 use Rattle.bport.specs.Ports.{Ports}
 use Rattle.bwhere.specs.Wheres.{LocatesCode}
@@ -50,6 +50,7 @@ use Rattle.bcommand.specs.declared.job.Care.TheVariants as care
 use Rattle.bcommand.specs.declared.job.Rows.{Rows}
 use Rattle.bcommand.specs.declared.job.Rows.TheVariants as which
 use Rattle.bcli.specs.Shelves.{Holdings}
+use Rattle.bcli.specs.Explains.{LocatesAndExplains}
 use Rattle.bcli.specs.Tries.{Tries}
 
 -- the message for words that aren't UTF-8
@@ -89,16 +90,6 @@ traced_rows (which.Last most) = traced.Last most
 -- how counts are told
 abbrev pub style_of : (for_editor : Bool) → CountStyle
 style_of for_editor = if for_editor then styles.Json else styles.Table
-
--- a page of a run whose input is given, or that reads the program's own
-abbrev pub ShowsRun : Edition → Files → (text : List ℕ) → (steps : ℕ) → Traced → (input : Option Text) → RunEnds → ℕ
-    → Type 0
-ShowsRun edition files text steps rows None ends status =
-    Shows edition text (record { steps = steps; which = rows; files = files; given = [] }) ends status
-ShowsRun edition files text steps rows (Some given) ends status =
-    (ends.input_after ≡ ends.input) × (after : Unread)
-    × Shows edition text (record { steps = steps; which = rows; files = files; given = given })
-    (record ends { input = unread given; input_after = incoming_of after }) status
 
 -- how findings are told
 abbrev pub form_of : (for_editor : Bool) → FindingForm
@@ -184,6 +175,26 @@ care_taken care.Stays = taken.Stays
 care_taken care.Warns = taken.Warns
 care_taken care.Wraps = taken.Wraps
 
+-- what is asked of a page, before something is found
+abbrev pub page_asked : (steps : ℕ) → Traced → Files → (given : List ℕ) → PageAsked
+page_asked steps rows files given =
+    record { steps = steps; which = rows; files = files; given = given; finding = None }
+
+-- a page of a run, or of one that is looked at in this way
+abbrev pub ShowsBy : Option Care → Edition → (text : List ℕ) → PageAsked → RunEnds → ℕ → Type 0
+ShowsBy None edition text asked ends status = Shows edition text asked ends status
+ShowsBy (Some it) edition text asked ends status = ShowsCarefully (care_taken it) edition text asked ends status
+
+-- one of a run whose input is given, or that reads the program's own
+abbrev pub ShowsRun : Option Care → Edition → Files → (text : List ℕ) → (steps : ℕ) → Traced → (input : Option Text)
+    → RunEnds → ℕ → Type 0
+ShowsRun it edition files text steps rows None ends status =
+    ShowsBy it edition text (page_asked steps rows files []) ends status
+ShowsRun it edition files text steps rows (Some given) ends status =
+    (ends.input_after ≡ ends.input) × (after : Unread)
+    × ShowsBy it edition text (page_asked steps rows files given)
+    (record ends { input = unread given; input_after = incoming_of after }) status
+
 -- what is asked of a source of these files and of this text is answered, or of the code text that is its origin
 abbrev pub AnswersOf : Origin → Edition → Files → (text : List ℕ) → Question → RunEnds → ℕ → Type 0
 AnswersOf origin edition files text (list asked name) ends status =
@@ -224,14 +235,15 @@ AnswersOf origin edition files text tell_names ends status =
     })
 AnswersOf origin edition files text (trace asked steps shown function) ends status =
     Traces origin text steps (traced_rows shown) files function ends status
-AnswersOf origin edition files text (locate steps) ends status = Locates edition text files steps ends status
+AnswersOf origin edition files text (locate steps) ends status =
+    LocatesAndExplains edition text files steps ends status
 AnswersOf origin edition files text (go_careful it steps) ends status =
     Runs (record { edition = edition; files = files; care = care_taken it; steps = steps }) text ends status
 AnswersOf origin edition files text (try_out steps) ends status = Tries edition files text steps ends status
 AnswersOf origin edition files text (count asked steps for_editor) ends status =
     Counts (record { origin = origin; steps = steps; files = files; style = style_of for_editor }) text ends status
-AnswersOf origin edition files text (show steps shown input) ends status =
-    ShowsRun edition files text steps (traced_rows shown) input ends status
+AnswersOf origin edition files text (show it steps shown input) ends status =
+    ShowsRun it edition files text steps (traced_rows shown) input ends status
 AnswersOf origin edition files text (format is_check) ends status = (ends.input_after ≡ ends.input) × Formats (record {
   edition = edition;
   source = text;

@@ -18,8 +18,8 @@ use Rattle.blang.specs.Reports.{HasNotRun, Reported, RunEnds}
 use Rattle.brun.specs.OneRun.{nothing_written, one_run_ends, unread}
 use Rattle.brun.specs.Runs.{RunsText}
 use Rattle.bcommand.specs.CommandLine.{Question, SourceAsked, ask, asked_in, compile, contradiction, fault_in, go, run}
-use Rattle.bcommand.specs.CommandLine.{count, from_code, from_made, from_source, locate, locate_code, show, trace}
-use Rattle.bcommand.specs.CommandLine.{try_out}
+use Rattle.bcommand.specs.CommandLine.{count, from_code, from_made, from_source, go_careful, locate, locate_code, show}
+use Rattle.bcommand.specs.CommandLine.{trace, try_out}
 use Rattle.bsources.specs.Files.{Files, file_of}
 use Rattle.bsources.specs.JoinedEnds.{joined_in}
 use Rattle.btools.specs.Origins.{Code}
@@ -30,6 +30,8 @@ use Rattle.bwhere.specs.Wheres.{LocatesCode}
 use Rattle.bcli.specs.declared.shelf.MemFile.{MemFile}
 use Rattle.bcli.specs.Serves.{Answers, AnswersOf, CompilesJoined, Does, HasNoFile, IsHelp, NamesFile, NamesLib}
 use Rattle.bcli.specs.Serves.{NamesLibOf, SaysNothing, Serves, compiling, origin_of, unread_line}
+use Rattle.btools.specs.declared.program.ProgramFault.TheVariants as why
+use Rattle.bcli.specs.Explains.{fault_explained}
 use Rattle.bcli.specs.Blocks.{HandsOn, Held, TakesPiece, held}
 use Rattle.bcli.specs.Processes.{KnownStreams, PerformsTask, ServesProcess}
 use Rattle.bcli.specs.Shelves.{Holdings, holding}
@@ -62,12 +64,12 @@ pub record NothingFails (edition : Edition) (rest : List ℕ) (ends : RunEnds) (
   pub counted : AreCounted rest ends
   pub undisturbed : IsUndisturbed (compiling edition ends.input ends.input_after ends status)
 
--- the questions that tell of a run of a source, but for a picture and careful runs
+-- the questions that tell of a run of a source, but for a picture, a source that is tried, and the place of a run
 abbrev pub tells_run : Question → Bool
 tells_run (trace from_source steps shown function) = true
-tells_run (locate steps) = true
+tells_run (go_careful it steps) = true
 tells_run (count from_source steps for_editor) = true
-tells_run (show steps shown input) = true
+tells_run (show it steps shown input) = true
 tells_run question = false
 
 -- of the files on a shelf
@@ -136,6 +138,10 @@ pub record Excluded (shelf : Holdings) : Type 0 where
       (d : Diagnostic) → HasFault edition text d → tells_run question ≡ true
       → Answers shelf edition files text question ends FAULT
       → Writes ends.line (fault_lines files d) ends.line_after
+  -- by the command that tells where a run is over another line than these, or another meaning
+  pub fault_meant : (edition : Edition) (files : Files) (text : List ℕ) (steps : ℕ) (ends : RunEnds) (d : Diagnostic)
+      → HasFault edition text d → Answers shelf edition files text (locate steps) ends FAULT
+      → Writes ends.line (fault_lines files d ++ fault_explained (why.Faulty d)) ends.line_after
   -- a source with a fault that is tried, after which something of the input was read
   pub tried_unread : (edition : Edition) (files : Files) (text : List ℕ) (steps : ℕ) (ends : RunEnds) (status : ℕ)
       (d : Diagnostic) → HasFault edition text d → Answers shelf edition files text (try_out steps) ends status

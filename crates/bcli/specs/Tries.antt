@@ -1,5 +1,5 @@
--- Promise: what comes of a source that is tried: it is checked, it is run carefully where that finds no fault, and what to
--- do next is told.
+-- Promise: what comes of a source that is tried: it is checked, it is run carefully where that finds no fault, and what
+-- to do next is told.
 use Rattle.std.specs.Prelude.{◌≡◌, ℕ, ◌==◌, ◌||◌, Bool, true, false, List, [], codes, if◌then◌else◌}
 use Rattle.bword.specs.ByteEnds.{Outgoing}
 use Rattle.bword.specs.declared.edition.Edition.{Edition}
@@ -15,7 +15,8 @@ use Rattle.bcheck.specs.declared.form.FindingForm.TheVariants as forms
 abbrev pub next_after : (ran : ℕ) → List ℕ
 next_after ran =
     if ran == DONE then codes "next: no finding; b show in place of b try, with > run.html, shows each step\n"
-    else (if ran == TRAP then codes "next: b trace --last 20 in place of b try shows the steps that led there\n"
+    else (if ran == TRAP
+    then codes "next: b show --careful in place of b try, with > run.html, shows what led there\n"
     else (if ran == LIMIT then codes "next: b count in place of b try shows which lines take so many steps\n"
     else (if ran == REFUSED then codes "next: write a function main, with which a run begins\n"
     else (if ran == DEVICE || ran == MEMORY then []
@@ -27,10 +28,10 @@ next_text checked ran =
     if checked == FAULT || checked == REFUSED then codes "next: do what stands after fix, and try it again\n"
     else next_after ran
 
--- Where the check found no fault, the program was run carefully. Else nothing was read or written, and the status is that
--- of the check.
-abbrev pub RunsWhere : (is_done : Bool) → (checked : ℕ) → Edition → Files → (text : List ℕ) → (steps : ℕ) → RunEnds → ℕ
-    → Type 0
+-- Where the check found no fault, the program was run carefully. Else nothing was read or written, and the status is
+-- that of the check.
+abbrev pub RunsWhere : (is_done : Bool) → (checked : ℕ) → Edition → Files → (text : List ℕ) → (steps : ℕ) → RunEnds
+    → ℕ → Type 0
 RunsWhere true checked edition files text steps ends status =
     Runs (record { edition = edition; files = files; care = taken.Stays; steps = steps }) text ends status
 RunsWhere false checked edition files text steps ends status =

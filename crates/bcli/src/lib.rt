@@ -2,6 +2,7 @@
 #![tactic(auto)]
 
 mod block;
+mod explaining;
 mod origins;
 mod process;
 mod serving;

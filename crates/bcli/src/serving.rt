@@ -10,10 +10,11 @@ ghost use Rattle.bcli.specs.ShellExcluded.{Excluded, FileIsRead};
 ghost use Rattle.bshow.specs.Shows.{asked_of as page_of};
 ghost use Rattle.bsources.specs.Files.{file_shown, files_shown};
 ghost use Rattle.btools.specs.Origins.{origin_shown};
-ghost use Rattle.bcli.specs.Serves.{Answers, AnswersOf, CompilesJoined, Does, NamesFile, RefusesWords, Serves, ShowsRun};
-ghost use Rattle.bcli.specs.Serves.{care_taken, form_of, origin_of, style_of, traced_rows, no_file_line, unread_line};
+ghost use Rattle.bcli.specs.Serves.{Answers, AnswersOf, CompilesJoined, Does, NamesFile, RefusesWords, Serves, ShowsBy, ShowsRun};
+ghost use Rattle.bcli.specs.Serves.{care_taken, form_of, origin_of, page_asked, style_of, traced_rows, no_file_line, unread_line};
 ghost use Rattle.bcli.specs.Shelves.{opened};
 
+use crate::explaining::locate_and_explain;
 use crate::origins::read_origin;
 use crate::shelf::{FileFault, MemFile, Shelf, SystemFiles};
 use crate::sources::{Unread, Whole, read_libs, read_source};
@@ -34,10 +35,10 @@ use bnaming::tell_names;
 use bparse::compile_edition;
 use bport::port;
 use brun::{go_edition, migrate, run_text};
-use bshow::show;
+use bshow::{show, show_careful};
 use bsources::{Following, JoinedIn, SourceFile, SourceFiles};
 use btools::{Origin, tell};
-use btrace::{TraceRequest, locate, trace};
+use btrace::{TraceRequest, trace};
 use bverify::verify_text;
 use bwhere::locate_code;
 use bword::{ByteIn, ByteOut, Edition, MemIn};
@@ -348,7 +349,15 @@ fn answer<I: ByteIn, O: ByteOut, D: ByteOut>(
             };
             trace(alloc, text, origin, wanted, input, out, diag)
         }
-        Question::Locate(steps) => locate(alloc, text, edition, files, steps, input, out, diag),
+        Question::Locate(steps) => {
+            let attempt = Attempt {
+                edition,
+                files,
+                text,
+                steps,
+            };
+            locate_and_explain(alloc, attempt, input, out, diag)
+        }
         Question::GoCareful(care, steps) => {
             let wanted = CarefulRequest {
                 edition,
@@ -395,7 +404,7 @@ fn show_run<I: ByteIn, O: ByteOut, D: ByteOut>(
     out: &mut O,
     diag: &mut D,
 ) -> Status
-    ensures shows { ShowsRun edition (files_shown files.entry) text.now display.entry.steps
+    ensures shows { ShowsRun display.entry.care edition (files_shown files.entry) text.now display.entry.steps
         (traced_rows display.entry.rows) (option_map (λ t. t.now) display.entry.input) (run_ends
         (I.incoming input.old) (I.incoming input.new) (O.outgoing out.old) (O.outgoing out.new)
         (D.outgoing diag.old) (D.outgoing diag.new)) result }
@@ -407,12 +416,54 @@ fn show_run<I: ByteIn, O: ByteOut, D: ByteOut>(
         Some(given) => {
             let wanted = page_of(files, display, given.as_bytes());
             let mut given = MemIn::new(given.as_bytes());
-            show(alloc, text, edition, wanted, &mut given, out, diag)
+            show_by(
+                alloc,
+                text,
+                edition,
+                display.care,
+                wanted,
+                &mut given,
+                out,
+                diag,
+            )
         }
         None => {
             let wanted = page_of(files, display, b"");
-            show(alloc, text, edition, wanted, input, out, diag)
+            show_by(alloc, text, edition, display.care, wanted, input, out, diag)
         }
+    }
+}
+
+// Writes the page of a run, or of one that is looked at in this way.
+fn show_by<I: ByteIn, O: ByteOut, D: ByteOut>(
+    alloc: Global,
+    text: &[u8],
+    edition: Edition,
+    care: Option<Care>,
+    wanted: bshow::PageRequest<'_>,
+    input: &mut I,
+    out: &mut O,
+    diag: &mut D,
+) -> Status
+    ensures shows { ShowsBy care edition text.now (page_of wanted.entry) (run_ends
+        (I.incoming input.old) (I.incoming input.new) (O.outgoing out.old) (O.outgoing out.new)
+        (D.outgoing diag.old) (D.outgoing diag.new)) result }
+    ensures input_lender { I.lender input.new ≡ I.lender input.old }
+    ensures out_lender { O.lender out.new ≡ O.lender out.old }
+    ensures diag_lender { D.lender diag.new ≡ D.lender diag.old }
+{
+    match care {
+        None => show(alloc, text, edition, wanted, input, out, diag),
+        Some(care) => show_careful(
+            alloc,
+            text,
+            edition,
+            care_taken(care),
+            wanted,
+            input,
+            out,
+            diag,
+        ),
     }
 }
 
@@ -421,18 +472,15 @@ fn page_of<'a>(
     display: Display<'_>,
     given: &'a [u8],
 ) -> bshow::PageRequest<'a>
-    ensures { page_of result ≡ record {
-      steps = display.entry.steps;
-      which = traced_rows display.entry.rows;
-      files = files_shown files.entry;
-      given = given.now;
-    } }
+    ensures { page_of result ≡ page_asked display.entry.steps (traced_rows display.entry.rows)
+        (files_shown files.entry) given.now }
 {
     bshow::PageRequest {
         steps: display.steps,
         rows: traced_rows(display.rows),
         files,
         given,
+        finding: None,
     }
 }
 

@@ -97,7 +97,7 @@ fn next_after(ran: Status) -> &'static str
             "next: no finding; b show in place of b try, with > run.html, shows each step\n"
         }
         status::TRAP =>
-            "next: b trace --last 20 in place of b try shows the steps that led there\n",
+            "next: b show --careful in place of b try, with > run.html, shows what led there\n",
         status::LIMIT => "next: b count in place of b try shows which lines take so many steps\n",
         status::REFUSED => "next: write a function main, with which a run begins\n",
         status::DEVICE | status::MEMORY => "",

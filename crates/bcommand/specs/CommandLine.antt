@@ -2,7 +2,8 @@
 -- definitions of `clap`, which reads them.
 use Rattle.std.specs.Prelude.{ℕ, ◌+◌, ◌==◌, ◌&&◌, ◌^◌, Bool, true, false, List, [], ◌∷◌, ◌++◌, length, codes, min}
 use Rattle.std.specs.Prelude.{Result, Ok, Err, nat_lt, not}
-use Rattle.std.specs.Prelude.{Option, Some, None, if◌then◌else◌, map as map_each, option_and_then, option_map, unwrap_or}
+use Rattle.std.specs.Prelude.{Option, Some, None, if◌then◌else◌, option_and_then, option_map, unwrap_or}
+use Rattle.std.specs.Prelude.{map as map_each}
 use Rattle.std.specs.Char.{digit_value}
 use Rattle.std.specs.List.{list_all}
 use Rattle.std.specs.Option.{option_map_or}
@@ -33,7 +34,7 @@ use Rattle.bcommand.specs.declared.job.Display.{Display}
 use Rattle.bcommand.specs.declared.job.Rows.{Rows}
 use Rattle.bcommand.specs.declared.job.Rows.TheVariants as which
 use Rattle.bcommand.specs.declared.commands.TheConstants.{MOST_STEPS}
-use Rattle.bcommand.specs.declared.parsing.TheConstants.{DEFAULT_STEPS, DEFAULT_TRACE_STEPS}
+use Rattle.bcommand.specs.declared.parsing.TheConstants.{DEFAULT_SHOWN_STEPS, DEFAULT_STEPS, DEFAULT_TRACE_STEPS}
 
 -- a flag
 abbrev pub flag_rule : Text → Rule
@@ -176,7 +177,7 @@ count_command =
     with_rule (with_rule (with_rule (telling_code (new_app (codes "count"))) steps_rule) no_limit_rule) json_rule
 
 abbrev pub show_command : App
-show_command = with_rule (with_rows (telling (new_app (codes "show")))) input_rule
+show_command = with_rule (with_rule (with_rows (telling (new_app (codes "show")))) input_rule) careful_rule
 
 abbrev pub format_command : App
 format_command = with_rule (with_rule (with_rule (new_app (codes "format")) edition_rule) file_rule) check_rule
@@ -301,8 +302,9 @@ source_in rows = record { file = file_in rows; libs = libs_in rows; edition = ed
 -- so many steps if there is a number; its faults, for an editor or for people; it mended; its names; the steps of its
 -- program among so many, which of them are shown, and of which function; a run of so many steps, and where it is over;
 -- the same looked at carefully in some way; its faults, and such a run where there is none; how many steps each line
--- takes in such a run, for an editor or for people; a page of a run, with this input if there is one; the source in one
--- style, or whether it is in that; it ported. Its code, its steps and those of its lines may be asked of a code text, too.
+-- takes in such a run, for an editor or for people; a page of a run, up to its first finding where it is looked at
+-- carefully, with this input if there is one; the source in one style, or whether it is in that; it ported. Its code,
+-- its steps and those of its lines may be asked of a code text, too.
 pub data Question : Type 0 where
   list : OriginAsked → (name : Option Text) → Question
   map : Question
@@ -315,7 +317,7 @@ pub data Question : Type 0 where
   go_careful : Care → (steps : ℕ) → Question
   try_out : (steps : ℕ) → Question
   count : OriginAsked → (steps : ℕ) (for_editor : Bool) → Question
-  show : (steps : ℕ) (shown : Rows) (input : Option Text) → Question
+  show : Option Care → (steps : ℕ) (shown : Rows) (input : Option Text) → Question
   format : (is_check : Bool) → Question
   port : Question
 
@@ -382,9 +384,25 @@ trace_asked source (Ok origin) steps (Some shown) function =
 trace_asked source (Ok origin) steps None function = contradiction clash.Rows
 trace_asked source (Err it) steps shown function = contradiction it
 
-abbrev pub show_asked : SourceAsked → (steps : Option ℕ) → Option Rows → (input : Option Text) → Asked
-show_asked source steps (Some shown) input = ask source (show (unwrap_or steps (shown_steps shown)) shown input)
-show_asked source steps None input = contradiction clash.Rows
+-- A page stays at its first finding, so no care goes on for it.
+abbrev pub shown_care : Result (Option Care) Clash → Result (Option Care) Clash
+shown_care (Ok (Some care.Warns)) = Err clash.ShownCare
+shown_care it = it
+
+-- The steps of a careful run that are shown are the last ones, if nothing is said.
+abbrev pub page_rows : Option Care → (from last : Option ℕ) → Option Rows
+page_rows (Some it) None None = Some (which.Last DEFAULT_SHOWN_STEPS)
+page_rows it from last = rows_asked from last
+
+abbrev pub page_asked : SourceAsked → Option Care → (steps : Option ℕ) → Option Rows → (input : Option Text) → Asked
+page_asked source it steps (Some shown) input =
+    ask source (show it (unwrap_or steps (shown_steps shown)) shown input)
+page_asked source it steps None input = contradiction clash.Rows
+
+abbrev pub show_asked : SourceAsked → Result (Option Care) Clash → (steps from last : Option ℕ)
+    → (input : Option Text) → Asked
+show_asked source (Ok it) steps from last input = page_asked source it steps (page_rows it from last) input
+show_asked source (Err it) steps from last input = contradiction it
 
 abbrev pub count_asked : SourceAsked → Result OriginAsked Clash → (for_editor : Bool) → Option ℕ → Asked
 count_asked source (Ok origin) for_editor (Some steps) = ask source (count origin steps for_editor)
@@ -419,7 +437,8 @@ abbrev pub count_in : List Row → Asked
 count_in rows = count_asked (source_in rows) (origin_in rows) (is_set_in (codes "json") rows) (steps_in rows)
 
 abbrev pub show_in : List Row → Asked
-show_in rows = show_asked (source_in rows) (option_number (codes "steps") rows) (rows_in rows) (input_in rows)
+show_in rows = show_asked (source_in rows) (shown_care (care_in rows)) (option_number (codes "steps") rows)
+    (option_number (codes "from") rows) (option_number (codes "last") rows) (input_in rows)
 
 -- what a command asks for, by its name and what was found of its options
 abbrev pub asked_by : Text → List Row → Asked
@@ -478,7 +497,7 @@ abbrev pub walk_shown : Walk → Question
 walk_shown walk = trace (origin_shown walk.origin) walk.steps walk.rows (option_map (λ n. n.now) walk.function)
 
 abbrev pub display_shown : Display → Question
-display_shown it = show it.steps it.rows (option_map (λ n. n.now) it.input)
+display_shown it = show it.care it.steps it.rows (option_map (λ n. n.now) it.input)
 
 -- what a question of a job is
 abbrev pub question_of : Questioned → Question
@@ -519,6 +538,6 @@ clash_line clash.Origins = clash_message (codes "'--code' cannot be used with '-
 clash_line clash.Libs = clash_message (codes "'--code' cannot be used with '--with <LIB>'")
 clash_line clash.Made = clash_message (codes "'--made <CODE>' cannot be used without '--lines <LINES>'")
 clash_line clash.Fix = clash_message (codes "'--fix' cannot be used with '--json'")
-clash_line clash.Care =
-    clash_message (codes "'--careful' is '--careful', '--careful=warn' or '--careful=wraps'")
+clash_line clash.Care = clash_message (codes "'--careful' is '--careful=stay', '--careful=warn' or '--careful=wraps'")
+clash_line clash.ShownCare = clash_message (codes "'--careful' of 'show' is '--careful=stay' or '--careful=wraps'")
 clash_line clash.Lines = clash_message (codes "'--lines <LINES>' cannot be used without '--made <CODE>'")

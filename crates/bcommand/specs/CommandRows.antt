@@ -138,7 +138,8 @@ locates_in_code_within_limits : Asks (codes "b" ∷ codes "run" ∷ codes "--whe
 unfolding clap_on_literals
 locates_in_code_within_limits = (refl, refl)
 
-contradicts : Asks (codes "b" ∷ codes "go" ∷ codes "--no-limit" ∷ codes "--steps=5" ∷ codes "x" ∷ []) (contradiction clash.Limits)
+contradicts : Asks (codes "b" ∷ codes "go" ∷ codes "--no-limit" ∷ codes "--steps=5" ∷ codes "x" ∷ [])
+    (contradiction clash.Limits)
 unfolding clap_on_literals
 contradicts = (refl, refl)
 
@@ -292,7 +293,7 @@ unfolding clap_on_literals
 counts_with = (refl, refl)
 
 shows_with : Asks (codes "b" ∷ codes "show" ∷ codes "x" ∷ codes "--with=l" ∷ [])
-    (ask (x_with (codes "l" ∷ [])) (show 2000 (which.From 1) None))
+    (ask (x_with (codes "l" ∷ [])) (show None 2000 (which.From 1) None))
 unfolding clap_on_literals
 shows_with = (refl, refl)
 
@@ -340,19 +341,45 @@ counts_within_limits : Asks (codes "b" ∷ codes "count" ∷ codes "--no-limit" 
 unfolding clap_on_literals
 counts_within_limits = (refl, refl)
 
-shows : Asks (codes "b" ∷ codes "show" ∷ codes "x" ∷ []) (ask (x editions.One) (show 2000 (which.From 1) None))
+shows : Asks (codes "b" ∷ codes "show" ∷ codes "x" ∷ []) (ask (x editions.One) (show None 2000 (which.From 1) None))
 unfolding clap_on_literals
 shows = (refl, refl)
 
 shows_from : Asks (codes "b" ∷ codes "show" ∷ codes "--from=7" ∷ codes "--input=hi" ∷ codes "x" ∷ [])
-    (ask (x editions.One) (show 2006 (which.From 7) (Some (codes "hi"))))
+    (ask (x editions.One) (show None 2006 (which.From 7) (Some (codes "hi"))))
 unfolding clap_on_literals
 shows_from = (refl, refl)
 
 shows_last : Asks (codes "b" ∷ codes "show" ∷ codes "x" ∷ codes "--last" ∷ codes "3" ∷ [])
-    (ask (x editions.One) (show 10000000 (which.Last 3) None))
+    (ask (x editions.One) (show None 10000000 (which.Last 3) None))
 unfolding clap_on_literals
 shows_last = (refl, refl)
+
+-- a careful run, of which the last steps are shown if nothing is said
+shows_carefully : Asks (codes "b" ∷ codes "show" ∷ codes "--careful" ∷ codes "x" ∷ [])
+    (ask (x editions.One) (show (Some care.Stays) 10000000 (which.Last 2000) None))
+unfolding clap_on_literals
+shows_carefully = (refl, refl)
+
+shows_carefully_from : Asks (codes "b" ∷ codes "show" ∷ codes "x" ∷ codes "--from=7" ∷ codes "--careful=stay" ∷ [])
+    (ask (x editions.One) (show (Some care.Stays) 2006 (which.From 7) None))
+unfolding clap_on_literals
+shows_carefully_from = (refl, refl)
+
+shows_wraps : Asks (codes "b" ∷ codes "show" ∷ codes "x" ∷ codes "--careful=wraps" ∷ codes "--last=3"
+    ∷ codes "--steps=9" ∷ []) (ask (x editions.One) (show (Some care.Wraps) 9 (which.Last 3) None))
+unfolding clap_on_literals
+shows_wraps = (refl, refl)
+
+-- A page stays at a finding.
+shows_no_warnings : Asks (codes "b" ∷ codes "show" ∷ codes "--careful=warn" ∷ codes "x" ∷ [])
+    (contradiction clash.ShownCare)
+unfolding clap_on_literals
+shows_no_warnings = (refl, refl)
+
+shows_otherwise : Asks (codes "b" ∷ codes "show" ∷ codes "--careful=war" ∷ codes "x" ∷ []) (contradiction clash.Care)
+unfolding clap_on_literals
+shows_otherwise = (refl, refl)
 
 shows_from_and_last : Asks (codes "b" ∷ codes "show" ∷ codes "--last=5" ∷ codes "--from=9" ∷ codes "x" ∷ [])
     (contradiction clash.Rows)

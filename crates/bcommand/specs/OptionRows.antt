@@ -86,8 +86,8 @@ unfolding clap_on_literals
 count_takes = refl
 
 show_takes : taken (codes "show") x
-    ≡ codes "--edition=2" ∷ codes "--with=l" ∷ codes "--steps=5" ∷ codes "--from=5" ∷ codes "--last=5"
-    ∷ codes "--input=i" ∷ []
+    ≡ codes "--edition=2" ∷ codes "--with=l" ∷ codes "--steps=5" ∷ codes "--careful" ∷ codes "--from=5"
+    ∷ codes "--last=5" ∷ codes "--input=i" ∷ []
 unfolding clap_on_literals
 show_takes = refl
 
@@ -159,7 +159,7 @@ files_of_each :
     ∷ ask both (try_out 10000000) ∷ ask both (list from_source None) ∷ ask both layout
     ∷ ask both (draw None) ∷ ask both (check false) ∷ ask both fix ∷ ask both tell_names
     ∷ ask both (trace from_source 1000 (which.From 1) None) ∷ ask both (count from_source 10000000 false)
-    ∷ ask both (show 2000 (which.From 1) None) ∷ ask both port ∷ []
+    ∷ ask both (show None 2000 (which.From 1) None) ∷ ask both port ∷ []
 unfolding clap_on_literals
 files_of_each = refl
 
@@ -190,13 +190,13 @@ steps_of_each :
     ∷ ask alone (try_out 18446744073709551615)
     ∷ ask alone (trace from_source 5 (which.From 1) None) ∷ ask alone (trace from_source 1000 (which.From 5) None)
     ∷ ask alone (count from_source 5 false) ∷ ask alone (count from_source 10000000 true)
-    ∷ ask alone (show 5 (which.From 1) None) ∷ ask alone (show 5 (which.From 7) None)
-    ∷ ask alone (show 5 (which.Last 7) None) ∷ []
+    ∷ ask alone (show None 5 (which.From 1) None) ∷ ask alone (show None 5 (which.From 7) None)
+    ∷ ask alone (show None 5 (which.Last 7) None) ∷ []
 unfolding clap_on_literals
 steps_of_each = refl
 
 -- an input without a byte is one, too
-no_byte_given : of_x (codes "show" ∷ codes "--input=" ∷ []) ≡ ask alone (show 2000 (which.From 1) (Some []))
+no_byte_given : of_x (codes "show" ∷ codes "--input=" ∷ []) ≡ ask alone (show None 2000 (which.From 1) (Some []))
 unfolding clap_on_literals
 no_byte_given = refl
 

@@ -120,13 +120,15 @@ abbrev hint : Text
 hint = codes "\n\nFor more information, try '--help'.\n"
 
 clashes_told : map clash_line
-    (clash.Limits ∷ clash.Rows ∷ clash.Origins ∷ clash.Libs ∷ clash.Made ∷ clash.Lines ∷ clash.Care ∷ clash.Fix ∷ [])
+    (clash.Limits ∷ clash.Rows ∷ clash.Origins ∷ clash.Libs ∷ clash.Made ∷ clash.Lines ∷ clash.Care ∷ clash.Fix
+    ∷ clash.ShownCare ∷ [])
     ≡ (codes "error: the argument '--steps <N>' cannot be used with '--no-limit'" ++ hint)
     ∷ (codes "error: the argument '--from <N>' cannot be used with '--last <N>'" ++ hint)
     ∷ (codes "error: the argument '--code' cannot be used with '--made <CODE>' or '--lines <LINES>'" ++ hint)
     ∷ (codes "error: the argument '--code' cannot be used with '--with <LIB>'" ++ hint)
     ∷ (codes "error: the argument '--made <CODE>' cannot be used without '--lines <LINES>'" ++ hint)
     ∷ (codes "error: the argument '--lines <LINES>' cannot be used without '--made <CODE>'" ++ hint)
-    ∷ (codes "error: the argument '--careful' is '--careful', '--careful=warn' or '--careful=wraps'" ++ hint)
-    ∷ (codes "error: the argument '--fix' cannot be used with '--json'" ++ hint) ∷ []
+    ∷ (codes "error: the argument '--careful' is '--careful=stay', '--careful=warn' or '--careful=wraps'" ++ hint)
+    ∷ (codes "error: the argument '--fix' cannot be used with '--json'" ++ hint)
+    ∷ (codes "error: the argument '--careful' of 'show' is '--careful=stay' or '--careful=wraps'" ++ hint) ∷ []
 clashes_told = refl

@@ -6,7 +6,8 @@ ghost use Rattle.bcommand.specs.Rows.{command_in, line_in, rule_in};
 
 use crate::texts::{
     ABOUT, CHECK_HELP, COMPILE_HELP, COUNT_HELP, FORMAT_HELP, GO_HELP, HELP, LIST_HELP, MAP_HELP,
-    MIGRATE_HELP, NAMES_HELP, PORT_HELP, RUN_HELP, SHOW_HELP, TRACE_HELP, TRY_HELP, VERIFY_HELP, VERSION,
+    MIGRATE_HELP, NAMES_HELP, PORT_HELP, RUN_HELP, SHOW_HELP, TRACE_HELP, TRY_HELP, VERIFY_HELP,
+    VERSION,
 };
 use clap::{Arg, ArgAction, Command, value_parser};
 use std::alloc::{AllocError, Global};
@@ -123,6 +124,12 @@ const CAREFUL: ArgumentRow = ArgumentRow {
     id: "careful",
     kind: GivenAs::Text("HOW"),
     help: "Stops at a word never set or off a vector; =warn, =wraps",
+};
+
+const SHOWN_CAREFUL: ArgumentRow = ArgumentRow {
+    id: "careful",
+    kind: GivenAs::Text("HOW"),
+    help: "Up to a word never set or off a vector; =wraps",
 };
 
 const CODE_WHERE: ArgumentRow = ArgumentRow {
@@ -300,7 +307,16 @@ const COMMANDS: [CommandRow; 14] = [
         about: "Runs the source in FILE and writes a page that shows the run",
         usage: Some("b show [OPTIONS] <FILE> > run.html"),
         help: SHOW_HELP,
-        arguments: &[EDITION, FILE, WITH, SHOWN_STEPS, FROM, LAST, INPUT],
+        arguments: &[
+            EDITION,
+            FILE,
+            WITH,
+            SHOWN_STEPS,
+            FROM,
+            LAST,
+            INPUT,
+            SHOWN_CAREFUL,
+        ],
     },
     CommandRow {
         name: "format",

@@ -39,6 +39,8 @@ pub enum Clash {
     Care,
     /// A source mended, and findings for an editor.
     Fix,
+    /// One that no page shows.
+    ShownCare,
 }
 
 /// What is asked of a source.
@@ -121,6 +123,8 @@ pub struct Walk<'a> {
 /// A run on a page.
 #[derive(Clone, Copy)]
 pub struct Display<'a> {
+    /// How it is looked at, if it is shown up to its first finding.
+    pub care: Option<Care>,
     /// The most steps that are made.
     pub steps: u64,
     pub rows: Rows,

@@ -2,7 +2,8 @@
 ghost use Rattle.std.specs.Prelude.{◌≡◌, [], IfOk, IfErr, map, option_map};
 ghost use Rattle.clap.specs.Words.{HasKind, fault_of, first_of, found_of, rows_of, subcommand_of, subcommand_rows_of};
 ghost use Rattle.bcommand.specs.CommandLine.{asked, asked_of, command_line, edition_in, file_in, is_set_in, libs_in, option_number, question_of, source_in, source_shown, steps_in};
-ghost use Rattle.bcommand.specs.CommandLine.{care_asked, check_in, count_in, go_in, list_in, map_in, origin_asked, origin_in, origin_or_clash, rows_asked, run_in, show_in, shown_steps, trace_in, trace_steps, try_in};
+ghost use Rattle.bcommand.specs.CommandLine.{care_asked, check_in, count_in, go_in, list_in, map_in, origin_asked, origin_in, origin_or_clash, page_rows, rows_asked, run_in};
+ghost use Rattle.bcommand.specs.CommandLine.{show_in, shown_care, shown_steps, trace_in, trace_steps, try_in};
 
 use crate::commands::command;
 use crate::job::{
@@ -208,15 +209,40 @@ fn trace_of<'m, 'a: 'm>(given: &'m ArgMatches<'a>) -> Job<'m>
 fn show_of<'m, 'a: 'm>(given: &'m ArgMatches<'a>) -> Job<'m>
     ensures { asked_of result ≡ show_in (rows_of (found_of given.now)) }
 {
-    let Some(rows) = shown_rows(number_of(given, "from"), number_of(given, "last")) else {
+    let care = match shown_care(text_of(given, "careful")) {
+        Ok(care) => care,
+        Err(clash) => return Job::Contradiction(clash),
+    };
+    let Some(rows) = page_rows(care, number_of(given, "from"), number_of(given, "last")) else {
         return Job::Contradiction(Clash::Rows);
     };
     let display = Display {
+        care,
         steps: number_of(given, "steps").unwrap_or(shown_steps(rows)),
         rows,
         input: text_of(given, "input"),
     };
     Job::Ask(source_of(given), Question::Show(display))
+}
+
+// How a run is looked at of which a page is shown. It has to stay at its first finding.
+fn shown_care(how: Option<&str>) -> Result<Option<Care>, Clash>
+    ensures { result ≡ shown_care (care_asked (option_map (λ t. t.now) how.entry)) }
+{
+    match care_of(how) {
+        Ok(Some(Care::Warns)) => Err(Clash::ShownCare),
+        care => care,
+    }
+}
+
+// The same where a careful run has its last steps shown, if nothing is said.
+fn page_rows(care: Option<Care>, from: Option<u64>, last: Option<u64>) -> Option<Rows>
+    ensures { result ≡ page_rows care from last }
+{
+    match (care, from, last) {
+        (Some(_), None, None) => Some(Rows::Last(DEFAULT_SHOWN_STEPS)),
+        _ => shown_rows(from, last),
+    }
 }
 
 fn count_of<'m, 'a: 'm>(given: &'m ArgMatches<'a>) -> Job<'m>

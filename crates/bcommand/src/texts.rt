@@ -52,7 +52,13 @@ For more information, try '--help'.
 ";
 
 const CARE: &str = "\
-error: the argument '--careful' is '--careful', '--careful=warn' or '--careful=wraps'
+error: the argument '--careful' is '--careful=stay', '--careful=warn' or '--careful=wraps'
+
+For more information, try '--help'.
+";
+
+const SHOWN_CARE: &str = "\
+error: the argument '--careful' of 'show' is '--careful=stay' or '--careful=wraps'
 
 For more information, try '--help'.
 ";
@@ -76,6 +82,7 @@ pub fn clash_text(clash: Clash) -> &'static str
         Clash::Lines => LINES,
         Clash::Care => CARE,
         Clash::Fix => FIX,
+        Clash::ShownCare => SHOWN_CARE,
     }
 }
 
@@ -348,7 +355,8 @@ steps were made. Then come this line of the source, and what the trap means.
 b trace --last N shows the steps before it. Where a fault is in a LIB, the
 second line tells the line there and the name of LIB.
 
-With --careful, the run stays at the first step with a finding. The line is
+With --careful, which is short for --careful=stay, the run stays at the first
+step with a finding. The line is
   careful set     the step reads a word that nothing has set
   careful index   its address has left the vector, the name, the parameters or
                   the string that it was made of
@@ -421,8 +429,15 @@ step. If the run is longer than what is shown, the page says so.
 The program reads standard input, or TEXT with --input TEXT. Its output is on
 the page. The status is 0 where the page was written, whatever came of the run.
 
+With --careful, short for --careful=stay, the page ends at the first step with a
+finding of b go --careful, and tells it as its last sentence. It shows the last
+2000 steps before that, unless --from or --last says which. --careful=wraps
+looks for sums, differences and products that are no word, too. A run without a
+finding is shown as without --careful, up to its end or the limit.
+
 Examples:
   b show hello.b > run.html
+  b show --careful hello.b > run.html
   b show --input 'a text' --edition 2 menu.b > run.html
   b show --last 500 hello.b > run.html
 

@@ -4,3 +4,5 @@ pub mod Recorded
 pub mod Escaping
 pub mod OwnTexts
 pub mod ShowExcluded
+mod CarefulExcluded
+mod CarefulRuns

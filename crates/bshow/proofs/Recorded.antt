@@ -1,5 +1,5 @@
 -- Steps that are seen and kept for a page, one after another.
-use Rattle.std.proofs.Common.{◌≡◌, ◌∙◌, ℕ, ◌+◌, ◌-◌, ◌≤◌, Bool, true, false, cond, List, [], ◌∷◌, ◌++◌, Option, Some, None, ap, append-nil, append_assoc, arith, codes, drop, length, map, refl, reverse, subst, sym, if◌then◌else◌}
+use Rattle.std.proofs.Common.{◌≡◌, ◌∙◌, ℕ, ◌+◌, ◌-◌, ◌≤◌, Bool, true, false, cond, List, [], ◌∷◌, ◌++◌, Some, None, ap, append-nil, append_assoc, arith, codes, drop, length, map, refl, reverse, subst, sym, if◌then◌else◌}
 use Rattle.std.specs.Prelude.{slice_index}
 use Rattle.std.specs.List.{flat_map, range_with_len}
 use Rattle.std.proofs.Math.Seq.{drop-append_seam, drop-length}
@@ -21,8 +21,7 @@ use Rattle.bwatch.specs.Sights.{Sight, Sights, end_sight, sight_at, sights_of}
 use Rattle.bwatch.specs.Watches.{Ending, Leaves as EndLeaves, Watches}
 use Rattle.bshow.specs.Facts.{run_text, sentence}
 use Rattle.bshow.specs.Rows.{LinedCode, call_cells, done_cells, heard_between, heard_byte, hears_next, instr_of, is_getchar, row_text, sight_cells, step_cells, table_code, words_in}
-use Rattle.bendless.specs.declared.search.Repeat.{Repeat}
-use Rattle.bshow.specs.Shows.{IsPageOf, again_text, calls_at, head, heard_text, next_text, open_page, rows_text, run_page, said_text, tail, wanted_of}
+use Rattle.bshow.specs.Shows.{IsPageOf, calls_at, head, heard_text, next_text, open_page, rows_text, run_page, said_text, tail, wanted_of}
 use Rattle.bshow.specs.Steps.{Awaits, AwaitsStep, EndsRows, FollowsCalls, HasSeen, HasTold, IsRun, KeepsLast, KeepsSteps, KnowsStored, Moves, may_show, next_row}
 use Rattle.bshow.specs.declared.recorder.Recorder.{Recorder}
 use Rattle.bwatch.proofs.Kept.{kept_more, kept_none, kept_same, kept_text, map-chosen}
@@ -267,23 +266,23 @@ module _ (first old new : Recorder) (p : Paused) (sights : Sights) (t : Trail) w
   told_at outcome.Memory stop h ends text run = absurd h
 
 -- what was told of a run without a failed read is its page, with what was added to it
-pub page_so : (first now : Recorder) (code : LinedCode) (again : Option Repeat) (text : List ℕ) → table_code first.tables.now ≡ code → text ≡ now.trail.text ++ again_text code again ++ tail → (awaits : Sights → ℕ → Type 0) (r : Outcome) → (r ≡ outcome.Device → ⊥)
-    → (made : ℕ) (sights : Sights) → IsRun sights → EndLeaves awaits (λ s m x. HasTold first now s m x) sights made r → IsPageOf code first.which again first.program text sights made r
-page_so first now code again text same added awaits r own made sights run told = by r own told
+pub page_so : (first now : Recorder) (code : LinedCode) (end : List ℕ) (text : List ℕ) → table_code first.tables.now ≡ code → text ≡ now.trail.text ++ end ++ tail → (awaits : Sights → ℕ → Type 0) (r : Outcome) → (r ≡ outcome.Device → ⊥)
+    → (made : ℕ) (sights : Sights) → IsRun sights → EndLeaves awaits (λ s m x. HasTold first now s m x) sights made r → IsPageOf code first.which end first.program text sights made r
+page_so first now code end text same added awaits r own made sights run told = by r own told
   where
-    page : (x : Outcome) → HasTold first now sights made x → text ≡ run_page code first.which again first.program sights made x
-    page x h = added ∙ ap (λ t. t ++ again_text code again ++ tail) (h run ∙ ap (λ c. open_page c first.which first.program sights made x) same)
+    page : (x : Outcome) → HasTold first now sights made x → text ≡ run_page code first.which end first.program sights made x
+    page x h = added ∙ ap (λ t. t ++ end ++ tail) (h run ∙ ap (λ c. open_page c first.which first.program sights made x) same)
 
-    by : (x : Outcome) → (x ≡ outcome.Device → ⊥) → EndLeaves awaits (λ s m y. HasTold first now s m y) sights made x → IsPageOf code first.which again first.program text sights made x
+    by : (x : Outcome) → (x ≡ outcome.Device → ⊥) → EndLeaves awaits (λ s m y. HasTold first now s m y) sights made x → IsPageOf code first.which end first.program text sights made x
     by (outcome.Exit status) other h = page (outcome.Exit status) h
     by (outcome.Trap kind) other h = page (outcome.Trap kind) h
     by outcome.Limit other h = page outcome.Limit h
     by outcome.Device other h = absurd (other refl)
     by outcome.Memory other h = page outcome.Memory h
 
-pub paged : (ds : List Definition) (n : ℕ) (i j : Incoming) (r : Outcome) → (r ≡ outcome.Device → ⊥) → (made : ℕ) (first now : Recorder) (code : LinedCode) (which : TraceRows) (program : List ℕ) (again : Option Repeat) (page : List ℕ) → table_code first.tables.now ≡ code → first.which ≡ which → first.program ≡ program → page ≡ now.trail.text ++ again_text code again ++ tail
-    → Watches (image_of ds).functions (machine ds) n i j r made (EndLeaves (Awaits first now) (HasTold first now)) → Watches (image_of ds).functions (machine ds) n i j r made (IsPageOf code which again program page)
-paged ds n i j r own made first now code which program again page same rows text added w = record {
+pub paged : (ds : List Definition) (n : ℕ) (i j : Incoming) (r : Outcome) → (r ≡ outcome.Device → ⊥) → (made : ℕ) (first now : Recorder) (code : LinedCode) (which : TraceRows) (program : List ℕ) (end : List ℕ) (page : List ℕ) → table_code first.tables.now ≡ code → first.which ≡ which → first.program ≡ program → page ≡ now.trail.text ++ end ++ tail
+    → Watches (image_of ds).functions (machine ds) n i j r made (EndLeaves (Awaits first now) (HasTold first now)) → Watches (image_of ds).functions (machine ds) n i j r made (IsPageOf code which end program page)
+paged ds n i j r own made first now code which program end page same rows text added w = record {
   output = w.output;
   gives = w.gives;
   within = w.within;
@@ -292,6 +291,6 @@ paged ds n i j r own made first now code which program again page same rows text
   ends = w.ends;
   told = λ more can.
       let sights = sights_of (image_of ds).functions (machine ds) (w.taken ++ more) in
-      let is = page_so first now code again page same added (Awaits first now) r own made sights (is_run ds (w.taken ++ more)) (w.told more can) in
-      subst (λ (x : TraceRows). IsPageOf code x again program page sights made r) rows (subst (λ x. IsPageOf code first.which again x page sights made r) text is);
+      let is = page_so first now code end page same added (Awaits first now) r own made sights (is_run ds (w.taken ++ more)) (w.told more can) in
+      subst (λ (x : TraceRows). IsPageOf code x end program page sights made r) rows (subst (λ x. IsPageOf code first.which end x page sights made r) text is);
 }

@@ -1,5 +1,5 @@
 -- What no page is.
-use Rattle.std.proofs.Common.{◌≡◌, ◌∙◌, ◌⊎◌, ℕ, List, [], ◌++◌, Option, Some, None, ap, append_assoc, arith, inl, inr, refl, subst}
+use Rattle.std.proofs.Common.{◌≡◌, ◌∙◌, ◌⊎◌, ℕ, List, [], ◌++◌, Some, None, ap, append_assoc, arith, inl, inr, refl, subst}
 use Rattle.bword.specs.declared.edition.Edition.{Edition}
 use Rattle.bword.specs.ByteEnds.{Grew, Incoming, Writes, outgoing_of}
 use Rattle.blang.specs.declared.code.Definition.{Definition}
@@ -28,23 +28,22 @@ use Rattle.bshow.specs.Facts.{no_run_text, program_text, sentence, unbegun_sente
 use Rattle.bshow.specs.Rows.{LinedCode, lined_code}
 use Rattle.bshow.specs.ShowExcluded.{NoPages}
 use Rattle.bshow.specs.Shows as pages
-use Rattle.bendless.specs.declared.search.Repeat.{Repeat}
-use Rattle.bshow.specs.Shows.{Asked, IsPageOf, Shows, again_text, facts_text, head, next_text, page_text, rows_text, run_page, said_text, tail}
+use Rattle.bshow.specs.Shows.{Asked, IsPageOf, Shows, facts_text, head, last_facts, next_text, page_text, rows_text, run_page, said_text, tail}
 
 -- the page of a run that was read without a failure
-page_is : (code : LinedCode) (which : TraceRows) (again : Option Repeat) (program page : List ℕ) (sights : Sights) (made : ℕ) (r : Outcome) → IsPageOf code which again program page sights made r → page ≡ run_page code which again program sights made r
-page_is code which again program page sights made (outcome.Exit status) h = h
-page_is code which again program page sights made (outcome.Trap kind) h = h
-page_is code which again program page sights made outcome.Limit h = h
-page_is code which again program page sights made outcome.Device h = absurd h
-page_is code which again program page sights made outcome.Memory h = h
+page_is : (code : LinedCode) (which : TraceRows) (last : List ℕ) (program page : List ℕ) (sights : Sights) (made : ℕ) (r : Outcome) → IsPageOf code which last program page sights made r → page ≡ run_page code which last program sights made r
+page_is code which last program page sights made (outcome.Exit status) h = h
+page_is code which last program page sights made (outcome.Trap kind) h = h
+page_is code which last program page sights made outcome.Limit h = h
+page_is code which last program page sights made outcome.Device h = absurd h
+page_is code which last program page sights made outcome.Memory h = h
 
-unfailed : (ds : List Definition) (n : ℕ) (i j : Incoming) (code : LinedCode) (which : TraceRows) (again : Option Repeat) (program page : List ℕ) (made : ℕ) (r : Outcome) → Watches (image_of ds).functions (machine ds) n i j r made (IsPageOf code which again program page) → j.failures ≡ i.failures
-unfailed ds n i j code which again program page made (outcome.Exit status) w = w.gives.no_failure
-unfailed ds n i j code which again program page made (outcome.Trap kind) w = w.gives.no_failure
-unfailed ds n i j code which again program page made outcome.Limit w = w.gives.no_failure
-unfailed ds n i j code which again program page made outcome.Device w = absurd (w.told [] (λ e. refl))
-unfailed ds n i j code which again program page made outcome.Memory w = absurd (w.ends [] (λ e. refl))
+unfailed : (ds : List Definition) (n : ℕ) (i j : Incoming) (code : LinedCode) (which : TraceRows) (last : List ℕ) (program page : List ℕ) (made : ℕ) (r : Outcome) → Watches (image_of ds).functions (machine ds) n i j r made (IsPageOf code which last program page) → j.failures ≡ i.failures
+unfailed ds n i j code which last program page made (outcome.Exit status) w = w.gives.no_failure
+unfailed ds n i j code which last program page made (outcome.Trap kind) w = w.gives.no_failure
+unfailed ds n i j code which last program page made outcome.Limit w = w.gives.no_failure
+unfailed ds n i j code which last program page made outcome.Device w = absurd (w.told [] (λ e. refl))
+unfailed ds n i j code which last program page made outcome.Memory w = absurd (w.ends [] (λ e. refl))
 
 module _ (edition : Edition) (source : List ℕ) (r : Compilation) (g : CompilesTo [] (tokens_from edition 1 source) r) (asked : Asked) (ends : RunEnds) where
   abbrev code : List Definition
@@ -65,9 +64,10 @@ module _ (edition : Edition) (source : List ℕ) (r : Compilation) (g : Compiles
       let program = program_text asked.files source asked.given ds frames in
       let rows = rows_text code asked.which sights made ++ next_text code sights made result in
       let facts = facts_text code sights made result in
-      let whole = page_is code asked.which again program page sights made result (p.told [] (λ e. refl))
-      ∙ ap (λ x. x ++ tail) (append_assoc (head ++ rows ++ said_text (sentence result made) program) facts (again_text code again)) in
-      (t.0, t.2, (rows, sentence result made, program, facts ++ again_text code again, subst (λ (x : List ℕ). Writes ends.out x ends.out_after) whole (wrote page w)))
+      let last = last_facts code asked.finding again in
+      let whole = page_is code asked.which last program page sights made result (p.told [] (λ e. refl))
+      ∙ ap (λ x. x ++ tail) (append_assoc (head ++ rows ++ said_text (sentence result made) program) facts last) in
+      (t.0, t.2, (rows, sentence result made, program, facts ++ last, subst (λ (x : List ℕ). Writes ends.out x ends.out_after) whole (wrote page w)))
   done (pages.not_begun ds image frames kind is known still never w same) =
       let t = told.program ds image is in
       (t.0, t.2, ([], unbegun_sentence kind, program_text asked.files source asked.given ds frames, no_run_text, wrote _ w))
@@ -77,7 +77,7 @@ module _ (edition : Edition) (source : List ℕ) (r : Compilation) (g : Compiles
 
   unread : (status : ℕ) → Shows edition source asked ends status → (ends.input_after.failures ≡ ends.input.failures → ⊥) → (status ≡ 133) × (ends.out_after ≡ ends.out)
   unread status (pages.shown ds image frames lines result made again page is lined known still back p w) failed =
-      absurd (failed (unfailed ds asked.steps ends.input ends.input_after (lined_code ds lines) asked.which again (program_text asked.files source asked.given ds frames) page made result p))
+      absurd (failed (unfailed ds asked.steps ends.input ends.input_after (lined_code ds lines) asked.which (last_facts (lined_code ds lines) asked.finding again) (program_text asked.files source asked.given ds frames) page made result p))
   unread status (pages.not_begun ds image frames kind is known still never w same) failed = absurd (failed (ap (λ (x : Incoming). x.failures) same))
   unread status (pages.unread ds image output is still gives silent at) failed = (at, silent)
   unread status (pages.stopped why quiet) failed = absurd (failed (ap (λ (x : Incoming). x.failures) quiet.unread))

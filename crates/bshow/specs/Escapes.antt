@@ -1,6 +1,6 @@
 -- Promise: a text within a page, which ends no string of JSON and is no mark of HTML, and how it reads back.
 use Rattle.std.specs.Prelude.{◌≡◌, ℕ, ◌+◌, ◌*◌, ◌<◌, ◌==◌, ◌&&◌, ◌||◌, Bool, not, IsTrue, List, [], ◌∷◌, ◌++◌}
-use Rattle.std.specs.Prelude.{All, codes, length, nat_lt, slice_index, if◌then◌else◌}
+use Rattle.std.specs.Prelude.{All, length, nat_lt, slice_index, if◌then◌else◌}
 use Rattle.std.specs.Char.{digit_value}
 use Rattle.std.specs.List.{flat_map, list_all}
 use Rattle.btools.specs.Characters.{is_printable}

@@ -6,3 +6,6 @@ pub mod Shows
 pub mod Steps
 pub mod RowFacts
 pub mod ShowExcluded
+pub mod CarefulPages
+pub mod CarefulExcluded
+pub mod CarefulPageRows

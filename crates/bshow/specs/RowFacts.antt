@@ -26,9 +26,9 @@ use Rattle.bshow.specs.Escapes.{escaped, is_safe, unescaped}
 use Rattle.bshow.specs.Facts.{all_addresses, calls_text, definitions_text, files_text, no_run_text, sentence, sizes_text}
 use Rattle.bshow.specs.Facts.{some_word, trap_words, unbegun_sentence}
 use Rattle.bshow.specs.OwnTexts.{own_texts}
-use Rattle.bshow.specs.Rows.{call_cells, done_cells, is_getchar, lined_code, words_cell}
+use Rattle.bshow.specs.Rows.{LinedCode, call_cells, done_cells, is_getchar, lined_code, words_cell}
 use Rattle.bshow.specs.declared.page.TheConstants.{BETWEEN, HEAD, SCRIPT, TAIL}
-use Rattle.bshow.specs.Shows.{again_text, calls_at, heard_text, next_text, rows_text, shown_of}
+use Rattle.bshow.specs.Shows.{again_text, calls_at, finding_fact, heard_text, last_facts, next_text, rows_text, shown_of}
 
 -- The fixed parts of a page: the rows are those of a table, the sentence stands below it, the facts are a text of JSON
 -- of their own, and the script that shows them comes last.
@@ -192,6 +192,17 @@ again_told : again_text (record { functions = []; lines = record { strings = 9; 
     })) ≡ codes ",\"again\":[7,11,9,5]}"
 unfolding digits
 again_told = refl
+
+-- and before it the finding of a careful run, as a text of JSON
+finding_told : finding_fact (Some (codes "nothing has set <x of f"))
+    ≡ codes ",\"finding\":\"nothing has set \\u003cx of f\""
+finding_told = refl
+
+no_finding : finding_fact None ≡ []
+no_finding = refl
+
+finding_before : (code : LinedCode) → last_facts code (Some (codes "b")) None ≡ codes ",\"finding\":\"b\"}"
+finding_before code = refl
 
 none_again : again_text (record { functions = []; lines = [] }) None ≡ codes "}"
 none_again = refl

@@ -1,6 +1,6 @@
 -- Promise: the page of a run.
 use Rattle.std.specs.Prelude.{◌≡◌, ℕ, ◌+◌, ◌-◌, List, [], ◌++◌, Option, Some, None, IfSome, codes, decimal, filter}
-use Rattle.std.specs.Prelude.{nat_le}
+use Rattle.std.specs.Prelude.{nat_le, option_map}
 use Rattle.std.specs.List.{flat_map, range_with_len}
 use Rattle.bword.specs.declared.edition.Edition.{Edition}
 use Rattle.bword.specs.ByteEnds.{Kept, outgoing_of}
@@ -25,6 +25,7 @@ use Rattle.bwatch.specs.Trails.{chosen, first_of}
 use Rattle.bwatch.specs.declared.trail.TraceRows.{TraceRows}
 use Rattle.bwatch.specs.Sights.{Sights}
 use Rattle.bwatch.specs.Watches.{Watches}
+use Rattle.bshow.specs.Escapes.{escaped}
 use Rattle.bshow.specs.Facts.{no_run_text, program_text, run_text, sentence, unbegun_sentence}
 use Rattle.bshow.specs.Rows.{LinedCode, heard_between, lined_code, row_text, sight_cells}
 use Rattle.bshow.specs.declared.page.TheConstants.{BETWEEN, HEAD, SCRIPT, TAIL}
@@ -83,6 +84,11 @@ open_page code which program sights made result =
     open_text (rows_text code which sights made ++ next_text code sights made result) (sentence result made) program
     (facts_text code sights made result)
 
+-- the fact of a finding of the next step, if there is one: what is wrong with it
+abbrev pub finding_fact : (finding : Option (List ℕ)) → List ℕ
+finding_fact None = []
+finding_fact (Some text) = codes ",\"finding\":\"" ++ escaped text ++ codes "\""
+
 -- the last fact, if a state comes again: after how many steps, and the function and the line of its call
 abbrev pub again_text : LinedCode → Option Repeat → List ℕ
 again_text code None = codes "}"
@@ -90,17 +96,18 @@ again_text code (Some r) =
     codes ",\"again\":[" ++ decimal r.first ++ codes "," ++ decimal r.again ++ codes "," ++ decimal r.call.strings
     ++ codes "," ++ decimal (line_at code.lines r.call.strings r.call.place) ++ codes "]}"
 
-abbrev pub run_page : LinedCode → TraceRows → Option Repeat → (program : List ℕ) → Sights → (made : ℕ) → Outcome
-    → List ℕ
-run_page code which again program sights made result =
-    open_page code which program sights made result ++ again_text code again ++ tail
+-- the facts that are known after the run
+abbrev pub last_facts : LinedCode → (finding : Option (List ℕ)) → Option Repeat → List ℕ
+last_facts code finding again = finding_fact finding ++ again_text code again
+
+-- the page of so many steps of a run, whose facts end so
+abbrev pub run_page : LinedCode → TraceRows → (last program : List ℕ) → Sights → (made : ℕ) → Outcome → List ℕ
+run_page code which last program sights made result = open_page code which program sights made result ++ last ++ tail
 
 -- A text is the page of a run. There is none where a read failed.
-abbrev pub IsPageOf : LinedCode → TraceRows → Option Repeat → (program page : List ℕ) → Sights → (made : ℕ) → Outcome
-    → Type 0
-IsPageOf code which again program page sights made outcome.Device = ⊥
-IsPageOf code which again program page sights made result =
-    page ≡ run_page code which again program sights made result
+abbrev pub IsPageOf : LinedCode → TraceRows → (last program page : List ℕ) → Sights → (made : ℕ) → Outcome → Type 0
+IsPageOf code which last program page sights made outcome.Device = ⊥
+IsPageOf code which last program page sights made result = page ≡ run_page code which last program sights made result
 
 -- what is asked for
 pub record Asked : Type 0 where
@@ -108,10 +115,17 @@ pub record Asked : Type 0 where
   pub which : TraceRows
   pub files : Files
   pub given : List ℕ
+  pub finding : Option (List ℕ)
 
 -- what is asked for, by the type of the code
 abbrev pub asked_of : PageRequest → Asked
-asked_of w = record { steps = w.steps; which = w.rows; files = files_shown w.files; given = w.given.now }
+asked_of w = record {
+  steps = w.steps;
+  which = w.rows;
+  files = files_shown w.files;
+  given = w.given.now;
+  finding = option_map (λ text. text.now) w.finding;
+}
 
 -- the page of a run that had no first step
 abbrev pub unbegun_page : (program : List ℕ) → Trap → List ℕ
@@ -121,17 +135,18 @@ unbegun_page program kind = page_text [] (unbegun_sentence kind) program no_run_
 abbrev pub IsWritten : List ℕ → RunEnds → ℕ → Type 0
 IsWritten page ends status = Reported page DONE ends.out ends.out_after status
 
--- The program of the source was run for so many steps at most, as the machine runs it, and its page written, which tells
--- a state of its image that comes again, if one was found; or it did
--- not begin, which the page says; or it could not read its input; or there is no program, and why was told; or memory
--- was refused, and nothing was written, or read but by some of its steps.
+-- The program of the source was run for so many steps at most, as the machine runs it, and its page written, which
+-- tells the finding that was handed over, if there is one, and a state of its image that comes again, if one was found;
+-- or it did not begin, which the page says; or it could not read its input; or there is no program, and why was told; or
+-- memory was refused, and nothing was written, or read but by some of its steps.
 pub data Shows (edition : Edition) (source : List ℕ) (asked : Asked) (ends : RunEnds) (status : ℕ) : Type 0 where
   shown : (ds : List Definition) (image : Image) (frames : List Frame) (lines : List ℕ) (result : Outcome) (made : ℕ)
       (again : Option Repeat) (page : List ℕ) → HasProgram edition source ds image → HasLines edition source lines
       → HasNames edition source frames → ends.line_after ≡ ends.line
       → IfSome again (ComesBack (run image) ends.input ends.input_after)
       → Watches (image_of ds).functions (machine ds) asked.steps ends.input ends.input_after result made
-      (IsPageOf (lined_code ds lines) asked.which again (program_text asked.files source asked.given ds frames) page)
+      (IsPageOf (lined_code ds lines) asked.which (last_facts (lined_code ds lines) asked.finding again)
+      (program_text asked.files source asked.given ds frames) page)
       → IsWritten page ends status → Shows edition source asked ends status
   not_begun : (ds : List Definition) (image : Image) (frames : List Frame) (kind : Trap)
       → HasProgram edition source ds image → HasNames edition source frames → ends.line_after ≡ ends.line

@@ -41,7 +41,7 @@ pre {\n\
 #source button[aria-pressed=\"true\"] { background: var(--aim); font-weight: bold; text-decoration: underline }\n\
 #source .past, #legend .past { background: var(--past) }\n\
 #source [aria-current], #legend .now { background: var(--now); outline: 1px solid var(--line); outline-offset: -1px }\n\
-#source .stop, #legend .stop, #end.stop { background: var(--stop) }\n\
+#source .stop, #legend .stop, #end.stop, #right .stop { background: var(--stop) }\n\
 #source .past::before { content: \"\\2713\\0020\" }\n\
 #source [aria-current]::before { content: \"\\25b6\\0020\" }\n\
 #source .stop::before { content: \"\\2715\\0020\" }\n\
@@ -393,6 +393,13 @@ for (const use of rows.map(indexIn).filter(Boolean)) {\n\
 const isOver = () => at === made && !rows[at];\n\
 const running = () => rows[at] ?? rows[made - 1];\n\
 const isStopped = $(\"end\").textContent.includes(\"stopped by\");\n\
+// At the end of a page with a finding the step comes next that goes wrong, and this is the word that it is about.\n\
+const isFound = () => facts.finding !== undefined && at === made && rows[at] !== undefined;\n\
+function foundAt() {\n\
+\x20 const { code, operands } = rows[at], [what, count] = code.split(\" \");\n\
+\x20 const [to, k] = operands.slice({ v: -1, i: -1, w: -2, m: -2, k: -count }[what]).map(unsigned);\n\
+\x20 return what === \"b\" ? undefined : what === \"k\" ? unsigned(to + (k >> 1)) : to;\n\
+}\n\
 \n\
 function seek(to) {\n\
 \x20 for (; at < to; at++) put(rows[at], rows[at].stored, rows[at].kept);\n\
@@ -507,6 +514,7 @@ function isUnset(call, address) {\n\
 function word(address, name, fresh, { call, kind } = {}) {\n\
 \x20 const box = element(\"span\"), value = words.get(address) ?? 0;\n\
 \x20 box.dataset.address = address;\n\
+\x20 box.classList.toggle(\"stop\", isFound() && address === foundAt());\n\
 \x20 box.append(element(\"small\", name + \" \"));\n\
 \x20 if (isUnset(call, address)) {\n\
 \x20   box.append(element(\"b\", \"unset\", \"unset\"));\n\
@@ -820,9 +828,10 @@ function showLines(row) {\n\
 \x20 }\n\
 \x20 const next = isOver() && !isStopped ? null : row, line = lines[(next ?? last)?.line - 1];\n\
 \x20 if (next) {\n\
-\x20   const name = isOver() ? \"stop\" : \"now\", what = isOver() ? \"\\u2715 stopped in\" : \"\\u25b6 next\";\n\
+\x20   const isStop = isOver() || isFound(), name = isStop ? \"stop\" : \"now\";\n\
+\x20   const what = isOver() ? \"\\u2715 stopped in\" : isFound() ? \"\\u2715 goes wrong in\" : \"\\u25b6 next\";\n\
 \x20   line?.setAttribute(\"aria-current\", \"step\");\n\
-\x20   if (isOver()) line?.classList.add(\"stop\");\n\
+\x20   if (isStop) line?.classList.add(\"stop\");\n\
 \x20   legend.push(element(\"span\", `${what}: ${next.name}, ${place(next.line)}`, name));\n\
 \x20 }\n\
 \x20 $(\"legend\").replaceChildren(...legend);\n\
@@ -1044,8 +1053,9 @@ if (facts.again) {\n\
 \x20 $(\"end\").append(` It never ends: after ${to} steps all is as it was after ${from}.`);\n\
 \x20 $(\"end\").append(` The loop is in ${shown(name)}, ${place(line)}.`);\n\
 }\n\
+if (facts.finding !== undefined) $(\"end\").textContent = `Step ${rows[made]?.step} goes wrong: ${shown(facts.finding)}.`;\n\
 $(\"step\").after($(\"end\"));\n\
-$(\"end\").classList.toggle(\"stop\", isStopped);\n\
+$(\"end\").classList.toggle(\"stop\", isStopped || facts.finding !== undefined);\n\
 $(\"input-part\").hidden = !facts.given && !facts.heard;\n\
 $(\"view\").hidden = false;\n\
 $(\"all\").open = false;\n\
@@ -1065,7 +1075,7 @@ function showLinked() {\n\
 \x20 const chosen = /^#ask=([\\d,]+)$/.exec(location.hash)?.[1] ?? \"\";\n\
 \x20 askAt(chosen.split(\",\").map(Number).filter(line => line > 0 && line <= lines.length));\n\
 \x20 const step = Number(/^#s=(\\d+)$/.exec(location.hash)?.[1] ?? 0), k = rows.findIndex(row => row.step >= step);\n\
-\x20 show(step && k < 0 ? made : k);\n\
+\x20 show(step ? (k < 0 ? made : k) : facts.finding === undefined ? 0 : made);\n\
 }\n\
 addEventListener(\"hashchange\", showLinked);\n\
 $(\"link\").hidden = !/^(file|https?):$/.test(location.protocol);\n\

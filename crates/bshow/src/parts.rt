@@ -1,8 +1,9 @@
 //! Both ends of a page.
-ghost use Rattle.std.specs.Prelude.{◌≡◌, ◌++◌, OnOk};
+ghost use Rattle.std.specs.Prelude.{◌≡◌, ◌++◌, OnOk, option_map};
 ghost use Rattle.bshow.specs.Rows.{table_code};
-ghost use Rattle.bshow.specs.Shows.{again_text, head, tail};
+ghost use Rattle.bshow.specs.Shows.{again_text, finding_fact, head, last_facts, tail};
 
+use crate::escapes::push_escaped;
 use crate::page::{HEAD, TAIL};
 use bendless::Repeat;
 use btools::{Tables, Text};
@@ -22,16 +23,30 @@ pub fn push_tail(page: &mut Text) -> Result<(), AllocError>
     page.push(TAIL)
 }
 
-/// Ends the facts of a run, with a state that comes again, and the page.
+/// Ends the facts of a run, with its finding and a state that comes again, and the page.
 pub fn push_end(
     page: &mut Text,
     tables: &Tables<'_>,
+    finding: Option<&[u8]>,
     again: Option<Repeat>,
 ) -> Result<(), AllocError>
-    ensures { OnOk result (page.new ≡ page.old ++ again_text (table_code tables.now) again ++ tail) }
+    ensures { OnOk result (page.new ≡ page.old
+        ++ last_facts (table_code tables.now) (option_map (λ t. t.now) finding.entry) again ++ tail) }
 {
+    push_finding(page, finding)?;
     push_again(page, tables, again)?;
     push_tail(page)
+}
+
+fn push_finding(page: &mut Text, finding: Option<&[u8]>) -> Result<(), AllocError>
+    ensures { OnOk result (page.new ≡ page.old ++ finding_fact (option_map (λ t. t.now) finding.entry)) }
+{
+    let Some(text) = finding else {
+        return Ok(());
+    };
+    page.push(b",\"finding\":\"")?;
+    push_escaped(page, text)?;
+    page.push(b"\"")
 }
 
 fn push_again(page: &mut Text, tables: &Tables<'_>, again: Option<Repeat>) -> Result<(), AllocError>

@@ -1,10 +1,10 @@
 //! Who looks on at a run and keeps its page.
-ghost use Rattle.std.specs.Prelude.{◌≡◌, ◌+◌, ◌-◌, ◌%◌, ◌<◌, ◌^◌, ◌++◌, ◌∷◌, [], IfOk, OnOk, drop, reverse, slice_index, if◌then◌else◌};
+ghost use Rattle.std.specs.Prelude.{◌≡◌, ◌+◌, ◌-◌, ◌%◌, ◌<◌, ◌^◌, ◌++◌, ◌∷◌, [], IfOk, OnOk, drop, option_map, reverse, slice_index, if◌then◌else◌};
 ghost use Rattle.std.specs.List.{flat_map, range_with_len};
 ghost use Rattle.bwatch.specs.Trails.{trail_text};
 ghost use Rattle.bshow.specs.Facts.{sentence};
 ghost use Rattle.bshow.specs.Rows.{table_code};
-ghost use Rattle.bshow.specs.Shows.{again_text, head, said_text, tail};
+ghost use Rattle.bshow.specs.Shows.{head, last_facts, said_text, tail};
 ghost use Rattle.bshow.specs.Steps.{Awaits, EndsRows, FollowsCalls, HasSeen, HasTold, KeepsLast, may_show, next_row};
 
 use crate::ending::push_sentence;
@@ -81,11 +81,17 @@ impl<'a, 'b> Recorder<'a, 'b> {
 }
 
 impl Recorder<'_, '_> {
-    /// Ends the facts of a run, with a state that comes again, and the page.
-    pub fn push_end(&mut self, tables: &Tables<'_>, again: Option<Repeat>) -> Result<(), AllocError>
-        ensures { OnOk result (self.new.trail.text ≡ self.old.trail.text ++ again_text (table_code tables.now) again ++ tail) }
+    /// Ends the facts of a run, with its finding and a state that comes again, and the page.
+    pub fn push_end(
+        &mut self,
+        tables: &Tables<'_>,
+        finding: Option<&[u8]>,
+        again: Option<Repeat>,
+    ) -> Result<(), AllocError>
+        ensures { OnOk result (self.new.trail.text ≡ self.old.trail.text
+            ++ last_facts (table_code tables.now) (option_map (λ t. t.now) finding.entry) again ++ tail) }
     {
-        push_end(&mut self.trail.text, tables, again)
+        push_end(&mut self.trail.text, tables, finding, again)
     }
 }
 

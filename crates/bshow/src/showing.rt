@@ -32,6 +32,8 @@ pub struct PageRequest<'a> {
     pub files: SourceFiles<'a>,
     /// The input, where it is known before the run; else empty.
     pub given: &'a [u8],
+    /// What a careful run has found in the step after these, if it has.
+    pub finding: Option<&'a [u8]>,
 }
 
 /// What is told of a run without a step.
@@ -41,9 +43,9 @@ const NO_RUN: &[u8] =
 /// Compiles a source, runs its program for at most so many steps, and writes a page that shows the run.
 ///
 /// The status is 0 where the page was written, whatever came of the run, which the page tells. At the limit it tells
-/// whether a state comes again, so that the run never ends. For a source that has no
-/// program the line and the status are those of `go_edition`. If a read failed, there is no page, and the status is 133.
-/// If memory was refused, there is no page, either.
+/// whether a state comes again, so that the run never ends. For a source that has no program the line and the status are
+/// those of `go_edition`. If a read failed, there is no page, and the status is 133. If memory was refused, there is no
+/// page, either.
 pub fn show<I: ByteIn, O: ByteOut, D: ByteOut>(
     alloc: Global,
     source: &[u8],
@@ -93,7 +95,7 @@ pub fn show<I: ByteIn, O: ByteOut, D: ByteOut>(
         _ => {}
     }
     let again = repeat_of(alloc, &program.image, &record, stop.outcome);
-    let Ok(()) = recorder.push_end(&tables, again) else {
+    let Ok(()) = recorder.push_end(&tables, wanted.finding, again) else {
         return status::MEMORY;
     };
     tell(recorder.trail.text.as_slice(), status::DONE, out)

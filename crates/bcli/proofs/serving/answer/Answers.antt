@@ -50,7 +50,7 @@ returns-in-Trace-clause-answers g c =
 
 pub returns-in-Locate-clause-answers : goal.returns-in-Locate-clause-answers
 returns-in-Locate-clause-answers g c =
-    answered _ _ _ _ c.args.question (questions.Locate c.in-Locate.steps) _ _ c.in-Locate.is c.locate.ensures.locates
+    answered _ _ _ _ c.args.question (questions.Locate c.in-Locate.steps) _ _ c.in-Locate.is c.locate_and_explain.ensures.locates
 
 pub returns-in-GoCareful-clause-answers : goal.returns-in-GoCareful-clause-answers
 returns-in-GoCareful-clause-answers g c =

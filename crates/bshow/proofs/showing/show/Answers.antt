@@ -1,4 +1,5 @@
 use Rattle.std.proofs.Common.{◌≡◌, ◌∙◌, ◌++◌, ℕ, List, ap, refl, subst, ⊎_elim}
+use Rattle.std.specs.Prelude.{option_map}
 use Rattle.blang.specs.declared.status.TheConstants.{DONE}
 use Rattle.blang.specs.Machine.{image_of, machine, run}
 use Rattle.blang.specs.Reports.{Reported}
@@ -11,7 +12,7 @@ use Rattle.bshow.specs.Rows.{lined_code, table_code}
 use Rattle.bendless.proofs.Recordings.{comes_back}
 use Rattle.bendless.proofs.Searching.{store_fits}
 use Rattle.bwatch.proofs.Seen.{read_watched}
-use Rattle.bshow.specs.Shows.{again_text, no_memory, not_begun, shown, stopped, tail, unread}
+use Rattle.bshow.specs.Shows.{last_facts, no_memory, not_begun, shown, stopped, tail, unread}
 use Rattle.bshow.proofs.Recorded.{none_seen, paged}
 use Rattle.bshow.proofs.showing.show.Goals as goal
 
@@ -84,12 +85,13 @@ returns-clause-shows g c =
     let code = lined_code ds program.names.lines.items in
     let first = c.in-Ok-new-2.recorder in
     let again = c.repeat_of-again in
+    let found = option_map (λ text. text.now) c.args.wanted.finding in
     let same : table_code c.in-Ok-new.tables ≡ code = λ i. record { functions = c.in-Ok-new.ensures.functions i; lines = c.in-Ok-new.ensures.lines i } in
     let last = c.watch_recorded.new.onlooker in
     let told = subst (λ (t : List ℕ). Reported t DONE (g.O.ByteOut.outgoing c.args.out.now) (g.O.ByteOut.outgoing c.tell.new.out) c.tell.result) c.as_slice.ensures c.tell.ensures.told in
     let back = comes_back (run program.image) _ _ c.in-Ok-watch_recorded.ran.record again.result c.in-Ok-watch_recorded.ensures.records again.ensures.whole again.ensures.repeats in
     shown ds program.image program.names.frames.items program.names.lines.items stop.outcome stop.steps again.result page c.in-Ok.ensures.program c.in-Ok.ensures.lines c.in-Ok.ensures.names refl back
     (paged ds c.args.wanted.steps _ _ stop.outcome c.in_default-outcome.not-Device stop.steps first last code c.args.wanted.rows
-    (program_text (files_shown c.args.wanted.files) c.args.source.now c.args.wanted.given.now ds program.names.frames.items) again.result page
+    (program_text (files_shown c.args.wanted.files) c.args.source.now c.args.wanted.given.now ds program.names.frames.items) (last_facts code found again.result) page
     (ap table_code c.in-Ok-new-2.ensures.tables ∙ same) c.in-Ok-new-2.ensures.which
-    (c.in-Ok-new-2.ensures.program ∙ c.in-Ok-program_text.ensures) (c.in-Ok-push_end.ensures ∙ ap (λ x. last.trail.text ++ again_text x again.result ++ tail) same) w) told
+    (c.in-Ok-new-2.ensures.program ∙ c.in-Ok-program_text.ensures) (c.in-Ok-push_end.ensures ∙ ap (λ x. last.trail.text ++ last_facts x found again.result ++ tail) same) w) told

@@ -1,4 +1,3 @@
-use Rattle.std.proofs.Common.{refl}
 use Rattle.bshow.specs.Shows.{head}
 use Rattle.bshow.proofs.recorder.Recorder.new.Goals as goal
 

@@ -1,10 +1,8 @@
-use Rattle.std.proofs.Common.{◌≡◌, ◌+◌, ◌-◌, ◌%◌, ◌∙◌, ◌++◌, ◌∷◌, [], ℕ, List, ap, drop, length, refl, sym, if◌then◌else◌}
-use Rattle.std.specs.Prelude.{slice_index}
-use Rattle.std.specs.List.{range_with_len}
+use Rattle.std.proofs.Common.{◌≡◌, ◌+◌, ◌%◌, ◌∙◌, ◌++◌, ◌∷◌, [], ℕ, List, ap, drop, length, refl, if◌then◌else◌}
 use Rattle.std.proofs.Math.Seq.{drop-append_seam}
 use Rattle.std.proofs.lemmas.Result.{on_ok_weaker}
 use Rattle.bwatch.specs.declared.trail.Trail.{Trail}
-use Rattle.bshow.specs.Rows.{done_cells, heard_byte}
+use Rattle.bshow.specs.Rows.{done_cells}
 use Rattle.bshow.proofs.Recorded.{hidden_seen, shown_seen}
 use Rattle.bshow.proofs.recorder.RecorderOnlooker.after.Goals as goal
 

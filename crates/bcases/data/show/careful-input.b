@@ -1,0 +1,5 @@
+main() {
+    auto v 1, c;
+    c = getchar();
+    v[2] = c;
+}

@@ -1,0 +1,5 @@
+main() {
+    auto n;
+    n = 32767;
+    return(n + 1);
+}

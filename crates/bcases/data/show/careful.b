@@ -1,0 +1,5 @@
+main() {
+    auto i, n;
+    i = 'a';
+    putchar(n);
+}
