@@ -55,9 +55,12 @@ fn explain<D: ByteOut>(
     }
     let fault = match read_program(alloc, text, Origin::Source(edition)) {
         Ok(_) => return located,
-        Err(ProgramFault::Memory) => return status::MEMORY,
         Err(fault) => fault,
     };
+    match &fault {
+        ProgramFault::Memory => return status::MEMORY,
+        _ => {}
+    }
     match fault_text(alloc, &fault) {
         Ok(told) => tell(told.as_slice(), located, diag),
         Err(_) => status::MEMORY,

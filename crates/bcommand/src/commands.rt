@@ -204,7 +204,7 @@ const NAME: ArgumentRow = ArgumentRow {
     help: "The definition to list; all if not given",
 };
 
-const COMMANDS: [CommandRow; 14] = [
+const COMMANDS: [CommandRow; 15] = [
     CommandRow {
         name: "compile",
         about: "Compiles the source on standard input to code text on standard output",
