@@ -4,7 +4,7 @@ use Rattle.std.specs.Prelude.{◌-◌, ◌≤◌, drop, min, nat_le, nat_lt}
 use Rattle.bword.specs.ByteEnds.{most}
 use Rattle.std.proofs.lemmas.Bool.Decides.{nat_tests}
 use Rattle.std.specs.List.{All, AllZip, flat_map, list_all}
-use Rattle.std.proofs.lemmas.List.{get_or_default, take-append-drop, take_all, take_more}
+use Rattle.std.proofs.lemmas.List.{get_or_default, map-append, take-append-drop, take_all, take_more}
 use Rattle.std.proofs.lemmas.Slice.Zip.{AllZip-long}
 use Rattle.std.proofs.lemmas.List.Concat.{flat_map-append}
 use Rattle.std.proofs.lemmas.List.Elements.{All-append, All-cons, All-head, All-nil, All-push, All-tail, All-weaker}
@@ -25,15 +25,20 @@ use Rattle.bcheck.specs.declared.finding.TheConstants.{MOST_FINDINGS}
 use Rattle.bcheck.specs.declared.verdict.Verdict.{Verdict}
 use Rattle.bcheck.specs.declared.verdict.Verdict.TheVariants as verdict
 use Rattle.bcheck.specs.Checks.{IsFurther, IsOfSection, IsOfSections, Judged, TellsSection, status_told, told_first}
+use Rattle.bcheck.specs.Checks.{EditParts, IsMended, Mends, cut_mark, edit_object, edits_text, file_member, mended_line}
+use Rattle.bcheck.specs.Checks.{mended_lines, AreFindings, EachOutcome, FindingParts, IsReason, IsWhole, Reason, Says}
+use Rattle.bcheck.specs.Checks.{Second, fault_in, finding_at, finding_column, finding_end, finding_line, finding_unit}
+use Rattle.bcheck.specs.Checks.{finding_unit_end, finding_text, findings_text, is_on_line, outcome_of, second_text}
+use Rattle.bcheck.specs.Checks.{severity_of, severity_word, shown_text, is_of_several, spot_words, told_at}
 use Rattle.bword.specs.ByteEnds.{Kept}
 use Rattle.bcheck.specs.declared.told.Setting.{Setting}
-use Rattle.bcheck.specs.Findings.{AddsAfter, AddsFurther, IsAfter, IsOnSection, IsReasoned, IsStopOf, TellsAfter, TellsFinding, matter_code}
-use Rattle.bcheck.specs.Checks.{EditParts, IsMended, Mends, cut_mark, edit_object, edits_text, file_member, mended_line, mended_lines}
-use Rattle.bcheck.specs.Checks.{AreFindings, EachOutcome, FindingParts, IsReason, IsWhole, Reason, Says, Second, fault_in, finding_at, finding_column, finding_end, finding_line, finding_unit, finding_unit_end, finding_text, findings_text, is_on_line, outcome_of, second_text, severity_of, severity_word, shown_text, is_of_several, spot_words}
+use Rattle.bcheck.specs.Findings.{AddsAfter, AddsFurther, IsAfter, IsOnSection, IsReasoned, IsStopOf, TellsAfter}
+use Rattle.bcheck.specs.Findings.{TellsFinding, matter_code, AddsFinding, AreWhole, Improves, IsExcerpt, IsOn, IsSecond}
+use Rattle.bcheck.specs.Findings.{IsTried, MendsIn, TellsOf, AreWarned, found_at, ReasonAt}
 use Rattle.bplaces.specs.Columns.{column_after}
 use Rattle.btools.specs.Quoting.{file_text, json_text}
 use Rattle.bplaces.specs.Units.{unit_column}
-use Rattle.bcheck.specs.Findings.{AddsFinding, AreWhole, Improves, IsExcerpt, IsOn, IsSecond, IsTried, MendsIn, TellsOf}
+use Rattle.bcheck.specs.RuleWarnings.{TellsWarnings}
 use Rattle.bcheck.specs.UndefinedNames.{IsAtName, Tells, name_in, told_subjects}
 use Rattle.bcheck.specs.declared.mention.Subject.{Subject}
 use Rattle.bcheck.specs.declared.finding.Finding.{Finding}
@@ -251,6 +256,7 @@ IsSame {source} f p = (p.code ≡ matter_code f.matter) × (p.before ++ p.left �
 abbrev pub FindingsSoFar : FindingForm → Edition → (status : ℕ) → Files → (source : List ℕ) → (found : List Finding) → (count : ℕ) → (text : List ℕ) → Type 0
 FindingsSoFar form edition status files source found count text =
     (findings : List (FindingParts source)) × AllZip SaysIts (take count found) findings × All (Reasoned edition source) findings × (text ≡ findings_text form status files findings) × All (MendedIn edition) findings
+    × (map (found_at source) (take count found) ≡ map told_at findings)
 
 -- one pair more
 pub zip_more : {A B : Type 0} (R : A → B → Type 0) (xs : List A) (ys : List B) (x : A) (y : B) → AllZip R xs ys → R x y → AllZip R (xs ++ x ∷ []) (ys ++ y ∷ [])
@@ -288,6 +294,11 @@ module _ (form : FindingForm) (edition : Edition) (status : ℕ) (s : Severity) 
         All-push (Reasoned edition source) a.0 b.0 a.2 reasoned,
         b.4 ∙ ap (λ t. t ++ text b.0) a.3 ∙ sym (flat_map-append text a.0 (b.0 ∷ []) ∙ ap (λ t. flat_map text a.0 ++ t) (append-nil (text b.0))),
         All-push (MendedIn edition) a.0 b.0 a.4 b.6,
+        ap (map (found_at source)) items ∙ map-append (found_at source) (take count found) (it ∷ [])
+            ∙ ap (λ l. l ++ found_at source it ∷ []) a.5
+            ∙ ap (λ x. map told_at a.0 ++ (x, matter_code it.matter) ∷ []) (sym b.2)
+            ∙ ap (λ k. map told_at a.0 ++ (b.0.before ++ b.0.left, k) ∷ []) (sym b.1)
+            ∙ sym (map-append told_at a.0 (b.0 ∷ [])),
       )
 
 -- what is told of sections so far
@@ -386,13 +397,14 @@ further_at edition source (verdict.Faulty line d) r g further j stop after = sub
 further_at edition source (verdict.Unloaded f) r g further j stop after = subst (λ o. IsFurther edition o further) (sym (no_diagnostic r.stop (load_fault (map code_of g.definitions)) _ 132 (j r g) (λ e. cc))) after
 
 -- all of them
-pub all_findings : (form : FindingForm) (edition : Edition) (v : Verdict) (files : Files) (source said whole_text : List ℕ) (found : List Finding) (count : ℕ) → Judged edition source v → IsStopOf edition source v → AreWhole edition source found → count ≡ length found
+pub all_findings : (form : FindingForm) (edition : Edition) (v : Verdict) (files : Files) (source said whole_text : List ℕ) (found : List Finding) (count : ℕ) → Judged edition source v → IsStopOf edition source v → AreWhole edition source found → AreWarned edition files source (status_told v) found → count ≡ length found
     → FindingsSoFar form edition (status_told v) files source found count said
     → (further : List (FindingParts source)) → IsAfter edition v further → whole_text ≡ said ++ flat_map (finding_text form (severity_of (status_told v)) files) further → All (MendedIn edition) further
     → EachOutcome edition source (λ o. AreFindings form o (status_told v) files whole_text)
-all_findings form edition v files source said whole_text found count j stop whole is a further after also mended =
+all_findings form edition v files source said whole_text found count j stop whole warned is a further after also mended =
     let says : AllZip SaysIts found a.0 = subst (λ fs. AllZip SaysIts fs a.0) (take_all count found (omega (arith, is))) a.1 in
     let text = finding_text form (severity_of (status_told v)) files in
+    let same : map (found_at source) found ≡ map told_at a.0 = ap (map (found_at source)) (sym (take_all count found (omega (arith, is)))) ∙ a.5 in
     λ r g. (
       a.0,
       whole_said r.stop (load_fault (map code_of g.definitions)) (map code_of g.definitions) found a.0 says (whole r g),
@@ -401,4 +413,5 @@ all_findings form edition v files source said whole_text found count j stop whol
       further_at edition source v r g further j stop after,
       also ∙ ap (λ t. t ++ flat_map text further) a.3 ∙ sym (flat_map-append text a.0 further),
       mended_at edition source r g (a.0 ++ further) (All-append (MendedIn edition) a.0 further a.4 mended),
+      λ done. subst (TellsWarnings edition files source) same (warned done),
     )

@@ -1,13 +1,17 @@
 -- What the contract of a check excludes.
-use Rattle.std.proofs.Common.{◌≡◌, ◌≢◌, ◌∙◌, ◌<◌, ◌≤◌, ◌+◌, ◌*◌, ℕ, suc, List, [], ◌∷◌, ◌++◌, ◌-◌, false, IsTrue, Option, Some, None, ap, append-nil, append_assoc, arith, codes, decimal, drop, length, map, refl, subst, sym, take, inl, inr, ⊎_elim, true}
+use Rattle.std.proofs.Common.{◌≡◌, ◌≢◌, ◌∙◌, ◌<◌, ◌≤◌, ◌+◌, ◌*◌, ℕ, suc, List, [], ◌∷◌, ◌++◌, ◌-◌, false, IsTrue}
+use Rattle.std.proofs.Common.{Option, Some, None, ap, append-nil, append_assoc, arith, codes, decimal, drop, length}
+use Rattle.std.proofs.Common.{map, refl, subst, sym, take, inl, inr, ⊎_elim, true, ◌⊎◌}
 use Rattle.std.specs.Io.{StartsWith}
-use Rattle.std.specs.List.{All, AllZip, flat_map}
+use Rattle.std.specs.List.{All, AllZip, flat_map, Any}
 use Rattle.std.proofs.Math.Seq.{take-append_seam}
 use Rattle.std.proofs.lemmas.Bool.{both_ways}
 use Rattle.std.proofs.lemmas.List.{append_cancel_left, append_cancel_right, length-append}
 use Rattle.std.proofs.lemmas.Slice.Eq.{bytes_eq-Decides}
 use Rattle.std.specs.Prelude.{not}
 use Rattle.bword.specs.Words.{same_name}
+use Rattle.std.specs.Io.KnownBytes.{Appends}
+use Rattle.std.proofs.Math.Nat.{suc-mul}
 use Rattle.bword.specs.ByteEnds.{Grew, Outgoing, Refuses}
 use Rattle.bword.specs.declared.edition.Edition.{Edition}
 use Rattle.bword.specs.declared.edition.Edition.TheVariants as editions
@@ -15,9 +19,10 @@ use Rattle.bword.specs.declared.ends.EndFault.{EndFault}
 use Rattle.bword.specs.declared.ends.EndFault.TheVariants as end_fault
 use Rattle.std.proofs.lemmas.List.Elements.{All-head, All-weaker}
 use Rattle.std.proofs.lemmas.Slice.Zip.{AllZip-long}
-use Rattle.blang.specs.Code.{code_of}
+use Rattle.blang.specs.Code.{code_of, fault_of}
+use Rattle.blang.specs.Scan.{identifier_of}
 use Rattle.blang.specs.declared.code.Definition.{Definition}
-use Rattle.blang.specs.Compiles.{CompilesTo, fault_text, letters_text, line_of, status_of}
+use Rattle.blang.specs.Compiles.{Compilation, CompilesTo, Defined, compilation_of, compilation_with, compiled_text, fault_text, letters_text, line_of, status_of}
 use Rattle.blang.specs.Cut.{line_number_after, tokens_from}
 use Rattle.blang.specs.declared.token.Letters.{Letters}
 use Rattle.blang.specs.declared.token.Letters.TheVariants as letters
@@ -30,15 +35,26 @@ use Rattle.bgrammar.specs.SourceRows.{ComesIn}
 use Rattle.bgrammar.proofs.SourceRows.{a_break_of_one, a_break_outside}
 use Rattle.bmach.proofs.Losing.{appended}
 use Rattle.bcheck.specs.Checks as checks
-use Rattle.bsources.specs.Files.{File, Files, Line, own_line, own_line_among}
+use Rattle.bsources.specs.Files.{File, Files, Line, beyond_first, own_line, own_line_among}
+use Rattle.blang.specs.Trees.{Definition as Tree, bare}
+use Rattle.blang.specs.WellFormed.{AllFormed, StopsAt}
+use Rattle.brules.specs.declared.rules.Rule.{Rule}
+use Rattle.blint.specs.SourceTokens.{IsSource}
+use Rattle.blint.specs.declared.tokens.TokenPlace.{TokenPlace}
+use Rattle.bcheck.specs.RuleWarnings.{SpeaksIn}
+use Rattle.bcheck.specs.CheckExcluded.{least_lines}
 use Rattle.bcheck.specs.Checks.{IsAtToken, IsOver, Reason, StandsOn, code_keyword, diagnostic_code, finding_at}
 use Rattle.bplaces.specs.Columns.{column_after}
 use Rattle.btools.specs.Quoting.{file_text, json_text}
-use Rattle.bcheck.specs.Checks.{EditParts, IsFurther, IsMended, Mends, TellsSection, mended, mended_lines}
+use Rattle.bcheck.specs.Checks.{EditParts, IsFurther, IsMended, Mends, TellsSection, mended, mended_lines, AreFindings}
+use Rattle.bcheck.specs.Checks.{Check, Checks, FindingParts, Outcome, TellsFirst, finding_column, fix_and_places}
+use Rattle.bcheck.specs.Checks.{finding_head, finding_line, finding_mark, finding_shown, finding_start, finding_text}
+use Rattle.bcheck.specs.Checks.{IsWhole, Says, fault_in, outcome_of, findings_text, severity_of, shown_in_form}
+use Rattle.bcheck.specs.Checks.{told_first, told_at}
 use Rattle.bcheck.specs.Sections.{at_fault, sections}
 use Rattle.bcheck.specs.declared.finding.TheConstants.{MOST_FINDINGS}
-use Rattle.bcheck.specs.Checks.{AreFindings, Check, Checks, FindingParts, Outcome, TellsFirst, finding_column, fix_and_places, finding_head, finding_line, finding_mark, finding_shown, finding_start, finding_text, IsWhole, Says, fault_in, outcome_of, findings_text, severity_of, shown_in_form, told_first}
-use Rattle.bcheck.specs.CheckExcluded.{BeginsWith, ComesTo, Excluded, IsTold, Never, NeverOf, file_at, file_of, HasLines, IsCount, IsCountOf, outcome_in, has_no_colon, is_printed, newlines}
+use Rattle.bcheck.specs.CheckExcluded.{BeginsWith, ComesTo, Excluded, IsTold, Never, NeverOf, file_at, file_of}
+use Rattle.bcheck.specs.CheckExcluded.{HasLines, IsCount, IsCountOf, outcome_in, has_no_colon, is_printed, newlines}
 use Rattle.bcheck.specs.Tokens.{has_token_on, is_in_token}
 use Rattle.bcheck.specs.UndefinedNames.{Tells, told_subjects}
 use Rattle.bcheck.specs.declared.mention.Subject.{Subject}
@@ -435,6 +451,46 @@ odd_lines c line status text to t wrong h =
     let w = told_in c line status text to t h in
     wrong (length (all_of w)) (has_lines c (comes_to c line status to) line status text w)
 
+with_none : (f : Option Diagnostic) (text : List ℕ) (later : Compilation) → (compilation_with f text later).stop ≡ None → later.stop ≡ None
+with_none None text later e = e
+with_none (Some f) text later e = let g : Some f ≡ None = e in cc
+
+stop_none : (names : Defined) (ds : List Tree) (stop : Option Diagnostic) → (compilation_of names ds stop).stop ≡ None → stop ≡ None
+stop_none names [] stop e = e
+stop_none names (d ∷ ds) stop e =
+    let after = names ++ (identifier_of d).text ∷ [] in stop_none after ds stop (with_none (fault_of names d) (compiled_text d) (compilation_of after ds stop) e)
+
+clean_stop : (stop : Option Diagnostic) (f : Option LoadFault) (line : List ℕ) → told_first stop f ≡ (line, DONE) → stop ≡ None
+clean_stop None f line e = refl
+clean_stop (Some d) f line e = absurd (let g : 1 ≡ 0 = ap (λ (p : List ℕ × ℕ). p.1) e in cc)
+
+is_definitions : (c : Check) (line : List ℕ) → ComesTo c line DONE → (ds : List Tree) × AllFormed ds × IsSource c.edition c.source ds
+is_definitions c line to =
+    let g = to.goes in
+    let clean = clean_stop to.outcome.stop (load_fault (map code_of g.definitions)) line to.told in
+    let none : g.stop ≡ None = stop_none [] g.definitions g.stop (sym (ap (λ (r : Compilation). r.stop) g.outcome_is) ∙ clean) in
+    let p = g.parted in
+    let stops = subst (StopsAt (map bare p.before) p.at) none p.stops in (
+      stops.1.definitions,
+      stops.1.formed,
+      record { before = p.before; end = p.at; none = p.following; split = p.split; ends = stops.0; spelled = stops.1.spelled },
+    )
+
+one_told : {P : List ℕ × List ℕ → Type 0} {source : List ℕ} (f : FindingForm) (first text all : ℕ) (ps : List (FindingParts source)) → Any P (map told_at ps) ⊎ (100 ≤ length (map told_at ps))
+    → length ps ≤ all → first + all * least_lines f ≤ text → text < least_lines f → ⊥
+one_told f first text all [] (inl a) long h few = absurd (omega (arith, a.2))
+one_told f first text all [] (inr g) long h few = absurd (omega (arith, g))
+one_told f first text 0 (p ∷ ps) told long h few = absurd (omega (arith, long))
+one_told f first text (suc n) (p ∷ ps) told long h few = absurd (omega (arith, h, few, suc-mul n (least_lines f)))
+
+no_warning : (c : Check) (line text : List ℕ) → ComesTo c line DONE → IsTold c text → (ds : List Tree) → AllFormed ds → IsSource c.edition c.source ds → (at : TokenPlace) (r : Rule) → SpeaksIn c.edition c.source ds at r
+    → beyond_first c.files at.line ≡ None → newlines text < least_lines c.form → Checks c → ⊥
+no_warning c line text to t ds formed is at r s f few h =
+    let w = told_in c line DONE text to t h in
+    let warned = w.are.7 refl ds formed is in
+    let lines = has_lines c (comes_to c line DONE to) line DONE text w in
+    one_told c.form (newlines (shown_in_form c.form line)) (newlines text) (length (all_of w)) w.are.0 (warned.all at r s f) (omega (arith, length-append w.are.0 w.are.3)) lines.least few
+
 other_bytes : Never (λ c line status text. IsTrue (is_printed (shown_in_form c.form line)) × ((n : ℕ) → IsTrue (is_printed (finding_start c.form (file_at c n)))) × (is_printed text ≡ false))
 other_bytes c line status text to t wrong h =
     let w = told_in c line status text to t h in
@@ -525,6 +581,8 @@ excluded = record {
   odd_lines = odd_lines;
   no_mend = no_mend;
   no_change = no_change;
+  is_definitions = is_definitions;
+  no_warning = no_warning;
   other_bytes = other_bytes;
   no_failure = λ c line status to is none h. device c.form (comes_to c line status to) c.files (shown_in_form c.form line) status c.status c.out c.out_after (comes_small c line status to) is none (tells c line status to h);
   no_refusal = λ c line status to is none some h. memory c.form (comes_to c line status to) c.files (shown_in_form c.form line) status c.status c.out c.out_after (comes_small c line status to) is none some (tells c line status to h);

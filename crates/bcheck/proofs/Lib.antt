@@ -2,6 +2,7 @@ pub mod AddedFindings
 pub mod ChangeSteps
 pub mod CheckSteps
 pub mod CheckExcluded
+pub mod CodesTold
 pub mod EditSteps
 pub mod FilledWords
 pub mod FindingTexts

@@ -14,8 +14,15 @@ use Rattle.blang.specs.declared.run.LoadFault.{LoadFault}
 use Rattle.blang.specs.declared.run.LoadFault.TheVariants as fault
 use Rattle.blang.specs.Layout.{load_fault}
 use Rattle.blang.specs.declared.status.TheConstants.{DONE, DEVICE, MEMORY}
-use Rattle.bsources.specs.Files.{own_line}
-use Rattle.bcheck.specs.Checks.{Check, Checks, EditParts, FindingParts, IsOver, Mends, Outcome, finding_head, mended, outcome_of}
+use Rattle.bsources.specs.Files.{own_line, beyond_first}
+use Rattle.bcheck.specs.Checks.{Check, Checks, EditParts, FindingParts, IsOver, Mends, Outcome, finding_head, mended}
+use Rattle.bcheck.specs.Checks.{outcome_of}
+use Rattle.blang.specs.Trees.{Definition as Tree}
+use Rattle.blang.specs.WellFormed.{AllFormed}
+use Rattle.brules.specs.declared.rules.Rule.{Rule}
+use Rattle.blint.specs.SourceTokens.{IsSource}
+use Rattle.blint.specs.declared.tokens.TokenPlace.{TokenPlace}
+use Rattle.bcheck.specs.RuleWarnings.{SpeaksIn}
 use Rattle.bplaces.specs.Columns.{column_after}
 use Rattle.bcheck.specs.Tokens.{has_token_on, is_in_token}
 use Rattle.bcheck.specs.UndefinedNames.{Tells, told_subjects}
@@ -131,7 +138,8 @@ pub record Excluded : Type 0 where
   -- of a fault, for people, a finding of another file than the one of each line up to its own, or on another line of
   -- it, where colons are in no name
   pub other_file : (c : Check) (line : List ℕ) (status : ℕ) (text : List ℕ) (to : ComesTo c line status)
-      → (d : Diagnostic) → to.outcome.stop ≡ Some d → IsTold c text → c.form ≡ form.Text → (file : List ℕ) (row column : ℕ) (rest : List ℕ)
+      → (d : Diagnostic) → to.outcome.stop ≡ Some d → IsTold c text → c.form ≡ form.Text
+      → (file : List ℕ) (row column : ℕ) (rest : List ℕ)
       → BeginsWith c line text file row column rest → IsTrue (has_no_colon (file_text file))
       → ((n : ℕ) → IsTrue (has_no_colon (file_text (file_at c n))))
       → ((n : ℕ) → n ≤ d.line → file_text file ≡ file_text (file_at c n)
@@ -179,6 +187,13 @@ pub record Excluded : Type 0 where
       IsTrue (is_printed (shown_in_form c.form line))
       × ((n : ℕ) → IsTrue (is_printed (finding_start c.form (file_at c n))))
       × (is_printed text ≡ false))
+  -- each source that compiles and loads is definitions
+  pub is_definitions : (c : Check) (line : List ℕ) → ComesTo c line DONE
+      → (ds : List Tree) × AllFormed ds × IsSource c.edition c.source ds
+  -- of a source that is definitions, compiles and loads no finding, where a rule speaks of a token of its first file
+  pub no_warning : (c : Check) (line text : List ℕ) → ComesTo c line DONE → IsTold c text → (ds : List Tree)
+      → AllFormed ds → IsSource c.edition c.source ds → (at : TokenPlace) (r : Rule)
+      → SpeaksIn c.edition c.source ds at r → beyond_first c.files at.line ≡ None → newlines text < least_lines c.form → Checks c → ⊥
   -- 133 where no write failed; 134 after something written where no write was refused memory; another status above
   pub no_failure : (c : Check) (line : List ℕ) (status : ℕ) → ComesTo c line status → c.status ≡ DEVICE
       → (Grew c.out.failures c.out_after.failures → ⊥) → Checks c → ⊥

@@ -1,5 +1,6 @@
 -- Closed facts: what is told of a source, each at its limits and one past them.
-use Rattle.std.specs.Prelude.{◌≡◌, ◌<◌, ◌⊎◌, ℕ, List, [], ◌∷◌, ◌++◌, codes, length, map, Option, None, Some, refl, true, false}
+use Rattle.std.specs.Prelude.{◌≡◌, ◌<◌, ◌⊎◌, ℕ, List, [], ◌∷◌, ◌++◌, codes, length, map, Option, None, Some, refl, true}
+use Rattle.std.specs.Prelude.{false}
 use Rattle.std.specs.Fmt.{digits}
 use Rattle.bword.specs.declared.edition.Edition.TheVariants as editions
 use Rattle.blang.specs.declared.token.Diagnostic.{Diagnostic}
@@ -12,13 +13,14 @@ use Rattle.std.specs.List.{AllZip}
 use Rattle.blang.specs.declared.code.Definition.{Definition}
 use Rattle.bcheck.specs.UndefinedNames.{told_subjects}
 use Rattle.bcheck.specs.declared.mention.Subject.{Subject}
-use Rattle.bcheck.specs.Checks.{FindingParts, IsWhole, Reason, finding_text, findings_text, is_in_line, is_on_line, second_text}
+use Rattle.bcheck.specs.Checks.{FindingParts, IsWhole, Reason, finding_text, findings_text, is_in_line, is_on_line}
+use Rattle.bcheck.specs.Checks.{second_text}
 use Rattle.bcheck.specs.Checks.{diagnostic_code, severity_of, severity_word, shown_byte}
 use Rattle.bcheck.specs.Checks.{shown_in_form, told_first}
-use Rattle.bcheck.specs.Checks.{change_line, cut_mark, goes_on}
-use Rattle.bcheck.specs.Checks.{EditParts, IsBetter, IsLater, Outcome, edit_object, edits_text, fault_in, mended, mended_line}
+use Rattle.bcheck.specs.Checks.{change_line, cut_mark, goes_on, EditParts, IsBetter, IsLater, Outcome, edit_object}
+use Rattle.bcheck.specs.Checks.{edits_text, fault_in, mended, mended_line}
 use Rattle.bcheck.specs.CheckExcluded.{has_no_colon, is_printed, least_lines, most_lines, newlines}
-use Rattle.bcheck.specs.Findings.{warning_code}
+use Rattle.bcheck.specs.RuleWarnings.{warning_code}
 use Rattle.bcheck.specs.Tokens.{has_token_on, is_in_token, pieces_from}
 use Rattle.blang.specs.Cut.{fixed_of, greatest, keyword_of, line_number_after, longest, number_in, operator_of}
 use Rattle.blang.specs.Cut.{escape_of, other_of, whole, with_quoted_byte, word_token}
@@ -288,14 +290,17 @@ mended_sources : map mended (closed ∷ shortened ∷ [])
 mended_sources = refl
 
 edit_objects : map (edit_object (alone (codes "x.b"))) (closed ∷ shortened ∷ [])
-    ≡ codes "{\"line\":1,\"column\":8,\"end\":8,\"utf16_column\":7,\"utf16_end\":7,\"offset\":7,\"length\":0,\"text\":\";\"}"
-    ∷ codes "{\"line\":2,\"column\":2,\"end\":4,\"utf16_column\":2,\"utf16_end\":4,\"offset\":9,\"length\":2,\"text\":\"[\\\"]\"}"
+    ≡ (codes "{\"line\":1,\"column\":8,\"end\":8,\"utf16_column\":7,\"utf16_end\":7,"
+    ++ codes "\"offset\":7,\"length\":0,\"text\":\";\"}")
+    ∷ (codes "{\"line\":2,\"column\":2,\"end\":4,\"utf16_column\":2,\"utf16_end\":4,"
+    ++ codes "\"offset\":9,\"length\":2,\"text\":\"[\\\"]\"}")
     ∷ []
 unfolding digits
 edit_objects = refl
 
 edit_of_several : edit_object (followed 1) shortened
-    ≡ codes "{\"file\":\"l\\u000a.b\",\"line\":1,\"column\":2,\"end\":4,\"utf16_column\":2,\"utf16_end\":4,\"offset\":9,"
+    ≡ codes "{\"file\":\"l\\u000a.b\",\"line\":1,\"column\":2,\"end\":4,\"utf16_column\":2,"
+    ++ codes "\"utf16_end\":4,\"offset\":9,"
     ++ codes "\"length\":2,\"text\":\"[\\\"]\"}"
 unfolding digits
 edit_of_several = refl
@@ -345,7 +350,8 @@ open_quote = record {
 }
 
 edits_for_people : finding_text form.Text severity.Error (alone (codes "x.b")) open_quote
-    ≡ codes "x.b:1:8: error: s\n     x \"??\"\n           ^\n  line 1 mended: x \"??\";\n  line 2 mended: y[\"];\n  fix: f\n"
+    ≡ codes "x.b:1:8: error: s\n     x \"??\"\n           ^\n  line 1 mended: x \"??\";\n"
+    ++ codes "  line 2 mended: y[\"];\n  fix: f\n"
 unfolding digits
 edits_for_people = refl
 
@@ -371,7 +377,8 @@ mends_are_better new old h = h
 newline_counts : map newlines ([] ∷ codes "a" ∷ codes "a\n" ∷ codes "\na\n" ∷ []) ≡ (0 ∷ 0 ∷ 1 ∷ 2 ∷ [])
 newline_counts = refl
 
-line_counts : map least_lines (form.Text ∷ form.Json ∷ []) ++ map most_lines (form.Text ∷ form.Json ∷ []) ≡ 4 ∷ 1 ∷ 7 ∷ 1 ∷ []
+line_counts : map least_lines (form.Text ∷ form.Json ∷ []) ++ map most_lines (form.Text ∷ form.Json ∷ [])
+    ≡ 4 ∷ 1 ∷ 7 ∷ 1 ∷ []
 line_counts = refl
 
 printed : map (λ b. is_printed (b ∷ [])) (9 ∷ 10 ∷ 11 ∷ 31 ∷ 32 ∷ 126 ∷ 127 ∷ 128 ∷ [])

@@ -30,6 +30,7 @@ use Rattle.bcheck.specs.Sections.{Section, StopsEach, at_fault, sections}
 use Rattle.bcheck.specs.Tokens.{has_token_on, is_in_token}
 use Rattle.bplaces.specs.Columns.{column_after}
 use Rattle.bplaces.specs.Units.{unit_column}
+use Rattle.bcheck.specs.RuleWarnings.{TellsWarnings}
 use Rattle.bcheck.specs.UndefinedNames.{IsAtName, Tells, name_in, told_subjects}
 use Rattle.bcheck.specs.declared.mention.Subject.{Subject}
 use Rattle.bcheck.specs.declared.finding.Severity.{Severity}
@@ -412,12 +413,18 @@ abbrev pub IsFurther : {source : List ℕ} → Edition → Option Diagnostic →
 IsFurther edition None further = further ≡ []
 IsFurther {source} edition (Some d) further = IsOfSections (TellsSection edition) edition d.line source further
 
--- The text of such findings of a source with this status, and of those that are told after a diagnostic.
+-- the bytes before a finding, and its code
+abbrev pub told_at : {source : List ℕ} → FindingParts source → List ℕ × List ℕ
+told_at p = (p.before ++ p.left, p.code)
+
+-- The text of such findings of a source with this status, and of those that are told after a diagnostic. Where nothing
+-- is wrong they tell what the rules say.
 abbrev pub AreFindings : FindingForm → Outcome → (status : ℕ) → Files → (text : List ℕ) → Type 0
 AreFindings form o status files text =
     (findings : List (FindingParts o.source)) × TellsAll Says o findings × All (IsReason o) findings
     × (further : List (FindingParts o.source)) × IsFurther o.edition o.stop further
     × (text ≡ findings_text form status files (findings ++ further)) × All (IsMended o) (findings ++ further)
+    × (status ≡ DONE → TellsWarnings o.edition files o.source (map told_at findings))
 
 -- A text and then findings were told with this status; or memory was refused, and nothing was written.
 pub data TellsFirst (form : FindingForm) (o : Outcome) (files : Files) (first : List ℕ) (status : ℕ)

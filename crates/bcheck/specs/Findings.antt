@@ -1,10 +1,12 @@
 -- Promise: what is known of a finding before it is told.
 use Rattle.std.specs.Prelude.{◌≡◌, ℕ, ◌+◌, ◌<◌, ◌⊎◌, ◌&&◌, Bool, IsTrue, true, false, List, [], ◌∷◌, ◌++◌, codes, drop}
+use Rattle.std.specs.Prelude.{map}
 use Rattle.std.specs.Prelude.{Option, Some, None, IfSome, Result, Ok, Err, MatchResult, ◌≤◌, ◌-◌, length, min, nat_lt}
 use Rattle.std.specs.Prelude.{take}
 use Rattle.bword.specs.declared.edition.Edition.{Edition}
 use Rattle.bword.specs.ByteEnds.{most}
 use Rattle.blang.specs.Cut.{line_number_after}
+use Rattle.blang.specs.declared.status.TheConstants.{DONE}
 use Rattle.blang.specs.declared.token.Diagnostic.{Diagnostic}
 use Rattle.bsources.specs.Files.{Files, line_shown, own_line}
 use Rattle.bcheck.specs.Checks.{EachOutcome, EditParts, FindingParts, IsAtToken, IsBetter, Mends, Outcome, Reason}
@@ -26,8 +28,7 @@ use Rattle.bcheck.specs.Tokens.{has_token_on, is_on, pieces_of}
 use Rattle.bplaces.specs.Units.{first_unit, unit_column, units_after}
 use Rattle.bcheck.specs.declared.advice.Matter.{Matter}
 use Rattle.bcheck.specs.declared.advice.Matter.TheVariants as matter
-use Rattle.blint.specs.declared.warnings.Warning.{Warning}
-use Rattle.blint.specs.declared.warnings.Warning.TheVariants as warning
+use Rattle.bcheck.specs.RuleWarnings.{TellsWarnings, warning_code}
 use Rattle.btools.specs.Programs.{HasFault, IsCodeOf}
 use Rattle.bcheck.specs.declared.compiled.Compiled.{Compiled}
 use Rattle.bcheck.specs.declared.edit.Edit.{Edit}
@@ -47,67 +48,6 @@ use Rattle.bsources.specs.Files.{files_shown}
 use Rattle.std.specs.List.{flat_map}
 use Rattle.bcheck.specs.declared.verdict.Verdict.{Verdict}
 use Rattle.bcheck.specs.declared.verdict.Verdict.TheVariants as verdict
-
--- by which code each warning is known
-abbrev pub warning_code : Warning → List ℕ
-warning_code warning.CommentGoesOn = codes "*/"
-warning_code warning.AndAnd = codes "and"
-warning_code warning.Power = codes "and"
-warning_code warning.OperatorAssigns = codes "op"
-warning_code warning.ConditionAssigns = codes "if"
-warning_code warning.AssignsComparison = codes "if"
-warning_code warning.AssignsCompared = codes "if"
-warning_code warning.EmptyIf = codes "em"
-warning_code warning.EmptyLoop = codes "em"
-warning_code warning.PastVector = codes "ix"
-warning_code warning.VectorForWord = codes "ix"
-warning_code warning.WordForVector = codes "ix"
-warning_code warning.VectorAddress = codes "ix"
-warning_code warning.ReturnsVector = codes "ix"
-warning_code warning.ReturnsAddress = codes "ix"
-warning_code warning.NegativeNumber = codes "sg"
-warning_code warning.StringEnd = codes "en"
-warning_code warning.InputEnd = codes "en"
-warning_code warning.InputZero = codes "en"
-warning_code warning.StringForNumber = codes "st"
-warning_code warning.StringForCharacter = codes "st"
-warning_code warning.StringPut = codes "st"
-warning_code warning.StringCompared = codes "st"
-warning_code warning.NameAlone = codes "no"
-warning_code warning.ComparesAlone = codes "no"
-warning_code warning.NoEffect = codes "no"
-warning_code warning.Backslash = codes "bs"
-warning_code warning.BitsCompared = codes "pr"
-warning_code warning.ComparesTwice = codes "pr"
-warning_code warning.NotCompared = codes "pr"
-warning_code warning.ManyArguments = codes "ar"
-warning_code warning.FewArguments = codes "ar"
-warning_code warning.LibraryArguments = codes "ar"
-warning_code warning.SwappedArguments = codes "ar"
-warning_code warning.WrongBase = codes "ar"
-warning_code warning.NoReturn = codes "rt"
-warning_code warning.NeverUsed = codes "us"
-warning_code warning.Unset = codes "in"
-warning_code warning.UnsetVector = codes "in"
-warning_code warning.HidesExternal = codes "hi"
-warning_code warning.HidesLibrary = codes "hi"
-warning_code warning.NearMain = codes "ma"
-warning_code warning.DefaultLabel = codes "ed"
-warning_code warning.WordOutside = codes "ed"
-warning_code warning.VectorCalled = codes "ix"
-warning_code warning.WordOfString = codes "st"
-warning_code warning.CallsItself = codes "lp"
-warning_code warning.ChangesNothing = codes "no"
-warning_code warning.LoopUnchanged = codes "lp"
-warning_code warning.Indented = codes "la"
-warning_code warning.Overwritten = codes "us"
-warning_code warning.MainParameters = codes "ma"
-warning_code warning.StringsAdded = codes "st"
-warning_code warning.OrConstant = codes "pr"
-warning_code warning.AssignsItself = codes "op"
-warning_code warning.PassesOldValue = codes "ar"
-warning_code warning.ValueDropped = codes "no"
-warning_code warning.EndlessLoop = codes "lp"
 
 -- by which code each matter is known
 abbrev pub matter_code : Matter → List ℕ
@@ -183,6 +123,15 @@ abbrev pub is_sentence : Matter → List ℕ → Bool
 is_sentence (matter.NotDefined undefined) sentence = is_with_name sentence
 is_sentence matter.NoTypes sentence = same_name sentence (codes "there are no types: the name before @ is defined")
 is_sentence m sentence = true
+
+-- what is found of a source, and where
+abbrev pub found_at : (source : List ℕ) → Finding → List ℕ × List ℕ
+found_at source f = (take f.place.start source, matter_code f.matter)
+
+-- Of a source with this status what the rules say is found.
+abbrev pub AreWarned : Edition → Files → List ℕ → (status : ℕ) → List Finding → Type 0
+AreWarned edition files source status found =
+    status ≡ DONE → TellsWarnings edition files source (map (found_at source) found)
 
 -- the matter is that of the diagnostic, and the place is one for it
 abbrev pub TellsFault : Edition → List ℕ → Diagnostic → Finding → Type 0

@@ -5,6 +5,7 @@ pub mod CheckExcluded
 pub mod Findings
 pub mod Mentions
 pub mod Pieces
+pub mod RuleWarnings
 pub mod SectionRows
 pub mod Sections
 pub mod UndefinedNames

@@ -1,10 +1,12 @@
 //! What is said of a source after the line of the compiler.
 ghost use Rattle.std.specs.List.{All};
-ghost use Rattle.std.specs.Prelude.{◌≡◌, ◌<◌, ◌∷◌, [], IfOk, OnOk, vec_items};
+ghost use Rattle.std.specs.Prelude.{◌≡◌, ◌<◌, ◌∷◌, [], ℕ, IfOk, List, OnOk, map, vec_items};
 ghost use Rattle.bsources.specs.Files.{files_shown};
 ghost use Rattle.bcheck.specs.Checks.{AreFindings, EachOutcome, Judged, status_told};
-ghost use Rattle.bcheck.specs.Findings.{AddsAfter, AddsFurther, AreWhole, IsCompiled, IsMilestone, IsReasoned, IsStopOf};
-ghost use Rattle.bcheck.specs.Findings.{TellsFault};
+ghost use Rattle.bcheck.specs.Findings.{AddsAfter, AddsFurther, AreWarned, AreWhole, IsCompiled, IsMilestone};
+ghost use Rattle.bcheck.specs.Findings.{IsReasoned, IsStopOf, TellsFault, found_at};
+ghost use Rattle.bcheck.specs.RuleWarnings.{TellsWarnings, caution_at};
+ghost use Rattle.bcheck.specs.declared.advice.Matter.TheVariants as matter;
 ghost use Rattle.bcheck.specs.declared.verdict.Verdict.TheVariants as verdict;
 
 use crate::advice::Matter;
@@ -116,6 +118,8 @@ pub(crate) fn findings(
     ensures whole { IfOk result (λ found. AreWhole source.entry.edition source.entry.text.now (vec_items found)) }
     ensures reasons { IfOk result (λ found.
         All (IsReasoned source.entry.edition source.entry.text.now) (vec_items found)) }
+    ensures warned { IfOk result (λ found. AreWarned source.entry.edition (files_shown files.now) source.entry.text.now
+        (status_told judgement.now.verdict) (vec_items found)) }
 {
     let compiled = &judgement.compiled;
     match &judgement.verdict {
@@ -194,7 +198,10 @@ fn warnings(
     source: SourceText<'_>,
     files: &SourceFiles<'_>,
     compiled: &Compiled,
-) -> Result<Vec<Finding>, AllocError> {
+) -> Result<Vec<Finding>, AllocError>
+    ensures { IfOk result (λ found. TellsWarnings source.entry.edition (files_shown files.now) source.entry.text.now
+        (map (found_at source.entry.text.now) (vec_items found))) }
+{
     let program = Program {
         text: source.text,
         edition: source.edition,
@@ -203,15 +210,26 @@ fn warnings(
         ends: compiled.ends.as_slice(),
         library: &LIBRARY,
     };
-    let mut findings = Vec::new(alloc);
     let cautions = lint(alloc, &program)?;
-    for caution in &cautions {
-        findings.push(warned_of(caution))?;
+    warned_of(alloc, cautions.as_slice())
+}
+
+// The findings of cautions.
+fn warned_of(alloc: Global, cautions: &[Caution]) -> Result<Vec<Finding>, AllocError>
+    ensures { IfOk result (λ found. (source : List ℕ) → map (found_at source) (vec_items found)
+        ≡ map (caution_at source) cautions.now) }
+{
+    let mut findings = Vec::new(alloc);
+    for caution in cautions {
+        findings.push(warning(caution))?;
     }
     Ok(findings)
 }
 
-fn warned_of(caution: &Caution) -> Finding {
+fn warning(caution: &Caution) -> Finding
+    ensures place { result.place.start ≡ caution.now.place.start }
+    ensures matter { result.matter ≡ matter.Warning caution.now.warning }
+{
     Finding {
         matter: Matter::Warning(caution.warning),
         name: caution.name,
@@ -221,7 +239,9 @@ fn warned_of(caution: &Caution) -> Finding {
     }
 }
 
-fn at(place: TokenPlace) -> Place {
+fn at(place: TokenPlace) -> Place
+    ensures { result.start ≡ place.start }
+{
     Place {
         line: place.line,
         start: place.start,

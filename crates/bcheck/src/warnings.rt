@@ -2,7 +2,7 @@
 ghost use Rattle.std.specs.List.{list_all};
 ghost use Rattle.std.specs.Prelude.{◌≡◌, ◌∷◌, [], IsTrue};
 ghost use Rattle.bcheck.specs.Checks.{is_on_line};
-ghost use Rattle.bcheck.specs.Findings.{warning_code};
+ghost use Rattle.bcheck.specs.RuleWarnings.{warning_code};
 
 use blint::Warning;
 

@@ -2,9 +2,9 @@ use Rattle.std.proofs.Common.{[], ◌≡◌, ◌∙◌, ◌++◌, ap, arith, len
 use Rattle.std.proofs.lemmas.List.Elements.{All-nil}
 use Rattle.std.specs.List.{flat_map}
 use Rattle.bsources.specs.Files.{files_shown}
-use Rattle.bcheck.specs.Checks.{finding_text}
+use Rattle.bcheck.specs.Checks.{finding_text, status_told}
 use Rattle.std.specs.List.{All}
-use Rattle.bcheck.specs.Findings.{AreWhole, IsTried, matter_code}
+use Rattle.bcheck.specs.Findings.{AreWarned, AreWhole, IsTried, matter_code}
 use Rattle.bcheck.proofs.AddedFindings.{MendedIn, Reasoned, all_findings, finding_more}
 use Rattle.bcheck.proofs.Reasons.{item_reason}
 use Rattle.bcheck.proofs.explain.explain.Goals as goal
@@ -12,7 +12,7 @@ use Rattle.bcheck.proofs.explain.explain.Goals as goal
 pub loop-finding-init : goal.loop-finding-init
 loop-finding-init c =
     let edition = c.args.source.edition in
-    ([], tt, All-nil (Reasoned edition c.args.source.text.now), search rules, All-nil (MendedIn edition))
+    ([], tt, All-nil (Reasoned edition c.args.source.text.now), search rules, All-nil (MendedIn edition), refl)
 
 pub loop-finding-preserved : goal.loop-finding-preserved
 loop-finding-preserved c =
@@ -41,6 +41,7 @@ returns c =
     let found = c.as_slice-finding-items.result.now in
     let all : c.loop-finding.finding-index ≡ length found = omega (arith, c.loop-finding-test.false, c.loop-finding.auto.finding-index-end) in
     let whole = subst (λ fs. AreWhole edition source fs) (sym c.as_slice-finding-items.ensures.value) c.in_ok-findings.ensures.whole in
+    let warned = subst (AreWarned edition files source (status_told v)) (sym c.as_slice-finding-items.ensures.value) c.in_ok-findings.ensures.warned in
     let more = c.in_ok-push_further.ensures in
-    all_findings form edition v files source _ _ found _ c.requires.judged c.requires.stop whole all c.loop-finding.invariant more.0 more.1
+    all_findings form edition v files source _ _ found _ c.requires.judged c.requires.stop whole warned all c.loop-finding.invariant more.0 more.1
     (more.2.0 ∙ ap (λ s. c.loop-finding.said ++ flat_map (finding_text form s files) more.0) c.severity.ensures) more.2.1

@@ -1,0 +1,104 @@
+-- Promise: what is told of what the rules say of a source, each finding by its place and its code.
+use Rattle.std.specs.Prelude.{◌≡◌, ℕ, IsTrue, List, [], ◌∷◌, codes, take}
+use Rattle.std.specs.List.{list_any}
+use Rattle.bword.specs.declared.edition.Edition.{Edition}
+use Rattle.bword.specs.Words.{same_name}
+use Rattle.blang.specs.Trees.{Definition}
+use Rattle.blang.specs.WellFormed.{AllFormed}
+use Rattle.bsources.specs.Files.{Files}
+use Rattle.brules.specs.declared.rules.Rule.{Rule}
+use Rattle.blint.specs.declared.cautions.Caution.{Caution}
+use Rattle.blint.specs.declared.tokens.TokenPlace.{TokenPlace}
+use Rattle.blint.specs.declared.warnings.Warning.{Warning}
+use Rattle.blint.specs.declared.warnings.Warning.TheVariants as warning
+use Rattle.blint.specs.ProgramRules.{program_rules}
+use Rattle.blint.specs.SourceTokens.{IsSource, places_in, tokens_of}
+use Rattle.blint.specs.Warns.{Speaks, TellsRules, warning_of}
+
+-- by which code each warning is known
+abbrev pub warning_code : Warning → List ℕ
+warning_code warning.CommentGoesOn = codes "*/"
+warning_code warning.AndAnd = codes "and"
+warning_code warning.Power = codes "and"
+warning_code warning.OperatorAssigns = codes "op"
+warning_code warning.ConditionAssigns = codes "if"
+warning_code warning.AssignsComparison = codes "if"
+warning_code warning.AssignsCompared = codes "if"
+warning_code warning.EmptyIf = codes "em"
+warning_code warning.EmptyLoop = codes "em"
+warning_code warning.PastVector = codes "ix"
+warning_code warning.VectorForWord = codes "ix"
+warning_code warning.WordForVector = codes "ix"
+warning_code warning.VectorAddress = codes "ix"
+warning_code warning.ReturnsVector = codes "ix"
+warning_code warning.ReturnsAddress = codes "ix"
+warning_code warning.NegativeNumber = codes "sg"
+warning_code warning.StringEnd = codes "en"
+warning_code warning.InputEnd = codes "en"
+warning_code warning.InputZero = codes "en"
+warning_code warning.StringForNumber = codes "st"
+warning_code warning.StringForCharacter = codes "st"
+warning_code warning.StringPut = codes "st"
+warning_code warning.StringCompared = codes "st"
+warning_code warning.NameAlone = codes "no"
+warning_code warning.ComparesAlone = codes "no"
+warning_code warning.NoEffect = codes "no"
+warning_code warning.Backslash = codes "bs"
+warning_code warning.BitsCompared = codes "pr"
+warning_code warning.ComparesTwice = codes "pr"
+warning_code warning.NotCompared = codes "pr"
+warning_code warning.ManyArguments = codes "ar"
+warning_code warning.FewArguments = codes "ar"
+warning_code warning.LibraryArguments = codes "ar"
+warning_code warning.SwappedArguments = codes "ar"
+warning_code warning.WrongBase = codes "ar"
+warning_code warning.NoReturn = codes "rt"
+warning_code warning.NeverUsed = codes "us"
+warning_code warning.Unset = codes "in"
+warning_code warning.UnsetVector = codes "in"
+warning_code warning.HidesExternal = codes "hi"
+warning_code warning.HidesLibrary = codes "hi"
+warning_code warning.NearMain = codes "ma"
+warning_code warning.DefaultLabel = codes "ed"
+warning_code warning.WordOutside = codes "ed"
+warning_code warning.VectorCalled = codes "ix"
+warning_code warning.WordOfString = codes "st"
+warning_code warning.CallsItself = codes "lp"
+warning_code warning.ChangesNothing = codes "no"
+warning_code warning.LoopUnchanged = codes "lp"
+warning_code warning.Indented = codes "la"
+warning_code warning.Overwritten = codes "us"
+warning_code warning.MainParameters = codes "ma"
+warning_code warning.StringsAdded = codes "st"
+warning_code warning.OrConstant = codes "pr"
+warning_code warning.AssignsItself = codes "op"
+warning_code warning.PassesOldValue = codes "ar"
+warning_code warning.ValueDropped = codes "no"
+warning_code warning.EndlessLoop = codes "lp"
+
+abbrev pub rule_code : Rule → List ℕ
+rule_code r = warning_code (warning_of r)
+
+-- the codes of what says more than a rule of the same token: && and **, x =-1, a backslash, a line that stands in
+abbrev pub GoesBefore : List ℕ → Type 0
+GoesBefore code = IsTrue (list_any (same_name code) (codes "and" ∷ codes "op" ∷ codes "bs" ∷ codes "la" ∷ []))
+
+-- codes that rules alone give
+abbrev pub IsOfRules : List ℕ → Type 0
+IsOfRules code = IsTrue (list_any (same_name code) (codes "pr" ∷ codes "if" ∷ codes "em" ∷ codes "sg" ∷ []))
+
+-- a rule speaks of a token of the source, which is these definitions
+abbrev pub SpeaksIn : Edition → List ℕ → List Definition → TokenPlace → Rule → Type 0
+SpeaksIn edition source ds = Speaks (places_in (tokens_of edition source)) (program_rules ds)
+
+-- What the rules say of a source that is definitions is told in its first file, and nothing else with their codes: each
+-- finding with the bytes before it, and its code.
+abbrev pub TellsWarnings : Edition → Files → List ℕ → (told : List (List ℕ × List ℕ)) → Type 0
+TellsWarnings edition files source told =
+    (ds : List Definition) → AllFormed ds → IsSource edition source ds
+    → TellsRules (λ at. take at.start source) (λ r code. code ≡ rule_code r) GoesBefore IsOfRules files
+    (SpeaksIn edition source ds) told
+
+-- Inner words: the bytes before a caution, and its code
+abbrev pub caution_at : (source : List ℕ) → Caution → List ℕ × List ℕ
+caution_at source c = (take c.place.start source, warning_code c.warning)
