@@ -1,4 +1,6 @@
-use bcode::{CodeFault, CodeReader, CodeStep, read_code, write_begin, write_definition, write_end};
+use bcode::{
+    CodeFault, CodeReader, CodeStep, CodeStop, read_code, write_begin, write_definition, write_end,
+};
 use bword::{ByteIn, ByteOut, Edition, MemIn, MemOut};
 use std::test::Fail;
 
@@ -37,4 +39,20 @@ fn readers(rt: HostRuntime) {
     let mut lent = CodeReader::new(rt.alloc(), &mut input, Edition::Two);
     assert!(rt; matches!(lent.next(), CodeStep::Fault(CodeFault::Line(1))));
     assert!(rt; matches!(lent.next(), CodeStep::Closed));
+}
+
+#[test]
+fn copies(rt: HostRuntime) {
+    let mut owned = CodeReader::new(rt.alloc(), MemIn::new(CODE.as_bytes()), Edition::One);
+    let mut text = Vec::new(rt.alloc());
+    assert!(rt; matches!(owned.copy_next(&mut text), Ok(true)));
+    assert_eq!(rt; text.as_slice(), b"X n 1 0\nc 2000\n".as_slice());
+    let mut input = MemIn::new(CODE.as_bytes());
+    let mut lent = CodeReader::new(rt.alloc(), &mut input, Edition::Two);
+    assert!(rt;
+        matches!(
+            lent.copy_next(&mut text),
+            Err(CodeStop::Fault(CodeFault::Line(1)))
+        )
+    );
 }

@@ -6,8 +6,8 @@ use Rattle.bword.specs.declared.edition.Edition.{Edition}
 use Rattle.bword.specs.declared.edition.Edition.TheVariants as editions
 use Rattle.bcode.specs.Copying.{TextGives}
 use Rattle.bcode.specs.Faults.{IsFaultLine, HasHeader}
-use Rattle.bcode.specs.Readers.{CodeReader, HasTaken, TextEnded, StoppedAtLine, MemoryRefused, ReadBroke, StepGives, code_step}
-use Rattle.bcode.specs.Readers.{opening_read}
+use Rattle.bcode.specs.Readers.{CodeReader, HasTaken, TextEnded, StoppedAtLine, MemoryRefused, ReadBroke, StepGives}
+use Rattle.bcode.specs.Readers.{code_step, opening_read}
 use Rattle.bcode.specs.Streams.{AreLines}
 use Rattle.blang.specs.Text.{definition_text, opening, IsCodeText, IsWithinRanges}
 use Rattle.blang.specs.declared.code.Definition.{Definition}

@@ -1,9 +1,11 @@
--- Promise: what copying some lines takes from where they come from, and puts after a text.
-use Rattle.std.specs.Prelude.{◌≡◌, ℕ, ◌<◌, ◌≤◌, Bool, true, false, List, ◌++◌, length, All, Option, Some, None, Result, Ok, Err}
+-- Promise: what reading or copying some lines takes from where they come from, and puts after a list.
+use Rattle.std.specs.Prelude.{◌≡◌, ℕ, ◌<◌, ◌≤◌, Bool, true, false, List, ◌++◌, length, All, Option, Some, None}
+use Rattle.std.specs.Prelude.{Result, Ok, Err}
 use Rattle.std.specs.List.{flat_map}
 use Rattle.blang.specs.Text.{joined, definition_text}
 use Rattle.blang.specs.declared.code.Definition.{Definition}
-use Rattle.bcode.specs.Ahead.{Ahead, TakesText, RefusesLine, BreaksLine, ReadsLines, LinesGive, AreFirst, EndsAmong}
+use Rattle.bcode.specs.Ahead.{Ahead, TakesText, RefusesLine, BreaksLine, ReadsLines, ReadsAtMost, LinesGive}
+use Rattle.bcode.specs.Ahead.{AreFirst, EndsAmong}
 use Rattle.bcode.specs.Stopping.{LineKind}
 use Rattle.bcode.specs.declared.fault.CodeFault.TheVariants as fault
 use Rattle.bcode.specs.declared.code_stop.CodeStop.{CodeStop}
@@ -17,33 +19,42 @@ module _ {X : Type 0} (spell : X → List ℕ) (within : X → Type 0) where
     pub inside : All within values
     pub split : text ≡ flat_map spell values ++ rest
 
-  -- So many lines were read and copied.
-  pub record CopiesLines (count : ℕ) (old : Ahead) (before : List ℕ) (new : Ahead) (after : List ℕ) : Type 0 where
-    pub values : List X
-    pub reads : ReadsLines spell within count old values new
-    pub copied : after ≡ before ++ flat_map spell values
+  -- It does, and their values were put after others.
+  abbrev pub PutsFound : (count : ℕ) → (text rest : List ℕ) → (before after : List X) → Type 0
+  PutsFound count text rest before after =
+      (found : BeginsWith count text rest) × (after ≡ before ++ found.values)
 
-  -- At most so many lines were read.
-  pub record ReadsSome (most : ℕ) (old new : Ahead) : Type 0 where
+  -- A text begins with one such line at least, and at most so many are of interest.
+  pub record HasSome (most : ℕ) (text : List ℕ) : Type 0 where
     pub count : ℕ
+    pub some : 0 < count
     pub few : count ≤ most
-    pub values : List X
-    pub reads : ReadsLines spell within count old values new
+    pub rest : List ℕ
+    pub found : BeginsWith count text rest
 
-  -- copies some lines, at least one and at most so many; or not even one comes
-  abbrev pub RunGives : ℕ → Ahead → List ℕ → Result ℕ CodeStop → Ahead → List ℕ → Type 0
-  RunGives most old before (Ok n) new after = (0 < n) × (n ≤ most) × CopiesLines n old before new after
-  RunGives most old before (Err (stop.Fault (fault.Line n))) new after = RefusesLine spell within old n new
-  RunGives most old before (Err (stop.Fault fault.Memory)) new after = ReadsSome most old new
-  RunGives most old before (Err stop.Device) new after = BreaksLine spell within old new
+  module _ {Y : Type 0} (put : List X → List Y) where
+    -- So many lines were read, and what is put for their values was put after what was there.
+    pub record PutsLines (count : ℕ) (old : Ahead) (before : List Y) (new : Ahead) (after : List Y) : Type 0 where
+      pub values : List X
+      pub reads : ReadsLines spell within count old values new
+      pub stands : after ≡ before ++ put values
 
-  -- copies so many lines
-  abbrev pub CopyGives : ℕ → Ahead → List ℕ → Result (Unit {0}) CodeStop → Ahead → List ℕ → Type 0
-  CopyGives count old before (Ok u) new after = CopiesLines count old before new after
-  CopyGives count old before (Err why) new after = LinesGive spell within {V = List X} (λ xs. xs) count old (Err why) new
+    -- takes some lines, at least one and at most so many; or not even one comes
+    abbrev pub SomeLinesGive : ℕ → Ahead → List Y → Result ℕ CodeStop → Ahead → List Y → Type 0
+    SomeLinesGive most old before (Ok n) new after = (0 < n) × (n ≤ most) × PutsLines n old before new after
+    SomeLinesGive most old before (Err (stop.Fault (fault.Line n))) new after = RefusesLine spell within old n new
+    SomeLinesGive most old before (Err (stop.Fault fault.Memory)) new after = ReadsAtMost spell within most old new
+    SomeLinesGive most old before (Err stop.Device) new after = BreaksLine spell within old new
+
+    -- takes so many lines
+    abbrev pub AllLinesGive : ℕ → Ahead → List Y → Result (Unit {0}) CodeStop → Ahead → List Y → Type 0
+    AllLinesGive count old before (Ok u) new after = PutsLines count old before new after
+    AllLinesGive count old before (Err why) new after =
+        LinesGive spell within {V = List X} (λ xs. xs) count old (Err why) new
 
 -- Lines of these kinds were read and copied.
-pub record CopiesKinds (kinds : List LineKind) (old : Ahead) (before : List ℕ) (new : Ahead) (after : List ℕ) : Type 0 where
+pub record CopiesKinds (kinds : List LineKind) (old : Ahead) (before : List ℕ) (new : Ahead) (after : List ℕ)
+    : Type 0 where
   pub lines : List (List ℕ)
   pub first : AreFirst lines kinds
   pub all : length lines ≡ length kinds
@@ -55,9 +66,10 @@ KindsGive kinds old before (Ok u) new after = CopiesKinds kinds old before new a
 KindsGive kinds old before (Err why) new after = EndsAmong kinds old why new
 
 -- what reading a definition gives, where its text is put after another one in its place
-abbrev pub TextGives : (Result (Option Definition) CodeStop → Type 0) → Result Bool CodeStop → (before after : List ℕ) → Type 0
+abbrev pub TextGives : (Result (Option Definition) CodeStop → Type 0) → Result Bool CodeStop → (before after : List ℕ)
+    → Type 0
 TextGives gives (Ok true) before after = (d : Definition) × gives (Ok (Some d)) × (after ≡ before ++ definition_text d)
-TextGives gives (Ok false) before after = gives (Ok None)
+TextGives gives (Ok false) before after = gives (Ok None) × (after ≡ before)
 TextGives gives (Err why) before after = gives (Err why)
 
 -- whether nothing comes after such an answer

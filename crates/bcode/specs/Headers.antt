@@ -1,5 +1,6 @@
 -- Inner words: what the first line of a definition tells of it.
-use Rattle.std.specs.Prelude.{ℕ, ◌&&◌, ◌||◌, ◌==◌, nat_le, Bool, true, false, List, [], ◌∷◌, codes, decimal, length, IsTrue}
+use Rattle.std.specs.Prelude.{ℕ, ◌&&◌, ◌||◌, ◌==◌, nat_le, Bool, true, false, List, [], ◌∷◌, codes, decimal, length}
+use Rattle.std.specs.Prelude.{IsTrue}
 use Rattle.bword.specs.Words.{is_name}
 use Rattle.blang.specs.CodeParts.{sizes_of}
 use Rattle.blang.specs.Text.{line}

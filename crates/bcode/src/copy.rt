@@ -1,7 +1,7 @@
 //! The lines of a code text, copied as they are read.
-ghost use Rattle.std.specs.Prelude.{◌≡◌, ◌++◌, MatchResult, replicate};
+ghost use Rattle.std.specs.Prelude.{◌≡◌, ◌++◌, MatchResult, flat_map, replicate};
 ghost use Rattle.bcode.specs.Ahead.{DefinitionGives};
-ghost use Rattle.bcode.specs.Copying.{CopyGives, KindsGive, TextGives};
+ghost use Rattle.bcode.specs.Copying.{AllLinesGive, KindsGive, TextGives};
 ghost use Rattle.bcode.specs.Headers.{header_text};
 ghost use Rattle.bcode.specs.LineReading.{IsForm};
 ghost use Rattle.bcode.specs.Stopping.{instruction, kinds_after, string, target, value};
@@ -149,7 +149,8 @@ fn copy_several<I: ByteIn, F: LineForm>(
     text: &mut Vec<u8>,
 ) -> Result<(), CodeStop>
     requires { IsForm (F.spell form) (F.within form) (F.reader form) }
-    ensures { CopyGives (F.spell form) (F.within form) count lines.old text.old.items result lines.new text.new.items }
+    ensures { AllLinesGive (F.spell form) (F.within form) (flat_map (F.spell form)) count
+        lines.old text.old.items result lines.new text.new.items }
 {
     let mut left = count;
     while left > 0 {

@@ -169,8 +169,9 @@ fn several<I: ByteIn, F: LineForm>(
     ensures { LinesGive (F.spell form) (F.within form) (λ v. v.items) count lines.old result lines.new }
 {
     let mut values = Vec::with_capacity(alloc, usize::from(count))?;
-    for _ in 0..count {
-        values.push(lines.read(form)?)?;
+    let mut left = count;
+    while left > 0 {
+        left -= lines.read_several(form, left, &mut values)?;
     }
     Ok(values)
 }

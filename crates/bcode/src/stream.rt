@@ -1,7 +1,7 @@
 //! The lines of a text that comes byte by byte.
-ghost use Rattle.std.specs.Prelude.{◌≡◌, ◌<◌, ◌≤◌, length, OnOk};
+ghost use Rattle.std.specs.Prelude.{◌≡◌, ◌<◌, ◌≤◌, MatchResult, None, OnOk, flat_map, length};
 ghost use Rattle.bcode.specs.Ahead.{LineGives, EndGives};
-ghost use Rattle.bcode.specs.Copying.{BeginsWith, RunGives};
+ghost use Rattle.bcode.specs.Copying.{BeginsWith, HasSome, SomeLinesGive, PutsFound};
 ghost use Rattle.bcode.specs.LineReading.{IsForm};
 ghost use Rattle.bcode.specs.Streams.{TakingGives};
 ghost use Rattle.blang.specs.Text.{edition_line};
@@ -12,6 +12,7 @@ use crate::line_form::LineForm;
 use arrayvec::ArrayVec;
 use blang::LINE_LEN;
 use bword::{ByteIn, Device};
+use std::alloc::AllocError;
 use std::marker::Model;
 
 /// A line, or as much of one as tells that it is none of a code text.
@@ -118,6 +119,52 @@ impl<I: ByteIn> Stream<I> {
         Ok(found.0)
     }
 
+    /// Takes lines of this form, one at least and so many at most, and puts their values after others.
+    pub fn read_several<F: LineForm>(
+        &mut self,
+        form: F,
+        most: u16,
+        values: &mut Vec<F::Value>,
+    ) -> Result<u16, CodeStop>
+        requires shape { IsForm (F.spell form) (F.within form) (F.reader form) }
+        requires some { 0 < most }
+        ensures { SomeLinesGive (F.spell form) (F.within form) (λ xs. xs) most
+            self.old values.old.items result self.new values.new.items }
+    {
+        let ahead = self.input.ahead();
+        let (count, rest) = values_at(form, most, ahead, values)?;
+        if count == 0 {
+            return self.read_one(form, most, values);
+        }
+        let len = ahead.len() - rest.len();
+        self.input.take(len);
+        self.line += u64::from(count);
+        Ok(count)
+    }
+
+    // The same of one line, as `fetch` takes it.
+    #[cold]
+    #[inline(never)]
+    fn read_one<F: LineForm>(
+        &mut self,
+        form: F,
+        most: u16,
+        values: &mut Vec<F::Value>,
+    ) -> Result<u16, CodeStop>
+        requires shape { IsForm (F.spell form) (F.within form) (F.reader form) }
+        requires some { 0 < most }
+        ensures { SomeLinesGive (F.spell form) (F.within form) (λ xs. xs) most
+            self.old values.old.items result self.new values.new.items }
+    {
+        read_line(&mut self.input, &mut self.bytes)?;
+        let (count, _) = values_at(form, 1, self.bytes.as_slice(), values)?;
+        if count == 0 {
+            return Err(CodeStop::Fault(CodeFault::Line(self.line)));
+        }
+        self.line += 1;
+        Ok(1)
+    }
+
     /// Takes lines of this form, one at least and so many at most, and puts them after a text.
     pub fn copy<F: LineForm>(
         &mut self,
@@ -127,7 +174,8 @@ impl<I: ByteIn> Stream<I> {
     ) -> Result<u16, CodeStop>
         requires shape { IsForm (F.spell form) (F.within form) (F.reader form) }
         requires some { 0 < most }
-        ensures { RunGives (F.spell form) (F.within form) most self.old text.old.items result self.new text.new.items }
+        ensures { SomeLinesGive (F.spell form) (F.within form) (flat_map (F.spell form)) most
+            self.old text.old.items result self.new text.new.items }
     {
         let ahead = self.input.ahead();
         let (count, rest) = lines_at(form, most, ahead);
@@ -152,22 +200,51 @@ impl<I: ByteIn> Stream<I> {
     ) -> Result<u16, CodeStop>
         requires shape { IsForm (F.spell form) (F.within form) (F.reader form) }
         requires some { 0 < most }
-        ensures { RunGives (F.spell form) (F.within form) most self.old text.old.items result self.new text.new.items }
+        ensures { SomeLinesGive (F.spell form) (F.within form) (flat_map (F.spell form)) most
+            self.old text.old.items result self.new text.new.items }
     {
         read_line(&mut self.input, &mut self.bytes)?;
-        let Some(_) = form.read_from(self.bytes.as_slice()) else {
+        let (count, _) = lines_at(form, 1, self.bytes.as_slice());
+        if count == 0 {
             return Err(CodeStop::Fault(CodeFault::Line(self.line)));
-        };
+        }
         self.line += 1;
         text.extend_from_slice(self.bytes.as_slice())?;
         Ok(1)
     }
 }
 
+// Puts the values of the lines of a form that a text begins with after others. They are so many at most. It tells how
+// many they are, and the text after them. The reader of a line is called here and in `lines_at` alone, so that it is
+// small enough for both to hold it.
+fn values_at<'a, F: LineForm>(
+    form: F,
+    most: u16,
+    text: &'a [u8],
+    values: &mut Vec<F::Value>,
+) -> Result<(u16, &'a [u8]), AllocError>
+    requires { IsForm (F.spell form) (F.within form) (F.reader form) }
+    ensures { MatchResult result
+        (λ r. (r.0 ≤ most) × (r.0 < most → F.reader form r.1.now ≡ None)
+        × PutsFound (F.spell form) (F.within form) r.0 text.now r.1.now values.old.items values.new.items)
+        (λ _. HasSome (F.spell form) (F.within form) most text.now) }
+{
+    let mut rest = text;
+    for count in 0..most {
+        let Some(found) = form.read_from(rest) else {
+            return Ok((count, rest));
+        };
+        values.push(found.0)?;
+        rest = found.1;
+    }
+    Ok((most, rest))
+}
+
 // How many lines of a form a text begins with, up to so many, and the text after them.
 fn lines_at<F: LineForm>(form: F, most: u16, text: &[u8]) -> (u16, &[u8])
     requires { IsForm (F.spell form) (F.within form) (F.reader form) }
     ensures few { result.0 ≤ most }
+    ensures none { result.0 < most → F.reader form result.1.now ≡ None }
     ensures lines { BeginsWith (F.spell form) (F.within form) result.0 text.now result.1.now }
 {
     let mut rest = text;

@@ -18,6 +18,6 @@ returns-in_err-copy_definition g c =
 pub returns-in_err-read_end : goal.returns-in_err-read_end
 returns-in_err-read_end g c =
     let last : TakesText c.read_opening.new.lines end_text 1 c.copy_definition.new.lines =
-    none_given _ _ (λ a. DefinitionGives c.read_opening.new.lines a c.copy_definition.new.lines) _ c.if-branch.false c.in_ok-copy_definition.ensures in
+    (none_given _ _ (λ a. DefinitionGives c.read_opening.new.lines a c.copy_definition.new.lines) _ c.if-branch.false c.in_ok-copy_definition.ensures).0 in
     text_exit _ _ (λ a. NextDefinitionGives c.args.opens c.args.lines.now a c.read_end.new.lines) _ _ c.from_residual-in_err-read_end.ensures.1
     (end_exit _ _ _ _ _ (Err _) _ c.in_ok-read_opening.ensures last refl c.in_err-read_end.ensures)

@@ -25,14 +25,14 @@ returns-in_err-copy_next-clause-gives g c = λ out begun.
 pub returns-in_err-write_end-clause-gives : goal.returns-in_err-write_end-clause-gives
 returns-in_err-write_end-clause-gives g c = λ out begun.
     let p = c.definitions.invariant.0 in
-    let end = none_given _ _ (λ answer. StepGives c.definitions.reader (code_step answer) c.copy_next.new.self) _ c.if-not-branch.true c.in_ok-copy_next.ensures.gives in
+    let end = (none_given _ _ (λ answer. StepGives c.definitions.reader (code_step answer) c.copy_next.new.self) _ c.if-not-branch.true c.in_ok-copy_next.ensures.gives).0 in
     stop_exit _ c.from_residual-in_err-write_end.result _ c.from_residual-in_err-write_end.ensures.1
     (end_refused _ _ _ _ _ c.requires.edition p c.in_ok-copy_next.ensures.keeps out begun _ _ (end.1 p.definitions p.since) c.in_err-write_end.ensures.gives)
 
 pub returns-then-not-branch-clause-gives : goal.returns-then-not-branch-clause-gives
 returns-then-not-branch-clause-gives g c = λ out begun.
     let p = c.definitions.invariant.0 in
-    let end = none_given _ _ (λ answer. StepGives c.definitions.reader (code_step answer) c.copy_next.new.self) _ c.if-not-branch.true c.in_ok-copy_next.ensures.gives in
+    let end = (none_given _ _ (λ answer. StepGives c.definitions.reader (code_step answer) c.copy_next.new.self) _ c.if-not-branch.true c.in_ok-copy_next.ensures.gives).0 in
     ended _ _ _ _ _ c.requires.edition p c.in_ok-copy_next.ensures.keeps out begun _ (end.1 p.definitions p.since) c.in_ok-write_end.ensures.gives
 
 pub returns-in_err-put-clause-gives : goal.returns-in_err-put-clause-gives

@@ -1,6 +1,5 @@
-use Rattle.std.proofs.Common.{arith, [], ◌<◌}
-use Rattle.bcode.proofs.AheadLaws.{ReadsLines-none}
-use Rattle.bcode.proofs.CopyLaws.{run_shorter, run_fits, run_copies, run_falls, run_refused}
+use Rattle.std.proofs.Common.{arith, ◌<◌, ◌∙◌, ◌++◌, ap}
+use Rattle.bcode.proofs.CopyLaws.{run_shorter, run_fits, run_takes, run_text, run_falls, run_refused, none_at_most}
 use Rattle.bcode.proofs.stream.Stream.copy.Goals as goal
 
 pub overflow_sub-len : goal.overflow_sub-len
@@ -16,9 +15,11 @@ invariant_of-self g c =
     omega arith
 
 pub returns-in_err-extend_from_slice : goal.returns-in_err-extend_from_slice
-returns-in_err-extend_from_slice g c = run_refused _ _ _ _ _ _ _ _ c.from_residual.ensures.1 0 [] (omega arith) (ReadsLines-none _)
+returns-in_err-extend_from_slice g c = run_refused _ _ _ _ _ _ _ _ _ c.from_residual.ensures.1 (none_at_most _ _)
 
 pub returns : goal.returns
 returns g c =
     let some : 0 < c.lines_at-count.result.0 = omega (arith, c.if-count-eq0.false) in
-    rw (← c.self.view_is, c.from.ensures) (run_copies c.requires.shape.shape _ _ c.ahead-ahead.ensures _ _ c.lines_at-count.ensures.lines c.take.ensures.takes _ _ c.take.ensures.same some c.lines_at-count.ensures.few c.in_ok-extend_from_slice.ensures.items)
+    let text = run_text c.requires.shape.shape _ _ c.ahead-ahead.ensures _ _ c.lines_at-count.ensures.lines in
+    rw (← c.self.view_is, c.from.ensures) (run_takes c.requires.shape.shape _ _ c.ahead-ahead.ensures _ _ c.lines_at-count.ensures.lines c.take.ensures.takes _ _ c.take.ensures.same some c.lines_at-count.ensures.few
+    (c.in_ok-extend_from_slice.ensures.items ∙ ap (λ t. c.args.text.now.items ++ t) text))
