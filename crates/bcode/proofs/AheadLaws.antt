@@ -74,20 +74,6 @@ module _ {X : Type 0} {spell : X → List ℕ} {within : X → Type 0} where
         broke = broke;
       }
 
-  -- the exit where a line's value has no room
-  pub gives_memory : {V : Type 0} (items : V → List X) {old mid : Ahead} {i : ℕ} {xs : List X} {x : X} (count : ℕ) (now : Ahead) (r : Result V CodeStop)
-      → ReadsLines spell within i old xs mid → i < count → ReadsLine spell within mid x now → IsErrAnd r (λ f. f ≡ stop.Fault fault.Memory)
-      → LinesGive spell within items count old r now
-  gives_memory items count now (Ok v) before less step same = absurd same
-  gives_memory {V} items {old} {mid} {i} {xs} {x} count now (Err f) before less step same =
-      let more = ReadsLines-more (xs ++ x ∷ []) before step refl in
-      subst (λ (s : CodeStop). LinesGive spell within items count old (Err s) now) (sym same) record {
-        read = xs ++ x ∷ [];
-        few = (let n = more.all in omega arith);
-        inside = more.inside;
-        reads = more.passes.reads;
-      }
-
 -- the exit where there is no room for any
 pub gives_none : {X V : Type 0} (spell : X → List ℕ) (within : X → Type 0) (items : V → List X) (old : Ahead) (count : ℕ) (r : Result V CodeStop) → IsErrAnd r (λ f. f ≡ stop.Fault fault.Memory)
     → LinesGive spell within items count old r old

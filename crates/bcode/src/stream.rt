@@ -215,8 +215,8 @@ impl<I: ByteIn> Stream<I> {
 }
 
 // Puts the values of the lines of a form that a text begins with after others. They are so many at most. It tells how
-// many they are, and the text after them. The reader of a line is called here and in `lines_at` alone, so that it is
-// small enough for both to hold it.
+// many they are, and the text after them. The reader of an instruction's line is called here and in `lines_at`
+// alone, so that it is small enough for both to hold it.
 fn values_at<'a, F: LineForm>(
     form: F,
     most: u16,
