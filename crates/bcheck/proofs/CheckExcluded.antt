@@ -1,5 +1,5 @@
 -- What the contract of a check excludes.
-use Rattle.std.proofs.Common.{◌≡◌, ◌≢◌, ◌∙◌, ◌<◌, ◌≤◌, ◌+◌, ◌*◌, ℕ, suc, List, [], ◌∷◌, ◌++◌, ◌-◌, false, IsTrue}
+use Rattle.std.proofs.Common.{◌≡◌, ◌≢◌, ◌∙◌, ◌<◌, ◌≤◌, ◌+◌, ◌*◌, ℕ, suc, zero, List, [], ◌∷◌, ◌++◌, ◌-◌, false, IsTrue}
 use Rattle.std.proofs.Common.{Option, Some, None, ap, append-nil, append_assoc, arith, codes, decimal, drop, length}
 use Rattle.std.proofs.Common.{map, refl, subst, sym, take, inl, inr, ⊎_elim, true, ◌⊎◌}
 use Rattle.std.specs.Io.{StartsWith}
@@ -480,7 +480,7 @@ one_told : {P : List ℕ × List ℕ → Type 0} {source : List ℕ} (f : Findin
     → length ps ≤ all → first + all * least_lines f ≤ text → text < least_lines f → ⊥
 one_told f first text all [] (inl a) long h few = absurd (omega (arith, a.2))
 one_told f first text all [] (inr g) long h few = absurd (omega (arith, g))
-one_told f first text 0 (p ∷ ps) told long h few = absurd (omega (arith, long))
+one_told f first text zero (p ∷ ps) told long h few = absurd (omega (arith, long))
 one_told f first text (suc n) (p ∷ ps) told long h few = absurd (omega (arith, h, few, suc-mul n (least_lines f)))
 
 no_warning : (c : Check) (line text : List ℕ) → ComesTo c line DONE → IsTold c text → (ds : List Tree) → AllFormed ds → IsSource c.edition c.source ds → (at : TokenPlace) (r : Rule) → SpeaksIn c.edition c.source ds at r
