@@ -84,7 +84,7 @@ module _ (edition : Edition) (text : List ℕ) (d : Diagnostic) (faulty : HasFau
       let no : None ≡ Some d = sym (has.1 g.0 g.1).0 ∙ faulty g.0 g.1 in
       cc
   the_fault (why.Unread n) has some = absurd has
-  the_fault (why.Unlined count) has some = absurd has
+  the_fault (why.Unlined n) has some = absurd has
   the_fault why.Memory has some = absurd (some refl)
 
   no_write_fault : (f : EndFault) → 1 ≡ status_of f → ⊥
@@ -126,7 +126,7 @@ module _ (edition : Edition) (text : List ℕ) (d : Diagnostic) (faulty : HasFau
   by_careful_page : (care : Care) (asked : Asked) (ends : RunEnds) → ShowsCarefully care edition text asked ends 1 → Writes ends.line (fault_lines asked.files d) ends.line_after
   by_careful_page care asked ends (first.shown ds image frames stop meaning taken left has named finds took shows) = absurd (no_program ds image has)
   by_careful_page care asked ends (first.unkept ds image frames stop meaning has named finds nothing) = absurd (no_program ds image has)
-  by_careful_page care asked ends (first.unread ds image frames stop has named finds device nothing) = absurd (no_program ds image has)
+  by_careful_page care asked ends (first.unread ds image frames stop meaning has named finds device nothing) = absurd (no_program ds image has)
   by_careful_page care asked ends (first.not_begun ds image result has never shows) = absurd (no_program ds image has)
   by_careful_page care asked ends (first.stopped why quiet) = why_told asked.files ends.line ends.line_after why
   by_careful_page care asked ends (first.no_memory ds image has read nothing) = absurd (no_program ds image has)

@@ -42,7 +42,7 @@ returns-in-Ok-read-2-clause-does g c =
 pub returns-in-Err-read-2-clause-does : goal.returns-in-Err-read-2-clause-does
 returns-in-Err-read-2-clause-does g c =
     done _ c.args.job (jobs.Verify c.in-Verify.file) _ _ c.in-Verify.is
-    (inl (named_for _ _ _ _ _ c.in-Err-read-2.ensures.fault (c.name_file.ensures.names (g.I.ByteIn.incoming c.args.input.now) (g.O.ByteOut.outgoing c.args.out.now))))
+    (inl (named_for _ _ _ _ _ c.in-Err-read-2.ensures.fault (c.name_file-in-Err-read-2.ensures.names (g.I.ByteIn.incoming c.args.input.now) (g.O.ByteOut.outgoing c.args.out.now))))
 
 pub returns-in-Ask-clause-does : goal.returns-in-Ask-clause-does
 returns-in-Ask-clause-does g c =
