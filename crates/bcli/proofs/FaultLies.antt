@@ -124,7 +124,7 @@ module _ (edition : Edition) (text : List ℕ) (d : Diagnostic) (faulty : HasFau
   by_careful asked same ends (carefuls.stopped why quiet) = why_told asked.files ends.line ends.line_after (subst (λ e. NoProgram e text (fault_lines asked.files) ends.line ends.line_after 1) same why)
 
   by_careful_page : (care : Care) (asked : Asked) (ends : RunEnds) → ShowsCarefully care edition text asked ends 1 → Writes ends.line (fault_lines asked.files d) ends.line_after
-  by_careful_page care asked ends (first.shown ds image frames stop meaning taken left has named finds took shows) = absurd (no_program ds image has)
+  by_careful_page care asked ends (first.shown ds image frames stop meaning taken left has named finds ran took shows) = absurd (no_program ds image has)
   by_careful_page care asked ends (first.unkept ds image frames stop meaning has named finds nothing) = absurd (no_program ds image has)
   by_careful_page care asked ends (first.unread ds image frames stop meaning has named finds device nothing) = absurd (no_program ds image has)
   by_careful_page care asked ends (first.not_begun ds image result has never shows) = absurd (no_program ds image has)

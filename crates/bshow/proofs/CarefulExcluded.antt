@@ -24,7 +24,7 @@ module _ (edition : Edition) (source : List ℕ) (r : Compilation) (g : Compiles
 
   done : ShowsCarefully care edition source asked ends 0
       → (r.stop ≡ None) × (load_fault (code_in edition source r g) ≡ None) × ((rows sentence program facts : List ℕ) × Writes ends.out (page_text rows sentence program facts) ends.out_after)
-  done (pages.shown ds image frames stop meaning taken left has named finds took shows) =
+  done (pages.shown ds image frames stop meaning taken left has named finds ran took shows) =
       (no_pages edition source r g (asked_up_to asked stop meaning) (ends_over taken left ends)).done shows
   done (pages.unkept ds image frames stop meaning has named finds nothing) = absurd (omega (arith, nothing.status_is))
   done (pages.unread ds image frames stop meaning has named finds device nothing) = absurd (omega (arith, nothing.status_is))
@@ -42,7 +42,7 @@ module _ (edition : Edition) (source : List ℕ) (r : Compilation) (g : Compiles
 
   fault : ShowsCarefully care edition source asked ends 1
       → ((d : Diagnostic) × (r.stop ≡ Some d) × Writes ends.line (fault_lines asked.files d) ends.line_after) × (ends.out_after ≡ ends.out)
-  fault (pages.shown ds image frames stop meaning taken left has named finds took shows) = fault_shown stop meaning taken left shows
+  fault (pages.shown ds image frames stop meaning taken left has named finds ran took shows) = fault_shown stop meaning taken left shows
   fault (pages.unkept ds image frames stop meaning has named finds nothing) = absurd (omega (arith, nothing.status_is))
   fault (pages.unread ds image frames stop meaning has named finds device nothing) = absurd (omega (arith, nothing.status_is))
   fault (pages.not_begun ds image result has never shows) =

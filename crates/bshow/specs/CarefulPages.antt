@@ -48,7 +48,7 @@ pub data ShowsCarefully (care : Care) (edition : Edition) (source : List ℕ) (a
       → HasProgram edition source ds image → HasNames edition source frames
       → FindsFirst (atlas_in ds frames (finds_wraps care)) (image_of ds).functions (machine ds) asked.steps
       ends.input ends.input_after stop meaning
-      → Took ends.input taken ends.input_after
+      → (stop.outcome ≡ outcome.Memory → ⊥) → Took ends.input taken ends.input_after
       → Shows edition source (asked_up_to asked stop meaning) (ends_over taken left ends) status
       → ShowsCarefully care edition source asked ends status
   unkept : (ds : List Definition) (image : Image) (frames : List Frame) (stop : Stop) (meaning : Option (List ℕ))

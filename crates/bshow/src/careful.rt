@@ -56,6 +56,7 @@ pub fn show_careful<I: ByteIn, O: ByteOut, D: ByteOut>(
     };
     match silent.stop.outcome {
         Outcome::Device => return status::DEVICE,
+        Outcome::Memory => return status::MEMORY,
         _ => {}
     }
     match silent.record.extent {

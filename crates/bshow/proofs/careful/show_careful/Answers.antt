@@ -40,6 +40,12 @@ returns-in-Device-clause-shows g c =
     unread c.in-Ok.program.definitions.items c.in-Ok.program.image c.in-Ok.program.names.frames.items silent.stop silent.meaning c.in-Ok.ensures.program c.in-Ok.ensures.names
     c.in-Ok-find_first.ensures.finds c.in-Device.is (record { no_page = refl; no_line = refl; status_is = refl })
 
+pub returns-in-Memory-outcome-clause-shows : goal.returns-in-Memory-outcome-clause-shows
+returns-in-Memory-outcome-clause-shows g c =
+    let silent = c.in-Ok-find_first.silent in
+    unkept c.in-Ok.program.definitions.items c.in-Ok.program.image c.in-Ok.program.names.frames.items silent.stop silent.meaning c.in-Ok.ensures.program c.in-Ok.ensures.names
+    c.in-Ok-find_first.ensures.finds (record { no_page = refl; no_line = refl; status_is = refl })
+
 pub returns-in_default-extent : goal.returns-in_default-extent
 returns-in_default-extent g c =
     let silent = c.in-Ok-find_first.silent in
@@ -64,7 +70,7 @@ returns g c =
     } in
     record {
       shows = shown c.in-Ok.program.definitions.items c.in-Ok.program.image c.in-Ok.program.names.frames.items silent.stop silent.meaning silent.record.bytes.items c.show-2.new.input
-          c.in-Ok.ensures.program c.in-Ok.ensures.names c.in-Ok-find_first.ensures.finds (c.in-Ok-find_first.ensures.records.taken (rw c.in-Whole.is refl))
+          c.in-Ok.ensures.program c.in-Ok.ensures.names c.in-Ok-find_first.ensures.finds c.in_default-outcome.not-Memory (c.in-Ok-find_first.ensures.records.taken (rw c.in-Whole.is refl))
           (shown_over c.args.edition c.args.source.now _ _ ends c.show-2.result c.new-read.result c.show-2.new.input c.as_slice.result.now silent.record.bytes.items c.up_to-found.ensures c.new-read.ensures c.as_slice.ensures.value c.show-2.ensures.shows);
       input_lender = c.find_first.ensures.same;
       out_lender = c.show-2.ensures.out_lender;
