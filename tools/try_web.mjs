@@ -168,10 +168,12 @@ class FailingSystem {
 
 const isStopped = (got, whole) => begins(got.out, whole.out) && begins(got.line, whole.line);
 
-/** What a run tells without what it tells of one that never ends, as where memory is refused for the search. */
+/** What a run tells without what it tells of one that never ends, as where memory is refused for the search. What to do
+    next stays. */
 function unsearched(whole) {
   const rows = whole.out.toString('latin1'), line = whole.line.toString('latin1');
-  const none = '  means: no end within so many steps; --steps N or --no-limit gives more\n';
+  const next = (line.match(/^next: .*\n/gm) ?? []).join('');
+  const none = `  means: no end within so many steps; --steps N or --no-limit gives more\n${next}`;
   return {
     ...whole,
     out: Buffer.from(rows.replace(/^means  it never ends:[^]*/m, ''), 'latin1'),
