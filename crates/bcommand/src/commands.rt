@@ -327,7 +327,7 @@ const COMMANDS: [CommandRow; 15] = [
     },
     CommandRow {
         name: "port",
-        about: "Writes the source in FILE, of an old or a later form of B, in this one",
+        about: "Writes the source in FILE, of an old or later form of B, in this one",
         usage: None,
         help: PORT_HELP,
         arguments: &[EDITION, FILE_OR_INPUT, WITH],
