@@ -1,5 +1,5 @@
 -- What is told of a function is told rightly: without a flaw that can be stuck the depths fit, and where some fit there is none.
-use Rattle.std.proofs.Common.{◌≡◌, ◌≢◌, ℕ, zero, suc, ◌+◌, ◌-◌, ◌≤◌, ◌<◌, ◌⊎◌, inl, inr, List, [], ◌∷◌, ◌++◌, length, get_or, map, drop, Option, Some, None, Bool, true, false, cond, refl, sym, ap, ◌∙◌, subst, arith, eq-eqb, add-one, drop-cons}
+use Rattle.std.proofs.Common.{◌≡◌, ◌≢◌, ℕ, zero, suc, ◌+◌, ◌-◌, ◌≤◌, ◌<◌, ◌⊎◌, inl, inr, List, [], ◌∷◌, ◌++◌, length, get_or, map, drop, Option, Some, None, Bool, true, false, cond, refl, sym, ap, ◌∙◌, subst, arith, eq-eqb, add-one, append_assoc, drop-cons}
 use Rattle.std.specs.Prelude.{slice_get, if◌then◌else◌, ◌||◌, ◌==◌, nat_lt, fold, unwrap_or, All}
 use Rattle.std.specs.List.{Contains, list_any}
 use Rattle.std.proofs.lemmas.List.{append-nil, get_or_past}
@@ -9,7 +9,9 @@ use Rattle.std.proofs.lemmas.Bool.Decides.{eqb_tells}
 use Rattle.std.proofs.lemmas.Option.{slice_get_cases, slice_get-get_or, slice_get_within, slice_get_past, get_or_from_slice_get}
 use Rattle.blang.specs.declared.code.Instr.{Instr}
 use Rattle.bverify.specs.Depths.{operands_taken, Way, way, ways, Reaches, begins, goes_on, Depths, depth_at, IsDepthOf, AreReached, HasDepth, AreClosed, GoesOn, Fits}
-use Rattle.bverify.specs.Flaws.{can_be_stuck, some_can_be_stuck, is_depth, known_flaws, way_flaws, left_flaws, placed, with_way_flaws, with_instr_flaws, unreached_flaws, with_place_flaws, flaws_from, flaws_of}
+use Rattle.bverify.specs.Flaws.{can_be_stuck, some_can_be_stuck, comes_to_goto, is_depth, known_flaws, label_flaws}
+use Rattle.bverify.specs.Flaws.{labels_from, way_flaws, left_flaws, placed, place_flaws, with_way_flaws}
+use Rattle.bverify.specs.Flaws.{with_instr_flaws, unreached_flaws, with_place_flaws, flaws_from, flaws_of}
 use Rattle.bverify.specs.declared.flaws.Flaw.{Flaw}
 use Rattle.bverify.specs.declared.flaws.Flaw.TheVariants as flaw
 use Rattle.bverify.specs.declared.flaws.PlacedFlaw.{PlacedFlaw}
@@ -115,10 +117,36 @@ goes_at targets code ds p d (Some e) i stands at goes =
     let g = subst (Goes targets ds i p) same goes in
     record { instruction = i; stands = stands; has_operands = g.0; leads = g.1 }
 
+-- No label can be stuck.
+safe_each : (label : ℕ) (targets : List ℕ) → some_can_be_stuck (labels_from label targets) ≡ false
+safe_each label [] = refl
+safe_each label (t ∷ ts) = safe_each (label + 1) ts
+
+safe_if : (b : Bool) (fs : List PlacedFlaw) → some_can_be_stuck fs ≡ false
+    → some_can_be_stuck (if b then [] else fs) ≡ false
+safe_if true fs none = refl
+safe_if false fs none = none
+
+safe_labels : (targets : List ℕ) (code : List Instr) (ds : Depths)
+    → some_can_be_stuck (label_flaws targets code ds) ≡ false
+safe_labels targets code ds = safe_if (comes_to_goto code ds) (labels_from 0 targets) (safe_each 0 targets)
+
+-- one label more
+pub labels_on : (targets : List ℕ) (k t : ℕ) (fs gs : List PlacedFlaw) → k < length targets → t ≡ get_or targets k t
+    → gs ≡ fs ++ record { place = t; flaw = flaw.NoGoto k } ∷ []
+    → gs ++ labels_from (k + 1) (drop (k + 1) targets) ≡ fs ++ labels_from k (drop k targets)
+labels_on targets k t fs gs lt is made =
+    let first : drop k targets ≡ t ∷ drop (k + 1) targets =
+    drop-cons targets k t lt ∙ ap (λ x. x ∷ drop (suc k) targets) (sym is) ∙ ap (λ j. t ∷ drop j targets) (sym (add-one k)) in
+    ap (λ l. l ++ labels_from (k + 1) (drop (k + 1) targets)) made
+    ∙ append_assoc fs (record { place = t; flaw = flaw.NoGoto k } ∷ []) (labels_from (k + 1) (drop (k + 1) targets))
+    ∙ sym (ap (λ l. fs ++ labels_from k l) first)
+
 -- Without a flaw that can be stuck the depths fit.
 pub fits : (targets : List ℕ) (code : List Instr) (ds : Depths) → length ds ≡ length code → some_can_be_stuck (flaws_of targets code ds) ≡ false → Fits targets code ds
 fits targets code ds all none =
-    let r = all_fit targets ds 0 code (with_way_flaws ds 0 [] (way 0 0)) none in
+    let places = (no_any (place_flaws targets code ds) (label_flaws targets code ds) none).0 in
+    let r = all_fit targets ds 0 code (with_way_flaws ds 0 [] (way 0 0)) places in
     record {
       begins = way_fits ds 0 (way 0 0) (no_any [] (placed 0 (way_flaws ds (way 0 0))) r.0).1;
       goes_on = λ p d at. elim (slice_get_cases code p).1 [
@@ -201,8 +229,11 @@ module _ (targets : List ℕ) (code : List Instr) (other : Depths) (f : Fits tar
         (λ k. let e' : p + suc k ≡ p + 1 + k = omega arith in subst (λ n. slice_get is k ≡ slice_get code n) e' (stand (suc k)))
         (safe_place i p (depth_at ds p) fs stands refl none)
 
-    pub never_idle : some_can_be_stuck (flaws_of targets code ds) ≡ false
-    never_idle =
+    safe_places : some_can_be_stuck (place_flaws targets code ds) ≡ false
+    safe_places =
         let some : 1 ≤ length code = place_within 0 0 f.begins in
         safe_from 0 code (with_way_flaws ds 0 [] (way 0 0)) (λ k. let e : k ≡ 0 + k = omega arith in ap (slice_get code) e)
         (safe_way 0 (way 0 0) f.begins (0, begun some))
+
+    pub never_idle : some_can_be_stuck (flaws_of targets code ds) ≡ false
+    never_idle = both (place_flaws targets code ds) (label_flaws targets code ds) safe_places (safe_labels targets code ds)

@@ -111,6 +111,23 @@ left_over : flaws_of [] (instr.Constant 1 ∷ instr.Constant 2 ∷ instr.Return 
     ≡ at 2 (flaw.Left 1) ∷ []
 left_over = refl
 
-harmless : map some_can_be_stuck ((at 2 flaw.Unreached ∷ []) ∷ (at 2 (flaw.Left 1) ∷ []) ∷ [] ∷ [])
-    ≡ false ∷ false ∷ false ∷ []
+harmless : map some_can_be_stuck
+    ((at 2 flaw.Unreached ∷ []) ∷ (at 2 (flaw.Left 1) ∷ []) ∷ (at 2 (flaw.NoGoto 1) ∷ []) ∷ [] ∷ [])
+    ≡ false ∷ false ∷ false ∷ false ∷ []
 harmless = refl
+
+-- two labels, of a function that has no goto; of one that has, and of one to whose goto no way leads
+labels_without_goto : flaws_of (1 ∷ 0 ∷ []) ending (Some 0 ∷ Some 1 ∷ [])
+    ≡ at 1 (flaw.NoGoto 0) ∷ at 0 (flaw.NoGoto 1) ∷ []
+labels_without_goto = refl
+
+labels_with_goto : flaws_of (0 ∷ []) (instr.Label 0 ∷ instr.Goto ∷ []) (Some 0 ∷ Some 1 ∷ []) ≡ []
+labels_with_goto = refl
+
+goto_unreached : flaws_of (0 ∷ []) (instr.Constant 0 ∷ instr.Return ∷ instr.Goto ∷ []) (Some 0 ∷ Some 1 ∷ None ∷ [])
+    ≡ at 2 flaw.Unreached ∷ at 0 (flaw.NoGoto 0) ∷ []
+goto_unreached = refl
+
+-- Depths that no call can have: with none at all a way comes to the first place.
+none_known : flaws_of [] ending (None ∷ None ∷ []) ≡ at 0 (flaw.Differs 0 0 0) ∷ []
+none_known = refl

@@ -1,6 +1,6 @@
 -- Promise: how many operands a call has at each place of its function.
-use Rattle.std.specs.Prelude.{◌≡◌, ℕ, ◌+◌, ◌-◌, ◌<◌, ◌≤◌, length, List, [], ◌∷◌, map, All, Option, Some, None, slice_get}
-use Rattle.std.specs.Prelude.{slice_index_or}
+use Rattle.std.specs.Prelude.{◌≡◌, ℕ, ◌+◌, ◌-◌, ◌<◌, ◌≤◌, length, List, [], ◌∷◌, map, All, Option, Some, None}
+use Rattle.std.specs.Prelude.{slice_get, slice_index_or}
 use Rattle.std.specs.List.{Contains}
 use Rattle.blang.specs.declared.code.Instr.{Instr}
 use Rattle.blang.specs.declared.code.Instr.TheVariants as instr
@@ -48,7 +48,8 @@ ways targets instr.Goto place depth = map (λ t. way t (depth - 1)) targets
 ways targets instr.Return place depth = []
 ways targets i place depth = way (place + 1) (depth - operands_taken i + operands_put i) ∷ []
 
--- A call can be at a place with so many operands: it begins without any, and goes on by an instruction that has its own.
+-- A call can be at a place with so many operands: it begins without any, and goes on by an instruction that has its
+-- own.
 pub data Reaches (targets : List ℕ) (code : List Instr) : Way → Type 0 where
   begins : Reaches targets code (way 0 0)
   goes_on : (place depth : ℕ) (i : Instr) (w : Way) → Reaches targets code (way place depth)

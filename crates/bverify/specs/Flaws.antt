@@ -1,6 +1,6 @@
 -- Promise: what is told of the places of a function: where operands can lack, and what is never reached or left over.
-use Rattle.std.specs.Prelude.{ℕ, ◌+◌, ◌-◌, ◌==◌, Bool, true, false, if◌then◌else◌, List, [], ◌∷◌, ◌++◌, fold, map, Option}
-use Rattle.std.specs.Prelude.{Some, None, nat_lt, slice_get, unwrap_or}
+use Rattle.std.specs.Prelude.{ℕ, ◌+◌, ◌-◌, ◌==◌, ◌&&◌, Bool, true, false, if◌then◌else◌, List, [], ◌∷◌, ◌++◌, fold, map}
+use Rattle.std.specs.Prelude.{Option, Some, None, is_some, nat_lt, slice_get, unwrap_or, zip}
 use Rattle.std.specs.List.{list_any}
 use Rattle.blang.specs.declared.code.Instr.{Instr}
 use Rattle.blang.specs.declared.code.Instr.TheVariants as instr
@@ -68,6 +68,27 @@ flaws_from targets depths place [] flaws = flaws
 flaws_from targets depths place (i ∷ is) flaws =
     flaws_from targets depths (place + 1) is (with_place_flaws targets depths i place (depth_at depths place) flaws)
 
--- the flaws of a function: a call begins at the first place without operands
+-- those of all instructions: a call begins at the first place without operands
+abbrev pub place_flaws : (targets : List ℕ) → List Instr → Depths → List PlacedFlaw
+place_flaws targets code depths = flaws_from targets depths 0 code (with_way_flaws depths 0 [] (way 0 0))
+
+abbrev pub is_goto : Instr → Bool
+is_goto instr.Goto = true
+is_goto i = false
+
+-- Some way leads to a goto.
+abbrev pub comes_to_goto : List Instr → Depths → Bool
+comes_to_goto code depths = list_any (λ p. is_goto p.0 && is_some p.1) (zip code depths)
+
+-- the labels from a number on, each at its target
+abbrev pub labels_from : (label : ℕ) → (targets : List ℕ) → List PlacedFlaw
+labels_from label [] = []
+labels_from label (t ∷ ts) = record { place = t; flaw = flaw.NoGoto label } ∷ labels_from (label + 1) ts
+
+-- Only a goto of the same function leads to a label.
+abbrev pub label_flaws : (targets : List ℕ) → List Instr → Depths → List PlacedFlaw
+label_flaws targets code depths = if comes_to_goto code depths then [] else labels_from 0 targets
+
+-- the flaws of a function
 abbrev pub flaws_of : (targets : List ℕ) → List Instr → Depths → List PlacedFlaw
-flaws_of targets code depths = flaws_from targets depths 0 code (with_way_flaws depths 0 [] (way 0 0))
+flaws_of targets code depths = place_flaws targets code depths ++ label_flaws targets code depths

@@ -1,6 +1,6 @@
 -- Promise: what is told of the code of a program before it runs.
-use Rattle.std.specs.Prelude.{◌≡◌, ℕ, ◌||◌, Bool, false, if◌then◌else◌, List, [], ◌∷◌, ◌++◌, codes, decimal, drop, take}
-use Rattle.std.specs.Prelude.{None, slice_index}
+use Rattle.std.specs.Prelude.{◌≡◌, ℕ, ◌≤◌, ◌||◌, Bool, false, if◌then◌else◌, List, [], ◌∷◌, ◌++◌, codes, decimal}
+use Rattle.std.specs.Prelude.{None, Some, drop, take, length, slice_index}
 use Rattle.std.specs.List.{flat_map}
 use Rattle.blang.specs.CodeParts.{Function}
 use Rattle.blang.specs.Compiles.{line_of}
@@ -14,7 +14,7 @@ use Rattle.blang.specs.declared.status.TheConstants.{DONE, FAULT}
 use Rattle.btools.specs.Columns.{left, right}
 use Rattle.btools.specs.Origins.{Code, LinesOf, NoProgramOf, Origin, ProgramOf}
 use Rattle.btools.specs.Programs.{ToldEnds}
-use Rattle.bverify.specs.Depths.{AreReached, Depths, Fits}
+use Rattle.bverify.specs.Depths.{AreClosed, AreReached, Depths, Fits, depth_at}
 use Rattle.bverify.specs.Flaws.{flaws_of, some_can_be_stuck}
 use Rattle.bverify.specs.Stands.{HasDepths, IsNeverStuck}
 use Rattle.bverify.specs.declared.flaws.Flaw.{Flaw}
@@ -22,9 +22,12 @@ use Rattle.bverify.specs.declared.flaws.Flaw.TheVariants as flaw
 use Rattle.bverify.specs.declared.flaws.PlacedFlaw.{PlacedFlaw}
 use Rattle.bverify.specs.declared.verifying.Telling.{Telling}
 
--- These are the flaws of a function, by depths that its calls can have. Some can be stuck only if no depths fit.
+-- These are the flaws of a function, by depths that its calls can have: the first place has one, and so has each place
+-- to which a way leads from one that has. Some can be stuck only if no depths fit.
 pub record AreFlawsOf (f : Function) (flaws : List PlacedFlaw) : Type 0 where
   pub depths : Depths
+  pub begun : 1 ≤ length f.code → depth_at depths 0 ≡ Some 0
+  pub closed : AreClosed f.targets f.code depths
   pub reached : AreReached f.targets f.code depths
   pub told : flaws ≡ flaws_of f.targets f.code depths
   pub fits : some_can_be_stuck flaws ≡ false → Fits f.targets f.code depths
@@ -48,6 +51,7 @@ flaw_text (flaw.Differs to depth other) =
 flaw_text (flaw.Leaves to) = codes "comes to place " ++ decimal to ++ codes ", which has no instruction"
 flaw_text flaw.Unreached = codes "no way comes here"
 flaw_text (flaw.Left operands) = codes "returns, and drops operands besides: " ++ decimal operands
+flaw_text (flaw.NoGoto label) = codes "label " ++ decimal label ++ codes " is here, and no goto comes to it"
 
 -- the line of a flaw, in a function with the lines of its places
 abbrev pub flaw_line : (name lines : List ℕ) → PlacedFlaw → List ℕ

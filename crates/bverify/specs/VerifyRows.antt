@@ -10,12 +10,14 @@ use Rattle.bverify.specs.declared.flaws.Flaw.TheVariants as flaw
 use Rattle.bverify.specs.declared.flaws.PlacedFlaw.{PlacedFlaw}
 use Rattle.bverify.specs.declared.verifying.Telling.{Telling}
 
-flaws_told : map flaw_text (flaw.Lacks 2 3 ∷ flaw.Differs 7 2 1 ∷ flaw.Leaves 7 ∷ flaw.Unreached ∷ flaw.Left 1 ∷ [])
+flaws_told : map flaw_text
+    (flaw.Lacks 2 3 ∷ flaw.Differs 7 2 1 ∷ flaw.Leaves 7 ∷ flaw.Unreached ∷ flaw.Left 1 ∷ flaw.NoGoto 2 ∷ [])
     ≡ codes "takes 3 of 2 operands"
     ∷ codes "comes to place 7 with 2 operands, another way with 1"
     ∷ codes "comes to place 7, which has no instruction"
     ∷ codes "no way comes here"
     ∷ codes "returns, and drops operands besides: 1"
+    ∷ codes "label 2 is here, and no goto comes to it"
     ∷ []
 unfolding digits
 flaws_told = refl

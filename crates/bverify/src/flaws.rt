@@ -1,7 +1,10 @@
 //! What is told of the places of a function.
-ghost use Rattle.std.specs.Prelude.{◌≡◌, ◌<◌, ◌≤◌, ◌++◌, ◌-◌, ◌∷◌, [], false, fold, IfOk, OnOk, length, map, slice_get, unwrap_or};
-ghost use Rattle.bverify.specs.Depths.{AreReached, Depths, Fits, depth_at, operands_taken, way, ways};
-ghost use Rattle.bverify.specs.Flaws.{can_be_stuck, flaws_of, is_depth, left_flaws, placed, some_can_be_stuck, unreached_flaws, with_instr_flaws, with_place_flaws, with_way_flaws};
+ghost use Rattle.std.specs.Prelude.{◌≡◌, ◌<◌, ◌≤◌, ◌++◌, ◌-◌, ◌∷◌, [], Some, false, fold, IfOk, OnOk, length, map};
+ghost use Rattle.std.specs.Prelude.{slice_get, unwrap_or};
+ghost use Rattle.bverify.specs.Depths.{AreClosed, AreReached, Depths, Fits, depth_at, operands_taken, way, ways};
+ghost use Rattle.bverify.specs.Flaws.{can_be_stuck, comes_to_goto, flaws_of, is_depth, is_goto, label_flaws};
+ghost use Rattle.bverify.specs.Flaws.{labels_from, left_flaws, place_flaws, placed, some_can_be_stuck, unreached_flaws};
+ghost use Rattle.bverify.specs.Flaws.{with_instr_flaws, with_place_flaws, with_way_flaws};
 
 use crate::search::{depths_of, operands_put, operands_taken};
 use blang::{Function, Instr, MAX_INSTRUCTIONS};
@@ -20,6 +23,8 @@ pub enum Flaw {
     Unreached,
     /// So many operands are left when the call returns.
     Left(u16),
+    /// A label leads to this place, and no way of the function leads to a goto.
+    NoGoto(usize),
 }
 
 impl Flaw {
@@ -51,7 +56,9 @@ pub struct Verified {
 /// Checks a function. Where no flaw can be stuck, the depths fit; and where any depths fit, none can be stuck.
 pub fn verify_function(alloc: Global, function: &Function) -> Result<Verified, AllocError>
     ensures told { IfOk result (λ v. v.flaws.items ≡ flaws_of function.now.targets function.now.code v.depths.items) }
+    ensures begun { IfOk result (λ v. 1 ≤ length function.now.code → depth_at v.depths.items 0 ≡ Some 0) }
     ensures reached { IfOk result (λ v. AreReached function.now.targets function.now.code v.depths.items) }
+    ensures closed { IfOk result (λ v. AreClosed function.now.targets function.now.code v.depths.items) }
     ensures fits { IfOk result (λ v. some_can_be_stuck v.flaws.items ≡ false
         → Fits function.now.targets function.now.code v.depths.items) }
     ensures never_idly { IfOk result (λ v. (depths : Depths) → Fits function.now.targets function.now.code depths
@@ -64,7 +71,9 @@ pub fn verify_function(alloc: Global, function: &Function) -> Result<Verified, A
 fn verify_code(alloc: Global, targets: &[u16], code: &[Instr]) -> Result<Verified, AllocError>
     requires { length code.now ≤ MAX_INSTRUCTIONS }
     ensures told { IfOk result (λ v. v.flaws.items ≡ flaws_of targets.now code.now v.depths.items) }
+    ensures begun { IfOk result (λ v. 1 ≤ length code.now → depth_at v.depths.items 0 ≡ Some 0) }
     ensures reached { IfOk result (λ v. AreReached targets.now code.now v.depths.items) }
+    ensures closed { IfOk result (λ v. AreClosed targets.now code.now v.depths.items) }
     ensures fits { IfOk result (λ v. some_can_be_stuck v.flaws.items ≡ false
         → Fits targets.now code.now v.depths.items) }
     ensures never_idly { IfOk result (λ v. (depths : Depths) → Fits targets.now code.now depths
@@ -84,21 +93,78 @@ fn flaws_of(
     ensures { IfOk result (λ v. v.items ≡ flaws_of targets.now code.now depths.now) }
 {
     let mut flaws = Vec::new(alloc);
+    push_places(&mut flaws, targets, code, depths)?;
+    push_labels(&mut flaws, targets, code, depths)?;
+    Ok(flaws)
+}
+
+// The flaws of the instructions, where none was told yet.
+fn push_places(
+    flaws: &mut Vec<PlacedFlaw>,
+    targets: &[u16],
+    code: &[Instr],
+    depths: &[Option<u16>],
+) -> Result<(), AllocError>
+    requires { flaws.now.items ≡ [] }
+    ensures { OnOk result (flaws.new.items ≡ place_flaws targets.now code.now depths.now) }
+{
     let start = Here {
         depths,
         targets,
         place: 0,
     };
-    start.push_way(&mut flaws, 0, 0)?;
+    start.push_way(flaws, 0, 0)?;
     for (place, instr) in code.iter().enumerate() {
         let here = Here {
             depths,
             targets,
             place,
         };
-        here.push_place(&mut flaws, instr)?;
+        here.push_place(flaws, instr)?;
     }
-    Ok(flaws)
+    Ok(())
+}
+
+// The labels, if no goto can lead to them.
+fn push_labels(
+    flaws: &mut Vec<PlacedFlaw>,
+    targets: &[u16],
+    code: &[Instr],
+    depths: &[Option<u16>],
+) -> Result<(), AllocError>
+    ensures { OnOk result (flaws.new.items ≡ flaws.old.items ++ label_flaws targets.now code.now depths.now) }
+{
+    if comes_to_goto(code, depths) {
+        return Ok(());
+    }
+    push_each_label(flaws, targets)
+}
+
+fn push_each_label(flaws: &mut Vec<PlacedFlaw>, targets: &[u16]) -> Result<(), AllocError>
+    ensures { OnOk result (flaws.new.items ≡ flaws.old.items ++ labels_from 0 targets.now) }
+{
+    for (label, target) in targets.iter().enumerate() {
+        flaws.push(PlacedFlaw {
+            place: usize::from(*target),
+            flaw: Flaw::NoGoto(label),
+        })?;
+    }
+    Ok(())
+}
+
+// Whether some way leads to a goto.
+fn comes_to_goto(code: &[Instr], depths: &[Option<u16>]) -> bool
+    ensures { result ≡ comes_to_goto code.now depths.now }
+{
+    code.iter()
+        .zip(depths)
+        .any(|(instr, depth)| is_goto(*instr) && depth.is_some())
+}
+
+fn is_goto(instr: Instr) -> bool
+    ensures { result ≡ is_goto instr }
+{
+    matches!(instr, Instr::Goto)
 }
 
 // A place of a function.
@@ -164,7 +230,8 @@ impl Here<'_> {
         instr: &Instr,
         depth: u16,
     ) -> Result<(), AllocError>
-        ensures { OnOk result (flaws.new.items ≡ flaws.old.items ++ placed self.entry.place (left_flaws instr.now depth)) }
+        ensures { OnOk result (flaws.new.items
+            ≡ flaws.old.items ++ placed self.entry.place (left_flaws instr.now depth)) }
     {
         match instr {
             Instr::Return => {
@@ -187,7 +254,8 @@ impl Here<'_> {
     ) -> Result<(), AllocError>
         requires within { self.place < usize.MAX }
         requires has { operands_taken instr.now ≤ depth }
-        ensures { OnOk result (flaws.new.items ≡ fold (with_way_flaws self.entry.depths.now self.entry.place) flaws.old.items
+        ensures { OnOk result (flaws.new.items
+            ≡ fold (with_way_flaws self.entry.depths.now self.entry.place) flaws.old.items
             (ways self.entry.targets.now instr.now self.entry.place depth)) }
     {
         let depth = u32::from(depth);
@@ -209,7 +277,8 @@ impl Here<'_> {
     }
 
     fn push_targets(self, flaws: &mut Vec<PlacedFlaw>, depth: u32) -> Result<(), AllocError>
-        ensures { OnOk result (flaws.new.items ≡ fold (with_way_flaws self.entry.depths.now self.entry.place) flaws.old.items
+        ensures { OnOk result (flaws.new.items
+            ≡ fold (with_way_flaws self.entry.depths.now self.entry.place) flaws.old.items
             (map (λ t. way t depth) self.entry.targets.now)) }
     {
         for target in self.targets {

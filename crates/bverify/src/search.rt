@@ -39,7 +39,8 @@ struct Search {
 impl Search {
     // A call begins at the first place, if there is one.
     fn begin(alloc: Global, places: usize) -> Result<Self, AllocError>
-        ensures { IfOk result (λ s. found_by s ≡ with_way (record { depths = replicate places None; pending = [] }) (way 0 0)) }
+        ensures { IfOk result (λ s. found_by s
+            ≡ with_way (record { depths = replicate places None; pending = [] }) (way 0 0)) }
     {
         let mut search = Search {
             depths: vec![in alloc; None; places]?,
@@ -96,7 +97,8 @@ impl Search {
     }
 
     fn come_to_each(&mut self, targets: &[u16], depth: u32) -> Result<(), AllocError>
-        ensures { OnOk result (found_by self.new ≡ fold with_way (found_by self.old) (map (λ t. way t depth) targets.now)) }
+        ensures { OnOk result (found_by self.new
+            ≡ fold with_way (found_by self.old) (map (λ t. way t depth) targets.now)) }
     {
         for target in targets {
             self.come_to(usize::from(*target), depth)?;

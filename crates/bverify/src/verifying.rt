@@ -5,7 +5,8 @@ ghost use Rattle.blang.specs.declared.code.Definition.TheVariants as definition;
 ghost use Rattle.btools.specs.Origins.{origin_shown};
 ghost use Rattle.btools.specs.Programs.{told_ends};
 ghost use Rattle.bverify.specs.Flaws.{some_can_be_stuck};
-ghost use Rattle.bverify.specs.Verifies.{AreFlawsOf, IsChecked, TellsOf, Verifies, VerifiesText, flaw_line, flaw_text, nothing_told, verified_status, with_flaws};
+ghost use Rattle.bverify.specs.Verifies.{AreFlawsOf, IsChecked, TellsOf, Verifies, VerifiesText, flaw_line, flaw_text};
+ghost use Rattle.bverify.specs.Verifies.{nothing_told, verified_status, with_flaws};
 
 use crate::flaws::{Flaw, PlacedFlaw, verify_function};
 use blang::status::{self, Status};
@@ -218,6 +219,11 @@ fn push_flaw(text: &mut Text, flaw: Flaw) -> Result<(), AllocError>
         Flaw::Left(operands) => {
             text.push(b"returns, and drops operands besides: ")?;
             text.push_number(u64::from(operands))
+        }
+        Flaw::NoGoto(label) => {
+            text.push(b"label ")?;
+            text.push_number(label as u64)?;
+            text.push(b" is here, and no goto comes to it")
         }
     }
 }

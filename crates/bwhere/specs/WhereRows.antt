@@ -64,13 +64,15 @@ next_definition : due_text (codes "X n 1 0\nc 7\nc 8\n") 3 ≡ codes "the first 
 next_definition = refl
 
 unread_told : unread_text (codes "X n 1 0\nc 007\nE\n") 2
-    ≡ codes "code 2\nat     line    2\n    c 007\n  wanted: c n, x name or s off, initial value 1 of 1 of n\n"
+    ≡ codes "code 2\nat     line    2\n    c 007\n  wanted: c n, x name or s off, initial value 1 of 1 of n"
+    ++ codes "; c n: n from 0 to 65535, without needless zeros\n"
 unfolding digits
 unread_told = refl
 
 -- a text that ends without a newline
 cut_told : unread_text (codes "F f 0 0 0 0 1\nr") 2
-    ≡ codes "code 2\nat     line    2\n    r\n  wanted: an instruction, 1 of 1 of f; the text ends in this line\n"
+    ≡ codes "code 2\nat     line    2\n    r\n  wanted: an instruction, 1 of 1 of f; the letter alone"
+    ++ codes "; the text ends in this line\n"
 unfolding digits
 cut_told = refl
 

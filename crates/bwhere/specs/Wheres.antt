@@ -31,6 +31,7 @@ use Rattle.btools.specs.PlaceLines.{lines_before}
 use Rattle.btools.specs.Programs.{load_line, located_status}
 use Rattle.btools.specs.SourceLines.{line_at, shown_line, source_lines}
 use Rattle.bwhere.specs.Dues.{due_text, part_at}
+use Rattle.bwhere.specs.Forms.{hint_text}
 use Rattle.bwhere.specs.Sites.{Site, instr_line, site_among}
 
 -- the number of a line of a code text, and the line
@@ -43,11 +44,11 @@ abbrev pub cut_text : (text : List ℕ) → (number : ℕ) → List ℕ
 cut_text text number =
     if nat_lt (count_by (λ b. b == 10) text) number then codes "; the text ends in this line" else []
 
--- what is told of the first wrong line of a text: the line, and what could come there
+-- what is told of the first wrong line of a text: the line, what could come there, and the form that it should have
 abbrev pub unread_text : (text : List ℕ) → (number : ℕ) → List ℕ
 unread_text text number =
     report_text (report.Code number) ++ code_line_text text number ++ codes "  wanted: " ++ due_text text number
-    ++ cut_text text number ++ codes "\n"
+    ++ hint_text text number ++ cut_text text number ++ codes "\n"
 
 -- a line with the name as a value or in an instruction
 abbrev pub uses : (line name : List ℕ) → Bool

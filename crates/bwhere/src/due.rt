@@ -62,14 +62,14 @@ const VECTOR: [ItemRow; 2] = [
 #[derive(Clone, Copy)]
 pub(crate) struct Opened {
     /// Its number from 1, or 0 where there is none.
-    at: u64,
+    pub at: u64,
     lines: u64,
 }
 
 /// A line of a definition: which one it is of how many.
 #[derive(Clone, Copy)]
 pub(crate) struct Due {
-    item: Item,
+    pub item: Item,
     number: u64,
     count: u64,
 }
@@ -88,7 +88,8 @@ pub(crate) fn push_due(text: &mut Text, code: &[u8], number: u64) -> Result<(), 
     text.push(b"the first line of a definition, or E")
 }
 
-fn opened_before(code: &[u8], number: u64) -> Opened
+/// Of the lines before one, the last that opens something.
+pub(crate) fn opened_before(code: &[u8], number: u64) -> Opened
     ensures { result ≡ opened_before code.now number }
 {
     let start = Opened { at: 0, lines: 0 };
@@ -115,7 +116,8 @@ fn opens(line: &[u8]) -> bool
     matches!(initial(line), b'E' | b'F' | b'V' | b'X')
 }
 
-fn initial(line: &[u8]) -> u8
+/// The byte with which a line begins, or 0.
+pub(crate) fn initial(line: &[u8]) -> u8
     ensures { result ≡ initial line.now }
 {
     line.first().copied().unwrap_or(0)
@@ -139,7 +141,8 @@ fn push_item(text: &mut Text, first: &[u8], since: u64) -> Result<(), AllocError
     text.push(part_at(first, 1))
 }
 
-fn due_among(first: &[u8], rows: &[ItemRow], since: u64) -> Option<Due>
+/// The line after so many lines of a definition with this first line.
+pub(crate) fn due_among(first: &[u8], rows: &[ItemRow], since: u64) -> Option<Due>
     ensures { result ≡ due_among first.now rows.now since }
 {
     let mut left = since;
@@ -157,8 +160,8 @@ fn due_among(first: &[u8], rows: &[ItemRow], since: u64) -> Option<Due>
     None
 }
 
-// The lines of a definition whose first line begins so.
-fn rows_of(initial: u8) -> &'static [ItemRow]
+/// The lines of a definition whose first line begins so.
+pub(crate) fn rows_of(initial: u8) -> &'static [ItemRow]
     ensures { result.now ≡ rows_of initial }
 {
     match initial {

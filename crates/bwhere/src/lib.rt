@@ -2,6 +2,7 @@
 #![tactic(auto)]
 
 mod due;
+mod form;
 mod loading;
 mod locating;
 mod site;

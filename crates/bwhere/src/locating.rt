@@ -7,6 +7,7 @@ ghost use Rattle.bwhere.specs.Sites.{site_shown};
 ghost use Rattle.bwhere.specs.Wheres.{LocatesCode, TellsUnloaded, TellsUnread, TellsOrNone, code_meaning, cut_text, code_loop_text, code_meaning_text, site_line_text, code_site_text, told_code_site, unread_text, unloaded_text};
 
 use crate::due::push_due;
+use crate::form::push_hint;
 use crate::loading::{push_line, push_unloaded};
 use crate::site::{Site, site_of};
 use bcode::{CodeFault, read_code};
@@ -92,6 +93,7 @@ fn unread_text(alloc: Global, code: &[u8], number: u64) -> Result<Text, AllocErr
     push_line(&mut text, code, number)?;
     text.push(b"  wanted: ")?;
     push_due(&mut text, code, number)?;
+    push_hint(&mut text, code, number)?;
     text.push(cut_text(code, number))?;
     text.push(b"\n")?;
     Ok(text)

@@ -14,6 +14,8 @@ returns c =
       c.in_ok-verified.verified.flaws.items,
       record {
         depths = c.in_ok-verified.verified.depths.items;
+        begun = e.begun;
+        closed = e.closed;
         reached = e.reached;
         told = e.told;
         fits = e.fits;

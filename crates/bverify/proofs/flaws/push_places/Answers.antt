@@ -1,6 +1,6 @@
 use Rattle.std.proofs.Common.{◌∙◌}
 use Rattle.bverify.proofs.FlawLists.{flaws_on}
-use Rattle.bverify.proofs.flaws.flaws_of.Goals as goal
+use Rattle.bverify.proofs.flaws.push_places.Goals as goal
 
 pub loop-place-preserved : goal.loop-place-preserved
 loop-place-preserved c =
