@@ -5,13 +5,14 @@ use Rattle.bcommand.specs.CommandLine.{argument_rule, bare_line, flag_rule, numb
 use Rattle.bcommand.specs.declared.commands.ArgumentRow.{ArgumentRow}
 use Rattle.bcommand.specs.declared.commands.CommandRow.{CommandRow}
 use Rattle.bcommand.specs.declared.commands.GivenAs.{GivenAs}
-use Rattle.bcommand.specs.declared.commands.GivenAs.TheVariants.{Flag, Number, Text as Texted, Repeated, Positional}
+use Rattle.bcommand.specs.declared.commands.GivenAs.TheVariants.{Attached, Flag, Number, Text as Texted, Repeated, Positional}
 
 abbrev pub rule_by : GivenAs → Text → Rule
 rule_by (Flag is_required) id = record (flag_rule id) { required = is_required }
 rule_by (Number most) id = number_rule id most
 rule_by (Texted name) id = text_rule id
 rule_by (Repeated name) id = repeated_rule id
+rule_by (Attached name) id = text_rule id
 rule_by (Positional is_required) id = argument_rule id is_required
 
 abbrev pub rule_in : ArgumentRow → Rule

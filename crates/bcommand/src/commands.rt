@@ -41,6 +41,9 @@ pub(crate) enum GivenAs {
     Text(&'static str),
     /// The same, which may be given often.
     Repeated(&'static str),
+    /// An option with a text that comes after `=`, or is left out. The text of its command tells it: `clap` would show
+    /// its value as one that has to be there.
+    Attached(&'static str),
     /// An argument, and whether it has to be there.
     Positional(bool),
 }
@@ -122,13 +125,13 @@ const WHERE: ArgumentRow = ArgumentRow {
 
 const CAREFUL: ArgumentRow = ArgumentRow {
     id: "careful",
-    kind: GivenAs::Text("HOW"),
+    kind: GivenAs::Attached("HOW"),
     help: "Stops at a word never set or off a vector; =warn, =wraps",
 };
 
 const SHOWN_CAREFUL: ArgumentRow = ArgumentRow {
     id: "careful",
-    kind: GivenAs::Text("HOW"),
+    kind: GivenAs::Attached("HOW"),
     help: "Up to a word never set or off a vector; =wraps",
 };
 
@@ -407,6 +410,11 @@ fn argument_of<'a>(alloc: Global, row: ArgumentRow) -> Arg<'a>
             .value_parser(value_parser!(u64).range(1..=i64::from(most))),
         GivenAs::Text(name) => arg.long(row.id).value_name(name).action(ArgAction::Set),
         GivenAs::Repeated(name) => arg.long(row.id).value_name(name).action(ArgAction::Append),
+        GivenAs::Attached(name) => arg
+            .long(row.id)
+            .value_name(name)
+            .hide(true)
+            .action(ArgAction::Set),
         GivenAs::Positional(is_required) => arg.required(is_required).action(ArgAction::Set),
     }
 }

@@ -346,7 +346,9 @@ Statuses: 0 to 127 the program's own, 130 a trap, 131 the limit of steps,
 132 no code text or one that doesn't load, 133 a failed read or write,
 134 out of memory, 135 a wrong command line. b --help explains the letters.";
 
-pub(crate) const GO_HELP: &str = "\
+pub(crate) const GO_HELP: &str =
+    "      --careful[=HOW]  Stops at a word never set or off a vector; =warn, =wraps
+
 The program reads standard input and writes standard output. A step is one
 instruction. If the line is limit, give more steps by --steps N or --no-limit.
 With --where, a second line tells where a trap or the limit came: the function,
@@ -420,7 +422,9 @@ Statuses: 0 to 127 the program's own, 1 also a fault of the source, 130 a trap,
 read or write, 134 out of memory, 135 a wrong command line, or LINES that don't
 fit. b --help explains the letters.";
 
-pub(crate) const SHOW_HELP: &str = "\
+pub(crate) const SHOW_HELP: &str =
+    "      --careful[=HOW]  Up to a word never set or off a vector; =wraps
+
 The page is one file that needs no network. It shows the source with the running
 line marked, the operands, the active calls, the words of memory that the
 program uses, and its output, at each step. Keys and a slider go from step to
