@@ -5,3 +5,4 @@ pub mod Steps
 pub mod WarnedSteps
 pub mod Silent
 pub mod Whole
+pub mod CareExcluded

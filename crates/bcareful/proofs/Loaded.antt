@@ -102,5 +102,5 @@ module _ (ds : List Definition) (image : Image) (p : Paused) (loaded : IsLoadedF
     stops = stops_run ds image p loaded begins n i j stop.outcome stop.call stop.steps h.stops;
     taken = h.taken;
     took = h.took;
-    told = λ more can. subst (λ (s : Sights). IsAll a legend source stop.outcome s stop.steps text) (seen_alike (h.taken ++ more)) (h.told more can);
+    told = λ more can. subst (λ (s : Sights). IsAll a legend source stop.outcome s n text) (seen_alike (h.taken ++ more)) (h.told more can);
   }

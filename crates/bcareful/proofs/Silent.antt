@@ -1,6 +1,6 @@
 -- What is found first in a run that is made in silence.
-use Rattle.std.proofs.Common.{◌≡◌, ◌∙◌, ℕ, List, [], ◌∷◌, ◌++◌, None, Option, Some, ap, map, refl, subst, sym}
-use Rattle.bword.specs.ByteEnds.{Incoming, Outgoing}
+use Rattle.std.proofs.Common.{◌≡◌, ◌∙◌, ℕ, List, ◌∷◌, None, Some, ap, map, refl, subst, sym}
+use Rattle.bword.specs.ByteEnds.{Incoming, Kept, outgoing_of}
 use Rattle.blang.specs.declared.code.Definition.{Definition}
 use Rattle.blang.specs.declared.run.Outcome.{Outcome}
 use Rattle.blang.specs.declared.run.Outcome.TheVariants as outcome
@@ -13,7 +13,7 @@ use Rattle.bmach.specs.declared.machine.Stop.{Stop}
 use Rattle.bmach.proofs.LoadedRuns.{read_of_loaded}
 use Rattle.bmach.proofs.Readings.{none_at_first}
 use Rattle.btools.specs.Programs.{nothing_written, steps_from}
-use Rattle.bwatch.specs.Sights.{Sight, sight_at}
+use Rattle.bwatch.specs.Sights.{Sight}
 use Rattle.bcareful.specs.Things.{Atlas}
 use Rattle.bcareful.specs.Carefuls.{CarefulGives, IsClean}
 use Rattle.bcareful.specs.First.{FindsFirst, FindsNothing}
@@ -30,27 +30,27 @@ not_begun ds image n i (outcome.Trap kind) begins = (begins, refl)
 not_begun ds image n i outcome.Limit begins = (begins, refl)
 not_begun ds image n i outcome.Device begins = (begins, refl)
 
-module _ (ds : List Definition) (image : Image) (p now : Paused) (loaded : IsLoadedFrom ds image) (begins : IsUnstarted image p) (a b : Atlas) (whole : a ≡ b) (n : ℕ) (i j : Incoming) (q : Outgoing) where
+module _ (ds : List Definition) (image : Image) (p now : Paused) (loaded : IsLoadedFrom ds image) (begins : IsUnstarted image p) (a b : Atlas) (whole : a ≡ b) (n : ℕ) (i j : Incoming) (kept : Kept) where
   -- one without a finding
-  pub none_first : (stop : Stop) → CarefulGives a p.image.functions (steps_from p) n i j nothing_written q now (ended.Over stop) → FindsFirst b (image_of ds).functions (machine ds) n i j stop None
+  pub none_first : (stop : Stop) → CarefulGives a p.image.functions (steps_from p) n i j nothing_written (outgoing_of kept) now (ended.Over stop) → FindsFirst b (image_of ds).functions (machine ds) n i j stop None
   none_first stop clean =
-      (q, clean_alike ds image p loaded begins b n i j nothing_written q stop (subst (λ (x : Atlas). IsClean x p.image.functions (steps_from p) n i j nothing_written q stop) whole clean))
+      (kept, clean_alike ds image p loaded begins b n i j nothing_written (outgoing_of kept) stop (subst (λ (x : Atlas). IsClean x p.image.functions (steps_from p) n i j nothing_written (outgoing_of kept) stop) whole clean))
 
   -- one that stays at a finding
-  module _ (f : Found) (gives : CarefulGives a p.image.functions (steps_from p) n i j nothing_written q now (ended.Found f)) where
+  module _ (f : Found) (gives : CarefulGives a p.image.functions (steps_from p) n i j nothing_written (outgoing_of kept) now (ended.Found f)) where
     pub read_first : ReadBySteps (machine ds) n i j
     read_first = read_of_loaded ds image p loaded begins n i j gives.1.read
 
     pub found_first : (stop : Stop) → stop ≡ record { outcome = outcome.Limit; call = f.call; steps = f.made } → (text : List ℕ) → text ≡ finding_meaning a (active_of now.call ∷ map active_of now.below) f.finding
         → FindsFirst b (image_of ds).functions (machine ds) n i j stop (Some text)
     found_first stop at text is =
-        let g : CarefulGives b p.image.functions (steps_from p) n i j nothing_written q now (ended.Found f) =
-        subst (λ (x : Atlas). CarefulGives x p.image.functions (steps_from p) n i j nothing_written q now (ended.Found f)) whole gives in
+        let g : CarefulGives b p.image.functions (steps_from p) n i j nothing_written (outgoing_of kept) now (ended.Found f) =
+        subst (λ (x : Atlas). CarefulGives x p.image.functions (steps_from p) n i j nothing_written (outgoing_of kept) now (ended.Found f)) whole gives in
         let here = found_alike ds image p loaded begins b n i j now f g.1 in
         subst (λ (x : Stop). FindsFirst b (image_of ds).functions (machine ds) n i j x (Some text)) (sym at)
         (record {
-          written = q;
-          gives = gives_alike ds image p loaded begins b n i j nothing_written q outcome.Limit g.0;
+          output = kept;
+          gives = gives_alike ds image p loaded begins b n i j nothing_written (outgoing_of kept) outcome.Limit g.0;
           limit = refl;
           taken = here.taken;
           took = here.took;

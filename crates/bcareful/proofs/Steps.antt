@@ -91,7 +91,7 @@ grows a sights k (suc d) =
     one_further : (a : Atlas) (sights : Sights) (n least : ℕ) → least ≤ made_by a sights n → least ≤ made_by a sights (suc n)
     one_further a sights n least le = elim (is_some (finding_at a sights (made_by a sights n))) as (λ b. least ≤ (if b then made_by a sights n else made_by a sights n + 1)) [ true ↦ le | false ↦ omega (arith, le) ]
 
-over : (r : Outcome) → (outcome.Limit ≡ r → ⊥) → (s : State) → state_outcome s ≡ r → IsOver s
+pub over : (r : Outcome) → (outcome.Limit ≡ r → ⊥) → (s : State) → state_outcome s ≡ r → IsOver s
 over r other (Running call below w) e = absurd (other e)
 over r other (Halted h w) e = tt
 over r other (Stuck w) e = tt

@@ -20,7 +20,7 @@ use Rattle.bwatch.specs.Sights.{Sight, sight_at}
 use Rattle.bcareful.specs.Things.{Atlas, atlas_in}
 use Rattle.bcareful.specs.Carefuls.{CarefulGives, IsClean, IsFound}
 use Rattle.bcareful.specs.Runs.{CarefulAsked, Runs, finds_wraps, found, stays, unfound, warned}
-use Rattle.bcareful.specs.Tellings.{Tells, TellsOver, finding_text}
+use Rattle.bcareful.specs.Tellings.{Tells, TellsOver, careful_text}
 use Rattle.bcareful.specs.Warned.{WarnGives, told_after}
 use Rattle.bcareful.specs.declared.watching.Ended.TheVariants as ended
 use Rattle.bcareful.specs.declared.watching.Found.{Found}
@@ -58,18 +58,18 @@ module _ (asked : CarefulAsked) (source : List ℕ) (ends : RunEnds) (status : �
 
   -- one that stays at a finding
   pub found_whole : (f : Found) → stays asked.care ≡ true → CarefulGives a p.image.functions (steps_from p) n ends.input ends.input_after ends.out ends.out_after now (ended.Found f)
-      → ((output : List ℕ) → Tells (finding_text a legend source (sight_at now output) f) ends.line ends.line_after status) → Runs asked source ends status
+      → ((output : List ℕ) → Tells (careful_text a legend source (sight_at now output) f) ends.line ends.line_after status) → Runs asked source ends status
   found_whole f staying gives told =
       let g : CarefulGives b p.image.functions (steps_from p) n ends.input ends.input_after ends.out ends.out_after now (ended.Found f) =
       subst (λ (x : Atlas). CarefulGives x p.image.functions (steps_from p) n ends.input ends.input_after ends.out ends.out_after now (ended.Found f)) whole gives in
       let here = found_alike ds image p is.loaded begins b n ends.input ends.input_after now f g.1 in
-      found ds image frames lines f (finding_text a legend source (sight_at now []) f) is named lined staying
+      found ds image frames lines f (careful_text a legend source (sight_at now []) f) is named lined staying
       (record {
         now = now;
         gives = gives_alike ds image p is.loaded begins b n ends.input ends.input_after ends.out ends.out_after outcome.Limit g.0;
         is = here;
-        tells = λ more can. (λ k. finding_text (whole k) (same k) source (sight_at now []) f)
-            ∙ ap (λ (s : Sight). finding_text b l source s f) (sym (here.stays more can).seen);
+        tells = λ more can. (λ k. careful_text (whole k) (same k) source (sight_at now []) f)
+            ∙ ap (λ (s : Sight). careful_text b l source s f) (sym (here.stays more can).seen);
       })
       (told [])
 

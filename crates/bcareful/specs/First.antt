@@ -1,6 +1,6 @@
 -- Promise: what is found first in a run that is made in silence.
 use Rattle.std.specs.Prelude.{◌≡◌, ℕ, ◌<◌, List, ◌++◌, Option, Some, None}
-use Rattle.bword.specs.ByteEnds.{CanFollow, Incoming, Outgoing, Took}
+use Rattle.bword.specs.ByteEnds.{CanFollow, Incoming, Kept, Took, outgoing_of}
 use Rattle.blang.specs.declared.run.Outcome.{Outcome}
 use Rattle.blang.specs.declared.run.Outcome.TheVariants as outcome
 use Rattle.blang.specs.declared.code.Definition.{Definition}
@@ -26,10 +26,11 @@ pub record IsFirst (a : Atlas) (sights : Sights) (steps made : ℕ) (text : List
   pub told : text ≡ finding_meaning a (calls_in (sights made)) finding
 
 module _ (a : Atlas) (functions : List Loaded) (states : States) (steps : ℕ) (i j : Incoming) where
-  -- It is so on each input that begins with the bytes that were taken, and the careful machine is there.
+  -- It is so on each input that begins with the bytes that were taken, and the careful machine is there. All that it
+  -- wrote before was kept.
   pub record FindsIt (stop : Stop) (text : List ℕ) : Type 0 where
-    pub written : Outgoing
-    pub gives : ComesTo (careful a functions states) steps i j nothing_written written outcome.Limit
+    pub output : Kept
+    pub gives : ComesTo (careful a functions states) steps i j nothing_written (outgoing_of output) outcome.Limit
     pub limit : stop.outcome ≡ outcome.Limit
     pub taken : List ℕ
     pub took : Took i taken j
@@ -39,7 +40,8 @@ module _ (a : Atlas) (functions : List Loaded) (states : States) (steps : ℕ) (
   -- The first finding was told; or there is none up to where the run was over, broken off, or at the limit.
   abbrev pub FindsFirst : Stop → (meaning : Option (List ℕ)) → Type 0
   FindsFirst stop (Some text) = FindsIt stop text
-  FindsFirst stop None = (written : Outgoing) × IsClean a functions states steps i j nothing_written written stop
+  FindsFirst stop None =
+      (output : Kept) × IsClean a functions states steps i j nothing_written (outgoing_of output) stop
 
 -- A program had no first step, and nothing was read; or memory was refused, and bytes were read by some of its steps.
 abbrev pub FindsNothing : List Definition → Image → (steps : ℕ) → (i j : Incoming) → Outcome → Type 0

@@ -9,5 +9,6 @@ pub mod First
 pub mod Warned
 pub mod Runs
 pub mod Stays
+pub mod CareExcluded
 pub mod TellingRows
 pub mod SmallRuns

@@ -23,7 +23,7 @@ use Rattle.bwatch.specs.Sights.{sights_of}
 use Rattle.bcareful.specs.Things.{atlas_in}
 use Rattle.bcareful.specs.Findings.{careful}
 use Rattle.bcareful.specs.Carefuls.{IsClean, IsFound}
-use Rattle.bcareful.specs.Tellings.{Tells, TellsOver, finding_text}
+use Rattle.bcareful.specs.Tellings.{Tells, TellsOver, careful_text}
 use Rattle.bcareful.specs.Warned.{WarnGives, told_after}
 use Rattle.bcareful.specs.declared.care.Care.{Care}
 use Rattle.bcareful.specs.declared.care.Care.TheVariants as care
@@ -43,7 +43,7 @@ pub record StaysThere (ds : List Definition) (frames : List Frame) (wraps : Bool
   pub is : IsFound (atlas_in ds frames wraps) (image_of ds).functions (machine ds) steps ends.input ends.input_after now
       found
   pub tells : (more : List ℕ) → CanFollow ends.input_after more
-      → text ≡ finding_text (atlas_in ds frames wraps) legend source
+      → text ≡ careful_text (atlas_in ds frames wraps) legend source
       (sights_of (image_of ds).functions (machine ds) (is.taken ++ more) found.made) found
 
 -- what is asked for

@@ -17,7 +17,7 @@ use Rattle.btrace.specs.RowTexts.{Legend}
 use Rattle.bwatch.specs.Sights.{Sight, Sights, sights_of}
 use Rattle.bcareful.specs.Things.{Atlas, atlas_in, of_data, owned}
 use Rattle.bcareful.specs.Findings.{finding_at, made_by}
-use Rattle.bcareful.specs.Tellings.{finding_text}
+use Rattle.bcareful.specs.Tellings.{careful_text}
 use Rattle.bcareful.specs.TellingRows.{at_place, told_so}
 use Rattle.bcareful.specs.Warned.{kept_text, noted, warned, warnings_at}
 use Rattle.bcareful.specs.declared.finding.Finding.{Finding}
@@ -143,7 +143,7 @@ sight_with call = record { call = call; operands = []; below = []; storing = [];
 warned_of_calls : (a : Atlas) (legend : Legend) (source : List ℕ)
     → warned a legend source (sight_with (Some (at_place 9 5))) 3 (Some (Never 28)) told_so
     ≡ noted (at_place 9 5)
-    (finding_text a legend source (sight_with (Some (at_place 9 5)))
+    (careful_text a legend source (sight_with (Some (at_place 9 5)))
     (record { finding = Never 28; call = at_place 9 5; made = 3 })) told_so
 warned_of_calls a legend source = refl
 

@@ -8,14 +8,14 @@ use Rattle.blang.specs.declared.code.Ival.TheVariants as ival
 use Rattle.bmach.specs.declared.machine.Active.{Active}
 use Rattle.bcareful.specs.CarefulRows.{f, frame_words, thing, data_thing, v}
 use Rattle.bcareful.specs.Things.{Atlas, of_data}
-use Rattle.bcareful.specs.Tellings.{address_of, finding_line, finding_meaning, name_text, word_name}
+use Rattle.bcareful.specs.Tellings.{address_of, careful_line, finding_meaning, name_text, word_name}
 use Rattle.bcareful.specs.Runs.{finds_wraps, stays}
 use Rattle.bcareful.specs.Warned.{Warnings, no_warnings, noted, told_after}
 use Rattle.bcareful.specs.declared.care.Care.TheVariants as care
 use Rattle.bcareful.specs.declared.finding.Finding.{Finding}
 use Rattle.bcareful.specs.declared.finding.Finding.TheVariants.{Index, Low, Never, Over, Past, Wraps}
 
-told_lines : map finding_line (Never 18 ∷ Index v 18 ∷ Past 18 ∷ Over 18 ∷ Low 3 ∷ Wraps op.Mul 5 8 ∷ [])
+told_lines : map careful_line (Never 18 ∷ Index v 18 ∷ Past 18 ∷ Over 18 ∷ Low 3 ∷ Wraps op.Mul 5 8 ∷ [])
     ≡ codes "careful set\n" ∷ codes "careful index\n" ∷ codes "careful index\n" ∷ codes "careful index\n"
     ∷ codes "careful low\n" ∷ codes "careful wraps\n" ∷ []
 told_lines = refl

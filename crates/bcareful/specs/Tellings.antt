@@ -88,8 +88,8 @@ abbrev pub no_name : WordName
 no_name = record { is_string = false; name = None; index = None; function = None }
 
 -- the name of a word of a frame
-abbrev pub frame_name : Site → (offset : ℕ) → WordName
-frame_name site offset = option_map_or
+abbrev pub frame_word_name : Site → (offset : ℕ) → WordName
+frame_word_name site offset = option_map_or
     (λ w. record {
       is_string = false;
       name = Some w.name;
@@ -145,7 +145,8 @@ holder a calls address = find (holds a address) calls
 -- the name of a word of a call's frame
 abbrev pub held_name : Atlas → (address : ℕ) → Active → WordName
 held_name a address call =
-    option_map_or (λ site. frame_name site (address - call.start)) (located a.functions a.frames call.strings) no_name
+    option_map_or (λ site. frame_word_name site (address - call.start))
+    (located a.functions a.frames call.strings) no_name
 
 -- the name of a word of memory, while these calls are active
 abbrev pub word_name : Atlas → List Active → (address : ℕ) → WordName
@@ -204,13 +205,13 @@ abbrev pub finding_meaning : Atlas → List Active → Finding → List ℕ
 finding_meaning a calls f = fault_text a calls f ++ fault_name a calls f
 
 -- the line of a finding
-abbrev pub finding_line : Finding → List ℕ
-finding_line (Never address) = codes "careful set\n"
-finding_line (Low address) = codes "careful low\n"
-finding_line (Index t address) = codes "careful index\n"
-finding_line (Past address) = codes "careful index\n"
-finding_line (Over address) = codes "careful index\n"
-finding_line (Wraps operator left right) = codes "careful wraps\n"
+abbrev pub careful_line : Finding → List ℕ
+careful_line (Never address) = codes "careful set\n"
+careful_line (Low address) = codes "careful low\n"
+careful_line (Index t address) = codes "careful index\n"
+careful_line (Past address) = codes "careful index\n"
+careful_line (Over address) = codes "careful index\n"
+careful_line (Wraps operator left right) = codes "careful wraps\n"
 
 -- the place of the step after so many, and its line of the source
 abbrev pub found_place : Legend → (source : List ℕ) → Found → List ℕ
@@ -219,9 +220,9 @@ found_place legend source found =
     ++ shown_line (line_at source (place_line legend found.call)) ++ codes "\n  means: "
 
 -- what is told of a run that stays at a finding
-abbrev pub finding_text : Atlas → Legend → (source : List ℕ) → Sight → Found → List ℕ
-finding_text a legend source s found =
-    finding_line found.finding ++ found_place legend source found ++ finding_meaning a (calls_in s) found.finding
+abbrev pub careful_text : Atlas → Legend → (source : List ℕ) → Sight → Found → List ℕ
+careful_text a legend source s found =
+    careful_line found.finding ++ found_place legend source found ++ finding_meaning a (calls_in s) found.finding
     ++ codes "\n"
 
 -- This was written, or a beginning of it; or memory was refused for it.

@@ -1,6 +1,6 @@
 -- Promise: what is told of a run that goes on after its findings.
 use Rattle.std.specs.Prelude.{◌≡◌, ℕ, zero, suc, ◌==◌, ◌&&◌, ◌||◌, Bool, List, [], ◌∷◌, ◌++◌, Option, Some, None}
-use Rattle.std.specs.Prelude.{if◌then◌else◌}
+use Rattle.std.specs.Prelude.{⊤, if◌then◌else◌}
 use Rattle.std.specs.List.{list_any}
 use Rattle.std.specs.Option.{option_map_or}
 use Rattle.bword.specs.ByteEnds.{CanFollow, Incoming, Outgoing, Took}
@@ -16,7 +16,7 @@ use Rattle.btrace.specs.RowTexts.{Legend}
 use Rattle.bwatch.specs.Sights.{Sight, Sights, sights_of}
 use Rattle.bcareful.specs.Things.{Atlas}
 use Rattle.bcareful.specs.Findings.{finding_at}
-use Rattle.bcareful.specs.Tellings.{finding_text}
+use Rattle.bcareful.specs.Tellings.{careful_text}
 use Rattle.bcareful.specs.declared.finding.Finding.{Finding}
 use Rattle.bcareful.specs.declared.warnings as told
 use Rattle.bcareful.specs.declared.warnings.Place.{Place}
@@ -59,7 +59,7 @@ module _ (a : Atlas) (legend : Legend) (source : List ℕ) where
   abbrev pub warned : Sight → (made : ℕ) → Option Finding → Warnings → Warnings
   warned s made None w = w
   warned s made (Some f) w = option_map_or
-      (λ call. noted call (finding_text a legend source s (record { finding = f; call = call; made = made })) w) s.call
+      (λ call. noted call (careful_text a legend source s (record { finding = f; call = call; made = made })) w) s.call
       w
 
   -- after so many steps
@@ -67,9 +67,11 @@ module _ (a : Atlas) (legend : Legend) (source : List ℕ) where
   warnings_at sights zero = no_warnings
   warnings_at sights (suc n) = warned (sights n) n (finding_at a sights n) (warnings_at sights n)
 
-  -- This is all that is told of so many steps of a run with this outcome.
-  abbrev pub IsAll : Outcome → Sights → (made : ℕ) → (text : List ℕ) → Type 0
-  IsAll result sights made text = text ≡ kept_text result (warnings_at sights made).text
+  -- This is all that is told of a run with this outcome, of so many steps at most: nothing is found at a step after its
+  -- end. Where a read or a write failed, nothing is told, whatever text this is.
+  abbrev pub IsAll : Outcome → Sights → (steps : ℕ) → (text : List ℕ) → Type 0
+  IsAll outcome.Device sights steps text = ⊤
+  IsAll result sights steps text = text ≡ kept_text result (warnings_at sights steps).text
 
   -- The machine came to this, and was over there, and this is all that is told of it.
   pub record WarnGives (functions : List Loaded) (states : States) (steps : ℕ) (i j : Incoming) (o p : Outgoing)
@@ -79,4 +81,4 @@ module _ (a : Atlas) (legend : Legend) (source : List ℕ) where
     pub taken : List ℕ
     pub took : Took i taken j
     pub told : (more : List ℕ) → CanFollow j more
-        → IsAll stop.outcome (sights_of functions states (taken ++ more)) stop.steps text
+        → IsAll stop.outcome (sights_of functions states (taken ++ more)) steps text

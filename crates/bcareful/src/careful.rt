@@ -7,6 +7,7 @@ ghost use Rattle.btools.specs.Functions.{entries_of, functions_of};
 ghost use Rattle.btools.specs.ProgramLines.{HasLines};
 ghost use Rattle.btools.specs.Programs.{IsThisProgram};
 ghost use Rattle.btrace.specs.RowTexts.{legend_in, legend_of};
+ghost use Rattle.bcareful.specs.CareExcluded.{NoCarefulRuns};
 ghost use Rattle.bcareful.specs.Runs.{Runs, careful_asked, finds_wraps};
 ghost use Rattle.bcareful.specs.Things.{atlas_in, atlas_of};
 ghost use Rattle.bcareful.specs.Warned.{told_after};
@@ -30,10 +31,10 @@ use std::alloc::Global;
 /// Compiles a source, and runs its program carefully.
 ///
 /// A program without a finding has the output, the line and the status of `go_edition`, and the place of a trap or of
-/// the limit comes after its line, as `locate` tells it; the same where the run goes on after its findings. A finding at
-/// which the run stays is told in the place of this line, with the status of a trap: first its kind, then the function,
-/// the place in it, the number of the line of the source and that of the step, this line of the source, and what is
-/// wrong. What was written before stays.
+/// the limit comes after its line, as `locate` tells it; the same where the run goes on after its findings. A finding
+/// at which the run stays is told in the place of this line, with the status of a trap: first its kind, then the
+/// function, the place in it, the number of the line of the source and that of the step, this line of the source, and
+/// what is wrong. What was written before stays.
 pub fn go_careful<I: ByteIn, O: ByteOut, D: ByteOut>(
     alloc: Global,
     source: &[u8],
@@ -150,3 +151,9 @@ fn told_after(answer: Status, text: &[u8]) -> &[u8]
         text
     }
 }
+
+/// No careful run of a source has its line without its place, none of a program passes a finding over, and none takes
+/// a byte that no step asked for.
+pub fn wrong_careful_runs_are_excluded()
+    ensures { NoCarefulRuns }
+{}

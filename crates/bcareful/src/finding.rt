@@ -1,8 +1,9 @@
 //! What is found at a step.
 ghost use Rattle.std.specs.Prelude.{◌≡◌, false};
 ghost use Rattle.bcareful.specs.Effects.{mark, moment_of, operand};
-ghost use Rattle.bcareful.specs.Findings.{call_touch, counts_by, instr_finding, is_unset, thing_finding, touch, touch_finding};
-ghost use Rattle.bcareful.specs.Findings.{found_word, is_address, result_finding, word_finding, wrap_finding, wraps};
+ghost use Rattle.bcareful.specs.Findings.{call_touch, counts_by, found_word, instr_finding, is_address, is_unset};
+ghost use Rattle.bcareful.specs.Findings.{result_finding, thing_finding, touch, touch_finding, word_finding};
+ghost use Rattle.bcareful.specs.Findings.{wrap_finding, wraps};
 
 use crate::moment::Moment;
 use crate::thing::{Mark, Thing};

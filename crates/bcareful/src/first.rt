@@ -32,7 +32,7 @@ pub struct SilentRun {
     /// What is wrong with the next step, if the run stays at a finding.
     pub meaning: Option<Text>,
     /// What was read.
-    pub record: Record,
+    pub read: Record,
 }
 
 /// Runs a program for at most so many steps, up to its first finding, and writes nothing.
@@ -53,7 +53,7 @@ pub fn find_first<I: ByteIn>(
         (atlas_in program.now.definitions.items program.now.names.frames.items (finds_wraps care))
         (image_of program.now.definitions.items).functions (machine program.now.definitions.items) steps
         (I.incoming input.old) (I.incoming input.new) r.stop r.meaning) }
-    ensures records { IfOk result (λ r. Records r.record (I.incoming input.old) (I.incoming input.new)) }
+    ensures records { IfOk result (λ r. Records r.read (I.incoming input.old) (I.incoming input.new)) }
     ensures nothing { IfErr result (FindsNothing program.now.definitions.items program.now.image steps
         (I.incoming input.old) (I.incoming input.new)) }
     ensures same { I.lender input.new ≡ I.lender input.old }
@@ -80,13 +80,13 @@ pub fn find_first<I: ByteIn>(
         Ended::Over(stop) => Ok(SilentRun {
             stop,
             meaning: None,
-            record: ran.record,
+            read: ran.record,
         }),
         Ended::Found(found) => match finding_meaning(alloc, &atlas, &stepper, found.finding) {
             Ok(text) => Ok(SilentRun {
                 stop: stop_of(found),
                 meaning: Some(text),
-                record: ran.record,
+                read: ran.record,
             }),
             Err(_) => Err(Outcome::Memory),
         },

@@ -17,6 +17,6 @@ mod warnings;
 mod watching;
 
 pub use care::{Care, CarefulRequest};
-pub use careful::go_careful;
+pub use careful::{go_careful, wrong_careful_runs_are_excluded};
 pub use first::{SilentRun, find_first};
 pub use watching::careful_runs_stay_at_the_first_finding;

@@ -5,7 +5,7 @@ ghost use Rattle.btools.specs.FrameNames.{word_seen};
 ghost use Rattle.blang.specs.Layout.{shape_of, words_before_strings};
 ghost use Rattle.bmach.specs.Stops.{active_of};
 ghost use Rattle.bcareful.specs.Things.{atlas_of, site_of};
-ghost use Rattle.bcareful.specs.Tellings.{address_name, data_index, frame_name, function_text, held_name, holder};
+ghost use Rattle.bcareful.specs.Tellings.{address_name, data_index, frame_word_name, function_text, held_name, holder};
 ghost use Rattle.bcareful.specs.Tellings.{holds};
 ghost use Rattle.bcareful.specs.Tellings.{index_after, index_text, is_string, name_text, name_with, named_at, no_name};
 ghost use Rattle.bcareful.specs.Tellings.{numbered_text};
@@ -181,14 +181,14 @@ fn held_name(atlas: &Atlas<'_>, address: u16, call: Active) -> WordName
     match atlas.located(call.strings) {
         Some(site) => {
             let offset = u32::from(address).saturating_sub(call.start);
-            frame_name(site, offset)
+            frame_word_name(site, offset)
         }
         None => WordName::none(),
     }
 }
 
-fn frame_name(site: Site<'_>, offset: u32) -> WordName
-    ensures { word_name_of result ≡ frame_name (site_of site.entry) offset }
+fn frame_word_name(site: Site<'_>, offset: u32) -> WordName
+    ensures { word_name_of result ≡ frame_word_name (site_of site.entry) offset }
 {
     match named_at(site.words, offset) {
         Some(word) => WordName {

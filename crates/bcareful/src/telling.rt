@@ -4,7 +4,7 @@ ghost use Rattle.bmach.specs.Stops.{active_of};
 ghost use Rattle.btrace.specs.RowTexts.{legend_of};
 ghost use Rattle.bcareful.specs.Things.{atlas_of};
 ghost use Rattle.bcareful.specs.Tellings.{Tells, TellsOver, address_of, address_text, extent_text, fault_text};
-ghost use Rattle.bcareful.specs.Tellings.{finding_line, finding_meaning, finding_text, found_place, sign, thing_text};
+ghost use Rattle.bcareful.specs.Tellings.{careful_line, finding_meaning, careful_text, found_place, sign, thing_text};
 ghost use Rattle.bcareful.specs.Tellings.{wrap_text};
 ghost use Rattle.bwatch.specs.Sights.{sight_at};
 
@@ -33,7 +33,7 @@ pub fn tell_found<S: Store + Drop, D: ByteOut>(
     diag: &mut D,
 ) -> Status
     requires { found.made + 1 < 2 ^ 64 }
-    ensures told { (output : List ℕ) → Tells (finding_text (atlas_of atlas.now) (legend_of legend.now) source.now
+    ensures told { (output : List ℕ) → Tells (careful_text (atlas_of atlas.now) (legend_of legend.now) source.now
         (sight_at stepper.now output) found) (D.outgoing diag.old) (D.outgoing diag.new) result }
     ensures same { D.lender diag.new ≡ D.lender diag.old }
 {
@@ -53,11 +53,11 @@ pub fn found_text<S: Store + Drop>(
     found: Found,
 ) -> Result<Text, AllocError>
     requires { found.made + 1 < 2 ^ 64 }
-    ensures { IfOk result (λ text. (output : List ℕ) → text ≡ finding_text (atlas_of atlas.now) (legend_of legend.now)
+    ensures { IfOk result (λ text. (output : List ℕ) → text ≡ careful_text (atlas_of atlas.now) (legend_of legend.now)
         source.now (sight_at stepper.now output) found) }
 {
     let mut text = Text::new(alloc);
-    text.push(finding_line(found.finding))?;
+    text.push(careful_line(found.finding))?;
     push_found_place(&mut text, legend, source, found)?;
     push_meaning(&mut text, atlas, stepper, found.finding)?;
     text.push(b"\n")?;
@@ -65,8 +65,8 @@ pub fn found_text<S: Store + Drop>(
 }
 
 // The line of a finding.
-fn finding_line(finding: Finding) -> &'static [u8]
-    ensures { result.now ≡ finding_line finding }
+fn careful_line(finding: Finding) -> &'static [u8]
+    ensures { result.now ≡ careful_line finding }
 {
     match finding {
         Finding::Never(_) => b"careful set\n",
@@ -104,8 +104,8 @@ pub fn push_meaning<S: Store + Drop>(
     stepper: &Stepper<'_, S>,
     finding: Finding,
 ) -> Result<(), AllocError>
-    ensures { OnOk result (text.new ≡ text.old
-        ++ finding_meaning (atlas_of atlas.now) (active_of stepper.now.call ∷ map active_of stepper.now.below) finding) }
+    ensures { OnOk result (text.new ≡ text.old ++ finding_meaning (atlas_of atlas.now)
+        (active_of stepper.now.call ∷ map active_of stepper.now.below) finding) }
 {
     push_fault(text, atlas, stepper, finding)?;
     match address_of(finding) {

@@ -4,7 +4,7 @@ ghost use Rattle.std.specs.List.{list_any};
 ghost use Rattle.btrace.specs.RowTexts.{legend_of};
 ghost use Rattle.bwatch.specs.Sights.{sight_at};
 ghost use Rattle.bcareful.specs.Things.{atlas_of};
-ghost use Rattle.bcareful.specs.Tellings.{finding_text};
+ghost use Rattle.bcareful.specs.Tellings.{careful_text};
 ghost use Rattle.bcareful.specs.Warned.{is_at, no_warnings, noted, warned, warnings_of};
 
 use crate::atlas::Atlas;
@@ -49,7 +49,7 @@ impl<'a> Teller<'a> {
         found: Found,
     ) -> Result<Text, AllocError>
         requires { found.made + 1 < 2 ^ 64 }
-        ensures { IfOk result (λ text. (output : List ℕ) → text ≡ finding_text (atlas_of self.now.atlas)
+        ensures { IfOk result (λ text. (output : List ℕ) → text ≡ careful_text (atlas_of self.now.atlas)
             (legend_of self.now.legend) self.now.source.now (sight_at stepper.now output) found) }
     {
         found_text(

@@ -93,10 +93,10 @@ module _ (edition : Edition) (text : List ℕ) (d : Diagnostic) (faulty : HasFau
 
   then_explained : (files : Files) (steps : ℕ) (ends : RunEnds) (located : ℕ) (line : Outgoing) → Locates edition text files steps (record ends { line_after = line }) located → Explains edition text located line ends.line_after 1
       → Writes ends.line (fault_lines files d ++ fault_explained (why.Faulty d)) ends.line_after
-  then_explained files steps ends located line locates (explains.tells fault has some (inl written)) =
+  then_explained files steps ends located line locates (explains.tells fault has some which (inl written)) =
       let at : Locates edition text files steps (record ends { line_after = line }) 1 = subst (λ n. Locates edition text files steps (record ends { line_after = line }) n) (sym written.1) locates in
       Writes-append (by_place files steps (record ends { line_after = line }) at) (subst (λ t. Writes line t ends.line_after) (the_fault fault has some) written.0)
-  then_explained files steps ends located line locates (explains.tells fault has some (inr refused)) = absurd (no_write_fault refused.fault refused.status)
+  then_explained files steps ends located line locates (explains.tells fault has some which (inr refused)) = absurd (no_write_fault refused.fault refused.status)
   then_explained files steps ends located line locates (explains.has_program ds image has same at) = absurd (no_program ds image has)
   then_explained files steps ends located line locates (explains.other_status no_fault loads same at) = absurd (no_fault (sym at))
   then_explained files steps ends located line locates (explains.no_memory same at) = absurd (omega (arith, at))
@@ -124,7 +124,7 @@ module _ (edition : Edition) (text : List ℕ) (d : Diagnostic) (faulty : HasFau
   by_careful asked same ends (carefuls.stopped why quiet) = why_told asked.files ends.line ends.line_after (subst (λ e. NoProgram e text (fault_lines asked.files) ends.line ends.line_after 1) same why)
 
   by_careful_page : (care : Care) (asked : Asked) (ends : RunEnds) → ShowsCarefully care edition text asked ends 1 → Writes ends.line (fault_lines asked.files d) ends.line_after
-  by_careful_page care asked ends (first.shown ds image frames stop meaning taken left has named finds ran took shows) = absurd (no_program ds image has)
+  by_careful_page care asked ends (first.shown ds image frames stop meaning taken left has named finds read ran took shows) = absurd (no_program ds image has)
   by_careful_page care asked ends (first.unkept ds image frames stop meaning has named finds nothing) = absurd (no_program ds image has)
   by_careful_page care asked ends (first.unread ds image frames stop meaning has named finds device nothing) = absurd (no_program ds image has)
   by_careful_page care asked ends (first.not_begun ds image result has never shows) = absurd (no_program ds image has)

@@ -26,7 +26,7 @@ use Rattle.blang.specs.Cut.{tokens_from}
 use Rattle.bsources.specs.Files.{Files, NamedText, file_in, file_of, following}
 use Rattle.bcli.proofs.FaultLies.{fault_meant, fault_told}
 use Rattle.bcli.proofs.Joined.{failed_joined, joined_answers}
-use Rattle.bcli.proofs.TriedSources.{tried_unread}
+use Rattle.bcli.proofs.TriedSources.{tried_unread, tried_whole}
 use Rattle.btools.specs.Origins.{Code, Origin}
 use Rattle.bcli.specs.Serves.{OnOrigin, origin_of, CompilesJoined, NamesLib, Reads, ReadsLibs, compiling, files_read, whole, Answers, AnswersOf, Does, HasNoFile, IsHelp, NamesFile, RefusesWords, SaysNothing, Serves, did, refused, no_memory}
 use Rattle.bcli.specs.ShellExcluded.{AreWrong, Excluded, FileIsRead, HoldsOne, NothingFails, alone, files_alone, in_file, with_lib}
@@ -354,6 +354,7 @@ module _ (shelf : Holdings) where
     fault_told = fault_told shelf;
     fault_meant = fault_meant shelf;
     tried_unread = tried_unread;
+    tried_whole = tried_whole;
     compiled_joined = compiled_joined;
     failed_joined = λ edition rest ends it counted none. failed_joined edition rest ends 133 it counted none refl;
     both_done = λ clash ends does. not_done _ 135 ends.line ends.line_after (λ e. omega (arith, e)) does.1;

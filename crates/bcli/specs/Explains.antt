@@ -58,6 +58,7 @@ fault_explained other = []
 -- refused for it.
 pub data Explains (edition : Edition) (text : List ℕ) (located : ℕ) (old new : Outgoing) (status : ℕ) : Type 0 where
   tells : (fault : ProgramFault) → HasNoProgram edition text fault → (fault ≡ why.Memory → ⊥)
+      → (located ≡ FAULT) ⊎ (located ≡ REFUSED)
       → Reported (fault_explained fault) located old new status → Explains edition text located old new status
   has_program : (ds : List Definition) (image : Image) → HasProgram edition text ds image
       → new ≡ old → status ≡ located → Explains edition text located old new status

@@ -60,7 +60,7 @@ traced_asked : map traced_rows (which.From 3 ∷ which.Last 3 ∷ []) ≡ traced
 traced_asked = refl
 
 -- what comes next after each status, where the source has no fault
-next_of_runs : map (next_text 0) (0 ∷ 1 ∷ 127 ∷ 130 ∷ 131 ∷ 132 ∷ 133 ∷ 134 ∷ [])
+next_of_runs : map (next_text 9 0) (0 ∷ 1 ∷ 127 ∷ 130 ∷ 131 ∷ 132 ∷ 133 ∷ 134 ∷ [])
     ≡ codes "next: no finding; b show in place of b try, with > run.html, shows each step\n"
     ∷ codes "next: no finding; the status is the one that the program gave to exit\n"
     ∷ codes "next: no finding; the status is the one that the program gave to exit\n"
@@ -71,11 +71,17 @@ next_of_runs : map (next_text 0) (0 ∷ 1 ∷ 127 ∷ 130 ∷ 131 ∷ 132 ∷ 13
 next_of_runs = refl
 
 -- and where it has one, or could not be checked
-next_of_checks : map (λ status. next_text status status) (1 ∷ 132 ∷ 133 ∷ 134 ∷ [])
+next_of_checks : map (λ status. next_text 9 status status) (1 ∷ 132 ∷ 133 ∷ 134 ∷ [])
     ≡ codes "next: do what stands after fix, and try it again\n"
     ∷ codes "next: do what stands after fix, and try it again\n"
     ∷ [] ∷ [] ∷ []
 next_of_checks = refl
+
+-- A page has a limit of steps, which a run may lack.
+next_without_limit : map (next_text 18446744073709551615 0) (0 ∷ 130 ∷ [])
+    ≡ codes "next: no finding; b show in place of b try --no-limit, with > run.html, shows each step\n"
+    ∷ codes "next: b show --careful in place of b try --no-limit, with > run.html, shows what led there\n" ∷ []
+next_without_limit = refl
 
 -- what is told of a fault by `go --where`, and of what doesn't load
 abbrev of_letters : Letters → List ℕ

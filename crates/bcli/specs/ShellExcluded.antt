@@ -11,9 +11,11 @@ use Rattle.bword.specs.declared.edition.Edition.TheVariants as editions
 use Rattle.bword.specs.declared.ends.EndFault.TheVariants as end_fault
 use Rattle.blang.specs.Compiles.{CompileAnswers, CompilesTo, Compilation, EndRefused, HasOutcome, IsUndisturbed, Tells}
 use Rattle.blang.specs.Cut.{tokens_from}
+use Rattle.blang.specs.declared.code.Definition.{Definition}
 use Rattle.blang.specs.declared.token.Diagnostic.{Diagnostic}
-use Rattle.blang.specs.declared.status.TheConstants.{DONE, DEVICE, FAULT, MEMORY, WRONG_COMMAND}
+use Rattle.blang.specs.declared.status.TheConstants.{DONE, DEVICE, FAULT, MEMORY, REFUSED, WRONG_COMMAND}
 use Rattle.blang.specs.Headline.{GoesOff}
+use Rattle.blang.specs.Machine.{Image}
 use Rattle.blang.specs.Reports.{HasNotRun, Reported, RunEnds}
 use Rattle.brun.specs.OneRun.{nothing_written, one_run_ends, unread}
 use Rattle.brun.specs.Runs.{RunsText}
@@ -24,7 +26,7 @@ use Rattle.bsources.specs.Files.{Files, file_of}
 use Rattle.bsources.specs.JoinedEnds.{joined_in}
 use Rattle.btools.specs.Origins.{Code}
 use Rattle.btools.specs.FaultPlaces.{fault_lines}
-use Rattle.btools.specs.Programs.{HasFault}
+use Rattle.btools.specs.Programs.{HasFault, HasProgram}
 use Rattle.bcommand.specs.declared.job.Clash.{Clash}
 use Rattle.bwhere.specs.Wheres.{LocatesCode}
 use Rattle.bcli.specs.declared.shelf.MemFile.{MemFile}
@@ -32,6 +34,7 @@ use Rattle.bcli.specs.Serves.{Answers, AnswersOf, CompilesJoined, Does, HasNoFil
 use Rattle.bcli.specs.Serves.{NamesLibOf, SaysNothing, Serves, compiling, origin_of, unread_line}
 use Rattle.btools.specs.declared.program.ProgramFault.TheVariants as why
 use Rattle.bcli.specs.Explains.{fault_explained}
+use Rattle.bcli.specs.Tries.{IsTriedWhole}
 use Rattle.bcli.specs.Blocks.{HandsOn, Held, TakesPiece, held}
 use Rattle.bcli.specs.Processes.{KnownStreams, PerformsTask, ServesProcess}
 use Rattle.bcli.specs.Shelves.{Holdings, holding}
@@ -146,6 +149,12 @@ pub record Excluded (shelf : Holdings) : Type 0 where
   pub tried_unread : (edition : Edition) (files : Files) (text : List ℕ) (steps : ℕ) (ends : RunEnds) (status : ℕ)
       (d : Diagnostic) → HasFault edition text d → Answers shelf edition files text (try_out steps) ends status
       → ends.input_after ≡ ends.input
+  -- a source that compiles and loads and is tried without its check, or without its careful run after that, or told with
+  -- another status than this run's, or with other advice
+  pub tried_whole : (edition : Edition) (files : Files) (text : List ℕ) (steps : ℕ) (ends : RunEnds) (status : ℕ)
+      (ds : List Definition) (image : Image) → HasProgram edition text ds image → status < REFUSED
+      → Answers shelf edition files text (try_out steps) ends status
+      → IsTriedWhole edition files text steps ends status
   -- the input and a file that are compiled as other bytes, or that get 133 or 134 where nothing failed
   pub compiled_joined : (lib b input : List ℕ) (edition : Edition) (ends : RunEnds) (status : ℕ) → HoldsOne shelf lib b
       → Tells ends.input input → NothingFails edition (10 ∷ b) ends status

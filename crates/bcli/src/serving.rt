@@ -10,8 +10,9 @@ ghost use Rattle.bcli.specs.ShellExcluded.{Excluded, FileIsRead};
 ghost use Rattle.bshow.specs.Shows.{asked_of as page_of};
 ghost use Rattle.bsources.specs.Files.{file_shown, files_shown};
 ghost use Rattle.btools.specs.Origins.{origin_shown};
-ghost use Rattle.bcli.specs.Serves.{Answers, AnswersOf, CompilesJoined, Does, NamesFile, RefusesWords, Serves, ShowsBy, ShowsRun};
-ghost use Rattle.bcli.specs.Serves.{care_taken, form_of, origin_of, page_asked, style_of, traced_rows, no_file_line, unread_line};
+ghost use Rattle.bcli.specs.Serves.{Answers, AnswersOf, CompilesJoined, Does, NamesFile, RefusesWords, Serves};
+ghost use Rattle.bcli.specs.Serves.{ShowsBy, ShowsRun, care_taken, form_of, no_file_line, origin_of, page_asked};
+ghost use Rattle.bcli.specs.Serves.{style_of, traced_rows, unread_line};
 ghost use Rattle.bcli.specs.Shelves.{opened};
 
 use crate::explaining::locate_and_explain;
@@ -22,8 +23,8 @@ use crate::trying::{Attempt, try_source};
 use bcareful::{CarefulRequest, go_careful};
 use bcheck::{FindingForm, Request, check};
 use bcommand::{
-    Care, Display, Job, OriginNames, Question, Rows, SourceNames, UNREAD, clash_text, full_words,
-    job_of, parse,
+    Care, Display, Job, OriginNames, Question, Rows, SourceNames, UNREAD, Walk, clash_text,
+    full_words, job_of, parse,
 };
 use bcount::{CountStyle, Counting, count};
 use bdraw::draw;
@@ -266,8 +267,8 @@ fn ask_read<S: Shelf, I: ByteIn, O: ByteOut, D: ByteOut>(
     diag: &mut D,
 ) -> Status
     ensures answers { Answers (S.holdings shelf.now) edition
-        (record { first = file_shown first.entry; rest = libs.now.files }) text.now (question_of question.entry) (run_ends
-        (I.incoming input.old) (I.incoming input.new) (O.outgoing out.old) (O.outgoing out.new)
+        (record { first = file_shown first.entry; rest = libs.now.files }) text.now
+        (question_of question.entry) (run_ends (I.incoming input.old) (I.incoming input.new) (O.outgoing out.old) (O.outgoing out.new)
         (D.outgoing diag.old) (D.outgoing diag.new)) result }
     ensures input_lender { I.lender input.new ≡ I.lender input.old }
     ensures out_lender { O.lender out.new ≡ O.lender out.old }
@@ -331,58 +332,35 @@ fn answer<I: ByteIn, O: ByteOut, D: ByteOut>(
         Question::Map => map(alloc, text, edition, out, diag),
         Question::Draw(steps) => draw(alloc, text, edition, steps, input, out, diag),
         Question::Check(for_editor) => {
-            let request = Request {
-                edition,
-                files,
-                form: form_of(for_editor),
-            };
-            check(alloc, text, request, out)
+            check(alloc, text, check_request(edition, files, for_editor), out)
         }
         Question::Fix => fix(alloc, text, edition, files, out, diag),
         Question::Names => tell_names(alloc, text, edition, &files, out),
         Question::Trace(walk) => {
-            let wanted = TraceRequest {
-                steps: walk.steps,
-                rows: traced_rows(walk.rows),
-                function: walk.function,
-                files,
-            };
-            trace(alloc, text, origin, wanted, input, out, diag)
+            trace(
+                alloc,
+                text,
+                origin,
+                trace_request(walk, files),
+                input,
+                out,
+                diag,
+            )
         }
         Question::Locate(steps) => {
-            let attempt = Attempt {
-                edition,
-                files,
-                text,
-                steps,
-            };
+            let attempt = Attempt::new(edition, files, text, steps);
             locate_and_explain(alloc, attempt, input, out, diag)
         }
         Question::GoCareful(care, steps) => {
-            let wanted = CarefulRequest {
-                edition,
-                files,
-                care: care_taken(care),
-                steps,
-            };
+            let wanted = careful_request(edition, files, care, steps);
             go_careful(alloc, text, wanted, input, out, diag)
         }
         Question::Try(steps) => {
-            let attempt = Attempt {
-                edition,
-                files,
-                text,
-                steps,
-            };
+            let attempt = Attempt::new(edition, files, text, steps);
             try_source(alloc, attempt, input, out, diag)
         }
         Question::Count(_, steps, for_editor) => {
-            let counting = Counting {
-                origin,
-                steps,
-                files,
-                style: style_of(for_editor),
-            };
+            let counting = counting_of(origin, files, steps, for_editor);
             count(alloc, text, counting, input, out, diag)
         }
         Question::Show(display) => {
@@ -390,6 +368,75 @@ fn answer<I: ByteIn, O: ByteOut, D: ByteOut>(
         }
         Question::Format(is_check) => format(&House, alloc, text, edition, is_check, out, diag),
         Question::Port => port(alloc, text, edition, files, out, diag),
+    }
+}
+
+// What is asked of a check, of a trace, of a careful run and of counts.
+fn check_request<'a>(edition: Edition, files: SourceFiles<'a>, for_editor: bool) -> Request<'a>
+    ensures { result ≡ record { edition = edition; files = files.entry; form = form_of for_editor } }
+{
+    Request {
+        edition,
+        files,
+        form: form_of(for_editor),
+    }
+}
+
+fn trace_request<'a>(walk: Walk<'a>, files: SourceFiles<'a>) -> TraceRequest<'a>
+    ensures { result ≡ record {
+      steps = walk.entry.steps;
+      rows = traced_rows walk.entry.rows;
+      function = walk.entry.function;
+      files = files.entry;
+    } }
+{
+    TraceRequest {
+        steps: walk.steps,
+        rows: traced_rows(walk.rows),
+        function: walk.function,
+        files,
+    }
+}
+
+fn careful_request<'a>(
+    edition: Edition,
+    files: SourceFiles<'a>,
+    care: Care,
+    steps: u64,
+) -> CarefulRequest<'a>
+    ensures { result ≡ record {
+      edition = edition;
+      files = files.entry;
+      care = care_taken care;
+      steps = steps;
+    } }
+{
+    CarefulRequest {
+        edition,
+        files,
+        care: care_taken(care),
+        steps,
+    }
+}
+
+fn counting_of<'a>(
+    origin: Origin<'a>,
+    files: SourceFiles<'a>,
+    steps: u64,
+    for_editor: bool,
+) -> Counting<'a>
+    ensures { result ≡ record {
+      origin = origin.entry;
+      steps = steps;
+      files = files.entry;
+      style = style_of for_editor;
+    } }
+{
+    Counting {
+        origin,
+        steps,
+        files,
+        style: style_of(for_editor),
     }
 }
 

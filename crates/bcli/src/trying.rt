@@ -22,6 +22,19 @@ pub(crate) struct Attempt<'a> {
     pub steps: u64,
 }
 
+impl<'a> Attempt<'a> {
+    pub(crate) fn new(edition: Edition, files: SourceFiles<'a>, text: &'a [u8], steps: u64) -> Self
+        ensures { result ≡ record { edition = edition; files = files.entry; text = text.entry; steps = steps } }
+    {
+        Attempt {
+            edition,
+            files,
+            text,
+            steps,
+        }
+    }
+}
+
 /// Checks a source, runs its program carefully where that finds no fault, and tells what to do next.
 pub(crate) fn try_source<I: ByteIn, O: ByteOut, D: ByteOut>(
     alloc: Global,
@@ -45,7 +58,8 @@ pub(crate) fn try_source<I: ByteIn, O: ByteOut, D: ByteOut>(
     };
     let checked = check(alloc, attempt.text, request, out);
     let ran = run_checked(alloc, attempt, checked, input, out, diag);
-    tell(next_text(checked, ran).as_bytes(), ran, diag)
+    let next = next_text(attempt.steps, checked, ran);
+    tell(next.as_bytes(), ran, diag)
 }
 
 // Runs a source carefully, where its check had the status of one without a fault.
@@ -78,24 +92,29 @@ fn run_checked<I: ByteIn, O: ByteOut, D: ByteOut>(
 }
 
 // What to do next, by the status of the check and that of the run.
-fn next_text(checked: Status, ran: Status) -> &'static str
-    ensures { result.now ≡ next_text checked ran }
+fn next_text(steps: u64, checked: Status, ran: Status) -> &'static str
+    ensures { result.now ≡ next_text steps checked ran }
 {
     if checked == status::FAULT || checked == status::REFUSED {
         "next: do what stands after fix, and try it again\n"
     } else {
-        next_after(ran)
+        next_after(steps, ran)
     }
 }
 
-// What to do after a run, by its status.
-fn next_after(ran: Status) -> &'static str
-    ensures { result.now ≡ next_after ran }
+// What to do after a run, by its most steps and its status. A page has a limit of steps.
+fn next_after(steps: u64, ran: Status) -> &'static str
+    ensures { result.now ≡ next_after steps ran }
 {
     match ran {
+        status::DONE if steps == u64::MAX => {
+            "next: no finding; b show in place of b try --no-limit, with > run.html, shows each step\n"
+        }
         status::DONE => {
             "next: no finding; b show in place of b try, with > run.html, shows each step\n"
         }
+        status::TRAP if steps == u64::MAX =>
+            "next: b show --careful in place of b try --no-limit, with > run.html, shows what led there\n",
         status::TRAP =>
             "next: b show --careful in place of b try, with > run.html, shows what led there\n",
         status::LIMIT => "next: b count in place of b try shows which lines take so many steps\n",

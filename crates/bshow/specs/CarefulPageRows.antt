@@ -1,5 +1,5 @@
 -- Closed facts: what is asked of the page of a careful run, and of which bytes it is.
-use Rattle.std.specs.Prelude.{◌≡◌, false, List, [], ◌∷◌, Some, None, codes, refl}
+use Rattle.std.specs.Prelude.{◌≡◌, false, [], ◌∷◌, Some, None, codes, refl}
 use Rattle.bword.specs.ByteEnds.{Unread, incoming_of}
 use Rattle.blang.specs.declared.run.Outcome.TheVariants as outcome
 use Rattle.blang.specs.Reports.{RunEnds}

@@ -1,7 +1,7 @@
 -- Promise: the page of a run that is looked at carefully, up to its first finding.
 use Rattle.std.specs.Prelude.{◌≡◌, ℕ, false, List, Option, Some, None}
 use Rattle.bword.specs.declared.edition.Edition.{Edition}
-use Rattle.bword.specs.ByteEnds.{Incoming, Took, Unread, incoming_of}
+use Rattle.bword.specs.ByteEnds.{Took, Unread, incoming_of}
 use Rattle.blang.specs.declared.code.Definition.{Definition}
 use Rattle.blang.specs.declared.run.Outcome.{Outcome}
 use Rattle.blang.specs.declared.run.Outcome.TheVariants as outcome
@@ -48,7 +48,8 @@ pub data ShowsCarefully (care : Care) (edition : Edition) (source : List ℕ) (a
       → HasProgram edition source ds image → HasNames edition source frames
       → FindsFirst (atlas_in ds frames (finds_wraps care)) (image_of ds).functions (machine ds) asked.steps
       ends.input ends.input_after stop meaning
-      → (stop.outcome ≡ outcome.Memory → ⊥) → Took ends.input taken ends.input_after
+      → (stop.outcome ≡ outcome.Device → ⊥) → (stop.outcome ≡ outcome.Memory → ⊥)
+      → Took ends.input taken ends.input_after
       → Shows edition source (asked_up_to asked stop meaning) (ends_over taken left ends) status
       → ShowsCarefully care edition source asked ends status
   unkept : (ds : List Definition) (image : Image) (frames : List Frame) (stop : Stop) (meaning : Option (List ℕ))

@@ -23,12 +23,13 @@ use Rattle.bwatch.specs.declared.trail.TraceRows.{TraceRows}
 use Rattle.bwatch.specs.declared.trail.TraceRows.TheVariants as rows
 use Rattle.bwatch.specs.Sights.{Sights, sights_of}
 use Rattle.bshow.specs.Escapes.{escaped, is_safe, unescaped}
-use Rattle.bshow.specs.Facts.{all_addresses, calls_text, definitions_text, files_text, no_run_text, sentence, sizes_text}
-use Rattle.bshow.specs.Facts.{some_word, trap_words, unbegun_sentence}
+use Rattle.bshow.specs.Facts.{all_addresses, calls_text, definitions_text, files_text, no_run_text, sentence}
+use Rattle.bshow.specs.Facts.{sizes_text, some_word, trap_words, unbegun_sentence}
 use Rattle.bshow.specs.OwnTexts.{own_texts}
 use Rattle.bshow.specs.Rows.{LinedCode, call_cells, done_cells, is_getchar, lined_code, words_cell}
 use Rattle.bshow.specs.declared.page.TheConstants.{BETWEEN, HEAD, SCRIPT, TAIL}
-use Rattle.bshow.specs.Shows.{again_text, calls_at, finding_fact, heard_text, last_facts, next_text, rows_text, shown_of}
+use Rattle.bshow.specs.Shows.{again_fact, calls_at, finding_fact, heard_text, last_facts, next_text, rows_text}
+use Rattle.bshow.specs.Shows.{shown_of}
 
 -- The fixed parts of a page: the rows are those of a table, the sentence stands below it, the facts are a text of JSON
 -- of their own, and the script that shows them comes last.
@@ -171,7 +172,8 @@ simple_of : List Ival → Definition
 simple_of values = definition.Simple (record { name = codes "s"; values = values; strings = 4 ∷ [] })
 
 vector_of : (words : ℕ) → List Ival → Definition
-vector_of words values = definition.Vector (record { name = codes "v"; words = words; values = values; strings = 4 ∷ [] })
+vector_of words values =
+    definition.Vector (record { name = codes "v"; words = words; values = values; strings = 4 ∷ [] })
 
 two_values : List Ival
 two_values = ival.Number 1 ∷ ival.Text 0 ∷ []
@@ -183,7 +185,7 @@ unfolding digits simple_of vector_of two_values
 sizes_told = refl
 
 -- the last fact of a run: a state that comes again, with its line, or none
-again_told : again_text (record { functions = []; lines = record { strings = 9; lines = 4 ∷ 5 ∷ [] } ∷ [] })
+again_told : again_fact (record { functions = []; lines = record { strings = 9; lines = 4 ∷ 5 ∷ [] } ∷ [] })
     (Some (record {
       first = 7;
       again = 11;
@@ -204,7 +206,7 @@ no_finding = refl
 finding_before : (code : LinedCode) → last_facts code (Some (codes "b")) None ≡ codes ",\"finding\":\"b\"}"
 finding_before code = refl
 
-none_again : again_text (record { functions = []; lines = [] }) None ≡ codes "}"
+none_again : again_fact (record { functions = []; lines = [] }) None ≡ codes "}"
 none_again = refl
 
 no_run_told : no_run_text ≡ codes ",\"calls_at\":0,\"calls\":[0],\"words\":[0],\"heard\":\"\",\"output\":\"\"}"

@@ -90,15 +90,15 @@ finding_fact None = []
 finding_fact (Some text) = codes ",\"finding\":\"" ++ escaped text ++ codes "\""
 
 -- the last fact, if a state comes again: after how many steps, and the function and the line of its call
-abbrev pub again_text : LinedCode → Option Repeat → List ℕ
-again_text code None = codes "}"
-again_text code (Some r) =
+abbrev pub again_fact : LinedCode → Option Repeat → List ℕ
+again_fact code None = codes "}"
+again_fact code (Some r) =
     codes ",\"again\":[" ++ decimal r.first ++ codes "," ++ decimal r.again ++ codes "," ++ decimal r.call.strings
     ++ codes "," ++ decimal (line_at code.lines r.call.strings r.call.place) ++ codes "]}"
 
 -- the facts that are known after the run
 abbrev pub last_facts : LinedCode → (finding : Option (List ℕ)) → Option Repeat → List ℕ
-last_facts code finding again = finding_fact finding ++ again_text code again
+last_facts code finding again = finding_fact finding ++ again_fact code again
 
 -- the page of so many steps of a run, whose facts end so
 abbrev pub run_page : LinedCode → TraceRows → (last program : List ℕ) → Sights → (made : ℕ) → Outcome → List ℕ
@@ -136,9 +136,9 @@ abbrev pub IsWritten : List ℕ → RunEnds → ℕ → Type 0
 IsWritten page ends status = Reported page DONE ends.out ends.out_after status
 
 -- The program of the source was run for so many steps at most, as the machine runs it, and its page written, which
--- tells the finding that was handed over, if there is one, and a state of its image that comes again, if one was found;
--- or it did not begin, which the page says; or it could not read its input; or there is no program, and why was told; or
--- memory was refused, and nothing was written, or read but by some of its steps.
+-- tells the finding that was handed over, if there is one, and a state of its image that comes again, if one was
+-- found; or it did not begin, which the page says; or it could not read its input; or there is no program, and why was
+-- told; or memory was refused, and nothing was written, or read but by some of its steps.
 pub data Shows (edition : Edition) (source : List ℕ) (asked : Asked) (ends : RunEnds) (status : ℕ) : Type 0 where
   shown : (ds : List Definition) (image : Image) (frames : List Frame) (lines : List ℕ) (result : Outcome) (made : ℕ)
       (again : Option Repeat) (page : List ℕ) → HasProgram edition source ds image → HasLines edition source lines

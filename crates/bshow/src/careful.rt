@@ -59,12 +59,12 @@ pub fn show_careful<I: ByteIn, O: ByteOut, D: ByteOut>(
         Outcome::Memory => return status::MEMORY,
         _ => {}
     }
-    match silent.record.extent {
+    match silent.read.extent {
         Extent::Whole => {}
         _ => return status::MEMORY,
     }
     let found = up_to(wanted, &silent);
-    let mut read = MemIn::new(silent.record.bytes.as_slice());
+    let mut read = MemIn::new(silent.read.bytes.as_slice());
     show(alloc, source, edition, found, &mut read, out, diag)
 }
 

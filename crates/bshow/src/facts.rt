@@ -2,7 +2,8 @@
 ghost use Rattle.std.specs.Prelude.{◌≡◌, ◌≤◌, ◌++◌, OnOk, map, reverse};
 ghost use Rattle.blang.specs.Layout.{data_end, shape_of};
 ghost use Rattle.bsources.specs.Files.{file_shown, files_shown};
-ghost use Rattle.bshow.specs.Facts.{calls_text, definition_text, definitions_text, file_text, files_text, sizes_text, frame_text, frame_word_text};
+ghost use Rattle.bshow.specs.Facts.{calls_text, definition_text, definitions_text, file_text, files_text};
+ghost use Rattle.bshow.specs.Facts.{frame_text, frame_word_text, sizes_text};
 ghost use Rattle.bshow.specs.OwnTexts.{FilesReadBack};
 ghost use Rattle.bshow.specs.Facts.{call_text, frames_text, memory_text, program_text, run_text, some_word};
 
@@ -168,8 +169,8 @@ fn push_call(text: &mut Text, call: Active) -> Result<(), AllocError>
     text.push(b"],")
 }
 
-/// Adds what is known after the run: the calls before the step after so many, of which the nearest stands last, the words
-/// that aren't 0, each after its address, and what was read and written.
+/// Adds what is known after the run: the calls before the step after so many, of which the nearest stands last, the
+/// words that aren't 0, each after its address, and what was read and written.
 pub fn push_run<S: Store + Drop>(
     text: &mut Text,
     stepper: &Stepper<'_, S>,
@@ -178,7 +179,8 @@ pub fn push_run<S: Store + Drop>(
     heard: &[u8],
     output: &[u8],
 ) -> Result<(), AllocError>
-    ensures { OnOk result (text.new ≡ text.old ++ run_text (reverse calls.now) at stepper.now.store heard.now output.now) }
+    ensures { OnOk result (text.new ≡ text.old
+        ++ run_text (reverse calls.now) at stepper.now.store heard.now output.now) }
 {
     text.push(b",\"calls_at\":")?;
     text.push_number(at)?;

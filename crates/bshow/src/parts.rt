@@ -1,7 +1,7 @@
 //! Both ends of a page.
 ghost use Rattle.std.specs.Prelude.{◌≡◌, ◌++◌, OnOk, option_map};
 ghost use Rattle.bshow.specs.Rows.{table_code};
-ghost use Rattle.bshow.specs.Shows.{again_text, finding_fact, head, last_facts, tail};
+ghost use Rattle.bshow.specs.Shows.{again_fact, finding_fact, head, last_facts, tail};
 
 use crate::escapes::push_escaped;
 use crate::page::{HEAD, TAIL};
@@ -50,7 +50,7 @@ fn push_finding(page: &mut Text, finding: Option<&[u8]>) -> Result<(), AllocErro
 }
 
 fn push_again(page: &mut Text, tables: &Tables<'_>, again: Option<Repeat>) -> Result<(), AllocError>
-    ensures { OnOk result (page.new ≡ page.old ++ again_text (table_code tables.now) again) }
+    ensures { OnOk result (page.new ≡ page.old ++ again_fact (table_code tables.now) again) }
 {
     let Some(repeat) = again else {
         return page.push(b"}");

@@ -1,5 +1,6 @@
 //! Who looks on at a run and keeps its page.
-ghost use Rattle.std.specs.Prelude.{◌≡◌, ◌+◌, ◌-◌, ◌%◌, ◌<◌, ◌^◌, ◌++◌, ◌∷◌, [], IfOk, OnOk, drop, option_map, reverse, slice_index, if◌then◌else◌};
+ghost use Rattle.std.specs.Prelude.{◌≡◌, ◌+◌, ◌-◌, ◌%◌, ◌<◌, ◌^◌, ◌++◌, ◌∷◌, [], IfOk, OnOk, drop, option_map};
+ghost use Rattle.std.specs.Prelude.{reverse, slice_index, if◌then◌else◌};
 ghost use Rattle.std.specs.List.{flat_map, range_with_len};
 ghost use Rattle.bwatch.specs.Trails.{trail_text};
 ghost use Rattle.bshow.specs.Facts.{sentence};
@@ -239,7 +240,8 @@ fn end_rows<S: Store + Drop>(
     stepper: &Stepper<'_, S>,
     stop: Stop,
 ) -> Result<(), AllocError>
-    ensures { OnOk result (EndsRows (table_code tables.now) which shows stepper.now stop.outcome stop.steps trail.old trail.new) }
+    ensures { OnOk result (EndsRows (table_code tables.now) which shows stepper.now stop.outcome stop.steps trail.old
+        trail.new) }
 {
     match stop.outcome {
         Outcome::Limit => push_next(&mut trail.row, tables, stepper, stop.steps),

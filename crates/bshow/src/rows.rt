@@ -3,7 +3,8 @@ ghost use Rattle.std.specs.Prelude.{◌≡◌, ◌≤◌, ◌+◌, ◌-◌, ◌+
 ghost use Rattle.std.specs.List.{range_with_len};
 ghost use Rattle.bmach.specs.Stops.{active_of};
 ghost use Rattle.btools.specs.Columns.{instr_text};
-ghost use Rattle.bshow.specs.Rows.{call_cells, done_cells, instr_of, is_getchar, number_cell, other_text, others_text, table_code, text_cell, words_cell, words_in};
+ghost use Rattle.bshow.specs.Rows.{call_cells, done_cells, instr_of, is_getchar, number_cell, other_text};
+ghost use Rattle.bshow.specs.Rows.{others_text, table_code, text_cell, words_cell, words_in};
 
 use crate::escapes::push_escaped;
 use bcode::{Page, push_instr_line};
@@ -115,7 +116,8 @@ pub fn words_in<S: Store + Drop>(
     addresses: &Range<u32>,
 ) -> Result<Vec<u16>, AllocError>
     ensures { IfOk result (λ words. addresses.now.end ≤ 65536
-        → words.items ≡ words_in stepper.now.store (range_with_len addresses.now.start (addresses.now.end - addresses.now.start))) }
+        → words.items ≡ words_in stepper.now.store
+        (range_with_len addresses.now.start (addresses.now.end - addresses.now.start))) }
 {
     let mut words = Vec::new(alloc);
     for address in addresses.start..addresses.end {
@@ -145,7 +147,8 @@ pub fn push_done(
 
 /// Whether the next step calls `getchar`.
 pub fn calls_getchar<S: Store + Drop>(tables: &Tables<'_>, stepper: &Stepper<'_, S>) -> bool
-    ensures { result ≡ is_getchar stepper.now.call.operands (instr_of (table_code tables.now) (active_of stepper.now.call)) }
+    ensures { result ≡ is_getchar stepper.now.call.operands
+        (instr_of (table_code tables.now) (active_of stepper.now.call)) }
 {
     let call = stepper.top();
     match instr_at(tables.entry(call.strings), call.place) {

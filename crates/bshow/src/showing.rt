@@ -43,9 +43,9 @@ const NO_RUN: &[u8] =
 /// Compiles a source, runs its program for at most so many steps, and writes a page that shows the run.
 ///
 /// The status is 0 where the page was written, whatever came of the run, which the page tells. At the limit it tells
-/// whether a state comes again, so that the run never ends. For a source that has no program the line and the status are
-/// those of `go_edition`. If a read failed, there is no page, and the status is 133. If memory was refused, there is no
-/// page, either.
+/// whether a state comes again, so that the run never ends. For a source that has no program the line and the status
+/// are those of `go_edition`. If a read failed, there is no page, and the status is 133. If memory was refused, there
+/// is no page, either.
 pub fn show<I: ByteIn, O: ByteOut, D: ByteOut>(
     alloc: Global,
     source: &[u8],
@@ -109,8 +109,8 @@ fn program_text(
     source: &[u8],
 ) -> Result<Text, AllocError>
     requires { data_end (map shape_of program.now.definitions.items) ≤ 65536 }
-    ensures { IfOk result (λ text. text ≡ program_text (files_shown wanted.entry.files) source.now wanted.entry.given.now
-        program.now.definitions.items program.now.names.frames.items) }
+    ensures { IfOk result (λ text. text ≡ program_text (files_shown wanted.entry.files) source.now
+        wanted.entry.given.now program.now.definitions.items program.now.names.frames.items) }
 {
     let mut text = Text::new(alloc);
     push_program(&mut text, program, wanted.files, source, wanted.given)?;

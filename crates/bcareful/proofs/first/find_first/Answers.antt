@@ -7,7 +7,6 @@ use Rattle.btools.specs.Programs.{nothing_written, steps_from}
 use Rattle.bcareful.specs.Carefuls.{CarefulGives}
 use Rattle.bcareful.specs.Runs.{finds_wraps}
 use Rattle.bcareful.specs.Things.{atlas_in, atlas_of, extents_of}
-use Rattle.bcareful.specs.declared.watching.Ended.TheVariants as ended
 use Rattle.bcareful.proofs.Silent.{found_first, none_first, not_begun, read_first}
 use Rattle.bcareful.proofs.first.find_first.Goals as goal
 
@@ -41,7 +40,7 @@ returns-in-Over-clause-finds g c =
       wraps = c.finds_wraps.ensures k;
     } in
     let o : outgoing_of c.new-silent.result ≡ nothing_written = ap outgoing_of c.new-silent.ensures in
-    none_first ds program.image p now c.requires.loaded c.in-Ok-begin.ensures a b whole c.args.steps i j q c.in-Over.stop
+    none_first ds program.image p now c.requires.loaded c.in-Ok-begin.ensures a b whole c.args.steps i j c.careful_recorded-ran.new.out c.in-Over.stop
     (subst (λ e. CarefulGives a p.image.functions (steps_from p) c.args.steps i j nothing_written q now e) c.in-Over.is
     (subst (λ x. CarefulGives a p.image.functions (steps_from p) c.args.steps i j x q now c.careful_recorded-ran.result.ended) o c.careful_recorded-ran.ensures.gives))
 
@@ -66,7 +65,7 @@ returns-in-Ok-finding_meaning-clause-finds g c =
       wraps = c.finds_wraps.ensures k;
     } in
     let o : outgoing_of c.new-silent.result ≡ nothing_written = ap outgoing_of c.new-silent.ensures in
-    found_first ds program.image p now c.requires.loaded c.in-Ok-begin.ensures a b whole c.args.steps i j q c.in-Found.found
+    found_first ds program.image p now c.requires.loaded c.in-Ok-begin.ensures a b whole c.args.steps i j c.careful_recorded-ran.new.out c.in-Found.found
     (subst (λ e. CarefulGives a p.image.functions (steps_from p) c.args.steps i j nothing_written q now e) c.in-Found.is
     (subst (λ x. CarefulGives a p.image.functions (steps_from p) c.args.steps i j x q now c.careful_recorded-ran.result.ended) o c.careful_recorded-ran.ensures.gives))
     c.stop_of.result c.stop_of.ensures c.in-Ok-finding_meaning.text c.in-Ok-finding_meaning.ensures
@@ -92,6 +91,6 @@ returns-clause-nothing g c =
       wraps = c.finds_wraps.ensures k;
     } in
     let o : outgoing_of c.new-silent.result ≡ nothing_written = ap outgoing_of c.new-silent.ensures in
-    read_first ds program.image p now c.requires.loaded c.in-Ok-begin.ensures a b whole c.args.steps i j q c.in-Found.found
+    read_first ds program.image p now c.requires.loaded c.in-Ok-begin.ensures a b whole c.args.steps i j c.careful_recorded-ran.new.out c.in-Found.found
     (subst (λ e. CarefulGives a p.image.functions (steps_from p) c.args.steps i j nothing_written q now e) c.in-Found.is
     (subst (λ x. CarefulGives a p.image.functions (steps_from p) c.args.steps i j x q now c.careful_recorded-ran.result.ended) o c.careful_recorded-ran.ensures.gives))

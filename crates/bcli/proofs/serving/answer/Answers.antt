@@ -1,8 +1,6 @@
-use Rattle.std.proofs.Common.{refl, subst}
+use Rattle.std.proofs.Common.{refl}
 use Rattle.bsources.specs.Files.{files_shown}
 use Rattle.btools.specs.Origins.{origin_shown}
-use Rattle.bcheck.specs.Checks.{Checks}
-use Rattle.bcheck.specs.declared.form.FindingForm.{FindingForm}
 use Rattle.bcommand.specs.declared.job.Question.TheVariants as questions
 use Rattle.bcli.proofs.Answered.{answered}
 use Rattle.bcli.proofs.serving.answer.Goals as goal
@@ -21,19 +19,8 @@ returns-in-Draw-clause-answers g c =
 
 pub returns-in-Check-clause-answers : goal.returns-in-Check-clause-answers
 returns-in-Check-clause-answers g c =
-    answered (origin_shown c.args.origin) c.args.edition (files_shown c.args.files) c.args.text.now c.args.question (questions.Check c.in-Check.for_editor) _ _ c.in-Check.is (
-      refl,
-      refl,
-      subst (λ (f : FindingForm). Checks (record {
-        edition = c.args.edition;
-        form = f;
-        files = files_shown c.args.files;
-        source = c.args.text.now;
-        out = g.O.ByteOut.outgoing c.args.out.now;
-        out_after = g.O.ByteOut.outgoing c.check.new.out;
-        status = c.check.result;
-      })) c.form_of.ensures c.check.ensures.checks,
-    )
+    answered (origin_shown c.args.origin) c.args.edition (files_shown c.args.files) c.args.text.now c.args.question (questions.Check c.in-Check.for_editor) _ _ c.in-Check.is
+    (refl, refl, (rw c.check_request.ensures at c.check.ensures.checks))
 
 pub returns-in-Fix-clause-answers : goal.returns-in-Fix-clause-answers
 returns-in-Fix-clause-answers g c =
@@ -46,25 +33,27 @@ returns-in-Names-clause-answers g c =
 pub returns-in-Trace-clause-answers : goal.returns-in-Trace-clause-answers
 returns-in-Trace-clause-answers g c =
     answered _ _ _ _ c.args.question (questions.Trace c.in-Trace.walk) _ _ c.in-Trace.is
-    (rw (← c.traced_rows.ensures) c.trace.ensures.traces)
+    (rw c.trace_request.ensures at c.trace.ensures.traces)
 
 pub returns-in-Locate-clause-answers : goal.returns-in-Locate-clause-answers
 returns-in-Locate-clause-answers g c =
-    answered _ _ _ _ c.args.question (questions.Locate c.in-Locate.steps) _ _ c.in-Locate.is c.locate_and_explain.ensures.locates
+    answered _ _ _ _ c.args.question (questions.Locate c.in-Locate.steps) _ _ c.in-Locate.is
+    (rw c.new-attempt.ensures at c.locate_and_explain.ensures.locates)
 
 pub returns-in-GoCareful-clause-answers : goal.returns-in-GoCareful-clause-answers
 returns-in-GoCareful-clause-answers g c =
     answered _ _ _ _ c.args.question (questions.GoCareful c.in-GoCareful.care c.in-GoCareful.steps) _ _ c.in-GoCareful.is
-    (rw (← c.care_taken.ensures) c.go_careful.ensures.runs)
+    (rw c.careful_request-wanted.ensures at c.go_careful.ensures.runs)
 
 pub returns-in-Try-clause-answers : goal.returns-in-Try-clause-answers
 returns-in-Try-clause-answers g c =
-    answered _ _ _ _ c.args.question (questions.Try c.in-Try.steps) _ _ c.in-Try.is c.try_source.ensures.tries
+    answered _ _ _ _ c.args.question (questions.Try c.in-Try.steps) _ _ c.in-Try.is
+    (rw c.new-attempt-in-Try.ensures at c.try_source.ensures.tries)
 
 pub returns-in-Count-clause-answers : goal.returns-in-Count-clause-answers
 returns-in-Count-clause-answers g c =
     answered _ _ _ _ c.args.question (questions.Count c.in-Count.field-0 c.in-Count.steps c.in-Count.for_editor) _ _ c.in-Count.is
-    (rw (← c.style_of.ensures) c.count.ensures.counts)
+    (rw c.counting_of-counting.ensures at c.count.ensures.counts)
 
 pub returns-in-Show-clause-answers : goal.returns-in-Show-clause-answers
 returns-in-Show-clause-answers g c =

@@ -11,5 +11,5 @@ returns-clause-tries g c = record {
   line = g.D.ByteOut.outgoing c.run_checked-ran.new.diag;
   runs = c.run_checked-ran.ensures.runs;
   next = subst (λ (t : List ℕ). Reported t c.run_checked-ran.result (g.D.ByteOut.outgoing c.run_checked-ran.new.diag) (g.D.ByteOut.outgoing c.tell.new.out) c.tell.result)
-      (c.as_bytes.ensures.value ∙ c.next_text.ensures) c.tell.ensures.told;
+      (c.as_bytes.ensures.value ∙ c.next_text-next.ensures) c.tell.ensures.told;
 }

@@ -1,4 +1,4 @@
-use Rattle.std.proofs.Common.{◌≡◌, ◌∙◌, refl, subst}
+use Rattle.std.proofs.Common.{◌∙◌, refl, subst}
 use Rattle.bword.specs.ByteEnds.{Incoming}
 use Rattle.blang.specs.Reports.{RunEnds}
 use Rattle.btools.specs.Origins.{Source}
@@ -69,9 +69,9 @@ returns g c =
       line_after = g.D.ByteOut.outgoing c.show-2.new.diag;
     } in
     record {
-      shows = shown c.in-Ok.program.definitions.items c.in-Ok.program.image c.in-Ok.program.names.frames.items silent.stop silent.meaning silent.record.bytes.items c.show-2.new.input
-          c.in-Ok.ensures.program c.in-Ok.ensures.names c.in-Ok-find_first.ensures.finds c.in_default-outcome.not-Memory (c.in-Ok-find_first.ensures.records.taken (rw c.in-Whole.is refl))
-          (shown_over c.args.edition c.args.source.now _ _ ends c.show-2.result c.new-read.result c.show-2.new.input c.as_slice.result.now silent.record.bytes.items c.up_to-found.ensures c.new-read.ensures c.as_slice.ensures.value c.show-2.ensures.shows);
+      shows = shown c.in-Ok.program.definitions.items c.in-Ok.program.image c.in-Ok.program.names.frames.items silent.stop silent.meaning silent.read.bytes.items c.show-2.new.input
+          c.in-Ok.ensures.program c.in-Ok.ensures.names c.in-Ok-find_first.ensures.finds c.in_default-outcome.not-Device c.in_default-outcome.not-Memory (c.in-Ok-find_first.ensures.records.taken (rw c.in-Whole.is refl))
+          (shown_over c.args.edition c.args.source.now _ _ ends c.show-2.result c.new-read.result c.show-2.new.input c.as_slice.result.now silent.read.bytes.items c.up_to-found.ensures c.new-read.ensures c.as_slice.ensures.value c.show-2.ensures.shows);
       input_lender = c.find_first.ensures.same;
       out_lender = c.show-2.ensures.out_lender;
       diag_lender = c.show-2.ensures.diag_lender;

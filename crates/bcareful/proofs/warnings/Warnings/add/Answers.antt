@@ -3,7 +3,7 @@ use Rattle.std.proofs.lemmas.Result.{on_ok_weaker}
 use Rattle.btrace.specs.RowTexts.{legend_of}
 use Rattle.bwatch.specs.Sights.{sight_at}
 use Rattle.bcareful.specs.Things.{atlas_of}
-use Rattle.bcareful.specs.Tellings.{finding_text}
+use Rattle.bcareful.specs.Tellings.{careful_text}
 use Rattle.bcareful.specs.Warned.{noted, warned, warnings_of}
 use Rattle.bcareful.proofs.warnings.Warnings.add.Goals as goal
 
@@ -17,6 +17,6 @@ returns g c =
     (λ e output.
     let s = sight_at c.args.stepper.now output in
     let text = c.as_slice.ensures ∙ c.in_ok-text.ensures output
-    ∙ (λ k. finding_text a legend source s (record { finding = c.in-Some.finding; call = c.top-call.ensures k; made = c.args.made })) in
+    ∙ (λ k. careful_text a legend source s (record { finding = c.in-Some.finding; call = c.top-call.ensures k; made = c.args.made })) in
     e ∙ (λ k. noted (c.top-call.ensures k) (text k) w) ∙ ap (λ f. warned a legend source s c.args.made f w) (sym c.in-Some.is))
     c.note.ensures

@@ -1,0 +1,8 @@
+main() {
+    auto v 4, i;
+    i = 0;
+    while(i <= 5) {
+        printn(i, 10);
+        v[i++] = 0;
+    }
+}
