@@ -13,7 +13,7 @@ third() {
     auto c, n;
     n = 0;
     c = getchar();
-    while(c > 0) { /* missed */
+    while(c > 0) { /* told */
         n++;
         c = getchar();
     }

@@ -35,13 +35,13 @@ use Rattle.bgrammar.specs.SourceRows.{ComesIn}
 use Rattle.bgrammar.proofs.SourceRows.{a_break_of_one, a_break_outside}
 use Rattle.bmach.proofs.Losing.{appended}
 use Rattle.bcheck.specs.Checks as checks
-use Rattle.bsources.specs.Files.{File, Files, Line, beyond_first, own_line, own_line_among}
+use Rattle.bsources.specs.Files.{File, Files, Line, own_line, own_line_among}
 use Rattle.blang.specs.Trees.{Definition as Tree, bare}
 use Rattle.blang.specs.WellFormed.{AllFormed, StopsAt}
-use Rattle.brules.specs.declared.rules.Rule.{Rule}
 use Rattle.blint.specs.SourceTokens.{IsSource}
+use Rattle.blint.specs.Warns.{IsDueIn}
 use Rattle.blint.specs.declared.tokens.TokenPlace.{TokenPlace}
-use Rattle.bcheck.specs.RuleWarnings.{SpeaksIn}
+use Rattle.blint.specs.declared.warnings.Warning.{Warning}
 use Rattle.bcheck.specs.CheckExcluded.{least_lines}
 use Rattle.bcheck.specs.Checks.{IsAtToken, IsOver, Reason, StandsOn, code_keyword, diagnostic_code, finding_at}
 use Rattle.bplaces.specs.Columns.{column_after}
@@ -476,20 +476,20 @@ is_definitions c line to =
       record { before = p.before; end = p.at; none = p.following; split = p.split; ends = stops.0; spelled = stops.1.spelled },
     )
 
-one_told : {P : List ℕ × List ℕ → Type 0} {source : List ℕ} (f : FindingForm) (first text all : ℕ) (ps : List (FindingParts source)) → Any P (map told_at ps) ⊎ (100 ≤ length (map told_at ps))
+one_told : {P : List ℕ × List ℕ → Type 0} {Q : Type 0} {source : List ℕ} (f : FindingForm) (first text all : ℕ) (ps : List (FindingParts source)) → Any P (map told_at ps) ⊎ ((100 ≤ length (map told_at ps)) × Q)
     → length ps ≤ all → first + all * least_lines f ≤ text → text < least_lines f → ⊥
 one_told f first text all [] (inl a) long h few = absurd (omega (arith, a.2))
-one_told f first text all [] (inr g) long h few = absurd (omega (arith, g))
+one_told f first text all [] (inr g) long h few = absurd (omega (arith, g.0))
 one_told f first text zero (p ∷ ps) told long h few = absurd (omega (arith, long))
 one_told f first text (suc n) (p ∷ ps) told long h few = absurd (omega (arith, h, few, suc-mul n (least_lines f)))
 
-no_warning : (c : Check) (line text : List ℕ) → ComesTo c line DONE → IsTold c text → (ds : List Tree) → AllFormed ds → IsSource c.edition c.source ds → (at : TokenPlace) (r : Rule) → SpeaksIn c.edition c.source ds at r
-    → beyond_first c.files at.line ≡ None → newlines text < least_lines c.form → Checks c → ⊥
-no_warning c line text to t ds formed is at r s f few h =
+no_warning : (c : Check) (line text : List ℕ) → ComesTo c line DONE → IsTold c text → (ds : List Tree) → AllFormed ds → IsSource c.edition c.source ds → (at : TokenPlace) (w : Warning) → IsDueIn c.edition c.files c.source ds at w
+    → newlines text < least_lines c.form → Checks c → ⊥
+no_warning c line text to t ds formed is at warning d few h =
     let w = told_in c line DONE text to t h in
     let warned = w.are.7 refl ds formed is in
     let lines = has_lines c (comes_to c line DONE to) line DONE text w in
-    one_told c.form (newlines (shown_in_form c.form line)) (newlines text) (length (all_of w)) w.are.0 (warned.all at r s f) (omega (arith, length-append w.are.0 w.are.3)) lines.least few
+    one_told c.form (newlines (shown_in_form c.form line)) (newlines text) (length (all_of w)) w.are.0 (warned.all at warning d) (omega (arith, length-append w.are.0 w.are.3)) lines.least few
 
 other_bytes : Never (λ c line status text. IsTrue (is_printed (shown_in_form c.form line)) × ((n : ℕ) → IsTrue (is_printed (finding_start c.form (file_at c n)))) × (is_printed text ≡ false))
 other_bytes c line status text to t wrong h =

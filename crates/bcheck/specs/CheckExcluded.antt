@@ -14,15 +14,15 @@ use Rattle.blang.specs.declared.run.LoadFault.{LoadFault}
 use Rattle.blang.specs.declared.run.LoadFault.TheVariants as fault
 use Rattle.blang.specs.Layout.{load_fault}
 use Rattle.blang.specs.declared.status.TheConstants.{DONE, DEVICE, MEMORY}
-use Rattle.bsources.specs.Files.{own_line, beyond_first}
+use Rattle.bsources.specs.Files.{own_line}
 use Rattle.bcheck.specs.Checks.{Check, Checks, EditParts, FindingParts, IsOver, Mends, Outcome, finding_head, mended}
 use Rattle.bcheck.specs.Checks.{outcome_of}
 use Rattle.blang.specs.Trees.{Definition as Tree}
 use Rattle.blang.specs.WellFormed.{AllFormed}
-use Rattle.brules.specs.declared.rules.Rule.{Rule}
 use Rattle.blint.specs.SourceTokens.{IsSource}
+use Rattle.blint.specs.Warns.{IsDueIn}
 use Rattle.blint.specs.declared.tokens.TokenPlace.{TokenPlace}
-use Rattle.bcheck.specs.RuleWarnings.{SpeaksIn}
+use Rattle.blint.specs.declared.warnings.Warning.{Warning}
 use Rattle.bplaces.specs.Columns.{column_after}
 use Rattle.bcheck.specs.Tokens.{has_token_on, is_in_token}
 use Rattle.bcheck.specs.UndefinedNames.{Tells, told_subjects}
@@ -190,10 +190,10 @@ pub record Excluded : Type 0 where
   -- each source that compiles and loads is definitions
   pub is_definitions : (c : Check) (line : List ℕ) → ComesTo c line DONE
       → (ds : List Tree) × AllFormed ds × IsSource c.edition c.source ds
-  -- of a source that is definitions, compiles and loads no finding, where a rule speaks of a token of its first file
+  -- of a source that is definitions, compiles and loads no finding, where a warning of a token is due
   pub no_warning : (c : Check) (line text : List ℕ) → ComesTo c line DONE → IsTold c text → (ds : List Tree)
-      → AllFormed ds → IsSource c.edition c.source ds → (at : TokenPlace) (r : Rule)
-      → SpeaksIn c.edition c.source ds at r → beyond_first c.files at.line ≡ None → newlines text < least_lines c.form → Checks c → ⊥
+      → AllFormed ds → IsSource c.edition c.source ds → (at : TokenPlace) (w : Warning)
+      → IsDueIn c.edition c.files c.source ds at w → newlines text < least_lines c.form → Checks c → ⊥
   -- 133 where no write failed; 134 after something written where no write was refused memory; another status above
   pub no_failure : (c : Check) (line : List ℕ) (status : ℕ) → ComesTo c line status → c.status ≡ DEVICE
       → (Grew c.out.failures c.out_after.failures → ⊥) → Checks c → ⊥

@@ -1,19 +1,16 @@
--- Promise: what is told of what the rules say of a source, each finding by its place and its code.
-use Rattle.std.specs.Prelude.{◌≡◌, ℕ, IsTrue, List, [], ◌∷◌, codes, take}
+-- Promise: what is told of what is due of a source, each finding by its place and its code.
+use Rattle.std.specs.Prelude.{ℕ, ◌≤◌, IsTrue, List, [], ◌∷◌, codes, length, take}
 use Rattle.std.specs.List.{list_any}
 use Rattle.bword.specs.declared.edition.Edition.{Edition}
 use Rattle.bword.specs.Words.{same_name}
 use Rattle.blang.specs.Trees.{Definition}
 use Rattle.blang.specs.WellFormed.{AllFormed}
 use Rattle.bsources.specs.Files.{Files}
-use Rattle.brules.specs.declared.rules.Rule.{Rule}
 use Rattle.blint.specs.declared.cautions.Caution.{Caution}
-use Rattle.blint.specs.declared.tokens.TokenPlace.{TokenPlace}
 use Rattle.blint.specs.declared.warnings.Warning.{Warning}
 use Rattle.blint.specs.declared.warnings.Warning.TheVariants as warning
-use Rattle.blint.specs.ProgramRules.{program_rules}
-use Rattle.blint.specs.SourceTokens.{IsSource, places_in, tokens_of}
-use Rattle.blint.specs.Warns.{Speaks, TellsRules, warning_of}
+use Rattle.blint.specs.SourceTokens.{IsSource}
+use Rattle.blint.specs.Warns.{IsDueIn, TellsDue}
 
 -- by which code each warning is known
 abbrev pub warning_code : Warning → List ℕ
@@ -76,28 +73,19 @@ warning_code warning.PassesOldValue = codes "ar"
 warning_code warning.ValueDropped = codes "no"
 warning_code warning.EndlessLoop = codes "lp"
 
-abbrev pub rule_code : Rule → List ℕ
-rule_code r = warning_code (warning_of r)
+-- codes that tokens and rules alone give
+abbrev pub IsOfTokens : List ℕ → Type 0
+IsOfTokens code =
+    IsTrue (list_any (same_name code)
+    (codes "pr" ∷ codes "if" ∷ codes "em" ∷ codes "sg" ∷ codes "op" ∷ codes "bs" ∷ []))
 
--- the codes of what says more than a rule of the same token: && and **, x =-1, a backslash, a line that stands in
-abbrev pub GoesBefore : List ℕ → Type 0
-GoesBefore code = IsTrue (list_any (same_name code) (codes "and" ∷ codes "op" ∷ codes "bs" ∷ codes "la" ∷ []))
-
--- codes that rules alone give
-abbrev pub IsOfRules : List ℕ → Type 0
-IsOfRules code = IsTrue (list_any (same_name code) (codes "pr" ∷ codes "if" ∷ codes "em" ∷ codes "sg" ∷ []))
-
--- a rule speaks of a token of the source, which is these definitions
-abbrev pub SpeaksIn : Edition → List ℕ → List Definition → TokenPlace → Rule → Type 0
-SpeaksIn edition source ds = Speaks (places_in (tokens_of edition source)) (program_rules ds)
-
--- What the rules say of a source that is definitions is told in its first file, and nothing else with their codes: each
+-- What is due of a source that is definitions is told, and nothing else with the codes of tokens and rules alone: each
 -- finding with the bytes before it, and its code.
 abbrev pub TellsWarnings : Edition → Files → List ℕ → (told : List (List ℕ × List ℕ)) → Type 0
 TellsWarnings edition files source told =
     (ds : List Definition) → AllFormed ds → IsSource edition source ds
-    → TellsRules (λ at. take at.start source) (λ r code. code ≡ rule_code r) GoesBefore IsOfRules files
-    (SpeaksIn edition source ds) told
+    → TellsDue (λ at. take at.start source) warning_code (λ before at. length before ≤ at.start) IsOfTokens
+    (IsDueIn edition files source ds) told
 
 -- Inner words: the bytes before a caution, and its code
 abbrev pub caution_at : (source : List ℕ) → Caution → List ℕ × List ℕ

@@ -207,7 +207,6 @@ fn warnings(
         edition: source.edition,
         files: *files,
         definitions: compiled.definitions(),
-        ends: compiled.ends.as_slice(),
         library: &LIBRARY,
     };
     let cautions = lint(alloc, &program)?;

@@ -1,6 +1,6 @@
 -- The tokens of a source that are still to come, and those that the compiler reads.
 use Rattle.std.proofs.Common.{◌≡◌, ◌≢◌, ◌∙◌, ℕ, zero, suc, ◌+◌, ◌<◌, ◌≤◌, Bool, true, false, List, [], ◌∷◌, ◌++◌, Option, Some, None, ap, append_assoc, append-nil, arith, drop, length, map, refl, subst, sym}
-use Rattle.std.specs.Prelude.{◌-◌, if◌then◌else◌, is_some}
+use Rattle.std.specs.Prelude.{◌-◌, if◌then◌else◌, is_some, slice_get, ⊤}
 use Rattle.std.specs.List.{cons_option}
 use Rattle.std.proofs.lemmas.List.{map-append}
 use Rattle.bword.specs.declared.edition.Edition.{Edition}
@@ -19,7 +19,8 @@ use Rattle.blint.specs.declared.cutting.CutSource.{CutSource}
 use Rattle.blint.specs.declared.tokens.TokenPlace.{TokenPlace}
 use Rattle.blint.specs.Cutting.{Cuts, TakesPiece}
 use Rattle.blint.specs.ProgramRules.{lexemes_of}
-use Rattle.blint.specs.SourceTokens.{IsSource, PlacedToken, is_end, lexemes_in, place_of, places_in, token_of, tokens_at, tokens_of}
+use Rattle.blint.specs.Told.{AreRising}
+use Rattle.blint.specs.SourceTokens.{IsSource, PlacedToken, is_end, lexemes_in, place_of, token_places, token_of, tokens_at, tokens_of}
 
 no_more : (ps : List Placed) (o : Placed) (os : List Placed) → [] ≡ ps ++ o ∷ os → ⊥
 no_more [] o os e = cc
@@ -91,7 +92,7 @@ module _ (edition : Edition) (source : List ℕ) where
   -- A source was read up to a place.
   pub record Reads (c : CutSource) (at : ℕ) : Type 0 where
     pub lexemes : c.lexemes.items ++ lexemes_in (coming at) ≡ lexemes_in (tokens_of edition source)
-    pub places : c.places.items ++ places_in (coming at) ≡ places_in (tokens_of edition source)
+    pub places : c.places.items ++ token_places (coming at) ≡ token_places (tokens_of edition source)
 
   again : (at : ℕ) → coming at ≡ tokens_at edition (suc (length source)) source at
   again at = fueled (length source) (suc (length source)) at (omega arith) (omega arith)
@@ -109,7 +110,7 @@ module _ (edition : Edition) (source : List ℕ) where
     pub reads_end : is_end found.lexeme ≡ true → Cuts (tokens_of edition source) c
     reads_end e = (
       sym (append-nil c.lexemes.items) ∙ ap (λ ts. c.lexemes.items ++ lexemes_in ts) (sym (over e)) ∙ h.lexemes,
-      sym (append-nil c.places.items) ∙ ap (λ ts. c.places.items ++ places_in ts) (sym (over e)) ∙ h.places,
+      sym (append-nil c.places.items) ∙ ap (λ ts. c.places.items ++ token_places ts) (sym (over e)) ∙ h.places,
     )
 
     pub reads_more : (new : CutSource) → TakesPiece found c new → is_end found.lexeme ≡ false → Reads new found.end
@@ -209,6 +210,62 @@ module _ (edition : Edition) (source : List ℕ) where
                 ap lexemes_in (step_more fuel at other ∙ ap (λ (it : Option PlacedToken). cons_option it (tokens_at edition fuel source (end_at at))) token)
                 ∙ ap (λ (ls : List Lexeme). lexeme_of t ∷ ls) (again (grows at other) ps later)
                 ∙ ap (λ (x : Placed). lexeme_of x.token ∷ map lexeme_of (map bare ps)) first
+
+-- places one after another, from this one on
+abbrev Rises : ℕ → List TokenPlace → Type 0
+Rises from [] = ⊤
+Rises from (p ∷ ps) = (from ≤ p.start) × Rises p.start ps
+
+from_later : (first later : ℕ) (ps : List TokenPlace) → first ≤ later → Rises later ps → Rises first ps
+from_later first later [] le h = h
+from_later first later (p ∷ ps) le h = (omega (arith, le, h.0), h.1)
+
+abbrev start_of : Option PlacedToken → ℕ
+start_of None = 0
+start_of (Some t) = t.1.start
+
+token_starts : (l : Option Lexeme) (line first end : ℕ) (t : PlacedToken) → token_of (record { lexeme = l; line = line; first = first; end = end }) ≡ Some t → t.1.start ≡ first
+token_starts None line first end t e = cc
+token_starts (Some (lexeme.Bad letters)) line first end t e = cc
+token_starts (Some _) line first end t e = sym (ap start_of e)
+
+module _ (edition : Edition) (source : List ℕ) where
+  abbrev found : ℕ → PlacedPiece
+  found at = next_piece edition source at
+
+  rises : (fuel at : ℕ) → Rises at (token_places (tokens_at edition fuel source at))
+  rises zero at = subst (λ ts. Rises at (token_places ts)) (sym (step_none edition source at)) tt
+  rises (suc fuel) at = by (is_end (found at).lexeme) refl (rises fuel (found at).end)
+    where
+      later : List PlacedToken
+      later = tokens_at edition fuel source (found at).end
+
+      one : (o : Option PlacedToken) → token_of (found at) ≡ o → at < (found at).end → Rises (found at).end (token_places later) → Rises at (token_places (cons_option o later))
+      one None q lt h = from_later at (found at).end (token_places later) (omega (arith, lt)) h
+      one (Some t) q lt h =
+          let starts : t.1.start ≡ after_blanks source at = token_starts (found at).lexeme (found at).line (found at).first (found at).end t q in
+          (omega (arith, starts), from_later t.1.start (found at).end (token_places later) (omega (arith, starts)) h)
+
+      by : (b : Bool) → is_end (found at).lexeme ≡ b → Rises (found at).end (token_places later) → Rises at (token_places (tokens_at edition (suc fuel) source at))
+      by true e h = subst (λ ts. Rises at (token_places ts)) (sym (step_end edition source fuel at e)) tt
+      by false e h = subst (λ ts. Rises at (token_places ts)) (sym (step_more edition source fuel at e)) (one (token_of (found at)) refl (grows edition source at e) h)
+
+from_start : (from : ℕ) (ps : List TokenPlace) (k : ℕ) (p : TokenPlace) → Rises from ps → slice_get ps k ≡ Some p → from ≤ p.start
+from_start from [] zero p h e = cc
+from_start from [] (suc k) p h e = cc
+from_start from (q ∷ ps) zero p h e = let f : q ≡ p = cc in subst (λ (x : TokenPlace). from ≤ x.start) f h.0
+from_start from (q ∷ ps) (suc k) p h e = let f = from_start q.start ps k p h.1 e in omega (arith, f, h.0)
+
+rising_from : (from : ℕ) (ps : List TokenPlace) → Rises from ps → AreRising ps
+rising_from from [] h zero k a b le e f = cc
+rising_from from [] h (suc j) k a b le e f = cc
+rising_from from (q ∷ ps) h zero zero a b le e f = let first : q ≡ a = cc in let second : q ≡ b = cc in omega (arith, ap (λ (x : TokenPlace). x.start) (sym first ∙ second))
+rising_from from (q ∷ ps) h zero (suc k) a b le e f = let first : q ≡ a = cc in subst (λ (x : TokenPlace). x.start ≤ b.start) first (from_start q.start ps k b h.1 f)
+rising_from from (q ∷ ps) h (suc j) zero a b le e f = absurd (omega (arith, le))
+rising_from from (q ∷ ps) h (suc j) (suc k) a b le e f = rising_from q.start ps h.1 j k a b (omega (arith, le)) e f
+
+pub source_rises : (edition : Edition) (source : List ℕ) → AreRising (token_places (tokens_of edition source))
+source_rises edition source = rising_from 0 (token_places (tokens_of edition source)) (rises edition source (length source) 0)
 
 -- the lexemes of a source that is these definitions
 pub source_lexemes : (edition : Edition) (source : List ℕ) (ds : List Definition) → IsSource edition source ds → lexemes_in (tokens_of edition source) ≡ lexemes_of ds

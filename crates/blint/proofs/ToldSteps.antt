@@ -1,54 +1,44 @@
--- What was told so far of the rules of tokens.
+-- What was told so far of what is due of tokens.
 use Rattle.std.proofs.Common.{◌≡◌, ◌∙◌, ℕ, ◌+◌, ◌<◌, ◌≤◌, Bool, true, false, List, [], ◌∷◌, ◌++◌, Option, Some, None, ◌⊎◌, ap, append-nil, append_assoc, arith, get_or, inl, inr, length, map, refl, subst, sym}
 use Rattle.std.proofs.lemmas.Bool.Decides.{nat_tests}
 use Rattle.std.proofs.lemmas.List.{get_or-map, get_or_append_left, length-append, length-map, map-append}
-use Rattle.std.proofs.lemmas.List.Elements.{All-append, All-cons, All-map, All-nil}
-use Rattle.std.proofs.lemmas.List.Folds.{Any-from_list_any}
+use Rattle.std.proofs.lemmas.List.Elements.{All-append, All-cons, All-map, All-nil, All-weaker}
 use Rattle.std.proofs.lemmas.List.Quantifiers.{Any-push}
 use Rattle.std.proofs.lemmas.Option.{slice_get_within}
-use Rattle.std.specs.Prelude.{◌==◌, ◌&&◌, if◌then◌else◌, nat_lt, slice_get}
-use Rattle.std.specs.List.{All, Any, list_any}
+use Rattle.std.specs.Prelude.{◌==◌, if◌then◌else◌, nat_lt, slice_get}
+use Rattle.std.specs.List.{All, Any}
+use Rattle.blex.specs.declared.lexeme.Lexeme.{Lexeme}
 use Rattle.bsources.specs.Files.{Files, Line, beyond_first}
 use Rattle.brules.specs.declared.rules.Rule.{Rule}
+use Rattle.blint.specs.AtToken.{rule_of, warning_at}
 use Rattle.blint.specs.declared.cautions.Caution.{Caution}
 use Rattle.blint.specs.declared.telling.TheConstants.{MOST_CAUTIONS}
 use Rattle.blint.specs.declared.tokens.TokenPlace.{TokenPlace}
 use Rattle.blint.specs.declared.warnings.Warning.{Warning}
-use Rattle.blint.specs.Told.{TellsDue, TellsOthers, TellsRule, due, is_before, with_caution}
-use Rattle.blint.specs.Warns.{IsWarningOf, Speaks, TellsOf, comes_first, entry, is_of_rules}
+use Rattle.blint.specs.Told.{AreRising, TellsOne, TellsOthers, due, with_caution}
+use Rattle.blint.specs.Warns.{IsDue, TellsOf, entry, is_of_tokens}
 
 abbrev Entry : Type 0
 Entry = ℕ × Warning
 
-abbrev Is : TokenPlace → Rule → Entry → Type 0
-Is at r t = (t.0 ≡ at.start) × (IsWarningOf r t.1 ⊎ (comes_first t.1 ≡ true))
+abbrev Is : TokenPlace → Warning → Entry → Type 0
+Is at w t = (t.0 ≡ at.start) × (t.1 ≡ w)
 
-abbrev Told : TokenPlace → Rule → List Caution → Type 0
-Told at r cautions = Any (Is at r) (map entry cautions) ⊎ (MOST_CAUTIONS ≤ length (map entry cautions))
+abbrev IsEarly : TokenPlace → Entry → Type 0
+IsEarly at t = t.0 ≤ at.start
+
+abbrev Told : TokenPlace → Warning → List Caution → Type 0
+Told at w cautions =
+    Any (Is at w) (map entry cautions) ⊎ ((MOST_CAUTIONS ≤ length (map entry cautions)) × All (IsEarly at) (map entry cautions))
 
 any_before : {A : Type 0} (P : A → Type 0) (xs ys : List A) → Any P xs → Any P (xs ++ ys)
 any_before P xs ys a = (a.0, a.1, omega (arith, a.2, length-append xs ys), get_or_append_left xs ys a.1 a.0 a.2 ∙ a.3, a.4)
 
-any_map : (P : Entry → Type 0) (cautions : List Caution) → Any (λ c. P (entry c)) cautions → Any P (map entry cautions)
-any_map P cautions a =
-    (a.0, entry a.1, omega (arith, a.2, length-map cautions entry), get_or-map entry cautions a.0 a.1 (entry a.1) a.2 ∙ ap entry a.3, a.4)
-
-more_told : (at : TokenPlace) (r : Rule) (old more : List Caution) → Told at r old → Told at r (old ++ more)
-more_told at r old more (inl a) = inl (subst (Any (Is at r)) (sym (map-append entry old more)) (any_before (Is at r) (map entry old) (map entry more) a))
-more_told at r old more (inr h) = inr (subst (λ l. MOST_CAUTIONS ≤ length l) (sym (map-append entry old more)) (omega (arith, h, length-append (map entry old) (map entry more))))
-
-both_true : (a b : Bool) → (a && b) ≡ true → (a ≡ true) × (b ≡ true)
-both_true true b e = (refl, e)
-both_true false b e = cc
+still_any : (at : TokenPlace) (w : Warning) (old more : List Caution) → Any (Is at w) (map entry old) → Any (Is at w) (map entry (old ++ more))
+still_any at w old more a = subst (Any (Is at w)) (sym (map-append entry old more)) (any_before (Is at w) (map entry old) (map entry more) a)
 
 same_number : (m n : ℕ) → (m == n) ≡ true → m ≡ n
 same_number m n e = grind (arith, nat_tests)
-
-given_way : (at : TokenPlace) (r : Rule) (old : List Caution) → list_any (is_before at.start) old ≡ true → Told at r old
-given_way at r old e =
-    let a = Any-from_list_any (is_before at.start) old e in
-    let b = both_true (a.1.place.start == at.start) (comes_first a.1.warning) a.4 in
-    inl (any_map (Is at r) old (a.0, a.1, a.2, a.3, (same_number a.1.place.start at.start b.0, inr b.1)))
 
 with_one : (P : List Caution → Type 0) (c : Caution) (old : List Caution) → (length old < MOST_CAUTIONS → P (old ++ c ∷ [])) → (MOST_CAUTIONS ≤ length old → P old) → P (with_caution c old)
 with_one P c old f g = by (nat_lt (length old) MOST_CAUTIONS) refl
@@ -57,122 +47,173 @@ with_one P c old f g = by (nat_lt (length old) MOST_CAUTIONS) refl
     by true e = f (grind (arith, nat_tests))
     by false e = g (grind (arith, nat_tests))
 
-just_told : (at : TokenPlace) (r : Rule) (c : Caution) (old : List Caution) → c.place.start ≡ at.start → IsWarningOf r c.warning → Told at r (with_caution c old)
-just_told at r c old s w =
-    with_one (Told at r) c old
-    (λ lt. inl (subst (Any (Is at r)) (sym (map-append entry old (c ∷ []))) (Any-push (Is at r) (map entry old) (entry c) (s, inl w))))
-    (λ full. inr (omega (arith, full, length-map old entry)))
+just_told : (at : TokenPlace) (w : Warning) (c : Caution) (old : List Caution) → c.place.start ≡ at.start → c.warning ≡ w → All (IsEarly at) (map entry old) → Told at w (with_caution c old)
+just_told at w c old s e early =
+    with_one (Told at w) c old
+    (λ lt. inl (subst (Any (Is at w)) (sym (map-append entry old (c ∷ []))) (Any-push (Is at w) (map entry old) (entry c) (s, e))))
+    (λ full. inr (omega (arith, full, length-map old entry), early))
 
-now_told : (at : TokenPlace) (r : Rule) (old new : List Caution) → TellsRule r at old new → Told at r new
-now_told at r old new (inl h) = subst (Told at r) (sym h.0) (given_way at r old h.1)
-now_told at r old new (inr h) = subst (Told at r) (sym h.1) (just_told at r h.0 old h.2 h.3)
+told_with : (at : TokenPlace) (w : Warning) (c : Caution) (old : List Caution) → Told at w old → Told at w (with_caution c old)
+told_with at w c old (inl a) = with_one (Told at w) c old (λ lt. inl (still_any at w old (c ∷ []) a)) (λ full. inl a)
+told_with at w c old (inr h) = with_one (Told at w) c old (λ lt. absurd (omega (arith, lt, h.0, length-map old entry))) (λ full. inr h)
 
-still_told : (at here : TokenPlace) (r s : Rule) (old new : List Caution) → TellsRule s here old new → Told at r old → Told at r new
-still_told at here r s old new (inl h) t = subst (Told at r) (sym h.0) t
-still_told at here r s old new (inr h) t = subst (Told at r) (sym h.1) (with_one (Told at r) h.0 old (λ lt. more_told at r old (h.0 ∷ []) t) (λ full. t))
+told_others : (at : TokenPlace) (w : Warning) (start : ℕ) (old new : List Caution) → TellsOthers start old new → Told at w old → Told at w new
+told_others at w start old new h (inl a) = subst (Told at w) (sym h.1) (inl (still_any at w old h.0 a))
+told_others at w start old new h (inr f) =
+    let none : h.0 ≡ [] = h.2 (omega (arith, f.0, length-map old entry)) in
+    subst (Told at w) (sym (h.1 ∙ ap (λ l. old ++ l) none ∙ append-nil old)) (inr f)
 
-pub no_others : (old : List Caution) → TellsOthers old old
-no_others old = ([], sym (append-nil old), All-nil (λ c. is_of_rules c.warning ≡ false))
+abbrev IsOther : ℕ → Caution → Type 0
+IsOther start c = (is_of_tokens c.warning ≡ false) × (c.place.start ≤ start)
 
-pub one_other : (c : Caution) (old new : List Caution) → is_of_rules c.warning ≡ false → new ≡ with_caution c old → TellsOthers old new
+pub no_others : (start : ℕ) (old : List Caution) → TellsOthers start old old
+no_others start old = ([], sym (append-nil old), λ full. refl, All-nil (IsOther start))
+
+pub one_other : (c : Caution) (old new : List Caution) → is_of_tokens c.warning ≡ false → new ≡ with_caution c old → TellsOthers c.place.start old new
 one_other c old new e is =
-    subst (TellsOthers old) (sym is)
-    (with_one (TellsOthers old) c old (λ lt. (c ∷ [], refl, All-cons (λ c. is_of_rules c.warning ≡ false) c [] e (All-nil (λ c. is_of_rules c.warning ≡ false)))) (λ full. no_others old))
+    subst (TellsOthers c.place.start old) (sym is)
+    (with_one (TellsOthers c.place.start old) c old
+    (λ lt. (c ∷ [], refl, λ full. absurd (omega (arith, lt, full)), All-cons (IsOther c.place.start) c [] (e, omega arith) (All-nil (IsOther c.place.start))))
+    (λ full. no_others c.place.start old))
 
-pub others_after : (first old new : List Caution) → TellsOthers first old → TellsOthers old new → TellsOthers first new
-others_after first old new a b =
-    (a.0 ++ b.0, b.1 ∙ ap (λ l. l ++ b.0) a.1 ∙ append_assoc first a.0 b.0, All-append (λ c. is_of_rules c.warning ≡ false) a.0 b.0 a.2 b.2)
+pub others_after : (start at : ℕ) (first old new : List Caution) → at ≤ start → TellsOthers start first old → TellsOthers at old new → TellsOthers start first new
+others_after start at first old new le a b = (
+  a.0 ++ b.0,
+  b.1 ∙ ap (λ l. l ++ b.0) a.1 ∙ append_assoc first a.0 b.0,
+  λ full. ap (λ l. l ++ b.0) (a.2 full) ∙ b.2 (omega (arith, full, ap length a.1, length-append first a.0)),
+  All-append (IsOther start) a.0 b.0 a.3 (All-weaker (IsOther at) (IsOther start) (λ c h. (h.0, omega (arith, h.1, le))) b.0 b.3),
+)
 
-module _ (files : Files) (places : List TokenPlace) (rules : List (Option Rule)) where
+module _ (files : Files) (source : List ℕ) (lexemes : List Lexeme) (places : List TokenPlace) (rules : List (Option Rule)) where
+  abbrev Due : TokenPlace → Warning → Type 0
+  Due = IsDue files source lexemes places rules
+
   abbrev Meant : Entry → Type 0
-  Meant t = is_of_rules t.1 ≡ true → (at : TokenPlace) × (r : Rule) × Speaks places rules at r × (t.0 ≡ at.start) × IsWarningOf r t.1
+  Meant t = is_of_tokens t.1 ≡ true → (at : TokenPlace) × (w : Warning) × Due at w × (t.0 ≡ at.start) × (t.1 ≡ w)
 
-  -- what the rules say of the first tokens is told
+  -- what is due of the first tokens is told
   pub record Below (n : ℕ) (cautions : List Caution) : Type 0 where
-    pub all : (k : ℕ) (at : TokenPlace) (r : Rule) → k < n → slice_get places k ≡ Some at → slice_get rules k ≡ Some (Some r) → beyond_first files at.line ≡ None → Told at r cautions
+    pub all : (at : TokenPlace) (w : Warning) (d : Due at w) → d.token < n → Told at w cautions
     pub meant : All Meant (map entry cautions)
 
-  pub below_none : Below 0 []
-  below_none = record { all = λ k at r lt p e b. absurd (omega (arith, lt)); meant = All-nil Meant }
+  -- what was told stands before the tokens to come
+  abbrev pub AreEarly : (n : ℕ) → List Caution → Type 0
+  AreEarly n cautions = (k : ℕ) (at : TokenPlace) → n ≤ k → slice_get places k ≡ Some at → All (IsEarly at) (map entry cautions)
 
-  pub below_others : (n : ℕ) (old new : List Caution) → TellsOthers old new → Below n old → Below n new
-  below_others n old new h b = record {
-    all = λ k at r lt p e f. subst (Told at r) (sym h.1) (more_told at r old h.0 (b.all k at r lt p e f));
+  pub below_none : Below 0 []
+  below_none = record { all = λ at w d lt. absurd (omega (arith, lt)); meant = All-nil Meant }
+
+  pub early_none : AreEarly 0 []
+  early_none k at le p = All-nil (IsEarly at)
+
+  pub below_others : (n start : ℕ) (old new : List Caution) → TellsOthers start old new → Below n old → Below n new
+  below_others n start old new h b = record {
+    all = λ at w d lt. told_others at w start old new h (b.all at w d lt);
     meant = subst (All Meant) (sym (ap (map entry) h.1 ∙ map-append entry old h.0))
         (All-append Meant (map entry old) (map entry h.0) b.meant
-        (All-map Meant entry h.0 (λ k d lt only. absurd (let f : true ≡ false = sym only ∙ h.2 k d lt in cc))));
+        (All-map Meant entry h.0 (λ k d lt only. absurd (let f : true ≡ false = sym only ∙ (h.3 k d lt).0 in cc))));
   }
 
-  -- where nothing is due, all is told of one token more
-  pub below_silent : (n : ℕ) (at : TokenPlace) (cautions : List Caution) → slice_get places n ≡ Some at → due (beyond_first files at.line) (slice_get rules n) ≡ None → Below n cautions → Below (n + 1) cautions
+  pub early_others : (n : ℕ) (at : TokenPlace) (old new : List Caution) → AreRising places → slice_get places n ≡ Some at → TellsOthers at.start old new → AreEarly n old → AreEarly n new
+  early_others n at old new rising here h e k a le p =
+      subst (All (IsEarly a)) (sym (ap (map entry) h.1 ∙ map-append entry old h.0))
+      (All-append (IsEarly a) (map entry old) (map entry h.0) (e k a le p)
+      (All-map (IsEarly a) entry h.0 (λ j d lt. let f = (h.3 j d lt).1 in let g = rising n k at a le here p in omega (arith, f, g))))
+
+  -- of one token more nothing is due
+  below_silent : (n : ℕ) (at : TokenPlace) (cautions : List Caution) → slice_get places n ≡ Some at → due (beyond_first files at.line) (warning_at source lexemes places n (rule_of rules n)) ≡ None → Below n cautions → Below (n + 1) cautions
   below_silent n at cautions here none b = record {
-    all = λ k a r lt p e f. by k a r lt p e f;
+    all = λ a w d lt. by a w d lt;
     meant = b.meant;
   }
     where
-      by : (k : ℕ) (a : TokenPlace) (r : Rule) → k < n + 1 → slice_get places k ≡ Some a → slice_get rules k ≡ Some (Some r) → beyond_first files a.line ≡ None → Told a r cautions
-      by k a r lt p e f = on (k == n) refl
+      by : (a : TokenPlace) (w : Warning) (d : Due a w) → d.token < n + 1 → Told a w cautions
+      by a w d lt = on (d.token == n) refl
         where
-          on : (t : Bool) → (k == n) ≡ t → Told a r cautions
-          on false g = b.all k a r (grind (arith, nat_tests)) p e f
+          on : (t : Bool) → (d.token == n) ≡ t → Told a w cautions
+          on false g = b.all a w d (grind (arith, nat_tests))
           on true g =
-              let same : k ≡ n = same_number k n g in
-              let there : Some a ≡ Some at = sym p ∙ ap (slice_get places) same ∙ here in
+              let same : d.token ≡ n = same_number d.token n g in
+              let there : Some a ≡ Some at = sym d.place ∙ ap (slice_get places) same ∙ here in
               let place : a ≡ at = cc in
-              let is : due (beyond_first files at.line) (slice_get rules n) ≡ Some r =
-              ap (λ (o : Option Line). due o (slice_get rules n)) (ap (λ (x : TokenPlace). beyond_first files x.line) (sym place) ∙ f) ∙ ap (λ (o : Option (Option Rule)). due {X = Line} None o) (ap (slice_get rules) (sym same) ∙ e) in
-              absurd (let g : None ≡ Some r = sym none ∙ is in cc)
+              let is : due (beyond_first files at.line) (warning_at source lexemes places n (rule_of rules n)) ≡ Some w =
+              ap (λ (o : Option Line). due o (warning_at source lexemes places n (rule_of rules n))) (ap (λ (x : TokenPlace). beyond_first files x.line) (sym place) ∙ d.own)
+              ∙ ap (λ (j : ℕ). warning_at source lexemes places j (rule_of rules j)) (sym same) ∙ d.is in
+              absurd (let g : None ≡ Some w = sym none ∙ is in cc)
 
-  due_some : {X : Type 0} (o : Option X) (found : Option (Option Rule)) (r : Rule) → due o found ≡ Some r → found ≡ Some (Some r)
-  due_some None (Some (Some s)) r e = ap Some e
-  due_some None (Some None) r e = cc
-  due_some None None r e = cc
-  due_some (Some x) found r e = cc
+  due_own : {X : Type 0} (o : Option X) (found : Option Warning) (w : Warning) → due o found ≡ Some w → (o ≡ None) × (found ≡ Some w)
+  due_own None found w e = (refl, e)
+  due_own (Some x) found w e = cc
 
-  pub below_rule : (n : ℕ) (at : TokenPlace) (r : Rule) (old new : List Caution) → slice_get places n ≡ Some at → due (beyond_first files at.line) (slice_get rules n) ≡ Some r → TellsRule r at old new → Below n old → Below (n + 1) new
-  below_rule n at r old new here is h b = record {
+  below_one : (n : ℕ) (at : TokenPlace) (w : Warning) (old new : List Caution) → slice_get places n ≡ Some at → due (beyond_first files at.line) (warning_at source lexemes places n (rule_of rules n)) ≡ Some w
+      → TellsOne (Some w) at old new → AreEarly n old → Below n old → Below (n + 1) new
+  below_one n at w old new here is h early b = record {
     all = by;
-    meant = meant_so h;
+    meant = subst (λ l. All Meant (map entry l)) (sym h.1)
+        (with_one (λ l. All Meant (map entry l)) h.0 old
+        (λ lt. subst (All Meant) (sym (map-append entry old (h.0 ∷ [])))
+        (All-append Meant (map entry old) (map entry (h.0 ∷ [])) b.meant (All-cons Meant (entry h.0) [] (λ only. (at, w, this, h.2, h.3)) (All-nil Meant))))
+        (λ full. b.meant));
   }
     where
-      speaks : Speaks places rules at r
-      speaks = record { token = n; place = here; rule = due_some (beyond_first files at.line) (slice_get rules n) r is }
+      this : Due at w
+      this =
+          let own = due_own (beyond_first files at.line) (warning_at source lexemes places n (rule_of rules n)) w is in
+          record { token = n; place = here; own = own.0; is = own.1 }
 
-      meant_so : TellsRule r at old new → All Meant (map entry new)
-      meant_so (inl g) = subst (λ l. All Meant (map entry l)) (sym g.0) b.meant
-      meant_so (inr g) =
-          subst (λ l. All Meant (map entry l)) (sym g.1)
-          (with_one (λ l. All Meant (map entry l)) g.0 old
-          (λ lt. subst (All Meant) (sym (map-append entry old (g.0 ∷ [])))
-          (All-append Meant (map entry old) (map entry (g.0 ∷ [])) b.meant (All-map Meant entry (g.0 ∷ []) (λ k d lt only. one k d lt))))
-          (λ full. b.meant))
+      by : (a : TokenPlace) (v : Warning) (d : Due a v) → d.token < n + 1 → Told a v new
+      by a v d lt = on (d.token == n) refl
         where
-          one : (k : ℕ) (d : Caution) → k < 1 → (a : TokenPlace) × (s : Rule) × Speaks places rules a s × ((get_or (g.0 ∷ []) k d).place.start ≡ a.start) × IsWarningOf s (get_or (g.0 ∷ []) k d).warning
-          one k d lt =
-              let zero : k ≡ 0 = omega (arith, lt) in
-              subst (λ (j : ℕ). (a : TokenPlace) × (s : Rule) × Speaks places rules a s × ((get_or (g.0 ∷ []) j d).place.start ≡ a.start) × IsWarningOf s (get_or (g.0 ∷ []) j d).warning) (sym zero)
-              (at, r, speaks, g.2, g.3)
-
-      by : (k : ℕ) (a : TokenPlace) (s : Rule) → k < n + 1 → slice_get places k ≡ Some a → slice_get rules k ≡ Some (Some s) → beyond_first files a.line ≡ None → Told a s new
-      by k a s lt p e f = on (k == n) refl
-        where
-          on : (t : Bool) → (k == n) ≡ t → Told a s new
-          on false g = still_told a at s r old new h (b.all k a s (grind (arith, nat_tests)) p e f)
+          on : (t : Bool) → (d.token == n) ≡ t → Told a v new
+          on false g = subst (Told a v) (sym h.1) (told_with a v h.0 old (b.all a v d (grind (arith, nat_tests))))
           on true g =
-              let same : k ≡ n = same_number k n g in
-              let there : Some a ≡ Some at = sym p ∙ ap (slice_get places) same ∙ here in
+              let same : d.token ≡ n = same_number d.token n g in
+              let there : Some a ≡ Some at = sym d.place ∙ ap (slice_get places) same ∙ here in
               let place : a ≡ at = cc in
-              let both : Some (Some s) ≡ Some (Some r) = sym e ∙ ap (slice_get rules) same ∙ speaks.rule in
-              let rule : s ≡ r = cc in
-              subst (λ (x : TokenPlace). Told x s new) (sym place) (subst (λ (x : Rule). Told at x new) (sym rule) (now_told at r old new h))
+              let both : Some v ≡ Some w = sym d.is ∙ ap (λ (j : ℕ). warning_at source lexemes places j (rule_of rules j)) same ∙ this.is in
+              let warning : v ≡ w = cc in
+              subst (λ (x : TokenPlace). Told x v new) (sym place)
+              (subst (λ (x : Warning). Told at x new) (sym warning)
+              (subst (Told at w) (sym h.1) (just_told at w h.0 old h.2 h.3 (early n at (omega arith) here))))
 
-  pub below_due : (n : ℕ) (at : TokenPlace) (o : Option Rule) (found : Option (Option Rule)) (old new : List Caution) → slice_get places n ≡ Some at → o ≡ due (beyond_first files at.line) found → found ≡ slice_get rules n
-      → TellsDue o at old new → Below n old → Below (n + 1) new
-  below_due n at None found old new here is same h b = subst (Below (n + 1)) (sym h) (below_silent n at old here (sym (is ∙ ap (λ f. due (beyond_first files at.line) f) same)) b)
-  below_due n at (Some r) found old new here is same h b = below_rule n at r old new here (sym (is ∙ ap (λ f. due (beyond_first files at.line) f) same)) h b
+  pub below_due : (n : ℕ) (at : TokenPlace) (o found : Option Warning) (r : Option Rule) (old new : List Caution) → slice_get places n ≡ Some at → o ≡ due (beyond_first files at.line) found
+      → found ≡ warning_at source lexemes places n r → r ≡ rule_of rules n → TellsOne o at old new → AreEarly n old → Below n old → Below (n + 1) new
+  below_due n at None found r old new here is same speaks h early b =
+      subst (Below (n + 1)) (sym h)
+      (below_silent n at old here (sym (is ∙ ap (due (beyond_first files at.line)) (same ∙ ap (warning_at source lexemes places n) speaks))) b)
+  below_due n at (Some w) found r old new here is same speaks h early b =
+      below_one n at w old new here (sym (is ∙ ap (due (beyond_first files at.line)) (same ∙ ap (warning_at source lexemes places n) speaks))) h early b
 
-  pub all_below : (n : ℕ) (cautions : List Caution) → length places ≤ n → Below n cautions → TellsOf files (Speaks places rules) cautions
-  all_below n cautions long b = record {
-    all = λ at r s f. b.all s.token at r (omega (arith, slice_get_within places s.token at s.place, long)) s.place s.rule f;
-    meant = b.meant;
-  }
+  pub early_due : (n : ℕ) (at : TokenPlace) (o : Option Warning) (old new : List Caution) → AreRising places → slice_get places n ≡ Some at → TellsOne o at old new → AreEarly n old → AreEarly (n + 1) new
+  early_due n at None old new rising here h e k a le p = subst (λ l. All (IsEarly a) (map entry l)) (sym h) (e k a (omega (arith, le)) p)
+  early_due n at (Some w) old new rising here h e k a le p =
+      let before = e k a (omega (arith, le)) p in
+      let g = rising n k at a (omega (arith, le)) here p in
+      subst (λ l. All (IsEarly a) (map entry l)) (sym h.1)
+      (with_one (λ l. All (IsEarly a) (map entry l)) h.0 old
+      (λ lt. subst (All (IsEarly a)) (sym (map-append entry old (h.0 ∷ [])))
+      (All-append (IsEarly a) (map entry old) (map entry (h.0 ∷ [])) before (All-cons (IsEarly a) (entry h.0) [] (omega (arith, h.2, g)) (All-nil (IsEarly a)))))
+      (λ full. before))
+
+  -- all is told of the first tokens, and nothing after them
+  abbrev pub ToldUpTo : (n : ℕ) → List Caution → Type 0
+  ToldUpTo n cautions = Below n cautions × AreEarly n cautions
+
+  pub up_to_none : ToldUpTo 0 []
+  up_to_none = (below_none, early_none)
+
+  pub up_to_more : (n : ℕ) (at : TokenPlace) (o found : Option Warning) (r : Option Rule) (old middle new : List Caution) → AreRising places → slice_get places n ≡ Some at → o ≡ due (beyond_first files at.line) found
+      → found ≡ warning_at source lexemes places n r → r ≡ rule_of rules n → TellsOthers at.start old middle → TellsOne o at middle new → ToldUpTo n old → ToldUpTo (n + 1) new
+  up_to_more n at o found r old middle new rising here is same speaks others one h =
+      let early = early_others n at old middle rising here others h.1 in (
+        below_due n at o found r middle new here is same speaks one early (below_others n at.start old middle others h.0),
+        early_due n at o middle new rising here one early,
+      )
+
+  pub all_below : (n start : ℕ) (old cautions : List Caution) → length places ≤ n → TellsOthers start old cautions → ToldUpTo n old → TellsOf Due cautions
+  all_below n start old cautions long others h =
+      let b = below_others n start old cautions others h.0 in
+      record {
+        all = λ at w d. b.all at w d (omega (arith, slice_get_within places d.token at d.place, long));
+        meant = b.meant;
+      }

@@ -1,3 +1,4 @@
+pub mod AtToken
 pub mod Cutting
 pub mod ProgramRows
 pub mod ProgramRules

@@ -53,6 +53,10 @@ abbrev pub starts_of : (token : ℕ) → List Definition → List ℕ
 starts_of token [] = []
 starts_of token (d ∷ ds) = token ∷ starts_of (token + length (spell_definition d)) ds
 
+-- Where tokens are those of a program, its definitions begin so.
+abbrev pub AreStarts : List Lexeme → (starts : List ℕ) → Type 0
+AreStarts lexemes starts = (ds : List Definition) → AllFormed ds → lexemes ≡ lexemes_of ds → starts ≡ starts_of 0 ds
+
 -- Where tokens are those of a program, whose definitions begin so, these are its rules.
 abbrev pub AreRules : List Lexeme → (starts : List ℕ) → List (Option Rule) → Type 0
 AreRules lexemes starts rules =

@@ -47,8 +47,8 @@ tokens_of edition source = tokens_at edition (length source) source 0
 abbrev pub lexemes_in : List PlacedToken → List Lexeme
 lexemes_in ts = map (λ t. t.0) ts
 
-abbrev pub places_in : List PlacedToken → List TokenPlace
-places_in ts = map (λ t. t.1) ts
+abbrev pub token_places : List PlacedToken → List TokenPlace
+token_places ts = map (λ t. t.1) ts
 
 -- The source is these definitions, and no more.
 pub record IsSource (edition : Edition) (source : List ℕ) (definitions : List Definition) : Type 0 where

@@ -13,8 +13,6 @@ pub struct Program<'a> {
     pub files: SourceFiles<'a>,
     /// The definitions of its code.
     pub definitions: &'a [Definition],
-    /// How many tokens come before the end of each definition.
-    pub ends: &'a [usize],
     /// The functions that a program may call without defining them, with their numbers of arguments.
     pub library: &'a [(&'static str, u64)],
 }

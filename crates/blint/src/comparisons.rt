@@ -6,23 +6,22 @@ use crate::strings::is_word_of_string;
 use crate::tokens::Tokens;
 use crate::tree::Branch;
 use crate::warnings::Warning;
+use blex::Lexeme;
 use bword::BinOp;
 
 /// What is found of an operator between two operands.
 pub(crate) fn operated(look: &Look<'_>, branch: &Branch, op: BinOp) -> Option<Remark> {
     match op {
-        BinOp::And => doubled(look.tree.tokens, branch.token, Warning::AndAnd),
-        BinOp::Mul => doubled(look.tree.tokens, branch.token, Warning::Power),
+        BinOp::Mul => doubled(look.tree.tokens, branch.token),
         _ if compares(op) => compared(look, branch),
         _ => None,
     }
 }
 
-// What is found of `&&` or `**`.
-fn doubled(tokens: &Tokens<'_>, operator: usize, warning: Warning) -> Option<Remark> {
-    let is_twice = tokens.at(operator) == tokens.at(operator.wrapping_add(1));
-    if is_twice && tokens.is_joined(operator) {
-        return Remark::new(operator, warning);
+// What is found of `**`.
+fn doubled(tokens: &Tokens<'_>, operator: usize) -> Option<Remark> {
+    if tokens.after(operator) == Lexeme::Operator(BinOp::Mul) && tokens.is_joined(operator) {
+        return Remark::new(operator, Warning::Power);
     }
     None
 }

@@ -1,10 +1,11 @@
 //! Loops that go on until a character in a name is 0, which ends no string and no input.
 use crate::linting::Look;
-use crate::locals::{Local, compares};
+use crate::locals::Local;
 use crate::remarks::Remark;
 use crate::tree::Branch;
 use crate::warnings::Warning;
 use btree::Node;
+use bword::BinOp;
 
 /// What is found of a loop that goes on until a character is 0.
 pub(crate) fn loop_end(look: &Look<'_>, condition: &Branch) -> Option<Remark> {
@@ -23,8 +24,8 @@ pub(crate) fn loop_end(look: &Look<'_>, condition: &Branch) -> Option<Remark> {
 // What a condition compares with 0.
 fn until_zero(look: &Look<'_>, condition: &Branch) -> Branch {
     match condition.node {
-        Node::Binary(op)
-            if compares(op) && look.tree.is_value(&look.tree.branch(condition.right), 0) => look
+        Node::Binary(BinOp::Eq | BinOp::Ne | BinOp::Gt)
+            if look.tree.is_value(&look.tree.branch(condition.right), 0) => look
             .tree
             .branch(condition.left),
         _ => *condition,

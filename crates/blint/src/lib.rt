@@ -1,6 +1,7 @@
 //! What compiles and is probably a mistake: one cut of a source, one tree for each function, and rules over both.
 #![tactic(auto)]
 
+mod at_token;
 mod calls;
 mod cautions;
 mod comparisons;

@@ -16,17 +16,16 @@ use crate::layout::indented;
 use crate::locals::Locals;
 use crate::loops::unchanged;
 use crate::remarks::{Remark, Remarks};
-use crate::ruled::{constructs_of, rules_of, starts_in};
+use crate::ruled::{Ruled, rules_of, starts_of};
 use crate::stores::overwritten;
-use crate::strings::backslash;
 use crate::telling::{MOST_CAUTIONS, told};
 use crate::tokens::{TokenPlace, Tokens};
 use crate::tree::{Branch, NONE, Tree};
 use crate::vectors::{addressed, indexed, returned};
 use crate::warnings::Warning;
 use blex::Lexeme;
+use bsources::SourceFiles;
 use btree::{Construct, Node};
-use bword::BinOp;
 use std::alloc::{AllocError, Global};
 
 /// A function, and what is known of its names.
@@ -48,15 +47,15 @@ pub fn lint(alloc: Global, program: &Program<'_>) -> Result<Vec<Caution>, AllocE
         Warns program.now.edition (files_shown program.now.files) program.now.text.now cautions.items) }
 {
     let cut = cut(alloc, program)?;
-    let tags = constructs_of(alloc, cut.lexemes.as_slice())?;
-    let starts = starts_in(alloc, tags.as_slice())?;
-    let rules = rules_of(alloc, cut.lexemes.as_slice(), starts.as_slice())?;
+    let starts = starts_of(alloc, cut.lexemes.as_slice())?;
     let tokens = Tokens {
         text: program.text,
         lexemes: cut.lexemes.as_slice(),
         places: cut.places.as_slice(),
     };
-    let others = others(alloc, program, &tokens, starts.as_slice(), cut.across)?;
+    let mut linting = Linting::new(alloc, program, starts.len())?;
+    let rules = rules_of(alloc, &tokens, starts.as_slice(), &mut linting)?;
+    let others = linting.finish(alloc, cut.across)?;
     told(
         alloc,
         &program.files,
@@ -64,32 +63,6 @@ pub fn lint(alloc: Global, program: &Program<'_>) -> Result<Vec<Caution>, AllocE
         rules.as_slice(),
         others.as_slice(),
     )
-}
-
-// What is found beside what the rules say.
-fn others(
-    alloc: Global,
-    program: &Program<'_>,
-    tokens: &Tokens<'_>,
-    starts: &[usize],
-    across: Option<TokenPlace>,
-) -> Result<Vec<Caution>, AllocError> {
-    let mut linting = Linting {
-        defined: Defined::new(alloc, program)?,
-        told: Vec::new(alloc),
-        used: Vec::new(alloc),
-        found: Vec::new(alloc),
-        sure: 0,
-    };
-    for _ in starts {
-        linting.used.push(false)?;
-    }
-    for index in 0..starts.len() {
-        let own = tokens.of_definition(starts, index);
-        let is_own = program.files.beyond_first(own.place(0).line).is_none();
-        linting.take(alloc, &own, is_own)?;
-    }
-    linting.finish(alloc, across)
 }
 
 /// What is said of a place, if that is so when all definitions are known.
@@ -101,9 +74,10 @@ struct Supposed {
     is_value: bool,
 }
 
-/// What was found so far.
+/// What was found so far beside what the rules say.
 #[derive(Drop)]
-struct Linting<'a> {
+pub(crate) struct Linting<'a> {
+    files: &'a SourceFiles<'a>,
     defined: Defined<'a>,
     /// What the tokens of each definition tell.
     told: Vec<Told>,
@@ -114,12 +88,33 @@ struct Linting<'a> {
     sure: usize,
 }
 
-impl Linting<'_> {
-    // Looks at a definition, for what its tokens tell alone where it is in another file.
-    fn take(&mut self, alloc: Global, tokens: &Tokens<'_>, is_own: bool) -> Result<(), AllocError> {
+impl<'a> Linting<'a> {
+    // Nothing yet, of so many definitions.
+    fn new(alloc: Global, program: &'a Program<'a>, count: usize) -> Result<Self, AllocError> {
+        let mut used = Vec::new(alloc);
+        for _ in 0..count {
+            used.push(false)?;
+        }
+        Ok(Linting {
+            files: &program.files,
+            defined: Defined::new(alloc, program)?,
+            told: Vec::new(alloc),
+            used,
+            found: Vec::new(alloc),
+            sure: 0,
+        })
+    }
+
+    /// Looks at a definition, for what its tokens tell alone where it is in another file.
+    pub(crate) fn take(
+        &mut self,
+        alloc: Global,
+        tokens: &Tokens<'_>,
+        ruled: Ruled,
+    ) -> Result<(), AllocError> {
         let mut remarks = Remarks::new(alloc, tokens.len())?;
         let mut further = Remarks::new(alloc, tokens.len())?;
-        let tree = Tree::new(alloc, tokens)?;
+        let tree = Tree::new(alloc, tokens, ruled)?;
         let mut locals = Locals::new(alloc, &tree)?;
         let told = Told::new(&tree, &locals);
         remarks.say(outside(tokens, &self.defined, &told))?;
@@ -134,7 +129,7 @@ impl Linting<'_> {
             look_at(&look, &mut remarks)?;
             further.say(calls_itself(&look))?;
         }
-        quoted_in(tokens, &mut remarks)?;
+        let is_own = self.files.beyond_first(tokens.place(0).line).is_none();
         for token in 0..tokens.len() {
             if is_own {
                 self.push(tokens, remarks.at(token))?;
@@ -250,16 +245,6 @@ fn push(cautions: &mut Vec<Caution>, caution: Option<Caution>) -> Result<(), All
     Ok(())
 }
 
-// What is found of the strings and characters of a definition.
-fn quoted_in(tokens: &Tokens<'_>, remarks: &mut Remarks) -> Result<(), AllocError> {
-    for token in 0..tokens.len() {
-        if let Lexeme::String | Lexeme::Character(_) = tokens.at(token) {
-            remarks.say(backslash(tokens, token))?;
-        }
-    }
-    Ok(())
-}
-
 // What is found of a function, by its branches and its statements.
 fn look_at(look: &Look<'_>, remarks: &mut Remarks) -> Result<(), AllocError> {
     for branch in &look.tree.branches {
@@ -282,10 +267,6 @@ fn by_branch(look: &Look<'_>, branch: &Branch, remarks: &mut Remarks) -> Result<
         Node::Address => remarks.say(addressed(look, branch)),
         Node::Returned => remarks.say(returned(look, branch)),
         Node::Binary(op) => remarks.say(operated(look, branch, op)),
-        Node::Assigned(Some(BinOp::Sub | BinOp::Mul | BinOp::And))
-            if look.tree.tokens.is_joined(branch.token) => {
-            remarks.say(Remark::new(branch.token, Warning::OperatorAssigns))
-        }
         Node::Evaluated => remarks.say(overwritten(look, branch)),
         Node::Tested if look.tree.is_loop(branch) => {
             remarks.say(loop_end(look, &look.tree.branch(branch.left)))?;

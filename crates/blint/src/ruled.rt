@@ -5,15 +5,26 @@ ghost use Rattle.btree.specs.Reading.{AreTags};
 ghost use Rattle.blang.specs.Trees.{Definition};
 ghost use Rattle.blang.specs.WellFormed.{IsFormed};
 ghost use Rattle.blex.specs.declared.lexeme.Lexeme.{Lexeme};
-ghost use Rattle.blint.specs.ProgramRules.{AreRules, IsDefinition, definition_rules, own_lexemes, rules_from, starts_in, with_rule};
+ghost use Rattle.blint.specs.ProgramRules.{AreRules, AreStarts, IsDefinition, definition_rules, own_lexemes};
+ghost use Rattle.blint.specs.ProgramRules.{rules_from, starts_in, with_rule};
 
+use crate::linting::Linting;
+use crate::tokens::Tokens;
 use blex::Lexeme;
 use brules::{Notice, Rule, loops_of, notices_of};
-use btree::{Construct, Sort, Tag, nodes_of, tags_of};
+use btree::{Construct, NodeTag, Sort, Tag, nodes_of, tags_of};
 use std::alloc::{AllocError, Global};
 
-/// The tokens with which definitions begin, among tokens of these constructs.
-pub(crate) fn starts_in(alloc: Global, tags: &[Tag]) -> Result<Vec<usize>, AllocError>
+/// The tokens with which definitions begin.
+pub(crate) fn starts_of(alloc: Global, lexemes: &[Lexeme]) -> Result<Vec<usize>, AllocError>
+    ensures { IfOk result (λ starts. AreStarts lexemes.now starts.items) }
+{
+    let tags = constructs_of(alloc, lexemes)?;
+    starts_in(alloc, tags.as_slice())
+}
+
+// Among tokens of these constructs.
+fn starts_in(alloc: Global, tags: &[Tag]) -> Result<Vec<usize>, AllocError>
     ensures { IfOk result (λ starts. starts.items ≡ starts_in 0 tags.now) }
 {
     let mut starts = Vec::new(alloc);
@@ -28,8 +39,8 @@ pub(crate) fn starts_in(alloc: Global, tags: &[Tag]) -> Result<Vec<usize>, Alloc
     Ok(starts)
 }
 
-/// The constructs of tokens.
-pub(crate) fn constructs_of(alloc: Global, lexemes: &[Lexeme]) -> Result<Vec<Tag>, AllocError>
+// The constructs of tokens.
+fn constructs_of(alloc: Global, lexemes: &[Lexeme]) -> Result<Vec<Tag>, AllocError>
     ensures { IfOk result (λ tags. AreTags (map sort_of_lexeme lexemes.now) tags.items) }
 {
     let sorts = sorts_of(alloc, lexemes)?;
@@ -45,20 +56,31 @@ fn sorts_of(alloc: Global, lexemes: &[Lexeme]) -> Result<Vec<Sort>, AllocError>
         .collect(alloc)
 }
 
-/// For each token the rule that speaks of it first, where definitions begin with these tokens.
+/// What the tokens of a definition are in its tree, and for each the rule that speaks of it first.
+#[derive(Drop)]
+pub(crate) struct Ruled {
+    pub nodes: Vec<NodeTag>,
+    pub tags: Vec<Tag>,
+    pub rules: Vec<Option<Rule>>,
+}
+
+/// For each token the rule that speaks of it first, where definitions begin with these tokens. Each definition is
+/// looked at for what else is found, too.
 pub(crate) fn rules_of(
     alloc: Global,
-    lexemes: &[Lexeme],
+    tokens: &Tokens<'_>,
     starts: &[usize],
+    linting: &mut Linting<'_>,
 ) -> Result<Vec<Option<Rule>>, AllocError>
-    ensures { IfOk result (λ rules. AreRules lexemes.now starts.now rules.items) }
+    ensures { IfOk result (λ rules. AreRules tokens.now.lexemes.now starts.now rules.items) }
 {
     let mut rules = Vec::new(alloc);
     for index in 0..starts.len() {
         let next = start_at(starts, index + 1);
-        let own = definition_at(lexemes, starts[index], next);
-        let own_rules = definition_rules(alloc, own)?;
-        rules.extend_from_slice(own_rules.as_slice())?;
+        let own = definition_at(tokens.lexemes, starts[index], next);
+        let ruled = definition_rules(alloc, own)?;
+        rules.extend_from_slice(ruled.rules.as_slice())?;
+        linting.take(alloc, &tokens.of_definition(starts, index), ruled)?;
     }
     Ok(rules)
 }
@@ -77,16 +99,17 @@ fn definition_at(lexemes: &[Lexeme], first: usize, next: Option<usize>) -> &[Lex
     lexemes.get(first..end).unwrap_or(&[])
 }
 
-fn definition_rules(alloc: Global, own: &[Lexeme]) -> Result<Vec<Option<Rule>>, AllocError>
-    ensures { IfOk result (λ rules. (d : Definition) → IsFormed d → own.now ≡ own_lexemes d
-        → rules.items ≡ definition_rules d) }
+fn definition_rules(alloc: Global, own: &[Lexeme]) -> Result<Ruled, AllocError>
+    ensures { IfOk result (λ ruled. (d : Definition) → IsFormed d → own.now ≡ own_lexemes d
+        → ruled.rules.items ≡ definition_rules d) }
 {
     let nodes = nodes_of(alloc, own)?;
     let tags = constructs_of(alloc, own)?;
     let mut notices = notices_of(alloc, own, nodes.as_slice())?;
     let loops = loops_of(alloc, own, tags.as_slice())?;
     notices.extend_from_slice(loops.as_slice())?;
-    by_token(alloc, own.len(), notices.as_slice())
+    let rules = by_token(alloc, own.len(), notices.as_slice())?;
+    Ok(Ruled { nodes, tags, rules })
 }
 
 // The rule of the first notice of each of so many tokens.

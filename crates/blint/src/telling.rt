@@ -1,14 +1,14 @@
 //! Telling what was found, in the order of the tokens.
-ghost use Rattle.std.specs.Prelude.{◌≡◌, IfOk, slice_get};
-ghost use Rattle.std.specs.List.{list_any};
+ghost use Rattle.std.specs.Prelude.{◌≡◌, IfOk};
 ghost use Rattle.bsources.specs.Files.{beyond_first, files_shown};
-ghost use Rattle.blint.specs.Told.{TellsDue, TellsOthers, due, is_before, with_caution};
-ghost use Rattle.blint.specs.Warns.{IsWarningOf, Speaks, TellsOf, comes_first, is_of_rules, warning_of};
+ghost use Rattle.blint.specs.AtToken.{rule_of};
+ghost use Rattle.blint.specs.Told.{AreRising, TellsOne, TellsOthers, due, with_caution};
+ghost use Rattle.blint.specs.Warns.{IsDue, TellsOf, is_of_tokens};
 
+use crate::at_token::warning_at;
 use crate::cautions::Caution;
 use crate::tokens::{TokenPlace, Tokens};
 use crate::warnings::Warning;
-use blex::Lexeme;
 use brules::Rule;
 use bsources::SourceFiles;
 use std::alloc::{AllocError, Global};
@@ -16,7 +16,7 @@ use std::alloc::{AllocError, Global};
 /// The most that is said of a program, which is as much as a person reads.
 pub(crate) const MOST_CAUTIONS: usize = 100;
 
-/// Tells what the rules say of the tokens of the first file, and what else was found.
+/// Tells of the tokens of the first file what they show and what the rules say, and what else was found.
 pub(crate) fn told(
     alloc: Global,
     files: &SourceFiles<'_>,
@@ -24,34 +24,36 @@ pub(crate) fn told(
     rules: &[Option<Rule>],
     others: &[Caution],
 ) -> Result<Vec<Caution>, AllocError>
-    ensures { IfOk result (λ cautions.
-        TellsOf (files_shown files.now) (Speaks tokens.now.places.now rules.now) cautions.items) }
+    ensures { IfOk result (λ cautions. AreRising tokens.now.places.now
+        → TellsOf (IsDue (files_shown files.now) tokens.now.text.now tokens.now.lexemes.now tokens.now.places.now
+        rules.now) cautions.items) }
 {
     let mut cautions = Vec::new(alloc);
     let mut rest = others;
     for token in 0..tokens.places.len() {
         let place = tokens.places[token];
         rest = tell_others(&mut cautions, rest, place.start)?;
-        let rule = due(files, &place, rule_at(rules, token));
-        tell_rule(&mut cautions, tokens, token, &place, rule)?;
+        let found = warning_at(tokens, token, rule_of(rules, token));
+        let warning = due(files, &place, found);
+        tell_due(&mut cautions, tokens, token, &place, warning)?;
     }
     tell_others(&mut cautions, rest, usize::MAX)?;
     Ok(cautions)
 }
 
-fn rule_at(rules: &[Option<Rule>], token: usize) -> Option<Option<Rule>>
-    ensures { result ≡ slice_get rules.now token }
+fn rule_of(rules: &[Option<Rule>], token: usize) -> Option<Rule>
+    ensures { result ≡ rule_of rules.now token }
 {
-    rules.get(token).copied()
+    rules.get(token).copied().unwrap_or(None)
 }
 
-// The rule that speaks of a token at a place, if that is in the first file.
-fn due(files: &SourceFiles<'_>, place: &TokenPlace, found: Option<Option<Rule>>) -> Option<Rule>
-    ensures { result ≡ due (beyond_first (files_shown files.now) place.now.line) found }
+// The warning of a token at a place, if that is in the first file.
+fn due(files: &SourceFiles<'_>, place: &TokenPlace, warning: Option<Warning>) -> Option<Warning>
+    ensures { result ≡ due (beyond_first (files_shown files.now) place.now.line) warning }
 {
-    match (files.beyond_first(place.line), found) {
-        (None, Some(rule)) => rule,
-        _ => None,
+    match files.beyond_first(place.line) {
+        None => warning,
+        Some(_) => None,
     }
 }
 
@@ -61,7 +63,7 @@ fn tell_others<'a>(
     others: &'a [Caution],
     start: usize,
 ) -> Result<&'a [Caution], AllocError>
-    ensures { IfOk result (λ rest. TellsOthers cautions.old.items cautions.new.items) }
+    ensures { IfOk result (λ rest. TellsOthers start cautions.old.items cautions.new.items) }
 {
     for index in 0..others.len() {
         let other = others[index];
@@ -73,36 +75,33 @@ fn tell_others<'a>(
     Ok(&[])
 }
 
-// Tells what a finder gives, which is nothing that only a rule gives.
+// Tells what a finder gives, which is nothing that tokens and rules alone give.
 fn tell_other(cautions: &mut Vec<Caution>, other: &Caution) -> Result<(), AllocError>
-    ensures { IfOk result (λ done. TellsOthers cautions.old.items cautions.new.items) }
+    ensures { IfOk result (λ done. TellsOthers other.now.place.start cautions.old.items cautions.new.items) }
 {
-    if is_of_rules(other.warning) {
+    if is_of_tokens(other.warning) {
         return Ok(());
     }
     tell(cautions, other)
 }
 
-// Tells what a rule says of a token, if one does, unless another finding at its place says more.
-fn tell_rule(
+// Tells of a token the warning that it has, if it has one.
+fn tell_due(
     cautions: &mut Vec<Caution>,
     tokens: &Tokens<'_>,
     token: usize,
     place: &TokenPlace,
-    rule: Option<Rule>,
+    warning: Option<Warning>,
 ) -> Result<(), AllocError>
-    ensures { IfOk result (λ done. TellsDue rule place.now cautions.old.items cautions.new.items) }
+    ensures { IfOk result (λ done. TellsOne warning place.now cautions.old.items cautions.new.items) }
 {
-    let Some(rule) = rule else {
+    let Some(warning) = warning else {
         return Ok(());
     };
-    if has_before(cautions.as_slice(), place.start) {
-        return Ok(());
-    }
     tell(
         cautions,
         &Caution {
-            warning: warning_at(tokens, token, rule),
+            warning,
             name: tokens.name(token),
             place: *place,
             related: None,
@@ -124,34 +123,16 @@ fn tell(cautions: &mut Vec<Caution>, caution: &Caution) -> Result<(), AllocError
     Ok(())
 }
 
-// Whether one of them stands at a place, before which a rule gives way.
-fn has_before(cautions: &[Caution], start: usize) -> bool
-    ensures { result ≡ list_any (is_before start) cautions.now }
-{
-    cautions.iter().any(|caution| caution.place.start == start && comes_first(caution.warning))
-}
-
-// Whether it says more than a rule of the same token.
-fn comes_first(warning: Warning) -> bool
-    ensures { result ≡ comes_first warning }
+// Whether only a token or a rule gives it.
+fn is_of_tokens(warning: Warning) -> bool
+    ensures { result ≡ is_of_tokens warning }
 {
     matches!(
         warning,
         Warning::AndAnd
-            | Warning::Power
             | Warning::OperatorAssigns
             | Warning::Backslash
-            | Warning::Indented
-    )
-}
-
-// Whether only a rule gives it.
-fn is_of_rules(warning: Warning) -> bool
-    ensures { result ≡ is_of_rules warning }
-{
-    matches!(
-        warning,
-        Warning::BitsCompared
+            | Warning::BitsCompared
             | Warning::ComparesTwice
             | Warning::NotCompared
             | Warning::OrConstant
@@ -171,44 +152,4 @@ fn is_of_rules(warning: Warning) -> bool
             | Warning::ValueDropped
             | Warning::NoEffect
     )
-}
-
-// A string of one character or two, or an escape, was meant for a character where an operator stands before it.
-fn warning_at(tokens: &Tokens<'_>, token: usize, rule: Rule) -> Warning
-    ensures { IsWarningOf rule result }
-{
-    let is_right = matches!(tokens.at(token.wrapping_sub(1)), Lexeme::Operator(_));
-    match rule {
-        Rule::StringCompared if is_right && tokens.is_short(token) => Warning::StringForCharacter,
-        _ => warning_of(rule),
-    }
-}
-
-fn warning_of(rule: Rule) -> Warning
-    ensures { result ≡ warning_of rule }
-{
-    match rule {
-        Rule::BitsCompared => Warning::BitsCompared,
-        Rule::ComparesTwice => Warning::ComparesTwice,
-        Rule::NotCompared => Warning::NotCompared,
-        Rule::OrConstant => Warning::OrConstant,
-        Rule::StringsAdded => Warning::StringsAdded,
-        Rule::StringCompared => Warning::StringCompared,
-        Rule::NegativeNumber => Warning::NegativeNumber,
-        Rule::StringEnd => Warning::StringEnd,
-        Rule::InputEnd => Warning::InputEnd,
-        Rule::InputZero => Warning::InputZero,
-        Rule::AssignsItself => Warning::AssignsItself,
-        Rule::PassesOldValue => Warning::PassesOldValue,
-        Rule::ConditionAssigns => Warning::ConditionAssigns,
-        Rule::AssignsComparison => Warning::AssignsComparison,
-        Rule::AssignsCompared => Warning::AssignsCompared,
-        Rule::EmptyIf => Warning::EmptyIf,
-        Rule::EmptyLoop => Warning::EmptyLoop,
-        Rule::EndlessLoop => Warning::EndlessLoop,
-        Rule::NameAlone => Warning::NameAlone,
-        Rule::ComparesAlone => Warning::ComparesAlone,
-        Rule::ValueDropped => Warning::ValueDropped,
-        Rule::NoEffect => Warning::NoEffect,
-    }
 }

@@ -1,4 +1,8 @@
 //! The tokens of a source, one definition after another.
+ghost use Rattle.std.specs.Prelude.{◌≡◌, ◌+◌, slice_get};
+ghost use Rattle.brules.specs.Telling.{lexeme_at};
+ghost use Rattle.blint.specs.AtToken.{are_joined, bytes_at, is_short};
+
 use blex::Lexeme;
 use bword::Name;
 
@@ -10,13 +14,6 @@ pub struct TokenPlace {
     pub start: usize,
     /// How many bytes it has.
     pub len: usize,
-}
-
-impl TokenPlace {
-    /// The place of the first byte after it.
-    pub(crate) fn end(&self) -> usize {
-        self.start.saturating_add(self.len)
-    }
 }
 
 /// The tokens of a definition, which are counted from 0, and where each stands.
@@ -45,8 +42,21 @@ impl<'a> Tokens<'a> {
     }
 
     /// The token of this number, or the end of the source.
-    pub(crate) fn at(&self, token: usize) -> Lexeme {
+    pub(crate) fn at(&self, token: usize) -> Lexeme
+        ensures { result ≡ lexeme_at self.now.lexemes.now token }
+    {
         self.lexemes.get(token).copied().unwrap_or(Lexeme::End)
+    }
+
+    /// The one after it.
+    pub(crate) fn after(&self, token: usize) -> Lexeme
+        ensures { result ≡ lexeme_at self.now.lexemes.now (token + 1) }
+    {
+        if token < self.lexemes.len() {
+            self.at(token + 1)
+        } else {
+            Lexeme::End
+        }
     }
 
     /// The name that a token is, if it is one.
@@ -77,19 +87,40 @@ impl<'a> Tokens<'a> {
     }
 
     /// Whether the next token stands directly after this one.
-    pub(crate) fn is_joined(&self, token: usize) -> bool {
-        self.place(token).end() == self.place(token.wrapping_add(1)).start
+    pub(crate) fn is_joined(&self, token: usize) -> bool
+        ensures { result
+            ≡ are_joined (slice_get self.now.places.now token) (slice_get self.now.places.now (token + 1)) }
+    {
+        let Some(here) = self.places.get(token) else {
+            return false;
+        };
+        match self.places.get(token + 1) {
+            Some(next) => next.start >= here.start && next.start - here.start == here.len,
+            None => false,
+        }
     }
 
     /// The bytes of a token.
-    pub(crate) fn bytes(&self, token: usize) -> &'a [u8] {
-        let place = self.place(token);
-        self.text.get(place.start..place.end()).unwrap_or(&[])
+    pub(crate) fn bytes(&self, token: usize) -> &'a [u8]
+        ensures { result.now ≡ bytes_at self.now.text.now (slice_get self.now.places.now token) }
+    {
+        match self.places.get(token) {
+            Some(place) => {
+                let rest = self.text.get(place.start..).unwrap_or(&[]);
+                rest.get(..place.len).unwrap_or(rest)
+            }
+            None => &[],
+        }
     }
 
     /// Whether a string has one character or two, or an escape.
-    pub(crate) fn is_short(&self, token: usize) -> bool {
-        self.bytes(token).len() <= 4
+    pub(crate) fn is_short(&self, token: usize) -> bool
+        ensures { result ≡ is_short (slice_get self.now.places.now token) }
+    {
+        match self.places.get(token) {
+            Some(place) => place.len <= 4,
+            None => true,
+        }
     }
 
     /// The blanks before a token that is the first one of its line.

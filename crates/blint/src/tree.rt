@@ -1,9 +1,9 @@
 //! The constructs of a definition, and the nodes of its expressions with their parts.
-use crate::ruled::constructs_of;
+use crate::ruled::Ruled;
 use crate::tokens::Tokens;
 use blang::Keyword;
 use blex::Lexeme;
-use btree::{Construct, Node, NodeTag, Tag, nodes_of};
+use btree::{Construct, Node, NodeTag, Tag};
 use std::alloc::{AllocError, Global};
 
 /// In the place of a token, of a branch or of a statement: there is none.
@@ -52,9 +52,12 @@ pub(crate) struct Tree<'a> {
 }
 
 impl<'a> Tree<'a> {
-    pub(crate) fn new(alloc: Global, tokens: &'a Tokens<'a>) -> Result<Self, AllocError> {
-        let nodes = nodes_of(alloc, tokens.lexemes)?;
-        let tags = constructs_of(alloc, tokens.lexemes)?;
+    pub(crate) fn new(
+        alloc: Global,
+        tokens: &'a Tokens<'a>,
+        ruled: Ruled,
+    ) -> Result<Self, AllocError> {
+        let Ruled { nodes, tags, .. } = ruled;
         let mut tree = Tree {
             tokens,
             nodes,

@@ -119,14 +119,14 @@ string_ended _ = None
 abbrev pub if_compares : BinOp → Rule → Option Rule
 if_compares o r = if compares o || relates o then Some r else None
 
-abbrev pub told_of : Source → BinOp → Value → Option Rule
-told_of source.Input o value.Zero = input_ended o
-told_of source.Input o value.MinusOne = if_compares o rule.InputEnd
-told_of source.String o value.Zero = string_ended o
-told_of source.String o value.MinusOne = if_compares o rule.StringEnd
-told_of s o value.Text = if_compares o rule.StringCompared
-told_of s o value.Large = if relates o then Some rule.NegativeNumber else None
-told_of s o v = None
+abbrev pub comparison_rule : Source → BinOp → Value → Option Rule
+comparison_rule source.Input o value.Zero = input_ended o
+comparison_rule source.Input o value.MinusOne = if_compares o rule.InputEnd
+comparison_rule source.String o value.Zero = string_ended o
+comparison_rule source.String o value.MinusOne = if_compares o rule.StringEnd
+comparison_rule s o value.Text = if_compares o rule.StringCompared
+comparison_rule s o value.Large = if relates o then Some rule.NegativeNumber else None
+comparison_rule s o v = None
 
 -- Conditions: what decides, and the last part of it.
 

@@ -22,7 +22,7 @@ use Rattle.brules.specs.declared.rules.Value.TheVariants as value
 use Rattle.brules.specs.declared.parts.Part.{Part}
 use Rattle.brules.specs.declared.parts.Taken.{Taken}
 use Rattle.brules.specs.Rules.{compares, decided, drops, is_comparison, is_constant, is_name, mirrored, of_idle}
-use Rattle.brules.specs.Rules.{told_between, told_of}
+use Rattle.brules.specs.Rules.{told_between, comparison_rule}
 use Rattle.brules.specs.Views.{is_counted}
 
 abbrev pub notice : Rule → (token : ℕ) → Notice
@@ -92,7 +92,7 @@ value_of lexemes _ inner first = value.Other
 -- a part that is compared with another one: 0 with the character of a call
 abbrev pub of_value : List Lexeme → BinOp → (other p : Part) → Option Notice
 of_value lexemes o other p =
-    at (told_of (source_at lexemes other.name) o (value_of lexemes p.node p.inner p.first)) p.first
+    at (comparison_rule (source_at lexemes other.name) o (value_of lexemes p.node p.inner p.first)) p.first
 
 -- c == 'a' | 'e': a comparison is on the left, or last on the left of the same operator
 abbrev pub is_compared : BinOp → (left inner : Node) → Bool
@@ -182,7 +182,7 @@ of_whole lexemes p _ = of_condition lexemes p
 -- a loop up to 0: while(c = getchar())
 abbrev pub until_zero : List Lexeme → (name : Option ℕ) → Option Notice
 until_zero lexemes None = None
-until_zero lexemes (Some token) = at (told_of (source_of (lexeme_at lexemes token)) op.Ne value.Zero) token
+until_zero lexemes (Some token) = at (comparison_rule (source_of (lexeme_at lexemes token)) op.Ne value.Zero) token
 
 -- a ; after a condition: a block after it was meant to be the body
 abbrev pub empty_loop : Lexeme → (after : Lexeme) → Part → (token : ℕ) → Option Notice

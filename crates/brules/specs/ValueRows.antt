@@ -7,7 +7,7 @@ use Rattle.brules.specs.declared.rules.Rule.TheVariants as rule
 use Rattle.brules.specs.declared.rules.Source.{Source}
 use Rattle.brules.specs.declared.rules.Source.TheVariants as source
 use Rattle.brules.specs.declared.rules.Value.TheVariants as value
-use Rattle.brules.specs.Rules.{mirrored, told_of}
+use Rattle.brules.specs.Rules.{mirrored, comparison_rule}
 use Rattle.brules.specs.Telling.{constant_of, negated_of, source_of}
 
 -- | & == != < <= > >= << >> - + % * /
@@ -20,36 +20,37 @@ operators =
 abbrev sources : List Source
 sources = source.Input ∷ source.String ∷ source.Other ∷ []
 
-input_zeros : map (λ o. told_of source.Input o value.Zero) operators
+input_zeros : map (λ o. comparison_rule source.Input o value.Zero) operators
     ≡ replicate 2 None ++ replicate 2 (Some rule.InputZero) ++ Some rule.InputEnd ∷ None ∷ None ∷ Some rule.InputEnd
     ∷ replicate 7 None
 input_zeros = refl
 
-input_ends : map (λ o. told_of source.Input o value.MinusOne) operators
+input_ends : map (λ o. comparison_rule source.Input o value.MinusOne) operators
     ≡ replicate 2 None ++ replicate 6 (Some rule.InputEnd) ++ replicate 7 None
 input_ends = refl
 
-string_ends : map (λ o. told_of source.String o value.Zero) operators
+string_ends : map (λ o. comparison_rule source.String o value.Zero) operators
     ≡ replicate 2 None ++ replicate 2 (Some rule.StringEnd) ++ None ∷ Some rule.StringEnd ∷ Some rule.StringEnd
     ∷ replicate 8 None
 string_ends = refl
 
-string_minus_ones : map (λ o. told_of source.String o value.MinusOne) operators
+string_minus_ones : map (λ o. comparison_rule source.String o value.MinusOne) operators
     ≡ replicate 2 None ++ replicate 6 (Some rule.StringEnd) ++ replicate 7 None
 string_minus_ones = refl
 
-large_numbers : map (λ s. map (λ o. told_of s o value.Large) operators) sources
+large_numbers : map (λ s. map (λ o. comparison_rule s o value.Large) operators) sources
     ≡ replicate 3 (replicate 4 None ++ (replicate 4 (Some rule.NegativeNumber) ++ replicate 7 None))
 large_numbers = refl
 
-strings_compared : map (λ s. map (λ o. told_of s o value.Text) operators) sources
+strings_compared : map (λ s. map (λ o. comparison_rule s o value.Text) operators) sources
     ≡ replicate 3 (replicate 2 None ++ (replicate 6 (Some rule.StringCompared) ++ replicate 7 None))
 strings_compared = refl
 
-other_values : map (λ o. map (λ s. told_of s o value.Other) sources) operators ≡ replicate 15 (replicate 3 None)
+other_values : map (λ o. map (λ s. comparison_rule s o value.Other) sources) operators ≡ replicate 15 (replicate 3 None)
 other_values = refl
 
-other_sources : map (λ o. told_of source.Other o value.Zero ∷ told_of source.Other o value.MinusOne ∷ []) operators
+other_sources :
+    map (λ o. comparison_rule source.Other o value.Zero ∷ comparison_rule source.Other o value.MinusOne ∷ []) operators
     ≡ replicate 15 (replicate 2 None)
 other_sources = refl
 

@@ -1,6 +1,7 @@
 //! Loops that nothing leaves.
 ghost use Rattle.std.specs.Prelude.{◌≡◌, ◌+◌, ◌<◌, ◌^◌, ◌++◌, ◌∷◌, [], IfOk};
-ghost use Rattle.brules.specs.Constructs.{StandsAt, breaks_first, ended, is_loop_endless, loop_said, opened, stand_at, stand_by};
+ghost use Rattle.brules.specs.Constructs.{StandsAt, breaks_first, ended, is_loop_endless, loop_said, opened, stand_at};
+ghost use Rattle.brules.specs.Constructs.{stand_by};
 ghost use Rattle.brules.specs.Loops.{AreLoops, always, comes_back, has_body, is_one, is_way_out, is_zero, leaves_at};
 
 use crate::opens::{Open, Opens};
@@ -61,7 +62,8 @@ impl Looping {
 
     // The innermost construct is over.
     fn end(&mut self, lexemes: &[Lexeme]) -> Result<(), AllocError>
-        ensures { IfOk result (λ done. StandsAt (ended lexemes.now self.old.place self.old.opens self.old.found.items) self.new) }
+        ensures { IfOk result (λ done.
+            StandsAt (ended lexemes.now self.old.place self.old.opens self.old.found.items) self.new) }
     {
         let Some(open) = self.opens.pop() else {
             return Ok(());

@@ -1,6 +1,9 @@
 //! What rules say of nodes.
 ghost use Rattle.std.specs.Prelude.{◌≡◌, ◌||◌};
-ghost use Rattle.brules.specs.Rules.{assigning, beside_bits, beside_equals, beside_plus, beside_relation, compares, decided, drops, if_compares, input_ended, is_arithmetic, is_compared_call, is_comparison, is_plain, is_word, mirrored, of_idle, operating, relates, string_ended, told_between, told_of};
+ghost use Rattle.brules.specs.Rules.{assigning, beside_bits, beside_equals, beside_plus, beside_relation, compares};
+ghost use Rattle.brules.specs.Rules.{decided, drops, if_compares, input_ended, is_arithmetic, is_compared_call};
+ghost use Rattle.brules.specs.Rules.{is_comparison, is_plain, is_word, mirrored, of_idle, operating, relates};
+ghost use Rattle.brules.specs.Rules.{string_ended, told_between, comparison_rule};
 
 use btree::Node;
 use bword::BinOp;
@@ -140,8 +143,8 @@ fn beside_plus(left: &Node, right: &Node) -> Option<Rule>
 }
 
 /// What is said of a value that is compared with what comes of a source.
-pub(crate) fn told_of(source: Source, op: BinOp, value: Value) -> Option<Rule>
-    ensures { result ≡ told_of source op value }
+pub(crate) fn comparison_rule(source: Source, op: BinOp, value: Value) -> Option<Rule>
+    ensures { result ≡ comparison_rule source op value }
 {
     match value {
         Value::Zero => match source {

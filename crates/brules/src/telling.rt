@@ -2,12 +2,17 @@
 ghost use Rattle.std.specs.Prelude.{◌≡◌, ◌+◌};
 ghost use Rattle.std.specs.List.{list_any, take_while};
 ghost use Rattle.bword.specs.Words.{same_name};
-ghost use Rattle.brules.specs.Telling.{assigns_comparison, at, compares_constants, constant_of, dropped_at, empty_if, empty_loop, is_compared, is_constant_choice, is_constant_lexeme, is_of_constants, is_source, negated_of, of_assigned, of_binary, of_called, of_condition, of_statement, of_tested, of_use, of_value, of_whole, passes, is_call, is_no_close, is_parameter, is_same_name, source_at, source_of, told, until_zero, value_of, when, lexeme_at};
+ghost use Rattle.brules.specs.Telling.{assigns_comparison, at, compares_constants, constant_of, dropped_at, empty_if};
+ghost use Rattle.brules.specs.Telling.{empty_loop, is_compared, is_constant_choice, is_constant_lexeme};
+ghost use Rattle.brules.specs.Telling.{is_of_constants, is_source, negated_of, of_assigned, of_binary, of_called};
+ghost use Rattle.brules.specs.Telling.{of_condition, of_statement, of_tested, of_use, of_value, of_whole, passes};
+ghost use Rattle.brules.specs.Telling.{is_call, is_no_close, is_parameter, is_same_name, source_at, source_of, told};
+ghost use Rattle.brules.specs.Telling.{until_zero, value_of, when, lexeme_at};
 
 use crate::parts::{Part, Taken, is_counted};
 use crate::rules::{
-    Notice, Rule, Source, Value, compares, decided, drops, is_comparison, mirrored, of_idle,
-    told_between, told_of,
+    Notice, Rule, Source, Value, compares, comparison_rule, decided, drops, is_comparison,
+    mirrored, of_idle, told_between,
 };
 use blang::Keyword;
 use blex::Lexeme;
@@ -122,7 +127,10 @@ fn of_value(lexemes: &[Lexeme], op: BinOp, other: &Part, part: &Part) -> Option<
     ensures { result ≡ of_value lexemes.now op other.now part.now }
 {
     let source = source_at(lexemes, other.name);
-    at(told_of(source, op, value_of(lexemes, part)), part.first)
+    at(
+        comparison_rule(source, op, value_of(lexemes, part)),
+        part.first,
+    )
 }
 
 fn source_at(lexemes: &[Lexeme], token: Option<usize>) -> Source
@@ -368,7 +376,7 @@ fn until_zero(lexemes: &[Lexeme], name: Option<usize>) -> Option<Notice>
 {
     match name {
         Some(token) => at(
-            told_of(
+            comparison_rule(
                 source_of(&lexeme_at(lexemes, token)),
                 BinOp::Ne,
                 Value::Zero,
