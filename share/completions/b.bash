@@ -46,7 +46,7 @@ _b() {
     count) words='--edition --with --code --made --lines --steps --no-limit --json --help' ;;
     show) words='--edition --with --steps --from --last --input --careful --help' ;;
     format) words='--write --edition --check --help' ;;
-    port) words='--edition --with --help' ;;
+    port) words='--write --diff --edition --with --help' ;;
     esac
     case ${COMP_WORDS[COMP_CWORD]} in
     -*) mapfile -t COMPREPLY < <(compgen -W "$words" -- "${COMP_WORDS[COMP_CWORD]}") ;;

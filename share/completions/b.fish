@@ -94,5 +94,7 @@ complete -c b -n '__fish_seen_subcommand_from show' -l careful -d 'Up to a word 
 complete -c b -n '__fish_seen_subcommand_from format' -l write -d 'Puts the layout in the place of FILE'
 complete -c b -n '__fish_seen_subcommand_from format' -l edition -x -a '1 2' -d 'The edition of the source, 1 or 2; 1 if not given'
 complete -c b -n '__fish_seen_subcommand_from format' -l check -d 'Writes nothing, and ends with 2 where it would change'
+complete -c b -n '__fish_seen_subcommand_from port' -l write -d 'Puts the ported source in the place of FILE'
+complete -c b -n '__fish_seen_subcommand_from port' -l diff -d 'Shows what would change in FILE'
 complete -c b -n '__fish_seen_subcommand_from port' -l edition -x -a '1 2' -d 'The edition of the source, 1 or 2; 1 if not given'
 complete -c b -n '__fish_seen_subcommand_from port' -l with -r -a 'input numbers print strings test vectors' -d 'Puts the source in LIB after FILE; as often as wanted'

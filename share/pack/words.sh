@@ -2,8 +2,8 @@
 # Reads the words of a command line, for the script `b`, and puts others in their place: for a name of the library after
 # --with the path of its file in the folder `library`; and for a FILE `-` of a command that runs no source, standard
 # input. A path, as each word with a slash or a point is one, stays, and so do the values of --made and --lines, and all
-# else. `format --write FILE`, `check --fix --write FILE` and `check --fix --diff FILE` it does whole, by the program that
-# `program` names.
+# else. --write and --diff it does whole, by the program that `program` names: `format --write FILE`, and both of
+# `check --fix FILE` and `port FILE`.
 b_command=${1-} b_with='' b_over='' b_at=0 b_words='' b_some='' b_write='' b_clash='' b_file='' b_files=0 b_fix=''
 
 b_fail() {
@@ -11,8 +11,8 @@ b_fail() {
     exit "${2-133}"
 }
 
-# Looks for --write and --diff among the words of `format` and `check`, for a word that doesn't go with them, and for
-# FILE.
+# Looks for --write and --diff among the words of `format`, `check` and `port`, for a word that doesn't go with them, and
+# for FILE.
 b_look() {
     b_skip=''
     shift
@@ -53,14 +53,14 @@ b_stop() {
     [ "${b_was##* }" = 1 ] || b_fail 'FILE has several names (hard links), so nothing is written'
 }
 
-# Has the program write what it makes of FILE into the new file. Only of a source at fault `check --fix` writes
-# something, too.
+# Has the program write what it makes of FILE into the new file. `check --fix` and `port` write something of a source at
+# fault, too.
 b_make() {
     b_status=0
     # shellcheck disable=SC2154
     "$program" "$@" >"$b_new" || b_status=$?
     case $b_command:$b_status in
-    *:0 | check:1 | check:132) ;;
+    *:0 | check:1 | check:132 | port:1 | port:132) ;;
     *)
         [ "$b_status" != 133 ] || echo 'error: FILE stays as it is' >&2
         exit "$b_status"
@@ -78,7 +78,8 @@ b_differ() {
     trap 'exit 130' INT
     trap 'exit 143' TERM
     b_make "$@"
-    diff -u -L "$b_file" -L "$b_file mended" -- "$b_file" "$b_new" || [ "$?" = 1 ] || b_fail 'FILE can not be compared'
+    case $b_command in port) b_made=ported ;; *) b_made=mended ;; esac
+    diff -u -L "$b_file" -L "$b_file $b_made" -- "$b_file" "$b_new" || [ "$?" = 1 ] || b_fail 'FILE can not be compared'
     exit "$b_status"
 }
 
@@ -134,10 +135,14 @@ format)
     [ "$b_write" != --diff ] || b_write=''
     ;;
 check) b_look "$@" ;;
+port)
+    b_look "$@"
+    b_fix=''
+    ;;
 esac
 case $b_command$b_fix:$b_write:$b_clash in
 *::* | *:--help | *:-h) ;;
-format:--write:--check | *yes:*:--*) b_refuse "$b_write" "with '$b_clash'" ;;
+format:--write:--check | *yes:*:--* | port:*:--write | port:*:--diff) b_refuse "$b_write" "with '$b_clash'" ;;
 check:*) b_refuse "$b_write" "without '--fix'" ;;
 esac
 
@@ -157,7 +162,7 @@ compile | go | try | list | map | check | names | trace | count | show | format 
         "$b_command$b_fix:--with") b_with=with ;;
         "$b_command:--made" | "$b_command:--lines") b_with='file' ;;
         "$b_command$b_fix:--with="*) b_lib "${b_word#--with=}" "\${$b_at#--with=}" --with= ;;
-        format:--write | checkyes:--write | checkyes:--diff) b_put='' ;;
+        format:--write | checkyes:--write | checkyes:--diff | port:--write | port:--diff) b_put='' ;;
         list:- | map:- | check:- | checkyes:- | names:- | format:- | port:-) b_put=/dev/stdin ;;
         esac
         # A long text is seldom copied, so that many words are quick.

@@ -18,12 +18,12 @@ use Rattle.bcareful.specs.Runs.{Runs}
 use Rattle.bcareful.specs.declared.care.Care.TheVariants as taken
 use Rattle.bcheck.specs.Checks.{Checks}
 use Rattle.bfix.specs.Fixes.{Fixes}
+use Rattle.bfix.specs.Ports.{Ports}
 use Rattle.bcheck.specs.declared.form.FindingForm.TheVariants as forms
 use Rattle.bcount.specs.declared.table.CountStyle.TheVariants as styles
 use Rattle.bcount.specs.Counts.{Counts}
 use Rattle.bdraw.specs.Draws.{Draws}
 use Rattle.bformat.specs.Formats.{Formats}
-use Rattle.bport.specs.Ports.{Ports}
 use Rattle.blist.specs.Listings.{Lists}
 use Rattle.blist.specs.Maps.{Maps}
 use Rattle.bnaming.specs.Names.{Names}

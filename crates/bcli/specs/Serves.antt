@@ -36,9 +36,9 @@ use Rattle.bcount.specs.declared.table.CountStyle.{CountStyle}
 use Rattle.bcount.specs.declared.table.CountStyle.TheVariants as styles
 use Rattle.bshow.specs.Shows.{Shows, Asked as PageAsked}
 use Rattle.bfix.specs.Fixes.{Fixes}
+use Rattle.bfix.specs.Ports.{Ports}
 use Rattle.bshow.specs.CarefulPages.{ShowsCarefully}
 use Rattle.bformat.specs.Formats.{Formats}
-use Rattle.bport.specs.Ports.{Ports}
 use Rattle.bwhere.specs.Wheres.{LocatesCode}
 use Rattle.bcommand.specs.CommandLine.{Asked, OriginAsked, Question, SourceAsked, asked_in, clash_line, fault_in}
 use Rattle.bcommand.specs.CommandLine.{from_source, from_code, from_made, try_out}

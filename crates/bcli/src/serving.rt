@@ -28,13 +28,12 @@ use bcommand::{
 };
 use bcount::{CountStyle, Counting, count};
 use bdraw::draw;
-use bfix::fix;
+use bfix::{fix, port};
 use bformat::{House, format};
 use blang::status::{self, Status};
 use blist::{list, map};
 use bnaming::tell_names;
 use bparse::compile_edition;
-use bport::port;
 use brun::{go_edition, migrate, run_text};
 use bshow::{show, show_careful};
 use bsources::{Following, JoinedIn, SourceFile, SourceFiles};

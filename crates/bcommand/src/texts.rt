@@ -453,20 +453,28 @@ pub(crate) const PORT_HELP: &str = "\
 FILE is of an old or a later form of B, or early C. It is written to standard
 output in this language. A source that compiles and loads is written as it is.
 Each change is told on standard error, with its line in FILE and a sentence;
-after left: comes what stays as it is, or may mean something else. Then comes
+after left: comes what stays as it is, or may mean something else. What comes
+out is then mended as by b check --fix: that comes after mended:. The last is
 the line that b go would write, if what was written doesn't compile or load:
 b check tells more of that. Comments and strings keep their texts.
 
 Changed are: assignment operators with = last, && and ||, ^ and ~, for, do,
 repeat, continue and next, brackets in auto, $( and $), comments after // or #,
 types, #define and other named constants, escapes by \\, hexadecimal numbers,
-names of more than eight characters, cases of a range, extern, and functions
-that name no externals. break and default stay, and are in edition 2 alone.
+names of more than eight characters, cases of a range, extern, functions that
+name no externals, printn without a base, and 0 or -1 for the end of a string
+or of the input. break and default stay, and are in edition 2 alone.
 --with LIB is for calls of the library: b --help tells more.
+
+The script b, which runs this program, knows --write and --diff, too: b port
+--write FILE puts the text in the place of FILE, and --diff shows what would
+change and writes nothing. A link is refused, and what is no plain file. FILE is
+never half written.
 
 Examples:
   b port old.b > new.b
   b port --edition 2 --with print old.b > new.b
+  b port --diff old.b
 
 Statuses: 0 what was written compiles and loads, 1 a fault of it, 132 code that
 doesn't load, 133 a failed read or write, 134 out of memory, 135 a wrong command

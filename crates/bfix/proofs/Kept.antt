@@ -1,5 +1,6 @@
 -- The comments and strings of a source that are still to come.
-use Rattle.std.proofs.Common.{◌≡◌, ◌≢◌, ◌∙◌, ℕ, zero, suc, ◌+◌, ◌<◌, ◌≤◌, Bool, true, false, List, [], ◌++◌, Option, Some, ap, append_assoc, append-nil, arith, length, refl, subst, sym}
+use Rattle.std.proofs.Common.{◌≡◌, ◌≢◌, ◌∙◌, ℕ, zero, suc, ◌+◌, ◌<◌, ◌≤◌, Bool, true, false, List, [], ◌++◌, Option}
+use Rattle.std.proofs.Common.{Some, ap, append_assoc, append-nil, arith, length, refl, subst, sym}
 use Rattle.std.specs.Prelude.{if◌then◌else◌}
 use Rattle.bword.specs.declared.edition.Edition.{Edition}
 use Rattle.blex.specs.declared.lexeme.Lexeme.{Lexeme}
@@ -21,11 +22,14 @@ module _ (edition : Edition) (source : List ℕ) where
 
   step_end : (fuel at : ℕ) → is_over (next at).lexeme ≡ true → kept_from edition (suc fuel) source at ≡ []
   unfolding kept_from
-  step_end fuel at e = ap (λ (b : Bool). if b then [] else kept_text source (next at) ++ kept_from edition fuel source (next at).end) e
+  step_end fuel at e =
+      ap (λ (b : Bool). if b then [] else kept_text source (next at) ++ kept_from edition fuel source (next at).end) e
 
-  step_more : (fuel at : ℕ) → is_over (next at).lexeme ≡ false → kept_from edition (suc fuel) source at ≡ kept_text source (next at) ++ kept_from edition fuel source (next at).end
+  step_more : (fuel at : ℕ) → is_over (next at).lexeme ≡ false
+      → kept_from edition (suc fuel) source at ≡ kept_text source (next at) ++ kept_from edition fuel source (next at).end
   unfolding kept_from
-  step_more fuel at e = ap (λ (b : Bool). if b then [] else kept_text source (next at) ++ kept_from edition fuel source (next at).end) e
+  step_more fuel at e =
+      ap (λ (b : Bool). if b then [] else kept_text source (next at) ++ kept_from edition fuel source (next at).end) e
 
   none_left : (fuel at : ℕ) → length source ≤ at → kept_from edition fuel source at ≡ []
   unfolding kept_from
@@ -33,25 +37,32 @@ module _ (edition : Edition) (source : List ℕ) where
   none_left (suc fuel) at h = step_end fuel at (ap is_over (end_piece edition source at h))
 
   -- enough fuel is enough
-  fuel_enough : (m n at : ℕ) → length source ≤ at + m → length source ≤ at + n → kept_from edition m source at ≡ kept_from edition n source at
+  fuel_enough : (m n at : ℕ) → length source ≤ at + m → length source ≤ at + n
+      → kept_from edition m source at ≡ kept_from edition n source at
   fuel_enough zero n at h k = none_left zero at (omega arith) ∙ sym (none_left n at (omega arith))
   fuel_enough (suc m) zero at h k = none_left (suc m) at (omega arith) ∙ sym (none_left zero at (omega arith))
-  fuel_enough (suc m) (suc n) at h k = by (is_over (next at).lexeme) refl (λ g. fuel_enough m n (next at).end (omega (arith, g)) (omega (arith, g)))
+  fuel_enough (suc m) (suc n) at h k =
+      by (is_over (next at).lexeme) refl (λ g. fuel_enough m n (next at).end (omega (arith, g)) (omega (arith, g)))
     where
-      by : (b : Bool) → is_over (next at).lexeme ≡ b → (at < (next at).end → kept_from edition m source (next at).end ≡ kept_from edition n source (next at).end)
+      by : (b : Bool) → is_over (next at).lexeme ≡ b
+          → (at < (next at).end → kept_from edition m source (next at).end ≡ kept_from edition n source (next at).end)
           → kept_from edition (suc m) source at ≡ kept_from edition (suc n) source at
       by true e again = step_end m at e ∙ sym (step_end n at e)
-      by false e again = step_more m at e ∙ ap (λ ts. kept_text source (next at) ++ ts) (again (grows at e)) ∙ sym (step_more n at e)
+      by false e again =
+          step_more m at e ∙ ap (λ ts. kept_text source (next at) ++ ts) (again (grows at e)) ∙ sym (step_more n at e)
 
   -- those from a place on
   abbrev pub coming : ℕ → List (List ℕ)
   coming at = kept_from edition (length source) source at
 
   coming_end : (at : ℕ) → is_over (next at).lexeme ≡ true → coming at ≡ []
-  coming_end at e = fuel_enough (length source) (suc (length source)) at (omega arith) (omega arith) ∙ step_end (length source) at e
+  coming_end at e =
+      fuel_enough (length source) (suc (length source)) at (omega arith) (omega arith) ∙ step_end (length source) at e
 
-  coming_more : (at : ℕ) → is_over (next at).lexeme ≡ false → coming at ≡ kept_text source (next at) ++ coming (next at).end
-  coming_more at e = fuel_enough (length source) (suc (length source)) at (omega arith) (omega arith) ∙ step_more (length source) at e
+  coming_more : (at : ℕ) → is_over (next at).lexeme ≡ false
+      → coming at ≡ kept_text source (next at) ++ coming (next at).end
+  coming_more at e =
+      fuel_enough (length source) (suc (length source)) at (omega arith) (omega arith) ∙ step_more (length source) at e
 
   -- the source is read up to a place
   pub record Reads (texts : List (List ℕ)) (at : ℕ) : Type 0 where
@@ -70,4 +81,8 @@ module _ (edition : Edition) (source : List ℕ) where
     reads_more e =
         let other : is_over (next at).lexeme ≡ false = ap (λ (p : PlacedPiece). is_over p.lexeme) (sym is) ∙ e in
         subst (λ (p : PlacedPiece). Reads (texts ++ kept_text source p) p.end) (sym is)
-        (record { all = append_assoc texts (kept_text source (next at)) (coming (next at).end) ∙ ap (λ ts. texts ++ ts) (sym (coming_more at other)) ∙ h.all })
+        (record {
+          all =
+              append_assoc texts (kept_text source (next at)) (coming (next at).end)
+              ∙ ap (λ ts. texts ++ ts) (sym (coming_more at other)) ∙ h.all;
+        })

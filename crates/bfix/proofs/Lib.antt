@@ -1,3 +1,4 @@
 mod FixExcluded
 mod FixSteps
 mod Kept
+mod PortSteps

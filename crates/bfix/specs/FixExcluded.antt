@@ -3,18 +3,19 @@ use Rattle.std.specs.Prelude.{◌≡◌, ℕ, ◌*◌, ◌<◌, ◌≤◌, IsTru
 use Rattle.bword.specs.ByteEnds.{Writes}
 use Rattle.blang.specs.declared.status.TheConstants.{DEVICE}
 use Rattle.bcheck.specs.Checks.{EachOutcome, EditParts, Mends, outcome_status}
-use Rattle.bfix.specs.Fixes.{Fix, Fixes, own_in, rest_in}
+use Rattle.bfix.specs.Fixes.{Fixes}
 use Rattle.bfix.specs.Keeping.{are_among, kept_of}
+use Rattle.bfix.specs.OwnText.{Replacing, own_in, rest_in}
 
 -- the source, and the source with a text in the place of its first file
-abbrev pub source_in : Fix → List ℕ
+abbrev pub source_in : Replacing → List ℕ
 source_in f = own_in f ++ rest_in f
 
-abbrev pub with_text : Fix → (text : List ℕ) → List ℕ
+abbrev pub with_text : Replacing → (text : List ℕ) → List ℕ
 with_text f text = text ++ rest_in f
 
 -- What is excluded of a text that was written.
-pub record IsSound (f : Fix) (text : List ℕ) : Type 0 where
+pub record IsSound (f : Replacing) (text : List ℕ) : Type 0 where
   -- one in which a comment or a string of the source is lost, changed, or before one that it stood after
   pub kept : IsTrue (are_among (kept_of f.edition (source_in f)) (kept_of f.edition (with_text f text)))
   -- one of more than twice as many bytes
@@ -26,4 +27,5 @@ pub record IsSound (f : Fix) (text : List ℕ) : Type 0 where
   pub status : EachOutcome f.edition (with_text f text) (λ o. f.status ≡ outcome_status o)
 
 abbrev pub WrongFixes : Type 0
-WrongFixes = (f : Fix) → Fixes f → f.status < DEVICE → (text : List ℕ) × Writes f.out text f.out_after × IsSound f text
+WrongFixes =
+    (f : Replacing) → Fixes f → f.status < DEVICE → (text : List ℕ) × Writes f.out text f.out_after × IsSound f text

@@ -1,4 +1,4 @@
--- Closed facts: which comments and strings a source has, and what is written of one that is fixed.
+-- Closed facts: which comments and strings a source has, and what is written of one that is fixed or ported.
 use Rattle.std.specs.Prelude.{◌≡◌, ℕ, true, false, List, [], ◌∷◌, Some, None, codes, map, refl}
 use Rattle.bword.specs.declared.edition.Edition.{Edition}
 use Rattle.bword.specs.declared.edition.Edition.TheVariants as editions
@@ -8,7 +8,11 @@ use Rattle.blang.specs.Cut.{with_quoted_byte, word_token}
 use Rattle.blex.specs.declared.lexeme.Lexeme.TheVariants as lexeme
 use Rattle.bword.specs.ByteEnds.{Outgoing}
 use Rattle.blang.specs.Reports.{Reported}
-use Rattle.bfix.specs.Fixes.{Lead, TellsAfter, all_lines, own_length}
+use Rattle.blang.specs.declared.run.LoadFault.TheVariants as faults
+use Rattle.btools.specs.declared.program.ProgramFault.TheVariants as why
+use Rattle.bfix.specs.Fixes.{Lead, all_lines}
+use Rattle.bfix.specs.OwnText.{TellsAfter, own_length}
+use Rattle.bfix.specs.Ports.{verdict_status, verdict_text}
 use Rattle.bfix.specs.Keeping.{are_among, is_kept, is_over, kept_from, kept_of}
 
 -- the end of a source, a comment, a string, and another token
@@ -61,3 +65,11 @@ after_text told status line line_after result h = h
 after_failure : (told : List ℕ) (status : ℕ) (line line_after : Outgoing) (result : ℕ)
     → TellsAfter 133 told status line line_after result → (line_after ≡ line) × (result ≡ 133)
 after_failure told status line line_after result h = h
+
+-- the line and the status of what was ported and doesn't load
+load_faults : map verdict_text (why.Unloaded faults.TooLarge ∷ why.Unloaded faults.NoMain ∷ [])
+    ≡ codes "load 2\n" ∷ codes "load 4\n" ∷ []
+load_faults = refl
+
+load_statuses : map verdict_status (why.Unloaded faults.TooLarge ∷ why.Unloaded faults.NoMain ∷ []) ≡ 132 ∷ 132 ∷ []
+load_statuses = refl

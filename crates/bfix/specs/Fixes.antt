@@ -1,14 +1,13 @@
 -- Promise: what is written of a source that is fixed: what edits that mend it make of it, one after another.
-use Rattle.std.specs.Prelude.{◌≡◌, ℕ, zero, suc, ◌*◌, ◌-◌, ◌≤◌, ◌==◌, ◌&&◌, Bool, IsTrue, List, [], ◌∷◌, ◌++◌, drop, length, take}
-use Rattle.std.specs.Prelude.{if◌then◌else◌, nat_le}
+use Rattle.std.specs.Prelude.{◌≡◌, ℕ, ◌*◌, ◌≤◌, IsTrue, List, [], ◌∷◌, ◌++◌, length}
 use Rattle.std.specs.List.{flat_map}
 use Rattle.bword.specs.declared.edition.Edition.{Edition}
-use Rattle.bword.specs.ByteEnds.{Outgoing}
 use Rattle.blang.specs.Reports.{Reported}
 use Rattle.blang.specs.declared.status.TheConstants.{DONE, MEMORY}
 use Rattle.bsources.specs.Files.{Files, files_shown}
 use Rattle.bcheck.specs.Checks.{EachOutcome, EditParts, Mends, change_line, fault_in, mended, told_first}
 use Rattle.bfix.specs.Keeping.{are_among, kept_of}
+use Rattle.bfix.specs.OwnText.{Replacing, TellsAfter, own_in, rest_in}
 use Rattle.bfix.specs.declared.fixing.FixedText.{FixedText}
 use Rattle.bfix.specs.declared.fixing.Frame.{Frame}
 use Rattle.bfix.specs.declared.fixing.Led.{Led}
@@ -40,44 +39,9 @@ pub record Fixed (edition : Edition) (files : Files) (rest old new : List ℕ) :
 abbrev pub all_lines : List (List ℕ) → List ℕ
 all_lines lines = flat_map (λ line. line) lines
 
--- whether a byte is the newline after the last one of so many lines, and how many come after another byte
-abbrev pub ends_lines : (lines byte : ℕ) → Bool
-ends_lines lines byte = (byte == 10) && nat_le lines 1
-
-abbrev pub lines_after : (lines byte : ℕ) → ℕ
-lines_after lines byte = if byte == 10 then lines - 1 else lines
-
--- how many bytes so many lines have, without the newline after the last one
-abbrev pub own_length : (lines : ℕ) → List ℕ → ℕ
-own_length lines [] = 0
-own_length lines (b ∷ bs) = if ends_lines lines b then 0 else suc (own_length (lines_after lines b) bs)
-
--- a source of these files, the two streams, before and after, and the status
-pub record Fix : Type 0 where
-  pub edition : Edition
-  pub files : Files
-  pub source : List ℕ
-  pub out : Outgoing
-  pub out_after : Outgoing
-  pub line : Outgoing
-  pub line_after : Outgoing
-  pub status : ℕ
-
--- the text of the first file, and what follows it
-abbrev pub own_in : Fix → List ℕ
-own_in f = take (own_length f.files.first.lines f.source) f.source
-
-abbrev pub rest_in : Fix → List ℕ
-rest_in f = drop (own_length f.files.first.lines f.source) f.source
-
--- The second text was told with this status, if the first one was written; else the status is that of the first.
-abbrev pub TellsAfter : (written : ℕ) → (told : List ℕ) → (status : ℕ) → Outgoing → Outgoing → (result : ℕ) → Type 0
-TellsAfter zero told status line line_after result = Reported told status line line_after result
-TellsAfter (suc n) told status line line_after result = (line_after ≡ line) × (result ≡ suc n)
-
 -- The text was written, and then the changes were told, and the line and the status of what is left; or memory was
 -- refused, and nothing was written.
-pub data Fixes (f : Fix) : Type 0 where
+pub data Fixes (f : Replacing) : Type 0 where
   fixed : (text : List ℕ) (t : Fixed f.edition f.files (rest_in f) (own_in f) text) (written : ℕ)
       → Reported text DONE f.out f.out_after written
       → EachOutcome f.edition (text ++ rest_in f) (λ o. let left = told_first o.stop (fault_in o) in
@@ -86,12 +50,6 @@ pub data Fixes (f : Fix) : Type 0 where
   no_memory : f.out_after ≡ f.out → f.line_after ≡ f.line → f.status ≡ MEMORY → Fixes f
 
 -- Inner words.
-
--- both texts of what was fixed were told
-abbrev pub TellsBoth : FixedText → (out out_after line line_after : Outgoing) → (result : ℕ) → Type 0
-TellsBoth f out out_after line line_after result =
-    (written : ℕ) × Reported f.text DONE out out_after written
-    × TellsAfter written f.told f.status line line_after result
 
 -- what was fixed, and what is told of it
 pub record IsFixed (edition : Edition) (files : Files) (own rest : List ℕ) (f : FixedText) : Type 0 where

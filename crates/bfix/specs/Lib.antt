@@ -2,3 +2,5 @@ pub mod FixExcluded
 mod FixRows
 pub mod Fixes
 pub mod Keeping
+pub mod OwnText
+pub mod Ports

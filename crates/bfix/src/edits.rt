@@ -1,19 +1,9 @@
 //! Edits of the first file of a source.
 ghost use Rattle.std.specs.Prelude.{◌≡◌, ◌≤◌, ◌+◌, ◌++◌, IfOk, drop, length, take};
-ghost use Rattle.bfix.specs.Fixes.{ends_lines, lines_after, own_length};
+ghost use Rattle.bfix.specs.OwnText.{ends_lines, lines_after, own_length};
 
 use btools::Text;
 use std::alloc::{AllocError, Global};
-
-/// A text before another one.
-pub(crate) fn joined(alloc: Global, own: &[u8], rest: &[u8]) -> Result<Text, AllocError>
-    ensures { IfOk result (λ text. text ≡ own.now ++ rest.now) }
-{
-    let mut text = Text::new(alloc);
-    text.push(own)?;
-    text.push(rest)?;
-    Ok(text)
-}
 
 /// A text with these words in the place of some of its bytes.
 pub(crate) fn edited(

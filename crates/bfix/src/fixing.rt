@@ -3,12 +3,14 @@ ghost use Rattle.std.specs.Prelude.{◌≡◌, ◌≤◌, IfOk, IfSome};
 ghost use Rattle.bsources.specs.Files.{files_shown};
 ghost use Rattle.bfix.specs.FixExcluded.{WrongFixes};
 ghost use Rattle.bfix.specs.declared.fixing.TheConstants.{MOST_CHANGES};
-ghost use Rattle.bfix.specs.Fixes.{Fixes, IsFixed, IsLed, IsMade, TellsBoth};
+ghost use Rattle.bfix.specs.Fixes.{Fixes, IsFixed, IsLed, IsMade};
+ghost use Rattle.bfix.specs.OwnText.{TellsBoth};
 
-use crate::edits::{edited, joined, own_length};
+use crate::edits::{edited, own_length};
 use crate::keeping::keeps;
 use bcheck::{Change, next_change, verdict_on};
 use blang::status::{self, Status};
+use bport::joined;
 use bsources::SourceFiles;
 use btools::{Text, tell};
 use bword::{ByteOut, Edition};
@@ -32,18 +34,18 @@ pub struct FixedText {
 
 /// A text, and the lines that tell how it came of another one.
 #[derive(Drop)]
-struct Led {
-    text: Text,
-    lines: Text,
+pub(crate) struct Led {
+    pub text: Text,
+    pub lines: Text,
 }
 
 /// What a text is fixed in: what comes after it in the source, and the most bytes that it may have.
 #[derive(Clone, Copy)]
-struct Frame<'a> {
-    edition: Edition,
-    files: SourceFiles<'a>,
-    rest: &'a [u8],
-    most: usize,
+pub(crate) struct Frame<'a> {
+    pub edition: Edition,
+    pub files: SourceFiles<'a>,
+    pub rest: &'a [u8],
+    pub most: usize,
 }
 
 /// Mends the first file of a source wherever that needs no choice, and writes it. The changes are told beside it, and
@@ -78,8 +80,12 @@ pub fn fix<O: ByteOut, D: ByteOut>(
     }
 }
 
-// Writes a text that was fixed, and what is told of it.
-fn tell_both<O: ByteOut, D: ByteOut>(fixed: &FixedText, out: &mut O, diag: &mut D) -> Status
+/// Writes a text that was fixed, and what is told of it.
+pub(crate) fn tell_both<O: ByteOut, D: ByteOut>(
+    fixed: &FixedText,
+    out: &mut O,
+    diag: &mut D,
+) -> Status
     ensures tells { TellsBoth fixed.now (O.outgoing out.old) (O.outgoing out.new) (D.outgoing diag.old)
         (D.outgoing diag.new) result }
     ensures out_lender { O.lender out.new ≡ O.lender out.old }
@@ -119,8 +125,8 @@ pub fn fixed(
     })
 }
 
-// Makes the changes of a text in turn.
-fn follow(alloc: Global, frame: &Frame<'_>, own: &[u8]) -> Result<Led, AllocError>
+/// Makes the changes of a text in turn.
+pub(crate) fn follow(alloc: Global, frame: &Frame<'_>, own: &[u8]) -> Result<Led, AllocError>
     ensures { IfOk result (IsLed frame.now own.now) }
 {
     let mut text = Text::new(alloc);

@@ -26,6 +26,8 @@ sentence row.Constant = codes "a constant stands for its name"
 sentence row.Characters = codes "a constant has two characters at most"
 sentence row.Name = codes "a name has eight letters at most"
 sentence row.InputEnd = codes "the input ends with '*e'"
+sentence row.StringEnd = codes "a string ends with '*e'"
+sentence row.Base = codes "printn has the base after the number"
 sentence row.Vector = codes "auto has the last index of a vector without brackets"
 sentence row.Type = codes "there are no types"
 sentence row.Parameters = codes "parameters are names alone"
@@ -71,7 +73,8 @@ told_of line next rows = if line == next then rows else []
 abbrev pub line_on : List ℕ → (line at start : ℕ) → ℕ
 line_on source line at start = min (line + newlines (drop at (take start source))) most
 
--- The list: each edit in order with its line, from a place on whose line has these rows. On a line each row is told once.
+-- The list: each edit in order with its line, from a place on whose line has these rows. On a line each row is told
+-- once.
 abbrev pub listed : (file source : List ℕ) → (line at : ℕ) → List Row → List Edit → List ℕ
 listed file source line at rows [] = []
 listed file source line at rows (e ∷ es) =

@@ -10,7 +10,8 @@ use Rattle.bport.specs.declared.row.Row.TheVariants as row
 abbrev at : (start end : ℕ) → (text : List ℕ) → Row → Edit
 at start end text row = record { start = start; end = end; text = text; row = row }
 
-edited_between : edited (codes "abcdef") 0 (at 1 3 (codes "X") row.And ∷ at 3 3 (codes "Y") row.Or ∷ []) ≡ codes "aXYdef"
+edited_between :
+    edited (codes "abcdef") 0 (at 1 3 (codes "X") row.And ∷ at 3 3 (codes "Y") row.Or ∷ []) ≡ codes "aXYdef"
 edited_between = refl
 
 in_order : map (are_edits_of (codes "abc"))
@@ -19,11 +20,26 @@ in_order : map (are_edits_of (codes "abc"))
     ≡ true ∷ false ∷ false ∷ false ∷ []
 in_order = refl
 
--- the marks of a comment, its text, and a place in it
-free : map (are_edits_of (codes "a/*b*/"))
-    ((at 1 3 [] row.Remark ∷ []) ∷ (at 3 4 [] row.Remark ∷ []) ∷ (at 3 3 [] row.Remark ∷ []) ∷ [])
-    ≡ true ∷ false ∷ true ∷ []
-free = refl
+-- the marks of a comment, its text, places in it, and the place before it and after it
+around_comment : map (are_edits_of (codes "a/*b*/"))
+    ((at 1 3 [] row.Remark ∷ []) ∷ (at 3 4 [] row.Remark ∷ []) ∷ (at 2 2 [] row.And ∷ []) ∷ (at 3 3 [] row.And ∷ [])
+    ∷ (at 5 5 [] row.And ∷ []) ∷ (at 1 1 [] row.And ∷ []) ∷ (at 6 6 [] row.And ∷ []) ∷ [])
+    ≡ false ∷ false ∷ false ∷ false ∷ false ∷ true ∷ true ∷ []
+around_comment = refl
+
+-- the marks of a comment up to the end of the line, which only others replace, its text, and its end
+around_line : map (are_edits_of (codes "//b\n"))
+    ((at 0 2 (codes "/*") row.Remark ∷ []) ∷ (at 0 2 [] row.Remark ∷ []) ∷ (at 2 2 [] row.And ∷ [])
+    ∷ (at 3 3 (codes " */") row.Remark ∷ []) ∷ [])
+    ≡ true ∷ false ∷ false ∷ true ∷ []
+around_line = refl
+
+-- the quote before a string, places in it, and the place before it and after it
+around_string : map (are_edits_of (codes "\"a\"b"))
+    ((at 0 1 [] row.And ∷ []) ∷ (at 1 1 [] row.And ∷ []) ∷ (at 2 2 [] row.And ∷ []) ∷ (at 0 0 [] row.And ∷ [])
+    ∷ (at 3 3 [] row.And ∷ []) ∷ [])
+    ≡ false ∷ false ∷ false ∷ true ∷ true ∷ []
+around_string = refl
 
 -- escapes, the same for another row and with another character, a half of one, and a character
 in_string : map (are_edits_of (codes "\"a\\n*b\""))

@@ -1,12 +1,15 @@
 -- Promise: what is edited in an old source, and what stays.
-use Rattle.std.specs.Prelude.{ℕ, ◌==◌, nat_le, Bool, true, false, List, [], ◌∷◌, ◌++◌, ◌≡◌, ◌⊎◌, drop, if◌then◌else◌, length, not, take, ◌&&◌}
+use Rattle.std.specs.Prelude.{ℕ, ◌==◌, nat_le, Bool, true, false, List, [], ◌∷◌, ◌++◌, ◌≡◌, ◌&&◌, ◌||◌, Option, Some}
+use Rattle.std.specs.Prelude.{codes, drop, if◌then◌else◌, length, not, slice_get, take}
 use Rattle.std.specs.List.{list_all}
 use Rattle.std.specs.Str.{bytes_eq}
 use Rattle.bword.specs.declared.edition.Edition.{Edition}
-use Rattle.btools.specs.Programs.{HasNoProgram}
+use Rattle.blang.specs.declared.code.Definition.{Definition}
+use Rattle.blang.specs.Machine.{Image}
+use Rattle.btools.specs.Programs.{HasNoProgram, HasProgram}
 use Rattle.btools.specs.declared.program.ProgramFault.{ProgramFault}
 use Rattle.btools.specs.declared.program.ProgramFault.TheVariants as why
-use Rattle.bport.specs.Places.{is_own_text, places_of}
+use Rattle.bport.specs.Places.{is_own_text, is_within_text, places_of}
 use Rattle.bport.specs.declared.edit.Edit.{Edit}
 use Rattle.bport.specs.declared.row.Row.{Row}
 use Rattle.bport.specs.declared.row.Row.TheVariants as row
@@ -51,12 +54,24 @@ is_escape [] places new = false
 is_escape (b ∷ bs) places new =
     is_in_quotes places && (not (bytes_eq new []) && bytes_eq new (escape_for (b ∷ bs)))
 
--- An edit for an escape puts the same character there. Any other one takes out no byte of a comment or of a string.
+-- no comment and no string has the place before a byte, which stands in this, within it; nothing comes after the end
+abbrev pub stands_apart : Option ℕ → Option Within → Bool
+stands_apart (Some b) (Some place) = not (is_within_text place b)
+stands_apart _ _ = true
+
+-- the signs that begin a comment for others that do
+abbrev pub opens_comment : (old new : List ℕ) → Bool
+opens_comment old new = bytes_eq new (codes "/*") && (bytes_eq old (codes "//") || bytes_eq old (codes "#"))
+
+-- An edit for an escape puts the same character there. Any other one takes out no byte of a comment or of a string, nor
+-- what begins it, and puts nothing within it.
 abbrev pub fits : List ℕ → List Within → Edit → Bool
 fits source places e =
-    if is_escape_row e.row
-    then is_escape (drop e.start (take e.end source)) (drop e.start (take e.end places)) e.text
-    else list_all (λ place. not (is_own_text place)) (drop e.start (take e.end places))
+    let old = drop e.start (take e.end source) in
+    let stood = drop e.start (take e.end places) in
+    if is_escape_row e.row then is_escape old stood e.text
+    else (list_all (λ place. not (is_own_text place)) stood
+    && (stands_apart (slice_get source e.end) (slice_get places e.end) || opens_comment old e.text))
 
 -- edits from a place on, in order, apart, within the source, and each fits
 abbrev pub are_sound : List ℕ → List Within → (at : ℕ) → List Edit → Bool
@@ -72,7 +87,12 @@ abbrev pub is_reason : ProgramFault → Bool
 is_reason why.Memory = false
 is_reason _ = true
 
--- A source is edited only where it, with what comes after it, doesn't compile or doesn't load.
-abbrev pub StaysIfItRuns : Edition → (whole : List ℕ) → List Edit → Type 0
-StaysIfItRuns edition whole es =
-    (es ≡ []) ⊎ ((fault : ProgramFault) × HasNoProgram edition whole fault × (is_reason fault ≡ true))
+-- a source compiles and loads
+abbrev pub HasSomeProgram : Edition → (whole : List ℕ) → Type 0
+HasSomeProgram edition whole = (ds : List Definition) × (image : Image) × HasProgram edition whole ds image
+
+-- A source that compiles and loads, with what comes after it, has no edit. Any other one doesn't compile or load.
+abbrev pub EditsIfFaulty : Edition → (whole : List ℕ) → (is_program : Bool) → List Edit → Type 0
+EditsIfFaulty edition whole true es = HasSomeProgram edition whole × (es ≡ [])
+EditsIfFaulty edition whole false es =
+    (fault : ProgramFault) × HasNoProgram edition whole fault × (is_reason fault ≡ true)

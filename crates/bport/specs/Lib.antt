@@ -1,6 +1,7 @@
 pub mod Places
 pub mod Edits
 pub mod Changes
-pub mod Ports
 pub mod EditRows
-pub mod PortRows
+pub mod PlaceRows
+pub mod Staying
+pub mod StayRows

@@ -1,5 +1,5 @@
 -- Promise: in what each byte of an old source stands: code, a comment, a string or a character constant.
-use Rattle.std.specs.Prelude.{ℕ, ◌==◌, Bool, true, false, List, [], ◌∷◌, if◌then◌else◌}
+use Rattle.std.specs.Prelude.{ℕ, ◌==◌, Bool, true, false, List, [], ◌∷◌, if◌then◌else◌, not, ◌||◌}
 use Rattle.bport.specs.declared.within.Within.{Within}
 use Rattle.bport.specs.declared.within.Within.TheVariants as within
 
@@ -7,7 +7,8 @@ use Rattle.bport.specs.declared.within.Within.TheVariants as within
 abbrev pub after_code : ℕ → Within
 after_code b =
     if b == 10 then within.Start
-    else (if b == 47 then within.Slash else (if b == 34 then within.String else (if b == 39 then within.Char else within.Code)))
+    else (if b == 47 then within.Slash
+    else (if b == 34 then within.String else (if b == 39 then within.Char else within.Code)))
 
 -- after a byte in quotes: a newline, the closing quote, a mark of an escape, or another one
 abbrev pub after_quoted : (quote : ℕ) → (escape otherwise : Within) → ℕ → Within
@@ -46,3 +47,10 @@ is_own_text within.Line = true
 is_own_text within.String = true
 is_own_text within.StringEscape = true
 is_own_text _ = false
+
+-- A place before this byte is within a comment or a string, or within the two signs that begin a comment. Before the
+-- end of its line a comment up to there is over.
+abbrev pub is_within_text : Within → ℕ → Bool
+is_within_text within.Line b = not (b == 10 || b == 13)
+is_within_text within.Slash b = b == 42 || b == 47
+is_within_text place b = is_own_text place

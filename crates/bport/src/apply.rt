@@ -1,5 +1,5 @@
 //! The text of a source with its edits.
-ghost use Rattle.std.specs.Prelude.{◌≡◌, IfOk};
+ghost use Rattle.std.specs.Prelude.{◌≡◌, ◌++◌, IfOk};
 ghost use Rattle.bport.specs.Edits.{edited};
 
 use crate::edit::{Edit, between};
@@ -18,6 +18,16 @@ pub(crate) fn apply(alloc: Global, source: &[u8], edits: &[Edit]) -> Result<Text
         at = edit.end;
     }
     text.push(between(source, at, source.len()))?;
+    Ok(text)
+}
+
+/// A text before another one.
+pub fn joined(alloc: Global, own: &[u8], rest: &[u8]) -> Result<Text, AllocError>
+    ensures { IfOk result (λ text. text ≡ own.now ++ rest.now) }
+{
+    let mut text = Text::new(alloc);
+    text.push(own)?;
+    text.push(rest)?;
     Ok(text)
 }
 

@@ -80,8 +80,8 @@ fn definition(
             draft.note(source, at, NoteKind::Structure)?;
             return Ok(after(source.semicolon(at)));
         }
-        b"manifest" if source.is_open_brace(next) => {
-            return manifest(source, draft, constants, found, at);
+        b"manifest" if is_manifest(source, next) => {
+            return constant(source, draft, constants, found, at);
         }
         _ => {}
     }
@@ -96,6 +96,12 @@ fn definition(
         b"=" if name == at => constant(source, draft, constants, found, at),
         _ => variables(source, draft, found, at, name),
     }
+}
+
+// Whether values with names come here, in braces or not.
+fn is_manifest(source: &Source<'_>, index: usize) -> bool {
+    let sign = index.wrapping_add(1);
+    source.is_open_brace(index) || source.is_name(index) && source.is(sign, b"=")
 }
 
 fn after(index: usize) -> usize {
@@ -163,7 +169,7 @@ fn elsewhere(
     Ok(after(last))
 }
 
-// `NAME = 5;`
+// `NAME = 5;`, and `manifest` with such values up to a semicolon or in braces.
 fn constant(
     source: &Source<'_>,
     draft: &mut Draft,
@@ -171,53 +177,55 @@ fn constant(
     found: &mut Outline,
     at: usize,
 ) -> Result<usize, AllocError> {
-    let last = source.semicolon(at);
+    let next = at.wrapping_add(1);
+    let (first, last) = if source.is_open_brace(next) {
+        (next.wrapping_add(1), source.partner(next))
+    } else {
+        (at, source.semicolon(at))
+    };
     if last == NONE {
         return Ok(NONE);
     }
-    keep(source, constants, at, last)?;
-    found.take(at, last);
-    draft.comment(source, at, last, Row::Constant)?;
-    Ok(after(last))
+    let mut from = first;
+    for index in first..last.saturating_add(1).min(source.tokens.len()) {
+        if index == last || matches!(source.word(index), b"," | b";") {
+            keep(source, draft, constants, from, index)?;
+            from = index.wrapping_add(1);
+        }
+    }
+    let after_last = last.wrapping_add(1);
+    let is_longer = !source.is(last, b";") && source.is(after_last, b";");
+    let end = if is_longer { after_last } else { last };
+    found.take(at, end);
+    draft.comment(source, at, end, Row::Constant)?;
+    Ok(after(end))
 }
 
+// Keeps the value from a name, or the word before it, up to the end of it.
 fn keep(
-    source: &Source<'_>,
-    constants: &mut Constants,
-    at: usize,
-    last: usize,
-) -> Result<(), AllocError> {
-    let value = between(
-        source.text,
-        source.end(at.wrapping_add(1)),
-        source.start(last),
-    );
-    constants.keep(source.word(at), value.trim_ascii())
-}
-
-// `manifest { A = 1; B = 2; }`
-fn manifest(
     source: &Source<'_>,
     draft: &mut Draft,
     constants: &mut Constants,
-    found: &mut Outline,
-    at: usize,
-) -> Result<usize, AllocError> {
-    let close = source.partner(at.wrapping_add(1));
-    for index in at..close.min(source.tokens.len()) {
-        let last = source.semicolon(index);
-        if source.is(index.wrapping_add(1), b"=") && last != NONE {
-            keep(source, constants, index, last)?;
-        }
-    }
-    let last = if source.is(close.wrapping_add(1), b";") {
-        close.wrapping_add(1)
+    from: usize,
+    end: usize,
+) -> Result<(), AllocError> {
+    let name = if source.is(from.wrapping_add(1), b"=") {
+        from
     } else {
-        close
+        from.wrapping_add(1)
     };
-    found.take(at, last);
-    draft.comment(source, at, last, Row::Constant)?;
-    Ok(after(last))
+    let sign = name.wrapping_add(1);
+    if !source.is_name(name) || !source.is(sign, b"=") || sign >= end {
+        return Ok(());
+    }
+    let value = between(source.text, source.end(sign), source.start(end));
+    constants.keep(
+        draft,
+        source.start(name),
+        source.word(name),
+        value.trim_ascii(),
+    )?;
+    Ok(())
 }
 
 // A function, or a declaration of one.
@@ -279,7 +287,7 @@ fn headless(
     found: &mut Outline,
     name: usize,
 ) -> Result<usize, AllocError> {
-    draft.after(source, name, b"()", Row::Head)?;
+    draft.insert(source.end(name), b"()", Row::Head)?;
     add_function(source, found, name, NONE, name.wrapping_add(1))
 }
 

@@ -2,7 +2,8 @@
 ghost use Rattle.std.specs.Prelude.{◌≡◌, drop, not, take};
 ghost use Rattle.std.specs.List.{list_all};
 ghost use Rattle.bport.specs.Places.{is_own_text};
-ghost use Rattle.bport.specs.Edits.{are_sound, escape_for, escape_of, fits, is_escape, is_in_quotes};
+ghost use Rattle.bport.specs.Edits.{are_sound, escape_for, escape_of, fits, is_escape, is_in_quotes, opens_comment};
+ghost use Rattle.bport.specs.Edits.{stands_apart};
 
 use crate::row::Row;
 use crate::within::Within;
@@ -90,19 +91,37 @@ pub(crate) fn are_sound(source: &[u8], places: &[Within], edits: &[Edit]) -> boo
     at <= source.len()
 }
 
-/// Whether an edit takes out no byte of a comment or of a string, or is one of an escape.
+/// Whether an edit leaves comments and strings whole, or is one of an escape.
 pub(crate) fn fits(source: &[u8], places: &[Within], edit: &Edit) -> bool
     ensures { result ≡ fits source.now places.now edit.now }
 {
+    let old = between(source, edit.start, edit.end);
     let stood = places_between(places, edit.start, edit.end);
+    let new = edit.text.as_slice();
     match edit.row {
-        Row::Escape => is_escape(
-            between(source, edit.start, edit.end),
-            stood,
-            edit.text.as_slice(),
-        ),
-        _ => no_own_text(stood),
+        Row::Escape => is_escape(old, stood, new),
+        _ => {
+            let byte = source.get(edit.end).copied();
+            let place = places.get(edit.end).copied();
+            no_own_text(stood) && (stands_apart(byte, place) || opens_comment(old, new))
+        }
     }
+}
+
+// Whether no comment and no string has the place before a byte within it.
+fn stands_apart(byte: Option<u8>, place: Option<Within>) -> bool
+    ensures { result ≡ stands_apart byte place }
+{
+    match (byte, place) {
+        (Some(byte), Some(place)) => !place.is_within_text(byte),
+        _ => true,
+    }
+}
+
+fn opens_comment(old: &[u8], new: &[u8]) -> bool
+    ensures { result ≡ opens_comment old.now new.now }
+{
+    new == b"/*".as_slice() && (old == b"//".as_slice() || old == b"#".as_slice())
 }
 
 fn is_escape(old: &[u8], places: &[Within], new: &[u8]) -> bool

@@ -1,8 +1,9 @@
 //! Operators that are written otherwise here.
 use crate::apply::render;
+use crate::names::is_keyword;
 use crate::row::{NoteKind, Row};
 use crate::shape::is_opening;
-use crate::source::{Draft, Source};
+use crate::source::{Dialect, Draft, Source};
 use crate::tokens::TokenKind;
 use btools::Text;
 use std::alloc::AllocError;
@@ -18,11 +19,15 @@ pub(crate) fn sign(source: &Source<'_>, draft: &mut Draft, index: usize) -> Resu
         b"+=" | b"-=" | b"*=" | b"/=" | b"%=" | b"&=" | b"|=" | b"<<=" | b">>=" => {
             assignment(source, draft, index)
         }
-        b"=-" | b"=*" | b"=&" if source.is_later && is_tight(source, index) => {
-            apart(source, draft, index)
-        }
+        _ if may_wrap(source, index) => draft.note_once(source, index, NoteKind::Wraps),
+        _ if is_joined(source, index) => apart(source, draft, index),
         _ => Ok(()),
     }
+}
+
+/// Whether a sign right after `=` may be that of an operand.
+pub(crate) fn is_joined(source: &Source<'_>, index: usize) -> bool {
+    matches!(source.word(index), b"=-" | b"=*" | b"=&") && is_tight(source, index)
 }
 
 // Whether a token comes right after this one.
@@ -40,17 +45,47 @@ fn assignment(source: &Source<'_>, draft: &mut Draft, index: usize) -> Result<()
     if is_tight(source, index) && source.kind(next) == Some(TokenKind::Sign) {
         text.push(b" ")?;
     }
-    draft.put_text(
-        source.start(index),
-        source.end(index),
-        text,
-        Row::Assignment,
-    )
+    draft.replace_text(source, index, text, Row::Assignment)
 }
 
+// `x=-1` is `x = -1` in a later form. Where nothing shows the form it is told.
 fn apart(source: &Source<'_>, draft: &mut Draft, index: usize) -> Result<(), AllocError> {
     let at = source.start(index).saturating_add(1);
-    draft.put(at, at, b" ", Row::Apart)
+    match source.dialect {
+        Dialect::Early => Ok(()),
+        Dialect::Later => draft.put(at, at, b" ", Row::Apart),
+        Dialect::Either => draft.note(source, index, NoteKind::Signs),
+    }
+}
+
+/// Whether a value may have more than 16 bits: a product or a shift without a number, or a shift by as many bits.
+pub(crate) fn may_wrap(source: &Source<'_>, index: usize) -> bool {
+    match source.word(index) {
+        b"*" => is_wide(source, index),
+        b"<<" => is_wide(source, index) || is_far(source, index),
+        b">>" => is_far(source, index),
+        _ => false,
+    }
+}
+
+// Whether a shift is by more bits than a word has.
+fn is_far(source: &Source<'_>, index: usize) -> bool {
+    match source.word(index.wrapping_add(1)) {
+        [b'1', units] => matches!(units, b'6'..=b'9'),
+        [b'2'..=b'9', units] => units.is_ascii_digit(),
+        _ => false,
+    }
+}
+
+// Whether a product or a shift has no number on either side.
+fn is_wide(source: &Source<'_>, index: usize) -> bool {
+    let before = index.wrapping_sub(1);
+    let is_operand = match source.word(before) {
+        b")" => !source.is_head(before),
+        b"]" => true,
+        word => source.is_name(before) && !is_keyword(word),
+    };
+    is_operand && source.kind(index.wrapping_add(1)) != Some(TokenKind::Number)
 }
 
 // `~x` is `(-x - 1)`.
@@ -62,7 +97,11 @@ fn complement(source: &Source<'_>, draft: &mut Draft, index: usize) -> Result<()
         b"(-"
     };
     draft.replace(source, index, words, Row::Complement)?;
-    draft.after(source, operand_end(source, next), b" - 1)", Row::Complement)
+    draft.insert(
+        source.end(operand_end(source, next)),
+        b" - 1)",
+        Row::Complement,
+    )
 }
 
 // The last token of the operand that begins with a token.

@@ -39,7 +39,7 @@ pub(crate) fn knr(
     let mut at = from;
     for _ in 0..MOST_DECLARATIONS {
         let last = source.semicolon(at);
-        if !is_type(source.word(at)) || last == NONE {
+        if !is_type(source.word(at)) || source.is_call(at) || last == NONE {
             break;
         }
         types(source, draft, at, at.wrapping_add(1))?;

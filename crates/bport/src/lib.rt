@@ -2,7 +2,7 @@
 #![tactic(auto)]
 
 mod apply;
-mod command;
+mod calls;
 mod definitions;
 mod edit;
 mod expressions;
@@ -19,11 +19,12 @@ mod row;
 mod shape;
 mod source;
 mod statements;
+mod staying;
 mod table;
 mod tokens;
 mod within;
 
-pub use command::port;
+pub use apply::joined;
 pub use edit::Edit;
 pub use listing::{push_changes, push_notes};
 pub use porting::{Ported, port_text};

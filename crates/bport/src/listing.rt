@@ -1,6 +1,7 @@
 //! The list of what was changed, and of what was left.
 ghost use Rattle.std.specs.Prelude.{◌≡◌, ◌++◌, [], OnOk};
 ghost use Rattle.bport.specs.Changes.{is_told, line_on, listed, newlines, row_text, told_of, told_once, with_row};
+ghost use Rattle.bport.specs.Staying.{note_text, notes_text};
 
 use crate::edit::{Edit, between};
 use crate::row::{Note, Row};
@@ -99,14 +100,22 @@ pub fn push_notes(
     file: &str,
     source: &[u8],
     notes: &[Note],
-) -> Result<(), AllocError> {
+) -> Result<(), AllocError>
+    ensures { OnOk result (text.new ≡ text.old ++ notes_text file.now source.now notes.now) }
+{
     for note in notes {
-        push_file(text, file.as_bytes())?;
-        text.push(b":")?;
-        text.push_number(line_on(source, 1, 0, note.start))?;
-        text.push(b": left: ")?;
-        text.push(note.kind.sentence())?;
-        text.push(b"\n")?;
+        push_note(text, file, source, *note)?;
     }
     Ok(())
+}
+
+fn push_note(text: &mut Text, file: &str, source: &[u8], note: Note) -> Result<(), AllocError>
+    ensures { OnOk result (text.new ≡ text.old ++ note_text file.now source.now note) }
+{
+    push_file(text, file.as_bytes())?;
+    text.push(b":")?;
+    text.push_number(line_on(source, 1, 0, note.start))?;
+    text.push(b": left: ")?;
+    text.push(note.kind.sentence())?;
+    text.push(b"\n")
 }

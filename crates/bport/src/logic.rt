@@ -1,7 +1,7 @@
 //! `&&` and `||`.
 use crate::definitions::Outline;
 use crate::expressions::{Exclusive, is_assignment, is_pure};
-use crate::names::is_keyword;
+use crate::names::{is_keyword, is_type};
 use crate::row::{NoteKind, Row};
 use crate::shape::{is_closing, is_opening};
 use crate::source::{Draft, Source};
@@ -61,7 +61,7 @@ pub(crate) fn signs(
             };
         } else if matches!(word, b"&&" | b"||" | b"^") {
             region.has_signs = true;
-        } else if ends_region(word) {
+        } else if ends_region(word) && !is_typed_call(source, index) {
             end_region(source, draft, &mut exclusives, region, index)?;
             region = Region::new(region.open, next);
         }
@@ -69,10 +69,13 @@ pub(crate) fn signs(
     Ok(exclusives)
 }
 
+// Whether a function with the name of a type is called.
+fn is_typed_call(source: &Source<'_>, index: usize) -> bool {
+    is_type(source.word(index)) && source.is_call(index)
+}
+
 fn ends_region(word: &[u8]) -> bool {
-    matches!(word, b"," | b";" | b"?" | b":" | b"::")
-        || is_assignment(word)
-        || is_keyword(word) && !matches!(word, b"char")
+    matches!(word, b"," | b";" | b"?" | b":" | b"::") || is_assignment(word) || is_keyword(word)
 }
 
 fn end_region(
@@ -296,7 +299,7 @@ fn disjunction(
     let is_whole = !signs.iter().any(|sign| source.is(*sign, b"||"));
     let is_closed = is_whole || is_filled;
     if !is_closed {
-        draft.before(source, first, b"(", Row::Or)?;
+        draft.insert(source.start(first), b"(", Row::Or)?;
     }
     let mut from = first;
     for sign in signs {
@@ -317,7 +320,7 @@ fn disjunction(
         is_whole && is_filled,
     )?;
     if !is_closed {
-        draft.after(source, end.wrapping_sub(1), b")", Row::Or)?;
+        draft.insert(source.end(end.wrapping_sub(1)), b")", Row::Or)?;
     }
     Ok(())
 }
@@ -337,10 +340,10 @@ fn conjunction(
     for sign in signs {
         if *sign >= first && *sign < end && source.is(*sign, b"&&") {
             if count == 0 && !is_bare {
-                draft.before(source, first, b"(", Row::And)?;
+                draft.insert(source.start(first), b"(", Row::And)?;
             }
             if count > 0 {
-                draft.before(source, from, b"(", Row::And)?;
+                draft.insert(source.start(from), b"(", Row::And)?;
             }
             draft.replace(source, *sign, b"?", Row::And)?;
             count = count.saturating_add(1);
@@ -356,7 +359,7 @@ fn conjunction(
         } else {
             b" : 0)"
         };
-        draft.after(source, end.wrapping_sub(1), words, Row::And)?;
+        draft.insert(source.end(end.wrapping_sub(1)), words, Row::And)?;
     }
     Ok(())
 }
@@ -375,8 +378,8 @@ fn valued(
     }
     let is_loose = has_at_level(source, first, end, b"&") || has_at_level(source, first, end, b"|");
     if is_loose {
-        draft.before(source, first, b"(", row)?;
-        return draft.after(source, end.wrapping_sub(1), b") != 0", row);
+        draft.insert(source.start(first), b"(", row)?;
+        return draft.insert(source.end(end.wrapping_sub(1)), b") != 0", row);
     }
-    draft.after(source, end.wrapping_sub(1), b" != 0", row)
+    draft.insert(source.end(end.wrapping_sub(1)), b" != 0", row)
 }

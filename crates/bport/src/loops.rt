@@ -148,7 +148,7 @@ pub(crate) fn turn(
     let mut text = Text::new(draft.alloc);
     text.push(b"goto ")?;
     loops.push_label(&mut text, label)?;
-    draft.put_text(source.start(index), source.end(index), text, Row::Continue)
+    draft.replace_text(source, index, text, Row::Continue)
 }
 
 /// Puts the label of a loop that goes on after its body.
@@ -163,7 +163,7 @@ pub(crate) fn while_loop(
     if !loops.has_label(index) || end == NONE {
         return Ok(());
     }
-    draft.before(source, body, b"{ ", Row::Continue)?;
+    draft.insert(source.start(body), b"{ ", Row::Continue)?;
     let mut text = Text::new(draft.alloc);
     text.push(b" ")?;
     loops.push_label(&mut text, index)?;
@@ -208,6 +208,15 @@ impl Parts {
 
     fn has_step(&self) -> bool {
         self.close != self.second.wrapping_add(1)
+    }
+
+    // The head of the `while`, up to the test.
+    fn head(&self) -> &'static [u8] {
+        if self.has_test() {
+            b"while("
+        } else {
+            b"while(1"
+        }
     }
 }
 
@@ -261,11 +270,7 @@ fn for_head(
     has_label: bool,
 ) -> Result<(), AllocError> {
     let test = parts.first.wrapping_add(1);
-    let words: &[u8] = if parts.has_test() {
-        b"while("
-    } else {
-        b"while(1"
-    };
+    let words = parts.head();
     if parts.has_start() {
         draft.put(
             source.start(parts.index),
@@ -274,7 +279,7 @@ fn for_head(
             Row::For,
         )?;
         commas(source, draft, parts)?;
-        draft.before(source, test, words, Row::For)?;
+        draft.insert(source.start(test), words, Row::For)?;
     } else {
         draft.put(
             source.start(parts.index),
@@ -390,36 +395,31 @@ pub(crate) fn do_loop(
     if source.statement_end(index) == NONE || close == NONE {
         return draft.note(source, index, NoteKind::Loop);
     }
-    let mut head = Text::new(draft.alloc);
     let mut test = Text::new(draft.alloc);
-    let mut last = Text::new(draft.alloc);
     if loops.has_label(tail) {
         loops.push_label(&mut test, tail)?;
         test.push(b": ")?;
     }
+    let semicolon = close.wrapping_add(1);
     match source.edition {
         Edition::One => {
+            let mut head = Text::new(draft.alloc);
             head.push(b"{ ")?;
             loops.push_label(&mut head, index)?;
             head.push(b":")?;
             test.push(b"if")?;
+            let mut last = Text::new(draft.alloc);
             last.push(b" goto ")?;
             loops.push_label(&mut last, index)?;
             last.push(b"; }")?;
+            draft.replace_text(source, index, head, Row::Do)?;
+            draft.replace_text(source, semicolon, last, Row::Do)?;
         }
         Edition::Two => {
-            head.push(b"while(1) {")?;
             test.push(b"if(!")?;
-            last.push(b") break; }")?;
+            draft.replace(source, index, b"while(1) {", Row::Do)?;
+            draft.replace(source, semicolon, b") break; }", Row::Do)?;
         }
     }
-    let semicolon = close.wrapping_add(1);
-    draft.put_text(source.start(index), source.end(index), head, Row::Do)?;
-    draft.put_text(source.start(tail), source.end(tail), test, Row::Do)?;
-    draft.put_text(
-        source.start(semicolon),
-        source.end(semicolon),
-        last,
-        Row::Do,
-    )
+    draft.replace_text(source, tail, test, Row::Do)
 }

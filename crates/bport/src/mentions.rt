@@ -1,18 +1,40 @@
 //! Externals that a function has without saying so.
-use crate::definitions::{Function, Outline};
+use crate::definitions::{Function, Outline, after_types};
 use crate::names::{has_name, is_keyword, is_type};
-use crate::row::Row;
+use crate::row::{NoteKind, Row};
 use crate::source::{Draft, Source};
+use crate::statements::declarator_end;
 use crate::table::{NONE, filled, put, slot};
 use btools::Text;
 use std::alloc::{AllocError, Global};
 
-/// Which names are those of externals, and for each the last function that has declared it. They go by the first
-/// tokens with them.
+/// Which names are those of externals, and for each the last function that has declared it, and where the inner braces
+/// of that declaration end. They go by the first tokens with them.
 #[derive(Drop)]
 struct Known {
     externals: Vec<usize>,
     declared: Vec<usize>,
+    ends: Vec<usize>,
+}
+
+impl Known {
+    // Notes that a function declares a name, in braces that end here.
+    fn declare(&mut self, first: usize, number: usize, end: usize) {
+        put(&mut self.declared, first, number);
+        put(&mut self.ends, first, end);
+    }
+
+    // Whether the name of a token is an external's and isn't declared by a function.
+    fn is_wanted(&self, first: usize, number: usize) -> bool {
+        slot(&self.externals, first) != NONE && slot(&self.declared, first) != number
+    }
+
+    // Whether it is an external's, and this function has declared it in braces that are over.
+    fn is_hidden(&self, first: usize, number: usize, index: usize) -> bool {
+        slot(&self.externals, first) != NONE
+            && slot(&self.declared, first) == number
+            && slot(&self.ends, first) < index
+    }
 }
 
 /// Lets each function name the externals of this source that it has without a declaration.
@@ -26,14 +48,15 @@ pub(crate) fn mentions(
     let mut known = Known {
         externals: filled(alloc, source.tokens.len())?,
         declared: filled(alloc, source.tokens.len())?,
+        ends: filled(alloc, source.tokens.len())?,
     };
     for name in &outline.externals {
         put(&mut known.externals, slot(source.firsts, *name), 0);
     }
     for number in 0..outline.functions.len() {
         let function = outline.functions[number];
-        declared(source, &mut known, function, number);
-        let words = unnamed(source, draft, outline, &mut known, function, number, short)?;
+        declared(alloc, source, &mut known, function, number)?;
+        let words = unnamed(source, draft, outline, &mut known, number, short)?;
         if !words.as_slice().is_empty() {
             mention(source, draft, function, words.as_slice())?;
         }
@@ -42,20 +65,59 @@ pub(crate) fn mentions(
 }
 
 // Notes what a function declares.
-fn declared(source: &Source<'_>, known: &mut Known, function: Function, number: usize) {
+fn declared(
+    alloc: Global,
+    source: &Source<'_>,
+    known: &mut Known,
+    function: Function,
+    number: usize,
+) -> Result<(), AllocError> {
     for index in function.open.min(function.body)..function.body {
-        put(&mut known.declared, slot(source.firsts, index), number);
+        known.declare(slot(source.firsts, index), number, NONE);
     }
-    let mut last: usize = 0;
+    let mut blocks: Vec<usize> = Vec::new(alloc);
     for index in function.body..function.end.min(source.tokens.len()) {
-        let word = source.word(index);
-        let is_start = matches!(word, b"auto" | b"extrn" | b"extern") || is_type(word);
-        if is_start && source.begins_statement(index) && source.semicolon(index) != NONE {
-            last = source.semicolon(index);
+        if source.is_open_brace(index) {
+            let is_inner = index != function.body;
+            blocks.push(if is_inner {
+                source.partner(index)
+            } else {
+                NONE
+            })?;
+        } else if source.is_close_brace(index) {
+            let _ = blocks.pop();
         }
+        let end = blocks.last().copied().unwrap_or(NONE);
         let is_label = source.is(index.wrapping_add(1), b":") && source.begins_statement(index);
-        if source.is_name(index) && (index < last || is_label) {
-            put(&mut known.declared, slot(source.firsts, index), number);
+        if source.is_name(index) && is_label {
+            known.declare(slot(source.firsts, index), number, NONE);
+        }
+        declarators(source, known, index, number, end);
+    }
+    Ok(())
+}
+
+// Notes the names of the declaration that begins with a token, if one does, in braces that end here.
+fn declarators(source: &Source<'_>, known: &mut Known, index: usize, number: usize, end: usize) {
+    let word = source.word(index);
+    let is_external = matches!(word, b"extrn" | b"extern");
+    let is_typed = is_type(word) && !source.is_call(index);
+    let last = source.semicolon(index);
+    let begins = is_external || is_typed || matches!(word, b"auto");
+    let is_after = source.begins_statement(index) || source.is(index.wrapping_sub(1), b")");
+    if !begins || !is_after || last == NONE {
+        return;
+    }
+    let mut next = index.wrapping_add(1);
+    for at in next..last {
+        if at >= next {
+            let name = after_types(source, at);
+            known.declare(
+                slot(source.firsts, name),
+                number,
+                if is_external { NONE } else { end },
+            );
+            next = declarator_end(source, at, last).wrapping_add(1);
         }
     }
 }
@@ -63,23 +125,29 @@ fn declared(source: &Source<'_>, known: &mut Known, function: Function, number: 
 // The names that it has and doesn't declare, between commas.
 fn unnamed(
     source: &Source<'_>,
-    draft: &Draft,
+    draft: &mut Draft,
     outline: &Outline,
     known: &mut Known,
-    function: Function,
     number: usize,
     short: &[Option<Text>],
 ) -> Result<Text, AllocError> {
     let mut words = Text::new(draft.alloc);
+    let Some(function) = outline.functions.get(number) else {
+        return Ok(words);
+    };
     for index in function.body..function.end.min(source.tokens.len()) {
         let first = slot(source.firsts, index);
-        let is_external = slot(&known.externals, first) != NONE
-            && slot(&known.declared, first) != number;
-        let is_call = source.is(index.wrapping_add(1), b"(");
-        if !is_external || is_call || outline.is_gone(index) || is_keyword(source.word(index)) {
+        if known.is_hidden(first, number, index) {
+            draft.note_once(source, index, NoteKind::Scope)?;
+        }
+        let is_call = source.is_call(index);
+        if !known.is_wanted(first, number) || is_call || outline.is_gone(index) {
             continue;
         }
-        put(&mut known.declared, first, number);
+        if is_keyword(source.word(index)) {
+            continue;
+        }
+        known.declare(first, number, NONE);
         if !words.as_slice().is_empty() {
             words.push(b", ")?;
         }

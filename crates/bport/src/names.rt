@@ -2,9 +2,9 @@
 use crate::apply::apply;
 use crate::quotes::quoted;
 use crate::row::{NoteKind, Row};
-use crate::source::{Draft, Source};
-use crate::table::slot;
-use crate::tokens::{TokenKind, tokens_of};
+use crate::source::{Dialect, Draft, Source};
+use crate::table::{slot, word_of};
+use crate::tokens::{Token, TokenKind, tokens_of};
 use crate::within::places_of;
 use btools::Text;
 use bword::Edition;
@@ -18,6 +18,13 @@ const NAME_LETTERS: usize = 8;
 struct Constant {
     name: Text,
     value: Text,
+}
+
+/// What stands for a name: its text, and whether it is several tokens that got parentheses.
+#[derive(Drop)]
+struct Value {
+    text: Text,
+    is_wrapped: bool,
 }
 
 /// Constants with names.
@@ -35,22 +42,51 @@ impl Constants {
         }
     }
 
-    /// Keeps a constant. What stands for it is ported, and in parentheses if it is more than a token.
-    pub(crate) fn keep(&mut self, name: &[u8], value: &[u8]) -> Result<(), AllocError> {
-        let mut kept = Text::new(self.alloc);
-        kept.push(name)?;
-        let value = if matches!(name, b"EOF") {
-            input_end(self.alloc)?
+    /// Keeps a constant, unless it is no value, or its name stands for another one: this is told. What stands for it is
+    /// ported, and in parentheses if it is more than a token. Tells whether it is three tokens or more that had none.
+    pub(crate) fn keep(
+        &mut self,
+        draft: &mut Draft,
+        at: usize,
+        name: &[u8],
+        value: &[u8],
+    ) -> Result<bool, AllocError> {
+        let ported = if matches!(name, b"EOF") {
+            Some(input_end(self.alloc)?)
         } else {
             self.ported(value)?
         };
+        let Some(Value { text, is_wrapped }) = ported else {
+            draft.note_at(at, NoteKind::Macro)?;
+            return Ok(false);
+        };
+        match self.value_of(name) {
+            Some(other) if other == text.as_slice() => Ok(false),
+            Some(_) => {
+                draft.note_at(at, NoteKind::Twice)?;
+                Ok(false)
+            }
+            None => {
+                self.add(name, text)?;
+                Ok(is_wrapped)
+            }
+        }
+    }
+
+    fn add(&mut self, name: &[u8], value: Text) -> Result<(), AllocError> {
+        let mut kept = Text::new(self.alloc);
+        kept.push(name)?;
         self.items.push(Constant { name: kept, value })?;
         Ok(())
     }
 
-    fn ported(&self, value: &[u8]) -> Result<Text, AllocError> {
+    // What a value is here, if it is one.
+    fn ported(&self, value: &[u8]) -> Result<Option<Value>, AllocError> {
         let places = places_of(self.alloc, value)?;
         let tokens = tokens_of(self.alloc, value, &places)?;
+        if !is_value(value, &tokens) {
+            return Ok(None);
+        }
         let source = Source {
             text: value,
             places: &places,
@@ -60,21 +96,27 @@ impl Constants {
             ends: &[],
             firsts: &[],
             edition: Edition::One,
-            is_later: false,
+            dialect: Dialect::Either,
         };
         let mut draft = Draft::new(self.alloc);
         for index in 0..tokens.len() {
             self.value_token(&source, &mut draft, index)?;
         }
         let plain = apply(self.alloc, value, &draft.edits)?;
-        if tokens.len() < 2 || value.starts_with(b"(") {
-            return Ok(plain);
+        if tokens.len() < 2 || is_closed(value, &tokens) {
+            return Ok(Some(Value {
+                text: plain,
+                is_wrapped: false,
+            }));
         }
         let mut text = Text::new(self.alloc);
         text.push(b"(")?;
         text.push(plain.as_slice())?;
         text.push(b")")?;
-        Ok(text)
+        Ok(Some(Value {
+            text,
+            is_wrapped: tokens.len() > 2,
+        }))
     }
 
     fn value_token(
@@ -105,10 +147,60 @@ impl Constants {
     }
 }
 
-fn input_end(alloc: Global) -> Result<Text, AllocError> {
+// Whether tokens are an expression whose signs are those of this language, and whose brackets fit.
+fn is_value(source: &[u8], tokens: &[Token]) -> bool {
+    let mut depth: usize = 0;
+    let mut is_operand = false;
+    for index in 0..tokens.len() {
+        let word = word_of(source, tokens, index);
+        let is_after_sign = !is_operand;
+        is_operand = match word {
+            b"(" => {
+                depth = depth.saturating_add(1);
+                false
+            }
+            b")" if depth == 0 || is_after_sign => return false,
+            b")" => {
+                depth = depth.saturating_sub(1);
+                true
+            }
+            b"-" | b"!" | b"*" | b"&" => false,
+            b"+" | b"/" | b"%" | b"|" | b"<<" | b">>" | b"==" | b"!=" if is_operand => false,
+            b"<" | b"<=" | b">" | b">=" | b"?" | b":" if is_operand => false,
+            _ if is_after_sign && is_operand_word(tokens[index].kind, word) => true,
+            _ => return false,
+        };
+    }
+    is_operand && depth == 0
+}
+
+fn is_operand_word(kind: TokenKind, word: &[u8]) -> bool {
+    kind != TokenKind::Sign && !is_keyword(word)
+}
+
+// Whether tokens are in parentheses as a whole.
+fn is_closed(source: &[u8], tokens: &[Token]) -> bool {
+    let mut depth: usize = 0;
+    for index in 0..tokens.len() {
+        match word_of(source, tokens, index) {
+            b"(" => depth = depth.saturating_add(1),
+            b")" => depth = depth.saturating_sub(1),
+            _ => {}
+        }
+        if depth == 0 {
+            return index.saturating_add(1) == tokens.len();
+        }
+    }
+    false
+}
+
+fn input_end(alloc: Global) -> Result<Value, AllocError> {
     let mut text = Text::new(alloc);
     text.push(b"'*e'")?;
-    Ok(text)
+    Ok(Value {
+        text,
+        is_wrapped: false,
+    })
 }
 
 /// Edits a name: a constant, a name of the end of the input, or one with too many letters.
@@ -272,6 +364,9 @@ pub(crate) fn number(
     index: usize,
 ) -> Result<(), AllocError> {
     let word = source.word(index);
+    if word.contains(&b'.') {
+        return draft.note(source, index, NoteKind::Floating);
+    }
     let (base, digits) = match word {
         [b'0', b'x' | b'X', rest @ ..] => (16, rest),
         [b'0', ..] => (8, word),
@@ -283,10 +378,13 @@ pub(crate) fn number(
     if value > 65535 {
         return draft.note(source, index, NoteKind::Large);
     }
+    if base == 10 && value > 32767 {
+        draft.note_once(source, index, NoteKind::Wraps)?;
+    }
     if base == 16 || !is_plain(base, digits) {
         let mut text = Text::new(draft.alloc);
         text.push_number(value)?;
-        return draft.put_text(source.start(index), source.end(index), text, Row::Number);
+        return draft.replace_text(source, index, text, Row::Number);
     }
     Ok(())
 }

@@ -1,12 +1,14 @@
 //! Porting a source.
-ghost use Rattle.std.specs.Prelude.{◌≡◌, ◌++◌, [], IfOk, true};
-ghost use Rattle.bport.specs.Edits.{StaysIfItRuns, are_edits_of, edited};
+ghost use Rattle.std.specs.Prelude.{◌≡◌, ◌++◌, [], IfOk, false, true};
+ghost use Rattle.std.specs.List.{list_any};
+ghost use Rattle.bport.specs.Edits.{EditsIfFaulty, are_edits_of, edited};
+ghost use Rattle.bport.specs.Staying.{IsLeft, refuses};
 
-use crate::apply::apply;
-use crate::command::joined;
-use crate::definitions::outline_of;
+use crate::apply::{apply, joined};
+use crate::calls::{calls, without_base};
+use crate::definitions::{Outline, outline_of};
 use crate::edit::{Edit, are_sound, fits};
-use crate::expressions::{exclusive_or, sign};
+use crate::expressions::{exclusive_or, is_joined, may_wrap, sign};
 use crate::logic::signs;
 use crate::loops::loops_of;
 use crate::mentions::{heap, mentions};
@@ -14,10 +16,11 @@ use crate::names::{Constants, name, number, short_names};
 use crate::quotes::quoted;
 use crate::remarks::remarks;
 use crate::row::{Note, NoteKind};
-use crate::shape::{ends_of, partners_of, semicolons_of};
-use crate::source::{Draft, Source};
+use crate::shape::{ends_of, is_closing, is_opening, partners_of, semicolons_of};
+use crate::source::{Dialect, Draft, Source};
 use crate::statements::statement;
-use crate::table::{first_names, word_of};
+use crate::staying::{has_refused, tell_old};
+use crate::table::{NONE, first_names, word_of};
 use crate::tokens::{Token, TokenKind, tokens_of};
 use crate::within::{Within, places_of};
 use btools::{Origin, ProgramFault, Text, read_program};
@@ -33,6 +36,8 @@ pub struct Ported {
     pub edits: Vec<Edit>,
     /// What was left as it stands, or may mean something else.
     pub notes: Vec<Note>,
+    /// Whether it compiles and loads as it stands, and has no edit.
+    pub is_program: bool,
 }
 
 /// Ports a source of an old or a later form of B to this edition, with what comes after it.
@@ -50,13 +55,14 @@ pub fn port_text(
 ) -> Result<Ported, AllocError>
     ensures text { IfOk result (λ p. p.text ≡ edited source.now 0 p.edits.items) }
     ensures edits { IfOk result (λ p. are_edits_of source.now p.edits.items ≡ true) }
-    ensures stays { IfOk result (λ p. StaysIfItRuns edition (source.now ++ rest.now) p.edits.items) }
+    ensures stays { IfOk result (λ p. EditsIfFaulty edition (source.now ++ rest.now) p.is_program p.edits.items) }
+    ensures left { IfOk result (λ p. p.is_program ≡ false → IsLeft source.now p.edits.items p.notes.items) }
 {
     let whole = joined(alloc, source, rest)?;
     match read_program(alloc, whole.as_slice(), Origin::Source(edition)) {
         Ok(_) => {
-            let mut kept = unchanged(alloc, source)?;
-            plain_notes(alloc, &mut kept.notes, source)?;
+            let mut kept = unchanged(alloc, source, true)?;
+            kept.notes = plain_notes(alloc, source)?;
             Ok(kept)
         }
         Err(ProgramFault::Memory) => Err(AllocError),
@@ -64,10 +70,11 @@ pub fn port_text(
     }
 }
 
-fn unchanged(alloc: Global, source: &[u8]) -> Result<Ported, AllocError>
+fn unchanged(alloc: Global, source: &[u8], is_program: bool) -> Result<Ported, AllocError>
     ensures text { IfOk result (λ p. p.text ≡ edited source.now 0 p.edits.items) }
     ensures edits { IfOk result (λ p. are_edits_of source.now p.edits.items ≡ true) }
     ensures none { IfOk result (λ p. p.edits.items ≡ []) }
+    ensures program { IfOk result (λ p. p.is_program ≡ is_program) }
 {
     let mut text = Text::new(alloc);
     text.push(source)?;
@@ -75,29 +82,71 @@ fn unchanged(alloc: Global, source: &[u8]) -> Result<Ported, AllocError>
         text,
         edits: Vec::new(alloc),
         notes: Vec::new(alloc),
+        is_program,
     })
 }
 
-// Tells what a source that stays as it is may not mean.
-fn plain_notes(alloc: Global, notes: &mut Vec<Note>, source: &[u8]) -> Result<(), AllocError> {
+// What a source that stays as it is may not mean, each once.
+fn plain_notes(alloc: Global, source: &[u8]) -> Result<Vec<Note>, AllocError> {
+    let mut draft = Draft::new(alloc);
     let places = places_of(alloc, source)?;
     let has_heap = has_word(source, b"givevec(");
     for at in 0..source.len() {
         let rest = source.get(at..).unwrap_or(&[]);
         if let Some(kind) = plain_note(rest, places.get(at).copied(), has_heap) {
-            if !notes.iter().any(|note| note.kind == kind) {
-                notes.push(Note { start: at, kind })?;
-            }
+            draft.note_first(at, kind)?;
+        }
+    }
+    plain_tokens(alloc, source, &places, &mut draft)?;
+    let Draft {
+        alloc: _,
+        edits: _,
+        mut notes,
+    } = draft;
+    in_order(&mut notes)?;
+    Ok(notes)
+}
+
+fn plain_tokens(
+    alloc: Global,
+    text: &[u8],
+    places: &[Within],
+    draft: &mut Draft,
+) -> Result<(), AllocError> {
+    let tokens = tokens_of(alloc, text, places)?;
+    let partners = partners_of(alloc, text, &tokens)?;
+    let bare = Source {
+        text,
+        places,
+        tokens: &tokens,
+        partners: &partners,
+        semicolons: &[],
+        ends: &[],
+        firsts: &[],
+        edition: Edition::One,
+        dialect: dialect_of(text, &tokens),
+    };
+    if let Some(call) = without_base(&bare) {
+        draft.note(&bare, call, NoteKind::Base)?;
+    }
+    for index in 0..tokens.len() {
+        if bare.dialect != Dialect::Early && is_joined(&bare, index) {
+            draft.note_once(&bare, index, NoteKind::Signs)?;
+        } else if may_wrap(&bare, index) {
+            draft.note_once(&bare, index, NoteKind::Wraps)?;
         }
     }
     Ok(())
 }
 
+fn in_order(notes: &mut Vec<Note>) -> Result<(), AllocError> {
+    notes.sort_by_key(|note| note.start)
+}
+
 fn plain_note(rest: &[u8], place: Option<Within>, has_heap: bool) -> Option<NoteKind> {
     match (rest, place) {
-        ([b'\\', b'n' | b't' | b'0' | b'"' | b'\\', ..], Some(Within::String)) => {
-            Some(NoteKind::Backslash)
-        }
+        ([b'\\', b'n' | b't' | b'0' | b'"' | b'\\', ..], Some(Within::String | Within::Char)) =>
+            Some(NoteKind::Backslash),
         ([b'&', b'&', ..], Some(Within::Code)) => Some(NoteKind::Ampersands),
         ([b'g', ..], Some(Within::Code)) if !has_heap && rest.starts_with(b"getvec(") => {
             Some(NoteKind::Heap)
@@ -124,6 +173,8 @@ fn rewrite(
 ) -> Result<Ported, AllocError>
     ensures text { IfOk result (λ p. p.text ≡ edited source.now 0 p.edits.items) }
     ensures edits { IfOk result (λ p. are_edits_of source.now p.edits.items ≡ true) }
+    ensures left { IfOk result (λ p. IsLeft source.now p.edits.items p.notes.items) }
+    ensures program { IfOk result (λ p. p.is_program ≡ false) }
 {
     let places = places_of(alloc, source)?;
     let Draft {
@@ -132,12 +183,34 @@ fn rewrite(
         mut notes,
     } = draft_of(alloc, source, rest, edition)?;
     let edits = apart(source, &places, edits, &mut notes, alloc)?;
+    in_order(&mut notes)?;
     let text = apply(alloc, source, &edits)?;
     let is_small = text.as_slice().len() / 2 <= source.len().saturating_add(SPARE);
-    if is_small && are_sound(source, &places, &edits) {
-        return Ok(Ported { text, edits, notes });
+    if is_small && are_sound(source, &places, &edits) && !has_refused(notes.as_slice()) {
+        tell_old(source, &places, &edits, &mut notes)?;
+        return Ok(Ported {
+            text,
+            edits,
+            notes,
+            is_program: false,
+        });
     }
-    let mut kept = unchanged(alloc, source)?;
+    refused(alloc, source, notes)
+}
+
+// A source that stays, though it is no program: a note says so.
+fn refused(alloc: Global, source: &[u8], notes: Vec<Note>) -> Result<Ported, AllocError>
+    ensures text { IfOk result (λ p. p.text ≡ edited source.now 0 p.edits.items) }
+    ensures edits { IfOk result (λ p. are_edits_of source.now p.edits.items ≡ true) }
+    ensures none { IfOk result (λ p. p.edits.items ≡ []) }
+    ensures told { IfOk result (λ p. list_any refuses p.notes.items ≡ true) }
+    ensures program { IfOk result (λ p. p.is_program ≡ false) }
+{
+    let mut kept = unchanged(alloc, source, false)?;
+    if has_refused(notes.as_slice()) {
+        kept.notes = notes;
+        return Ok(kept);
+    }
     kept.notes.push(Note {
         start: 0,
         kind: NoteKind::Growth,
@@ -157,7 +230,7 @@ fn draft_of(
     let partners = partners_of(alloc, text, &tokens)?;
     let semicolons = semicolons_of(alloc, text, &tokens, &partners)?;
     let firsts = first_names(alloc, text, &tokens)?;
-    let is_later = is_later(text, &tokens);
+    let dialect = dialect_of(text, &tokens);
     let bare = Source {
         text,
         places: &places,
@@ -167,42 +240,52 @@ fn draft_of(
         ends: &[],
         firsts: &firsts,
         edition,
-        is_later,
+        dialect,
     };
     let ends = ends_of(alloc, &bare)?;
     let source = Source {
-        text,
-        places: &places,
-        tokens: &tokens,
-        partners: &partners,
-        semicolons: &semicolons,
         ends: &ends,
-        firsts: &firsts,
-        edition,
-        is_later,
+        ..bare
     };
     let mut draft = Draft::new(alloc);
-    draft_rows(alloc, &source, rest, &mut draft)?;
+    match unpaired(&source) {
+        Some(bracket) => draft.note(&source, bracket, NoteKind::Bracket)?,
+        None => draft_rows(alloc, &source, rest, &mut draft)?,
+    }
     Ok(draft)
 }
 
-// Whether a source has assignment operators or types of later forms, and none of the early ones.
-fn is_later(text: &[u8], tokens: &[Token]) -> bool {
-    let mut found = false;
+// The first bracket without the other one of its pair.
+fn unpaired(source: &Source<'_>) -> Option<usize> {
+    for index in 0..source.tokens.len() {
+        let word = source.word(index);
+        if (is_opening(word) || is_closing(word)) && source.partner(index) == NONE {
+            return Some(index);
+        }
+    }
+    None
+}
+
+// By its assignment operators and types.
+fn dialect_of(text: &[u8], tokens: &[Token]) -> Dialect {
+    let mut is_later = false;
+    let mut is_early = false;
     for index in 0..tokens.len() {
-        let token = tokens[index];
-        let word = word_of(text, tokens, index);
-        match word {
-            b"+=" | b"-=" | b"*=" | b"/=" | b"int" => found = true,
+        match word_of(text, tokens, index) {
+            b"+=" | b"-=" | b"*=" | b"/=" | b"%=" | b"<<=" | b">>=" | b"int" => is_later = true,
             b"=+" | b"=-" | b"=*" | b"=&" | b"=/" | b"=|" => {
-                if matches!(text.get(token.end), Some(b' ')) {
-                    return false;
+                if matches!(text.get(tokens[index].end), Some(b' ')) {
+                    is_early = true;
                 }
             }
             _ => {}
         }
     }
-    found
+    match (is_early, is_later) {
+        (true, false) => Dialect::Early,
+        (false, true) => Dialect::Later,
+        _ => Dialect::Either,
+    }
 }
 
 fn draft_rows(
@@ -216,17 +299,18 @@ fn draft_rows(
     let mut outline = outline_of(alloc, source, draft, &mut constants)?;
     let places = places_of(alloc, rest)?;
     let tokens = tokens_of(alloc, rest, &places)?;
+    let partners = partners_of(alloc, rest, &tokens)?;
     let firsts = first_names(alloc, rest, &tokens)?;
     let others = Source {
         text: rest,
         places: &places,
         tokens: &tokens,
-        partners: &[],
+        partners: &partners,
         semicolons: &[],
         ends: &[],
         firsts: &firsts,
         edition: source.edition,
-        is_later: false,
+        dialect: Dialect::Either,
     };
     let short = short_names(alloc, source, &others)?;
     for index in 0..source.tokens.len() {
@@ -234,9 +318,20 @@ fn draft_rows(
             token(source, draft, &constants, &short, index)?;
         }
     }
+    calls(alloc, source, &others, draft)?;
     mentions(alloc, source, draft, &outline, &short)?;
     heap(source, &others, draft, &outline)?;
-    let exclusives = signs(alloc, source, draft, &outline)?;
+    draft_statements(alloc, source, draft, &mut outline)
+}
+
+// Edits operators that stand for several, and statements, from the innermost ones on.
+fn draft_statements(
+    alloc: Global,
+    source: &Source<'_>,
+    draft: &mut Draft,
+    outline: &mut Outline,
+) -> Result<(), AllocError> {
+    let exclusives = signs(alloc, source, draft, outline)?;
     sort(draft)?;
     for found in &exclusives {
         exclusive_or(source, draft, *found)?;
@@ -245,7 +340,7 @@ fn draft_rows(
     for step in 0..source.tokens.len() {
         let index = source.tokens.len() - 1 - step;
         if !outline.is_gone(index) {
-            statement(source, draft, &mut outline, &loops, index)?;
+            statement(source, draft, outline, &loops, index)?;
         }
     }
     Ok(())

@@ -21,6 +21,9 @@ pub(crate) fn quoted(
             Row::Brackets,
         );
     }
+    if matches!(word, b"'\\0'") && !source.is(index.wrapping_sub(2), b"putchar") {
+        return draft.replace(source, index, b"'*e'", Row::StringEnd);
+    }
     let mut count: usize = 0;
     let mut next: usize = 1;
     for at in 1..word.len().saturating_sub(1) {
@@ -81,7 +84,7 @@ fn divide(source: &Source<'_>, draft: &mut Draft, index: usize) -> Result<(), Al
         b";" | b"{" | b"}" | b"$(" | b"$)"
     );
     if !is_listed {
-        draft.before(source, call, b"{ ", Row::Characters)?;
+        draft.insert(source.start(call), b"{ ", Row::Characters)?;
     }
     let (word, start) = (source.word(index), source.start(index));
     let mut count: usize = 0;
@@ -99,7 +102,7 @@ fn divide(source: &Source<'_>, draft: &mut Draft, index: usize) -> Result<(), Al
         count = count.saturating_add(1);
     }
     if !is_listed {
-        draft.after(source, index.wrapping_add(2), b" }", Row::Characters)?;
+        draft.insert(source.end(index.wrapping_add(2)), b" }", Row::Characters)?;
     }
     Ok(())
 }

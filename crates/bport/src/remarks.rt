@@ -58,9 +58,15 @@ fn line(
     let text = between(source, at.saturating_add(1), end).trim_ascii_start();
     match first_word(text) {
         b"define" => define(draft, constants, source, at, end),
-        b"include" | b"if" | b"ifdef" | b"ifndef" | b"else" | b"endif" | b"undef" | b"pragma" => {
+        b"if" | b"ifdef" | b"ifndef" => {
+            draft.note_at(at, NoteKind::Branches)?;
             directive(draft, source, at, end)
         }
+        b"undef" => {
+            draft.note_at(at, NoteKind::Twice)?;
+            directive(draft, source, at, end)
+        }
+        b"include" | b"else" | b"endif" | b"pragma" => directive(draft, source, at, end),
         _ => remark(draft, source, at, 1),
     }
 }
@@ -74,24 +80,66 @@ fn first_word(text: &[u8]) -> &[u8] {
     text
 }
 
-// Makes a comment of the line, as far as it has none.
+// Makes a comment of the line. A comment that begins in it ends it.
 fn directive(draft: &mut Draft, source: &[u8], at: usize, end: usize) -> Result<(), AllocError> {
     let last = before_comment(source, at, end);
-    if has_mark(between(source, at, last)) {
+    let tail = between(source, last, end);
+    let is_ended = tail.starts_with(b"/*");
+    let is_kept = if is_ended {
+        after_mark(tail).trim_ascii().is_empty()
+    } else {
+        !has_mark(tail)
+    };
+    if !is_kept || has_mark(between(source, at, last)) {
         return draft.note_at(at, NoteKind::Remark);
     }
     draft.put(at, at, b"/* ", Row::Directive)?;
-    draft.put(last, last, b" */", Row::Directive)
+    if is_ended {
+        return Ok(());
+    }
+    draft.put(end, end, b" */", Row::Directive)
 }
 
-// Where a comment begins in a line, or its end.
+// What comes after the end of the comment that begins here, if it ends.
+fn after_mark(tail: &[u8]) -> &[u8] {
+    for place in 2..tail.len() {
+        let rest = between(tail, place, tail.len());
+        if rest.starts_with(b"*/") {
+            return between(rest, 2, rest.len());
+        }
+    }
+    &[]
+}
+
+// Where a comment begins in a line, not within quotes, or its end.
 fn before_comment(source: &[u8], at: usize, end: usize) -> usize {
-    for place in at..end {
-        if between(source, place, end).starts_with(b"/*") {
+    let mut quote: u8 = 0;
+    let mut is_escaped = false;
+    for place in at..end.min(source.len()) {
+        let byte = source[place];
+        let rest = between(source, place, end);
+        if is_escaped {
+            is_escaped = false;
+        } else if quote != 0 {
+            is_escaped = begins_escape(quote, rest);
+            quote = if byte == quote { 0 } else { quote };
+        } else if byte == b'"' || byte == b'\'' {
+            quote = byte;
+        } else if matches!(rest, [b'/', b'*' | b'/', ..]) {
             return place;
         }
     }
     end
+}
+
+// A `*` right before the quote that ends a character constant stands for itself.
+fn begins_escape(quote: u8, rest: &[u8]) -> bool {
+    match rest {
+        [b'\\', ..] | [b'*', b'\'', b'\'', ..] => true,
+        [b'*', b'\'', ..] => quote != b'\'',
+        [b'*', ..] => true,
+        _ => false,
+    }
 }
 
 fn define(
@@ -106,10 +154,12 @@ fn define(
     let after = between(text, first_word(text).len(), text.len()).trim_ascii_start();
     let name = first_word(after);
     let value = between(after, name.len(), after.len());
-    if value.starts_with(b"(") {
+    if value.starts_with(b"(") || between(source, at, end).ends_with(b"\\") {
         draft.note_at(at, NoteKind::Macro)?;
     } else if !value.trim_ascii().is_empty() {
-        constants.keep(name, value.trim_ascii())?;
+        if constants.keep(draft, at, name, value.trim_ascii())? {
+            draft.note_at(at, NoteKind::Wrapped)?;
+        }
     }
     directive(draft, source, at, end)
 }

@@ -2,6 +2,7 @@
 ghost use Rattle.std.specs.List.{list_all};
 ghost use Rattle.std.specs.Prelude.{◌≡◌, IsTrue};
 ghost use Rattle.bport.specs.Changes.{sentence};
+ghost use Rattle.bport.specs.Staying.{note_sentence};
 
 /// Why an edit is made.
 #[derive(Clone, Copy, PartialEq, Eq)]
@@ -21,6 +22,8 @@ pub enum Row {
     Characters,
     Name,
     InputEnd,
+    StringEnd,
+    Base,
     Vector,
     Type,
     Parameters,
@@ -62,6 +65,8 @@ impl Row {
             Row::Characters => b"a constant has two characters at most",
             Row::Name => b"a name has eight letters at most",
             Row::InputEnd => b"the input ends with '*e'",
+            Row::StringEnd => b"a string ends with '*e'",
+            Row::Base => b"printn has the base after the number",
             Row::Vector => b"auto has the last index of a vector without brackets",
             Row::Type => b"there are no types",
             Row::Parameters => b"parameters are names alone",
@@ -108,21 +113,36 @@ pub enum NoteKind {
     Backslash,
     Ampersands,
     Growth,
+    Branches,
+    Twice,
+    Wrapped,
+    Range,
+    Scope,
+    Signs,
+    Wraps,
+    Base,
+    Bracket,
+    Called,
+    Zero,
+    Sign,
 }
 
 impl NoteKind {
     /// One sentence on it.
     #[rattlefmt::skip]
-    pub(crate) fn sentence(self) -> &'static [u8] {
+    pub(crate) fn sentence(self) -> &'static [u8]
+        ensures { result.now ≡ note_sentence self }
+    {
         match self {
             NoteKind::Structure => b"there are no structures: a vector has its parts by numbers",
             NoteKind::Floating => b"there are no fractions: all words are whole numbers",
             NoteKind::Wide => b"a word has 16 bits and a sign, also where the type said otherwise",
             NoteKind::Static => b"a word of a call isn't kept for the next one: make it an external",
-            NoteKind::Pointer => b"a string has two characters in a word: char(s, i) and lchar(s, i, c) take them apart",
+            NoteKind::Pointer =>
+                b"a string has two characters in a word: char(s, i) and lchar(s, i, c) take them apart",
             NoteKind::Words => b"this vector has a word for each character, and a string two in a word",
             NoteKind::Arguments => b"a program gets no words: its parameters are 0",
-            NoteKind::Macro => b"a macro with parameters is left out: make a function of it",
+            NoteKind::Macro => b"this name stands for no value: write what it stands for where it is used",
             NoteKind::Comma => b"a comma between expressions: write two statements",
             NoteKind::Escape => b"this escape stands for no byte that quotes can have here",
             NoteKind::Characters => b"a word holds two characters: the others need words of their own",
@@ -137,6 +157,18 @@ impl NoteKind {
             NoteKind::Backslash => b"\\ in quotes is a character here, and the next one, too: *n is a newline",
             NoteKind::Ampersands => b"&& is & before the address of what comes after it",
             NoteKind::Growth => b"the ported source would have more than twice its size: nothing is changed",
+            NoteKind::Branches => b"all lines up to #endif stay: take out those that aren't meant",
+            NoteKind::Twice => b"this name stands for its first value everywhere",
+            NoteKind::Wrapped => b"what stands for this name is in parentheses now",
+            NoteKind::Range => b"this range isn't written out: write a case for each constant, or an if",
+            NoteKind::Scope => b"a name in inner braces has taken the place of this external: give it another one",
+            NoteKind::Signs => b"this operator assigns, as in early B: write a blank after = where a sign is meant",
+            NoteKind::Wraps => b"numbers past 32767 wrap around: b go --careful=wraps stays at the first one",
+            NoteKind::Base => b"printn has the base after the number: printn(n, 10)",
+            NoteKind::Bracket => b"no bracket fits this one: port changes nothing until one does",
+            NoteKind::Called => b"(*f)() calls the function in the word at f: f() calls the one in f",
+            NoteKind::Sign => b"this sign is one of another form, and stays",
+            NoteKind::Zero => b"the input ends with '*e' here, and not with 0",
         }
     }
 }

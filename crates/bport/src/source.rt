@@ -23,8 +23,16 @@ pub(crate) struct Source<'a> {
     /// For each name the first token with it.
     pub firsts: &'a [usize],
     pub edition: Edition,
-    /// Whether it has forms that early B hadn't.
-    pub is_later: bool,
+    pub dialect: Dialect,
+}
+
+/// Of which form of the language a source is.
+#[derive(Clone, Copy, PartialEq, Eq)]
+pub(crate) enum Dialect {
+    Early,
+    Later,
+    /// Nothing shows it, or both are there.
+    Either,
 }
 
 impl<'a> Source<'a> {
@@ -101,6 +109,11 @@ impl<'a> Source<'a> {
         }
     }
 
+    /// Whether a name has a parenthesis after it.
+    pub(crate) fn is_call(&self, index: usize) -> bool {
+        self.is_name(index) && self.is(index.wrapping_add(1), b"(")
+    }
+
     /// Whether a parenthesis ends the head of a statement.
     pub(crate) fn is_head(&self, close: usize) -> bool {
         let open = self.partner(close);
@@ -157,27 +170,8 @@ impl Draft {
         Ok(())
     }
 
-    /// Puts a text before a token.
-    pub(crate) fn before(
-        &mut self,
-        source: &Source<'_>,
-        index: usize,
-        words: &[u8],
-        row: Row,
-    ) -> Result<(), AllocError> {
-        let at = source.start(index);
-        self.put(at, at, words, row)
-    }
-
-    /// Puts a text after a token.
-    pub(crate) fn after(
-        &mut self,
-        source: &Source<'_>,
-        index: usize,
-        words: &[u8],
-        row: Row,
-    ) -> Result<(), AllocError> {
-        let at = source.end(index);
+    /// Puts a text at a place.
+    pub(crate) fn insert(&mut self, at: usize, words: &[u8], row: Row) -> Result<(), AllocError> {
         self.put(at, at, words, row)
     }
 
@@ -190,6 +184,16 @@ impl Draft {
         row: Row,
     ) -> Result<(), AllocError> {
         self.put(source.start(index), source.end(index), words, row)
+    }
+
+    pub(crate) fn replace_text(
+        &mut self,
+        source: &Source<'_>,
+        index: usize,
+        text: Text,
+        row: Row,
+    ) -> Result<(), AllocError> {
+        self.put_text(source.start(index), source.end(index), text, row)
     }
 
     /// Takes the bytes out from a token up to another one, unless a comment stands between them.
@@ -219,8 +223,8 @@ impl Draft {
         if has_mark(between(source.text, source.start(first), source.end(last))) {
             return self.note(source, first, NoteKind::Remark);
         }
-        self.before(source, first, b"/* ", row)?;
-        self.after(source, last, b" */", row)
+        self.insert(source.start(first), b"/* ", row)?;
+        self.insert(source.end(last), b" */", row)
     }
 
     pub(crate) fn note(
@@ -230,6 +234,24 @@ impl Draft {
         kind: NoteKind,
     ) -> Result<(), AllocError> {
         self.note_at(source.start(index), kind)
+    }
+
+    /// Tells what was told of no token before.
+    pub(crate) fn note_once(
+        &mut self,
+        source: &Source<'_>,
+        index: usize,
+        kind: NoteKind,
+    ) -> Result<(), AllocError> {
+        self.note_first(source.start(index), kind)
+    }
+
+    /// Tells what was told of no place before.
+    pub(crate) fn note_first(&mut self, start: usize, kind: NoteKind) -> Result<(), AllocError> {
+        if self.notes.iter().any(|note| note.kind == kind) {
+            return Ok(());
+        }
+        self.note_at(start, kind)
     }
 
     pub(crate) fn note_at(&mut self, start: usize, kind: NoteKind) -> Result<(), AllocError> {

@@ -15,7 +15,7 @@ use bword::Edition;
 use std::alloc::AllocError;
 
 /// The most cases of a range that are written out.
-const MOST_CASES: u64 = 64;
+const MOST_CASES: u64 = 128;
 
 /// Edits the statement that begins with a token, if one does.
 pub(crate) fn statement(
@@ -47,7 +47,7 @@ pub(crate) fn statement(
         b"extern" | b"extrn" => external(source, draft, index),
         b"auto" => locals(source, draft, next, next),
         b":" if source.is_close_brace(next) && ends_label(source, index) => {
-            draft.after(source, index, b" ;", Row::Empty)
+            draft.insert(source.end(index), b" ;", Row::Empty)
         }
         word if is_type(word) => declaration(source, draft, outline, index),
         _ => Ok(()),
@@ -61,12 +61,10 @@ fn ends_label(source: &Source<'_>, colon: usize) -> bool {
 }
 
 fn newer(source: &Source<'_>, draft: &mut Draft, index: usize) -> Result<(), AllocError> {
-    if source.edition == Edition::Two
-        || draft.notes.iter().any(|note| note.kind == NoteKind::Break)
-    {
+    if source.edition == Edition::Two {
         return Ok(());
     }
-    draft.note(source, index, NoteKind::Break)
+    draft.note_once(source, index, NoteKind::Break)
 }
 
 // The value of a return, unless it is in parentheses as a whole.
@@ -81,9 +79,9 @@ fn return_value(source: &Source<'_>, draft: &mut Draft, index: usize) -> Result<
     if is_free(source.places, from, source.start(first)) {
         draft.put(from, source.start(first), b"(", Row::Return)?;
     } else {
-        draft.before(source, first, b"(", Row::Return)?;
+        draft.insert(source.start(first), b"(", Row::Return)?;
     }
-    draft.after(source, end.wrapping_sub(1), b")", Row::Return)
+    draft.insert(source.end(end.wrapping_sub(1)), b")", Row::Return)
 }
 
 // Braces around the cases of a switch that has none.
@@ -93,8 +91,8 @@ fn switch(source: &Source<'_>, draft: &mut Draft, index: usize) -> Result<(), Al
     if !source.is(body, b"case") || end == NONE {
         return Ok(());
     }
-    draft.before(source, body, b"{ ", Row::Switch)?;
-    draft.after(source, end.wrapping_sub(1), b" }", Row::Switch)
+    draft.insert(source.start(body), b"{ ", Row::Switch)?;
+    draft.insert(source.end(end.wrapping_sub(1)), b" }", Row::Switch)
 }
 
 // A range of cases, and negative ones.
@@ -114,10 +112,13 @@ fn case(
         return Ok(());
     }
     let (Some(low), Some(high)) = (single(source.word(first)), single(source.word(last))) else {
-        return Ok(());
+        return draft.note(source, sign, NoteKind::Range);
     };
+    if high < low || high - low >= MOST_CASES {
+        return draft.note(source, sign, NoteKind::Range);
+    }
     let mut text = Text::new(draft.alloc);
-    for value in low.saturating_add(1)..high.saturating_add(1).min(low.saturating_add(MOST_CASES)) {
+    for value in low.saturating_add(1)..high.saturating_add(1) {
         text.push(b": case ")?;
         push_constant(&mut text, value, source.kind(first))?;
     }
@@ -238,8 +239,8 @@ fn locals(
     draft.put_text(place, place, values, Row::Value)
 }
 
-// The comma or the semicolon after a name with its brackets and its value.
-fn declarator_end(source: &Source<'_>, from: usize, last: usize) -> usize {
+/// The comma or the semicolon after a name with its brackets and its value.
+pub(crate) fn declarator_end(source: &Source<'_>, from: usize, last: usize) -> usize {
     let mut next = from;
     for index in from..last {
         if index < next {

@@ -65,16 +65,16 @@ fn piece_at(source: &[u8], places: &[Within], at: usize) -> (Option<TokenKind>, 
         Some(b'/') if matches!(rest.get(1), Some(b'*' | b'/')) => (None, at.saturating_add(2)),
         Some(b'#') if places.get(at) == Some(&Within::Start) => (None, next),
         Some(b' ' | b'\t' | b'\n' | b'\r' | 0x0C) => (None, next),
-        Some(byte) if is_letter(*byte) => (
-            Some(TokenKind::Name),
-            at.saturating_add(name_length(rest)),
-        ),
-        Some(byte) if byte.is_ascii_digit() => {
+        Some(_) if begins_number(rest) => {
             (
                 Some(TokenKind::Number),
                 at.saturating_add(number_length(rest)),
             )
         }
+        Some(byte) if is_letter(*byte) => (
+            Some(TokenKind::Name),
+            at.saturating_add(name_length(rest)),
+        ),
         _ => (Some(TokenKind::Sign), at.saturating_add(sign_length(rest))),
     }
 }
@@ -104,6 +104,14 @@ pub(crate) fn is_letter(byte: u8) -> bool {
     byte.is_ascii_alphabetic() || byte == b'_' || byte == b'.'
 }
 
+// Whether a number begins here: a digit, also after a point.
+fn begins_number(rest: &[u8]) -> bool {
+    match rest {
+        [b'.', byte, ..] | [byte, ..] => byte.is_ascii_digit(),
+        _ => false,
+    }
+}
+
 fn name_length(rest: &[u8]) -> usize {
     for index in 0..rest.len() {
         let byte = rest[index];
@@ -117,7 +125,7 @@ fn name_length(rest: &[u8]) -> usize {
 fn number_length(rest: &[u8]) -> usize {
     for index in 0..rest.len() {
         let byte = rest[index];
-        if !byte.is_ascii_alphanumeric() {
+        if !byte.is_ascii_alphanumeric() && byte != b'.' {
             return index.max(1);
         }
     }

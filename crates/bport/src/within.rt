@@ -1,6 +1,6 @@
 //! In what the bytes of an old source stand.
 ghost use Rattle.std.specs.Prelude.{◌≡◌, ◌==◌, IfOk, if◌then◌else◌};
-ghost use Rattle.bport.specs.Places.{after, is_own_text, places_of};
+ghost use Rattle.bport.specs.Places.{after, is_own_text, is_within_text, places_of};
 ghost use Rattle.bport.specs.declared.within.Within.TheVariants as within;
 
 use std::alloc::{AllocError, Global};
@@ -62,6 +62,17 @@ impl Within {
             self,
             Within::Comment | Within::Star | Within::Line | Within::String | Within::StringEscape
         )
+    }
+
+    /// Whether the place before a byte is within a comment or a string.
+    pub(crate) fn is_within_text(self, byte: u8) -> bool
+        ensures { result ≡ is_within_text self byte }
+    {
+        match self {
+            Within::Line => byte != b'\n' && byte != b'\r',
+            Within::Slash => byte == b'*' || byte == b'/',
+            _ => self.is_own_text(),
+        }
     }
 }
 

@@ -1,5 +1,5 @@
 main() {
     if(1) putchar('hello*n');
     putchar('abc');
-    return('abc');
+    if('abc' == 1) return;
 }

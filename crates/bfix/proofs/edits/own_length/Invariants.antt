@@ -1,5 +1,5 @@
 use Rattle.std.proofs.Common.{◌≡◌, ◌+◌, drop}
-use Rattle.bfix.specs.Fixes.{own_length}
+use Rattle.bfix.specs.OwnText.{own_length}
 use Rattle.bfix.proofs.edits.own_length.Given as goal
 
 abbrev pub invariant-loop-index : goal.invariant-loop-index

@@ -17,5 +17,7 @@ returns-in-Ok-clause-fixes g c =
       line_after = g.D.ByteOut.outgoing c.tell_both.new.diag;
       status = c.tell_both.result;
     })
-    c.split_at.result.0.now c.split_at.result.1.now c.in-Ok.fixed (c.split_at.ensures.front ∙ ap (λ n. take n source) c.own_length.ensures.equation) (c.split_at.ensures.back ∙ ap (λ n. drop n source) c.own_length.ensures.equation) c.in-Ok.ensures
+    c.split_at.result.0.now c.split_at.result.1.now c.in-Ok.fixed
+    (c.split_at.ensures.front ∙ ap (λ n. take n source) c.own_length.ensures.equation)
+    (c.split_at.ensures.back ∙ ap (λ n. drop n source) c.own_length.ensures.equation) c.in-Ok.ensures
     c.tell_both.ensures.tells

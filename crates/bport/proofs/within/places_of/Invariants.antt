@@ -4,4 +4,5 @@ use Rattle.bport.specs.declared.within.Within.TheVariants as within
 use Rattle.bport.proofs.within.places_of.Given as goal
 
 abbrev pub invariant-loop-byte : goal.invariant-loop-byte
-invariant-loop-byte l = l.places.items ++ places_of l.place (drop l.byte-index l.source) ≡ places_of within.Start l.source
+invariant-loop-byte l =
+    l.places.items ++ places_of l.place (drop l.byte-index l.source) ≡ places_of within.Start l.source

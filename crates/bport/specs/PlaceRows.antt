@@ -1,11 +1,9 @@
--- Closed facts: in what bytes stand, which edits fit, what is made of them, and how they are told.
-use Rattle.std.specs.Prelude.{◌≡◌, ℕ, Bool, true, false, List, [], ◌∷◌, ◌++◌, None, codes, map, refl}
+-- Closed facts: in what the bytes of an old source stand, escapes, and why a source is none of a program.
+use Rattle.std.specs.Prelude.{◌≡◌, ℕ, Bool, true, false, List, [], ◌∷◌, codes, map, refl}
 use Rattle.blang.specs.declared.run.LoadFault.TheVariants as faults
 use Rattle.btools.specs.declared.program.ProgramFault.TheVariants as why
-use Rattle.bport.specs.Places.{after, is_own_text, places_of}
+use Rattle.bport.specs.Places.{is_own_text, places_of}
 use Rattle.bport.specs.Edits.{escape_for, is_reason}
-use Rattle.bport.specs.Ports.{own_length, verdict_status, verdict_text}
-use Rattle.bport.specs.declared.within.Within.{Within}
 use Rattle.bport.specs.declared.within.Within.TheVariants as within
 
 -- which bytes of a text are a comment's or a string's own
@@ -51,19 +49,9 @@ escapes : map escape_for
     ≡ codes "*n" ∷ codes "*t" ∷ codes "*0" ∷ codes "*\"" ∷ codes "*'" ∷ codes "\\" ∷ codes "**" ∷ []
 escapes = refl
 
-no_escapes : map escape_for (codes "\\r" ∷ codes "n" ∷ codes "*n" ∷ codes "\\nn" ∷ [] ∷ []) ≡ [] ∷ [] ∷ [] ∷ [] ∷ [] ∷ []
+no_escapes : map escape_for (codes "\\r" ∷ codes "n" ∷ codes "*n" ∷ codes "\\nn" ∷ [] ∷ [])
+    ≡ [] ∷ [] ∷ [] ∷ [] ∷ [] ∷ []
 no_escapes = refl
-
--- the first file ends before the newline before the next one
-own_lengths : map (λ lines. own_length lines (codes "a\nbc\n")) (1 ∷ 2 ∷ 3 ∷ []) ≡ 1 ∷ 4 ∷ 5 ∷ []
-own_lengths = refl
-
-load_faults : map verdict_text (why.Unloaded faults.TooLarge ∷ why.Unloaded faults.NoMain ∷ [])
-    ≡ codes "load 2\n" ∷ codes "load 4\n" ∷ []
-load_faults = refl
-
-load_statuses : map verdict_status (why.Unloaded faults.TooLarge ∷ why.Unloaded faults.NoMain ∷ []) ≡ 132 ∷ 132 ∷ []
-load_statuses = refl
 
 reasons : map is_reason (why.Memory ∷ why.Unloaded faults.NoMain ∷ why.Unread 1 ∷ []) ≡ false ∷ true ∷ true ∷ []
 reasons = refl

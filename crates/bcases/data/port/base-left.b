@@ -1,0 +1,1 @@
+main() printn(5);

@@ -1,0 +1,1 @@
+main() { for(;;) { printn(5); exit(); } }

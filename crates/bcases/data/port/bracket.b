@@ -1,0 +1,4 @@
+f(x {
+    return(x);
+}
+main() f(1);

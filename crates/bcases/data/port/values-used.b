@@ -1,0 +1,2 @@
+int n = 5;
+main() { int x = n; printn(x, 10); }

@@ -1,0 +1,42 @@
+-- Closed facts: which signs of other forms are told where they stay, and how.
+use Rattle.std.specs.Fmt.{digits}
+use Rattle.std.specs.Prelude.{◌≡◌, ℕ, true, false, Bool, List, [], ◌∷◌, ◌++◌, codes, map, refl}
+use Rattle.bport.specs.Places.{places_of}
+use Rattle.bport.specs.Staying.{is_old_at, is_told_at, notes_text}
+use Rattle.bport.specs.declared.edit.Edit.{Edit}
+use Rattle.bport.specs.declared.row.Note.{Note}
+use Rattle.bport.specs.declared.row.NoteKind.TheVariants as kind
+use Rattle.bport.specs.declared.row.Row.TheVariants as row
+use Rattle.bport.specs.declared.within.Within.TheVariants as within
+
+abbrev old_in : List ℕ → List ℕ → List Bool
+old_in source places_looked = map (λ at. is_old_at source (places_of within.Start source) at) places_looked
+
+-- assignment operators, and what only looks like one
+assignments : old_in (codes "a+=b-=c;i++==2") (1 ∷ 2 ∷ 4 ∷ 9 ∷ 10 ∷ 11 ∷ [])
+    ≡ true ∷ false ∷ true ∷ false ∷ false ∷ false ∷ []
+assignments = refl
+
+others : old_in (codes "$(a&&b||c$)&d|e") (0 ∷ 3 ∷ 4 ∷ 6 ∷ 9 ∷ 11 ∷ 13 ∷ [])
+    ≡ true ∷ true ∷ false ∷ true ∷ true ∷ false ∷ false ∷ []
+others = refl
+
+-- in comments, strings and character constants there are none
+not_in_code : old_in (codes "/*&&*/\"+=\"'$('") (2 ∷ 7 ∷ 11 ∷ []) ≡ false ∷ false ∷ false ∷ []
+not_in_code = refl
+
+abbrev note : Note
+note = record { start = 2; kind = kind.Sign }
+
+abbrev edit : Edit
+edit = record { start = 4; end = 6; text = []; row = row.And }
+
+-- taken out or told
+told_at : map (λ at. is_told_at at (edit ∷ []) (note ∷ [])) (2 ∷ 3 ∷ 4 ∷ 5 ∷ 6 ∷ [])
+    ≡ true ∷ false ∷ true ∷ true ∷ false ∷ []
+told_at = refl
+
+note_line : notes_text (codes "f") (codes "a\nb") (note ∷ [])
+    ≡ codes "f:2: left: this sign is one of another form, and stays\n"
+unfolding digits
+note_line = refl

@@ -1,0 +1,115 @@
+-- Promise: signs of other forms of the language that stay are told, and what is told of each note.
+use Rattle.std.specs.Prelude.{ℕ, ◌+◌, ◌<◌, ◌==◌, ◌&&◌, ◌||◌, Bool, true, false, List, [], ◌++◌, ◌≡◌, ◌⊎◌, Option, None}
+use Rattle.std.specs.Prelude.{Some, codes, decimal}
+use Rattle.std.specs.Prelude.{if◌then◌else◌, nat_le, nat_lt, not, slice_get}
+use Rattle.std.specs.List.{flat_map, list_any}
+use Rattle.btools.specs.Quoting.{file_text}
+use Rattle.bport.specs.Changes.{line_on}
+use Rattle.bport.specs.Places.{places_of}
+use Rattle.bport.specs.declared.edit.Edit.{Edit}
+use Rattle.bport.specs.declared.row.Note.{Note}
+use Rattle.bport.specs.declared.row.NoteKind.{NoteKind}
+use Rattle.bport.specs.declared.row.NoteKind.TheVariants as kind
+use Rattle.bport.specs.declared.within.Within.{Within}
+use Rattle.bport.specs.declared.within.Within.TheVariants as within
+
+-- Two bytes are an assignment operator with `=` last, `&&`, `||`, `$(` or `$)`. Before a further `=` the first of the
+-- three belongs to what stands before.
+abbrev pub is_old_sign : (first second : ℕ) → (is_longer : Bool) → Bool
+is_old_sign a b is_longer =
+    if b == 61 then (not is_longer && list_any (λ c. a == c) (codes "+-*/%"))
+    else (if a == 36 then b == 40 || b == 41 else ((a == b) && (a == 38 || a == 124)))
+
+abbrev pub is_equals : Option ℕ → Bool
+is_equals (Some b) = b == 61
+is_equals None = false
+
+-- of a byte that stands in this and the next two
+abbrev pub is_old : Option Within → (first second third : Option ℕ) → Bool
+is_old (Some within.Code) (Some a) (Some b) c = is_old_sign a b (is_equals c)
+is_old (Some within.Start) (Some a) (Some b) c = is_old_sign a b (is_equals c)
+is_old _ _ _ _ = false
+
+abbrev pub is_old_at : List ℕ → List Within → ℕ → Bool
+is_old_at source places at =
+    is_old (slice_get places at) (slice_get source at) (slice_get source (at + 1)) (slice_get source (at + 2))
+
+-- an edit takes a byte out, and a note is of a place
+abbrev pub covers : ℕ → Edit → Bool
+covers at e = nat_le e.start at && nat_lt at e.end
+
+abbrev pub is_of : ℕ → Note → Bool
+is_of at n = n.start == at
+
+abbrev pub is_told_at : ℕ → List Edit → List Note → Bool
+is_told_at at edits notes = list_any (covers at) edits || list_any (is_of at) notes
+
+-- each of these signs, up to a place, is taken out or told
+abbrev pub TellsOldUpTo : ℕ → List ℕ → List Within → List Edit → List Note → Type 0
+TellsOldUpTo end source places edits notes =
+    (at : ℕ) → at < end → is_old_at source places at ≡ true → is_told_at at edits notes ≡ true
+
+abbrev pub TellsOld : List ℕ → List Edit → List Note → Type 0
+TellsOld source edits notes =
+    (at : ℕ) → is_old_at source (places_of within.Start source) at ≡ true → is_told_at at edits notes ≡ true
+
+-- a note that says that nothing is edited
+abbrev pub refuses_kind : NoteKind → Bool
+refuses_kind kind.Growth = true
+refuses_kind kind.Bracket = true
+refuses_kind _ = false
+
+abbrev pub refuses : Note → Bool
+refuses n = refuses_kind n.kind
+
+-- the sentence of each note
+abbrev pub note_sentence : NoteKind → List ℕ
+note_sentence kind.Structure = codes "there are no structures: a vector has its parts by numbers"
+note_sentence kind.Floating = codes "there are no fractions: all words are whole numbers"
+note_sentence kind.Wide = codes "a word has 16 bits and a sign, also where the type said otherwise"
+note_sentence kind.Static = codes "a word of a call isn't kept for the next one: make it an external"
+note_sentence kind.Pointer =
+    codes "a string has two characters in a word: char(s, i) and lchar(s, i, c) take them apart"
+note_sentence kind.Words = codes "this vector has a word for each character, and a string two in a word"
+note_sentence kind.Arguments = codes "a program gets no words: its parameters are 0"
+note_sentence kind.Macro = codes "this name stands for no value: write what it stands for where it is used"
+note_sentence kind.Comma = codes "a comma between expressions: write two statements"
+note_sentence kind.Escape = codes "this escape stands for no byte that quotes can have here"
+note_sentence kind.Characters = codes "a word holds two characters: the others need words of their own"
+note_sentence kind.Remark = codes "this comment has */ or stands among code that moves"
+note_sentence kind.Exclusive = codes "write (a | b) - (a & b) for a ^ b, with a and b evaluated before"
+note_sentence kind.Condition = codes "this && or || is too large to change"
+note_sentence kind.Loop = codes "this loop has a comment or a string in what would move, or no end"
+note_sentence kind.Large = codes "a word is at most 65535"
+note_sentence kind.Break = codes "break and default are in edition 2: b port --edition 2"
+note_sentence kind.Number = codes "this number has letters or digits that none has here"
+note_sentence kind.Heap = codes "getvec gives 0 until main has called givevec"
+note_sentence kind.Backslash = codes "\\ in quotes is a character here, and the next one, too: *n is a newline"
+note_sentence kind.Ampersands = codes "&& is & before the address of what comes after it"
+note_sentence kind.Growth = codes "the ported source would have more than twice its size: nothing is changed"
+note_sentence kind.Branches = codes "all lines up to #endif stay: take out those that aren't meant"
+note_sentence kind.Twice = codes "this name stands for its first value everywhere"
+note_sentence kind.Wrapped = codes "what stands for this name is in parentheses now"
+note_sentence kind.Range = codes "this range isn't written out: write a case for each constant, or an if"
+note_sentence kind.Scope = codes "a name in inner braces has taken the place of this external: give it another one"
+note_sentence kind.Signs = codes "this operator assigns, as in early B: write a blank after = where a sign is meant"
+note_sentence kind.Wraps = codes "numbers past 32767 wrap around: b go --careful=wraps stays at the first one"
+note_sentence kind.Base = codes "printn has the base after the number: printn(n, 10)"
+note_sentence kind.Bracket = codes "no bracket fits this one: port changes nothing until one does"
+note_sentence kind.Called = codes "(*f)() calls the function in the word at f: f() calls the one in f"
+note_sentence kind.Sign = codes "this sign is one of another form, and stays"
+note_sentence kind.Zero = codes "the input ends with '*e' here, and not with 0"
+
+-- what is told of a note: the file, the line, and the sentence
+abbrev pub note_text : (file source : List ℕ) → Note → List ℕ
+note_text file source n =
+    file_text file ++ (codes ":" ++ (decimal (line_on source 1 0 n.start)
+    ++ (codes ": left: " ++ (note_sentence n.kind ++ codes "\n"))))
+
+abbrev pub notes_text : (file source : List ℕ) → List Note → List ℕ
+notes_text file source notes = flat_map (note_text file source) notes
+
+-- what is left of a source that is no program: each of these signs is taken out or told, or nothing is edited, and a
+-- note says so
+abbrev pub IsLeft : List ℕ → List Edit → List Note → Type 0
+IsLeft source edits notes = TellsOld source edits notes ⊎ ((edits ≡ []) × (list_any refuses notes ≡ true))

@@ -1,0 +1,234 @@
+//! Calls of the library that mean something else here.
+use crate::row::{NoteKind, Row};
+use crate::source::{Draft, Source};
+use crate::table::{NONE, filled, put, slot};
+use std::alloc::{AllocError, Global};
+
+/// How many parentheses after a call are looked past.
+const MOST_PARENTHESES: usize = 4;
+
+/// Edits calls of `printn` without a base, and what compares a character with the end of a string or of the input.
+pub(crate) fn calls(
+    alloc: Global,
+    source: &Source<'_>,
+    others: &Source<'_>,
+    draft: &mut Draft,
+) -> Result<(), AllocError> {
+    let has_base = !defines(source, b"printn") && !defines(others, b"printn");
+    let has_input = !defines(source, b"getchar") && !defines(others, b"getchar");
+    let has_strings = !defines(source, b"char") && !defines(others, b"char");
+    let mut inputs = filled(alloc, source.tokens.len())?;
+    for index in 0..source.tokens.len() {
+        match source.word(index) {
+            b"printn" if has_base => base(source, draft, index)?,
+            b"getchar" if has_input => {
+                keep_input(source, &mut inputs, index);
+                ended(source, draft, index, Row::InputEnd)?;
+            }
+            b"char" if has_strings => ended(source, draft, index, Row::StringEnd)?,
+            b"*" if is_called(source, index) => draft.note(source, index, NoteKind::Called)?,
+            _ => {}
+        }
+    }
+    for index in 0..source.tokens.len() {
+        if slot(&inputs, slot(source.firsts, index)) != NONE {
+            compared(source, draft, index, Row::InputEnd, false)?;
+        }
+    }
+    Ok(())
+}
+
+// Whether a source defines a function.
+fn defines(source: &Source<'_>, name: &[u8]) -> bool {
+    for index in 0..source.tokens.len() {
+        let open = index.wrapping_add(1);
+        if source.is(index, name) && source.is_open_paren(open) {
+            let body = source.partner(open).wrapping_add(1);
+            if source.is_open_brace(body) || source.is_name(body) {
+                return true;
+            }
+        }
+    }
+    false
+}
+
+// Whether a call has just one argument.
+fn has_one(source: &Source<'_>, open: usize) -> bool {
+    let close = source.partner(open);
+    let mut depth: usize = 0;
+    for index in open..close.min(source.tokens.len()) {
+        match source.word(index) {
+            b"(" | b"[" => depth = depth.saturating_add(1),
+            b")" | b"]" => depth = depth.saturating_sub(1),
+            b"," if depth == 1 => return false,
+            _ => {}
+        }
+    }
+    close != open.wrapping_add(1)
+}
+
+/// The first call of `printn` without a base.
+pub(crate) fn without_base(source: &Source<'_>) -> Option<usize> {
+    if defines(source, b"printn") {
+        return None;
+    }
+    for index in 0..source.tokens.len() {
+        let open = index.wrapping_add(1);
+        if source.is(index, b"printn") && source.is_open_paren(open) && has_one(source, open) {
+            return Some(index);
+        }
+    }
+    None
+}
+
+fn base(source: &Source<'_>, draft: &mut Draft, index: usize) -> Result<(), AllocError> {
+    let open = index.wrapping_add(1);
+    if source.is_open_paren(open) && has_one(source, open) {
+        return draft.insert(source.start(source.partner(open)), b", 10", Row::Base);
+    }
+    Ok(())
+}
+
+// Whether what a name points to is called.
+fn is_called(source: &Source<'_>, index: usize) -> bool {
+    let name = index.wrapping_add(1);
+    let close = name.wrapping_add(1);
+    source.is(index.wrapping_sub(1), b"(")
+        && source.is_name(name)
+        && source.is(close, b")")
+        && source.is(close.wrapping_add(1), b"(")
+}
+
+// Keeps the name that the value of a call is stored in.
+fn keep_input(source: &Source<'_>, inputs: &mut Vec<usize>, index: usize) {
+    let name = index.wrapping_sub(2);
+    if source.is(index.wrapping_sub(1), b"=") && source.is_call(index) {
+        put(inputs, slot(source.firsts, name), index);
+    }
+}
+
+// A call, or what stores its value, with the parentheses around it: its first and its last token, and whether these are
+// those of an assignment.
+#[derive(Clone, Copy)]
+struct Unit {
+    first: usize,
+    last: usize,
+    is_bare: bool,
+}
+
+// Edits what the value of a call is compared with, or makes a comparison of it where it is a condition.
+fn ended(source: &Source<'_>, draft: &mut Draft, index: usize, row: Row) -> Result<(), AllocError> {
+    let open = index.wrapping_add(1);
+    if !source.is_open_paren(open) {
+        return Ok(());
+    }
+    let unit = unit_of(source, index, source.partner(open));
+    if is_truth(source, unit) || is_test(source, unit, row) {
+        return alone(source, draft, unit, row);
+    }
+    compared(source, draft, unit.last, row, true)
+}
+
+fn unit_of(source: &Source<'_>, index: usize, close: usize) -> Unit {
+    let name = index.wrapping_sub(2);
+    let open = name.wrapping_sub(1);
+    let is_bare = source.is(index.wrapping_sub(1), b"=")
+        && source.is_open_paren(open)
+        && source.partner(open) == close.wrapping_add(1);
+    let mut unit = Unit {
+        first: if is_bare { name } else { index },
+        last: close,
+        is_bare,
+    };
+    for _ in 0..MOST_PARENTHESES {
+        let open = unit.first.wrapping_sub(1);
+        let last = unit.last.wrapping_add(1);
+        if is_grouping(source, open) && source.partner(open) == last {
+            unit = Unit {
+                first: open,
+                last,
+                is_bare: false,
+            };
+        }
+    }
+    unit
+}
+
+// Whether a parenthesis is no call's and no statement's.
+fn is_grouping(source: &Source<'_>, open: usize) -> bool {
+    let before = open.wrapping_sub(1);
+    source.is_open_paren(open)
+        && !source.is_name(before)
+        && !matches!(source.word(before), b")" | b"]")
+}
+
+// Whether only the truth of its value counts.
+fn is_truth(source: &Source<'_>, unit: Unit) -> bool {
+    let before = unit.first.wrapping_sub(1);
+    let next = source.word(unit.last.wrapping_add(1));
+    match source.word(before) {
+        b"!" => true,
+        b"&&" | b"||" => matches!(next, b")" | b"&&" | b"||" | b"?" | b":" | b";" | b","),
+        b"(" if is_condition(source, before) => matches!(next, b")" | b"&&" | b"||" | b"?"),
+        b"(" | b"=" | b"," | b"?" | b":" => matches!(next, b"&&" | b"||" | b"?"),
+        _ => false,
+    }
+}
+
+// Whether a parenthesis begins the condition of a statement.
+fn is_condition(source: &Source<'_>, open: usize) -> bool {
+    matches!(source.word(open.wrapping_sub(1)), b"if" | b"while")
+}
+
+// Whether it is the test of a `for`: no statement is a character of a string.
+fn is_test(source: &Source<'_>, unit: Unit, row: Row) -> bool {
+    row == Row::StringEnd
+        && source.is(unit.first.wrapping_sub(1), b";")
+        && source.is(unit.last.wrapping_add(1), b";")
+}
+
+// Makes the comparison.
+fn alone(source: &Source<'_>, draft: &mut Draft, unit: Unit, row: Row) -> Result<(), AllocError> {
+    let is_negated = source.is(unit.first.wrapping_sub(1), b"!");
+    if unit.is_bare || is_negated {
+        draft.insert(source.start(unit.first), b"(", row)?;
+    }
+    let words: &[u8] = match (unit.is_bare, is_negated) {
+        (true, _) => b") != '*e'",
+        (false, true) => b" != '*e')",
+        (false, false) => b" != '*e'",
+    };
+    draft.insert(source.end(unit.last), words, row)
+}
+
+// Edits a comparison with -1, or with 0, that comes after a token.
+fn compared(
+    source: &Source<'_>,
+    draft: &mut Draft,
+    last: usize,
+    row: Row,
+    is_value: bool,
+) -> Result<(), AllocError> {
+    let sign = last.wrapping_add(1);
+    let first = sign.wrapping_add(1);
+    let is_zero = source.is(first, b"0");
+    let is_negative = source.is(first, b"-") && source.is(first.wrapping_add(1), b"1");
+    let is_end = is_negative || is_zero && is_value;
+    if is_zero && !is_value && matches!(source.word(sign), b"==" | b"!=") {
+        return draft.note_once(source, sign, NoteKind::Zero);
+    }
+    let is_least = is_zero && row == Row::InputEnd;
+    let words: &[u8] = match source.word(sign) {
+        b"==" if is_end => b"== '*e'",
+        b"!=" | b">" if is_end => b"!= '*e'",
+        b">=" if is_least => b"!= '*e'",
+        b"<" if is_least => b"== '*e'",
+        _ => return Ok(()),
+    };
+    let end = if is_negative {
+        first.wrapping_add(1)
+    } else {
+        first
+    };
+    draft.put(source.start(sign), source.end(end), words, row)
+}
