@@ -1,12 +1,17 @@
 //! `&&` and `||`.
 use crate::definitions::Outline;
 use crate::expressions::{Exclusive, is_assignment, is_pure};
-use crate::names::{is_keyword, is_type};
+use crate::names::{is_keyword, is_one_of, is_type};
 use crate::row::{NoteKind, Row};
 use crate::shape::{is_closing, is_opening};
 use crate::source::{Draft, Source};
 use crate::table::NONE;
 use std::alloc::{AllocError, Global};
+
+const COMPARISONS: [&str; 6] = ["==", "!=", "<", "<=", ">", ">="];
+
+/// Operators that bind less than these.
+const LOOSER: [&str; 6] = ["&", "|", "^", "?", "&&", "||"];
 
 // A part of a source within which operators of one level stand: the bracket around it, its first token, and whether it
 // has such signs.
@@ -241,11 +246,11 @@ fn has_comparison(source: &Source<'_>, first: usize, end: usize) -> bool {
         if index < next {
             continue;
         }
-        match source.word(index) {
-            b"==" | b"!=" | b"<" | b"<=" | b">" | b">=" => found = true,
-            b"&" | b"|" | b"^" | b"?" | b"&&" | b"||" => return false,
-            word if is_assignment(word) => return false,
-            _ => {}
+        let word = source.word(index);
+        if is_one_of(word, COMPARISONS.as_slice()) {
+            found = true;
+        } else if is_one_of(word, LOOSER.as_slice()) || is_assignment(word) {
+            return false;
         }
         next = after_part(source, index);
     }

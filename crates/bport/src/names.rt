@@ -13,6 +13,19 @@ use std::alloc::{AllocError, Global};
 /// How many letters a name has at most.
 const NAME_LETTERS: usize = 8;
 
+const LIBRARY: [&str; 6] = ["char", "lchar", "getchar", "putchar", "printn", "exit"];
+
+/// Keywords of this language and of other forms of it.
+const KEYWORDS: [&str; 16] = [
+    "auto", "extrn", "case", "if", "else", "while", "switch", "goto", "return", "break", "default",
+    "for", "do", "continue", "extern", "repeat",
+];
+
+const TYPES: [&str; 15] = [
+    "int", "char", "long", "short", "unsigned", "signed", "register", "static", "const", "void",
+    "float", "double", "struct", "union", "typedef",
+];
+
 /// A constant with a name, and what stands for it.
 #[derive(Drop)]
 struct Constant {
@@ -305,56 +318,27 @@ fn is_given(short: &[Option<Text>], name: &[u8]) -> bool {
 
 /// Whether a word is a keyword here, or a function of the library.
 fn is_reserved(word: &[u8]) -> bool {
-    is_keyword(word)
-        || matches!(
-            word,
-            b"char" | b"lchar" | b"getchar" | b"putchar" | b"printn" | b"exit" | b""
-        )
+    word.is_empty() || is_keyword(word) || is_one_of(word, LIBRARY.as_slice())
 }
 
 /// Whether a word is a keyword here, or in another form of the language.
 pub(crate) fn is_keyword(word: &[u8]) -> bool {
-    matches!(
-        word,
-        b"auto"
-            | b"extrn"
-            | b"case"
-            | b"if"
-            | b"else"
-            | b"while"
-            | b"switch"
-            | b"goto"
-            | b"return"
-            | b"break"
-            | b"default"
-            | b"for"
-            | b"do"
-            | b"continue"
-            | b"extern"
-            | b"repeat"
-    ) || is_type(word)
+    is_one_of(word, KEYWORDS.as_slice()) || is_type(word)
 }
 
 /// Whether a word begins a type.
 pub(crate) fn is_type(word: &[u8]) -> bool {
-    matches!(
-        word,
-        b"int"
-            | b"char"
-            | b"long"
-            | b"short"
-            | b"unsigned"
-            | b"signed"
-            | b"register"
-            | b"static"
-            | b"const"
-            | b"void"
-            | b"float"
-            | b"double"
-            | b"struct"
-            | b"union"
-            | b"typedef"
-    )
+    is_one_of(word, TYPES.as_slice())
+}
+
+/// Whether a word is one of these.
+pub(crate) fn is_one_of(word: &[u8], words: &[&str]) -> bool {
+    for one in words {
+        if word == one.as_bytes() {
+            return true;
+        }
+    }
+    false
 }
 
 /// Edits a number to the base 16, or one to the base 8 with other digits.
