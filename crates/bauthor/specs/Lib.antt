@@ -1,0 +1,5 @@
+pub mod NameLines
+pub mod NameFiles
+pub mod Readers
+pub mod Written
+mod NameRows

@@ -1,0 +1,70 @@
+//! What the lines of a file of names have to be, and what is wrong in one.
+ghost use Rattle.std.specs.Prelude.{◌≡◌};
+ghost use Rattle.bauthor.specs.NameLines.{suits};
+ghost use Rattle.bauthor.specs.declared.fault.NameFault.TheVariants.{Memory};
+
+use crate::line::NameLine;
+use bword::Name;
+use std::alloc::{AllocError, AllocFailed};
+
+/// What a line of a file of names has to be.
+#[derive(Clone, Copy)]
+pub enum Wanted {
+    /// The first one of a function of this name.
+    Function(Name),
+    /// One of a word of its frame, from 0 on.
+    Word(Name, u16),
+    /// One of a label of this function, from 0 on.
+    Label(Name, usize),
+    /// There has to be none.
+    End,
+}
+
+impl Wanted {
+    /// Whether a line is what is wanted. The first word of a frame is no further word of a vector.
+    pub(crate) fn suits(&self, line: &NameLine) -> bool
+        ensures { result ≡ suits self.now line.now }
+    {
+        match self {
+            Wanted::Function(name) => match line {
+                NameLine::Function(found) => name.as_bytes() == found.as_bytes(),
+                _ => false,
+            },
+            Wanted::Word(_, word) => match line {
+                NameLine::Word(_) => true,
+                NameLine::More => *word > 0,
+                _ => false,
+            },
+            Wanted::Label(_, _) => match line {
+                NameLine::Label(_) => true,
+                _ => false,
+            },
+            Wanted::End => false,
+        }
+    }
+}
+
+/// Why a file isn't one of the names of a code text.
+#[derive(Clone, Copy)]
+pub enum NameFault {
+    /// The first wrong line, from 1 on, and what it has to be.
+    Line(u64, Wanted),
+    /// Memory ran out.
+    Memory,
+}
+
+impl From<AllocError> for NameFault {
+    ghost from_gives = { λ _ fault. fault ≡ Memory };
+
+    fn from(_error: AllocError) -> NameFault {
+        NameFault::Memory
+    }
+}
+
+impl<T: Drop> From<AllocFailed<T>> for NameFault {
+    ghost from_gives = { λ _ fault. fault ≡ Memory };
+
+    fn from(_failed: AllocFailed<T>) -> NameFault {
+        NameFault::Memory
+    }
+}
