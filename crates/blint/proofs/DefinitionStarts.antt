@@ -1,5 +1,5 @@
 -- Definitions begin where their constructs do.
-use Rattle.std.proofs.Common.{◌≡◌, ◌∙◌, ℕ, suc, ◌+◌, List, [], ◌∷◌, ◌++◌, ap, append_assoc, append-nil, arith, length, refl, sym}
+use Rattle.std.proofs.Common.{◌≡◌, ◌∙◌, ℕ, ◌+◌, List, [], ◌∷◌, ◌++◌, ap, append_assoc, arith, length, refl, sym}
 use Rattle.std.proofs.lemmas.List.{length-append}
 use Rattle.blang.specs.Trees.{Definition, Simple, Vector, Function, Stmt, Headed, Compound, If, IfElse, While, Switch, Goto, Break, Return, ReturnValue, Evaluate, Empty, Stmts, Nothing, More}
 use Rattle.blang.specs.Walk.{Walk, NothingHere, Said, TextHere, Noted, Level, ◌▸◌, spell_definition, tokens_in, walk, walk_body, walk_definition, walk_heading, walk_parenthesized, walk_statement}

@@ -16,7 +16,7 @@ use Rattle.blint.specs.declared.cutting.CutSource.{CutSource}
 use Rattle.blint.specs.declared.tokens.TokenPlace.{TokenPlace}
 use Rattle.blint.specs.Cutting.{Cuts}
 use Rattle.blint.specs.ProgramRules.{AreRules, AreStarts, lexemes_of, program_rules, starts_in, starts_of}
-use Rattle.blint.specs.SourceTokens.{IsSource, lexemes_in, token_places, tokens_of}
+use Rattle.blint.specs.SourceTokens.{lexemes_in, token_places, tokens_of}
 use Rattle.blint.specs.Told.{AreRising}
 use Rattle.blint.specs.Warns.{IsDue, TellsOf, Warns}
 use Rattle.blint.proofs.DefinitionStarts.{starts_of_program}

@@ -1,9 +1,8 @@
 -- The rules of one definition after another.
-use Rattle.std.proofs.Common.{◌≡◌, ◌∙◌, ℕ, zero, suc, ◌+◌, ◌<◌, ◌≤◌, List, [], ◌∷◌, ◌++◌, Option, Some, None, ◌⊎◌, add-one, ap, append_assoc, append-nil, arith, drop, drop-cons, get_or, inl, inr, length, map, refl, subst, sym}
+use Rattle.std.proofs.Common.{◌≡◌, ◌∙◌, ℕ, zero, suc, ◌+◌, ◌<◌, ◌≤◌, List, [], ◌∷◌, ◌++◌, Option, Some, None, ◌⊎◌, add-one, ap, append_assoc, append-nil, drop, drop-cons, get_or, inl, inr, length, map, refl, subst, sym}
 use Rattle.std.proofs.lemmas.Simd.{map-map}
 use Rattle.std.proofs.lemmas.List.{drop_all, length-append, length-map, map-append}
 use Rattle.std.specs.Prelude.{slice_get}
-use Rattle.std.specs.List.{flat_map}
 use Rattle.blang.specs.Trees.{Definition, bare}
 use Rattle.blang.specs.Walk.{spell_all, spell_definition}
 use Rattle.blang.specs.WellFormed.{AllFormed, IsFormed}

@@ -2,7 +2,6 @@
 use Rattle.std.proofs.Common.{◌≡◌, ◌≢◌, ◌∙◌, ℕ, zero, suc, ◌+◌, ◌<◌, ◌≤◌, Bool, true, false, List, [], ◌∷◌, ◌++◌, Option, Some, None, ap, append_assoc, append-nil, arith, drop, length, map, refl, subst, sym}
 use Rattle.std.specs.Prelude.{◌-◌, if◌then◌else◌, is_some, slice_get, ⊤}
 use Rattle.std.specs.List.{cons_option}
-use Rattle.std.proofs.lemmas.List.{map-append}
 use Rattle.bword.specs.declared.edition.Edition.{Edition}
 use Rattle.blang.specs.declared.token.Placed.{Placed}
 use Rattle.blang.specs.declared.token.Token.{Token}
@@ -20,7 +19,7 @@ use Rattle.blint.specs.declared.tokens.TokenPlace.{TokenPlace}
 use Rattle.blint.specs.Cutting.{Cuts, TakesPiece}
 use Rattle.blint.specs.ProgramRules.{lexemes_of}
 use Rattle.blint.specs.Told.{AreRising}
-use Rattle.blint.specs.SourceTokens.{IsSource, PlacedToken, is_end, lexemes_in, place_of, token_places, token_of, tokens_at, tokens_of}
+use Rattle.blint.specs.SourceTokens.{IsSource, PlacedToken, is_end, lexemes_in, token_places, token_of, tokens_at, tokens_of}
 
 no_more : (ps : List Placed) (o : Placed) (os : List Placed) → [] ≡ ps ++ o ∷ os → ⊥
 no_more [] o os e = cc

@@ -1,7 +1,6 @@
 -- Promise: the warning of a token, by what stands there or by the rule that speaks of it.
 use Rattle.std.specs.Prelude.{ℕ, ◌+◌, ◌-◌, ◌==◌, ◌&&◌, ◌||◌, Bool, true, false, if◌then◌else◌, nat_le, List, [], ◌∷◌}
 use Rattle.std.specs.Prelude.{Option, None, Some, drop, slice_get, take, unwrap_or}
-use Rattle.std.specs.List.{list_any}
 use Rattle.std.specs.Option.{option_or}
 use Rattle.bword.specs.declared.operators.BinOp.TheVariants as op
 use Rattle.blex.specs.declared.lexeme.Lexeme.{Lexeme}
