@@ -1,18 +1,20 @@
 -- A source with an edit, by the verdicts on both.
-use Rattle.std.proofs.Common.{◌≡◌, ◌∙◌, ◌<◌, ◌⊎◌, ℕ, List, [], Bool, true, false, Option, Some, None, Result, Ok, Err, ap, arith, inl, inr, length, map, refl, subst, sym}
+use Rattle.std.proofs.Common.{◌≡◌, ◌∙◌, ◌<◌, ◌≤◌, ◌⊎◌, ◌++◌, ℕ, List, [], Bool, true, false, Option, Some, None, Result, Ok, Err, ap, arith, drop, inl, inr, length, map, refl, subst, sym, take}
 use Rattle.std.specs.Prelude.{MatchResult, nat_lt}
+use Rattle.std.proofs.lemmas.List.{take-append-drop}
 use Rattle.std.specs.Global.{Vec}
 use Rattle.std.proofs.lemmas.Bool.Decides.{nat_tests}
 use Rattle.bword.specs.declared.edition.Edition.{Edition}
+use Rattle.bword.specs.ByteEnds.{Kept}
 use Rattle.blang.specs.Code.{code_of}
 use Rattle.blang.specs.Compiles.{Compilation, CompilesTo}
-use Rattle.blang.specs.Cut.{tokens_from}
+use Rattle.blang.specs.Cut.{line_number_after, tokens_from}
 use Rattle.blang.specs.Layout.{load_fault}
 use Rattle.blang.specs.declared.run.LoadFault.{LoadFault}
 use Rattle.blang.specs.declared.status.TheConstants.{DONE, REFUSED}
 use Rattle.blang.specs.declared.token.Diagnostic.{Diagnostic}
-use Rattle.bcheck.specs.Checks.{IsLater, Judged, status_told, told_first, verdict_line}
-use Rattle.bcheck.specs.Findings.{FewerNames, Improves, IsCompiled, IsStopOf, Surpasses, definitions_in, definitions_of, is_better}
+use Rattle.bcheck.specs.Checks.{GoesFarther, IsLater, Judged, StopsBy, StopsPast, status_told, told_first, verdict_line, with_newline}
+use Rattle.bcheck.specs.Findings.{FewerNames, Improves, IsCompiled, IsStopOf, StopsOn, Surpasses, definitions_in, definitions_of, is_better}
 use Rattle.bcheck.specs.UndefinedNames.{told_subjects}
 use Rattle.bcheck.specs.declared.verdict.Judgement.{Judgement}
 use Rattle.blang.specs.declared.code.Definition.{Definition}
@@ -41,7 +43,7 @@ module _ (edition : Edition) (source : List ℕ) (r : Compilation) (g : Compiles
   status_is : (v : Verdict) → Judged edition source v → status_told v ≡ (told_first r.stop (load_fault (map code_of g.definitions))).1
   status_is v j = ap (λ (p : List ℕ × ℕ). p.1) (j r g)
 
-less : (a b : ℕ) → nat_lt a b ≡ true → a < b
+pub less : (a b : ℕ) → nat_lt a b ≡ true → a < b
 less a b h = grind (arith, nat_tests)
 
 later : (v w : Verdict) (old new : Option Diagnostic) → StopIs v old → StopIs w new → is_better w v ≡ true → IsLater new old
@@ -99,8 +101,40 @@ improved edition source new old better j s c k t d is =
     let v = old.verdict in
     let w = better.verdict in
     λ r g n h. (
-      later v w r.stop n.stop (stop_is edition source r g v j s) (stop_is edition new n h w k t) is.0,
+      inl (later v w r.stop n.stop (stop_is edition source r g v j s) (stop_is edition new n h w k t) is.0),
       λ done. sym (status_is edition new n h w k) ∙ still_done v w is.0 (status_is edition source r g v j ∙ done),
       fewer_named v w (map code_of g.definitions) (map code_of h.definitions) (definitions_in better.compiled) (definitions_in old.compiled) r.stop n.stop _ _ is.0 is.1 (stop_is edition source r g v j s) (stop_is edition new n h w k t)
           (status_is edition source r g v j) (status_is edition new n h w k) (code_of_both edition source old.compiled.code c r g) (code_of_both edition new better.compiled.code d n h),
     )
+
+-- of a source with a fault, one whose first fault is farther on is better
+pub went_on : (edition : Edition) (source new : List ℕ) (v : Verdict) (line : Kept) (d : Diagnostic) → v ≡ verdict.Faulty line d → Judged edition source v → GoesFarther edition new source → Improves edition source new
+went_on edition source new v line d is j far =
+    λ r g n h.
+    let one : 1 ≡ (told_first r.stop (load_fault (map code_of g.definitions))).1 = subst (λ x. status_told x ≡ (told_first r.stop (load_fault (map code_of g.definitions))).1) is (status_is edition source r g v j) in (
+      inr far,
+      λ done. absurd (omega (arith, one, done)),
+      λ refused. absurd (omega (arith, one, refused)),
+    )
+
+-- a source with this verdict stops on the line of it
+pub stops_on : (line : Kept) (d : Diagnostic) (edition : Edition) (before rest : List ℕ) → IsStopOf edition (with_newline before rest) (verdict.Faulty line d) → StopsOn edition before rest d.line
+stops_on line d edition before rest h = (d, h, refl)
+
+-- a newline shows that a fault is farther on
+pub farther : (edition : Edition) (new old before changed rest : List ℕ) (a b : ℕ) → old ≡ before ++ rest → new ≡ changed ++ rest
+    → StopsOn edition before rest a → StopsOn edition changed rest b → a ≤ line_number_after 1 before → line_number_after 1 changed < b → GoesFarther edition new old
+farther edition new old before changed rest a b e f s t h k =
+    record {
+      before = before;
+      changed = changed;
+      rest = rest;
+      old_is = e;
+      new_is = f;
+      by = λ r g. subst (λ o. StopsBy (line_number_after 1 before) o) (sym (s.1 r g)) (subst (λ n. n ≤ line_number_after 1 before) (sym s.2) h);
+      past = λ r g. subst (λ o. StopsPast (line_number_after 1 changed) o) (sym (t.1 r g)) (subst (λ n. line_number_after 1 changed < n) (sym t.2) k);
+    }
+
+-- a text in two parts
+pub parted : (n : ℕ) (xs before rest : List ℕ) → before ≡ take n xs → rest ≡ drop n xs → xs ≡ before ++ rest
+parted n xs before rest e f = sym (take-append-drop n xs) ∙ sym (ap (λ b. b ++ drop n xs) e) ∙ sym (ap (λ r. before ++ r) f)

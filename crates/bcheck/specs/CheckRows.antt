@@ -1,6 +1,6 @@
 -- Closed facts: what is told of a source, each at its limits and one past them.
-use Rattle.std.specs.Prelude.{◌≡◌, ◌<◌, ◌⊎◌, ℕ, List, [], ◌∷◌, ◌++◌, codes, length, map, Option, None, Some, refl, true}
-use Rattle.std.specs.Prelude.{false}
+use Rattle.std.specs.Prelude.{◌≡◌, ◌<◌, ◌≤◌, ◌⊎◌, ℕ, List, [], ◌∷◌, ◌++◌, codes, length, map, Option, None, Some, refl}
+use Rattle.std.specs.Prelude.{false, true}
 use Rattle.std.specs.Fmt.{digits}
 use Rattle.bword.specs.declared.edition.Edition.TheVariants as editions
 use Rattle.blang.specs.declared.token.Diagnostic.{Diagnostic}
@@ -17,6 +17,7 @@ use Rattle.bcheck.specs.Checks.{FindingParts, IsWhole, Reason, finding_text, fin
 use Rattle.bcheck.specs.Checks.{second_text}
 use Rattle.bcheck.specs.Checks.{diagnostic_code, severity_of, severity_word, shown_byte}
 use Rattle.bcheck.specs.Checks.{shown_in_form, told_first}
+use Rattle.bcheck.specs.Checks.{GoesFarther, StopsBy, StopsPast, with_newline}
 use Rattle.bcheck.specs.Checks.{change_line, cut_mark, goes_on, EditParts, IsBetter, IsLater, Outcome, edit_object}
 use Rattle.bcheck.specs.Checks.{edits_text, fault_in, mended, mended_line}
 use Rattle.bcheck.specs.CheckExcluded.{has_no_colon, is_printed, least_lines, most_lines, newlines}
@@ -99,7 +100,7 @@ warning_codes : map warning_code (
     warning.DefaultLabel ∷ warning.WordOutside ∷ warning.VectorCalled ∷ warning.WordOfString ∷ warning.CallsItself ∷
     warning.ChangesNothing ∷ warning.LoopUnchanged ∷ warning.Indented ∷ warning.Overwritten ∷
     warning.MainParameters ∷ warning.StringsAdded ∷ warning.OrConstant ∷ warning.AssignsItself ∷
-    warning.PassesOldValue ∷ warning.ValueDropped ∷ warning.EndlessLoop ∷ []
+    warning.PassesOldValue ∷ warning.ValueDropped ∷ warning.EndlessLoop ∷ warning.NoMain ∷ []
     ) ≡ codes "*/" ∷ codes "and" ∷ codes "and" ∷ codes "op" ∷ codes "if" ∷ codes "if" ∷ codes "if" ∷ codes "em" ∷
     codes "em" ∷ codes "ix" ∷ codes "ix" ∷ codes "ix" ∷ codes "ix" ∷ codes "ix" ∷ codes "ix" ∷ codes "sg" ∷
     codes "en" ∷ codes "en" ∷ codes "en" ∷ codes "st" ∷ codes "st" ∷ codes "st" ∷ codes "st" ∷ codes "no" ∷
@@ -107,7 +108,7 @@ warning_codes : map warning_code (
     codes "ar" ∷ codes "ar" ∷ codes "ar" ∷ codes "rt" ∷ codes "us" ∷ codes "in" ∷ codes "in" ∷ codes "hi" ∷
     codes "hi" ∷ codes "ma" ∷ codes "ed" ∷ codes "ed" ∷ codes "ix" ∷ codes "st" ∷ codes "lp" ∷ codes "no" ∷
     codes "lp" ∷ codes "la" ∷ codes "us" ∷ codes "ma" ∷ codes "st" ∷ codes "pr" ∷ codes "op" ∷ codes "ar" ∷
-    codes "no" ∷ codes "lp" ∷ []
+    codes "no" ∷ codes "lp" ∷ codes "ma" ∷ []
 warning_codes = refl
 
 -- the line and the column of a place after a text
@@ -367,11 +368,24 @@ new_one_is_not d h = h
 
 -- what mends is better: the fault is gone or later, what loaded loads, and what didn't has fewer undefined names
 mends_are_better : (new old : Outcome) → IsBetter new old
-    → IsLater new.stop old.stop
+    → (IsLater new.stop old.stop ⊎ GoesFarther old.edition new.source old.source)
     × ((told_first old.stop (fault_in old)).1 ≡ 0 → (told_first new.stop (fault_in new)).1 ≡ 0)
     × ((told_first old.stop (fault_in old)).1 ≡ 132 → ((told_first new.stop (fault_in new)).1 ≡ 0)
     ⊎ (length (told_subjects new.definitions) < length (told_subjects old.definitions)))
 mends_are_better new old h = h
+
+-- where a newline between both parts of a source shows its fault: on the line of the first part or before it, or after
+stops_by : (a line : ℕ) → StopsBy line (Some (at_line a)) → a ≤ line
+stops_by a line h = h
+
+stops_past : (a line : ℕ) → StopsPast line (Some (at_line a)) → line < a
+stops_past a line h = h
+
+one_that_compiles_stops_by_no_line : (line : ℕ) → StopsBy line None → ⊥
+one_that_compiles_stops_by_no_line line h = h
+
+sources_with_newline : with_newline (codes "a b") (codes " c\n") ≡ codes "a b\n c\n"
+sources_with_newline = refl
 
 -- what the theorems count and look for: newlines, bytes that can be printed, and colons
 newline_counts : map newlines ([] ∷ codes "a" ∷ codes "a\n" ∷ codes "\na\n" ∷ []) ≡ (0 ∷ 0 ∷ 1 ∷ 2 ∷ [])

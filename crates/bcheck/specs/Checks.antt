@@ -1,7 +1,7 @@
 -- Promise: what is written of a source that is checked.
 use Rattle.std.specs.Prelude.{◌≡◌, ℕ, ◌+◌, ◌<◌, ◌==◌, nat_lt, not, Bool, true, false, IsTrue, if◌then◌else◌}
 use Rattle.std.specs.Prelude.{List, [], ◌∷◌, ◌++◌, ◌⊎◌, codes, decimal, length, map, min, replicate, Option, Some, None}
-use Rattle.std.specs.Prelude.{◌-◌, ◌&&◌, drop, nat_le, take, unwrap_or}
+use Rattle.std.specs.Prelude.{◌-◌, ◌&&◌, ◌≤◌, drop, nat_le, take, unwrap_or}
 use Rattle.std.specs.Int.{is_in_range}
 use Rattle.std.specs.List.{All, AllZip, flat_map, list_all}
 use Rattle.bword.specs.declared.edition.Edition.{Edition}
@@ -356,15 +356,40 @@ IsLater (Some e) (Some d) = d.line < e.line
 abbrev pub outcome_status : Outcome → ℕ
 outcome_status o = (told_first o.stop (fault_in o)).1
 
+-- a source in two parts, with a newline between them
+abbrev pub with_newline : (before rest : List ℕ) → List ℕ
+with_newline before rest = before ++ 10 ∷ rest
+
+-- there is a fault, on this line or before it
+abbrev pub StopsBy : (line : ℕ) → Option Diagnostic → Type 0
+StopsBy line None = ⊥
+StopsBy line (Some d) = d.line ≤ line
+
+-- there is none, or the first one is after this line
+abbrev pub StopsPast : (line : ℕ) → Option Diagnostic → Type 0
+StopsPast line None = Unit {0}
+StopsPast line (Some d) = line < d.line
+
+-- Two sources end alike. A newline before that end shows that the first fault of the old one is before it, and that of
+-- the new one after it.
+pub record GoesFarther (edition : Edition) (new old : List ℕ) : Type 0 where
+  pub before : List ℕ
+  pub changed : List ℕ
+  pub rest : List ℕ
+  pub old_is : old ≡ before ++ rest
+  pub new_is : new ≡ changed ++ rest
+  pub by : EachOutcome edition (with_newline before rest) (λ o. StopsBy (line_number_after 1 before) o.stop)
+  pub past : EachOutcome edition (with_newline changed rest) (λ o. StopsPast (line_number_after 1 changed) o.stop)
+
 -- of the names that are told as undefined fewer are with an edit
 abbrev pub HasFewerNames : (new old : Outcome) → Type 0
 HasFewerNames new old = length (told_subjects new.definitions) < length (told_subjects old.definitions)
 
 -- What compiled and loaded does so with an edit. A fault of the source is gone, or the first one stands on a later
--- line. What didn't load does so, or has fewer names that nothing defines.
+-- line, or later in its line. What didn't load does so, or has fewer names that nothing defines.
 abbrev pub IsBetter : (new old : Outcome) → Type 0
 IsBetter new old =
-    IsLater new.stop old.stop
+    (IsLater new.stop old.stop ⊎ GoesFarther old.edition new.source old.source)
     × (outcome_status old ≡ DONE → outcome_status new ≡ DONE)
     × (outcome_status old ≡ REFUSED → (outcome_status new ≡ DONE) ⊎ HasFewerNames new old)
 

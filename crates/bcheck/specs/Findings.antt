@@ -10,7 +10,7 @@ use Rattle.blang.specs.declared.status.TheConstants.{DONE}
 use Rattle.blang.specs.declared.token.Diagnostic.{Diagnostic}
 use Rattle.bsources.specs.Files.{Files, line_shown, own_line}
 use Rattle.bcheck.specs.Checks.{EachOutcome, EditParts, FindingParts, IsAtToken, IsBetter, Mends, Outcome, Reason}
-use Rattle.bcheck.specs.Checks.{StandsOn, TellsAll, change_line, edit_object, mended, mended_line}
+use Rattle.bcheck.specs.Checks.{StandsOn, TellsAll, change_line, edit_object, mended, mended_line, with_newline}
 use Rattle.bcheck.specs.Pieces.{change_text, edit_text, line_text}
 use Rattle.bplaces.specs.Columns.{column_after}
 use Rattle.bcheck.specs.Checks.{diagnostic_code, fault_in, finding_text, is_in_line, is_of_several}
@@ -229,6 +229,11 @@ abbrev pub FewerNames : (new old : Verdict) → (definitions before : List Defin
 FewerNames (verdict.Unloaded f) (verdict.Unloaded g) definitions before =
     length (told_subjects definitions) < length (told_subjects before)
 FewerNames new old definitions before = Unit {0}
+
+-- a source with these parts and a newline between them has its fault on this line
+abbrev pub StopsOn : Edition → (before rest : List ℕ) → (line : ℕ) → Type 0
+StopsOn edition before rest line =
+    (d : Diagnostic) × HasFault edition (with_newline before rest) d × (d.line ≡ line)
 
 -- what was judged is better than what was judged before
 abbrev pub Surpasses : (new old : Judgement) → Type 0

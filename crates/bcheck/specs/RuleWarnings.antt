@@ -72,6 +72,7 @@ warning_code warning.AssignsItself = codes "op"
 warning_code warning.PassesOldValue = codes "ar"
 warning_code warning.ValueDropped = codes "no"
 warning_code warning.EndlessLoop = codes "lp"
+warning_code warning.NoMain = codes "ma"
 
 -- codes that tokens and rules alone give
 abbrev pub IsOfTokens : List ℕ → Type 0

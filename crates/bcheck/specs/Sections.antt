@@ -1,4 +1,4 @@
--- Promise: the sections of a source after a fault. Each begins where a function does, and ends where the next one begins.
+-- Promise: the sections of a source after a fault. Each begins where a function does, and ends where the next one does.
 use Rattle.std.specs.Prelude.{◌≡◌, ℕ, zero, suc, ◌-◌, ◌==◌, ◌&&◌, Bool, true, false, nat_lt, List, [], ◌∷◌, ◌++◌}
 use Rattle.std.specs.Prelude.{length, take, drop, slice_index_or, Option, Some, None, if◌then◌else◌}
 use Rattle.std.specs.List.{AllZip, list_any}

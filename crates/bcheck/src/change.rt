@@ -95,7 +95,7 @@ fn is_certain(tokens: &Spans, finding: &Finding) -> bool {
         Matter::Warning(Warning::ComparesAlone | Warning::InputEnd | Warning::NameAlone) => true,
         Matter::Warning(Warning::AssignsComparison) => assigns_call(tokens, token),
         Matter::Warning(Warning::ConditionAssigns) => assigns_constant(tokens, token),
-        Matter::Warning(_) | Matter::Constant(Constant::Escape) => false,
+        Matter::Warning(_) | Matter::Constant(Constant::Escape | Constant::Characters) => false,
         _ => true,
     }
 }

@@ -35,11 +35,16 @@ pub(crate) fn local(draft: &mut Draft<'_>, first: usize) -> Result<(), AllocErro
     draft.put_text(draft.start(first), draft.end(end), text)
 }
 
-/// A declaration of externals in a function, which has names alone.
+/// A declaration of externals in a function, which has names alone. One with values says more.
 pub(crate) fn names_alone(draft: &mut Draft<'_>, first: usize) -> Result<(), AllocError> {
     let Some(end) = end_of(draft, first) else {
         return Ok(());
     };
+    for token in first..end {
+        if let Lexeme::Number(_) | Lexeme::Character(_) | Lexeme::Assign(_) = draft.at(token) {
+            return Ok(());
+        }
+    }
     let mut text = draft.text();
     text.push(b"extrn ")?;
     push_names(&mut text, draft, first, end, false)?;

@@ -22,6 +22,9 @@ pub(crate) struct Draft<'a> {
     pub source: &'a [u8],
     pub spans: &'a Spans,
     name: Option<Name>,
+    /// What is so of what is proposed from now on.
+    pub is_choice: bool,
+    pub is_guess: bool,
     pub all: Vec<Proposal>,
 }
 
@@ -38,6 +41,8 @@ impl<'a> Draft<'a> {
             source,
             spans,
             name,
+            is_choice: false,
+            is_guess: false,
             all: Vec::new(alloc),
         }
     }
@@ -114,6 +119,8 @@ impl<'a> Draft<'a> {
             len,
             text,
             name: self.name,
+            is_choice: self.is_choice,
+            is_guess: self.is_guess,
         })?;
         Ok(())
     }

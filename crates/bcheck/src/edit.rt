@@ -27,6 +27,10 @@ pub(crate) struct Proposal {
     pub text: Text,
     /// The name that was found fault with.
     pub name: Option<Name>,
+    /// Whether it is for a person to choose it.
+    pub is_choice: bool,
+    /// Whether it mends nothing if something else on its line is wrong.
+    pub is_guess: bool,
 }
 
 /// An edit within a line of a source, and the bytes that are shown before its text and after it.

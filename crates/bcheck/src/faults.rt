@@ -259,6 +259,10 @@ fn syntax_at(alloc: Global, source: &[u8], spans: &Spans, fault: &Fault, around:
             place_of(spans, around.token),
         );
     }
+    let token = place_of(spans, around.token);
+    if syntax::is_after_comments(source, token.start) {
+        return Finding::new(Matter::Syntax(Syntax::CommentEnded), token);
+    }
     if let Some((word, meaning)) = word_at_fault(spans, around) {
         return foreign(spans, around, word, meaning, fault.diagnostic.line);
     }

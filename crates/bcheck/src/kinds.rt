@@ -128,6 +128,11 @@ fn is_type(lexeme: &Lexeme) -> bool {
     }
 }
 
+/// Whether a token compares.
+pub(crate) fn is_comparison(lexeme: &Lexeme) -> bool {
+    Like::Compares.fits(lexeme) || Like::Relates.fits(lexeme)
+}
+
 /// Whether a token is an operand.
 pub(crate) fn is_operand(lexeme: &Lexeme) -> bool {
     matches!(

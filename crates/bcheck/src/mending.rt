@@ -1,6 +1,7 @@
 //! Edits that mend what was found. Each is tried on the source before it is told.
 ghost use Rattle.std.specs.List.{All};
-ghost use Rattle.std.specs.Prelude.{ℕ, List, ◌≡◌, ◌<◌, ◌≤◌, ◌++◌, IfOk, IfSome, IsTrue, OnOk, drop, length, nat_lt, take, vec_items};
+ghost use Rattle.std.specs.Prelude.{ℕ, List, ◌≡◌, ◌<◌, ◌≤◌, ◌++◌, IfOk, IfSome, IsTrue, OnOk};
+ghost use Rattle.std.specs.Prelude.{drop, length, nat_lt, take, vec_items};
 ghost use Rattle.bword.specs.declared.edition.Edition.{Edition};
 ghost use Rattle.bsources.specs.Files.{Files, files_shown};
 ghost use Rattle.bcheck.specs.Checks.{Judged};
@@ -10,6 +11,7 @@ ghost use Rattle.bcheck.specs.UndefinedNames.{told_subjects};
 use crate::advice::Matter;
 use crate::edit::{Edit, Proposal, edit_of};
 use crate::explain::findings;
+use crate::farther::{fault_end, goes_farther};
 use crate::finding::{Finding, MOST_FINDINGS};
 use crate::mention::{Mention, undefined_mentions};
 use crate::places::{Milestone, parts};
@@ -73,7 +75,8 @@ pub(crate) fn tried_edits<'a>(
     Ok(edits)
 }
 
-/// The edit that one of the proposals is, where that one alone mends what was found. Each has to be tried for that.
+/// The edit that one of the proposals is, where that one alone mends what was found, and none is for a person to
+/// choose. Each has to be tried for that.
 pub(crate) fn only_edit<'a>(
     alloc: Global,
     bench: &Bench<'a>,
@@ -87,7 +90,7 @@ pub(crate) fn only_edit<'a>(
         bench.now.source.text.now)) }
 {
     let mut only = None;
-    if proposals.len() > bench.tries() {
+    if proposals.len() > bench.tries() || has_choice(proposals) {
         return Ok(None);
     }
     for index in 0..proposals.len() {
@@ -98,6 +101,15 @@ pub(crate) fn only_edit<'a>(
         only = either(only, found);
     }
     Ok(only)
+}
+
+fn has_choice(proposals: &[Proposal]) -> bool {
+    for proposal in proposals {
+        if proposal.is_choice {
+            return true;
+        }
+    }
+    false
 }
 
 // The first edit, or the other one where there is none.
@@ -149,6 +161,8 @@ fn tried<'a>(
     let new = mended(alloc, source, proposal)?;
     let spot = Spot {
         line: edit.at.line,
+        end: proposal.start.saturating_add(proposal.len),
+        is_guess: proposal.is_guess,
         name: proposal.name,
     };
     if improves(alloc, bench, new.as_slice(), spot)? {
@@ -172,10 +186,13 @@ fn mended(alloc: Global, source: &[u8], proposal: &Proposal) -> Result<Text, All
     Ok(new)
 }
 
-/// The line of an edit, and the name that was found fault with.
+/// The line of an edit, where what it takes out ends, whether it mends nothing if something else there is wrong, and
+/// the name that was found fault with.
 #[derive(Clone, Copy)]
 struct Spot {
     line: u64,
+    end: usize,
+    is_guess: bool,
     name: Option<Name>,
 }
 
@@ -192,9 +209,32 @@ fn improves(alloc: Global, bench: &Bench<'_>, new: &[u8], spot: Spot) -> Result<
     };
     let judgement = judge(alloc, source)?;
     if !surpasses(alloc, &judgement, bench.judgement)? {
-        return Ok(false);
+        return comes_farther(alloc, bench, new, spot);
     }
     is_quiet(alloc, bench, source, &judgement, spot)
+}
+
+// Whether the first fault of a text that an edit made comes later than before, though on the same line.
+fn comes_farther(
+    alloc: Global,
+    bench: &Bench<'_>,
+    new: &[u8],
+    spot: Spot,
+) -> Result<bool, AllocError>
+    requires judged { Judged bench.now.source.edition bench.now.source.text.now bench.now.judgement.now.verdict }
+    ensures { IfOk result (λ is. IsTrue is → Improves bench.now.source.edition bench.now.source.text.now new.now) }
+{
+    if spot.is_guess {
+        return Ok(false);
+    }
+    match &bench.judgement.verdict {
+        Verdict::Faulty(_, _) => {
+            let end = fault_end(bench.source, bench.judgement, bench.findings);
+            goes_farther(alloc, bench.source, new, spot.end.max(end))
+        }
+        Verdict::Clean => Ok(false),
+        Verdict::Unloaded(_) => Ok(false),
+    }
 }
 
 // Whether what was judged is better than what was judged before.
@@ -267,7 +307,7 @@ fn is_quiet(
     let new = found.as_slice();
     Ok(match (&judgement.verdict, &bench.judgement.verdict) {
         (Verdict::Clean, Verdict::Clean) => are_fewer(new, bench.findings),
-        (Verdict::Clean, _) => none_at(new, spot),
+        (Verdict::Clean, _) => none_at(new, spot, bench.findings.first()),
         _ => true,
     })
 }
@@ -291,12 +331,22 @@ fn is_same(one: &Finding, other: &Finding) -> bool {
     one.name == other.name && one.matter.advice().1 == other.matter.advice().1
 }
 
-// Whether no finding stands on the line of an edit, or speaks of its name. That a loop never ends comes of no edit.
-fn none_at(findings: &[Finding], spot: Spot) -> bool {
+// Whether no finding stands on the line of an edit, or speaks of its name. That a loop never ends comes of no edit, nor
+// does a name alone as a statement on another line than what was found.
+fn none_at(findings: &[Finding], spot: Spot, found: Option<&Finding>) -> bool {
     for finding in findings {
         let is_named = finding.name.is_some() && finding.name == spot.name;
-        let is_here = is_named || finding.place.line == spot.line;
-        if is_here && !matches!(finding.matter, Matter::Warning(Warning::EndlessLoop)) {
+        let is_on = finding.place.line == spot.line;
+        let is_own = match found {
+            Some(found) => found.place.line == finding.place.line,
+            None => false,
+        };
+        let is_here = match finding.matter {
+            Matter::Warning(Warning::EndlessLoop) => false,
+            Matter::Warning(Warning::NameAlone) => is_on || is_named && is_own,
+            _ => is_on || is_named,
+        };
+        if is_here {
             return false;
         }
     }

@@ -14,8 +14,9 @@ use std::alloc::{AllocError, Global};
 pub(crate) struct Site {
     /// The token at its place.
     pub token: usize,
-    /// The first token of its definition.
+    /// The first token of its definition, and of the one before that.
     pub first: usize,
+    pub before: usize,
 }
 
 /// The tokens of a source, if edits of it are tried.
@@ -40,15 +41,18 @@ pub(crate) fn proposals(
         return Ok(draft.all);
     }
     let token = token_at(tokens, finding.place.start);
+    let (before, first) = firsts_of(bench.judgement.compiled.ends.as_slice(), token);
     let site = Site {
         token,
-        first: first_of(bench.judgement.compiled.ends.as_slice(), token),
+        first,
+        before,
     };
     match finding.matter {
         Matter::Character(byte) => byte_mends::character(&mut draft, byte, finding.place.start)?,
         Matter::Constant(constant) => byte_mends::constant(&mut draft, constant, token)?,
         Matter::Syntax(syntax) => syntax_mends::of_syntax(&mut draft, site, syntax, finding)?,
         Matter::PrototypeBefore => name_mends::prototype(&mut draft, finding)?,
+        Matter::NameAgain => warning_mends::declared_again(&mut draft, site, finding)?,
         Matter::NotLvalue(lvalue) => name_mends::of_lvalue(&mut draft, site, lvalue, finding)?,
         Matter::Unknown(unknown) => name_mends::of_unknown(&mut draft, site, unknown, finding)?,
         Matter::NotDefined(undefined) => name_mends::of_undefined(
@@ -73,13 +77,14 @@ pub(crate) fn token_at(tokens: &Spans, start: usize) -> usize {
     low
 }
 
-// The first token of the definition that a token belongs to, by the ends of those that were written.
-fn first_of(ends: &[usize], token: usize) -> usize {
-    let mut first = 0;
+// The first tokens of the definition before the one that a token belongs to, and of that one, by the ends of those that
+// were written.
+fn firsts_of(ends: &[usize], token: usize) -> (usize, usize) {
+    let (mut before, mut first) = (0, 0);
     for end in ends {
         if *end <= token {
-            first = *end;
+            (before, first) = (first, *end);
         }
     }
-    first
+    (before, first)
 }

@@ -1,12 +1,14 @@
 //! Edits for names that mean nothing where they are, and for operands without an address.
+use crate::around::opener_of;
 use crate::declared_mends::local;
 use crate::draft::{Draft, Part};
 use crate::finding::Finding;
 use crate::kinds::is_word;
 use crate::mends::{Site, token_at};
-use crate::syntax_mends::{after_brackets, word_here};
+use crate::syntax_mends::{after_brackets, statement_of, word_here};
 use crate::undefined::UndefinedName;
 use crate::unknown::{Lvalue, Unknown};
+use crate::warning_mends::{and_and, bracketed, compares};
 use blang::Keyword;
 use blex::Lexeme;
 use bword::Name;
@@ -32,12 +34,15 @@ pub(crate) fn of_lvalue(
     finding: &Finding,
 ) -> Result<(), AllocError> {
     match (lvalue, finding.name) {
+        (Lvalue::AndAnd, _) => and_and(draft, site.token),
+        (Lvalue::Constant, _) => compares(draft, site.token),
         (Lvalue::Character, _) => stored(draft, site.token),
+        (Lvalue::Call, _) => call_assigned(draft, site),
         (Lvalue::External, Some(name)) => declare(draft, site, Keyword::Extrn, &name),
-        (Lvalue::Label, Some(name)) => declare(draft, site, Keyword::Auto, &name),
+        (Lvalue::Label, Some(name)) => declare_either(draft, site, &name),
         (Lvalue::Near, Some(name)) => {
             near(draft, site.token, &finding.other)?;
-            declare(draft, site, Keyword::Auto, &name)
+            declare_either(draft, site, &name)
         }
         (Lvalue::Typed, _) => match finding.related {
             Some(place) => local(draft, token_at(draft.spans, place.start)),
@@ -63,13 +68,16 @@ pub(crate) fn of_unknown(
             draft.after(site.token, b"()")?;
             declare(draft, site, Keyword::Extrn, &name)
         }
-        Unknown::Foreign(word) => word_here(draft, site.token, word),
+        Unknown::Foreign(word) => {
+            draft.is_guess = true;
+            word_here(draft, site.token, word)
+        }
         Unknown::Near => {
             near(draft, site.token, &finding.other)?;
-            declare(draft, site, Keyword::Auto, &name)
+            declare_either(draft, site, &name)
         }
         Unknown::NoLabel => label(draft, site, &name),
-        Unknown::Other => declare(draft, site, Keyword::Auto, &name),
+        Unknown::Other => declare_either(draft, site, &name),
         _ => Ok(()),
     }
 }
@@ -112,6 +120,21 @@ fn near(draft: &mut Draft<'_>, token: usize, other: &Option<Name>) -> Result<(),
     }
 }
 
+// A word of a vector in the place of a call of it before an assignment, or a comparison in the place of that.
+fn call_assigned(draft: &mut Draft<'_>, site: Site) -> Result<(), AllocError> {
+    let Some(opener) = opener_of(draft.spans, site.token.wrapping_sub(1)) else {
+        return Ok(());
+    };
+    if let Lexeme::Name(name) = draft.at(opener.wrapping_sub(1)) {
+        if let Some(declared) = declared_at(draft, site, &name) {
+            if let Lexeme::Number(_) = draft.at(declared.wrapping_add(1)) {
+                return bracketed(draft, opener);
+            }
+        }
+    }
+    compares(draft, site.token)
+}
+
 // A call of `lchar` in the place of an assignment to a call of `char`, whose `=` this token is.
 fn stored(draft: &mut Draft<'_>, token: usize) -> Result<(), AllocError> {
     let Some(end) = draft.on_line(token, Lexeme::Semicolon) else {
@@ -132,6 +155,70 @@ fn stored(draft: &mut Draft<'_>, token: usize) -> Result<(), AllocError> {
                     Part::Words(b")"),
                 ],
             );
+        }
+    }
+    Ok(())
+}
+
+// A declaration of a name as a word of the function. Where another function names it, too, it is rather an external.
+fn declare_either(draft: &mut Draft<'_>, site: Site, name: &Name) -> Result<(), AllocError> {
+    after_declaration(draft, site, name)?;
+    if is_elsewhere(draft, site, name) {
+        declare(draft, site, Keyword::Extrn, name)?;
+    }
+    declare(draft, site, Keyword::Auto, name)
+}
+
+// Whether another function names a word without calling it, and none has it as a parameter.
+fn is_elsewhere(draft: &Draft<'_>, site: Site, name: &Name) -> bool {
+    let Some(brace) = body_of(draft, site) else {
+        return false;
+    };
+    let end = after_brackets(draft, brace);
+    let mut is_found = false;
+    for token in 0..draft.spans.end() {
+        let is_own = site.first <= token && token < end;
+        if is_own || draft.at(token) != Lexeme::Name(*name) {
+            continue;
+        }
+        if is_parameter(draft, token) {
+            return false;
+        }
+        is_found = is_found || draft.at(token.wrapping_add(1)) != Lexeme::OpenParen;
+    }
+    is_found
+}
+
+// Whether a name is between the parentheses of a function that is defined.
+fn is_parameter(draft: &Draft<'_>, token: usize) -> bool {
+    for back in 1..token {
+        let at = token.saturating_sub(back);
+        match draft.at(at) {
+            Lexeme::Name(_) | Lexeme::Comma => {}
+            Lexeme::OpenParen => {
+                let before = draft.at(at.wrapping_sub(2));
+                let begins = at == 1 || matches!(before, Lexeme::CloseBrace | Lexeme::Semicolon);
+                return begins && draft.at(after_brackets(draft, at)) != Lexeme::Semicolon;
+            }
+            _ => return false,
+        }
+    }
+    false
+}
+
+// A comma before a name that stands alone after a declaration.
+fn after_declaration(draft: &mut Draft<'_>, site: Site, name: &Name) -> Result<(), AllocError> {
+    for token in site.first..site.token.saturating_add(1) {
+        let before = token.wrapping_sub(1);
+        let is_alone = draft.at(token) == Lexeme::Name(*name)
+            && draft.at(before) == Lexeme::Semicolon
+            && matches!(
+                draft.at(token.wrapping_add(1)),
+                Lexeme::Comma | Lexeme::Semicolon
+            )
+            && draft.line(before) == draft.line(token);
+        if is_alone && draft.at(statement_of(draft, before)) == Lexeme::Keyword(Keyword::Auto) {
+            return draft.rename(before, b",");
         }
     }
     Ok(())

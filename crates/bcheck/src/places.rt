@@ -224,8 +224,8 @@ fn ends(lexeme: Option<Lexeme>) -> bool
     matches!(lexeme, Some(Lexeme::Bad(_) | Lexeme::End))
 }
 
-// The number of the line after a text.
-fn line_after(text: &[u8]) -> u64
+/// The number of the line after a text.
+pub(crate) fn line_after(text: &[u8]) -> u64
     ensures { result ≡ line_number_after 1 text.now }
 {
     let mut line: u64 = 1;

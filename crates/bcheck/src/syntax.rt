@@ -31,6 +31,7 @@ pub(crate) enum Syntax {
     EqualsOutside,
     SignOutside,
     BracesOutside,
+    TwoSizes,
     HeadParens,
     CallOutside,
     AutoValue,
@@ -39,6 +40,7 @@ pub(crate) enum Syntax {
     ExtrnList,
     For,
     Do,
+    DoAfter,
     ForEach,
     Then,
     TypeInside,
@@ -53,10 +55,12 @@ pub(crate) enum Syntax {
     SwitchBraces,
     ElseInBraces,
     ElseAlone,
+    ElseCondition,
     OrOr,
     EqualsAfter,
     Arrow,
     QuoteEscaped,
+    QuoteInside,
     NumberName,
     FunctionInside,
     CallBody,
@@ -69,6 +73,13 @@ pub(crate) enum Syntax {
     OperandMissing,
     AssignLeft,
     CommaAlone,
+    TwoAssigned,
+    ListAssigned,
+    Thousands,
+    TwoIndices,
+    ReturnTwo,
+    ParenEarly,
+    CommentEnded,
     ColonMissing,
     Unopened,
     NoStatement,
@@ -112,6 +123,8 @@ impl Syntax {
             Syntax::SignOutside => ("an initial value has no sign", "65535 is -1, and 65536 - x is -x"),
             Syntax::HeadParens => ("a function has parentheses after its name", "main() { .. }"),
             Syntax::BracesOutside => ("the values of a vector come without braces", "v[2] 1, 2, 3;"),
+            Syntax::TwoSizes =>
+                ("a vector has one last index", "v[11]; for 3 rows of 4: v[4 * i + k] is the word k of row i"),
             Syntax::CallOutside =>
                 ("outside of functions only definitions come", "look before it for a } too many, or put it in main"),
             Syntax::AutoValue => ("auto gives no value", "auto i; i = 0;"),
@@ -122,6 +135,7 @@ impl Syntax {
             Syntax::For => ("there is no for: this is taken for a call", "i = 0; while(i < 3) { .. i++; }"),
             Syntax::ForEach => ("there is no for: a while counts", "i = 0; while(i < 3) { .. i++; }"),
             Syntax::Do => ("there is no do", "a label and a goto: L: { .. } if(i < 3) goto L;"),
+            Syntax::DoAfter => ("no do comes here: the body follows the ) of the while", "while(x > 3) { .. }"),
             Syntax::Then => ("there is no then", "if(x) f(); else g();"),
             Syntax::TypeInside => ("there are no types", "auto i;"),
             Syntax::CaseSign => ("a case has a number without a sign", "case 65535: is the case of -1"),
@@ -139,16 +153,20 @@ impl Syntax {
             Syntax::ElseInBraces => ("this else has no if: the { of line % is open", "write a } before the else"),
             Syntax::ElseAlone =>
                 ("no if ends right before this else", "between if(x) and else is one statement: put { } around more"),
+            Syntax::ElseCondition => ("an else has no condition of its own", "else if(x > 3) .."),
             Syntax::OrOr => ("there is no operator ||", "a ? 1 : b"),
             Syntax::EqualsAfter => ("the = of an assignment comes first", "x =+ 2; and not x += 2;"),
             Syntax::Arrow => ("there are no structures, and no ->", "a vector has its parts by numbers: p[0], p[1]"),
             Syntax::QuoteEscaped =>
                 ("the string before this ends at its second quote", "write *\" for a quote in a string, and not \\\""),
+            Syntax::QuoteInside =>
+                ("the string before this ends at its second quote", "write *\" for a quote in a string"),
             Syntax::NumberName => ("a number has only digits", "31, or 037 to the base 8; there is no 0x1F"),
             Syntax::FunctionInside =>
                 ("a function begins here, and the { of line % is open",
                  "write the } that is missing before the function"),
-            Syntax::CallBody => ("a call has no { } after it", "look at the word before the ( for another spelling"),
+            Syntax::CallBody =>
+                ("a call has no { } after it", "look for another spelling before the (; no function is within another"),
             Syntax::HeadColon =>
                 ("no : comes here: braces are around several statements", "if(x) { .. } else { .. }"),
             Syntax::Prototype => ("there are no prototypes: a call needs none", "take it out"),
@@ -162,6 +180,16 @@ impl Syntax {
                 ("more than one operand is before this assignment", "== compares; or put ( ) around the assignment"),
             Syntax::CommaAlone =>
                 ("a comma is only between arguments and between names", "two statements have a ; between them"),
+            Syntax::TwoAssigned => ("an assignment has one word before its =", "t = a; a = b; b = t; swaps a and b"),
+            Syntax::ListAssigned => ("no assignment sets several words", "v[0] = 1; v[1] = 2;"),
+            Syntax::Thousands => ("a number has no comma in it", "1000 and not 1,000"),
+            Syntax::TwoIndices => ("an index is one value", "v[4 * i + k] is the word k of row i, in rows of 4"),
+            Syntax::ReturnTwo =>
+                ("a return has one value", "return(a); *p = b; hands a second one over, at an address p"),
+            Syntax::ParenEarly => ("this ) ends the arguments, and more come", "take it out"),
+            Syntax::CommentEnded =>
+                ("the comment before this ended at its first */",
+                 "no comment is within another: take the inner one out"),
             Syntax::ColonMissing => ("a ? has a : after it", "x ? 1 : 2"),
             Syntax::Unopened =>
                 ("no bracket is open that this closes", "take it out, or write the one that is missing before it"),
@@ -200,6 +228,18 @@ enum If {
     For,
     /// A `;` comes after the parameters.
     Prototype,
+    /// The parenthesis that ends before is the one after an `else`.
+    Else,
+    /// The token before is the statement's first one, and a `=` comes after the next one.
+    Assigned,
+    /// Nothing is between the token and those around it.
+    Tight,
+    /// A `]` is open, and comes after the next token.
+    Indexed,
+    /// The parenthesis that is open is the one after a `return`.
+    Returned,
+    /// No parenthesis is open that the next `)` of the statement closes.
+    Unopened,
 }
 
 /// Which token is marked.
@@ -294,7 +334,7 @@ const BEGINNINGS: [Mistake; 10] = [
 
 /// Externals and the parameters of a function.
 #[rattlefmt::skip]
-const OUTSIDE: [Mistake; 16] = [
+const OUTSIDE: [Mistake; 18] = [
     Mistake(EXTERNAL, If::Prototype, [Like::Type, ANY, Like::Name, OPEN_PAREN, ANY], Syntax::Prototype, Marking::First),
     Mistake(HEADER, If::Prototype, [ANY, ANY, Like::Type, Like::Name, ANY], Syntax::Prototype, Marking::Before),
     Mistake(EXTERNAL, If::Always, [Like::Type, ANY, ANY, ANY, ANY], Syntax::TypeFirst, Marking::First),
@@ -305,9 +345,11 @@ const OUTSIDE: [Mistake; 16] = [
     Mistake(EXTERNAL, If::Always, [ANY, ANY, Like::Name, OPEN_PAREN, ANY], Syntax::TypeFirst, Marking::First),
     Mistake(EXTERNAL, If::Always, [ANY, ANY, ANY, Like::Assigns, ANY], Syntax::EqualsOutside, Marking::Here),
     Mistake(EXTERNAL, If::Always, [ANY, ANY, ANY, SUB, ANY], Syntax::SignOutside, Marking::Here),
+    Mistake(EXTERNAL, If::Always, [ANY, ANY, CLOSE_BRACKET, OPEN_BRACKET, ANY], Syntax::TwoSizes, Marking::Here),
     Mistake(EXTERNAL, If::Second, [ANY, ANY, Like::Name, OPEN_BRACE, ANY], Syntax::HeadParens, Marking::Here),
     Mistake(EXTERNAL, If::Always, [ANY, ANY, ANY, OPEN_BRACE, ANY], Syntax::BracesOutside, Marking::Here),
     Mistake(HEADER, If::Always, [ANY, ANY, Like::Name, Like::Name, ANY], Syntax::TypeParameter, Marking::Before),
+    Mistake(HEADER, If::Always, [ANY, ANY, ANY, Like::Keyword, ANY], Syntax::TypeParameter, Marking::Here),
     Mistake(HEADER, If::Always, [ANY, ANY, Like::Name, OPEN_BRACKET, ANY], Syntax::VectorParameter, Marking::Here),
     Mistake(HEADER, If::Always, [ANY, ANY, ANY, Like::Constant, ANY], Syntax::CallOutside, Marking::Here),
     Mistake(HEADER, If::Always, [ANY, ANY, ANY, STRING, ANY], Syntax::CallOutside, Marking::Here),
@@ -328,9 +370,10 @@ const DECLARATIONS: [Mistake; 7] = [
 
 /// Words, with what has to come after them.
 #[rattlefmt::skip]
-const WORDS: [Mistake; 16] = [
+const WORDS: [Mistake; 17] = [
     Mistake(BODY, If::For, [ANY, ANY, ANY, ANY, ANY], Syntax::For, Marking::Head),
     Mistake(BODY, If::Always, [ANY, ANY, Like::Word("for"), Like::Name, ANY], Syntax::ForEach, Marking::Before),
+    Mistake(BODY, If::Always, [ANY, CLOSE_PAREN, Like::Word("do"), ANY, ANY], Syntax::DoAfter, Marking::Before),
     Mistake(BODY, If::Always, [ANY, ANY, Like::Word("do"), ANY, ANY], Syntax::Do, Marking::Before),
     Mistake(BODY, If::Always, [ANY, ANY, Like::Word("then"), ANY, ANY], Syntax::Then, Marking::Before),
     Mistake(BODY, If::Prototype, [ANY, ANY, Like::Type, Like::Name, OPEN_PAREN], Syntax::Prototype,
@@ -350,7 +393,7 @@ const WORDS: [Mistake; 16] = [
 
 /// Operators and operands, and brackets around them.
 #[rattlefmt::skip]
-const OPERANDS: [Mistake; 20] = [
+const OPERANDS: [Mistake; 23] = [
     Mistake(BODY, If::Always, [ANY, ANY, OR, OR, ANY], Syntax::OrOr, Marking::Here),
     Mistake(BODY, If::Always, [IF_WHILE, ANY, CLOSE_PAREN, COLON, ANY], Syntax::HeadColon, Marking::Here),
     Mistake(BODY, If::Always, [ELSE, ANY, CLOSE_PAREN, COLON, ANY], Syntax::HeadColon, Marking::Here),
@@ -363,6 +406,7 @@ const OPERANDS: [Mistake; 20] = [
     Mistake(BODY, If::Always, [ANY, ANY, Like::Operator, Like::Assigns, ANY], Syntax::EqualsAfter, Marking::Here),
     Mistake(BODY, If::Joined, [ANY, ANY, SUB, GT, ANY], Syntax::Arrow, Marking::Before),
     Mistake(BODY, If::Backslash, [ANY, ANY, STRING, ANY, ANY], Syntax::QuoteEscaped, Marking::Here),
+    Mistake(BODY, If::Joined, [ANY, ANY, STRING, Like::Name, ANY], Syntax::QuoteInside, Marking::Here),
     Mistake(BODY, If::Joined, [ANY, ANY, Like::Constant, Like::Name, ANY], Syntax::NumberName, Marking::Here),
     Mistake(BODY, If::Always, [ANY, ANY, Like::Waits, Like::Closes, ANY], Syntax::OperandMissing, Marking::Here),
     Mistake(BODY, If::Always, [ANY, ANY, Like::Waits, Like::Operator, ANY], Syntax::OperandMissing, Marking::Here),
@@ -370,16 +414,19 @@ const OPERANDS: [Mistake; 20] = [
     Mistake(BODY, If::Always, [ANY, ANY, Like::Waits, Like::Keyword, ANY], Syntax::OperandMissing, Marking::Here),
     Mistake(BODY, If::ParenOpen, [ANY, ANY, Like::Ended, OPEN_BRACE, ANY], Syntax::ParenOpen, Marking::Here),
     Mistake(BODY, If::Asked, [ANY, ANY, Like::Ended, Like::Closes, ANY], Syntax::ColonMissing, Marking::Here),
+    Mistake(BODY, If::Indexed, [ANY, ANY, Like::Ended, COMMA, Like::Operand], Syntax::TwoIndices, Marking::Here),
+    Mistake(BODY, If::Returned, [ANY, ANY, Like::Ended, COMMA, ANY], Syntax::ReturnTwo, Marking::Here),
     Mistake(BODY, If::ParenOpen, [ANY, ANY, Like::Ended, Like::Closes, ANY], Syntax::ParenOpen, Marking::Here),
 ];
 
 /// Statements that begin or end at the wrong place.
 #[rattlefmt::skip]
-const STATEMENTS: [Mistake; 6] = [
+const STATEMENTS: [Mistake; 7] = [
     Mistake(BODY, If::ParenOpen, [ANY, ANY, Like::Ended, Like::Keyword, ANY], Syntax::ParenOpen, Marking::Here),
     Mistake(BODY, If::Always, [SWITCH, ANY, Like::Ended, ANY, ANY], Syntax::SwitchBraces, Marking::Here),
     Mistake(BODY, If::IfBrace, [ANY, ANY, STATEMENT_END, ELSE, ANY], Syntax::ElseInBraces, Marking::Here),
     Mistake(BODY, If::Always, [ANY, ANY, STATEMENT_END, ELSE, ANY], Syntax::ElseAlone, Marking::Here),
+    Mistake(BODY, If::Else, [ANY, ANY, CLOSE_PAREN, ANY, ANY], Syntax::ElseCondition, Marking::Here),
     Mistake(BODY, If::LineStart, [Like::Name, ANY, CLOSE_PAREN, OPEN_BRACE, ANY], Syntax::FunctionInside,
         Marking::First),
     Mistake(BODY, If::Always, [Like::Name, ANY, CLOSE_PAREN, OPEN_BRACE, ANY], Syntax::CallBody, Marking::First),
@@ -387,8 +434,13 @@ const STATEMENTS: [Mistake; 6] = [
 
 /// The rest, where what comes after an operand is no part of its expression.
 #[rattlefmt::skip]
-const REST: [Mistake; 10] = [
+const REST: [Mistake; 14] = [
     Mistake(BODY, If::Always, [ANY, ANY, ANY, Like::Assigns, ANY], Syntax::AssignLeft, Marking::Here),
+    Mistake(BODY, If::Assigned, [ANY, ANY, Like::Name, COMMA, Like::Name], Syntax::TwoAssigned, Marking::Here),
+    Mistake(BODY, If::Unopened, [ANY, ANY, CLOSE_PAREN, COMMA, ANY], Syntax::ParenEarly, Marking::Before),
+    Mistake(BODY, If::Tight, [ANY, ANY, Like::Constant, COMMA, Like::Constant], Syntax::Thousands, Marking::Here),
+    Mistake(BODY, If::Always, [Like::Name, ANY, Like::Constant, COMMA, Like::Constant], Syntax::ListAssigned,
+        Marking::Here),
     Mistake(BODY, If::Always, [ANY, ANY, ANY, COMMA, ANY], Syntax::CommaAlone, Marking::Here),
     Mistake(BODY, If::Always, [ANY, ANY, ANY, CLOSE_BRACKETS, ANY], Syntax::Unopened, Marking::Here),
     Mistake(BODY, If::Always, [ANY, ANY, SEMICOLON_COLON, CLOSE_BRACE, ANY], Syntax::NoStatement, Marking::Here),
@@ -501,6 +553,15 @@ fn holds(condition: If, source: &[u8], spans: &Spans, around: &Around) -> bool {
         If::IfBrace => around.is_in(spans, Lexeme::OpenBrace) && is_after_if(spans, around.head()),
         If::For => around.is_call_of(spans, "for"),
         If::Prototype => is_prototype(spans, around.token),
+        If::Else => is_after_else(spans, before),
+        If::Tight => is_joined(spans, before) && is_joined(spans, around.token),
+        If::Indexed => around.is_in(spans, Lexeme::OpenBracket)
+            && CLOSE_BRACKET.fits(&lexeme_at(spans, around.token.wrapping_add(2))),
+        If::Returned => around.is_in(spans, Lexeme::OpenParen)
+            && RETURN.fits(&lexeme_at(spans, around.head())),
+        If::Unopened => is_unopened(spans, around.token),
+        If::Assigned => around.own == before
+            && EQUALS.fits(&lexeme_at(spans, around.token.wrapping_add(2))),
     }
 }
 
@@ -520,6 +581,75 @@ fn is_after_if(spans: &Spans, closer: usize) -> bool {
         opener_of(spans, closer),
         Some(opener) if IF.fits(&lexeme_at(spans, opener.wrapping_sub(1)))
     )
+}
+
+// Whether a token is the `)` of a parenthesis right after an `else`.
+fn is_after_else(spans: &Spans, closer: usize) -> bool {
+    matches!(
+        opener_of(spans, closer),
+        Some(opener) if ELSE.fits(&lexeme_at(spans, opener.wrapping_sub(1)))
+    )
+}
+
+// Whether a `)` that no parenthesis from a token on opens comes before a `;`.
+fn is_unopened(spans: &Spans, token: usize) -> bool {
+    let mut depth: u64 = 0;
+    for at in token..spans.end() {
+        match lexeme_at(spans, at) {
+            Lexeme::OpenParen => depth = depth.saturating_add(1),
+            Lexeme::CloseParen if depth == 0 => return true,
+            Lexeme::CloseParen => depth = depth.saturating_sub(1),
+            Lexeme::Semicolon | Lexeme::OpenBrace | Lexeme::CloseBrace => return false,
+            _ => {}
+        }
+    }
+    false
+}
+
+/// Whether a comment ends before a place on its line that has the beginning of another one in it, and the end of one
+/// comes after the place.
+pub(crate) fn is_after_comments(source: &[u8], place: usize) -> bool {
+    is_before_end(source, place) && is_after_two(source, place)
+}
+
+// Whether the end of a comment comes after a place, and no beginning before it.
+fn is_before_end(source: &[u8], place: usize) -> bool {
+    for at in place..source.len() {
+        match (source.get(at), source.get(at.saturating_add(1))) {
+            (Some(b'*'), Some(b'/')) => return true,
+            (Some(b'/'), Some(b'*')) => return false,
+            _ => {}
+        }
+    }
+    false
+}
+
+fn is_after_two(source: &[u8], place: usize) -> bool {
+    let mut end = None;
+    for back in 2..place.saturating_add(1) {
+        let at = place.saturating_sub(back);
+        match (source.get(at), source.get(at.saturating_add(1)), end) {
+            (Some(b'*'), Some(b'/'), None) => end = Some(at),
+            (Some(b'*'), Some(b'/'), Some(_)) => return false,
+            (Some(b'/'), Some(b'*'), Some(_)) => return has_another(source, at),
+            (Some(b'\n'), _, None) => return false,
+            _ => {}
+        }
+    }
+    false
+}
+
+// Whether another comment begins before one on the same line, or before its end on the lines above.
+fn has_another(source: &[u8], place: usize) -> bool {
+    for back in 2..place.saturating_add(1) {
+        let at = place.saturating_sub(back);
+        match (source.get(at), source.get(at.saturating_add(1))) {
+            (Some(b'*'), Some(b'/')) => return false,
+            (Some(b'/'), Some(b'*')) => return true,
+            _ => {}
+        }
+    }
+    false
 }
 
 fn is_line_start(source: &[u8], spans: &Spans, token: usize) -> bool {

@@ -1,11 +1,13 @@
 //! Edits for a token with which no program goes on.
+use crate::around::opener_of;
 use crate::byte_mends::remark;
 use crate::declared_mends::{definition, head, local, names_alone};
 use crate::draft::{Draft, Part};
 use crate::finding::Finding;
 use crate::foreign::Foreign;
-use crate::kinds::{Like, closes_bracket, is_ended, is_word, opens_bracket};
-use crate::mends::Site;
+use crate::kinds::{closes_bracket, is_comparison, is_operand, is_word, opens_bracket};
+use crate::logic_mends::{Logic, mend_logic};
+use crate::mends::{Site, token_at};
 use crate::name_mends::body_of;
 use crate::syntax::Syntax;
 use crate::warning_mends::as_character;
@@ -21,10 +23,25 @@ pub(crate) fn of_syntax(
     syntax: Syntax,
     finding: &Finding,
 ) -> Result<(), AllocError> {
+    draft.is_guess = is_guess(syntax);
     of_braces(draft, site, syntax, finding)?;
+    of_words(draft, site, syntax, finding)?;
     of_definition(draft, site, syntax)?;
     of_statement(draft, site, syntax)?;
     of_expression(draft, site, syntax)
+}
+
+// Whether what is missing or too much might be another thing than what is proposed.
+fn is_guess(syntax: Syntax) -> bool {
+    matches!(
+        syntax,
+        Syntax::CallParens
+            | Syntax::CommaAlone
+            | Syntax::OperandMissing
+            | Syntax::ParenOpen
+            | Syntax::TwoOperands
+            | Syntax::Unopened
+    )
 }
 
 // What stands outside of functions, and in the heads of functions.
@@ -43,6 +60,7 @@ fn of_definition(draft: &mut Draft<'_>, site: Site, syntax: Syntax) -> Result<()
             draft, first,
         ),
         Syntax::Prototype => prototype_out(draft, site),
+        Syntax::CallOutside | Syntax::StatementOutside => brace_before(draft, site),
         Syntax::NameMissing if draft.at(token) == Lexeme::OpenBrace => {
             let before = token.wrapping_sub(1);
             draft.put(draft.start(before), draft.end(before), &[])
@@ -82,6 +100,36 @@ fn of_braces(
     }
 }
 
+// A word of another language, which is the second place where it stands on another line.
+fn of_words(
+    draft: &mut Draft<'_>,
+    site: Site,
+    syntax: Syntax,
+    finding: &Finding,
+) -> Result<(), AllocError> {
+    let Syntax::Foreign(word) = syntax else {
+        return Ok(());
+    };
+    let token = match finding.related {
+        Some(place) => token_at(draft.spans, place.start),
+        None => site.token,
+    };
+    foreign(draft, site.first, token, word)
+}
+
+// A brace after the head of the function before, which has none.
+fn brace_before(draft: &mut Draft<'_>, site: Site) -> Result<(), AllocError> {
+    let opener = site.before.saturating_add(1);
+    let body = after_brackets(draft, opener);
+    if site.before == site.first
+        || draft.at(opener) != Lexeme::OpenParen
+        || draft.at(body) == Lexeme::OpenBrace
+    {
+        return Ok(());
+    }
+    draft.after(body.wrapping_sub(1), b" {")
+}
+
 // What begins and ends statements, and what stands between them.
 fn of_statement(draft: &mut Draft<'_>, site: Site, syntax: Syntax) -> Result<(), AllocError> {
     let token = site.token;
@@ -111,8 +159,12 @@ fn of_statement(draft: &mut Draft<'_>, site: Site, syntax: Syntax) -> Result<(),
         Syntax::ElseAlone => else_alone(draft, before),
         Syntax::HeadColon => draft.remove(token, token),
         Syntax::CallBody => call_body(draft, token),
-        Syntax::CommaAlone if !is_headed(draft, token) => draft.rename(token, b";"),
-        Syntax::Foreign(word) => foreign(draft, site, word),
+        Syntax::CommaAlone if is_between_statements(draft, token) => draft.rename(token, b";"),
+        Syntax::Thousands | Syntax::ParenEarly => {
+            draft.put(draft.start(token), draft.end(token), &[])
+        }
+        Syntax::DoAfter => draft.remove(token, token),
+        Syntax::ElseCondition => else_if(draft, before),
         _ => Ok(()),
     }
 }
@@ -124,18 +176,23 @@ fn of_expression(draft: &mut Draft<'_>, site: Site, syntax: Syntax) -> Result<()
     let next = token.wrapping_add(1);
     match syntax {
         Syntax::ParenOpen => closing(draft, token),
-        Syntax::OrOr => or_or(draft, token),
+        Syntax::OrOr => mend_logic(draft, Logic::Or, before, token),
         Syntax::EqualsAfter => draft.replace(
             before,
             token,
             &[Part::Words(b"="), Part::Tokens(before, before)],
         ),
         Syntax::QuoteEscaped => quotes(draft, before),
+        Syntax::QuoteInside => quotes_inside(draft, token),
         Syntax::NumberName => number(draft, token),
         Syntax::CompareSigns => compared(draft, token),
         Syntax::LessGreater => draft.replace(token, next, &[Part::Words(b"!=")]),
         Syntax::ColonEquals => draft.replace(token, next, &[Part::Words(b"=")]),
         Syntax::OperandMissing if draft.at(before) == Lexeme::Comma => draft.remove(before, before),
+        Syntax::OperandMissing if is_comparison(&draft.at(token)) => compared_again(draft, token),
+        Syntax::OperandMissing if are_equals(draft, before, token) => {
+            draft.replace(before, token, &[Part::Words(b"==")])
+        }
         Syntax::OperandMissing if draft.at(before) == Lexeme::OpenBracket => {
             draft.replace(before, token, &[])
         }
@@ -198,8 +255,34 @@ fn is_headed(draft: &Draft<'_>, token: usize) -> bool {
     )
 }
 
-// The first token of the statement of a token, where braces and a `;` are before it.
-fn statement_of(draft: &Draft<'_>, token: usize) -> usize {
+// Whether a comma stands between what may be two statements.
+fn is_between_statements(draft: &Draft<'_>, comma: usize) -> bool {
+    let next = comma.wrapping_add(1);
+    let begins = is_name(&draft.at(next)) && does_something(&draft.at(next.wrapping_add(1)));
+    if is_headed(draft, comma) || !begins {
+        return false;
+    }
+    for token in statement_of(draft, comma)..comma {
+        if does_something(&draft.at(token)) {
+            return true;
+        }
+    }
+    false
+}
+
+fn is_name(lexeme: &Lexeme) -> bool {
+    matches!(lexeme, Lexeme::Name(_))
+}
+
+fn does_something(lexeme: &Lexeme) -> bool {
+    matches!(
+        lexeme,
+        Lexeme::Assign(_) | Lexeme::Increment | Lexeme::Decrement | Lexeme::OpenParen
+    )
+}
+
+/// The first token of the statement of a token, where braces and a `;` are before it.
+pub(crate) fn statement_of(draft: &Draft<'_>, token: usize) -> usize {
     for back in 0..token {
         let at = token.saturating_sub(back).saturating_sub(1);
         if matches!(
@@ -348,6 +431,14 @@ fn else_alone(draft: &mut Draft<'_>, before: usize) -> Result<(), AllocError> {
     }
 }
 
+// An `if` after the `else` before a condition that ends with this token.
+fn else_if(draft: &mut Draft<'_>, closer: usize) -> Result<(), AllocError> {
+    match opener_of(draft.spans, closer) {
+        Some(opener) => draft.after(opener.wrapping_sub(1), b" if"),
+        None => Ok(()),
+    }
+}
+
 // A keyword that is spelt almost like what is called.
 fn call_body(draft: &mut Draft<'_>, token: usize) -> Result<(), AllocError> {
     let Lexeme::Name(name) = draft.at(token) else {
@@ -361,32 +452,6 @@ fn call_body(draft: &mut Draft<'_>, token: usize) -> Result<(), AllocError> {
         "Switch" | "swich" | "swtich" | "siwtch" | "switc" => draft.rename(token, b"switch"),
         _ => Ok(()),
     }
-}
-
-// One `|` in the place of two, where nothing is done twice or not at all by that.
-fn or_or(draft: &mut Draft<'_>, token: usize) -> Result<(), AllocError> {
-    if has_no_effect_after(draft, token.wrapping_add(1)) {
-        draft.replace(token.wrapping_sub(1), token, &[Part::Words(b"|")])
-    } else {
-        Ok(())
-    }
-}
-
-/// Whether what comes up to the end of the brackets or of the statement does nothing and reads through no address.
-pub(crate) fn has_no_effect_after(draft: &Draft<'_>, from: usize) -> bool {
-    for token in from..draft.spans.end() {
-        match draft.at(token) {
-            Lexeme::CloseParen | Lexeme::Semicolon | Lexeme::End | Lexeme::OpenBrace => return true,
-            Lexeme::OpenParen
-            | Lexeme::OpenBracket
-            | Lexeme::Assign(_)
-            | Lexeme::Increment
-            | Lexeme::Decrement
-            | Lexeme::Operator(BinOp::Mul | BinOp::Div | BinOp::Rem) => return false,
-            _ => {}
-        }
-    }
-    true
 }
 
 // A star in the place of each backslash before a quote, in the rest of the line from a string on.
@@ -410,20 +475,67 @@ fn quotes(draft: &mut Draft<'_>, token: usize) -> Result<(), AllocError> {
     draft.put_text(start, end, text)
 }
 
-// The digits of a hexadecimal number, whose name begins with `x`, to the base 10; or a number without a letter after it.
+// A star before each quote around a token, up to the next string on its line.
+fn quotes_inside(draft: &mut Draft<'_>, token: usize) -> Result<(), AllocError> {
+    let Some(string) = draft.on_line(token, Lexeme::String) else {
+        return Ok(());
+    };
+    let last = string.wrapping_sub(1);
+    draft.put(
+        draft.start(token).saturating_sub(1),
+        draft.start(string).saturating_add(1),
+        &[
+            Part::Words(b"*\""),
+            Part::Tokens(token, last),
+            Part::Words(b"*\""),
+        ],
+    )
+}
+
+// The name that the comparison before an operator compares, before the sign that comes after that.
+fn compared_again(draft: &mut Draft<'_>, token: usize) -> Result<(), AllocError> {
+    let name = token.wrapping_sub(4);
+    let is_compared = is_name(&draft.at(name))
+        && is_comparison(&draft.at(name.wrapping_add(1)))
+        && is_operand(&draft.at(name.wrapping_add(2)));
+    if !is_compared {
+        return Ok(());
+    }
+    let start = draft.start(token);
+    draft.put(start, start, &[Part::Tokens(name, name), Part::Words(b" ")])
+}
+
+// The digits of a hexadecimal number, whose name begins with `x`, to the base 10; a number without a letter after it;
+// or a product with a name that stands before, too.
 fn number(draft: &mut Draft<'_>, token: usize) -> Result<(), AllocError> {
     let before = token.wrapping_sub(1);
     let Lexeme::Name(name) = draft.at(token) else {
         return Ok(());
     };
     match name.as_bytes() {
-        [b'x' | b'X', digits @ ..] => match hexadecimal(digits) {
-            Some(number) => draft.replace(before, token, &[Part::Number(number)]),
-            None => Ok(()),
-        },
+        [b'x' | b'X', digits @ ..] if draft.at(before) == Lexeme::Number(0) => {
+            match hexadecimal(digits) {
+                Some(number) => draft.replace(before, token, &[Part::Number(number)]),
+                None => Ok(()),
+            }
+        }
         [b'L' | b'l' | b'u' | b'U'] => draft.put(draft.start(token), draft.end(token), &[]),
+        _ if is_named_before(draft, token) => draft.after(before, b" * "),
         _ => Ok(()),
     }
+}
+
+fn are_equals(draft: &Draft<'_>, one: usize, other: usize) -> bool {
+    draft.at(one) == Lexeme::Assign(None) && draft.at(other) == Lexeme::Assign(None)
+}
+
+fn is_named_before(draft: &Draft<'_>, token: usize) -> bool {
+    for at in 0..token {
+        if draft.at(at) == draft.at(token) {
+            return true;
+        }
+    }
+    false
 }
 
 fn hexadecimal(digits: &[u8]) -> Option<u64> {
@@ -458,9 +570,13 @@ fn compared(draft: &mut Draft<'_>, token: usize) -> Result<(), AllocError> {
 }
 
 // What stands here for a word of another language.
-fn foreign(draft: &mut Draft<'_>, site: Site, word: Foreign) -> Result<(), AllocError> {
-    let token = site.token;
-    let is_outside = token == site.first;
+fn foreign(
+    draft: &mut Draft<'_>,
+    first: usize,
+    token: usize,
+    word: Foreign,
+) -> Result<(), AllocError> {
+    let is_outside = token == first;
     match word {
         Foreign::Function => draft.remove(token, token),
         Foreign::Declares if is_outside => definition(draft, token),
@@ -480,10 +596,8 @@ pub(crate) fn word_here(
         return Ok(());
     };
     match (word, name.as_str()) {
-        (Foreign::And, _) if compares_around(draft, token, token) => draft.rename(token, b"&"),
-        (Foreign::Or, _) if has_no_effect_after(draft, token.wrapping_add(1)) => {
-            draft.rename(token, b"|")
-        }
+        (Foreign::And, _) => mend_logic(draft, Logic::And, token, token),
+        (Foreign::Or, _) => mend_logic(draft, Logic::Or, token, token),
         (Foreign::Not, _) => draft.rename(token, b"!"),
         (Foreign::Truth, "True" | "true" | "TRUE") => draft.rename(token, b"1"),
         (Foreign::Truth | Foreign::Nothing, _) => draft.rename(token, b"0"),
@@ -493,55 +607,4 @@ pub(crate) fn word_here(
         (Foreign::ElseIf, _) => draft.rename(token, b"else if"),
         _ => Ok(()),
     }
-}
-
-/// Whether a comparison is on both sides of an operator of these tokens, up to brackets and other such operators.
-pub(crate) fn compares_around(draft: &Draft<'_>, first: usize, last: usize) -> bool {
-    compares_before(draft, first) && compares_after(draft, last)
-}
-
-fn compares_before(draft: &Draft<'_>, first: usize) -> bool {
-    for back in 1..first {
-        let lexeme = draft.at(first.saturating_sub(back));
-        if is_comparison(&lexeme) {
-            return true;
-        }
-        if ends_operand(&lexeme) {
-            return false;
-        }
-    }
-    false
-}
-
-fn compares_after(draft: &Draft<'_>, last: usize) -> bool {
-    for token in last.saturating_add(1)..draft.spans.end() {
-        let lexeme = draft.at(token);
-        if is_comparison(&lexeme) {
-            return true;
-        }
-        if ends_operand(&lexeme) {
-            return false;
-        }
-    }
-    false
-}
-
-fn is_comparison(lexeme: &Lexeme) -> bool {
-    Like::Compares.fits(lexeme) || Like::Relates.fits(lexeme)
-}
-
-// Whether no comparison goes on over a token.
-fn ends_operand(lexeme: &Lexeme) -> bool {
-    matches!(
-        lexeme,
-        Lexeme::Operator(BinOp::And | BinOp::Or)
-            | Lexeme::Semicolon
-            | Lexeme::Comma
-            | Lexeme::OpenBrace
-            | Lexeme::CloseBrace
-            | Lexeme::Assign(_)
-            | Lexeme::Keyword(Keyword::If | Keyword::While | Keyword::Return)
-            | Lexeme::Bad(_)
-            | Lexeme::End
-    ) || !is_ended(lexeme) && matches!(lexeme, Lexeme::Question | Lexeme::Colon)
 }

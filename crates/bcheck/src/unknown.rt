@@ -63,6 +63,8 @@ impl Unknown {
 /// An operand without an address.
 #[derive(Clone, Copy)]
 pub(crate) enum Lvalue {
+    AndAnd,
+    Constant,
     Character,
     Call,
     External,
@@ -80,6 +82,8 @@ impl Lvalue {
         ensures { IsTrue (list_all is_on_line (result.0.now ∷ result.1.now ∷ [])) }
     {
         match self {
+            Lvalue::AndAnd => ("there is no operator &&: this & takes an address", "a ? b : 0"),
+            Lvalue::Constant => ("= assigns, and a constant has no address", "== compares: if(5 == x)"),
             Lvalue::Character => ("char gives a character, which has no address", "lchar(s, 0, 'x'); stores one"),
             Lvalue::Call => ("the value of a call has no address", "take a name, x[i] or *x as the operand"),
             Lvalue::External => ("@ is an external of line %, not declared here", "extrn @; before it"),
@@ -255,10 +259,20 @@ pub(crate) fn without_address(
     }
 }
 
+// What is found at an operator whose operand is no name alone. The second sign of `&&` is one.
 fn at_operator(spans: &Spans, operator: usize, what: Lvalue) -> Finding
     ensures { matter_code result.matter ≡ codes "lv" }
 {
-    Finding::new(Matter::NotLvalue(what), place_of(spans, operator))
+    let and = Lexeme::Operator(BinOp::And);
+    let is_twice = lexeme_at(spans, operator) == and
+        && lexeme_at(spans, operator.wrapping_sub(1)) == and;
+    let assigns = Like::Assigns.fits(&lexeme_at(spans, operator));
+    let found = match what {
+        _ if is_twice => Lvalue::AndAnd,
+        Lvalue::Constant if !assigns => Lvalue::Other,
+        what => what,
+    };
+    Finding::new(Matter::NotLvalue(found), place_of(spans, operator))
 }
 
 // Where a name stands before a token after a type of C and a `*`.
@@ -290,7 +304,11 @@ fn operand_of(spans: &Spans, operator: usize) -> usize {
 
 // What an operand is whose last token is this one.
 fn ended_by(spans: &Spans, last: usize) -> Lvalue {
-    if lexeme_at(spans, last) != Lexeme::CloseParen {
+    let lexeme = lexeme_at(spans, last);
+    if Like::Constant.fits(&lexeme) {
+        return Lvalue::Constant;
+    }
+    if lexeme != Lexeme::CloseParen {
         return Lvalue::Other;
     }
     match opener_of(spans, last) {

@@ -2,11 +2,12 @@
 use crate::byte_mends::escapes;
 use crate::draft::{Draft, Part};
 use crate::finding::Finding;
-use crate::kinds::{Like, is_operand, is_word};
-use crate::mends::Site;
-use crate::name_mends::declared_at;
+use crate::kinds::{is_comparison, is_operand, is_word};
+use crate::logic_mends::{Logic, mend_logic};
+use crate::mends::{Site, token_at};
+use crate::name_mends::{body_of, declared_at};
 use crate::near::library_arguments;
-use crate::syntax_mends::{after_brackets, compares_around, opener_before};
+use crate::syntax_mends::{after_brackets, opener_before};
 use blang::Keyword;
 use blex::Lexeme;
 use blint::Warning;
@@ -59,7 +60,12 @@ fn of_operands(
         Warning::InputEnd => end_for_minus_one(draft, token),
         Warning::StringForCharacter => as_character(draft, token),
         Warning::Backslash => escapes(draft, token),
+        Warning::LibraryArguments if is_word(&draft.at(token), "getchar") => read_into(
+            draft, token,
+        ),
         Warning::LibraryArguments => base_ten(draft, token),
+        Warning::SwappedArguments => swap_with_next(draft, token),
+        Warning::VectorCalled => bracketed(draft, token.wrapping_add(1)),
         Warning::PastVector => whole_vector(draft, token),
         Warning::Unset => unset(draft, site, finding),
         Warning::UnsetVector => sized(draft, site, finding, b" 10"),
@@ -79,22 +85,17 @@ fn of_statements(
         Warning::EmptyIf | Warning::EmptyLoop => draft.remove(token, token),
         Warning::NameAlone if is_function(draft, token) => draft.after(token, b"()"),
         Warning::NeverUsed | Warning::HidesLibrary => undeclared(draft, token),
-        Warning::NearMain => draft.rename(token, b"main"),
+        Warning::NearMain | Warning::NoMain => draft.rename(token, b"main"),
         _ => Ok(()),
     }
 }
 
-// One `&` in the place of two between comparisons.
-fn and_and(draft: &mut Draft<'_>, token: usize) -> Result<(), AllocError> {
+/// What means the same as `&&`, of which this token is one.
+pub(crate) fn and_and(draft: &mut Draft<'_>, token: usize) -> Result<(), AllocError> {
     let before = token.wrapping_sub(1);
     let is_second = draft.at(before) == Lexeme::Operator(BinOp::And);
     let first = if is_second { before } else { token };
-    let last = first.wrapping_add(1);
-    if compares_around(draft, first, last) {
-        draft.replace(first, last, &[Part::Words(b"&")])
-    } else {
-        Ok(())
-    }
+    mend_logic(draft, Logic::And, first, first.wrapping_add(1))
 }
 
 // A blank after the `=` of an assignment with an operator.
@@ -103,8 +104,8 @@ fn apart(draft: &mut Draft<'_>, token: usize) -> Result<(), AllocError> {
     draft.put(place, place, &[Part::Words(b" ")])
 }
 
-// `==` in the place of an assignment.
-fn compares(draft: &mut Draft<'_>, token: usize) -> Result<(), AllocError> {
+/// `==` in the place of an assignment.
+pub(crate) fn compares(draft: &mut Draft<'_>, token: usize) -> Result<(), AllocError> {
     match draft.at(token) {
         Lexeme::Assign(None | Some(BinOp::Eq)) => draft.rename(token, b"=="),
         Lexeme::Assign(Some(BinOp::Sub)) => draft.rename(token, b"== -"),
@@ -162,7 +163,7 @@ fn around_bits(draft: &mut Draft<'_>, token: usize) -> Result<(), AllocError> {
         }
     }
     let last = after.wrapping_sub(1);
-    let is_compared = Like::Compares.fits(&draft.at(after)) || Like::Relates.fits(&draft.at(after));
+    let is_compared = is_comparison(&draft.at(after));
     if !is_compared || !is_operand(&draft.at(first)) {
         return Ok(());
     }
@@ -254,6 +255,72 @@ fn base_ten(draft: &mut Draft<'_>, token: usize) -> Result<(), AllocError> {
     draft.before(closer, b", 10")
 }
 
+// A name that gets what is read, where a statement calls `getchar` of it.
+fn read_into(draft: &mut Draft<'_>, token: usize) -> Result<(), AllocError> {
+    let begins = matches!(
+        draft.at(token.wrapping_sub(1)),
+        Lexeme::Semicolon | Lexeme::OpenBrace | Lexeme::CloseBrace | Lexeme::CloseParen
+    );
+    let argument = token.wrapping_add(2);
+    let closer = token.wrapping_add(3);
+    let is_name = matches!(draft.at(argument), Lexeme::Name(_));
+    let ends = draft.at(closer) == Lexeme::CloseParen
+        && draft.at(closer.wrapping_add(1)) == Lexeme::Semicolon;
+    if !begins || !is_name || !ends {
+        return Ok(());
+    }
+    draft.replace(
+        token,
+        closer,
+        &[
+            Part::Tokens(argument, argument),
+            Part::Words(b" = getchar()"),
+        ],
+    )
+}
+
+// Two arguments of one token, of which this is the first, in the other order.
+fn swap_with_next(draft: &mut Draft<'_>, token: usize) -> Result<(), AllocError> {
+    let second = token.wrapping_add(2);
+    let begins = matches!(
+        draft.at(token.wrapping_sub(1)),
+        Lexeme::OpenParen | Lexeme::Comma
+    );
+    let ends = matches!(
+        draft.at(second.wrapping_add(1)),
+        Lexeme::CloseParen | Lexeme::Comma
+    );
+    if !begins || !ends || draft.at(token.wrapping_add(1)) != Lexeme::Comma {
+        return Ok(());
+    }
+    draft.replace(
+        token,
+        second,
+        &[
+            Part::Tokens(second, second),
+            Part::Words(b", "),
+            Part::Tokens(token, token),
+        ],
+    )
+}
+
+/// Brackets in the place of a parenthesis and of the one that closes it.
+pub(crate) fn bracketed(draft: &mut Draft<'_>, opener: usize) -> Result<(), AllocError> {
+    let closer = after_brackets(draft, opener).wrapping_sub(1);
+    if closer <= opener.wrapping_add(1) || draft.at(closer) != Lexeme::CloseParen {
+        return Ok(());
+    }
+    draft.replace(
+        opener,
+        closer,
+        &[
+            Part::Words(b"["),
+            Part::Tokens(opener.wrapping_add(1), closer.wrapping_sub(1)),
+            Part::Words(b"]"),
+        ],
+    )
+}
+
 // A vector without an index past its end, as an argument.
 fn whole_vector(draft: &mut Draft<'_>, index: usize) -> Result<(), AllocError> {
     let after = draft.at(index.wrapping_add(2));
@@ -279,7 +346,8 @@ fn unset(draft: &mut Draft<'_>, site: Site, finding: &Finding) -> Result<(), All
             return sized(draft, site, finding, b" 40");
         }
     }
-    if opener_before(draft, token).is_some() {
+    let is_called = draft.at(token.wrapping_add(1)) == Lexeme::OpenParen;
+    if is_called || opener_before(draft, token).is_some() {
         return Ok(());
     }
     let Some(name) = finding.name else {
@@ -335,11 +403,9 @@ fn is_function(draft: &Draft<'_>, token: usize) -> bool {
     if library_arguments(&name).is_some() {
         return true;
     }
-    for at in 1..draft.spans.end() {
-        let begins = matches!(
-            draft.at(at.wrapping_sub(1)),
-            Lexeme::CloseBrace | Lexeme::Semicolon
-        );
+    for at in 0..draft.spans.end() {
+        let before = draft.at(at.wrapping_sub(1));
+        let begins = at == 0 || matches!(before, Lexeme::CloseBrace | Lexeme::Semicolon);
         let is_head = draft.at(at) == Lexeme::Name(name)
             && draft.at(at.saturating_add(1)) == Lexeme::OpenParen;
         if begins && is_head && is_definition(draft, at) {
@@ -352,6 +418,39 @@ fn is_function(draft: &Draft<'_>, token: usize) -> bool {
 // Whether a body comes after the parentheses that follow a name.
 fn is_definition(draft: &Draft<'_>, name: usize) -> bool {
     draft.at(after_brackets(draft, name.saturating_add(1))) != Lexeme::Semicolon
+}
+
+/// A declaration by `auto` without a word that is declared already, as a parameter or by `auto`, and not as a vector.
+pub(crate) fn declared_again(
+    draft: &mut Draft<'_>,
+    site: Site,
+    finding: &Finding,
+) -> Result<(), AllocError> {
+    let (Some(name), Some(place)) = (finding.name, finding.related) else {
+        return Ok(());
+    };
+    let is_vector = matches!(draft.at(site.token.wrapping_add(1)), Lexeme::Number(_));
+    let first = token_at(draft.spans, place.start);
+    let is_parameter = match body_of(draft, site) {
+        Some(brace) => first < brace,
+        None => false,
+    };
+    let is_word = is_parameter || declared_at(draft, site, &name) == Some(first);
+    if !is_word || is_vector || !is_by_auto(draft, site.token) {
+        return Ok(());
+    }
+    undeclared(draft, site.token)
+}
+
+// Whether a token is one of an `auto`.
+fn is_by_auto(draft: &Draft<'_>, token: usize) -> bool {
+    for back in 1..token.saturating_add(1) {
+        match draft.at(token.saturating_sub(back)) {
+            Lexeme::Name(_) | Lexeme::Comma | Lexeme::Number(_) => {}
+            lexeme => return lexeme == Lexeme::Keyword(Keyword::Auto),
+        }
+    }
+    false
 }
 
 // A declaration without the name of this token.

@@ -136,5 +136,8 @@ pub(crate) fn advice_of(warning: Warning) -> (&'static str, &'static str, &'stat
             ("no", "nothing is done with the value of this operator", "return(f() + g()); or x = f() + g();"),
         Warning::EndlessLoop =>
             ("lp", "nothing leaves this loop", "a return, a goto, or a condition that gets 0 leaves it"),
+        Warning::NoMain =>
+            ("ma", "there is no function main to begin a run with",
+             "main() .. calls the others, or is one of them"),
     }
 }

@@ -8,6 +8,7 @@ use crate::tree::{Branch, Statement, Tree};
 use crate::warnings::Warning;
 use blang::Keyword;
 use blex::Lexeme;
+use bsources::SourceFiles;
 use btree::{Construct, Node};
 use bword::Name;
 
@@ -50,6 +51,32 @@ fn is_for_main(defined: &Defined<'_>, name: &Name) -> bool {
         Name::new("main"),
         Some(main) if is_near(name, &main) && defined.place(&main).is_none()
     )
+}
+
+/// The first function of the first file, if a run has no function `main` to begin with: none is named so, and each one
+/// of the first file has another name than almost this one, and no parameters, as one has that another file calls.
+pub(crate) fn without_main(
+    files: &SourceFiles<'_>,
+    tokens: &Tokens<'_>,
+    starts: &[usize],
+    defined: &Defined<'_>,
+) -> Option<usize> {
+    let mut first = None;
+    for index in 0..starts.len() {
+        let own = tokens.of_definition(starts, index);
+        let is_function = own.at(1) == Lexeme::OpenParen;
+        if !is_function || files.beyond_first(own.place(0).line).is_some() {
+            continue;
+        }
+        if own.at(2) != Lexeme::CloseParen || is_for_main(defined, &own.name(0)?) {
+            return None;
+        }
+        first = first.or(Some(index));
+    }
+    match defined.place(&Name::new("main")?) {
+        Some(_) => None,
+        None => first,
+    }
 }
 
 /// The call of itself that a function makes on each way, if there is one: nothing before it branches, leaves the

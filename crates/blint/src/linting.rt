@@ -11,7 +11,7 @@ use crate::declared::declared_in;
 use crate::defined::{Defined, Told};
 use crate::ends::loop_end;
 use crate::flow::unset_in;
-use crate::functions::{calls_itself, changes_nothing, outside};
+use crate::functions::{calls_itself, changes_nothing, outside, without_main};
 use crate::layout::indented;
 use crate::locals::Locals;
 use crate::loops::unchanged;
@@ -54,6 +54,7 @@ pub fn lint(alloc: Global, program: &Program<'_>) -> Result<Vec<Caution>, AllocE
         places: cut.places.as_slice(),
     };
     let mut linting = Linting::new(alloc, program, starts.len())?;
+    linting.look_for_main(&tokens, starts.as_slice());
     let rules = rules_of(alloc, &tokens, starts.as_slice(), &mut linting)?;
     let others = linting.finish(alloc, cut.across)?;
     told(
@@ -86,6 +87,8 @@ pub(crate) struct Linting<'a> {
     found: Vec<Supposed>,
     /// How many of these hang on no definition.
     sure: usize,
+    /// The first function, if `main` is missing.
+    without_main: Option<usize>,
 }
 
 impl<'a> Linting<'a> {
@@ -102,7 +105,13 @@ impl<'a> Linting<'a> {
             used,
             found: Vec::new(alloc),
             sure: 0,
+            without_main: None,
         })
+    }
+
+    // Looks whether `main` is missing among definitions that begin with these tokens.
+    fn look_for_main(&mut self, tokens: &Tokens<'_>, starts: &[usize]) {
+        self.without_main = without_main(self.files, tokens, starts, &self.defined);
     }
 
     /// Looks at a definition, for what its tokens tell alone where it is in another file.
@@ -114,6 +123,9 @@ impl<'a> Linting<'a> {
     ) -> Result<(), AllocError> {
         let mut remarks = Remarks::new(alloc, tokens.len())?;
         let mut further = Remarks::new(alloc, tokens.len())?;
+        if self.without_main == Some(self.told.len()) {
+            remarks.say(Remark::new(0, Warning::NoMain))?;
+        }
         let tree = Tree::new(alloc, tokens, ruled)?;
         let mut locals = Locals::new(alloc, &tree)?;
         let told = Told::new(&tree, &locals);

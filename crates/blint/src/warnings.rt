@@ -61,4 +61,5 @@ pub enum Warning {
     PassesOldValue,
     ValueDropped,
     EndlessLoop,
+    NoMain,
 }

@@ -1,0 +1,5 @@
+main() {
+    auto s;
+    s = 'abc';
+    putchar(char(s, 0))
+}

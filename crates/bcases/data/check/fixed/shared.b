@@ -1,0 +1,9 @@
+main() {
+    count = 0;
+    step();
+    printn(count, 10);
+}
+
+step() {
+    count++;
+}

@@ -1,0 +1,4 @@
+twice(auto n) {
+    return(2 * n);
+}
+main() printn(twice(7), 10);

@@ -1,0 +1,7 @@
+main()
+    auto x;
+
+    x = 5;
+    printn(x, 10);
+    putchar('*n');
+}

@@ -1,0 +1,4 @@
+main() {
+    if(getchar() = 'y')
+        putchar('y');
+}

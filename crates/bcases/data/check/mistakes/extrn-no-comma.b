@@ -1,0 +1,5 @@
+a; b;
+main() {
+    extrn a b;
+    a = b;
+}

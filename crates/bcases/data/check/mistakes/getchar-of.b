@@ -1,0 +1,5 @@
+main() {
+    auto c;
+    getchar(c);
+    putchar(c);
+}

@@ -1,0 +1,6 @@
+main() {
+    auto c;
+    c = getchar();
+    if(c >= 'a' & <= 'z')
+        putchar(c);
+}

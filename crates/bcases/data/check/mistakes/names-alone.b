@@ -1,0 +1,8 @@
+newline() {
+    putchar('*n');
+}
+
+main() {
+    newline;
+    newline;
+}

@@ -1,0 +1,11 @@
+count;
+
+line() {
+    extrn count;
+    count++;
+}
+
+lines() {
+    line();
+    line();
+}

@@ -1,0 +1,3 @@
+hello() {
+    putchar('h');
+}

@@ -1,0 +1,5 @@
+main() {
+    auto x;
+    x = 7;
+    printn(2x + 1, 10);
+}

@@ -1,0 +1,4 @@
+first(a, b) {
+    return(a, b);
+}
+main() putchar(first('a', 'b'));

@@ -1,0 +1,5 @@
+main() {
+    auto n;
+    n = 1,000;
+    printn(n, 10);
+}

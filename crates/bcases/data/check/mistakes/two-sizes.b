@@ -1,0 +1,6 @@
+grid[3][3];
+
+main() {
+    extrn grid;
+    grid[0] = 1;
+}

@@ -1,0 +1,5 @@
+main() {
+    auto v 3;
+    v(0) = 1;
+    putchar(v[0]);
+}
