@@ -1,4 +1,0 @@
-pub mod Sessions
-pub mod OneRun
-pub mod TwoSlices
-pub mod SlicesExcluded
