@@ -20,6 +20,7 @@ pub mod Copying
 pub mod Losing
 pub mod MachineExcluded
 pub mod Stopping
+pub mod Slicing
 pub mod Fusing
 pub mod Fetching
 pub mod Beginning

@@ -12,6 +12,7 @@ pub mod Turns
 pub mod MachineExcluded
 pub mod Stepping
 pub mod Stops
+pub mod Slices
 pub mod Readings
 pub mod Stored
 pub mod StoredRows

@@ -27,6 +27,7 @@ mod stored;
 mod text;
 
 pub use addresses::{FIRST_ADDRESS, LIBRARY};
+pub use advance::MOST_STEPS;
 use blang::Library;
 pub use blang::{LoadFault, Outcome, Trap};
 pub use image::Image;

@@ -114,6 +114,13 @@ pub struct Stop {
     pub steps: u64,
 }
 
+/// What a run came to, and the calls there.
+#[derive(Drop)]
+pub struct Ran<'a> {
+    pub calls: Calls<'a>,
+    pub stop: Stop,
+}
+
 impl Active {
     /// A call of a function, with the place of its next instruction and the address of its frame.
     pub fn new(function: &LoadedFunction, place: usize, start: u32) -> Active

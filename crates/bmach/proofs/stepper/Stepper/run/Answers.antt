@@ -11,7 +11,7 @@ returns-clause-gives g c =
     let image = c.self.inside.image.now in
     let functions : image.functions ≡ map loaded_of c.deref.result.now =
     sym (ap (λ i. i.functions) c.image.view_is) ∙ ap (map loaded_of) (sym c.deref.ensures.value) in
-    subst (λ (p : Paused). RunGives (λ left n. steps p.image n (machine_at p left [])) c.args.steps (g.I.ByteIn.incoming c.args.input.now) (g.I.ByteIn.incoming c.run_steps.new.input) (g.O.ByteOut.outgoing c.args.out.now) (g.O.ByteOut.outgoing c.run_steps.new.out) c.run_steps.result.outcome) c.self.view_is
+    subst (λ (p : Paused). RunGives (λ left n. steps p.image n (machine_at p left [])) c.args.steps (g.I.ByteIn.incoming c.args.input.now) (g.I.ByteIn.incoming c.run_steps.new.input) (g.O.ByteOut.outgoing c.args.out.now) (g.O.ByteOut.outgoing c.run_steps.new.out) c.run_steps.result.stop.outcome) c.self.view_is
     (c.run_steps.ensures.gives image functions)
 
 pub returns-clause-stops : goal.returns-clause-stops
@@ -19,6 +19,6 @@ returns-clause-stops g c =
     let image = c.self.inside.image.now in
     let functions : image.functions ≡ map loaded_of c.deref.result.now =
     sym (ap (λ i. i.functions) c.image.view_is) ∙ ap (map loaded_of) (sym c.deref.ensures.value) in
-    let stop = c.run_steps.result in
+    let stop = c.run_steps.result.stop in
     subst (λ (p : Paused). IsOverAt (λ left n. steps p.image n (machine_at p left [])) c.args.steps (g.I.ByteIn.incoming c.args.input.now) (g.I.ByteIn.incoming c.run_steps.new.input) stop.outcome stop.call stop.steps) c.self.view_is
     (c.run_steps.ensures.stops image functions)

@@ -1,0 +1,4 @@
+pub mod Sessions
+pub mod OneRun
+pub mod TwoSlices
+pub mod SlicesExcluded

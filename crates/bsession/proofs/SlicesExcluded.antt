@@ -1,0 +1,90 @@
+-- What no slice of a program gives that halts with 0 in its second step, and reads nothing.
+use Rattle.std.proofs.Common.{◌≡◌, ◌∙◌, ℕ, zero, suc, ◌+◌, List, [], ◌∷◌, ◌++◌, Some, ap, arith, refl, subst, sym}
+use Rattle.blang.specs.declared.code.Instr.TheVariants as instr
+use Rattle.blang.specs.declared.run.Outcome.{Outcome}
+use Rattle.blang.specs.declared.run.Outcome.TheVariants as outcome
+use Rattle.blang.specs.Layout.{Exited}
+use Rattle.blang.specs.Machine.{Call, Halted, Image, Loaded, Running, State, steps}
+use Rattle.blang.specs.Reports.{AsksForByte, Shows, state_outcome}
+use Rattle.bmach.specs.Slices.{after_pause}
+use Rattle.bmach.specs.Steps.{world_with}
+use Rattle.bmach.specs.Stepping.{Paused, machine_at}
+use Rattle.bmach.specs.Stops.{RunsCall}
+use Rattle.bmach.specs.declared.machine.Active.{Active}
+use Rattle.bmach.proofs.Running.{over_stays}
+use Rattle.bsession.specs.Sessions.{Goes, IsStateOf, SessionContinues, SessionView, SliceMade}
+use Rattle.bsession.specs.declared.session.SliceEnd.TheVariants as end
+
+abbrev main : Loaded
+main = record {
+  parameters = 0;
+  frame = 0;
+  targets = [];
+  code = instr.Constant 0 ∷ instr.Return ∷ [];
+  strings = 8;
+  first_label = 1;
+}
+
+abbrev image : Image
+image = record { functions = main ∷ []; main = Some main; words = []; data_end = 8; addresses = [] }
+
+abbrev first : Paused
+first = record {
+  image = image;
+  call = record { function = main; start = 8; place = 0; operands = [] };
+  below = [];
+  store = [];
+}
+
+-- after two steps and more
+halts : (n : ℕ) (left written : List ℕ) → after_pause first (suc (suc n)) left written ≡ Halted (Exited 0) (world_with [] left written)
+halts n left written = over_stays image n (Halted (Exited 0) (world_with [] left written)) tt
+
+asks_never : (made : ℕ) (left written : List ℕ) → AsksForByte (after_pause first made left written) → ⊥
+asks_never zero left written asks = cc
+asks_never (suc zero) left written asks = cc
+asks_never (suc (suc n)) left written asks =
+    let halted = subst AsksForByte (halts n left written) asks in cc
+
+-- it wants no input
+pub no_input_wanted : (old new : SessionView) (n : ℕ) → SessionContinues (Goes first) old new n end.WantsInput → ⊥
+no_input_wanted old new n g =
+    let there = g.ends.3.0 in
+    let at : IsStateOf (Goes there) (new.unread ++ []) ([] ++ g.written) (after_pause first g.made (old.unread ++ []) []) =
+    subst (λ t. IsStateOf t (new.unread ++ []) ([] ++ g.written) (after_pause first g.made (old.unread ++ []) [])) g.ends.3.1 (g.comes [] [] (λ closed. refl)) in
+    asks_never g.made (old.unread ++ []) [] (subst AsksForByte (sym at) (g.ends.3.2 (new.unread ++ []) ([] ++ g.written)))
+
+-- it doesn't go on after its end
+pub no_steps_past_the_end : (old new : SessionView) → old.steps ≡ 0 → SessionContinues (Goes first) old new 2 end.Limit → ⊥
+no_steps_past_the_end old new none g =
+    let there = g.ends.1.0 in
+    let at : after_pause first g.made (old.unread ++ []) [] ≡ machine_at there (new.unread ++ []) ([] ++ g.written) =
+    subst (λ t. IsStateOf t (new.unread ++ []) ([] ++ g.written) (after_pause first g.made (old.unread ++ []) [])) g.ends.1.1 (g.comes [] [] (λ closed. refl)) in
+    let all = g.ends.0 in
+    let two : g.made ≡ 2 = omega (arith, all, none) in
+    let ended : Halted (Exited 0) (world_with [] (old.unread ++ []) []) ≡ machine_at there (new.unread ++ []) ([] ++ g.written) =
+    ap (λ m. after_pause first m (old.unread ++ []) []) (sym two) ∙ at in
+    cc
+
+shown : (made : ℕ) (left written : List ℕ) (active : Active) (last status : ℕ) (in_left out : List ℕ) → made ≡ last + 1
+    → RunsCall (after_pause first last left written) active
+    → Shows (outcome.Exit status) in_left out (after_pause first made left written) → status ≡ 0
+shown made left written active zero status in_left out is runs shows =
+    let one : after_pause first made left written ≡ after_pause first 1 left written = ap (λ m. after_pause first m left written) is in
+    let goes : outcome.Limit ≡ outcome.Exit status = sym (ap state_outcome one) ∙ shows.outcome in
+    cc
+shown made left written active (suc zero) status in_left out is runs shows =
+    let two : after_pause first made left written ≡ after_pause first 2 left written = ap (λ m. after_pause first m left written) is in
+    let exits : outcome.Exit 0 ≡ outcome.Exit status = sym (ap state_outcome two) ∙ shows.outcome in
+    cc
+shown made left written active (suc (suc n)) status in_left out is runs shows =
+    let halted : Halted (Exited 0) (world_with [] left written) ≡ Running runs.call runs.below runs.world = sym (halts n left written) ∙ runs.state_is in
+    cc
+
+-- it halts with no other status
+pub no_other_status : (old new : SessionView) (n status : ℕ) → SessionContinues (Goes first) old new n (end.Halted status) → status ≡ 0
+no_other_status old new n status g =
+    let over = g.ends in
+    let at = subst (λ t. IsStateOf t (new.unread ++ []) ([] ++ g.written) (after_pause first g.made (old.unread ++ []) [])) over.stands (g.comes [] [] (λ closed. refl)) in
+    shown g.made (old.unread ++ []) [] over.stop.call over.last status (new.unread ++ []) ([] ++ g.written) over.made_is (over.ran [] [] (λ closed. refl))
+    (subst (λ r. Shows r (new.unread ++ []) ([] ++ g.written) (after_pause first g.made (old.unread ++ []) [])) over.outcome_is at.0)

@@ -1,0 +1,75 @@
+-- Promise: the slices of a session are one run.
+use Rattle.std.specs.Prelude.{◌≡◌, ◌+◌, ◌≤◌, ℕ, false, true, List, [], ◌∷◌, ◌++◌}
+use Rattle.bword.specs.ByteEnds.{most}
+use Rattle.blang.specs.Machine.{Image, run}
+use Rattle.bmach.specs.Stepping.{Paused, machine_at}
+use Rattle.bmach.specs.declared.advance.TheConstants.{MOST_STEPS}
+use Rattle.bsession.specs.Sessions.{BeginsSession, SessionContinues, Goes, SessionView, IsStateOf, MayCome, SessionState}
+use Rattle.bsession.specs.declared.session.SliceEnd.{SliceEnd}
+use Rattle.bsession.specs.declared.session.SliceEnd.TheVariants as end
+
+-- What is done with a session: it makes so many steps at most, and ends; or it is fed, or its input is closed; or these
+-- bytes of its output are taken.
+pub data Deed : Type 0 where
+  Continued : (steps : ℕ) → SliceEnd → Deed
+  WasFed : (bytes : List ℕ) → Deed
+  WasClosed : Deed
+  WasTaken : (bytes : List ℕ) → Deed
+
+-- what a deed makes of a session, by what its calls promise
+abbrev pub DeedDoes : Deed → (old new : SessionView) → Type 0
+DeedDoes (Continued steps why) old new = SessionContinues old.state old new steps why
+DeedDoes (WasFed bytes) old new = (old.is_closed ≡ false) × (new ≡ record old { unread = old.unread ++ bytes })
+DeedDoes WasClosed old new = new ≡ record old { is_closed = true }
+DeedDoes (WasTaken bytes) old new = (old.output ≡ bytes ++ new.output) × (new ≡ record old { output = new.output })
+
+-- one deed after another
+abbrev pub ComesBy : (old : SessionView) → List Deed → (new : SessionView) → Type 0
+ComesBy old [] new = new ≡ old
+ComesBy old (deed ∷ deeds) new = (between : SessionView) × DeedDoes deed old between × ComesBy between deeds new
+
+-- what was fed by a deed, and taken
+abbrev pub fed_by : Deed → List ℕ
+fed_by (WasFed bytes) = bytes
+fed_by other = []
+
+abbrev pub taken_by : Deed → List ℕ
+taken_by (WasTaken bytes) = bytes
+taken_by other = []
+
+-- and by all of them
+abbrev pub all_fed : List Deed → List ℕ
+all_fed [] = []
+all_fed (deed ∷ deeds) = fed_by deed ++ all_fed deeds
+
+abbrev pub all_taken : List Deed → List ℕ
+all_taken [] = []
+all_taken (deed ∷ deeds) = taken_by deed ++ all_taken deeds
+
+-- Whatever is done with a session, it stands where the machine is after as many steps as were made, on all that was fed
+-- and whatever may come after it. What the machine has read isn't left, and what it has written was taken or is there.
+abbrev pub OneRun : Type 0
+OneRun =
+    (image : Image) (first : SessionView) (deeds : List Deed) (last : SessionView) → BeginsSession image first → ComesBy first deeds last
+    → (rest : List ℕ) → MayCome last rest
+    → IsStateOf last.state (last.unread ++ rest) (all_taken deeds ++ last.output) (run image (all_fed deeds ++ rest) last.steps)
+
+-- both can go on, in the same call, above the same ones, and with the same words
+abbrev pub GoAlike : SessionState → SessionState → Type 0
+GoAlike (Goes p) (Goes q) = machine_at p [] [] ≡ machine_at q [] []
+GoAlike other another = ⊥
+
+-- The same input is left, the same output wasn't taken, as many steps were made, and both go on alike.
+pub record AreAlike (g h : SessionView) : Type 0 where
+  pub unread : g.unread ≡ h.unread
+  pub output : g.output ≡ h.output
+  pub steps : g.steps ≡ h.steps
+  pub go : GoAlike g.state h.state
+
+-- Where all steps of two slices were made, one slice of as many leaves the same.
+abbrev pub TwoAreOne : Type 0
+TwoAreOne =
+    (old between two one : SessionView) (p : Paused) (n k : ℕ) → old.state ≡ Goes p → n + k ≤ MOST_STEPS
+    → old.steps + (n + k) ≤ most
+    → SessionContinues old.state old between n end.Limit → SessionContinues between.state between two k end.Limit
+    → SessionContinues old.state old one (n + k) end.Limit → AreAlike two one

@@ -1,0 +1,190 @@
+-- Promise: a program that runs in slices, between which its input is fed and its output is taken.
+use Rattle.std.specs.Prelude.{◌≡◌, ◌⊎◌, ℕ, ◌+◌, ◌-◌, ◌<◌, ◌≤◌, min, Bool, true, false, List, [], ◌∷◌, ◌++◌, drop, if◌then◌else◌, length, Option, Some, None}
+use Rattle.std.specs.Prelude.{slice_index}
+use Rattle.std.proofs.Common.{arith}
+use Rattle.bword.specs.ByteEnds.{Incoming, most}
+use Rattle.blang.specs.declared.run.Outcome.{Outcome}
+use Rattle.blang.specs.declared.run.Outcome.TheVariants as outcome
+use Rattle.blang.specs.Machine.{Image, State, state_world, steps}
+use Rattle.blang.specs.Reports.{AsksForByte, Shows}
+use Rattle.bmach.specs.Slices.{after_pause, with_word_at}
+use Rattle.bmach.specs.Stepping.{BeginsNot, IsUnstarted, Paused, machine_at}
+use Rattle.bmach.specs.Stops.{RunsCall, active_of}
+use Rattle.bmach.specs.declared.advance.TheConstants.{MOST_STEPS}
+use Rattle.bmach.specs.declared.machine.Active.{Active}
+use Rattle.bmach.specs.declared.machine.Stop.{Stop}
+use Rattle.bsession.specs.declared.session.SliceEnd.{SliceEnd}
+use Rattle.bsession.specs.declared.session.SliceEnd.TheVariants as end
+use Rattle.bsession.specs.declared.session.Stand.{Stand}
+use Rattle.bsession.specs.declared.session.Stand.TheVariants as stand
+
+-- An input that is fed: the bytes that it hasn't given, whether more can come, whether its end was answered, and how many
+-- of its calls have failed.
+pub record Fed : Type 0 where
+  pub unread : List ℕ
+  pub is_closed : Bool
+  pub is_over : Bool
+  pub failures : ℕ
+
+abbrev pub fed_incoming : Fed → Incoming
+fed_incoming f = record {
+  left = Some f.unread;
+  is_over = f.is_over;
+  failures = f.failures;
+  bound = min (length f.unread) most;
+}
+
+abbrev pub closed_mark : Fed → List ℕ
+closed_mark f = if f.is_closed then 1 ∷ [] else []
+
+pub fed_bounded : (f : Fed) → (fed_incoming f).bound ≤ most
+fed_bounded f = omega arith
+
+-- Where a session stands: it can go on; or it is over, and came to this; or it is lost, since memory was refused.
+pub data SessionState : Type 0 where
+  Goes : Paused → SessionState
+  Over : Stop → Paused → SessionState
+  Lost : SessionState
+
+abbrev pub state_of : Stand → SessionState
+state_of (stand.Goes p) = Goes p
+state_of (stand.Over stop p) = Over stop p
+state_of stand.Lost = Lost
+
+-- A session: where it stands, the input that was fed and not read, whether no more is fed, the output that wasn't taken,
+-- and how many steps were made.
+pub record SessionView : Type 0 where
+  pub state : SessionState
+  pub unread : List ℕ
+  pub is_closed : Bool
+  pub output : List ℕ
+  pub steps : ℕ
+
+abbrev pub session_view : Stand → Fed → (written : List ℕ) → (taken steps : ℕ) → SessionView
+session_view s f written taken steps = record {
+  state = state_of s;
+  unread = f.unread;
+  is_closed = f.is_closed;
+  output = drop taken written;
+  steps = steps;
+}
+
+-- a session before the first step of a program, with no input yet
+pub record BeginsSession (image : Image) (h : SessionView) : Type 0 where
+  pub first : Paused
+  pub stands : h.state ≡ Goes first
+  pub unstarted : IsUnstarted image first
+  pub unread : h.unread ≡ []
+  pub is_open : h.is_closed ≡ false
+  pub output : h.output ≡ []
+  pub steps : h.steps ≡ 0
+
+-- a program has no first step, or memory was refused
+abbrev pub StartsNot : Image → Outcome → Type 0
+StartsNot image result = (result ≡ outcome.Memory) ⊎ BeginsNot image result
+
+-- these bytes may still come after those that were fed
+abbrev pub MayCome : SessionView → List ℕ → Type 0
+MayCome h rest = h.is_closed ≡ true → rest ≡ []
+
+-- A session that stands there is at this state of the machine, with this input left and this output.
+abbrev pub IsStateOf : SessionState → (left written : List ℕ) → State → Type 0
+IsStateOf (Goes p) left written s = s ≡ machine_at p left written
+IsStateOf (Over stop p) left written s = Shows stop.outcome left written s × ((state_world s).store ≡ p.store)
+IsStateOf Lost left written s = Unit {0}
+
+-- a session that can go on has this image
+abbrev pub HasImage : Image → SessionState → Type 0
+HasImage image (Goes p) = p.image ≡ image
+HasImage image other = Unit {0}
+
+-- how many of so many steps a session makes at most
+abbrev pub allowed : SessionView → ℕ → ℕ
+allowed h n = min (min n MOST_STEPS) (most - h.steps)
+
+-- A session was over with the last of the steps made from a pause, and the call ran before it that is told.
+pub record IsSessionOver (p : Paused) (old new : SessionView) (made : ℕ) (result : Outcome) : Type 0 where
+  pub last : ℕ
+  pub made_is : made ≡ last + 1
+  pub stop : Stop
+  pub there : Paused
+  pub stands : new.state ≡ Over stop there
+  pub outcome_is : stop.outcome ≡ result
+  pub ran : (rest before : List ℕ) → MayCome old rest
+      → RunsCall (after_pause p last (old.unread ++ rest) before) stop.call
+
+-- why a slice ends after so many steps from a pause
+abbrev pub EndsFor : Paused → (old new : SessionView) → (n made : ℕ) → SliceEnd → Type 0
+EndsFor p old new n made end.Limit = (made ≡ allowed old n) × ((there : Paused) × (new.state ≡ Goes there))
+EndsFor p old new n made end.WantsInput =
+    (made < n) × (new.unread ≡ []) × (new.is_closed ≡ false)
+    × ((there : Paused) × (new.state ≡ Goes there) × ((left written : List ℕ) → AsksForByte (machine_at there left written)))
+EndsFor p old new n made (end.Halted status) = IsSessionOver p old new made (outcome.Exit status)
+EndsFor p old new n made (end.Trapped kind) = IsSessionOver p old new made (outcome.Trap kind)
+EndsFor p old new n made end.Memory = ⊥
+
+-- A session makes so many steps from a pause, which read and write what the machine reads and writes, whatever comes after
+-- the input that was fed.
+pub record SliceMade (p : Paused) (old new : SessionView) (n : ℕ) (why : SliceEnd) : Type 0 where
+  pub made : ℕ
+  pub within : made ≤ allowed old n
+  pub counted : new.steps ≡ old.steps + made
+  pub taken : List ℕ
+  pub read : old.unread ≡ taken ++ new.unread
+  pub written : List ℕ
+  pub output : new.output ≡ old.output ++ written
+  pub same : new.is_closed ≡ old.is_closed
+  pub image : HasImage p.image new.state
+  pub comes : (rest before : List ℕ) → MayCome old rest
+      → IsStateOf new.state (new.unread ++ rest) (before ++ written) (after_pause p made (old.unread ++ rest) before)
+  pub ends : EndsFor p old new n made why
+
+-- where a session stands after a slice of a run that came to this
+abbrev pub state_after : Outcome → Stop → Paused → SessionState
+state_after (outcome.Exit status) stop p = Over stop p
+state_after (outcome.Trap kind) stop p = Over stop p
+state_after outcome.Limit stop p = Goes p
+state_after outcome.Device stop p = Goes p
+state_after outcome.Memory stop p = Lost
+
+-- the answer of a session that is over
+abbrev pub end_of : Outcome → SliceEnd
+end_of (outcome.Exit status) = end.Halted status
+end_of (outcome.Trap kind) = end.Trapped kind
+end_of outcome.Limit = end.Limit
+end_of outcome.Device = end.WantsInput
+end_of outcome.Memory = end.Memory
+
+-- what comes of so many steps at most, by the answer
+abbrev pub SliceComesTo : Paused → (old new : SessionView) → (n : ℕ) → SliceEnd → Type 0
+SliceComesTo p old new n end.Memory = new.state ≡ Lost
+SliceComesTo p old new n why = SliceMade p old new n why
+
+-- a session that is over or lost stays as it is
+abbrev pub SessionContinues : SessionState → (old new : SessionView) → (n : ℕ) → SliceEnd → Type 0
+SessionContinues (Goes p) old new n why = SliceComesTo p old new n why
+SessionContinues (Over stop p) old new n why = (new ≡ old) × (why ≡ end_of stop.outcome)
+SessionContinues Lost old new n why = (new ≡ old) × (why ≡ end.Memory)
+
+-- the call that runs, or that ran before the step that ended the run
+abbrev pub call_in : SessionState → Option Active
+call_in (Goes p) = Some (active_of p.call)
+call_in (Over stop p) = Some stop.call
+call_in Lost = None
+
+-- how many calls are below it
+abbrev pub callers_in : SessionState → ℕ
+callers_in (Goes p) = length p.below
+callers_in (Over stop p) = length p.below
+callers_in Lost = 0
+
+abbrev pub word_in : SessionState → (address : ℕ) → Option ℕ
+word_in (Goes p) address = Some (slice_index p.store address)
+word_in (Over stop p) address = Some (slice_index p.store address)
+word_in Lost address = None
+
+-- a session with a word stored
+abbrev pub stored_in : SessionState → (address word : ℕ) → SessionState
+stored_in (Goes p) address word = Goes (with_word_at p address word)
+stored_in (Over stop p) address word = Over stop (with_word_at p address word)
+stored_in Lost address word = Lost

@@ -1,0 +1,248 @@
+//! A program that runs in slices.
+ghost use Rattle.std.specs.Prelude.{◌≡◌, ◌++◌, MatchResult, OnErr, OnOk, drop, false, length, min, true};
+ghost use Rattle.bsession.specs.Sessions.{BeginsSession, Goes, SessionContinues, SliceComesTo, StartsNot, call_in, callers_in, end_of, state_after, state_of, stored_in, word_in};
+
+use crate::feed::Feed;
+use blang::{Outcome, Trap};
+use bmach::{Active, Image, MOST_STEPS, Stepper, Stop};
+use bpages::PagedStore;
+use bword::{MemOut, NoMemory};
+use std::alloc::{AllocError, Global};
+use std::marker::Model;
+use std::mem;
+
+/// Why a slice ends.
+#[derive(Clone, Copy, PartialEq, Eq)]
+pub enum SliceEnd {
+    /// The program has halted with this status.
+    Halted(u8),
+    /// A trap has ended it.
+    Trapped(Trap),
+    /// All steps were made that were asked for.
+    Limit,
+    /// The next step asks for a byte that isn't there yet.
+    WantsInput,
+    /// Memory was refused. The session is lost.
+    Memory,
+}
+
+/// Where a session stands.
+#[derive(Drop)]
+pub(crate) enum Stand<'a> {
+    Goes(Stepper<'a, PagedStore>),
+    Over(Stop, Stepper<'a, PagedStore>),
+    Lost,
+}
+
+/// A program that runs in slices, between which its input is fed, its output is taken, and its words can be seen.
+///
+/// It makes no more steps in all than a `u64` can count.
+#[derive(Drop)]
+pub struct Session<'a> {
+    stand: Stand<'a>,
+    input: Feed,
+    out: MemOut,
+    // How many bytes of the output were taken.
+    taken: usize,
+    steps: u64,
+}
+
+impl<'a> Model for Session<'a> {
+    ghost use Rattle.std.specs.Prelude.{◌≤◌, length};
+    ghost use Rattle.bsession.specs.Sessions.{SessionView, session_view};
+
+    ghost Value = { SessionView };
+
+    ghost view = { λ s. session_view s.stand s.input s.out.bytes s.taken s.steps };
+
+    ghost invariant = { λ s. s.taken ≤ length s.out.bytes };
+}
+
+impl<'a> Session<'a> {
+    /// A session before the first step of a program, with no input yet; or why the program has no first step.
+    pub fn start(alloc: Global, image: &'a Image) -> Result<Session<'a>, Outcome>
+        ensures { MatchResult result (BeginsSession image.now) (StartsNot image.now) }
+    {
+        let Ok(store) = PagedStore::new(alloc) else {
+            return Err(Outcome::Memory);
+        };
+        match Stepper::begin(alloc, image, store) {
+            Err(outcome) => Err(outcome),
+            Ok(stepper) => Ok(Session {
+                stand: Stand::Goes(stepper),
+                input: Feed::new(alloc),
+                out: MemOut::new(alloc),
+                taken: 0,
+                steps: 0,
+            }),
+        }
+    }
+
+    /// Makes so many steps, or fewer where the program is over before or the next step asks for a byte that isn't there,
+    /// and tells why it ends. A session that is over tells it again.
+    pub fn continue_for(&mut self, steps: u64) -> SliceEnd
+        ensures { SessionContinues self.old.state self.old self.new steps result }
+    {
+        match mem::replace(&mut self.stand, Stand::Lost) {
+            Stand::Goes(stepper) => self.go_on(stepper, steps),
+            Stand::Over(stop, stepper) => {
+                self.stand = Stand::Over(stop, stepper);
+                end_of(stop.outcome)
+            }
+            Stand::Lost => SliceEnd::Memory,
+        }
+    }
+
+    // Makes so many steps of a run, or fewer.
+    fn go_on(&mut self, stepper: Stepper<'a, PagedStore>, steps: u64) -> SliceEnd
+        ensures { SliceComesTo stepper.entry (record self.old { state = Goes stepper.entry }) self.new steps result }
+    {
+        let most = steps.min(MOST_STEPS).min(u64::MAX - self.steps);
+        let (stepper, stop) = stepper.slice(&mut self.input, &mut self.out, most);
+        self.input.known();
+        self.taken = taken_of(self.taken, &self.out);
+        self.steps += stop.steps;
+        self.stand = stand_after(stepper, stop);
+        end_of(stop.outcome)
+    }
+
+    /// Adds bytes to the input; none where memory is refused.
+    pub fn feed(&mut self, bytes: &[u8]) -> Result<(), AllocError>
+        requires { self.old.is_closed ≡ false }
+        ensures fed { OnOk result (self.new ≡ record self.old { unread = self.old.unread ++ bytes.now }) }
+        ensures unchanged { OnErr result (self.new ≡ self.old) }
+    {
+        self.input.add(bytes)
+    }
+
+    /// Tells that the input ends after the bytes that were fed.
+    pub fn close_input(&mut self)
+        ensures { self.new ≡ record self.old { is_closed = true } }
+    {
+        self.input.close();
+    }
+
+    /// Whether the input was closed.
+    pub fn is_closed(&self) -> bool
+        ensures { result ≡ self.now.is_closed }
+    {
+        self.input.is_closed()
+    }
+
+    /// The bytes of the input that were fed and not read.
+    pub fn unread(&self) -> &[u8]
+        ensures { result.now ≡ self.now.unread }
+    {
+        self.input.unread()
+    }
+
+    /// The output that wasn't taken.
+    pub fn output(&self) -> &[u8]
+        ensures { result.now ≡ self.now.output }
+    {
+        &self.out.bytes()[self.taken..]
+    }
+
+    /// Takes so many bytes of the output, or all.
+    pub fn take_output(&mut self, alloc: Global, count: usize)
+        ensures { self.new ≡ record self.old { output = drop count self.old.output } }
+    {
+        let len = self.out.bytes().len();
+        let left = len - self.taken;
+        if count < left {
+            self.taken += count;
+        } else {
+            self.out = MemOut::new(alloc);
+            self.taken = 0;
+        }
+    }
+
+    /// How many steps were made.
+    pub fn steps(&self) -> u64
+        ensures { result ≡ self.now.steps }
+    {
+        self.steps
+    }
+
+    /// The running call, or the one that ran before the step that ended the run; none if the session is lost.
+    pub fn call(&self) -> Option<Active>
+        ensures { result ≡ call_in self.now.state }
+    {
+        match &self.stand {
+            Stand::Goes(stepper) => Some(stepper.top()),
+            Stand::Over(stop, _) => Some(stop.call),
+            Stand::Lost => None,
+        }
+    }
+
+    /// How many active calls are below it.
+    pub fn callers(&self) -> usize
+        ensures { result ≡ callers_in self.now.state }
+    {
+        match &self.stand {
+            Stand::Goes(stepper) | Stand::Over(_, stepper) => stepper.callers(),
+            Stand::Lost => 0,
+        }
+    }
+
+    /// The word at an address; none if the session is lost.
+    pub fn word(&self, address: u16) -> Option<u16>
+        ensures { result ≡ word_in self.now.state address }
+    {
+        match &self.stand {
+            Stand::Goes(stepper) | Stand::Over(_, stepper) => Some(stepper.word(address)),
+            Stand::Lost => None,
+        }
+    }
+
+    /// Puts a word at an address; nothing has changed where memory is refused, or if the session is lost.
+    pub fn set_word(&mut self, address: u16, word: u16) -> Result<(), NoMemory>
+        ensures stored { OnOk result (self.new ≡ record self.old { state = stored_in self.old.state address word }) }
+        ensures unchanged { OnErr result (self.new ≡ self.old) }
+    {
+        match mem::replace(&mut self.stand, Stand::Lost) {
+            Stand::Goes(mut stepper) => {
+                let stored = stepper.set_word(address, word);
+                self.stand = Stand::Goes(stepper);
+                stored
+            }
+            Stand::Over(stop, mut stepper) => {
+                let stored = stepper.set_word(address, word);
+                self.stand = Stand::Over(stop, stepper);
+                stored
+            }
+            Stand::Lost => Err(NoMemory),
+        }
+    }
+}
+
+// How many bytes were taken of an output, of those that it has.
+fn taken_of(taken: usize, out: &MemOut) -> usize
+    ensures { result ≡ min taken (length out.now.bytes) }
+{
+    taken.min(out.bytes().len())
+}
+
+// Where a session stands after a slice of a run.
+fn stand_after<'a>(stepper: Stepper<'a, PagedStore>, stop: Stop) -> Stand<'a>
+    ensures { state_of result ≡ state_after stop.outcome stop stepper.entry }
+{
+    match stop.outcome {
+        Outcome::Limit | Outcome::Device => Stand::Goes(stepper),
+        Outcome::Exit(_) | Outcome::Trap(_) => Stand::Over(stop, stepper),
+        Outcome::Memory => Stand::Lost,
+    }
+}
+
+// The answer where a run came to this.
+fn end_of(outcome: Outcome) -> SliceEnd
+    ensures { result ≡ end_of outcome }
+{
+    match outcome {
+        Outcome::Exit(status) => SliceEnd::Halted(status),
+        Outcome::Trap(trap) => SliceEnd::Trapped(trap),
+        Outcome::Limit => SliceEnd::Limit,
+        Outcome::Device => SliceEnd::WantsInput,
+        Outcome::Memory => SliceEnd::Memory,
+    }
+}
