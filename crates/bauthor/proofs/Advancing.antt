@@ -1,17 +1,14 @@
 -- Lines of a file of names are read one after another.
-use Rattle.std.proofs.Common.{◌≡◌, ◌∙◌, ℕ, suc, zero, ◌+◌, ◌-◌, ◌<◌, ◌≤◌, List, [], ◌∷◌, ◌++◌, length, drop, get_or, map}
-use Rattle.std.proofs.Common.{Option, Some, None, Result, Ok, Err, Bool, true, false, cond, refl, sym, ap, subst, arith}
+use Rattle.std.proofs.Common.{◌≡◌, ◌∙◌, ℕ, suc, ◌+◌, ◌-◌, ◌<◌, List, [], ◌∷◌, ◌++◌, length, drop, get_or}
+use Rattle.std.proofs.Common.{Result, Ok, Err, refl, sym, ap, subst, arith}
 use Rattle.std.proofs.Common.{append_assoc, add-one, drop-cons}
 use Rattle.std.proofs.lemmas.List.{append-nil}
-use Rattle.std.specs.Prelude.{flat_map}
 use Rattle.blang.specs.declared.code.Definition.{Definition}
-use Rattle.bauthor.specs.NameFiles.{Fails, function_wanted, labels_from, names_wanted, read_from, suiting, with_line}
+use Rattle.bauthor.specs.NameFiles.{Fails, function_wanted, labels_from, names_wanted, read_from}
 use Rattle.bauthor.specs.NameFiles.{with_names, words_from}
-use Rattle.bauthor.specs.NameLines.{suits}
 use Rattle.bauthor.specs.Readers.{Advances, read_by}
 use Rattle.bauthor.specs.declared.line.NameLine.{NameLine}
 use Rattle.bauthor.specs.declared.fault.NameFault.{NameFault}
-use Rattle.bauthor.specs.declared.fault.NameFault.TheVariants as fault
 use Rattle.bauthor.specs.declared.reading.Reader.{Reader}
 use Rattle.bauthor.specs.declared.fault.Wanted.{Wanted}
 use Rattle.bauthor.specs.declared.fault.Wanted.TheVariants as wanted

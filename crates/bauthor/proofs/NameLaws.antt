@@ -1,13 +1,13 @@
 -- What is written is read, and what is read is written so.
-use Rattle.std.proofs.Common.{◌≡◌, ◌∙◌, ℕ, zero, suc, ◌+◌, ◌⊎◌, inl, inr, List, [], ◌∷◌, ◌++◌, length, map, Option, Some}
-use Rattle.std.proofs.Common.{None, Result, Ok, Err, Bool, true, false, cond, refl, sym, ap, subst, arith, append_assoc}
+use Rattle.std.proofs.Common.{◌≡◌, ◌∙◌, ℕ, ◌+◌, inl, inr, List, [], ◌∷◌, ◌++◌, length, map, Option, Some}
+use Rattle.std.proofs.Common.{None, Result, Ok, Err, Bool, true, false, cond, refl, sym, ap, subst, arith}
 use Rattle.std.specs.Prelude.{◌==◌, option_map, if◌then◌else◌}
 use Rattle.std.proofs.lemmas.Bool.Decides.{eqb_tells}
 use Rattle.bword.specs.Words.{is_name}
 use Rattle.blang.specs.declared.code.Definition.{Definition}
-use Rattle.bauthor.specs.NameFiles.{at_end, is_over, lines_of, names_read, names_wanted, read_from, suiting, with_line, with_names}
+use Rattle.bauthor.specs.NameFiles.{at_end, lines_of, names_read, names_wanted, read_from, suiting, with_line, with_names}
 use Rattle.bauthor.specs.NameLines.{has_name, line_read, line_text, name_after, suits}
-use Rattle.bauthor.specs.Written.{AreNames, HasLines, IsWantedAt, WrittenNamesAreRead}
+use Rattle.bauthor.specs.Written.{AreNames, IsWantedAt, WrittenNamesAreRead}
 use Rattle.bauthor.specs.declared.line.NameLine.{NameLine}
 use Rattle.bauthor.specs.declared.line.NameLine.TheVariants as line
 use Rattle.bauthor.specs.declared.fault.NameFault.{NameFault}

@@ -1,12 +1,10 @@
 -- Closed facts: lines of a file of names, and what some files say.
-use Rattle.std.specs.Prelude.{◌≡◌, ℕ, true, false, List, [], ◌∷◌, ◌++◌, codes, map, refl, Some, None, Ok, Err}
+use Rattle.std.specs.Prelude.{◌≡◌, ℕ, true, false, List, [], ◌∷◌, codes, map, refl, Some, None, Ok, Err}
 use Rattle.blang.specs.declared.code.Definition.{Definition}
 use Rattle.blang.specs.declared.code.Definition.TheVariants as definition
 use Rattle.bauthor.specs.NameFiles.{names_read, names_wanted}
 use Rattle.bauthor.specs.NameLines.{line_read, line_text, suits}
-use Rattle.bauthor.specs.declared.line.NameLine.{NameLine}
 use Rattle.bauthor.specs.declared.line.NameLine.TheVariants as line
-use Rattle.bauthor.specs.declared.fault.NameFault.{NameFault}
 use Rattle.bauthor.specs.declared.fault.NameFault.TheVariants as fault
 use Rattle.bauthor.specs.declared.fault.Wanted.TheVariants as wanted
 
@@ -28,13 +26,21 @@ lines_refused : map line_read
     ≡ None ∷ None ∷ None ∷ None ∷ None ∷ None ∷ None ∷ None ∷ None ∷ None ∷ None ∷ None ∷ []
 lines_refused = refl
 
+abbrev function : (name : List ℕ) → (parameters frame : ℕ) → (targets : List ℕ) → Definition
+function name parameters frame targets = definition.Function (record {
+  name = name;
+  parameters = parameters;
+  frame = frame;
+  targets = targets;
+  strings = [];
+  code = [];
+})
+
 -- a function of three words and two labels, and a main one of none, after a word of data
 abbrev program : List Definition
 program =
     definition.Simple (record { name = codes "n"; values = []; strings = [] })
-    ∷ definition.Function (record { name = codes "f"; parameters = 1; frame = 3; targets = 0 ∷ 0 ∷ []; strings = []; code = [] })
-    ∷ definition.Function (record { name = codes "main"; parameters = 0; frame = 0; targets = []; strings = []; code = [] })
-    ∷ []
+    ∷ function (codes "f") 1 3 (0 ∷ 0 ∷ []) ∷ function (codes "main") 0 0 [] ∷ []
 
 wanted_lines : names_wanted program
     ≡ wanted.Function (codes "f") ∷ wanted.Word (codes "f") 0 ∷ wanted.Word (codes "f") 1 ∷ wanted.Word (codes "f") 2

@@ -1,11 +1,9 @@
 //! What the lines of a file of names have to be, and what is wrong in one.
 ghost use Rattle.std.specs.Prelude.{◌≡◌};
 ghost use Rattle.bauthor.specs.NameLines.{suits};
-ghost use Rattle.bauthor.specs.declared.fault.NameFault.TheVariants.{Memory};
 
 use crate::line::NameLine;
 use bword::Name;
-use std::alloc::{AllocError, AllocFailed};
 
 /// What a line of a file of names has to be.
 #[derive(Clone, Copy)]
@@ -51,20 +49,4 @@ pub enum NameFault {
     Line(u64, Wanted),
     /// Memory ran out.
     Memory,
-}
-
-impl From<AllocError> for NameFault {
-    ghost from_gives = { λ _ fault. fault ≡ Memory };
-
-    fn from(_error: AllocError) -> NameFault {
-        NameFault::Memory
-    }
-}
-
-impl<T: Drop> From<AllocFailed<T>> for NameFault {
-    ghost from_gives = { λ _ fault. fault ≡ Memory };
-
-    fn from(_failed: AllocFailed<T>) -> NameFault {
-        NameFault::Memory
-    }
 }

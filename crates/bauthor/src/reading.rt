@@ -145,7 +145,9 @@ impl Reader<'_> {
         let Some(next) = self.number.checked_add(1) else {
             return Err(NameFault::Memory);
         };
-        self.names.push(found)?;
+        if self.names.push(found).is_err() {
+            return Err(NameFault::Memory);
+        }
         self.number = next;
         self.at += 1;
         Ok(())
