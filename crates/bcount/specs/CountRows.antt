@@ -189,7 +189,7 @@ unfolding digits
 nothing_is_spelled_so = refl
 
 abbrev by_itself : CodeText
-by_itself = record { code = code_of_nothing; lines = None }
+by_itself = record { code = code_of_nothing; lines = None; names = None }
 
 lines_of_code : HasPlaceLines by_itself nothing (2 ∷ 3 ∷ [])
 lines_of_code = refl
@@ -206,7 +206,7 @@ unfolding digits
 counted_by_code = refl
 
 abbrev by_author : CodeText
-by_author = record { code = code_of_nothing; lines = Some (codes "2\n2\n") }
+by_author = record { code = code_of_nothing; lines = Some (codes "2\n2\n"); names = None }
 
 lines_of_author : source_lines (codes "2\n2\n") ≡ map decimal (2 ∷ 2 ∷ []) ++ [] ∷ []
 unfolding digits

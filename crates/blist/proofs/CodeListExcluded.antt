@@ -10,10 +10,11 @@ use Rattle.blang.specs.Layout.{load_fault}
 use Rattle.blang.specs.Machine.{image_of}
 use Rattle.blang.specs.Reports.{Reported, report_text}
 use Rattle.blang.specs.Text.{IsCodeText}
-use Rattle.btools.specs.CodesExcluded.{ExcludedOfOther, ExcludedOfText}
+use Rattle.btools.specs.CodesExcluded.{ExcludedOfOther, ExcludedOfText, IsUnsuited}
+use Rattle.btools.specs.NamedFrames.{HasFrames}
 use Rattle.btools.specs.Origins.{Code, beside}
-use Rattle.btools.specs.PlaceLines.{CodeText, HasPlaceLines, places_in}
-use Rattle.btools.specs.Programs.{ToldEnds, load_line, unlined_line}
+use Rattle.btools.specs.PlaceLines.{CodeText, HasPlaceLines}
+use Rattle.btools.specs.Programs.{ToldEnds, load_line}
 use Rattle.btools.specs.declared.names.Frame.{Frame}
 use Rattle.btools.proofs.CodesExcluded.{codes_excluded}
 use Rattle.btools.proofs.ProgramsExcluded.{device_grew, other_answer, was_told}
@@ -49,7 +50,8 @@ module _ (c : CodeText) (source : List ℕ) (name : Option (List ℕ)) (ends : T
     told = codes_excluded.texts c source line_of ends.line ends.line_after ds is
 
     list_done : Gives c source name ends 0
-        → (load_fault ds ≡ None) × (wanted name ds ≡ [] → ⊥) × ((lines : List ℕ) × HasPlaceLines c ds lines × Writes ends.out (list_text (image_of ds) (beside (Code c) source) name ds lines []) ends.out_after)
+        → (load_fault ds ≡ None) × (wanted name ds ≡ [] → ⊥)
+        × ((lines : List ℕ) × (frames : List Frame) × HasPlaceLines c ds lines × HasFrames c ds frames × Writes ends.out (list_text (image_of ds) (beside (Code c) source) name ds lines frames) ends.out_after)
     list_done (listing.listed es image lines frames p own named silent some report) =
         let same = told.program es image p in
         let text = beside (Code c) source in (
@@ -57,9 +59,11 @@ module _ (c : CodeText) (source : List ℕ) (name : Option (List ℕ)) (ends : T
           subst (λ (x : List Definition). wanted name x ≡ [] → ⊥) same.0 some,
           (
             lines,
+            frames,
             own ds is,
+            named ds is,
             subst (λ t. Writes ends.out t ends.out_after)
-                (listing_same es image p.loaded text name lines frames ∙ ap (λ (x : List Definition). list_text (image_of x) text name x lines frames) same.0 ∙ ap (λ (fs : List Frame). list_text (image_of ds) text name ds lines fs) named)
+                (listing_same es image p.loaded text name lines frames ∙ ap (λ (x : List Definition). list_text (image_of x) text name x lines frames) same.0)
                 (was_told (list_text image text name es lines frames) 0 ends.out ends.out_after (λ e. omega (arith, e)) (λ e. omega (arith, e)) report),
           ),
         )
@@ -77,7 +81,7 @@ module _ (c : CodeText) (source : List ℕ) (name : Option (List ℕ)) (ends : T
     list_unloaded (listing.stopped why quiet) = (told.unloaded why, quiet)
 
     list_unknown : Gives c source name ends 135
-        → (((wanted name ds ≡ []) × Writes ends.line UNDEFINED.now ends.line_after) ⊎ (((ls : List ℕ) → HasPlaceLines c ds ls → ⊥) × Writes ends.line (unlined_line (places_in ds)) ends.line_after)) × (ends.out_after ≡ ends.out)
+        → (((wanted name ds ≡ []) × Writes ends.line UNDEFINED.now ends.line_after) ⊎ IsUnsuited c ds ends.line ends.line_after) × (ends.out_after ≡ ends.out)
     list_unknown (listing.listed es image lines frames p own named silent some report) = absurd (not_listed _ 135 (λ e. omega (arith, e)) (λ e. omega (arith, e)) (λ e. omega (arith, e)) report)
     list_unknown (listing.unnamed es image p none report quiet) = (
       inl (
@@ -86,7 +90,7 @@ module _ (c : CodeText) (source : List ℕ) (name : Option (List ℕ)) (ends : T
       ),
       quiet,
     )
-    list_unknown (listing.stopped why quiet) = (inr (told.unlined why), quiet)
+    list_unknown (listing.stopped why quiet) = (inr (told.unsuited why), quiet)
 
     list_device : Gives c source name ends 133 → Grew ends.out.failures ends.out_after.failures ⊎ Grew ends.line.failures ends.line_after.failures
     list_device (listing.listed es image lines frames p own named silent some report) = inl (device_grew _ 0 ends.out ends.out_after (λ e. omega (arith, e)) report)

@@ -10,9 +10,12 @@ use Rattle.blang.specs.Layout.{load_fault}
 use Rattle.blang.specs.Machine.{image_of}
 use Rattle.blang.specs.Reports.{report_text}
 use Rattle.blang.specs.Text.{IsCodeText}
+use Rattle.btools.specs.CodesExcluded.{IsUnsuited}
+use Rattle.btools.specs.NamedFrames.{HasFrames}
 use Rattle.btools.specs.Origins.{Code, beside}
-use Rattle.btools.specs.PlaceLines.{CodeText, HasPlaceLines, places_in}
-use Rattle.btools.specs.Programs.{ToldEnds, load_line, unlined_line}
+use Rattle.btools.specs.PlaceLines.{CodeText, HasPlaceLines}
+use Rattle.btools.specs.Programs.{ToldEnds, load_line}
+use Rattle.btools.specs.declared.names.Frame.{Frame}
 use Rattle.blist.specs.declared.listing.TheConstants.{UNDEFINED}
 use Rattle.blist.specs.Listings.{Lists, list_text, wanted}
 
@@ -22,11 +25,12 @@ module _ (c : CodeText) (source : List ℕ) (name : Option (List ℕ)) (ends : T
 
   -- What is excluded of a listing of a code text of these definitions.
   pub record WrongTextListings (ds : List Definition) : Type 0 where
-    -- 0 for what doesn't load, for a name that isn't defined, or with other rows, as with another line
+    -- 0 for what doesn't load, for a name that isn't defined, or with other rows, as with another line, or with other
+    -- names than those of its file of names
     pub done : Gives DONE
         → (load_fault ds ≡ None) × (wanted name ds ≡ [] → ⊥)
-        × ((lines : List ℕ) × HasPlaceLines c ds lines
-        × Writes ends.out (list_text (image_of ds) (beside (Code c) source) name ds lines []) ends.out_after)
+        × ((lines : List ℕ) × (frames : List Frame) × HasPlaceLines c ds lines × HasFrames c ds frames
+        × Writes ends.out (list_text (image_of ds) (beside (Code c) source) name ds lines frames) ends.out_after)
     -- 1
     pub fault : Gives FAULT → ⊥
     -- 132 for definitions that load, or with another line, or with anything else written
@@ -34,11 +38,11 @@ module _ (c : CodeText) (source : List ℕ) (name : Option (List ℕ)) (ends : T
         → ((f : LoadFault) × (text : List ℕ) × (load_fault ds ≡ Some f) × (load_line f ≡ Some text)
         × Writes ends.line text ends.line_after)
         × (ends.out_after ≡ ends.out)
-    -- 135 for a name that is defined and lines that suit the code, or with another line, or with anything else written
+    -- 135 for a name that is defined, and lines and names that suit the code, or with another line, or with anything
+    -- else written
     pub unknown : Gives WRONG_COMMAND
         → (((wanted name ds ≡ []) × Writes ends.line UNDEFINED.now ends.line_after)
-        ⊎ (((ls : List ℕ) → HasPlaceLines c ds ls → ⊥)
-        × Writes ends.line (unlined_line (places_in ds)) ends.line_after))
+        ⊎ IsUnsuited c ds ends.line ends.line_after)
         × (ends.out_after ≡ ends.out)
     -- 133 where no write failed
     pub device : Gives DEVICE

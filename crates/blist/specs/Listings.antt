@@ -66,7 +66,7 @@ list_text image source name ds lines frames =
 
 -- What is written for a source or a code text: the lines of the code of what is wanted, each in its row, where it lies
 -- and beside the line of the source that it comes from; or nothing but why there are none, or that none has the name.
--- Which labels stand beside them is not said.
+-- Which labels of a source stand beside them is not said.
 pub data Lists (origin : Origin) (source : List ℕ) (name : Option (List ℕ)) (ends : ToldEnds) (status : ℕ) : Type 0
   where
     listed : (ds : List Definition) (image : Image) (lines : List ℕ) (frames : List Frame)

@@ -1,5 +1,5 @@
 -- What a code text decides of what is told of its program.
-use Rattle.std.proofs.Common.{◌≡◌, ◌∙◌, ℕ, ◌<◌, ◌≤◌, List, [], Option, Some, None, ap, arith, decimal, get_or, length, map, sym, subst, ◌⊎◌, inl, inr}
+use Rattle.std.proofs.Common.{◌≡◌, ◌∙◌, ℕ, ◌<◌, ◌≤◌, List, [], Option, Some, None, Result, Ok, Err, ap, arith, decimal, get_or, length, map, sym, subst, ◌⊎◌, inl, inr}
 use Rattle.std.specs.Prelude.{MatchOption}
 use Rattle.std.specs.List.{All}
 use Rattle.std.proofs.lemmas.Fmt.{decimal_injective}
@@ -18,9 +18,16 @@ use Rattle.blang.specs.Compiles.{status_of}
 use Rattle.blang.specs.Layout.{load_fault}
 use Rattle.blang.specs.Reports.{Reported, report_text}
 use Rattle.blang.specs.Text.{IsCodeText}
+use Rattle.bauthor.specs.NameFiles.{names_read}
+use Rattle.bauthor.specs.declared.line.NameLine.{NameLine}
+use Rattle.bauthor.specs.declared.fault.NameFault.{NameFault}
+use Rattle.bauthor.specs.declared.fault.NameFault.TheVariants as name_fault
+use Rattle.bauthor.specs.declared.fault.Wanted.{Wanted}
+use Rattle.btools.specs.declared.names.Frame.{Frame}
 use Rattle.btools.specs.declared.program.ProgramFault.{ProgramFault}
 use Rattle.btools.specs.declared.program.ProgramFault.TheVariants as why
-use Rattle.btools.specs.CodesExcluded.{ExcludedOfOther, ExcludedOfText, WrongCodes}
+use Rattle.btools.specs.CodesExcluded.{ExcludedOfOther, ExcludedOfText, IsUnsuited, WrongCodes}
+use Rattle.btools.specs.NamedFrames.{HasFrames, HasNamesIn, HasWrongName, frames_named, function_names, unnamed_line}
 use Rattle.btools.specs.Origins.{HasNoCode}
 use Rattle.btools.specs.PlaceLines.{CodeText, HasPlaceLines, IsLinesFile, lines_before, place_lines, places_in}
 use Rattle.btools.specs.Programs.{TellsFault, load_line, unlined_line}
@@ -41,11 +48,38 @@ same_numbers ns ms small little same =
 same_file : (file : List ℕ) (count : ℕ) (ls ms : List ℕ) → IsLinesFile file count ls → IsLinesFile file count ms → ls ≡ ms
 same_file file count ls ms f g = same_numbers ls ms f.within g.within (same_from_push (map decimal ls) (map decimal ms) [] [] (sym f.each ∙ g.each)).0
 
+abbrev read_as : List NameLine → Result (List NameLine) NameFault
+read_as ls = Ok ls
+
+ok_same : (ls ms : List NameLine) → read_as ls ≡ Ok ms → ls ≡ ms
+ok_same ls ms e = cc
+
+not_read : (ls : List NameLine) (n : ℕ) (w : Wanted) → read_as ls ≡ Err (name_fault.Line n w) → ⊥
+not_read ls n w e = cc
+
 lined_so : (code : List ℕ) (o : Option (List ℕ)) (ds : List Definition) (ls ms : List ℕ)
     → MatchOption o (ls ≡ place_lines (lines_before code) ds) (λ file. IsLinesFile file (places_in ds) ls)
     → MatchOption o (ms ≡ place_lines (lines_before code) ds) (λ file. IsLinesFile file (places_in ds) ms) → ls ≡ ms
 lined_so code None ds ls ms h k = h ∙ sym k
 lined_so code (Some file) ds ls ms h k = same_file file (places_in ds) ls ms h k
+
+-- a file of names that is read has the names of one list of lines
+same_read : (file : List ℕ) (ds : List Definition) (fs gs : List Frame) → HasNamesIn file ds fs → HasNamesIn file ds gs → map function_names fs ≡ map function_names gs
+same_read file ds fs gs h k =
+    h.2 ∙ ap (frames_named ds) (ok_same h.0 k.0 (sym h.1 ∙ k.1)) ∙ sym k.2
+
+named_so : (o : Option (List ℕ)) (ds : List Definition) (fs gs : List Frame)
+    → MatchOption o (fs ≡ []) (λ file. HasNamesIn file ds fs) → MatchOption o (gs ≡ []) (λ file. HasNamesIn file ds gs)
+    → map function_names fs ≡ map function_names gs
+named_so None ds fs gs h k = ap (map function_names) (h ∙ sym k)
+named_so (Some file) ds fs gs h k = same_read file ds fs gs h k
+
+-- it has no wrong line
+no_wrong_name : (o : Option (List ℕ)) (ds : List Definition) (n : ℕ) (w : Wanted) (fs : List Frame)
+    → MatchOption o ⊥ (λ file. names_read file ds ≡ Err (name_fault.Line n w))
+    → MatchOption o (fs ≡ []) (λ file. HasNamesIn file ds fs) → ⊥
+no_wrong_name None ds n w fs wrong names = wrong
+no_wrong_name (Some file) ds n w fs wrong names = not_read names.0 n w (sym names.1 ∙ wrong)
 
 -- a status of a reason is that of its line, or that of a refused write
 line_status : (text : List ℕ) (told : ℕ) (old new : Outgoing) (status : ℕ) → Reported text told old new status → (status ≡ told) ⊎ (status ≡ 133) ⊎ (status ≡ 134)
@@ -68,6 +102,7 @@ module _ (c : CodeText) (source : List ℕ) (lines : Diagnostic → List ℕ) (l
     status (why.Faulty d) s why_not told = absurd why_not
     status (why.Unread n) s why_not told = absurd (why_not.1 ds is)
     status (why.Unlined count) s why_not told = inr (line_status (unlined_line count) 135 line line_after s told)
+    status (why.Unnamed n w) s why_not told = inr (line_status (unnamed_line n w) 135 line line_after s told)
     status (why.Unloaded f) s why_not told =
         elim (by_line lines line line_after f s told) [
           | inl t ↦ elim (line_status t.0 132 line line_after s t.2) [ inl a ↦ inl a | inr b ↦ inr (inr b) ]
@@ -79,6 +114,7 @@ module _ (c : CodeText) (source : List ℕ) (lines : Diagnostic → List ℕ) (l
     unloaded (why.Faulty d) why_not told = absurd why_not
     unloaded (why.Unread n) why_not told = absurd (why_not.1 ds is)
     unloaded (why.Unlined count) why_not told = absurd (other_answer (unlined_line count) 135 line line_after 132 (λ e. omega (arith, e)) (λ e. omega (arith, e)) (λ e. omega (arith, e)) told)
+    unloaded (why.Unnamed n w) why_not told = absurd (other_answer (unnamed_line n w) 135 line line_after 132 (λ e. omega (arith, e)) (λ e. omega (arith, e)) (λ e. omega (arith, e)) told)
     unloaded (why.Unloaded f) why_not told =
         elim (by_line lines line line_after f 132 told) [
           | inl t ↦ (
@@ -92,37 +128,46 @@ module _ (c : CodeText) (source : List ℕ) (lines : Diagnostic → List ℕ) (l
         ]
     unloaded why.Memory why_not told = absurd (omega (arith, told.1))
 
-    unlined : (f : ProgramFault) → HasNoCode c f → TellsFault lines f line line_after 135 → ((ls : List ℕ) → HasPlaceLines c ds ls → ⊥) × Writes line (unlined_line (places_in ds)) line_after
-    unlined (why.Faulty d) why_not told = absurd why_not
-    unlined (why.Unread n) why_not told = absurd (why_not.1 ds is)
-    unlined (why.Unlined count) why_not told = (
+    unsuited : (f : ProgramFault) → HasNoCode c f → TellsFault lines f line line_after 135 → IsUnsuited c ds line line_after
+    unsuited (why.Faulty d) why_not told = absurd why_not
+    unsuited (why.Unread n) why_not told = absurd (why_not.1 ds is)
+    unsuited (why.Unlined count) why_not told = inl (
       λ ls has. why_not.3 ls (subst (λ (x : List Definition). HasPlaceLines c x ls) (sym (same why_not.0 why_not.1)) has),
       subst (λ (n : ℕ). Writes line (unlined_line n) line_after) (sym why_not.2 ∙ ap places_in (same why_not.0 why_not.1))
           (was_told (unlined_line count) 135 line line_after (λ e. omega (arith, e)) (λ e. omega (arith, e)) told),
     )
-    unlined (why.Unloaded f) why_not told =
+    unsuited (why.Unnamed n w) why_not told = inr (
+      n,
+      w,
+      subst (λ (x : List Definition). HasWrongName c x n w) (same why_not.0 why_not.1) why_not.2,
+      was_told (unnamed_line n w) 135 line line_after (λ e. omega (arith, e)) (λ e. omega (arith, e)) told,
+    )
+    unsuited (why.Unloaded f) why_not told =
         absurd (elim (by_line lines line line_after f 135 told) [ inl t ↦ other_answer t.0 132 line line_after 135 (λ e. omega (arith, e)) (λ e. omega (arith, e)) (λ e. omega (arith, e)) t.2 | inr m ↦ omega (arith, m) ])
-    unlined why.Memory why_not told = absurd (omega (arith, told.1))
+    unsuited why.Memory why_not told = absurd (omega (arith, told.1))
 
-    loads : (f : ProgramFault) (s : ℕ) → HasNoCode c f → TellsFault lines f line line_after s → load_fault ds ≡ None → (ls : List ℕ) → HasPlaceLines c ds ls → s ≡ 134
-    loads (why.Faulty d) s why_not told none ls has = absurd why_not
-    loads (why.Unread n) s why_not told none ls has = absurd (why_not.1 ds is)
-    loads (why.Unlined count) s why_not told none ls has =
+    loads : (f : ProgramFault) (s : ℕ) → HasNoCode c f → TellsFault lines f line line_after s → load_fault ds ≡ None → (ls : List ℕ) → HasPlaceLines c ds ls → (fs : List Frame) → HasFrames c ds fs → s ≡ 134
+    loads (why.Faulty d) s why_not told none ls has fs names = absurd why_not
+    loads (why.Unread n) s why_not told none ls has fs names = absurd (why_not.1 ds is)
+    loads (why.Unlined count) s why_not told none ls has fs names =
         absurd (why_not.3 ls (subst (λ (x : List Definition). HasPlaceLines c x ls) (sym (same why_not.0 why_not.1)) has))
-    loads (why.Unloaded f) s why_not told none ls has = let bad : None ≡ Some f = sym none ∙ loads_so why_not.0 f why_not.1 why_not.2 in cc
-    loads why.Memory s why_not told none ls has = told.1
+    loads (why.Unnamed n w) s why_not told none ls has fs names =
+        absurd (no_wrong_name c.names ds n w fs (subst (λ (x : List Definition). HasWrongName c x n w) (same why_not.0 why_not.1) why_not.2) names)
+    loads (why.Unloaded f) s why_not told none ls has fs names = let bad : None ≡ Some f = sym none ∙ loads_so why_not.0 f why_not.1 why_not.2 in cc
+    loads why.Memory s why_not told none ls has fs names = told.1
 
     of_text : ExcludedOfText c source lines line line_after ds
     of_text = record {
       program = λ es image p. (same es p.text, subst (λ (x : List Definition). load_fault x ≡ None) (same es p.text) p.loads);
       lined = λ ls ms h k. lined_so c.code c.lines ds ls ms (h ds is) (k ds is);
+      named = λ fs gs h k. named_so c.names ds fs gs (h ds is) (k ds is);
       unread = λ n why_not. why_not.1 ds is;
       faulty = λ d why_not. why_not;
       status = λ s n. status n.0 s n.1 n.2;
       unloaded = λ n. unloaded n.0 n.1 n.2;
-      unlined = λ n. unlined n.0 n.1 n.2;
+      unsuited = λ n. unsuited n.0 n.1 n.2;
       device = λ n. failed lines line line_after n.0 n.2;
-      loads = λ s n none ls has. loads n.0 s n.1 n.2 none ls has;
+      loads = λ s n none ls has fs names. loads n.0 s n.1 n.2 none ls has fs names;
     }
 
   module _ (n : ℕ) (first : IsFaultLine c.code n) (none : (ds : List Definition) → IsCodeText c.code ds → ⊥) where
@@ -130,6 +175,7 @@ module _ (c : CodeText) (source : List ℕ) (lines : Diagnostic → List ℕ) (l
     other_status (why.Faulty d) s why_not told = absurd why_not
     other_status (why.Unread m) s why_not told = line_status (report_text (report.Code m)) 132 line line_after s told
     other_status (why.Unlined count) s why_not told = absurd (none why_not.0 why_not.1)
+    other_status (why.Unnamed m w) s why_not told = absurd (none why_not.0 why_not.1)
     other_status (why.Unloaded f) s why_not told = absurd (none why_not.0 why_not.1)
     other_status why.Memory s why_not told = inr (inr told.1)
 
@@ -139,6 +185,7 @@ module _ (c : CodeText) (source : List ℕ) (lines : Diagnostic → List ℕ) (l
         subst (λ (k : ℕ). Writes line (report_text (report.Code k)) line_after) (same_line c.code m n why_not.0 first)
         (was_told (report_text (report.Code m)) 132 line line_after (λ e. omega (arith, e)) (λ e. omega (arith, e)) told)
     unread (why.Unlined count) why_not told = absurd (none why_not.0 why_not.1)
+    unread (why.Unnamed m w) why_not told = absurd (none why_not.0 why_not.1)
     unread (why.Unloaded f) why_not told = absurd (none why_not.0 why_not.1)
     unread why.Memory why_not told = absurd (omega (arith, told.1))
 

@@ -17,3 +17,4 @@ pub mod CodesExcluded
 pub mod ReadingText
 pub mod Ranges
 pub mod Stopped
+mod NamedFrames

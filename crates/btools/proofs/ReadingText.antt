@@ -6,7 +6,8 @@ use Rattle.blang.specs.declared.code.Definition.{Definition}
 use Rattle.blang.specs.Layout.{load_fault}
 use Rattle.blang.specs.Text.{IsCodeText}
 use Rattle.bmach.specs.Resolved.{IsLoadedFrom}
-use Rattle.btools.specs.Origins.{HasCode, HasNoCode, HasTextLines}
+use Rattle.btools.specs.NamedFrames.{HasFrames}
+use Rattle.btools.specs.Origins.{HasCode, HasNoCode, HasTextLines, HasTextNames}
 use Rattle.btools.specs.PlaceLines.{CodeText, HasPlaceLines}
 use Rattle.btools.specs.Programs.{LoadGives}
 use Rattle.btools.specs.declared.names.Names.{Names}
@@ -32,3 +33,10 @@ module _ (c : CodeText) (ds : List Definition) (is : IsCodeText c.code ds) where
       subst (λ (x : List Definition). HasPlaceLines c x p.names.lines.items) (unique_code c.code ds es is text)
       (subst (λ (n : Names). HasPlaceLines c ds n.lines.items) (sym same) lines)
   has_lines (Err e) names lines same = tt
+
+  -- its names, whatever definitions it is said to have
+  pub has_frames : (r : Result Program ProgramFault) (names : Names) → HasFrames c ds names.frames.items → IfOk r (λ p. p.names ≡ names) → IfOk r (λ p. HasTextNames c p.names.frames.items)
+  has_frames (Ok p) names frames same = λ es text.
+      subst (λ (x : List Definition). HasFrames c x p.names.frames.items) (unique_code c.code ds es is text)
+      (subst (λ (n : Names). HasFrames c ds n.frames.items) (sym same) frames)
+  has_frames (Err e) names frames same = tt

@@ -15,6 +15,8 @@ pub mod SourceLines
 pub mod ProgramLines
 pub mod LineRows
 pub mod PlaceLines
+pub mod NamedFrames
 pub mod Origins
 pub mod CodesExcluded
 mod OriginRows
+mod NamedRows

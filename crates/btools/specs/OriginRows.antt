@@ -63,7 +63,7 @@ unlined_told = refl
 
 -- a source, a code text by itself, and one with lines of a source
 what_stands_beside : map (λ o. beside o (codes "a"))
-    (Source editions.Two ∷ Code (record { code = codes "E\n"; lines = None })
-    ∷ Code (record { code = codes "E\n"; lines = Some [] }) ∷ [])
+    (Source editions.Two ∷ Code (record { code = codes "E\n"; lines = None; names = None })
+    ∷ Code (record { code = codes "E\n"; lines = Some []; names = None }) ∷ [])
     ≡ codes "a" ∷ [] ∷ codes "a" ∷ []
 what_stands_beside = refl

@@ -10,6 +10,7 @@ use Rattle.blang.specs.Machine.{Image}
 use Rattle.blang.specs.Text.{IsCodeText}
 use Rattle.bmach.specs.Resolved.{IsLoadedFrom}
 use Rattle.btools.specs.FrameNames.{HasNames}
+use Rattle.btools.specs.NamedFrames.{HasFrames, HasWrongName}
 use Rattle.btools.specs.PlaceLines.{CodeText, HasPlaceLines, places_in}
 use Rattle.btools.specs.ProgramLines.{HasLines}
 use Rattle.btools.specs.Programs.{HasNoProgram, HasProgram, TellsFault}
@@ -26,7 +27,11 @@ pub data Origin : Type 0 where
   Code : CodeText → Origin
 
 abbrev pub code_text_shown : given.CodeText.CodeText → CodeText
-code_text_shown c = record { code = c.code.now; lines = option_map (λ file. file.now) c.lines }
+code_text_shown c = record {
+  code = c.code.now;
+  lines = option_map (λ file. file.now) c.lines;
+  names = option_map (λ file. file.now) c.names;
+}
 
 abbrev pub origin_shown : given.Origin.Origin → Origin
 origin_shown (origin.Source edition) = Source edition
@@ -51,19 +56,24 @@ abbrev pub LinesOf : Origin → (source : List ℕ) → (lines : List ℕ) → T
 LinesOf (Source edition) source lines = HasLines edition source lines
 LinesOf (Code c) source lines = HasTextLines c lines
 
--- These are the names of the words of its frames; a code text has none.
+-- These are the names of the functions of a code text.
+abbrev pub HasTextNames : CodeText → List Frame → Type 0
+HasTextNames c frames = (ds : List Definition) → IsCodeText c.code ds → HasFrames c ds frames
+
+-- These are the names of the words of its frames, and of the labels of a code text.
 abbrev pub NamesOf : Origin → (source : List ℕ) → List Frame → Type 0
 NamesOf (Source edition) source frames = HasNames edition source frames
-NamesOf (Code c) source frames = frames ≡ []
+NamesOf (Code c) source frames = HasTextNames c frames
 
--- why a code text has no program: its first wrong line, or that its lines aren't one for each of so many places, or why
--- it doesn't load, or that memory was refused
+-- why a code text has no program: its first wrong line, or that its lines aren't one for each of so many places, or the
+-- first wrong line of its file of names, or why it doesn't load, or that memory was refused
 abbrev pub HasNoCode : CodeText → ProgramFault → Type 0
 HasNoCode c (why.Faulty d) = ⊥
 HasNoCode c (why.Unread n) = IsFaultLine c.code n × ((ds : List Definition) → IsCodeText c.code ds → ⊥)
 HasNoCode c (why.Unlined count) =
     (ds : List Definition) × IsCodeText c.code ds × (places_in ds ≡ count)
     × ((lines : List ℕ) → HasPlaceLines c ds lines → ⊥)
+HasNoCode c (why.Unnamed n w) = (ds : List Definition) × IsCodeText c.code ds × HasWrongName c ds n w
 HasNoCode c (why.Unloaded f) = (ds : List Definition) × IsCodeText c.code ds × (load_fault ds ≡ Some f)
 HasNoCode c why.Memory = Unit {0}
 

@@ -10,10 +10,11 @@ use Rattle.blang.specs.declared.code.Definition.{Definition}
 use Rattle.blang.specs.declared.code.Definition.TheVariants as definition
 use Rattle.btools.specs.SourceLines.{line_at, source_lines}
 
--- a code text, and the file of the lines that its places come from, if there is one
+-- a code text, the file of the lines that its places come from, if there is one, and its file of names, if there is one
 pub record CodeText : Type 0 where
   pub code : List ℕ
   pub lines : Option (List ℕ)
+  pub names : Option (List ℕ)
 
 -- how many instructions and initial values there are
 abbrev pub places_in : List Definition → ℕ

@@ -20,6 +20,7 @@ use Rattle.blang.specs.declared.run.Outcome.{Outcome}
 use Rattle.blang.specs.declared.run.LoadFault.TheVariants as fault
 use Rattle.blang.specs.declared.run.Outcome.TheVariants as outcome
 use Rattle.blang.specs.declared.run.Report.TheVariants as report
+use Rattle.btools.specs.NamedFrames.{unnamed_line}
 use Rattle.btools.specs.declared.program.Program.{Program}
 use Rattle.btools.specs.declared.program.ProgramFault.{ProgramFault}
 use Rattle.btools.specs.declared.program.ProgramFault.TheVariants as why
@@ -113,6 +114,8 @@ TellsFault lines (why.Unread n) line line_after status =
     Reported (report_text (report.Code n)) REFUSED line line_after status
 TellsFault lines (why.Unlined count) line line_after status =
     Reported (unlined_line count) WRONG_COMMAND line line_after status
+TellsFault lines (why.Unnamed n w) line line_after status =
+    Reported (unnamed_line n w) WRONG_COMMAND line line_after status
 TellsFault lines why.Memory line line_after status = (line_after ≡ line) × (status ≡ MEMORY)
 
 -- there is no program, and why was told

@@ -3,6 +3,7 @@
 
 mod characters;
 mod entries;
+mod named_frames;
 mod names;
 mod origin;
 mod place_lines;

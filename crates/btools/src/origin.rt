@@ -13,12 +13,14 @@ pub enum Origin<'a> {
     Code(CodeText<'a>),
 }
 
-/// A code text, and the lines that its places come from.
+/// A code text, and what its author gives beside it.
 #[derive(Clone, Copy)]
 pub struct CodeText<'a> {
     pub code: &'a [u8],
     /// A file with a number on a line of its own for each place. Without it the lines are those of the code text.
     pub lines: Option<&'a [u8]>,
+    /// A file of the names of the words and labels of its functions. Without it they have none.
+    pub names: Option<&'a [u8]>,
 }
 
 impl Origin<'_> {

@@ -1,15 +1,18 @@
 //! A source that is compiled and loaded, or a code text that is loaded.
-ghost use Rattle.std.specs.Prelude.{◌≡◌, [], IfOk, MatchResult, Some, drop, take};
+ghost use Rattle.std.specs.Prelude.{◌≡◌, IfOk, MatchResult, Some, drop, take};
 ghost use Rattle.blang.specs.Lines.{size_of};
 ghost use Rattle.btools.specs.FrameNames.{HasNames};
 ghost use Rattle.btools.specs.KeptNames.{notes_in, notes_kept};
-ghost use Rattle.btools.specs.Origins.{HasCode, HasNoCode, HasNoProgramOf, HasTextLines, IsProgramOf, LinesOf, NamesOf, code_text_shown, origin_shown};
+ghost use Rattle.btools.specs.Origins.{HasCode, HasNoCode, HasNoProgramOf, HasTextLines, HasTextNames, IsProgramOf};
+ghost use Rattle.btools.specs.Origins.{LinesOf, NamesOf, code_text_shown, origin_shown};
 ghost use Rattle.btools.specs.ProgramLines.{HasLines, KeepsNotesOf};
 ghost use Rattle.btools.specs.Programs.{HasFault, HasNoProgram, IsCodeOf, IsThisProgram, LoadGives};
 
+use crate::named_frames::frames_of_text;
 use crate::names::{NameKeeper, Names};
 use crate::origin::{CodeText, Origin};
 use crate::place_lines::lines_of_places;
+use bauthor::Wanted;
 use bcode::{CodeFault, read_code};
 use blang::{Definition, Diagnostic, LoadFault};
 use bmach::{Image, load_slice};
@@ -44,6 +47,8 @@ pub enum ProgramFault {
     Unread(u64),
     /// The file of lines isn't a number for each place of the code text, which has so many.
     Unlined(usize),
+    /// The first wrong line of the file of names of the code text, from 1 on, and what it has to be.
+    Unnamed(u64, Wanted),
     /// The code doesn't load.
     Unloaded(LoadFault),
     /// Memory ran out.
@@ -137,12 +142,12 @@ fn load_named(
     }
 }
 
-// Loads a code text, which has no names of frames.
+// Loads a code text.
 fn read_text(alloc: Global, text: CodeText<'_>) -> Result<Program, ProgramFault>
     ensures program { MatchResult result (λ p. HasCode text.entry.code.now p.definitions.items p.image)
         (HasNoCode (code_text_shown text.entry)) }
     ensures lines { IfOk result (λ p. HasTextLines (code_text_shown text.entry) p.names.lines.items) }
-    ensures names { IfOk result (λ p. p.names.frames.items ≡ []) }
+    ensures names { IfOk result (λ p. HasTextNames (code_text_shown text.entry) p.names.frames.items) }
 {
     let definitions = match read_code(alloc, text.code) {
         Ok(definitions) => definitions,
@@ -153,14 +158,11 @@ fn read_text(alloc: Global, text: CodeText<'_>) -> Result<Program, ProgramFault>
         Ok(lines) => lines,
         Err(fault) => return Err(fault),
     };
-    load_named(
-        alloc,
-        definitions,
-        Names {
-            frames: Vec::new(alloc),
-            lines,
-        },
-    )
+    let frames = match frames_of_text(alloc, text, &definitions) {
+        Ok(frames) => frames,
+        Err(fault) => return Err(fault),
+    };
+    load_named(alloc, definitions, Names { frames, lines })
 }
 
 /// Compiles a source to the definitions of its code, or to its fault. The watcher looks at the compiler after each one.

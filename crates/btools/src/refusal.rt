@@ -1,5 +1,5 @@
 //! Why a source or a code text has no program, as it is told.
-ghost use Rattle.std.specs.Prelude.{◌≡◌, ◌++◌, IfOk, List, option_map, ℕ};
+ghost use Rattle.std.specs.Prelude.{◌≡◌, ◌≤◌, ◌++◌, IfOk, List, length, option_map, ℕ};
 ghost use Rattle.blang.specs.Compiles.{line_of};
 ghost use Rattle.blang.specs.Reports.{report_text};
 ghost use Rattle.blang.specs.declared.run.Report.TheVariants as report;
@@ -7,6 +7,7 @@ ghost use Rattle.bsources.specs.Files.{files_shown, line_shown};
 ghost use Rattle.btools.specs.CodesExcluded.{WrongCodes};
 ghost use Rattle.btools.specs.ProgramsExcluded.{WrongPrograms};
 ghost use Rattle.btools.specs.FaultPlaces.{fault_lines, place_line};
+ghost use Rattle.btools.specs.NamedFrames.{unnamed_line, wanted_text, word_form};
 ghost use Rattle.btools.specs.Origins.{HasNoProgramOf, NoProgramOf, Origin};
 ghost use Rattle.btools.specs.Programs.{TellsFault, load_line, unlined_line};
 
@@ -15,6 +16,7 @@ use crate::quoting::push_file;
 use crate::telling::tell;
 use crate::text::Text;
 use arrayvec::ArrayString;
+use bauthor::Wanted;
 use blang::status::{self, Status};
 use blang::{Diagnostic, LoadFault};
 use bparse::write_diagnostic;
@@ -50,6 +52,13 @@ pub fn tell_fault<D: ByteOut>(fault: &ProgramFault, diag: &mut D) -> Status
                 diag,
             )
         }
+        ProgramFault::Unnamed(number, wanted) => {
+            tell(
+                unnamed_line(*number, *wanted).as_str().as_bytes(),
+                status::WRONG_COMMAND,
+                diag,
+            )
+        }
         ProgramFault::Unloaded(fault) => match load_line(fault) {
             Some(line) => tell(line, status::REFUSED, diag),
             None => status::MEMORY,
@@ -78,6 +87,56 @@ fn unlined_line(count: usize) -> ArrayString<CODE_LINE_LEN>
     line.push_str(Buffer::new().format(count));
     line.push_str(" lines, a decimal number for each place of the code\n");
     line
+}
+
+// The line of a file of names whose first wrong line has this number.
+fn unnamed_line(number: u64, wanted: Wanted) -> ArrayString<CODE_LINE_LEN>
+    ensures { result.bytes ≡ unnamed_line number wanted }
+{
+    let mut line = ArrayString::new();
+    line.push_str("error: line ");
+    line.push_str(Buffer::new().format(number));
+    line.push_str(" of the file of names has to be ");
+    push_wanted(&mut line, wanted);
+    line.push_str("\n");
+    line
+}
+
+fn push_wanted(line: &mut ArrayString<CODE_LINE_LEN>, wanted: Wanted)
+    requires { length line.now.bytes ≤ 64 }
+    ensures added { line.new.bytes ≡ line.old.bytes ++ wanted_text wanted }
+    ensures few { length line.new.bytes ≤ 126 }
+{
+    match wanted {
+        Wanted::Function(name) => {
+            line.push_str("'F ");
+            line.push_str(name.as_str());
+            line.push_str("'");
+        }
+        Wanted::Word(function, word) => {
+            line.push_str(word_form(word));
+            line.push_str(Buffer::new().format(word));
+            line.push_str(" of ");
+            line.push_str(function.as_str());
+        }
+        Wanted::Label(function, label) => {
+            line.push_str("'l NAME', for label ");
+            line.push_str(Buffer::new().format(label));
+            line.push_str(" of ");
+            line.push_str(function.as_str());
+        }
+        Wanted::End => line.push_str("its end"),
+    }
+}
+
+fn word_form(word: u16) -> &'static str
+    ensures { result.now ≡ word_form word }
+{
+    if word > 0 {
+        "'a NAME' or '-', for word "
+    } else {
+        "'a NAME', for word "
+    }
 }
 
 /// The same, and then in which file a fault of the source lies, if that isn't the first one.

@@ -80,7 +80,7 @@ nothing_is_spelled_so : code_of_nothing ≡ joined (code_lines editions.Two noth
 unfolding digits
 nothing_is_spelled_so = refl
 
-lines_of_code : HasPlaceLines (record { code = code_of_nothing; lines = None }) nothing (3 ∷ 4 ∷ [])
+lines_of_code : HasPlaceLines (record { code = code_of_nothing; lines = None; names = None }) nothing (3 ∷ 4 ∷ [])
 lines_of_code = refl
 
 told_by_code : under_heading nothing (3 ∷ 4 ∷ []) (asked (rows.From 1) None) 2 (outcome.Exit 0)

@@ -57,7 +57,11 @@ pub fn verify_text<O: ByteOut, D: ByteOut>(
     ensures out_lender { O.lender out.new ≡ O.lender out.old }
     ensures diag_lender { D.lender diag.new ≡ D.lender diag.old }
 {
-    let text = CodeText { code, lines: None };
+    let text = CodeText {
+        code,
+        lines: None,
+        names: None,
+    };
     verify(alloc, code, Origin::Code(text), out, diag)
 }
 

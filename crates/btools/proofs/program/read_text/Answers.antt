@@ -2,9 +2,10 @@ use Rattle.std.proofs.Common.{◌∙◌, List, subst, sym}
 use Rattle.bcode.specs.Faults.{IsFaultLine, IsFaultOf}
 use Rattle.blang.specs.declared.code.Definition.{Definition}
 use Rattle.btools.specs.Origins.{code_text_shown}
+use Rattle.btools.specs.NamedFrames.{HasFrames}
 use Rattle.btools.specs.PlaceLines.{HasPlaceLines}
 use Rattle.btools.proofs.Reading.{no_line}
-use Rattle.btools.proofs.ReadingText.{has_lines}
+use Rattle.btools.proofs.ReadingText.{has_frames, has_lines}
 use Rattle.btools.proofs.program.read_text.Goals as goal
 
 pub returns-in-Err-Line-clause-program : goal.returns-in-Err-Line-clause-program
@@ -17,5 +18,14 @@ pub returns-clause-lines : goal.returns-clause-lines
 returns-clause-lines c =
     let text = code_text_shown c.args.text in
     let lines = c.in-Ok-lines_of_places.lines in
-    has_lines text c.in-Ok.definitions.items c.in-Ok.ensures.ok c.load_named.result (record { frames = c.new.result; lines = lines })
+    let frames = c.in-Ok-frames_of_text.frames in
+    has_lines text c.in-Ok.definitions.items c.in-Ok.ensures.ok c.load_named.result (record { frames = frames; lines = lines })
     (subst (λ (ds : List Definition). HasPlaceLines text ds lines.items) c.deref.ensures.value c.in-Ok-lines_of_places.ensures) c.load_named.ensures.same
+
+pub returns-clause-names : goal.returns-clause-names
+returns-clause-names c =
+    let text = code_text_shown c.args.text in
+    let lines = c.in-Ok-lines_of_places.lines in
+    let frames = c.in-Ok-frames_of_text.frames in
+    has_frames text c.in-Ok.definitions.items c.in-Ok.ensures.ok c.load_named.result (record { frames = frames; lines = lines })
+    (subst (λ (ds : List Definition). HasFrames text ds frames.items) c.deref-2.ensures.value c.in-Ok-frames_of_text.ensures) c.load_named.ensures.same
