@@ -38,12 +38,12 @@ _b() {
     try) words='--edition --steps --no-limit --with --help' ;;
     migrate) words='--help' ;;
     verify) words='--help' ;;
-    list) words='--edition --with --code --made --lines --help' ;;
+    list) words='--edition --with --code --made --lines --names --help' ;;
     map) words='--edition --with --svg --steps --help' ;;
     check) words='--write --diff --edition --with --json --fix --help' ;;
     names) words='--edition --with --json --help' ;;
-    trace) words='--edition --with --code --made --lines --steps --from --last --function --help' ;;
-    count) words='--edition --with --code --made --lines --steps --no-limit --json --help' ;;
+    trace) words='--edition --with --code --made --lines --names --steps --from --last --function --help' ;;
+    count) words='--edition --with --code --made --lines --names --steps --no-limit --json --help' ;;
     show) words='--edition --with --steps --from --last --input --careful --help' ;;
     format) words='--write --edition --check --help' ;;
     port) words='--write --diff --edition --with --help' ;;

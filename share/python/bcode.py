@@ -8,8 +8,9 @@
   b'F main 0 0 0 0 8\\nx printn\\nv\\nc 42\\nc 10\\nk 2\\np\\nc 0\\nr\\nE\\n'
 
 `Code.line` is the line of your source to which all belongs that is added from then on; `lines()` has these lines, as
-`b trace --made` takes them. A number or a name that no code text may have is a CodeError at once, and what is still
-open at the end is one at `text()`. docs/CODE.md tells what each instruction does."""
+`b trace --made` takes them, and `names()` the names of the words of frames and of labels that were told. A number or a
+name that no code text may have is a CodeError at once, and what is still open at the end is one at `text()`.
+docs/CODE.md tells what each instruction does."""
 import operator
 import re
 
@@ -17,6 +18,7 @@ WORDS, VALUES, STRINGS, PARAMETERS, LABELS, INSTRUCTIONS = 32767, 1024, 1024, 12
 LIBRARY = ("char", "lchar", "getchar", "putchar", "printn", "exit")
 OPERATORS = ("|", "&", "==", "!=", "<", "<=", ">", ">=", "<<", ">>", "-", "+", "%", "*", "/")
 END_OF_STRING = 4
+NAME = re.compile(r"[A-Za-z_][A-Za-z0-9_]{0,7}", re.ASCII)
 BEFORE_INC, BEFORE_DEC, AFTER_INC, AFTER_DEC = range(4)
 
 
@@ -39,9 +41,15 @@ def word(given):
 
 
 def name_of(given):
-    if not re.fullmatch(r"[A-Za-z_][A-Za-z0-9_]{0,7}", given, re.ASCII):
+    if not NAME.fullmatch(given):
         raise CodeError(f"{given!r} is no name: one has at most eight letters, digits and _, and begins with no digit")
     return given
+
+
+def shown(given):
+    """A name as a file of names has it: what is too long is cut off, and `_` stands for what is no name."""
+    cut = str(given)[:8]
+    return cut if NAME.fullmatch(cut) else "_"
 
 
 def packed(text):
@@ -70,6 +78,7 @@ class Definition:
 
     def __init__(self, code, name):
         self.code, self.name, self.strings, self.kept, self.lines = code, name_of(name), [], {}, []
+        self.names, self.label_names = [], []
 
     def fail(self, text):
         raise CodeError(f"{self.name}: {text}")
@@ -124,24 +133,35 @@ class Function(Definition):
 
     def __init__(self, code, name, parameters):
         super().__init__(code, name)
-        self.parameters = self.frame = number(f"the parameters of {name}", parameters, 0, PARAMETERS)
+        count = parameters if hasattr(parameters, "__index__") else len(parameters)
+        self.parameters = self.frame = number(f"the parameters of {name}", count, 0, PARAMETERS)
+        named = ["_"] * self.frame if count is parameters else parameters
         self.instructions, self.labels = [], []
+        self.names = [f"F {self.name}", *(f"a {shown(it)}" for it in named)]
 
     @property
     def here(self):
         """The place of the next instruction."""
         return len(self.instructions)
 
-    def words(self, count=1):
-        """So many new words of the frame: the number of the first."""
+    def words(self, count=1, name="_"):
+        """So many new words of the frame: the number of the first, which has the name."""
         first = self.frame
         self.frame = number(f"the frame of {self.name}", first + number("words", count, 0, WORDS), 0, WORDS)
+        self.names += [f"a {shown(name)}", *["a _"] * count][:count]
         return first
 
-    def label(self):
+    def vector(self, words, name="_"):
+        """A new word of the frame for the address of the so many words after it: its number."""
+        own = self.words(1 + number("the size of a vector", words, 1, WORDS), name)
+        self.names[-words:] = ["-"] * words
+        return own
+
+    def label(self, name="_"):
         if len(self.labels) == LABELS:
             self.fail(f"it has more than {LABELS} labels")
         self.labels.append(Label(len(self.labels)))
+        self.label_names.append(f"l {shown(name)}")
         return self.labels[-1]
 
     def put(self, place):
@@ -270,11 +290,14 @@ class Function(Definition):
 
 
 class Taken(Definition):
-    """A definition of another code text."""
+    """A definition of another code text, whose words have no names."""
 
     def __init__(self, code, name, text, places):
         super().__init__(code, name)
         self.written, self.lines = lambda: text, [0] * places
+        kind, _, *sizes = text[0].split(" ")
+        if kind == "F":
+            self.names = [f"F {name}", *["a _"] * int(sizes[1]), *["l _"] * int(sizes[2])]
 
 
 class Code:
@@ -334,3 +357,8 @@ class Code:
     def lines(self):
         """The file of the lines, of which the places are those of `text()`, after a call of that."""
         return "".join(f"{line}\n" for it in self.definitions.values() for line in it.lines).encode("ascii")
+
+    def names(self):
+        """The file of the names of the words of frames and of labels, as `b list --names` takes it."""
+        lines = [line for it in self.definitions.values() for line in [*it.names, *it.label_names]]
+        return "".join(f"{line}\n" for line in lines).encode("ascii")

@@ -1,4 +1,5 @@
-"""Compiles Pebble, a small language, for the machine of B: `python3 pebble.py FILE` writes FILE.code and FILE.lines.
+"""Compiles Pebble, a small language, for the machine of B: `python3 pebble.py FILE` writes FILE.code, FILE.lines and
+FILE.names.
 
 docs/AUTHORS.md tells how it was made. `print.code` beside this file, or the file that is named after FILE, is the code
 text of B's `lib/print.b`, whose `putstr` writes a text."""
@@ -73,7 +74,7 @@ class Compiler:
             if line.next != ")":
                 line.take(",")
         line.take(")")
-        self.function = self.code.function(name, len(names))
+        self.function = self.code.function(name, names)
         self.names = {it: index for index, it in enumerate(names)}
         self.open.append(("def", self.end_def))
 
@@ -83,7 +84,7 @@ class Compiler:
     def take_let(self, line):
         name = line.take()
         if name not in self.names:
-            self.names[name] = self.inside.words()
+            self.names[name] = self.inside.words(1, name)
         self.inside.automatic(self.names[name])
         line.take("=")
         self.expression(line)
@@ -187,6 +188,7 @@ def main(source, library=pathlib.Path(__file__).with_name("print.code")):
         sys.exit(f"{fault.filename}: {fault.strerror}")
     source.with_suffix(".code").write_bytes(code)
     source.with_suffix(".lines").write_bytes(compiler.code.lines())
+    source.with_suffix(".names").write_bytes(compiler.code.names())
 
 
 if not 2 <= len(sys.argv) <= 3:

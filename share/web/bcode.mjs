@@ -7,14 +7,15 @@
 //   b.run(code.text()).text              // 42, with the b of b.mjs
 //
 // `code.line` is the line of your source to which all belongs that is added from then on; `code.lines()` has these
-// lines, as `b trace --made` takes them. What no code text may have is a CodeError at once, and what is still open at
-// the end is one at `text()`. docs/CODE.md tells what each instruction does, and docs/AUTHORS.md makes a language, in
-// Python, with the same builder.
+// lines, as `b trace --made` takes them, and `code.names()` the names of the words of frames and of labels that were
+// told. What no code text may have is a CodeError at once, and what is still open at the end is one at `text()`.
+// docs/CODE.md tells what each instruction does, and docs/AUTHORS.md makes a language, in Python, with the same builder.
 
 const WORDS = 32767, VALUES = 1024, STRINGS = 1024, PARAMETERS = 128, LABELS = 128, INSTRUCTIONS = 4096;
 const LIBRARY = ['char', 'lchar', 'getchar', 'putchar', 'printn', 'exit'];
 const OPERATORS = ['|', '&', '==', '!=', '<', '<=', '>', '>=', '<<', '>>', '-', '+', '%', '*', '/'];
 const END_OF_STRING = 4;
+const NAME = /^[A-Za-z_][A-Za-z0-9_]{0,7}$/;
 
 /** The four kinds of `increment`: ++x, --x, x++ and x--. */
 export const BEFORE_INC = 0, BEFORE_DEC = 1, AFTER_INC = 2, AFTER_DEC = 3;
@@ -39,10 +40,16 @@ function number(what, given, least, most) {
 const word = given => (number('a constant', given, -32768, 65535) + 65536) % 65536;
 
 function nameOf(given) {
-  if (!/^[A-Za-z_][A-Za-z0-9_]{0,7}$/.test(given) || /\n/.test(given)) {
+  if (!NAME.test(given) || /\n/.test(given)) {
     fail(`'${given}' is no name: one has at most eight letters, digits and _, and begins with no digit`);
   }
   return given;
+}
+
+/** A name as a file of names has it: what is too long is cut off, and `_` stands for what is no name. */
+function shown(given) {
+  const cut = String(given).slice(0, 8);
+  return NAME.test(cut) && !/\n/.test(cut) ? cut : '_';
 }
 
 /** The words of a string, with its end. */
@@ -70,6 +77,8 @@ class Definition {
   strings = [];
   kept = new Map();
   lines = [];
+  names = [];
+  labelNames = [];
 
   constructor(code, name) {
     this.code = code;
@@ -140,7 +149,10 @@ class FunctionDefinition extends Definition {
 
   constructor(code, name, parameters) {
     super(code, name);
-    this.parameters = this.frame = number(`the parameters of ${name}`, parameters, 0, PARAMETERS);
+    const count = typeof parameters === 'number' ? parameters : parameters.length;
+    this.parameters = this.frame = number(`the parameters of ${name}`, count, 0, PARAMETERS);
+    const named = typeof parameters === 'number' ? Array(count).fill('_') : parameters;
+    this.names = [`F ${this.name}`, ...named.map(it => `a ${shown(it)}`)];
   }
 
   /** The place of the next instruction. */
@@ -148,16 +160,25 @@ class FunctionDefinition extends Definition {
     return this.instructions.length;
   }
 
-  /** So many new words of the frame: the number of the first. */
-  words(count = 1) {
+  /** So many new words of the frame: the number of the first, which has the name. */
+  words(count = 1, name = '_') {
     const first = this.frame;
     this.frame = number(`the frame of ${this.name}`, first + number('words', count, 0, WORDS), 0, WORDS);
+    for (let at = 0; at < count; at++) this.names.push(`a ${at ? '_' : shown(name)}`);
     return first;
   }
 
-  label() {
+  /** A new word of the frame for the address of the so many words after it: its number. */
+  vector(words, name = '_') {
+    const own = this.words(1 + number('the size of a vector', words, 1, WORDS), name);
+    this.names.fill('-', -words);
+    return own;
+  }
+
+  label(name = '_') {
     if (this.labels.length === LABELS) this.fail(`it has more than ${LABELS} labels`);
     this.labels.push(new Label(this.labels.length));
+    this.labelNames.push(`l ${shown(name)}`);
     return this.labels.at(-1);
   }
 
@@ -249,12 +270,17 @@ class FunctionDefinition extends Definition {
   }
 }
 
-/** A definition of another code text. */
+/** A definition of another code text, whose words have no names. */
 class Taken extends Definition {
   constructor(code, name, text, places) {
     super(code, name);
     this.written = () => text;
     this.lines = Array(places).fill(0);
+    const [kind, , ...sizes] = text[0].split(' ');
+    if (kind === 'F') {
+      const all = (line, count) => Array(Number(count)).fill(line);
+      this.names = [`F ${name}`, ...all('a _', sizes[1]), ...all('l _', sizes[2])];
+    }
   }
 }
 
@@ -320,5 +346,10 @@ export class Code {
   /** The file of the lines, of which the places are those of `text()`, after a call of that. */
   lines() {
     return [...this.definitions.values()].flatMap(it => it.lines).map(it => `${it}\n`).join('');
+  }
+
+  /** The file of the names of the words of frames and of labels, as `b list --names` takes it. */
+  names() {
+    return [...this.definitions.values()].flatMap(it => [...it.names, ...it.labelNames]).map(it => `${it}\n`).join('');
   }
 }

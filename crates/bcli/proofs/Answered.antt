@@ -19,13 +19,13 @@ use Rattle.bcli.specs.declared.sources.NamedFault.{NamedFault}
 use Rattle.bcli.specs.declared.sources.Whole.{Whole}
 use Rattle.bcli.specs.declared.sources.Unread.TheVariants as read_faults
 use Rattle.bcli.specs.declared.origins.OriginTexts.{OriginTexts}
-use Rattle.bcli.specs.Reading.{HasReadLibs, HasReadOrigin, HasReadSource, IsNamed, IsUnread, LibIsUnread, OriginIsUnread, origin_read}
+use Rattle.bcli.specs.Reading.{HasReadLibs, HasReadNames, HasReadOrigin, HasReadSource, IsNamed, IsUnread, LibIsUnread, NamesAreUnread, OriginIsUnread, origin_read}
 use Rattle.bcommand.specs.declared.job.Care.{Care}
 use Rattle.bshow.specs.Shows.{Asked as PageAsked}
 use Rattle.bwatch.specs.declared.trail.TraceRows.{TraceRows as Traced}
 use Rattle.std.specs.Prelude.{◌==◌, None, Option, Some, option_map}
-use Rattle.btools.specs.Origins.{Origin}
-use Rattle.bcli.specs.Serves.{OnOrigin, ShowsBy, ShowsRun, page_asked, CompilesJoined, NamesLib, NamesLibOf, compiling, files_read, origin_of, whole, Answers, AnswersOf, Does, HasNoFile, IsHelp, NamesFile, SaysNothing, RefusesWords, Serves, did, no_memory, refused}
+use Rattle.btools.specs.Origins.{Code, Origin}
+use Rattle.bcli.specs.Serves.{OnNames, OnOrigin, ShowsBy, ShowsRun, page_asked, CompilesJoined, NamesLib, NamesLibOf, compiling, files_read, origin_of, whole, Answers, AnswersOf, Does, HasNoFile, IsHelp, NamesFile, SaysNothing, RefusesWords, Serves, did, no_memory, refused}
 use Rattle.bcli.specs.declared.shelf.FileFault.{FileFault}
 use Rattle.bcli.specs.declared.shelf.FileFault.TheVariants as file_fault
 use Rattle.bcli.specs.Shelves.{Holdings}
@@ -59,6 +59,14 @@ pub named_for : (reason other : Type 0) (file : Text) (ends : RunEnds) (status :
 named_for reason other file ends status why (inl named) = inl (why named.0, named.1, named.2)
 named_for reason other file ends status why (inr silent) = inr silent
 
+-- what is done with the names that were read
+on_names : (shelf : Holdings) (named : Option Text) (names : Option (List ℕ)) (does : Option (List ℕ) → RunEnds → ℕ → Type 0)
+    (ends : RunEnds) (status : ℕ) → HasReadNames shelf named names → does names ends status
+    → OnNames shelf named does ends status
+on_names shelf None names does ends status is answers = subst (λ (n : Option (List ℕ)). does n ends status) is answers
+on_names shelf (Some named) None does ends status held answers = absurd held
+on_names shelf (Some named) (Some names) does ends status held answers = inr (names, held, answers)
+
 -- what is asked is answered of the program that is read from these texts
 on_origin : (shelf : Holdings) (edition : Edition) (text : List ℕ) (asked : OriginAsked) (it : OriginTexts)
     (does : Origin → RunEnds → ℕ → Type 0) (ends : RunEnds) (status : ℕ) → HasReadOrigin shelf asked it
@@ -67,11 +75,18 @@ on_origin shelf edition text from_source it does ends status is answers =
     subst (λ (o : OriginTexts). does (origin_read o edition text) ends status) is answers
 on_origin shelf edition text from_code it does ends status is answers =
     subst (λ (o : OriginTexts). does (origin_read o edition text) ends status) is answers
-on_origin shelf edition text (from_made made lined) it does ends status h answers = inr (
-  h.0.code.items,
-  h.1.0,
-  inr (h.0.lines.items, h.1.1, subst (λ (o : OriginTexts). does (origin_read o edition text) ends status) h.2 answers),
-)
+on_origin shelf edition text (from_made made lined named) it does ends status h answers =
+    let made_of = λ (names : Option (List ℕ)). does (Code (record { code = h.0.code.items; lines = Some h.0.lines.items; names = names })) in
+    inr (
+      h.0.code.items,
+      h.1.0,
+      inr (
+        h.0.lines.items,
+        h.1.1,
+        on_names shelf named (option_map (λ v. v.items) h.0.names) made_of ends status h.1.2
+            (subst (λ (o : OriginTexts). does (origin_read o edition text) ends status) h.2 answers),
+      ),
+    )
 
 pub answers_from : (shelf : Holdings) (edition : Edition) (files : Files) (text : List ℕ) (question : Question) (asked : OriginAsked)
     (it : OriginTexts) (origin : Origin) (ends : RunEnds) (status : ℕ) → asked ≡ origin_of question
@@ -88,17 +103,26 @@ named_as : (shelf : Holdings) (name : Text) (it : NamedFault) (ends : RunEnds) (
 named_as shelf name it ends status h told =
     subst (λ (n : Text). NamesFile (shelf.lacks name) n ends status) h.0 (named_for _ _ _ _ _ h.1 told)
 
+names_named : (shelf : Holdings) (named : Option Text) (it : NamedFault) (does : Option (List ℕ) → RunEnds → ℕ → Type 0)
+    (ends : RunEnds) (status : ℕ) → NamesAreUnread shelf named it
+    → NamesFile (it.fault ≡ file_fault.Device) it.name.now ends status → OnNames shelf named does ends status
+names_named shelf None it does ends status h told = absurd h
+names_named shelf (Some named) it does ends status h told = inl (named_as shelf named it ends status h told)
+
 origin_named : (shelf : Holdings) (edition : Edition) (text : List ℕ) (asked : OriginAsked) (it : NamedFault)
     (does : Origin → RunEnds → ℕ → Type 0) (ends : RunEnds) (status : ℕ) → OriginIsUnread shelf asked it
     → NamesFile (it.fault ≡ file_fault.Device) it.name.now ends status → OnOrigin shelf edition text asked does ends status
 origin_named shelf edition text from_source it does ends status h told = absurd h
 origin_named shelf edition text from_code it does ends status h told = absurd h
-origin_named shelf edition text (from_made made lined) it does ends status (inl code) told =
+origin_named shelf edition text (from_made made lined named) it does ends status (inl code) told =
     inl (named_as shelf made it ends status code told)
-origin_named shelf edition text (from_made made lined) it does ends status (inr lines) told =
-    inr (lines.0, lines.1, inl (named_as shelf lined it ends status lines.2 told))
+origin_named shelf edition text (from_made made lined named) it does ends status (inr (code, held, inl lines)) told =
+    inr (code, held, inl (named_as shelf lined it ends status lines told))
+origin_named shelf edition text (from_made made lined named) it does ends status (inr (code, held, inr (lines, kept, names))) told =
+    let made_of = λ (names : Option (List ℕ)). does (Code (record { code = code; lines = Some lines; names = names })) in
+    inr (code, held, inr (lines, kept, names_named shelf named it made_of ends status names told))
 
--- the code text or its lines could not be read
+-- the code text, its lines or its names could not be read
 pub answers_named : (shelf : Holdings) (edition : Edition) (files : Files) (text : List ℕ) (question : Question) (asked : OriginAsked)
     (it : NamedFault) (ends : RunEnds) (status : ℕ) → asked ≡ origin_of question → OriginIsUnread shelf asked it
     → NamesFile (it.fault ≡ file_fault.Device) it.name.now ends status → Answers shelf edition files text question ends status

@@ -85,6 +85,7 @@ module _ (edition : Edition) (text : List ℕ) (d : Diagnostic) (faulty : HasFau
       cc
   the_fault (why.Unread n) has some = absurd has
   the_fault (why.Unlined n) has some = absurd has
+  the_fault (why.Unnamed n w) has some = absurd has
   the_fault why.Memory has some = absurd (some refl)
 
   no_write_fault : (f : EndFault) → 1 ≡ status_of f → ⊥
@@ -145,13 +146,13 @@ fault_told shelf edition files text fix ends d faulty tells answers = cc
 fault_told shelf edition files text tell_names ends d faulty tells answers = cc
 fault_told shelf edition files text (trace from_source steps shown function) ends d faulty tells answers = by_trace edition text d faulty files steps _ function ends answers
 fault_told shelf edition files text (trace from_code steps shown function) ends d faulty tells answers = cc
-fault_told shelf edition files text (trace (from_made made lined) steps shown function) ends d faulty tells answers = cc
+fault_told shelf edition files text (trace (from_made made lined named) steps shown function) ends d faulty tells answers = cc
 fault_told shelf edition files text (locate steps) ends d faulty tells answers = cc
 fault_told shelf edition files text (go_careful it steps) ends d faulty tells answers = by_careful edition text d faulty _ refl ends answers
 fault_told shelf edition files text (try_out steps) ends d faulty tells answers = cc
 fault_told shelf edition files text (count from_source steps for_editor) ends d faulty tells answers = by_count edition text d faulty _ refl ends answers
 fault_told shelf edition files text (count from_code steps for_editor) ends d faulty tells answers = cc
-fault_told shelf edition files text (count (from_made made lined) steps for_editor) ends d faulty tells answers = cc
+fault_told shelf edition files text (count (from_made made lined named) steps for_editor) ends d faulty tells answers = cc
 fault_told shelf edition files text (show it steps shown None) ends d faulty tells answers = by_any_page edition text d faulty it _ ends answers
 fault_told shelf edition files text (show it steps shown (Some given)) ends d faulty tells answers = by_any_page edition text d faulty it _ _ answers.2
 fault_told shelf edition files text (format is_check) ends d faulty tells answers = cc

@@ -1,5 +1,5 @@
 -- Answers that the contracts of `serve` and `refuse_words` exclude, whatever is proved of the body that gives them.
-use Rattle.std.proofs.Common.{◌≡◌, ◌∙◌, ◌⊎◌, ℕ, List, [], ◌∷◌, ◌++◌, Some, None, ap, refl, sym, subst, arith, inl, inr, map, append-nil}
+use Rattle.std.proofs.Common.{◌≡◌, ◌∙◌, ◌⊎◌, ℕ, List, [], ◌∷◌, ◌++◌, Option, Some, None, ap, refl, sym, subst, arith, inl, inr, map, append-nil}
 use Rattle.std.specs.Prelude.{All, codes}
 use Rattle.std.specs.Io.KnownBytes.{Appends}
 use Rattle.clap.specs.Words.{IsAmong, Text}
@@ -28,7 +28,7 @@ use Rattle.bcli.proofs.FaultLies.{fault_meant, fault_told}
 use Rattle.bcli.proofs.Joined.{failed_joined, joined_answers}
 use Rattle.bcli.proofs.TriedSources.{tried_unread, tried_whole}
 use Rattle.btools.specs.Origins.{Code, Origin}
-use Rattle.bcli.specs.Serves.{OnOrigin, origin_of, CompilesJoined, NamesLib, Reads, ReadsLibs, compiling, files_read, whole, Answers, AnswersOf, Does, HasNoFile, IsHelp, NamesFile, RefusesWords, SaysNothing, Serves, did, refused, no_memory}
+use Rattle.bcli.specs.Serves.{OnNames, OnOrigin, origin_of, CompilesJoined, NamesLib, Reads, ReadsLibs, compiling, files_read, whole, Answers, AnswersOf, Does, HasNoFile, IsHelp, NamesFile, RefusesWords, SaysNothing, Serves, did, refused, no_memory}
 use Rattle.bcli.specs.ShellExcluded.{AreWrong, Excluded, FileIsRead, HoldsOne, NothingFails, alone, files_alone, in_file, with_lib}
 
 fault_is_told : (f : EndFault) → 0 ≡ status_of f → ⊥
@@ -287,36 +287,57 @@ module _ (shelf : Holdings) where
       (subst (λ t. Answers shelf edition (files_read answers.0) t question ends status) (one_is file a edition first.alone answers.0) answers.1))
 
   -- the code text and the lines that were read are these
-  of_these : (made code lined lines text : List ℕ) (edition : Edition) (does : Origin → RunEnds → ℕ → Type 0) (ends : RunEnds) (status : ℕ) → HoldsOne shelf made code → HoldsOne shelf lined lines
-      → OnOrigin shelf edition text (from_made made lined) does ends status → does (Code (record { code = code; lines = Some lines })) ends status ⊎ SaysNothing ends status 134
-  of_these made code lined lines text edition does ends status first second (inl (inl told)) = absurd (first.there told.0)
-  of_these made code lined lines text edition does ends status first second (inl (inr memory)) = inr memory
-  of_these made code lined lines text edition does ends status first second (inr (read, held, inl (inl told))) = absurd (second.there told.0)
-  of_these made code lined lines text edition does ends status first second (inr (read, held, inl (inr memory))) = inr memory
-  of_these made code lined lines text edition does ends status first second (inr (read, held, inr (counted, kept, answers))) =
-      inl (subst (λ c. does (Code (record { code = c; lines = Some lines })) ends status) (first.alone read held)
-      (subst (λ l. does (Code (record { code = read; lines = Some l })) ends status) (second.alone counted kept) answers))
+  of_these : (made code lined lines text : List ℕ) (named : Option (List ℕ)) (edition : Edition) (does : Origin → RunEnds → ℕ → Type 0) (ends : RunEnds) (status : ℕ) → HoldsOne shelf made code → HoldsOne shelf lined lines
+      → OnOrigin shelf edition text (from_made made lined named) does ends status → OnNames shelf named (λ names. does (Code (record { code = code; lines = Some lines; names = names }))) ends status ⊎ SaysNothing ends status 134
+  of_these made code lined lines text named edition does ends status first second (inl (inl told)) = absurd (first.there told.0)
+  of_these made code lined lines text named edition does ends status first second (inl (inr memory)) = inr memory
+  of_these made code lined lines text named edition does ends status first second (inr (read, held, inl (inl told))) = absurd (second.there told.0)
+  of_these made code lined lines text named edition does ends status first second (inr (read, held, inl (inr memory))) = inr memory
+  of_these made code lined lines text named edition does ends status first second (inr (read, held, inr (counted, kept, answers))) =
+      inl (subst (λ c. OnNames shelf named (λ names. does (Code (record { code = c; lines = Some lines; names = names }))) ends status) (first.alone read held)
+      (subst (λ l. OnNames shelf named (λ names. does (Code (record { code = read; lines = Some l; names = names }))) ends status) (second.alone counted kept) answers))
 
-  made_alone : (file a made code lined lines : List ℕ) (edition : Edition) (question : Question) (ends : RunEnds) (status : ℕ) → HoldsOne shelf file a → HoldsOne shelf made code → HoldsOne shelf lined lines
-      → origin_of question ≡ from_made made lined → Does shelf (ask (in_file file edition) question) ends status
-      → AnswersOf (Code (record { code = code; lines = Some lines })) edition (record { first = file_of file a; rest = [] }) a question ends status ⊎ SaysNothing ends status 134
-  made_alone file a made code lined lines edition question ends status first second third is does = by (asked_of_one file a edition question ends status first does)
+  -- so are the names
+  of_those : (named names : List ℕ) (does : Option (List ℕ) → RunEnds → ℕ → Type 0) (ends : RunEnds) (status : ℕ) → HoldsOne shelf named names → OnNames shelf (Some named) does ends status ⊎ SaysNothing ends status 134
+      → does (Some names) ends status ⊎ SaysNothing ends status 134
+  of_those named names does ends status held (inl (inl (inl told))) = absurd (held.there told.0)
+  of_those named names does ends status held (inl (inl (inr memory))) = inr memory
+  of_those named names does ends status held (inl (inr (read, kept, answers))) = inl (subst (λ n. does (Some n) ends status) (held.alone read kept) answers)
+  of_those named names does ends status held (inr silent) = inr silent
+
+  asked_of_made : (file a made code lined lines : List ℕ) (named : Option (List ℕ)) (edition : Edition) (question : Question) (ends : RunEnds) (status : ℕ) → HoldsOne shelf file a → HoldsOne shelf made code → HoldsOne shelf lined lines
+      → origin_of question ≡ from_made made lined named → Does shelf (ask (in_file file edition) question) ends status
+      → OnNames shelf named (λ names. answered_of edition (record { first = file_of file a; rest = [] }) a question (Code (record { code = code; lines = Some lines; names = names }))) ends status ⊎ SaysNothing ends status 134
+  asked_of_made file a made code lined lines named edition question ends status first second third is does = by (asked_of_one file a edition question ends status first does)
     where
       by : Answers shelf edition (record { first = file_of file a; rest = [] }) a question ends status ⊎ SaysNothing ends status 134
-          → answered_of edition (record { first = file_of file a; rest = [] }) a question (Code (record { code = code; lines = Some lines })) ends status ⊎ SaysNothing ends status 134
-      by (inl answers) = of_these made code lined lines a edition (answered_of edition (record { first = file_of file a; rest = [] }) a question) ends status second third
+          → OnNames shelf named (λ names. answered_of edition (record { first = file_of file a; rest = [] }) a question (Code (record { code = code; lines = Some lines; names = names }))) ends status ⊎ SaysNothing ends status 134
+      by (inl answers) = of_these made code lined lines a named edition (answered_of edition (record { first = file_of file a; rest = [] }) a question) ends status second third
           (subst (λ (o : OriginAsked). OnOrigin shelf edition a o (answered_of edition (record { first = file_of file a; rest = [] }) a question) ends status) is answers)
       by (inr silent) = inr silent
 
-  named_first : (made lined text : List ℕ) (edition : Edition) (does : Origin → RunEnds → ℕ → Type 0) (ends : RunEnds) (status : ℕ) → ((code : List ℕ) → shelf.holds made code → ⊥)
-      → OnOrigin shelf edition text (from_made made lined) does ends status → NamesFile (shelf.lacks made) made ends status
-  named_first made lined text edition does ends status none (inl told) = told
-  named_first made lined text edition does ends status none (inr read) = absurd (none read.0 read.1)
+  made_alone : (file a made code lined lines : List ℕ) (edition : Edition) (question : Question) (ends : RunEnds) (status : ℕ) → HoldsOne shelf file a → HoldsOne shelf made code → HoldsOne shelf lined lines
+      → origin_of question ≡ from_made made lined None → Does shelf (ask (in_file file edition) question) ends status
+      → AnswersOf (Code (record { code = code; lines = Some lines; names = None })) edition (record { first = file_of file a; rest = [] }) a question ends status ⊎ SaysNothing ends status 134
+  made_alone file a made code lined lines edition question ends status first second third is does =
+      asked_of_made file a made code lined lines None edition question ends status first second third is does
 
-  lines_later : (made lined text : List ℕ) (edition : Edition) (files : Files) (question : Question) (ends : RunEnds) (status : ℕ) → ((code : List ℕ) → shelf.holds made code → ⊥) → origin_of question ≡ from_made made lined
+  names_alone : (file a made code lined lines named names : List ℕ) (edition : Edition) (question : Question) (ends : RunEnds) (status : ℕ) → HoldsOne shelf file a → HoldsOne shelf made code → HoldsOne shelf lined lines
+      → HoldsOne shelf named names → origin_of question ≡ from_made made lined (Some named) → Does shelf (ask (in_file file edition) question) ends status
+      → AnswersOf (Code (record { code = code; lines = Some lines; names = Some names })) edition (record { first = file_of file a; rest = [] }) a question ends status ⊎ SaysNothing ends status 134
+  names_alone file a made code lined lines named names edition question ends status first second third fourth is does =
+      of_those named names (λ ns. answered_of edition (record { first = file_of file a; rest = [] }) a question (Code (record { code = code; lines = Some lines; names = ns }))) ends status fourth
+      (asked_of_made file a made code lined lines (Some named) edition question ends status first second third is does)
+
+  named_first : (made lined text : List ℕ) (named : Option (List ℕ)) (edition : Edition) (does : Origin → RunEnds → ℕ → Type 0) (ends : RunEnds) (status : ℕ) → ((code : List ℕ) → shelf.holds made code → ⊥)
+      → OnOrigin shelf edition text (from_made made lined named) does ends status → NamesFile (shelf.lacks made) made ends status
+  named_first made lined text named edition does ends status none (inl told) = told
+  named_first made lined text named edition does ends status none (inr read) = absurd (none read.0 read.1)
+
+  lines_later : (made lined text : List ℕ) (named : Option (List ℕ)) (edition : Edition) (files : Files) (question : Question) (ends : RunEnds) (status : ℕ) → ((code : List ℕ) → shelf.holds made code → ⊥) → origin_of question ≡ from_made made lined named
       → Answers shelf edition files text question ends status → NamesFile (shelf.lacks made) made ends status
-  lines_later made lined text edition files question ends status none is answers =
-      named_first made lined text edition (answered_of edition files text question) ends status none
+  lines_later made lined text named edition files question ends status none is answers =
+      named_first made lined text named edition (answered_of edition files text question) ends status none
       (subst (λ (o : OriginAsked). OnOrigin shelf edition text o (answered_of edition files text question) ends status) is answers)
 
   compiled_joined : (lib b input : List ℕ) (edition : Edition) (ends : RunEnds) (status : ℕ) → HoldsOne shelf lib b → Tells ends.input input → NothingFails edition (10 ∷ b) ends status
@@ -350,6 +371,7 @@ module _ (shelf : Holdings) where
     joined_alone = joined_alone;
     asked_joined = asked_joined;
     made_alone = made_alone;
+    names_alone = names_alone;
     lines_later = lines_later;
     fault_told = fault_told shelf;
     fault_meant = fault_meant shelf;
@@ -402,11 +424,11 @@ module _ (file : MemFile) where
   ask_alone edition question ends status does = asked_of_one (holding file) file.name.now file.text.now edition question ends status holds_one does
 
   code_alone : (edition : Edition) (question : Question) (ends : RunEnds) (status : ℕ) → origin_of question ≡ from_code → Does (holding file) (ask (alone file edition) question) ends status
-      → AnswersOf (Code (record { code = file.text.now; lines = None })) edition (files_alone file) file.text.now question ends status ⊎ SaysNothing ends status 134
+      → AnswersOf (Code (record { code = file.text.now; lines = None; names = None })) edition (files_alone file) file.text.now question ends status ⊎ SaysNothing ends status 134
   code_alone edition question ends status is does = by (ask_alone edition question ends status does)
     where
       by : Answers (holding file) edition (files_alone file) file.text.now question ends status ⊎ SaysNothing ends status 134
-          → answered_of edition (files_alone file) file.text.now question (Code (record { code = file.text.now; lines = None })) ends status ⊎ SaysNothing ends status 134
+          → answered_of edition (files_alone file) file.text.now question (Code (record { code = file.text.now; lines = None; names = None })) ends status ⊎ SaysNothing ends status 134
       by (inl answers) = inl (subst (λ (o : OriginAsked). OnOrigin (holding file) edition file.text.now o (answered_of edition (files_alone file) file.text.now question) ends status) is answers)
       by (inr silent) = inr silent
 

@@ -305,10 +305,17 @@ module _ (shelf : Holdings) (source : SourceAsked) (edition : Edition) (steps : 
     of_source d = d
 
     of_code : OnOrigin shelf edition text from_code does ends status
-        → does (Code (record { code = text; lines = None })) ends status
+        → does (Code (record { code = text; lines = None; names = None })) ends status
     of_code d = d
 
     of_made : (made lined : Text) (code lines : List ℕ) → shelf.holds made code → shelf.holds lined lines
-        → does (Code (record { code = code; lines = Some lines })) ends status
-        → OnOrigin shelf edition text (from_made made lined) does ends status
+        → does (Code (record { code = code; lines = Some lines; names = None })) ends status
+        → OnOrigin shelf edition text (from_made made lined None) does ends status
     of_made made lined code lines held held_too d = inr (code, held, inr (lines, held_too, d))
+
+    of_named : (made lined named : Text) (code lines names : List ℕ) → shelf.holds made code → shelf.holds lined lines
+        → shelf.holds named names
+        → does (Code (record { code = code; lines = Some lines; names = Some names })) ends status
+        → OnOrigin shelf edition text (from_made made lined (Some named)) does ends status
+    of_named made lined named code lines names held held_too held_last d =
+        inr (code, held, inr (lines, held_too, inr (names, held_last, d)))

@@ -265,17 +265,27 @@ AnswersOf origin edition files text port ends status = (ends.input_after ≡ end
   status = status;
 })
 
+-- Something is done with the names of a file, where one is asked for and was read. One that could not be is named; or
+-- memory was refused.
+abbrev pub OnNames : Holdings → (named : Option Text) → (does : Option (List ℕ) → RunEnds → ℕ → Type 0) → RunEnds → ℕ
+    → Type 0
+OnNames shelf None does ends status = does None ends status
+OnNames shelf (Some named) does ends status = NamesFile (shelf.lacks named) named ends status
+    ⊎ ((names : List ℕ) × shelf.holds named names × does (Some names) ends status)
+
 -- Something is done of a program: of the source, in its edition; of the code text that it is; or of the one in another
--- file, where that and then the file of its lines were read. One that could not be is named; or memory was refused.
+-- file, where that, then the file of its lines and then that of its names were read.
 abbrev pub OnOrigin : Holdings → Edition → (text : List ℕ) → OriginAsked → (does : Origin → RunEnds → ℕ → Type 0)
     → RunEnds → ℕ → Type 0
 OnOrigin shelf edition text from_source does ends status = does (Source edition) ends status
 OnOrigin shelf edition text from_code does ends status =
-    does (Code (record { code = text; lines = None })) ends status
-OnOrigin shelf edition text (from_made made lined) does ends status = NamesFile (shelf.lacks made) made ends status
+    does (Code (record { code = text; lines = None; names = None })) ends status
+OnOrigin shelf edition text (from_made made lined named) does ends status =
+    NamesFile (shelf.lacks made) made ends status
     ⊎ ((code : List ℕ) × shelf.holds made code × (NamesFile (shelf.lacks lined) lined ends status
     ⊎ ((lines : List ℕ) × shelf.holds lined lines
-    × does (Code (record { code = code; lines = Some lines })) ends status)))
+    × OnNames shelf named (λ names. does (Code (record { code = code; lines = Some lines; names = names }))) ends
+    status)))
 
 -- what is asked of a source of these files and of this text is answered, or of a code text
 abbrev pub Answers : Holdings → Edition → Files → (text : List ℕ) → Question → RunEnds → ℕ → Type 0

@@ -128,12 +128,19 @@ pub record Excluded (shelf : Holdings) : Type 0 where
   -- read though the code text can't be, either
   pub made_alone : (file a made code lined lines : List ℕ) (edition : Edition) (question : Question) (ends : RunEnds)
       (status : ℕ) → HoldsOne shelf file a → HoldsOne shelf made code → HoldsOne shelf lined lines
-      → origin_of question ≡ from_made made lined → Does shelf (ask (in_file file edition) question) ends status
-      → AnswersOf (Code (record { code = code; lines = Some lines })) edition
+      → origin_of question ≡ from_made made lined None → Does shelf (ask (in_file file edition) question) ends status
+      → AnswersOf (Code (record { code = code; lines = Some lines; names = None })) edition
       (record { first = file_of file a; rest = [] }) a question ends status ⊎ SaysNothing ends status MEMORY
-  pub lines_later : (made lined text : List ℕ) (edition : Edition) (files : Files) (question : Question)
-      (ends : RunEnds) (status : ℕ) → ((code : List ℕ) → shelf.holds made code → ⊥)
-      → origin_of question ≡ from_made made lined
+  -- the same with other names than those of its file
+  pub names_alone : (file a made code lined lines named names : List ℕ) (edition : Edition) (question : Question)
+      (ends : RunEnds) (status : ℕ) → HoldsOne shelf file a → HoldsOne shelf made code → HoldsOne shelf lined lines
+      → HoldsOne shelf named names → origin_of question ≡ from_made made lined (Some named)
+      → Does shelf (ask (in_file file edition) question) ends status
+      → AnswersOf (Code (record { code = code; lines = Some lines; names = Some names })) edition
+      (record { first = file_of file a; rest = [] }) a question ends status ⊎ SaysNothing ends status MEMORY
+  pub lines_later : (made lined text : List ℕ) (named : Option Text) (edition : Edition) (files : Files)
+      (question : Question) (ends : RunEnds) (status : ℕ) → ((code : List ℕ) → shelf.holds made code → ⊥)
+      → origin_of question ≡ from_made made lined named
       → Answers shelf edition files text question ends status → NamesFile (shelf.lacks made) made ends status
   -- by a command that tells of a run other lines of a fault than its own and, if it lies in a file after the first one,
   -- that of its place
@@ -208,8 +215,8 @@ pub record FileIsRead (file : MemFile) : Type 0 where
   -- of another code text than this one
   pub code_alone : (edition : Edition) (question : Question) (ends : RunEnds) (status : ℕ)
       → origin_of question ≡ from_code → Does (holding file) (ask (alone file edition) question) ends status
-      → AnswersOf (Code (record { code = file.text.now; lines = None })) edition (files_alone file) file.text.now
-      question ends status ⊎ SaysNothing ends status MEMORY
+      → AnswersOf (Code (record { code = file.text.now; lines = None; names = None })) edition (files_alone file)
+      file.text.now question ends status ⊎ SaysNothing ends status MEMORY
   -- another output than `a`, or another status than 0
   pub one_go : (input : Unread) (out line : Kept) (status : ℕ) → file.text.now ≡ codes "main(){putchar('a');}"
       → Does (holding file) (go (alone file editions.One) 100) (one_run_ends input out line) status

@@ -1,9 +1,10 @@
 //! Reading the code text that a program is read from.
-ghost use Rattle.std.specs.Prelude.{◌≡◌, IfOk, IfErr};
+ghost use Rattle.std.specs.Prelude.{◌≡◌, IfOk, IfErr, option_map};
 ghost use Rattle.bcommand.specs.CommandLine.{origin_shown as asked_origin};
 ghost use Rattle.btools.specs.Origins.{origin_shown};
 ghost use Rattle.bcli.specs.Shelves.{Holdings};
-ghost use Rattle.bcli.specs.Reading.{HasReadMade, HasReadOrigin, IsNamed, MadeIsUnread, OriginIsUnread, origin_read};
+ghost use Rattle.bcli.specs.Reading.{HasReadMade, HasReadNames, HasReadOrigin, IsNamed, MadeIsUnread};
+ghost use Rattle.bcli.specs.Reading.{NamesAreUnread, OriginIsUnread, origin_read};
 
 use crate::shelf::Shelf;
 use crate::sources::NamedFault;
@@ -31,11 +32,12 @@ impl Drop for OriginTexts {
     }
 }
 
-/// The code text that was made of a source, and its lines.
+/// The code text that was made of a source, its lines, and its names, if there are any.
 #[derive(Drop)]
 pub(crate) struct MadeTexts {
     pub code: Vec<u8>,
     pub lines: Vec<u8>,
+    pub names: Option<Vec<u8>>,
 }
 
 impl OriginTexts {
@@ -48,12 +50,23 @@ impl OriginTexts {
             OriginTexts::Code => Origin::Code(CodeText {
                 code: text,
                 lines: None,
+                names: None,
             }),
             OriginTexts::Made(made) => Origin::Code(CodeText {
                 code: made.code.as_slice(),
                 lines: Some(made.lines.as_slice()),
+                names: text_of(&made.names),
             }),
         }
+    }
+}
+
+fn text_of(names: &Option<Vec<u8>>) -> Option<&[u8]>
+    ensures { option_map (λ n. n.now) result ≡ option_map (λ v. v.items) names.now }
+{
+    match names {
+        Some(names) => Some(names.as_slice()),
+        None => None,
     }
 }
 
@@ -79,14 +92,35 @@ pub(crate) fn read_origin<'a, S: Shelf>(
 fn read_made<'a, S: Shelf>(
     alloc: Global,
     shelf: &S,
-    names: MadeNames<'a>,
+    made: MadeNames<'a>,
 ) -> Result<MadeTexts, NamedFault<'a>>
-    ensures ok { IfOk result (HasReadMade (S.holdings shelf.now) names.entry.code.now names.entry.lines.now) }
-    ensures err { IfErr result (MadeIsUnread (S.holdings shelf.now) names.entry.code.now names.entry.lines.now) }
+    ensures ok { IfOk result (HasReadMade (S.holdings shelf.now) made.entry.code.now made.entry.lines.now
+        (option_map (λ n. n.now) made.entry.names)) }
+    ensures err { IfErr result (MadeIsUnread (S.holdings shelf.now) made.entry.code.now made.entry.lines.now
+        (option_map (λ n. n.now) made.entry.names)) }
 {
-    let code = read_named(alloc, shelf, names.code)?;
-    let lines = read_named(alloc, shelf, names.lines)?;
-    Ok(MadeTexts { code, lines })
+    let code = read_named(alloc, shelf, made.code)?;
+    let lines = read_named(alloc, shelf, made.lines)?;
+    let names = read_names(alloc, shelf, made.names)?;
+    Ok(MadeTexts { code, lines, names })
+}
+
+fn read_names<'a, S: Shelf>(
+    alloc: Global,
+    shelf: &S,
+    name: Option<&'a str>,
+) -> Result<Option<Vec<u8>>, NamedFault<'a>>
+    ensures ok { IfOk result (λ names. HasReadNames (S.holdings shelf.now) (option_map (λ n. n.now) name.entry)
+        (option_map (λ v. v.items) names)) }
+    ensures err { IfErr result (NamesAreUnread (S.holdings shelf.now) (option_map (λ n. n.now) name.entry)) }
+{
+    match name {
+        Some(name) => match read_named(alloc, shelf, name) {
+            Ok(names) => Ok(Some(names)),
+            Err(fault) => Err(fault),
+        },
+        None => Ok(None),
+    }
 }
 
 fn read_named<'a, S: Shelf>(

@@ -116,6 +116,9 @@ made_rule = text_rule (codes "made")
 abbrev pub lines_rule : Rule
 lines_rule = text_rule (codes "lines")
 
+abbrev pub names_rule : Rule
+names_rule = text_rule (codes "names")
+
 abbrev pub file_rule : Rule
 file_rule = argument_rule (codes "FILE") true
 
@@ -151,7 +154,8 @@ telling command = with_rule (with_rule (with_rule command edition_rule) file_rul
 
 -- one that tells of a code text, too
 abbrev pub telling_code : App → App
-telling_code command = with_rule (with_rule (with_rule (telling command) code_rule) made_rule) lines_rule
+telling_code command =
+    with_rule (with_rule (with_rule (with_rule (telling command) code_rule) made_rule) lines_rule) names_rule
 
 abbrev pub list_command : App
 list_command = with_rule (telling_code (new_app (codes "list"))) name_rule
@@ -274,26 +278,29 @@ pub record SourceAsked : Type 0 where
   pub edition : Edition
 
 -- What a program is read from: the source; the code text that is in its file; or the one in another file, which another
--- compiler made of the source, with a line of the source for each place in it.
+-- compiler made of the source, with a line of the source for each place in it, and maybe with the names in it.
 pub data OriginAsked : Type 0 where
   from_source : OriginAsked
   from_code : OriginAsked
-  from_made : (code lines : Text) → OriginAsked
+  from_made : (code lines : Text) (names : Option Text) → OriginAsked
 
--- A code text has no file after it, and one that was made of a source has lines in that.
-abbrev pub origin_asked : (is_code : Bool) → (made lines : Option Text) → (libs : List Text) → Result OriginAsked Clash
-origin_asked false None None libs = Ok from_source
-origin_asked false (Some code) (Some lines) libs = Ok (from_made code lines)
-origin_asked false (Some code) None libs = Err clash.Made
-origin_asked false None (Some lines) libs = Err clash.Lines
-origin_asked true None None [] = Ok from_code
-origin_asked true None None (lib ∷ libs) = Err clash.Libs
-origin_asked true (Some code) lines libs = Err clash.Origins
-origin_asked true None (Some lines) libs = Err clash.Origins
+-- A code text has no file after it, and one that was made of a source has lines in that. Names are those of one that was
+-- made of a source.
+abbrev pub origin_asked : (is_code : Bool) → (made lines names : Option Text) → (libs : List Text)
+    → Result OriginAsked Clash
+origin_asked false None None None libs = Ok from_source
+origin_asked false (Some code) (Some lines) names libs = Ok (from_made code lines names)
+origin_asked false (Some code) None names libs = Err clash.Made
+origin_asked false None (Some lines) names libs = Err clash.Lines
+origin_asked is_code None None (Some names) libs = Err clash.Names
+origin_asked true None None None [] = Ok from_code
+origin_asked true None None None (lib ∷ libs) = Err clash.Libs
+origin_asked true (Some code) lines names libs = Err clash.Origins
+origin_asked true None (Some lines) names libs = Err clash.Origins
 
 abbrev pub origin_in : List Row → Result OriginAsked Clash
 origin_in rows = origin_asked (is_set_in (codes "code") rows) (first_of (codes "made") rows)
-    (first_of (codes "lines") rows) (libs_in rows)
+    (first_of (codes "lines") rows) (first_of (codes "names") rows) (libs_in rows)
 
 abbrev pub source_in : List Row → SourceAsked
 source_in rows = record { file = file_in rows; libs = libs_in rows; edition = edition_in rows }
@@ -486,7 +493,7 @@ source_shown source =
 abbrev pub origin_shown : OriginNames → OriginAsked
 origin_shown origins.Source = from_source
 origin_shown origins.Code = from_code
-origin_shown (origins.Made it) = from_made it.code.now it.lines.now
+origin_shown (origins.Made it) = from_made it.code.now it.lines.now (option_map (λ n. n.now) it.names)
 
 -- the same where there may be a contradiction in its place
 abbrev pub origin_or_clash : Result OriginNames Clash → Result OriginAsked Clash
@@ -540,4 +547,5 @@ clash_line clash.Made = clash_message (codes "'--made <CODE>' cannot be used wit
 clash_line clash.Fix = clash_message (codes "'--fix' cannot be used with '--json'")
 clash_line clash.Care = clash_message (codes "'--careful' is '--careful=stay', '--careful=warn' or '--careful=wraps'")
 clash_line clash.ShownCare = clash_message (codes "'--careful' of 'show' is '--careful=stay' or '--careful=wraps'")
+clash_line clash.Names = clash_message (codes "'--names <NAMES>' cannot be used without '--made <CODE>'")
 clash_line clash.Lines = clash_message (codes "'--lines <LINES>' cannot be used without '--made <CODE>'")

@@ -17,10 +17,11 @@ abbrev options : List Text
 options =
     codes "--edition=2" ∷ codes "--with=l" ∷ codes "--steps=5" ∷ codes "--no-limit" ∷ codes "--where"
     ∷ codes "--careful" ∷ codes "--json" ∷ codes "--fix" ∷ codes "--svg" ∷ codes "--from=5" ∷ codes "--last=5"
-    ∷ codes "--function=f" ∷ codes "--input=i" ∷ codes "--check" ∷ codes "--code" ∷ codes "--made=c" ∷ codes "--lines=l" ∷ []
+    ∷ codes "--function=f" ∷ codes "--input=i" ∷ codes "--check" ∷ codes "--code" ∷ codes "--made=c" ∷ codes "--lines=l"
+    ∷ codes "--names=n" ∷ []
 
 abbrev of_code : List Text
-of_code = codes "--code" ∷ codes "--made=c" ∷ codes "--lines=l" ∷ []
+of_code = codes "--code" ∷ codes "--made=c" ∷ codes "--lines=l" ∷ codes "--names=n" ∷ []
 
 -- those that a command takes, before this argument, if there is one
 abbrev taken : (name : Text) → (file : List Text) → List Text

@@ -1,6 +1,6 @@
 -- Closed facts: what a program is read from, by the words of each command that takes a code text, and what is said of
 -- words that contradict each other.
-use Rattle.std.specs.Prelude.{◌≡◌, false, List, [], ◌∷◌, ◌++◌, None, codes, map, refl}
+use Rattle.std.specs.Prelude.{◌≡◌, false, List, [], ◌∷◌, ◌++◌, None, Some, codes, map, refl}
 use Rattle.clap.specs.Words.{Text}
 use Rattle.clap.specs.declared.error.kind.ErrorKind.{ErrorKind}
 use Rattle.clap.specs.declared.error.kind.ErrorKind.TheVariants as kind
@@ -52,7 +52,7 @@ of_code_with_edition = (refl, refl)
 abbrev with_lines : List Text
 with_lines = codes "--made=c" ∷ codes "--lines" ∷ codes "l" ∷ []
 
-of_made : (faults with_lines ≡ none) × (each with_lines ≡ asks alone (from_made (codes "c") (codes "l")))
+of_made : (faults with_lines ≡ none) × (each with_lines ≡ asks alone (from_made (codes "c") (codes "l") None))
 unfolding clap_on_literals
 of_made = (refl, refl)
 
@@ -61,9 +61,23 @@ abbrev with_made : List Text
 with_made = codes "--lines=l" ∷ codes "--with=m" ∷ codes "--made" ∷ codes "c" ∷ []
 
 of_two_made : (faults with_made ≡ none)
-    × (each with_made ≡ asks (record alone { libs = codes "m" ∷ [] }) (from_made (codes "c") (codes "l")))
+    × (each with_made ≡ asks (record alone { libs = codes "m" ∷ [] }) (from_made (codes "c") (codes "l") None))
 unfolding clap_on_literals
 of_two_made = (refl, refl)
+
+-- with names, of a code text that was made of a source and of no other
+of_named : (faults (codes "--names" ∷ codes "n" ∷ with_lines) ≡ none)
+    × (each (codes "--names" ∷ codes "n" ∷ with_lines)
+    ≡ asks alone (from_made (codes "c") (codes "l") (Some (codes "n"))))
+unfolding clap_on_literals
+of_named = (refl, refl)
+
+named_otherwise : map each
+    ((codes "--names=n" ∷ []) ∷ (codes "--names=n" ∷ codes "--code" ∷ []) ∷ (codes "--names=n" ∷ codes "--made=c" ∷ [])
+    ∷ (codes "--names=n" ∷ codes "--lines=l" ∷ []) ∷ (codes "--names=n" ∷ codes "--code" ∷ codes "--made=c" ∷ []) ∷ [])
+    ≡ refuse clash.Names ∷ refuse clash.Names ∷ refuse clash.Made ∷ refuse clash.Lines ∷ refuse clash.Origins ∷ []
+unfolding clap_on_literals
+named_otherwise = refl
 
 made_alone : each (codes "--made=c" ∷ []) ≡ refuse clash.Made
 unfolding clap_on_literals
@@ -121,7 +135,7 @@ hint = codes "\n\nFor more information, try '--help'.\n"
 
 clashes_told : map clash_line
     (clash.Limits ∷ clash.Rows ∷ clash.Origins ∷ clash.Libs ∷ clash.Made ∷ clash.Lines ∷ clash.Care ∷ clash.Fix
-    ∷ clash.ShownCare ∷ [])
+    ∷ clash.ShownCare ∷ clash.Names ∷ [])
     ≡ (codes "error: the argument '--steps <N>' cannot be used with '--no-limit'" ++ hint)
     ∷ (codes "error: the argument '--from <N>' cannot be used with '--last <N>'" ++ hint)
     ∷ (codes "error: the argument '--code' cannot be used with '--made <CODE>' or '--lines <LINES>'" ++ hint)
@@ -130,5 +144,6 @@ clashes_told : map clash_line
     ∷ (codes "error: the argument '--lines <LINES>' cannot be used without '--made <CODE>'" ++ hint)
     ∷ (codes "error: the argument '--careful' is '--careful=stay', '--careful=warn' or '--careful=wraps'" ++ hint)
     ∷ (codes "error: the argument '--fix' cannot be used with '--json'" ++ hint)
-    ∷ (codes "error: the argument '--careful' of 'show' is '--careful=stay' or '--careful=wraps'" ++ hint) ∷ []
+    ∷ (codes "error: the argument '--careful' of 'show' is '--careful=stay' or '--careful=wraps'" ++ hint)
+    ∷ (codes "error: the argument '--names <NAMES>' cannot be used without '--made <CODE>'" ++ hint) ∷ []
 clashes_told = refl

@@ -189,6 +189,12 @@ const LINES: ArgumentRow = ArgumentRow {
     help: "A number for each place of CODE: its line of FILE",
 };
 
+const NAMES: ArgumentRow = ArgumentRow {
+    id: "names",
+    kind: GivenAs::Text("NAMES"),
+    help: "The names of the words and labels in CODE",
+};
+
 const FILE: ArgumentRow = ArgumentRow {
     id: "FILE",
     kind: GivenAs::Positional(true),
@@ -255,7 +261,7 @@ const COMMANDS: [CommandRow; 15] = [
         about: "Lists the code of the source in FILE, with the lines it comes from",
         usage: None,
         help: LIST_HELP,
-        arguments: &[EDITION, FILE_OR_INPUT, WITH, CODE, MADE, LINES, NAME],
+        arguments: &[EDITION, FILE_OR_INPUT, WITH, CODE, MADE, LINES, NAMES, NAME],
     },
     CommandRow {
         name: "map",
@@ -290,6 +296,7 @@ const COMMANDS: [CommandRow; 15] = [
             CODE,
             MADE,
             LINES,
+            NAMES,
             TRACE_STEPS,
             FROM,
             LAST,
@@ -302,7 +309,7 @@ const COMMANDS: [CommandRow; 15] = [
         usage: None,
         help: COUNT_HELP,
         arguments: &[
-            EDITION, FILE, WITH, CODE, MADE, LINES, STEPS, NO_LIMIT, JSON,
+            EDITION, FILE, WITH, CODE, MADE, LINES, NAMES, STEPS, NO_LIMIT, JSON,
         ],
     },
     CommandRow {

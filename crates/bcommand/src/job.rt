@@ -35,6 +35,8 @@ pub enum Clash {
     Made,
     /// Lines of a code text, and none that was made of FILE.
     Lines,
+    /// Names of a code text, and none that was made of FILE.
+    Names,
     /// A way of a careful run that there isn't.
     Care,
     /// A source mended, and findings for an editor.
@@ -96,11 +98,13 @@ pub enum OriginNames<'a> {
     Made(MadeNames<'a>),
 }
 
-/// The file of a code text, and that with a line of its source for each place in it.
+/// The file of a code text, that with a line of its source for each place in it, and that with its names, if there is
+/// one.
 #[derive(Clone, Copy)]
 pub struct MadeNames<'a> {
     pub code: &'a str,
     pub lines: &'a str,
+    pub names: Option<&'a str>,
 }
 
 /// Which steps of a run are shown: those from a number on, or so many of the last ones.

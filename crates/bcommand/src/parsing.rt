@@ -144,26 +144,32 @@ fn origin_of<'m, 'a: 'm>(given: &'m ArgMatches<'a>) -> Result<OriginNames<'m>, C
 {
     let made = text_of(given, "made");
     let lines = text_of(given, "lines");
-    origin_named(is_set(given, "code"), made, lines, libs_of(given))
+    let names = text_of(given, "names");
+    origin_named(is_set(given, "code"), made, lines, names, libs_of(given))
 }
 
-// A code text stands alone, and one that was made of a source has lines in that.
+// A code text stands alone, and one that was made of a source has lines in that, and may have names.
 fn origin_named<'a>(
     is_code: bool,
     made: Option<&'a str>,
     lines: Option<&'a str>,
+    names: Option<&'a str>,
     libs: &[&str],
 ) -> Result<OriginNames<'a>, Clash>
-    ensures { origin_or_clash result ≡ origin_asked is_code (option_map (λ t. t.now) made.entry) (option_map (λ t. t.now) lines.entry) (map (λ t. t.now) libs.now) }
+    ensures { origin_or_clash result ≡ origin_asked is_code (option_map (λ t. t.now) made.entry)
+        (option_map (λ t. t.now) lines.entry) (option_map (λ t. t.now) names.entry) (map (λ t. t.now) libs.now) }
 {
-    match (is_code, made, lines) {
-        (false, None, None) => Ok(OriginNames::Source),
-        (false, Some(code), Some(lines)) => Ok(OriginNames::Made(MadeNames { code, lines })),
-        (false, Some(_), None) => Err(Clash::Made),
-        (false, None, Some(_)) => Err(Clash::Lines),
-        (true, None, None) if libs.is_empty() => Ok(OriginNames::Code),
-        (true, None, None) => Err(Clash::Libs),
-        (true, _, _) => Err(Clash::Origins),
+    match (is_code, made, lines, names) {
+        (false, None, None, None) => Ok(OriginNames::Source),
+        (false, Some(code), Some(lines), names) => {
+            Ok(OriginNames::Made(MadeNames { code, lines, names }))
+        }
+        (false, Some(_), None, _) => Err(Clash::Made),
+        (false, None, Some(_), _) => Err(Clash::Lines),
+        (_, None, None, Some(_)) => Err(Clash::Names),
+        (true, None, None, None) if libs.is_empty() => Ok(OriginNames::Code),
+        (true, None, None, None) => Err(Clash::Libs),
+        (true, _, _, _) => Err(Clash::Origins),
     }
 }
 

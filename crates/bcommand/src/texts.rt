@@ -51,6 +51,12 @@ error: the argument '--lines <LINES>' cannot be used without '--made <CODE>'
 For more information, try '--help'.
 ";
 
+const NAMES: &str = "\
+error: the argument '--names <NAMES>' cannot be used without '--made <CODE>'
+
+For more information, try '--help'.
+";
+
 const CARE: &str = "\
 error: the argument '--careful' is '--careful=stay', '--careful=warn' or '--careful=wraps'
 
@@ -80,6 +86,7 @@ pub fn clash_text(clash: Clash) -> &'static str
         Clash::Libs => LIBS,
         Clash::Made => MADE,
         Clash::Lines => LINES,
+        Clash::Names => NAMES,
         Clash::Care => CARE,
         Clash::Fix => FIX,
         Clash::ShownCare => SHOWN_CARE,
@@ -218,7 +225,8 @@ from the first one of FILE on.
 With --code, FILE is a code text of any compiler, and its own lines are shown.
 With --made CODE and --lines LINES, another compiler made CODE of FILE. LINES
 has a line with a number for each place of CODE: the line of FILE that it comes
-from. With --code there is no LIB, and no edition is needed.
+from. NAMES has the names of the words and labels of its functions. With --code
+there is no LIB, and no edition is needed.
 
 Examples:
   b list hello.b
@@ -228,8 +236,8 @@ Examples:
 
 Statuses: 0 listed, 1 a fault of the source, 132 no code text or one that
 doesn't load, 133 a failed read or write, 134 out of memory, 135 a wrong command
-line, no definition NAME, or LINES that don't fit. b --help explains the
-letters.";
+line, no definition NAME, or LINES or NAMES that don't fit. b --help explains
+the letters.";
 
 pub(crate) const MAP_HELP: &str = "\
 A row has the address of a name, how many words it has, and the first six of
@@ -264,7 +272,8 @@ its own number and the name of LIB.
 With --code, FILE is a code text of any compiler, and its own lines are shown.
 With --made CODE and --lines LINES, another compiler made CODE of FILE. LINES
 has a line with a number for each place of CODE: the line of FILE that it comes
-from. With --code there is no LIB, and no edition is needed.
+from. NAMES has the names of the words and labels of its functions. With --code
+there is no LIB, and no edition is needed.
 
 The program reads standard input. Its output is in the trace alone. The trace is
 kept in memory, and written when the run is over.
@@ -279,7 +288,7 @@ Examples:
 Statuses: 0 to 127 the program's own, 1 also a fault of the source, 130 a trap,
 131 the limit of steps, 132 no code text or one that doesn't load, 133 a failed
 read or write, 134 out of memory, 135 a wrong command line, no function NAME, or
-LINES that don't fit. b --help explains the letters.";
+LINES or NAMES that don't fit. b --help explains the letters.";
 
 pub(crate) const CHECK_HELP: &str = "\
 For a fault, the first line is that of b compile, or load 2 or load 3 as b run
@@ -406,7 +415,8 @@ each line.
 With --code, FILE is a code text of any compiler, and its own lines are shown.
 With --made CODE and --lines LINES, another compiler made CODE of FILE. LINES
 has a line with a number for each place of CODE: the line of FILE that it comes
-from. With --code there is no LIB, and no edition is needed.
+from. NAMES has the names of the words and labels of its functions. With --code
+there is no LIB, and no edition is needed.
 
 The program reads standard input, and its output is dropped. After a trap or at
 the limit of steps the counts are those of the steps before it.
@@ -419,8 +429,8 @@ Examples:
 
 Statuses: 0 to 127 the program's own, 1 also a fault of the source, 130 a trap,
 131 the limit of steps, 132 no code text or one that doesn't load, 133 a failed
-read or write, 134 out of memory, 135 a wrong command line, or LINES that don't
-fit. b --help explains the letters.";
+read or write, 134 out of memory, 135 a wrong command line, or LINES or NAMES
+that don't fit. b --help explains the letters.";
 
 pub(crate) const SHOW_HELP: &str =
     "      --careful[=HOW]  Up to a word never set or off a vector; =wraps
