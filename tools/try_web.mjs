@@ -304,10 +304,43 @@ function tryCalls(room) {
   expectCall('go ./', b.go(source, {name: './x.b', where: true}), ['go', '--where', './x.b']);
   expectCall('format', b.format(source, {name}), ['format', name]);
   expectCall('show', b.show(source, {name, libs, input: 'hi', last: 9}), ['show', name, '--last', '9', ...after], 'hi');
+  const made = {name, libs, input: 'hi'};
+  expectCall('list', b.list(source, {name, libs}), ['list', name, ...after]);
+  expectCall('map', b.map(source, {name, libs, edition: 2}), ['map', name, '--edition', '2', ...after]);
+  expectCall('trace', b.trace(source, {...made, from: 7, steps: 20}),
+    ['trace', name, '--from', '7', '--steps', '20', ...after], 'hi');
+  expectCall('trace, a function', b.trace(source, {...made, function: 'main', last: 3}),
+    ['trace', name, '--function', 'main', '--last', '3', ...after], 'hi');
+  expectCall('count', b.count(source, made), ['count', name, ...after], 'hi');
+  expectCall('count, json', b.count(source, {...made, json: true}), ['count', '--json', name, ...after], 'hi');
   expectCall('migrate', b.migrate(code), ['migrate'], code);
   const {status, findings} = b.check(source, {name}), wanted = native(['check', '--json', name]);
   const lines = findings.map(it => `${JSON.stringify(it)}\n`).join('');
   expect(status === wanted.status && lines === `${wanted.out}`, 'check');
+}
+
+/** Each kind of text, numbers that aren't in their range, and an output of some length. */
+function tryTexts() {
+  const source = 'main() { printn(6*7, 10); }', bytes = new TextEncoder().encode(source);
+  const shifted = new Uint8Array([0, ...bytes, 0]);
+  const views = [shifted.subarray(1, -1), new DataView(shifted.buffer, 1, bytes.length)];
+  for (const text of [source, bytes, bytes.buffer, ...views]) expect(b.go(text).text === '42', 'a kind of text');
+  const refused = (call, options) => {
+    try {
+      b[call](source, options);
+      return false;
+    } catch (error) {
+      return error instanceof RangeError;
+    }
+  };
+  for (const edition of [0, 3, 257, -1, 1.5, '2', NaN])
+    for (const call of ['compile', 'go', 'check', 'format', 'list', 'map', 'trace', 'count', 'show'])
+      expect(refused(call, {edition}), `${call}: edition ${edition}`);
+  for (const number of [0, -1, 2 ** 64, 1.5, NaN, -Infinity])
+    for (const name of ['steps', 'from', 'last'])
+      expect(refused('trace', {[name]: number}), `trace: ${name} ${number}`);
+  const long = b.go("main() { auto n; n = 40000; while(n--) { putchar('ab'); putchar('cd'); } }", {steps: Infinity});
+  expect(long.status === 0 && long.text === 'abcd'.repeat(40000), 'an output of 160000 bytes');
 }
 
 /** Runs the module by Node's own host of WASI, over the files of a folder. */
@@ -336,7 +369,7 @@ function tryHosts() {
     fs.writeFileSync(path.join(room, 'sub/y.b'), 'main() { return(x); }\n');
     fs.copyFileSync(path.join(TOP, 'lib/print.b'), path.join(room, 'print.b'));
     fs.writeFileSync(path.join(room, 'code'), runNative(['compile', '--with', 'print.b'], PRINTS, room).out);
-    for (const it of [tryCommandLine, tryCalls, tryWasi]) it(room);
+    for (const it of [tryCommandLine, tryCalls, tryTexts, tryWasi]) it(room);
   } finally {
     fs.rmSync(room, {recursive: true});
   }

@@ -5,7 +5,7 @@
  *
  * The caller sees to this:
  * - Each pointer is valid for so many bytes and is not null, where the length is 0, too.
- * - The two rooms and the struct overlap neither one another nor a text.
+ * - The two rooms and the struct overlap neither one another nor a text, and no file of a row.
  * - malloc, realloc and free come from one allocator, which aligns blocks to 16 bytes, as that of the C library does.
  * - No call is made from a signal handler, or from the forked child of a process with threads.
  *
@@ -43,7 +43,7 @@ enum {
     B_REFUSED = 132,       /* the text is no code text, or its code doesn't load; the line tells why */
     B_FAILED = 133,        /* a room is too small */
     B_NO_MEMORY = 134,     /* out of memory */
-    B_WRONG_EDITION = 135  /* there is no edition of this number; nothing was written */
+    B_WRONG_EDITION = 135  /* there is no edition of this number, or a name isn't UTF-8; nothing was written */
 };
 
 /* Compiles a source of edition 1 or 2 to its code text, as `b compile` does. */
@@ -78,6 +78,58 @@ uint8_t b_check(const uint8_t *source, size_t source_size, uint8_t edition, uint
 /* Lays a source out in one style, as `b format` does. */
 uint8_t b_format(const uint8_t *source, size_t source_size, uint8_t edition, uint8_t *out, size_t out_size,
                  uint8_t *line, size_t line_size, struct b_written *written);
+
+/* A file that follows a source, as LIB does of the program `b` after --with. Findings and lines tell it by its name,
+ * which has to be UTF-8. */
+struct b_file {
+    const uint8_t *name;
+    size_t name_size;
+    const uint8_t *text;
+    size_t text_size;
+};
+
+/* The calls from here on take a source with so many files that follow it: each comes after a newline, and the program
+ * is that of all of them. Where a name isn't UTF-8, nothing is written, and the status is B_WRONG_EDITION. */
+
+/* b_compile, b_go and b_check of a source with the files that follow it. */
+uint8_t b_compile_with(const uint8_t *source, size_t source_size, const struct b_file *files, size_t file_count,
+                       uint8_t edition, uint8_t *out, size_t out_size, uint8_t *line, size_t line_size,
+                       struct b_written *written);
+uint8_t b_go_with(const uint8_t *source, size_t source_size, const struct b_file *files, size_t file_count,
+                  const uint8_t *input, size_t input_size, uint8_t edition, uint64_t steps, uint8_t *out,
+                  size_t out_size, uint8_t *line, size_t line_size, struct b_written *written);
+uint8_t b_check_with(const uint8_t *source, size_t source_size, const struct b_file *files, size_t file_count,
+                     uint8_t edition, uint8_t *out, size_t out_size, struct b_written *written);
+
+/* Lists the code of a source beside its lines, as `b list` does. */
+uint8_t b_list(const uint8_t *source, size_t source_size, const struct b_file *files, size_t file_count,
+               uint8_t edition, uint8_t *out, size_t out_size, uint8_t *line, size_t line_size,
+               struct b_written *written);
+
+/* Tells where each name of a source lies in memory, as `b map` does. */
+uint8_t b_map(const uint8_t *source, size_t source_size, const struct b_file *files, size_t file_count,
+              uint8_t edition, uint8_t *out, size_t out_size, uint8_t *line, size_t line_size,
+              struct b_written *written);
+
+/* Runs the program of a source for so many steps at most, and writes the steps, as `b trace` does: so many of the last
+ * ones, or where `last` is 0 those from the number `from` on. The first step has the number 1. */
+uint8_t b_trace(const uint8_t *source, size_t source_size, const struct b_file *files, size_t file_count,
+                const uint8_t *input, size_t input_size, uint8_t edition, uint64_t steps, uint64_t from,
+                uint64_t last, uint8_t *out, size_t out_size, uint8_t *line, size_t line_size,
+                struct b_written *written);
+
+/* Runs the program of a source for so many steps at most, and tells how often each line was made, as `b count` does;
+ * where `is_json` isn't 0, as `b count --json` does: an object on each line. */
+uint8_t b_count(const uint8_t *source, size_t source_size, const struct b_file *files, size_t file_count,
+                const uint8_t *input, size_t input_size, uint8_t edition, uint64_t steps, uint8_t is_json,
+                uint8_t *out, size_t out_size, uint8_t *line, size_t line_size, struct b_written *written);
+
+/* Runs the program of a source for so many steps at most, and writes a page that shows the run and its input, as
+ * `b show --input` does. `from` and `last` are as for b_trace. The status is B_DONE whatever came of the run. */
+uint8_t b_show(const uint8_t *source, size_t source_size, const struct b_file *files, size_t file_count,
+               const uint8_t *input, size_t input_size, uint8_t edition, uint64_t steps, uint64_t from,
+               uint64_t last, uint8_t *out, size_t out_size, uint8_t *line, size_t line_size,
+               struct b_written *written);
 
 /* Writes the version of the library, as `b --version` tells it of the program. There is no line. */
 uint8_t b_version(uint8_t *out, size_t out_size, struct b_written *written);

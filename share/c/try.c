@@ -9,7 +9,7 @@
 #include <stdlib.h>
 #include <string.h>
 
-static uint8_t out[1 << 16], line[256];
+static uint8_t out[1 << 18], line[256];
 static struct b_written written;
 static int wrong, calls = 100000;
 
@@ -71,6 +71,63 @@ static void try_asking(void) {
     expect("a version that doesn't fit", b_version(out, 1, &written), 133, "1", "");
 }
 
+/* A source and the files that follow it: its second line is that of the first file. */
+static const char *caller = "main() { printn(six() * seven(), 10); }";
+static const struct b_file files[] = {
+    {(const uint8_t *)"six.b", 5, (const uint8_t *)"six() { return(6); }", 20},
+    {(const uint8_t *)"seven.b", 7, (const uint8_t *)"seven() { return(x); }", 22},
+    {(const uint8_t *)"seven.b", 7, (const uint8_t *)"seven() { return(7); }", 22},
+    {(const uint8_t *)"\xff", 1, (const uint8_t *)"", 0},
+};
+
+static int go_with(size_t first, size_t count, uint64_t steps) {
+    return b_go_with((const uint8_t *)caller, strlen(caller), files + first, count, (const uint8_t *)"", 0, 1, steps,
+                     out, sizeof out, line, sizeof line, &written);
+}
+
+static int check_with(const struct b_file *of, size_t count) {
+    return b_check_with((const uint8_t *)caller, strlen(caller), of, count, 1, out, sizeof out, &written);
+}
+
+static void expect_start(const char *what, int status, int wanted, const char *start) {
+    if (status == wanted && written.out >= strlen(start) && memcmp(out, start, strlen(start)) == 0)
+        return;
+    printf("%s: status %d, and not the beginning that was expected\n", what, status);
+    wrong = 1;
+}
+
+/* A source with the files that follow it. */
+static void try_files(void) {
+    const struct b_file whole[] = {files[0], files[2]}, faulty[] = {files[0], files[1]};
+    const uint8_t *source = (const uint8_t *)caller, *input = (const uint8_t *)"";
+    size_t size = strlen(caller);
+    int status = b_go_with(source, size, whole, 2, input, 0, 1, 1000, out, sizeof out, line, sizeof line, &written);
+    expect("files", status, 0, "42", "");
+    expect("a file that lacks", go_with(0, 1, 1000), 132, "", "load 3\n");
+    expect("no files", go_with(0, 0, 1000), 132, "", "load 3\n");
+    expect("a fault in a file", go_with(0, 2, 1000), 1, "", "un x 3\n");
+    expect("a name that isn't UTF-8", go_with(2, 2, 1000), 135, "", "");
+    written.line = 0;
+    expect_start("a finding in a file", check_with(faulty, 2), 1,
+                 "{\"file\":\"seven.b\",\"line\":1,\"column\":18,\"severity\":\"error\",\"code\":\"un\"");
+    expect("nothing to find in files", check_with(whole, 2), 0, "", "");
+    expect("a check of a name that isn't UTF-8", check_with(files + 3, 1), 135, "", "");
+    status = b_compile_with(source, size, whole, 2, 2, out, sizeof out, line, sizeof line, &written);
+    expect_start("the code of files", status, 0, "B 2\nF main ");
+    status = b_list(source, size, whole, 2, 1, out, sizeof out, line, sizeof line, &written);
+    expect_start("a listing", status, 0, " place  line  code          source");
+    status = b_map(source, size, whole, 2, 1, out, sizeof out, line, sizeof line, &written);
+    expect_start("a layout in memory", status, 0, "  word  name      kind      words  values\n");
+    status = b_trace(source, size, whole, 2, input, 0, 1, 1000, 1, 0, out, sizeof out, line, sizeof line, &written);
+    expect_start("a trace", status, 0, "    step  function place  line  code         operands, signed\n");
+    status = b_count(source, size, faulty, 2, input, 0, 1, 1000, 0, out, sizeof out, line, sizeof line, &written);
+    expect("counts of a fault", status, 1, "", "un x 3\nat     line 1 of seven.b\n");
+    status = b_show(source, size, whole, 2, input, 0, 1, 1000, 1, 0, out, sizeof out, line, sizeof line, &written);
+    expect_start("a page", status, 0, "<!doctype html>");
+    status = b_show(source, size, whole, 2, input, 0, 4, 1000, 1, 0, out, sizeof out, line, sizeof line, &written);
+    expect("a page of no edition", status, 135, "", "");
+}
+
 void *__real_malloc(size_t size);
 void *__real_realloc(void *old, size_t size);
 
@@ -88,20 +145,90 @@ static const char *program =
     "n 1; main() { extrn n; auto v 2; v[n] = getchar(); putchar(v[n]); f(v); } f(v) { v[0] = 1/0; }";
 static const char *text = "X n 0 0\nF main 0 0 0 0 8\nx putchar\nv\nc 97\nk 1\np\nc 1\nc 0\nb /\nE\n";
 
+static size_t room = sizeof out, line_room = sizeof line;
+
+/* The same for those with files. */
+static int call_with(int kind) {
+    const uint8_t *source = (const uint8_t *)program, *input = (const uint8_t *)"x";
+    size_t size = strlen(program);
+    const struct b_file *one = files + 2;
+    switch (kind) {
+    case 0: return b_compile_with(source, size, one, 1, 1, out, room, line, line_room, &written);
+    case 1: return b_go_with(source, size, one, 1, input, 1, 1, 100, out, room, line, line_room, &written);
+    case 2: return b_check_with(source, size, files + 1, 1, 1, out, room, &written);
+    case 3: return b_list(source, size, one, 1, 1, out, room, line, line_room, &written);
+    case 4: return b_map(source, size, one, 1, 1, out, room, line, line_room, &written);
+    case 5: return b_trace(source, size, one, 1, input, 1, 1, 100, 1, 0, out, room, line, line_room, &written);
+    case 6: return b_trace(source, size, one, 1, input, 1, 1, 100, 1, 5, out, room, line, line_room, &written);
+    case 7: return b_count(source, size, one, 1, input, 1, 1, 100, 0, out, room, line, line_room, &written);
+    case 8: return b_count(source, size, one, 1, input, 1, 1, 100, 1, out, room, line, line_room, &written);
+    case 9: return b_show(source, size, one, 1, input, 1, 1, 100, 1, 0, out, room, line, line_room, &written);
+    default: return -1;
+    }
+}
+
 static int call(int kind) {
     const uint8_t *bytes = (const uint8_t *)text, *input = (const uint8_t *)"x";
     switch (kind) {
-    case 0: return compile(program, 1, sizeof out, sizeof line);
-    case 1: return compile("a; b; a;", 2, sizeof out, sizeof line);
-    case 2: return go(program, "x", 2, 100, sizeof out, sizeof line);
-    case 3: return run(text, "", 100, sizeof out, sizeof line);
-    case 4:
-        return b_run_where(bytes, strlen(text), input, 1, 100, out, sizeof out, line, sizeof line, &written);
-    case 5: return b_migrate(bytes, strlen(text), out, sizeof out, line, sizeof line, &written);
-    case 6: written.line = 0; return check("main() { return(x); }", sizeof out);
-    case 7: return format(program, sizeof out, sizeof line);
-    default: return -1;
+    case 0: return compile(program, 1, room, line_room);
+    case 1: return compile("a; b; a;", 2, room, line_room);
+    case 2: return go(program, "x", 2, 100, room, line_room);
+    case 3: return run(text, "", 100, room, line_room);
+    case 4: return b_run_where(bytes, strlen(text), input, 1, 100, out, room, line, line_room, &written);
+    case 5: return b_migrate(bytes, strlen(text), out, room, line, line_room, &written);
+    case 6: written.line = 0; return check("main() { return(x); }", room);
+    case 7: return format(program, room, line_room);
+    default: return call_with(kind - 8);
     }
+}
+
+/* Each call with smaller rooms than it needs: of each size up to 300, and of some above that. What fits is written, and
+ * the status says that not all did. */
+static void try_rooms(int kind) {
+    static uint8_t all[sizeof out], all_line[sizeof line];
+    room = sizeof out, line_room = sizeof line;
+    call(kind);
+    struct b_written needed = written;
+    memcpy(all, out, sizeof out);
+    memcpy(all_line, line, sizeof line);
+    for (size_t size = 0; size < needed.out; size += size < 300 ? 1 : 1009) {
+        room = size;
+        int status = call(kind);
+        if (status != B_FAILED || written.out != size || memcmp(out, all, size) != 0) {
+            printf("call %d into %zu bytes: status %d, wrote %zu\n", kind, size, status, written.out);
+            wrong = 1;
+        }
+    }
+    room = needed.out;
+    for (size_t size = 0; size < needed.line; size++) {
+        line_room = size;
+        int status = call(kind);
+        if (status != B_FAILED || written.line != size || memcmp(line, all_line, size) != 0) {
+            printf("call %d with %zu bytes for the line: status %d, wrote %zu\n", kind, size, status, written.line);
+            wrong = 1;
+        }
+    }
+    line_room = needed.line;
+    call(kind);
+    if (written.out != needed.out || written.line != needed.line) {
+        printf("call %d: not the same in rooms that just fit\n", kind);
+        wrong = 1;
+    }
+    room = sizeof out, line_room = sizeof line;
+}
+
+/* A pointer that is null, with length 0, is answered as an empty text. */
+static void try_null(void) {
+    expect("a source that is null", b_compile(NULL, 0, 1, out, sizeof out, line, sizeof line, &written), 0, "E\n", "");
+    expect("all null", b_go(NULL, 0, NULL, 0, 1, 100, NULL, 0, NULL, 0, &written), 133, "", "");
+    expect("a code text that is null", b_run(NULL, 0, NULL, 0, 100, NULL, 0, line, sizeof line, &written), 132, "",
+           "code 1\n");
+    const char *faulty = "main() { return(x); }";
+    expect("a room that is null", b_check((const uint8_t *)faulty, strlen(faulty), 1, NULL, 0, &written), 133, "", "");
+    expect("files that are null", b_list(NULL, 0, NULL, 0, 1, out, sizeof out, NULL, 0, &written), 133, "", "");
+    const struct b_file empty = {NULL, 0, NULL, 0};
+    expect("a file that is null", b_compile_with(NULL, 0, &empty, 1, 1, out, sizeof out, NULL, 0, &written), 0, "E\n",
+           "");
 }
 
 /* Each growth of memory in a call is refused in turn, up to the first that it doesn't have: it answers as before, or
@@ -232,9 +359,13 @@ int main(int count, char **words) {
     try_memory(answer);
     for (int kind = 0; call(kind) >= 0; kind++)
         try_refusals(kind);
+    for (int kind = 0; call(kind) >= 0; kind++)
+        try_rooms(kind);
     try_rests();
+    try_null();
     try_where();
     try_asking();
+    try_files();
     try_threads();
     return wrong;
 }

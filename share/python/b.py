@@ -12,13 +12,20 @@ import ctypes
 import json
 import operator
 import os
-from typing import Any, Dict, List, NamedTuple, Optional, Union
+from typing import Any, Dict, List, Mapping, NamedTuple, Optional, Union
 
 Text = Union[bytes, bytearray, memoryview, str]
+Libs = Mapping[Text, Text]
 STEPS = 100_000_000
 FAULT, TRAP, LIMIT, REFUSED, FAILED, NO_MEMORY, WRONG_EDITION = 1, 130, 131, 132, 133, 134, 135
-_LINE = 256
+_LINE = 1024
 _ROOM = 1 << 16
+_SHOWN = 2000
+_MOST = 2**64 - 1
+_NAMES = (
+    *("compile", "run", "run_where", "go", "migrate", "check", "format", "version"),
+    *("compile_with", "go_with", "check_with", "list", "map", "trace", "count", "show"),
+)
 
 
 class Ran(NamedTuple):
@@ -40,6 +47,15 @@ class _Written(ctypes.Structure):
     _fields_ = [("out", ctypes.c_size_t), ("line", ctypes.c_size_t)]
 
 
+class _File(ctypes.Structure):
+    _fields_ = [
+        ("name", ctypes.c_char_p),
+        ("name_size", ctypes.c_size_t),
+        ("text", ctypes.c_char_p),
+        ("text_size", ctypes.c_size_t),
+    ]
+
+
 def _load():
     here = os.path.dirname(os.path.abspath(__file__))
     beside = (os.path.join(here, *parts, "libb.so.1") for parts in ((), ("..", "c", "lib")))
@@ -54,7 +70,14 @@ def _load():
     library.b_check.argtypes = text + [ctypes.c_uint8] + room + [ctypes.POINTER(_Written)]
     library.b_format.argtypes = text + [ctypes.c_uint8] + ends
     library.b_version.argtypes = room + [ctypes.POINTER(_Written)]
-    for name in ("compile", "run", "run_where", "go", "migrate", "check", "format", "version"):
+    source, given, number = text + [ctypes.c_void_p, ctypes.c_size_t], text + [ctypes.c_uint8], ctypes.c_uint64
+    library.b_compile_with.argtypes = source + [ctypes.c_uint8] + ends
+    library.b_go_with.argtypes = source + given + [number] + ends
+    library.b_check_with.argtypes = source + [ctypes.c_uint8] + room + [ctypes.POINTER(_Written)]
+    library.b_list.argtypes = library.b_map.argtypes = library.b_compile_with.argtypes
+    library.b_trace.argtypes = library.b_show.argtypes = source + given + [number, number, number] + ends
+    library.b_count.argtypes = source + given + [number, ctypes.c_uint8] + ends
+    for name in _NAMES:
         getattr(library, f"b_{name}").restype = ctypes.c_uint8
     return library
 
@@ -66,6 +89,12 @@ def _bytes(text):
     """A text and its length, as a call takes them."""
     text = text.encode() if isinstance(text, str) else bytes(memoryview(text))
     return text, len(text)
+
+
+def _source(source, libs):
+    """A source and the files that follow it, as a call takes them."""
+    files = [(*_bytes(name), *_bytes(text)) for name, text in (libs or {}).items()]
+    return (*_bytes(source), (_File * len(files))(*files), len(files))
 
 
 def _number(name, number, least, most):
@@ -88,14 +117,16 @@ def _call(function, *words, room, line_room=_LINE, has_line=True):
     return status, ctypes.string_at(out, written.out), line.raw[: written.line]
 
 
-def _fitting(function, *words, room, **how):
-    """The same. Where a room is too small, the call is made again with one of eight times its size."""
+def _fitting(function, *words, room, line_room=_LINE, **how):
+    """The same. Where a room is too small, the call is made again with one of eight times its size, up to the memory
+    that there is: past that comes a MemoryError."""
     room = _number("room", room, 0, 1 << 62)
     while True:
-        status, out, line = _call(function, *words, room=room, **how)
-        if status != FAILED or len(out) < room:
+        status, out, line = _call(function, *words, room=room, line_room=line_room, **how)
+        is_full, is_line_full = len(out) == room, len(line) == line_room
+        if status != FAILED or not (is_full or is_line_full):
             return status, out, line
-        room = 8 * max(room, 1)
+        room, line_room = 8 * max(room, 1) if is_full else room, 8 * line_room if is_line_full else line_room
 
 
 def _text(function, *words, room, **how):
@@ -106,9 +137,9 @@ def _text(function, *words, room, **how):
     return out
 
 
-def compile(source: Text, *, edition: int = 1, room: int = _ROOM) -> bytes:
-    """The code text of a source."""
-    return _text(_library.b_compile, *_bytes(source), _edition(edition), room=room)
+def compile(source: Text, *, edition: int = 1, libs: Optional[Libs] = None, room: int = _ROOM) -> bytes:
+    """The code text of a source, and of the files that follow it: `libs` has the text of each by its name."""
+    return _text(_library.b_compile_with, *_source(source, libs), _edition(edition), room=room)
 
 
 def migrate(code: Text, *, room: int = _ROOM) -> bytes:
@@ -116,9 +147,13 @@ def migrate(code: Text, *, room: int = _ROOM) -> bytes:
     return _text(_library.b_migrate, *_bytes(code), room=room)
 
 
-def check(source: Text, *, edition: int = 1, room: int = _ROOM) -> List[Dict[str, Any]]:
-    """What is wrong in a source: the faults, or the warnings, each with its line, column, message and fix."""
-    status, out, line = _fitting(_library.b_check, *_bytes(source), _edition(edition), room=room, has_line=False)
+def check(
+    source: Text, *, edition: int = 1, libs: Optional[Libs] = None, room: int = _ROOM
+) -> List[Dict[str, Any]]:
+    """What is wrong in a source: the faults, or the warnings, each with its file, line, column, message and fix. The
+    file of the source itself is `-`."""
+    words = (*_source(source, libs), _edition(edition))
+    status, out, line = _fitting(_library.b_check_with, *words, room=room, has_line=False)
     if status >= FAILED:
         raise Error(status, out, line)
     return [json.loads(finding) for finding in out.splitlines()]
@@ -129,13 +164,34 @@ def format(source: Text, *, edition: int = 1, room: int = _ROOM) -> bytes:
     return _text(_library.b_format, *_bytes(source), _edition(edition), room=room)
 
 
+def list(source: Text, *, edition: int = 1, libs: Optional[Libs] = None) -> bytes:
+    """The code of a source, beside its lines."""
+    return _text(_library.b_list, *_source(source, libs), _edition(edition), room=_ROOM)
+
+
+def map(source: Text, *, edition: int = 1, libs: Optional[Libs] = None) -> bytes:
+    """Where each name of a source lies in memory."""
+    return _text(_library.b_map, *_source(source, libs), _edition(edition), room=_ROOM)
+
+
 def version() -> str:
     """The version of the library, and the logic that it was proved with."""
     return _text(_library.b_version, room=256, has_line=False).decode("ascii")
 
 
-def _ran(function, *words, steps, room, line_room=_LINE):
-    words = (*words, _number("steps", steps, 0, 2**64 - 1))
+def _steps(steps):
+    return _number("steps", steps, 0, _MOST)
+
+
+def _rows(steps, start, last):
+    """How many steps are made, and which of them have rows, as a call takes it."""
+    if last is not None:
+        return _steps(STEPS if steps is None else steps), 1, _number("last", last, 1, _MOST)
+    start = _number("start", start, 1, _MOST)
+    return _steps(min(start - 1 + _SHOWN, _MOST) if steps is None else steps), start, 0
+
+
+def _ran(function, *words, room, line_room=_LINE):
     if room is None:
         status, out, line = _fitting(function, *words, room=_ROOM, line_room=line_room)
     else:
@@ -153,11 +209,64 @@ def run(
     code text went wrong."""
     code, length = _bytes(code)
     function, line_room = (_library.b_run_where, length + 300) if where else (_library.b_run, _LINE)
-    return _ran(function, code, length, *_bytes(input), steps=steps, room=room, line_room=line_room)
+    return _ran(function, code, length, *_bytes(input), _steps(steps), room=room, line_room=line_room)
 
 
 def go(
-    source: Text, input: Text = b"", *, edition: int = 1, steps: int = STEPS, room: Optional[int] = None
+    source: Text,
+    input: Text = b"",
+    *,
+    edition: int = 1,
+    steps: int = STEPS,
+    libs: Optional[Libs] = None,
+    room: Optional[int] = None,
 ) -> Ran:
-    """What the program of a source does with an input. `room` is as for `run`."""
-    return _ran(_library.b_go, *_bytes(source), *_bytes(input), _edition(edition), steps=steps, room=room)
+    """What the program of a source does with an input. `room` is as for `run`, and `libs` as for `compile`."""
+    words = (*_source(source, libs), *_bytes(input), _edition(edition), _steps(steps))
+    return _ran(_library.b_go_with, *words, room=room)
+
+
+def trace(
+    source: Text,
+    input: Text = b"",
+    *,
+    edition: int = 1,
+    steps: Optional[int] = None,
+    start: int = 1,
+    last: Optional[int] = None,
+    libs: Optional[Libs] = None,
+) -> Ran:
+    """The steps of the program of a source: 2000 from the number `start` on, where no number of steps is given, or so
+    many of the last ones. An Error has the steps up to there as its output."""
+    words = (*_source(source, libs), *_bytes(input), _edition(edition), *_rows(steps, start, last))
+    return _ran(_library.b_trace, *words, room=None)
+
+
+def count(
+    source: Text,
+    input: Text = b"",
+    *,
+    edition: int = 1,
+    steps: int = STEPS,
+    libs: Optional[Libs] = None,
+    as_json: bool = False,
+) -> Ran:
+    """How often each line of a source is made: a table, or an object of JSON for each line that has code. An Error has
+    the counts up to there as its output."""
+    words = (*_source(source, libs), *_bytes(input), _edition(edition), _steps(steps), int(bool(as_json)))
+    return _ran(_library.b_count, *words, room=None)
+
+
+def show(
+    source: Text,
+    input: Text = b"",
+    *,
+    edition: int = 1,
+    steps: Optional[int] = None,
+    start: int = 1,
+    last: Optional[int] = None,
+    libs: Optional[Libs] = None,
+) -> bytes:
+    """A page that shows the run of the program of a source with this input. `start` and `last` are as for `trace`."""
+    words = (*_source(source, libs), *_bytes(input), _edition(edition), *_rows(steps, start, last))
+    return _text(_library.b_show, *words, room=4 * _ROOM)

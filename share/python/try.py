@@ -6,6 +6,7 @@ CASES is the folder of kept cases, whose README.md tells their files, and VERSIO
 own."""
 import pathlib
 import sys
+from typing import Dict, List, NamedTuple
 
 import b
 
@@ -13,7 +14,7 @@ ECHO = b"main() { auto c; while((c = getchar()) != '*e') putchar(c); exit(3); }"
 STUCK = b"trap sk\nat     in main     place    0  line    2  step 1\n    p\n  means: too few operands\n"
 ONE_TOO_MANY = b"code 4\nat     line    4\n    E\n  wanted: an instruction, 3 of 3 of main\n"
 UNDEFINED = b"load 3\nat     line    3\n    x prnt\n  means: prnt is neither defined nor in the library\n"
-COMMANDS = ("go", "run", "run_where", "compile", "check", "format")
+COMMANDS = ("go", "run", "run_where", "compile", "check", "format", "list", "map", "trace", "count", "show")
 MOST = 2**64 - 1
 ROOM = 1 << 20
 
@@ -46,10 +47,37 @@ def texts_and_numbers():
     for steps in (-1, 2**64):
         yield is_refused(b.go, source, steps=steps), True
         yield is_refused(b.run, b"E\n", steps=steps), True
-    for call in (b.compile, b.go, b.check, b.format):
+    for call in (b.compile, b.go, b.check, b.format, b.list, b.map, b.trace, b.count, b.show):
         for edition in (0, 3, 257):
             yield is_refused(call, source, edition=edition), True
     yield is_refused(b.go, source, room=-1), True
+    for call in (b.trace, b.show):
+        for named in ({"start": 0}, {"start": 2**64}, {"last": 0}, {"last": -1}, {"steps": -1}, {"steps": 2**64}):
+            yield is_refused(call, source, **named), True
+    yield is_refused(b.count, source, steps=2**64), True
+    yield b.go("main() { printn(six() * 7, 10); }", libs={"six.b": bytearray(b"six() { return(6); }")}), (b"42", 0)
+
+
+def with_files():
+    """What is found and what is wanted, of calls with files that follow a source, and of those that show its run."""
+    source, libs = "main() { printn(six(), 10); }", {"six.b": "six() {\n  return(6);\n}"}
+    yield b.go(source, libs=libs), (b"6", 0)
+    yield b.compile(source, libs=libs), b.compile(f"{source}\n{libs['six.b']}")
+    yield error_of(b.go, source), (b.REFUSED, b"load 3\n", b"")
+    yield error_of(b.go, source, libs={b"\xff": ""}), (b.WRONG_EDITION, b"", b"")
+    yield [it["file"] for it in b.check(source, libs={"six.b": "six() { return(x); }"})], ["six.b"]
+    yield b.list(source, libs=libs), b.list(f"{source}\n{libs['six.b']}")
+    yield b.map(source, libs=libs), b.map(f"{source}\n{libs['six.b']}")
+    faulty = {"six.b": "six() {\n return(6); }\nseven() { return(x); }"}
+    for call in (b.trace, b.count, b.show):
+        yield error_of(call, source, libs=faulty), (b.FAULT, b"un x 4\nat     line 3 of six.b\n", b"")
+    long = {"s" * 5000: libs["six.b"].replace("6", "x")}
+    yield error_of(b.trace, source, libs=long)[1], b"un x 3\nat     line 2 of %s\n" % (b"s" * 5000)
+    rows = error_of(b.trace, "main() { auto x; x = 1; x = 2; x = 3; }", start=4, steps=6)[2].splitlines()
+    yield [row.split()[0] for row in rows[1:4]], [b"4", b"5", b"6"]
+    yield error_of(b.trace, "main() { 1/0; }", last=1)[:2], (b.TRAP, b"trap dz\n")
+    yield b.count("main() { exit(3); }", as_json=True).status, 3
+    yield b.show(source, libs=libs).startswith(b"<!doctype html>"), True
 
 
 def rows():
@@ -88,11 +116,22 @@ def contents(path):
     return path.read_bytes() if path.exists() else b""
 
 
+class Ask(NamedTuple):
+    """What a case asks for."""
+
+    command: str
+    source: pathlib.Path
+    editions: List[int]
+    numbers: Dict[str, int]
+    libs: List[str]
+    is_json: bool
+
+
 def asked(path):
-    """The command, the editions and the limit of steps of a case, or None where it asks for more than a call can do."""
+    """What a case asks for, or None where that is more than a call can do."""
     words = path.read_text().split("\n")
     words = words[:-1] if words[-1] == "" else words
-    command, editions, steps = words[0], [1], MOST
+    command, editions, numbers, libs, is_json = words[0], [1], {}, [], False
     source = path.with_suffix(".code" if command == "run" else ".b")
     if command == "run" and "--where" in words:
         command = "run_where"
@@ -102,23 +141,48 @@ def asked(path):
         if word.startswith("--edition="):
             said = word.partition("=")[2]
             editions = [1, 2] if said == "both" else [int(said)]
-        elif word == "--steps":
-            steps = int(next(rest))
-        elif word != source.name and (command, word) != ("check", "--json"):
+        elif word in ("--steps", "--from", "--last") and command != "map":
+            numbers[word] = int(next(rest))
+        elif word == "--with":
+            libs.append(next(rest))
+        elif (command, word) in (("check", "--json"), ("count", "--json")):
+            is_json = True
+        elif word != source.name:
             return None
-    if command == "check" and "--json" not in words:
-        return None
     has_text = source.exists() and (command == "compile" or source.name in words)
-    return (command, editions, steps, source) if command in COMMANDS and has_text else None
+    has_text = has_text and all((source.parent / name).is_file() for name in libs) and len({*libs}) == len(libs)
+    if command not in COMMANDS or not has_text or (command == "check" and not is_json):
+        return None
+    return Ask(command, source, editions, numbers, libs, is_json)
 
 
-def answer(command, text, given, edition, steps):
-    if command == "go":
-        return b._call(b._library.b_go, text, len(text), given, len(given), edition, steps, room=ROOM)
-    call = getattr(b._library, f"b_{command}")
-    if command in ("run", "run_where"):
-        return b._call(call, text, len(text), given, len(given), steps, room=ROOM, line_room=ROOM)
-    return b._call(call, text, len(text), edition, room=ROOM, has_line=command != "check")
+def limit(ask):
+    """The limit of steps: that of a case, or what the command takes where there is none."""
+    of_rows = {"trace": 1000, "show": 1999 + ask.numbers.get("--from", 1)}
+    default = 10**7 if "--last" in ask.numbers else of_rows.get(ask.command, MOST)
+    return ask.numbers.get("--steps", default)
+
+
+def answer(ask, given, edition):
+    """What a call answers to a case in an edition."""
+    text, call = ask.source.read_bytes(), getattr(b._library, f"b_{ask.command}")
+    given = (given, len(given))
+    if ask.command in ("run", "run_where"):
+        return b._call(call, text, len(text), *given, limit(ask), room=ROOM, line_room=ROOM)
+    if ask.command == "format":
+        return b._call(call, text, len(text), edition, room=ROOM)
+    source = b._source(text, {name: (ask.source.parent / name).read_bytes() for name in ask.libs})
+    if ask.command in ("compile", "check", "go"):
+        alone = getattr(b._library, f"b_{ask.command}")
+        call = getattr(b._library, f"b_{ask.command}_with") if ask.libs else alone
+        source = source if ask.libs else source[:2]
+    words = {
+        "go": (*given, edition, limit(ask)),
+        "trace": (*given, edition, limit(ask), ask.numbers.get("--from", 1), ask.numbers.get("--last", 0)),
+        "count": (*given, edition, limit(ask), int(ask.is_json)),
+        "show": (*given, edition, limit(ask), ask.numbers.get("--from", 1), ask.numbers.get("--last", 0)),
+    }.get(ask.command, (edition,))
+    return b._call(call, *source, *words, room=ROOM, line_room=ROOM, has_line=ask.command != "check")
 
 
 def cases(folder):
@@ -127,17 +191,18 @@ def cases(folder):
         kept = [path.with_suffix(it) for it in (".out", ".line", ".status", ".in", ".shown")]
         out, line, status, given = (contents(it) for it in kept[:4])
         ask = None if kept[4].exists() or b"...\n" in out + line else asked(path)
-        if ask:
-            command, editions, steps, source = ask
-            for edition in editions:
-                wanted = out if command != "compile" or edition == 1 or len(editions) == 1 else b"B 2\n" + out
-                if command == "check":
-                    wanted = wanted.replace(b'{"file":"%s"' % source.name.encode(), b'{"file":"-"')
-                found = answer(command, source.read_bytes(), given, edition, steps)
-                yield found, (int(status or 0), wanted, line), f"{path.relative_to(folder)}, edition {edition}"
+        # A page tells the input that is known before the run, and that of a case isn't.
+        if ask and ask.command == "show" and given:
+            ask = None
+        for edition in ask.editions if ask else ():
+            wanted = out if ask.command != "compile" or edition == 1 or len(ask.editions) == 1 else b"B 2\n" + out
+            if ask.command in ("check", "count", "show"):
+                wanted = wanted.replace(ask.source.name.encode(), b"-")
+            found = answer(ask, given, edition)
+            yield found, (int(status or 0), wanted, line), f"{path.relative_to(folder)}, edition {edition}"
 
 
-tried = [(found, wanted, "a row") for found, wanted in (*rows(), *texts_and_numbers())]
+tried = [(found, wanted, "a row") for found, wanted in (*rows(), *texts_and_numbers(), *with_files())]
 tried += cases(pathlib.Path(sys.argv[1]))
 wrong = [row for row in tried if row[0] != row[1]]
 for found, wanted, name in wrong:

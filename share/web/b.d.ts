@@ -5,8 +5,8 @@ export class Stopped extends Error {}
 
 /** The status of a command. One below 128 that comes of a run is the program's own. */
 export type Status = number;
-/** Bytes, or a text in UTF-8. */
-export type Text = Uint8Array | string;
+/** Bytes, in a buffer or in any view of one, or a text in UTF-8. */
+export type Text = ArrayBuffer | ArrayBufferView | string;
 /** Answers at most `max` bytes, and none at the end. What it throws, but for `Failed`, ends the run. */
 export type Input = (max: number) => Uint8Array;
 /** Takes bytes, and may answer of how many. What it throws, but for `Failed`, ends the run. */
@@ -33,7 +33,7 @@ export interface SourceOptions {
 
 export interface RunOptions {
   input?: Text | Input;
-  /** The most steps; `Infinity` for no limit. */
+  /** The most steps, up to 4000000000; `Infinity` for no limit. */
   steps?: number;
   /** Whether `diagnostics` tells where the run went wrong. */
   where?: boolean;
@@ -48,6 +48,18 @@ export interface ShowOptions extends SourceOptions {
   steps?: number;
   from?: number;
   last?: number;
+}
+
+export interface TraceOptions extends ShowOptions {
+  /** The name of the function whose steps are shown; all are, where it isn't given. */
+  function?: string;
+}
+
+export interface CountOptions extends SourceOptions {
+  input?: Text | Input;
+  steps?: number;
+  /** Whether `output` has an object for each line that has code, in place of a table. */
+  json?: boolean;
 }
 
 export interface Answer {
@@ -87,6 +99,8 @@ export interface Finding {
   }[];
 }
 
+/** A number that isn't in its range is a `RangeError`: an edition, a number of steps, or a step from which rows are
+    shown. All that a program writes comes, up to what the engine takes for one array of bytes. */
 export interface Program {
   /** Runs a command line in memory of its own, and answers its status. */
   command(words: string[], system?: System): Status;
@@ -98,6 +112,12 @@ export interface Program {
   /** Compiles a source and runs it. */
   go(source: Text, options?: SourceOptions & RunOptions): Answer;
   format(source: Text, options?: Omit<SourceOptions, 'libs'>): Answer;
+  /** The code of a source beside its lines is `text`; where each name lies in memory; the steps of its run. */
+  list(source: Text, options?: SourceOptions): Answer;
+  map(source: Text, options?: SourceOptions): Answer;
+  trace(source: Text, options?: TraceOptions): Answer;
+  /** How often each line was made. */
+  count(source: Text, options?: CountOptions): Answer;
   /** The page of a run is `text`. */
   show(source: Text, options?: ShowOptions): Answer;
   migrate(code: Text): Answer;

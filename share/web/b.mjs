@@ -25,7 +25,15 @@ const INPUT = 0, OUTPUT = 1, DIAGNOSTICS = 2, FOLDER = 3;
 const TERMINAL = 2, REGULAR = 4;
 
 const encoder = new TextEncoder(), decoder = new TextDecoder('utf-8', {ignoreBOM: true});
-const bytesOf = given => (typeof given === 'string' ? encoder.encode(given) : given);
+
+/** The bytes of a text: of a string, of a buffer, or of any view of one. */
+function bytesOf(given) {
+  if (typeof given === 'string') return encoder.encode(given);
+  if (given instanceof Uint8Array) return given;
+  if (ArrayBuffer.isView(given)) return new Uint8Array(given.buffer, given.byteOffset, given.byteLength);
+  return new Uint8Array(given);
+}
+
 const filesOf = texts => Object.fromEntries(Object.entries(texts).map(([name, text]) => [name, bytesOf(text)]));
 
 /** The calls of wasi_snapshot_preview1 that b.wasm takes, for one run. */
@@ -185,14 +193,23 @@ class Answer {
 }
 
 const SOURCE = 'source.b', CODE = 'source.code';
-const NUMBERS = ['edition', 'from', 'last'];
+const MOST_STEPS = 4_000_000_000;
+const MOST = {edition: 2, from: MOST_STEPS, last: MOST_STEPS, steps: MOST_STEPS};
+
+/** The words of an option with a number, if it is given. One that isn't in its range is refused here, by its name. */
+function numberWords(name, number) {
+  if (number === undefined) return [];
+  if (Number.isInteger(number) && number >= 1 && number <= MOST[name]) return [`--${name}`, String(number)];
+  throw new RangeError(`${name} is ${String(number)}, and has to be a whole number from 1 to ${MOST[name]}`);
+}
 
 /** The words of the options of a command, but for the names of files. */
-function wordsOf({steps, where, libs = {}, ...options}) {
-  const words = NUMBERS.flatMap(it => (options[it] === undefined ? [] : [`--${it}`, String(options[it])]));
-  if (steps === Infinity) words.push('--no-limit');
-  else if (steps !== undefined) words.push('--steps', String(steps));
+function wordsOf({steps, where, json, function: name, libs = {}, ...options}) {
+  const words = ['edition', 'from', 'last'].flatMap(it => numberWords(it, options[it]));
+  words.push(...(steps === Infinity ? ['--no-limit'] : numberWords('steps', steps)));
   if (where) words.push('--where');
+  if (json) words.push('--json');
+  if (name !== undefined) words.push('--function', name);
   return [...words, ...Object.keys(libs).flatMap(it => ['--with', it])];
 }
 
@@ -254,6 +271,22 @@ class Program {
 
   format(source, {name = SOURCE, edition} = {}) {
     return this.ofFile(['format'], name, source, {edition});
+  }
+
+  list(source, {name = SOURCE, edition, libs} = {}) {
+    return this.ofFile(['list'], name, source, {edition, libs});
+  }
+
+  map(source, {name = SOURCE, edition, libs} = {}) {
+    return this.ofFile(['map'], name, source, {edition, libs});
+  }
+
+  trace(source, {name = SOURCE, ...options} = {}) {
+    return this.ofFile(['trace'], name, source, options);
+  }
+
+  count(source, {name = SOURCE, ...options} = {}) {
+    return this.ofFile(['count'], name, source, options);
   }
 
   show(source, {name = SOURCE, ...options} = {}) {

@@ -7,11 +7,16 @@ use Rattle.bword.specs.declared.edition.Edition.{Edition}
 use Rattle.bword.specs.declared.ends.EndFault.{EndFault}
 use Rattle.bword.specs.declared.ends.EndFault.TheVariants as fault
 use Rattle.blang.specs.Compiles.{status_of}
+use Rattle.blang.specs.Reports.{RunEnds}
 use Rattle.blang.specs.declared.status.TheConstants.{DEVICE}
+use Rattle.btools.specs.Programs.{ToldEnds}
 use Rattle.bembed.specs.Asks.{SaysIn}
 use Rattle.bembed.specs.Calls.{InEdition, edition_of}
+use Rattle.bembed.specs.Looks.{RunsOver, TellsOver}
 use Rattle.bembed.specs.Rooms.{Filled, Overflow, Room, Untouched, bytes_over, fresh, stream_of}
-use Rattle.bembed.specs.RoomsExcluded.{BothKeepRest, Excluded, KeepsAll, KeepsInEditions, KeepsRest}
+use Rattle.bembed.specs.RoomsExcluded.{BothKeepRest, Excluded, KeepsAll, KeepsInEditions, KeepsRest, KeepsWith}
+use Rattle.bembed.specs.Wholes.{Whole}
+use Rattle.bembed.specs.WithFiles.{done, unread}
 
 one_over : (byte : Option ℕ) → is_some byte ≡ true → length (bytes_over byte) ≡ 1
 one_over None some = cc
@@ -61,6 +66,19 @@ in_any Does keeps number out line status = in_one (edition_of number) where
   in_one (Some edition) does = keeps edition out line status does
   in_one None none = (untouched out none.0, untouched line none.1)
 
+with_files : (Does : Room → Room → ℕ → Whole → Type 0)
+    → ((it : Whole) → KeepsAll (λ out line status. Does out line status it)) → KeepsWith Does
+with_files Does keeps number source files out line status asked = elim asked [
+  | done it read does ↦ keeps it out line status does
+  | unread no_out no_line why ↦ (untouched out no_out, untouched line no_line)
+]
+
+over : (input : List ℕ) (out line : Room) (P : RunEnds → Type 0) → RunsOver input out line P → BothKeepRest out line
+over input out line P r = (changed out r.out_over r.out_filled, changed line r.line_over r.line_filled)
+
+told : (out line : Room) (P : ToldEnds → Type 0) → TellsOver out line P → BothKeepRest out line
+told out line P t = (changed out t.out_over t.out_filled, changed line t.line_over t.line_filled)
+
 pub excluded : Excluded
 excluded = record {
   refused = too_little;
@@ -74,4 +92,12 @@ excluded = record {
   checks = λ source. in_any _ (λ e out line status c. (changed out c.out_over c.out_filled, untouched line c.no_line));
   formats = λ source. in_any _ (λ e out line status f. (changed out f.out_over f.out_filled, changed line f.line_over f.line_filled));
   says = λ text out line status s. (changed out s.out_over s.out_filled, untouched line s.no_line);
+  compiles_with = with_files _ (λ it out line status c. (changed out c.out_over c.out_filled, changed line c.line_over c.line_filled));
+  goes_with = λ steps input. with_files _ (λ it out line status g. (changed out g.out_over g.out_filled, changed line g.line_over g.line_filled));
+  checks_with = with_files _ (λ it out line status c. (changed out c.out_over c.out_filled, untouched line c.no_line));
+  lists = with_files _ (λ it out line status l. told out line _ l);
+  maps = with_files _ (λ it out line status m. told out line _ m);
+  traces = λ steps which input. with_files _ (λ it out line status t. over input out line _ t);
+  counts = λ steps style input. with_files _ (λ it out line status c. over input out line _ c);
+  shows = λ steps which input. with_files _ (λ it out line status s. over input out line _ s);
 }

@@ -1,6 +1,8 @@
 -- Closed facts: the editions by their numbers, the streams over texts and rooms, and what is run over them.
-use Rattle.std.specs.Prelude.{◌≡◌, ℕ, List, [], ◌∷◌, map, Some, None, false, refl}
-use Rattle.std.proofs.Common.{arith}
+use Rattle.std.specs.Prelude.{◌≡◌, ℕ, List, [], ◌∷◌, map, Some, None, false, true, refl}
+use Rattle.std.proofs.Common.{◌∙◌, arith, sym}
+use Rattle.std.proofs.lemmas.Str.{is_utf8-from_IsUtf8}
+use Rattle.std.specs.Str.{chars, is_utf8}
 use Rattle.bword.specs.ByteEnds.{Outgoing, Unread, incoming_of, most}
 use Rattle.bword.specs.declared.edition.Edition.TheVariants as editions
 use Rattle.blang.specs.Compiles.{Compiles, CompileHeadline}
@@ -12,8 +14,22 @@ use Rattle.bformat.specs.Formats.{Format, Formats}
 use Rattle.brun.specs.Migrates.{Migrates}
 use Rattle.brun.specs.Runs.{RunsText}
 use Rattle.bwhere.specs.Wheres.{LocatesCode}
+use Rattle.bcount.specs.Counts.{Counts}
+use Rattle.bcount.specs.declared.table.CountStyle.TheVariants as style
+use Rattle.blist.specs.Listings.{Lists}
+use Rattle.blist.specs.Maps.{Maps}
+use Rattle.bshow.specs.Shows.{Shows}
+use Rattle.bsources.specs.FileLines.{NamedText}
+use Rattle.btools.specs.Origins.{Source}
+use Rattle.btools.specs.Programs.{told_ends}
+use Rattle.btrace.specs.Traces.{Traces}
+use Rattle.bwatch.specs.declared.trail.TraceRows.TheVariants as rows
 use Rattle.bembed.specs.Asks.{ChecksIn, FormatsIn, SaysIn, check_of, format_of}
 use Rattle.bembed.specs.Calls.{CompilesIn, GoesIn, LocatesIn, MigratesIn, RunsIn, compile_run, edition_of, ends_of}
+use Rattle.bembed.specs.Looks.{CountsWhole, ListsWhole, MapsWhole, ShowsWhole, TracesWhole, rows_of, style_of}
+use Rattle.bembed.specs.Wholes.{Whole, alone, whole_of}
+use Rattle.bembed.specs.WithFiles.{AreNamed, AskedWith, ChecksWhole, CompilesWhole, GoesWhole, done, text_of, unread}
+use Rattle.bembed.specs.declared.joined.NamedFile.{NamedFile}
 use Rattle.bembed.specs.Rooms.{Filled, FailsFull, Overflow, Room, Untouched, overflow_of, room_of, stream_of}
 
 numbers : map edition_of (0 ∷ 1 ∷ 2 ∷ 3 ∷ 255 ∷ []) ≡ (None ∷ Some editions.One ∷ Some editions.Two ∷ None ∷ None ∷ [])
@@ -129,11 +145,11 @@ ran : (r : RunsIn 5 (97 ∷ []) (98 ∷ []) (two 1) (one 1) 3)
 ran r = r.runs
 
 checked : (c : ChecksIn (97 ∷ []) (two 1) (record { before = []; after = []; count = 0 }) 1 editions.Two)
-    → Checks (check_of editions.Two (97 ∷ []) (stream [] 0) (stream_of (two 1) c.out_over) 1)
+    → Checks (check_of editions.Two (alone (97 ∷ [])) (97 ∷ []) (stream [] 0) (stream_of (two 1) c.out_over) 1)
 checked c = c.checks
 
 -- a check is one for an editor, of a source by itself
-check_given : check_of editions.Two (97 ∷ 10 ∷ []) (stream [] 0) (stream (7 ∷ []) 0) 1 ≡ record {
+check_given : check_of editions.Two (alone (97 ∷ 10 ∷ [])) (97 ∷ 10 ∷ []) (stream [] 0) (stream (7 ∷ []) 0) 1 ≡ record {
   edition = editions.Two;
   form = form.Json;
   files = record { first = record { name = 45 ∷ []; lines = 2 }; rest = [] };
@@ -168,3 +184,101 @@ migrated : (m : MigratesIn (97 ∷ []) (two 1) (one 1) 132) → Migrates (record
   out_after = stream_of (two 1) m.out_over;
 }) (stream [] 0) (stream_of (one 1) m.line_over) 132
 migrated m = m.migrates
+
+-- a source and a file that follows it, with a newline between
+abbrev after : List NamedText
+after = record { name = 98 ∷ []; text = 99 ∷ 10 ∷ [] } ∷ []
+
+whole_given : whole_of editions.Two (97 ∷ []) after ≡ record {
+  edition = editions.Two;
+  text = 97 ∷ 10 ∷ 99 ∷ 10 ∷ [];
+  files = record {
+    first = record { name = 45 ∷ []; lines = 1 };
+    rest = record { name = 98 ∷ []; lines = 2 } ∷ [];
+  };
+}
+whole_given = refl
+
+file_given : (file : NamedFile) → text_of file ≡ record { name = file.name.now; text = file.text.now }
+file_given file = refl
+
+-- what is done is done with this source in this edition, and with each of its files
+abbrev asked_of_two : (status : ℕ) → (Whole → Type 0) → Type 0
+asked_of_two status P = AskedWith 2 (97 ∷ []) after (two 1) (one 1) status P
+
+with_this : asked_of_two 0 (λ it. it.text ≡ []) → ⊥
+with_this (done it read empty) = let whole = read.whole in let text = empty in cc
+with_this (unread out line why) = let none = out.none in omega (arith, none)
+
+-- where there is no such edition, nothing is done, and the status says so
+no_edition : (status : ℕ) (P : Whole → Type 0) → AskedWith 3 (97 ∷ []) after (two 0) (one 0) status P → status ≡ 135
+no_edition status P (done it read does) = let some = read.edition in cc
+no_edition status P (unread out line why) = why
+
+-- a name that isn't UTF-8 is refused, and nothing is done with its file
+abbrev unnamed : List NamedText
+unnamed = record { name = 255 ∷ []; text = [] } ∷ []
+
+wrong_byte : is_utf8 (255 ∷ []) ≡ false
+unfolding is_utf8 chars
+wrong_byte = refl
+
+names : AreNamed unnamed → ⊥
+names named =
+    let first = named 0 (record { name = []; text = [] }) (omega arith) in
+    let utf8 : false ≡ true = sym wrong_byte ∙ is_utf8-from_IsUtf8 (255 ∷ []) first in cc
+
+-- the last so many steps have rows; or, where none are asked for, those from a number on
+rows_asked : (rows_of 3 0 ≡ rows.From 3) × (rows_of 3 2 ≡ rows.Last 2)
+rows_asked = (refl, refl)
+
+styles : map style_of (0 ∷ 1 ∷ 255 ∷ []) ≡ style.Table ∷ style.Json ∷ style.Json ∷ []
+styles = refl
+
+-- the whole is compiled, run, checked, listed, laid out, traced, counted and shown
+abbrev both : Whole
+both = whole_of editions.Two (97 ∷ []) after
+
+compiled_with : CompilesWhole (two 1) (one 1) 133 both
+    → CompilesIn (97 ∷ 10 ∷ 99 ∷ 10 ∷ []) (two 1) (one 1) 133 editions.Two
+compiled_with c = c
+
+gone_with : GoesWhole 5 (98 ∷ []) (two 1) (one 1) 3 both
+    → GoesIn 5 (97 ∷ 10 ∷ 99 ∷ 10 ∷ []) (98 ∷ []) (two 1) (one 1) 3 editions.Two
+gone_with g = g
+
+checked_with : (c : ChecksWhole (two 1) (record { before = []; after = []; count = 0 }) 1 both)
+    → Checks (check_of editions.Two both.files (97 ∷ 10 ∷ 99 ∷ 10 ∷ []) (stream [] 0) (stream_of (two 1) c.out_over) 1)
+checked_with c = c.checks
+
+listed : (l : ListsWhole (two 1) (one 1) 0 both) → Lists (Source editions.Two) (97 ∷ 10 ∷ 99 ∷ 10 ∷ []) None
+    (told_ends (stream [] 0) (stream_of (two 1) l.out_over) (stream [] 0) (stream_of (one 1) l.line_over)) 0
+listed l = l.tells
+
+laid_out : (m : MapsWhole (two 1) (one 1) 0 both) → Maps editions.Two (97 ∷ 10 ∷ 99 ∷ 10 ∷ [])
+    (told_ends (stream [] 0) (stream_of (two 1) m.out_over) (stream [] 0) (stream_of (one 1) m.line_over)) 0
+laid_out m = m.tells
+
+traced : (t : TracesWhole 5 (rows.From 2) (98 ∷ []) (two 1) (one 1) 0 both)
+    → Traces (Source editions.Two) (97 ∷ 10 ∷ 99 ∷ 10 ∷ []) 5 (rows.From 2) both.files None
+    (ends_of (98 ∷ []) t.input_after (two 1) (one 1) t.out_over t.line_over) 0
+traced t = t.runs
+
+counted : (c : CountsWhole 5 style.Json (98 ∷ []) (two 1) (one 1) 0 both) → Counts (record {
+  origin = Source editions.Two;
+  steps = 5;
+  files = both.files;
+  style = style.Json;
+}) (97 ∷ 10 ∷ 99 ∷ 10 ∷ []) (ends_of (98 ∷ []) c.input_after (two 1) (one 1) c.out_over c.line_over) 0
+counted c = c.runs
+
+-- a page has the input that is given
+showed : (s : ShowsWhole 5 (rows.From 2) (98 ∷ []) (two 1) (one 1) 0 both)
+    → Shows editions.Two (97 ∷ 10 ∷ 99 ∷ 10 ∷ []) (record {
+      steps = 5;
+      which = rows.From 2;
+      files = both.files;
+      given = 98 ∷ [];
+      finding = None;
+    }) (ends_of (98 ∷ []) s.input_after (two 1) (one 1) s.out_over s.line_over) 0
+showed s = s.runs

@@ -1,5 +1,8 @@
 pub mod Rooms
 pub mod Calls
+pub mod Wholes
 pub mod Asks
+pub mod WithFiles
+pub mod Looks
 mod CallRows
 pub mod RoomsExcluded

@@ -36,6 +36,10 @@ pub record Room : Type 0 where
   pub after : List ℕ
   pub count : ℕ
 
+-- the same in order
+abbrev pub left_in : (before after : List ℕ) (count : ℕ) → Room
+left_in before after count = record { before = before; after = after; count = count }
+
 -- A stream has written at the head of the room, and what the room held after that stays. It failed only where the room
 -- is full and a byte has none.
 pub record Filled (room : Room) (over : Overflow) : Type 0 where

@@ -3,10 +3,12 @@ ghost use Rattle.std.specs.Prelude.{◌≡◌, []};
 ghost use Rattle.bcheck.specs.Checks.{Checks};
 ghost use Rattle.bembed.specs.Asks.{ChecksIn, FormatsIn, SaysIn, check_of};
 ghost use Rattle.bembed.specs.Calls.{edition_of, InEdition};
+ghost use Rattle.bembed.specs.Wholes.{alone};
 ghost use Rattle.bsources.specs.Files.{followed};
 
 use crate::before::Before;
 use crate::calls::{edition_of, refuse};
+use crate::joined::FILE;
 use crate::room::{Room, Written};
 use bcheck::{FindingForm, Request, check};
 use bformat::{House, format};
@@ -18,9 +20,6 @@ use std::alloc::Global;
 
 /// The version, which is that of the program `b`.
 const VERSION: &str = "1.0.0, proved with the Rattle logic dac8208d650f15bf";
-
-/// The name of the file in findings, as that of standard input.
-const FILE: &str = "-";
 
 /// Tells what is wrong with a source, as `check` does for an editor: an object on each line. The line stays empty.
 #[unsafe(no_mangle)]
@@ -49,7 +48,8 @@ pub extern "C" fn b_check(
 
 // Checks a source without files that follow it.
 fn check_alone<O: ByteOut>(alloc: Global, source: &[u8], edition: Edition, out: &mut O) -> Status
-    ensures checks { Checks (check_of edition source.now (O.outgoing out.old) (O.outgoing out.new) result) }
+    ensures checks { Checks (check_of edition (alone source.now) source.now
+        (O.outgoing out.old) (O.outgoing out.new) result) }
     ensures out_lender { O.lender out.new ≡ O.lender out.old }
 {
     let rest = Following::new(alloc);
@@ -65,7 +65,8 @@ fn check_before<O: ByteOut>(
     out: &mut O,
 ) -> Status
     ensures checks { rest.now ≡ followed []
-        → Checks (check_of edition source.now (O.outgoing out.old) (O.outgoing out.new) result) }
+        → Checks (check_of edition (alone source.now) source.now
+        (O.outgoing out.old) (O.outgoing out.new) result) }
     ensures out_lender { O.lender out.new ≡ O.lender out.old }
 {
     let first = SourceFile::new(FILE, source);

@@ -29,9 +29,17 @@ pub(crate) fn refuse(written: &mut Written) -> Status
     ensures nothing { (written.new.out ≡ 0) × (written.new.line ≡ 0) }
     ensures answer { result ≡ WRONG_COMMAND }
 {
+    stop(status::WRONG_COMMAND, written)
+}
+
+/// Writes nothing, and answers so.
+pub(crate) fn stop(answer: Status, written: &mut Written) -> Status
+    ensures nothing { (written.new.out ≡ 0) × (written.new.line ≡ 0) }
+    ensures answer { result ≡ answer }
+{
     written.out = 0;
     written.line = 0;
-    status::WRONG_COMMAND
+    answer
 }
 
 /// Compiles a source, as `compile_edition` does.

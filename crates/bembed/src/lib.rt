@@ -6,6 +6,10 @@
 mod asking;
 mod before;
 mod calls;
+mod joined;
+mod looking;
 mod room;
+mod with_files;
 
 pub use calls::wrong_rooms_are_excluded;
+pub use joined::NamedFile;
