@@ -48,6 +48,13 @@ in_string : map (are_edits_of (codes "\"a\\n*b\""))
     ≡ true ∷ false ∷ false ∷ false ∷ false ∷ []
 in_string = refl
 
+-- an escape of which one more digit is a part, and one of two digits
+octal_in_string : map (are_edits_of (codes "\"\\0123\""))
+    ((at 1 3 (codes "*0") row.Escape ∷ []) ∷ (at 1 4 (codes "*0") row.Escape ∷ [])
+    ∷ (at 1 5 (codes "*n") row.Escape ∷ []) ∷ [])
+    ≡ false ∷ false ∷ true ∷ []
+octal_in_string = refl
+
 told_by_line : listed (codes "f") (codes "a\nb") 1 0 []
     (at 0 0 [] row.And ∷ at 0 1 [] row.Do ∷ at 1 1 [] row.And ∷ at 2 2 [] row.And ∷ [])
     ≡ codes "f:1: ported: && is ?: or, between comparisons, &\nf:1: ported: do is a while, or a goto\n"

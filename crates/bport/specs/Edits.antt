@@ -1,5 +1,5 @@
 -- Promise: what is edited in an old source, and what stays.
-use Rattle.std.specs.Prelude.{ℕ, ◌==◌, nat_le, Bool, true, false, List, [], ◌∷◌, ◌++◌, ◌≡◌, ◌&&◌, ◌||◌, Option, Some}
+use Rattle.std.specs.Prelude.{ℕ, nat_le, Bool, true, false, List, [], ◌∷◌, ◌++◌, ◌≡◌, ◌&&◌, ◌||◌, Option, Some}
 use Rattle.std.specs.Prelude.{codes, drop, if◌then◌else◌, length, not, slice_get, take}
 use Rattle.std.specs.List.{list_all}
 use Rattle.std.specs.Str.{bytes_eq}
@@ -9,6 +9,7 @@ use Rattle.blang.specs.Machine.{Image}
 use Rattle.btools.specs.Programs.{HasNoProgram, HasProgram}
 use Rattle.btools.specs.declared.program.ProgramFault.{ProgramFault}
 use Rattle.btools.specs.declared.program.ProgramFault.TheVariants as why
+use Rattle.bport.specs.Escapes.{escape_for, is_cut_short}
 use Rattle.bport.specs.Places.{is_own_text, is_within_text, places_of}
 use Rattle.bport.specs.declared.edit.Edit.{Edit}
 use Rattle.bport.specs.declared.row.Row.{Row}
@@ -20,23 +21,6 @@ use Rattle.bport.specs.declared.within.Within.TheVariants as within
 abbrev pub edited : List ℕ → (at : ℕ) → List Edit → List ℕ
 edited source at [] = drop at source
 edited source at (e ∷ es) = drop at (take e.start source) ++ (e.text ++ edited source e.end es)
-
--- the escape that stands here for what a backslash and this byte stand for
-abbrev pub escape_of : ℕ → List ℕ
-escape_of b =
-    if b == 110 then 42 ∷ 110 ∷ []
-    else (if b == 116 then 42 ∷ 116 ∷ []
-    else (if b == 48 then 42 ∷ 48 ∷ []
-    else (if b == 34 then 42 ∷ 34 ∷ []
-    else (if b == 39 then 42 ∷ 39 ∷ []
-    else (if b == 92 then 92 ∷ [] else [])))))
-
--- The escape that stands here for these bytes in quotes. A `*` that begins none stands for itself by another one.
-abbrev pub escape_for : List ℕ → List ℕ
-escape_for [] = []
-escape_for (mark ∷ []) = if mark == 42 then 42 ∷ 42 ∷ [] else []
-escape_for (mark ∷ b ∷ []) = if mark == 92 then escape_of b else []
-escape_for (mark ∷ b ∷ c ∷ more) = []
 
 -- the first byte stands in quotes, and isn't that of an escape after its mark
 abbrev pub is_in_quotes : List Within → Bool
@@ -69,7 +53,7 @@ abbrev pub fits : List ℕ → List Within → Edit → Bool
 fits source places e =
     let old = drop e.start (take e.end source) in
     let stood = drop e.start (take e.end places) in
-    if is_escape_row e.row then is_escape old stood e.text
+    if is_escape_row e.row then is_escape old stood e.text && not (is_cut_short old (slice_get source e.end))
     else (list_all (λ place. not (is_own_text place)) stood
     && (stands_apart (slice_get source e.end) (slice_get places e.end) || opens_comment old e.text))
 

@@ -1,5 +1,6 @@
 pub mod Places
 pub mod Edits
+pub mod Escapes
 pub mod Changes
 pub mod EditRows
 pub mod PlaceRows

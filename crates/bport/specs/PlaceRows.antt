@@ -1,9 +1,10 @@
 -- Closed facts: in what the bytes of an old source stand, escapes, and why a source is none of a program.
-use Rattle.std.specs.Prelude.{◌≡◌, ℕ, Bool, true, false, List, [], ◌∷◌, codes, map, refl}
+use Rattle.std.specs.Prelude.{◌≡◌, ℕ, Bool, true, false, List, [], ◌∷◌, None, Some, codes, map, refl}
 use Rattle.blang.specs.declared.run.LoadFault.TheVariants as faults
 use Rattle.btools.specs.declared.program.ProgramFault.TheVariants as why
 use Rattle.bport.specs.Places.{is_own_text, places_of}
-use Rattle.bport.specs.Edits.{escape_for, is_reason}
+use Rattle.bport.specs.Edits.{is_reason}
+use Rattle.bport.specs.Escapes.{escape_for, is_cut_short}
 use Rattle.bport.specs.declared.within.Within.TheVariants as within
 
 -- which bytes of a text are a comment's or a string's own
@@ -48,6 +49,24 @@ escapes : map escape_for
     (codes "\\n" ∷ codes "\\t" ∷ codes "\\0" ∷ codes "\\\"" ∷ codes "\\'" ∷ codes "\\\\" ∷ codes "*" ∷ [])
     ≡ codes "*n" ∷ codes "*t" ∷ codes "*0" ∷ codes "*\"" ∷ codes "*'" ∷ codes "\\" ∷ codes "**" ∷ []
 escapes = refl
+
+octal_escapes : map escape_for (codes "\\012" ∷ codes "\\11" ∷ codes "\\000" ∷ codes "\\12" ∷ [])
+    ≡ codes "*n" ∷ codes "*t" ∷ codes "*0" ∷ codes "*n" ∷ []
+octal_escapes = refl
+
+-- other bytes, four digits, and a digit that is none
+no_octal_escapes : map escape_for (codes "\\101" ∷ codes "\\0012" ∷ codes "\\018" ∷ codes "\\8" ∷ [])
+    ≡ [] ∷ [] ∷ [] ∷ [] ∷ []
+no_octal_escapes = refl
+
+-- one more digit
+cut_short : map (λ old. is_cut_short old (Some 49))
+    (codes "\\0" ∷ codes "\\01" ∷ codes "\\012" ∷ codes "\\n" ∷ codes "*" ∷ [])
+    ≡ true ∷ true ∷ false ∷ false ∷ false ∷ []
+cut_short = refl
+
+not_cut_short : map (is_cut_short (codes "\\0")) (None ∷ Some 56 ∷ Some 34 ∷ []) ≡ false ∷ false ∷ false ∷ []
+not_cut_short = refl
 
 no_escapes : map escape_for (codes "\\r" ∷ codes "n" ∷ codes "*n" ∷ codes "\\nn" ∷ [] ∷ [])
     ≡ [] ∷ [] ∷ [] ∷ [] ∷ [] ∷ []

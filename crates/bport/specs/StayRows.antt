@@ -1,6 +1,6 @@
 -- Closed facts: which signs of other forms are told where they stay, and how.
 use Rattle.std.specs.Fmt.{digits}
-use Rattle.std.specs.Prelude.{◌≡◌, ℕ, true, false, Bool, List, [], ◌∷◌, ◌++◌, codes, map, refl}
+use Rattle.std.specs.Prelude.{◌≡◌, ℕ, true, false, Bool, List, [], ◌∷◌, codes, map, refl}
 use Rattle.bport.specs.Places.{places_of}
 use Rattle.bport.specs.Staying.{is_old_at, is_told_at, notes_text}
 use Rattle.bport.specs.declared.edit.Edit.{Edit}

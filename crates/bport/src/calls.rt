@@ -38,8 +38,8 @@ pub(crate) fn calls(
     Ok(())
 }
 
-// Whether a source defines a function.
-fn defines(source: &Source<'_>, name: &[u8]) -> bool {
+/// Whether a source defines a function.
+pub(crate) fn defines(source: &Source<'_>, name: &[u8]) -> bool {
     for index in 0..source.tokens.len() {
         let open = index.wrapping_add(1);
         if source.is(index, name) && source.is_open_paren(open) {
@@ -52,8 +52,8 @@ fn defines(source: &Source<'_>, name: &[u8]) -> bool {
     false
 }
 
-// Whether a call has just one argument.
-fn has_one(source: &Source<'_>, open: usize) -> bool {
+/// Whether a call has just one argument.
+pub(crate) fn has_one(source: &Source<'_>, open: usize) -> bool {
     let close = source.partner(open);
     let mut depth: usize = 0;
     for index in open..close.min(source.tokens.len()) {

@@ -309,6 +309,7 @@ fn variables(
         types(source, draft, at, name)?;
     }
     found.externals.push(name)?;
+    text_name(source, draft, at, name)?;
     let mut next = name;
     let mut depth: usize = 0;
     for index in name..last {
@@ -320,16 +321,47 @@ fn variables(
             b"{" | b"$(" => depth = depth.saturating_add(1),
             b"}" | b"$)" => depth = depth.saturating_sub(1),
             b"," if is_typed && depth == 0 => {
+                let other = after_types(source, index.wrapping_add(1));
                 draft.replace(source, index, b";", Row::Type)?;
-                found
-                    .externals
-                    .push(after_types(source, index.wrapping_add(1)))?;
+                found.externals.push(other)?;
+                text_name(source, draft, at, other)?;
             }
             _ => {}
         }
         next = value_token(source, draft, found, index, last)?;
     }
     Ok(after(last))
+}
+
+// Takes the brackets out that a name of characters has before a string.
+fn text_name(
+    source: &Source<'_>,
+    draft: &mut Draft,
+    at: usize,
+    name: usize,
+) -> Result<(), AllocError> {
+    let open = name.wrapping_add(1);
+    if !source.is(at, b"char") || source.is(name.wrapping_sub(1), b"*") || !is_text(source, name) {
+        return Ok(());
+    }
+    let end = source.end(open.wrapping_add(1));
+    draft.put(source.start(open), end, b"", Row::Text)
+}
+
+// Whether a name has empty brackets and one string for its value.
+fn is_text(source: &Source<'_>, name: usize) -> bool {
+    let open = name.wrapping_add(1);
+    let close = open.wrapping_add(1);
+    let sign = close.wrapping_add(1);
+    let value = if source.is(sign, b"=") {
+        sign.wrapping_add(1)
+    } else {
+        sign
+    };
+    source.is(open, b"[")
+        && source.is(close, b"]")
+        && source.kind(value) == Some(TokenKind::String)
+        && matches!(source.word(value.wrapping_add(1)), b";" | b",")
 }
 
 // Edits a token of a definition of externals, and tells the next one.
@@ -397,7 +429,9 @@ pub(crate) fn types(
             b"float" | b"double" => NoteKind::Floating,
             b"long" | b"unsigned" => NoteKind::Wide,
             b"struct" | b"union" => NoteKind::Structure,
-            b"char" if source.is(index.wrapping_add(1), b"*") => NoteKind::Pointer,
+            b"char" if source.is(index.wrapping_add(1), b"*") || is_text(source, name) => {
+                NoteKind::Pointer
+            }
             b"char" if source.is(name.wrapping_add(1), b"[") => NoteKind::Words,
             _ => continue,
         };

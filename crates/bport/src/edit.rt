@@ -1,9 +1,11 @@
 //! Edits of an old source.
-ghost use Rattle.std.specs.Prelude.{◌≡◌, drop, not, take};
+ghost use Rattle.std.specs.Int.{is_in_range};
+ghost use Rattle.std.specs.Prelude.{◌≡◌, ◌-◌, ◌≤◌, drop, not, take};
 ghost use Rattle.std.specs.List.{list_all};
 ghost use Rattle.bport.specs.Places.{is_own_text};
-ghost use Rattle.bport.specs.Edits.{are_sound, escape_for, escape_of, fits, is_escape, is_in_quotes, opens_comment};
-ghost use Rattle.bport.specs.Edits.{stands_apart};
+ghost use Rattle.bport.specs.Edits.{are_sound, fits, is_escape, is_in_quotes, opens_comment, stands_apart};
+ghost use Rattle.bport.specs.Escapes.{backslash_escape, byte_escape, escape_for, escape_of, is_cut_short, letter_escape};
+ghost use Rattle.bport.specs.Escapes.{octal_number, octal_value};
 
 use crate::row::Row;
 use crate::within::Within;
@@ -99,7 +101,9 @@ pub(crate) fn fits(source: &[u8], places: &[Within], edit: &Edit) -> bool
     let stood = places_between(places, edit.start, edit.end);
     let new = edit.text.as_slice();
     match edit.row {
-        Row::Escape => is_escape(old, stood, new),
+        Row::Escape => {
+            is_escape(old, stood, new) && !is_cut_short(old, source.get(edit.end).copied())
+        }
         _ => {
             let byte = source.get(edit.end).copied();
             let place = places.get(edit.end).copied();
@@ -142,7 +146,37 @@ pub(crate) fn escape_for(old: &[u8]) -> &'static [u8]
 {
     match old {
         [b'*'] => b"**",
-        [b'\\', byte] => escape_of(*byte),
+        [b'\\', escape @ ..] => backslash_escape(escape),
+        _ => b"",
+    }
+}
+
+// The same for what comes after a backslash.
+fn backslash_escape(escape: &[u8]) -> &'static [u8]
+    ensures { result.now ≡ backslash_escape escape.now }
+{
+    match octal_value(escape) {
+        Some(code) => byte_escape(code),
+        None => letter_escape(escape),
+    }
+}
+
+fn byte_escape(code: u64) -> &'static [u8]
+    ensures { result.now ≡ byte_escape code }
+{
+    match code {
+        10 => b"*n",
+        9 => b"*t",
+        0 => b"*0",
+        _ => b"",
+    }
+}
+
+fn letter_escape(escape: &[u8]) -> &'static [u8]
+    ensures { result.now ≡ letter_escape escape.now }
+{
+    match escape {
+        [letter] => escape_of(*letter),
         _ => b"",
     }
 }
@@ -153,10 +187,56 @@ fn escape_of(byte: u8) -> &'static [u8]
     match byte {
         b'n' => b"*n",
         b't' => b"*t",
-        b'0' => b"*0",
         b'"' => b"*\"",
         b'\'' => b"*'",
         b'\\' => b"\\",
         _ => b"",
+    }
+}
+
+/// The number that octal digits stand for, up to three of them.
+pub(crate) fn octal_value(digits: &[u8]) -> Option<u64>
+    ensures { result ≡ octal_value digits.now }
+{
+    match digits {
+        [last] => octal_number(b'0', b'0', *last),
+        [middle, last] => octal_number(b'0', *middle, *last),
+        [first, middle, last] => octal_number(*first, *middle, *last),
+        _ => None,
+    }
+}
+
+fn octal_number(first: u8, middle: u8, last: u8) -> Option<u64>
+    ensures { result ≡ octal_number first middle last }
+{
+    if !is_octal(first) || !is_octal(middle) || !is_octal(last) {
+        return None;
+    }
+    Some(64 * value_of(first) + (8 * value_of(middle) + value_of(last)))
+}
+
+fn value_of(digit: u8) -> u64
+    ensures value { result ≡ digit - 48 }
+    ensures small { result ≤ 255 }
+{
+    digit.saturating_sub(b'0') as u64
+}
+
+/// Whether a byte is a digit of an octal number.
+pub(crate) fn is_octal(byte: u8) -> bool
+    ensures { result ≡ is_in_range 48 55 byte }
+{
+    matches!(byte, b'0'..=b'7')
+}
+
+// Whether an octal number in quotes goes on after these bytes.
+fn is_cut_short(old: &[u8], next: Option<u8>) -> bool
+    ensures { result ≡ is_cut_short old.now next }
+{
+    match (old, next) {
+        ([b'\\', digits @ ..], Some(next)) => {
+            is_octal(next) && digits.len() < 3 && octal_value(digits).is_some()
+        }
+        _ => false,
     }
 }

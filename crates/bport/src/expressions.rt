@@ -4,6 +4,7 @@ use crate::names::is_keyword;
 use crate::row::{NoteKind, Row};
 use crate::shape::is_opening;
 use crate::source::{Dialect, Draft, Source};
+use crate::table::NONE;
 use crate::tokens::TokenKind;
 use btools::Text;
 use std::alloc::AllocError;
@@ -14,7 +15,6 @@ pub(crate) fn sign(source: &Source<'_>, draft: &mut Draft, index: usize) -> Resu
         b"$(" => draft.replace(source, index, b"{", Row::Brackets),
         b"$)" => draft.replace(source, index, b"}", Row::Brackets),
         b"~" => complement(source, draft, index),
-        b"^=" | b"=^" => draft.note(source, index, NoteKind::Exclusive),
         b"->" => draft.note(source, index, NoteKind::Structure),
         b"+=" | b"-=" | b"*=" | b"/=" | b"%=" | b"&=" | b"|=" | b"<<=" | b">>=" => {
             assignment(source, draft, index)
@@ -164,6 +164,48 @@ pub(crate) fn exclusive_or(
     draft.put(start, start, b"((", Row::Exclusive)?;
     draft.replace(source, found.sign, b"|", Row::Exclusive)?;
     draft.put_text(end, end, text, Row::Exclusive)
+}
+
+/// `x ^= a;` is `x = ((x | (a)) - (x & (a)));`, where x is a name and evaluating a twice does no harm.
+pub(crate) fn exclusive_assignment(
+    source: &Source<'_>,
+    draft: &mut Draft,
+    sign: usize,
+) -> Result<(), AllocError> {
+    let name = sign.wrapping_sub(1);
+    let first = sign.wrapping_add(1);
+    let end = source.semicolon(sign);
+    let is_whole = source.is_name(name) && source.begins_statement(name) && end != NONE;
+    if !is_whole || !is_pure(source, first, end) || !source.is_plain(sign, end) {
+        return draft.note(source, sign, NoteKind::Exclusive);
+    }
+    let edits = &draft.edits;
+    let last = source.end(end.wrapping_sub(1));
+    let value = render(draft.alloc, source.text, edits, source.start(first), last)?;
+    let word = render(
+        draft.alloc,
+        source.text,
+        edits,
+        source.start(name),
+        source.end(name),
+    )?;
+    let mut head = Text::new(draft.alloc);
+    head.push(b"= ((")?;
+    head.push(word.as_slice())?;
+    head.push(b" | (")?;
+    let mut tail = Text::new(draft.alloc);
+    tail.push(b")) - (")?;
+    tail.push(word.as_slice())?;
+    tail.push(b" & (")?;
+    tail.push(value.as_slice())?;
+    tail.push(b")))")?;
+    draft.put_text(
+        source.start(sign),
+        source.start(first),
+        head,
+        Row::Exclusive,
+    )?;
+    draft.put_text(last, last, tail, Row::Exclusive)
 }
 
 /// Whether no token from one up to another calls, stores or may end the run.

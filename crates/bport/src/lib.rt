@@ -20,6 +20,7 @@ mod shape;
 mod source;
 mod statements;
 mod staying;
+mod streams;
 mod table;
 mod tokens;
 mod within;

@@ -8,7 +8,7 @@ use crate::apply::{apply, joined};
 use crate::calls::{calls, without_base};
 use crate::definitions::{Outline, outline_of};
 use crate::edit::{Edit, are_sound, fits};
-use crate::expressions::{exclusive_or, is_joined, may_wrap, sign};
+use crate::expressions::{exclusive_assignment, exclusive_or, is_joined, may_wrap, sign};
 use crate::logic::signs;
 use crate::loops::loops_of;
 use crate::mentions::{heap, mentions};
@@ -20,6 +20,7 @@ use crate::shape::{ends_of, is_closing, is_opening, partners_of, semicolons_of};
 use crate::source::{Dialect, Draft, Source};
 use crate::statements::statement;
 use crate::staying::{has_refused, tell_old};
+use crate::streams::streams;
 use crate::table::{NONE, first_names, word_of};
 use crate::tokens::{Token, TokenKind, tokens_of};
 use crate::within::{Within, places_of};
@@ -319,6 +320,7 @@ fn draft_rows(
         }
     }
     calls(alloc, source, &others, draft)?;
+    streams(source, &others, draft)?;
     mentions(alloc, source, draft, &outline, &short)?;
     heap(source, &others, draft, &outline)?;
     draft_statements(alloc, source, draft, &mut outline)
@@ -336,11 +338,21 @@ fn draft_statements(
     for found in &exclusives {
         exclusive_or(source, draft, *found)?;
     }
+    exclusive_assignments(source, draft)?;
     let loops = loops_of(alloc, source)?;
     for step in 0..source.tokens.len() {
         let index = source.tokens.len() - 1 - step;
         if !outline.is_gone(index) {
             statement(source, draft, outline, &loops, index)?;
+        }
+    }
+    Ok(())
+}
+
+fn exclusive_assignments(source: &Source<'_>, draft: &mut Draft) -> Result<(), AllocError> {
+    for index in 0..source.tokens.len() {
+        if matches!(source.word(index), b"^=" | b"=^") {
+            exclusive_assignment(source, draft, index)?;
         }
     }
     Ok(())

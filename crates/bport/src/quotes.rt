@@ -1,8 +1,9 @@
 //! Character constants and strings.
-use crate::edit::escape_for;
+use crate::edit::{between, escape_for, is_octal, octal_value};
 use crate::row::{NoteKind, Row};
 use crate::source::{Draft, Source};
 use crate::tokens::TokenKind;
+use btools::Text;
 use std::alloc::AllocError;
 
 /// Edits the escapes of a constant or a string, and divides a constant of too many characters.
@@ -21,8 +22,12 @@ pub(crate) fn quoted(
             Row::Brackets,
         );
     }
-    if matches!(word, b"'\\0'") && !source.is(index.wrapping_sub(2), b"putchar") {
-        return draft.replace(source, index, b"'*e'", Row::StringEnd);
+    let inner = between(word, 1, word.len().saturating_sub(1));
+    if let (Some(TokenKind::Char), Some(code)) = (source.kind(index), code_of(inner)) {
+        let is_end = code == 0 && !source.is(index.wrapping_sub(2), b"putchar");
+        if is_end || escape_for(inner).is_empty() {
+            return coded(source, draft, index, code);
+        }
     }
     let mut count: usize = 0;
     let mut next: usize = 1;
@@ -41,11 +46,75 @@ pub(crate) fn quoted(
     Ok(())
 }
 
-// The bytes of one character in quotes: two where an escape begins, and else one.
+// Writes a character by its number, or as the end of a string.
+fn coded(
+    source: &Source<'_>,
+    draft: &mut Draft,
+    index: usize,
+    code: u64,
+) -> Result<(), AllocError> {
+    if code == 0 {
+        return draft.replace(source, index, b"'*e'", Row::StringEnd);
+    }
+    let mut text = Text::new(draft.alloc);
+    text.push_number(code)?;
+    draft.replace_text(source, index, text, Row::Code)
+}
+
+// What an escape with a backslash stands for that has a number, or none here.
+fn code_of(unit: &[u8]) -> Option<u64> {
+    match unit {
+        [b'\\', b'x', digits @ ..] => hexadecimal(digits),
+        [b'\\', b'a'] => Some(7),
+        [b'\\', b'b'] => Some(8),
+        [b'\\', b'v'] => Some(11),
+        [b'\\', b'f'] => Some(12),
+        [b'\\', b'r'] => Some(13),
+        [b'\\', digits @ ..] => octal_value(digits),
+        _ => None,
+    }
+}
+
+fn hexadecimal(digits: &[u8]) -> Option<u64> {
+    let mut value: u64 = 0;
+    if digits.is_empty() || digits.len() > 2 {
+        return None;
+    }
+    for digit in digits {
+        let own = match *digit {
+            b'0'..=b'9' => *digit - b'0',
+            b'a'..=b'f' => *digit - b'a' + 10,
+            b'A'..=b'F' => *digit - b'A' + 10,
+            _ => return None,
+        };
+        value = value.saturating_mul(16).saturating_add(own as u64);
+    }
+    Some(value)
+}
+
+// How many bytes an escape after a backslash has.
+fn escape_length(rest: &[u8]) -> usize {
+    let is_hexadecimal = rest.first() == Some(&b'x');
+    for index in 0..rest.len().min(3) {
+        let is_digit = match rest[index] {
+            b'x' => index == 0,
+            byte if is_hexadecimal => byte.is_ascii_hexdigit(),
+            byte => is_octal(byte),
+        };
+        if !is_digit {
+            return index.max(1);
+        }
+    }
+    rest.len().min(3)
+}
+
+// The bytes of one character in quotes: more than one where an escape begins.
 fn unit_at(word: &[u8], at: usize) -> &[u8] {
     let rest = word.get(at..).unwrap_or(&[]);
     match rest {
-        [b'\\', _, _, ..] => rest.get(..2).unwrap_or(&[]),
+        [b'\\', escape @ .., _] if !escape.is_empty() => {
+            between(rest, 0, escape_length(escape).saturating_add(1))
+        }
         [
             b'*',
             b'0' | b'e' | b'(' | b')' | b'n' | b't' | b'*' | b'\'' | b'"',
@@ -63,7 +132,7 @@ fn escape(draft: &mut Draft, start: usize, unit: &[u8], at: usize) -> Result<(),
     if !text.is_empty() {
         return draft.put(place, place.saturating_add(unit.len()), text, Row::Escape);
     }
-    if unit.len() == 2 && unit.get(0) == Some(&b'\\') {
+    if unit.len() > 1 && unit.get(0) == Some(&b'\\') {
         return draft.note_at(place, NoteKind::Escape);
     }
     Ok(())
