@@ -41,7 +41,7 @@ sixth() {
     }
 }
 seventh(c) {
-    while(c != 'e') { /* missed */
+    while(c != 'e') { /* told */
         c = getchar();
         putchar(c);
     }

@@ -15,7 +15,7 @@ use Rattle.blang.specs.declared.run.LoadFault.{LoadFault}
 use Rattle.blang.specs.declared.run.LoadFault.TheVariants as fault
 use Rattle.blang.specs.declared.token.Diagnostic.{Diagnostic}
 use Rattle.btools.specs.Programs.{HasFault, IsCodeOf, load_line}
-use Rattle.bcheck.specs.Checks.{EachOutcome, IsWhole, Judged, Reason, fault_in, told_first, told_of, verdict_line, status_told}
+use Rattle.bcheck.specs.Checks.{EachOutcome, IsWhole, Judged, Reason, fault_in, told_first, load_told, verdict_line, status_told}
 use Rattle.bcheck.specs.Findings.{AreWhole, IsCompiled, IsReasoned, IsStopOf, ReasonAt, TellsFault, TellsOf, definitions_in, definitions_of, matter_code}
 use Rattle.bcheck.specs.UndefinedNames.{told_subjects}
 use Rattle.bcheck.specs.declared.compiled.Compiled.{Compiled}
@@ -31,7 +31,7 @@ status_in e = ap (λ (p : List ℕ × ℕ). p.1) e
 line_in : {line other : List ℕ} {a b : ℕ} → ◌≡◌ {A = List ℕ × ℕ} (line, a) (other, b) → line ≡ other
 line_in e = ap (λ (p : List ℕ × ℕ). p.0) e
 
-not_of_load : (g : LoadFault) (line : List ℕ) → ◌≡◌ {A = List ℕ × ℕ} (line, 1) (told_of g) → ⊥
+not_of_load : (g : LoadFault) (line : List ℕ) → ◌≡◌ {A = List ℕ × ℕ} (line, 1) (load_told g) → ⊥
 not_of_load (fault.Duplicate name) line e = let no : ◌≡◌ {A = ℕ} 1 132 = status_in e in absurd (omega (arith, no))
 not_of_load fault.TooLarge line e = let no : ◌≡◌ {A = ℕ} 1 132 = status_in e in absurd (omega (arith, no))
 not_of_load (fault.Undefined name) line e = let no : ◌≡◌ {A = ℕ} 1 132 = status_in e in absurd (omega (arith, no))

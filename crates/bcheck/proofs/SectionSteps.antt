@@ -23,7 +23,7 @@ use Rattle.bcheck.specs.Findings.{IsCompiled}
 use Rattle.bcheck.specs.declared.finding.Finding.{Finding}
 use Rattle.bcheck.specs.declared.finding.TheConstants.{MOST_FINDINGS}
 use Rattle.bcheck.specs.Findings.{HasFaults, IsOnSection, TellsStop, TellsAfter, TellsFault, matter_code}
-use Rattle.bcheck.specs.Sections.{Section, StopsAlone, StopsEach, at_fault, head_after, is_end, opened, places_from, places_in, section_at, section_end, section_places, sections, sections_at}
+use Rattle.bcheck.specs.Sections.{Section, StopsAlone, StopsEach, at_fault, head_after, is_end, opened, places_from, head_places, section_at, section_end, section_places, sections, sections_at}
 use Rattle.bcheck.proofs.AddedFindings.{zip_more}
 use Rattle.bcheck.proofs.FaultLines.{on_a_line}
 use Rattle.bcheck.proofs.TokenPlaces.{end_within}
@@ -72,7 +72,7 @@ module _ (edition : Edition) (line : ℕ) (source : List ℕ) where
   -- the places so far and those that come are all
   pub record Collects (at : ℕ) (head : Option ℕ) (places : List ℕ) : Type 0 where
     pub within : at ≤ length source
-    pub made : places ++ coming head at ≡ places_in edition line source
+    pub made : places ++ coming head at ≡ head_places edition line source
 
   pub collects_from : Collects 0 None []
   collects_from = record { within = omega arith; made = refl }
@@ -94,7 +94,7 @@ module _ (edition : Edition) (line : ℕ) (source : List ℕ) where
               ∙ ap (λ ps. places ++ ps) (sym (coming_more head at h.within f)) ∙ h.made;
         }))
 
-    pub collects_all : is_end p.lexeme ≡ true → more ≡ places_in edition line source
+    pub collects_all : is_end p.lexeme ≡ true → more ≡ head_places edition line source
     collects_all e =
         let f : is_end (next at).lexeme ≡ true = ap (λ (q : PlacedPiece). is_end q.lexeme) (sym is) ∙ e in
         here ∙ ap (λ ps. places ++ ps) (sym (append-nil (opened head (next at).lexeme)) ∙ sym (step_end (length source) head at f)) ∙ h.made

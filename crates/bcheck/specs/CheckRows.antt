@@ -100,7 +100,15 @@ warning_codes : map warning_code (
     warning.DefaultLabel ∷ warning.WordOutside ∷ warning.VectorCalled ∷ warning.WordOfString ∷ warning.CallsItself ∷
     warning.ChangesNothing ∷ warning.LoopUnchanged ∷ warning.Indented ∷ warning.Overwritten ∷
     warning.MainParameters ∷ warning.StringsAdded ∷ warning.OrConstant ∷ warning.AssignsItself ∷
-    warning.PassesOldValue ∷ warning.ValueDropped ∷ warning.EndlessLoop ∷ warning.NoMain ∷ []
+    warning.PassesOldValue ∷ warning.ValueDropped ∷ warning.EndlessLoop ∷ warning.NoMain ∷
+    warning.DanglingElse ∷ warning.IfsInRow ∷ warning.ElseOverwrites ∷ warning.OctalNumber ∷ warning.LargeNumber ∷
+    warning.DividesFirst ∷ warning.ZeroQuotient ∷ warning.AlwaysTrue ∷ warning.NeverTrue ∷ warning.LoopPastVector ∷
+    warning.CountPastVector ∷ warning.CountsAway ∷ warning.InnerOnce ∷ warning.BeginsAnew ∷ warning.InputEndless ∷
+    warning.SameArguments ∷ warning.ResultDropped ∷ warning.StringAdded ∷ warning.StoredBack ∷ warning.NotReached ∷
+    warning.DigitForCharacter ∷ warning.FallsIntoCase ∷ warning.FormValues ∷ warning.TwoIndices ∷
+    warning.AssignsNot ∷ warning.ProductTooLarge ∷ warning.NumberPut ∷ warning.AddressesCompared ∷
+    warning.ValueForAddress ∷ warning.CharacterCounted ∷ warning.SlashEscape ∷ warning.WordCalled ∷
+    warning.SomeReturn ∷ []
     ) ≡ codes "*/" ∷ codes "and" ∷ codes "and" ∷ codes "op" ∷ codes "if" ∷ codes "if" ∷ codes "if" ∷ codes "em" ∷
     codes "em" ∷ codes "ix" ∷ codes "ix" ∷ codes "ix" ∷ codes "ix" ∷ codes "ix" ∷ codes "ix" ∷ codes "sg" ∷
     codes "en" ∷ codes "en" ∷ codes "en" ∷ codes "st" ∷ codes "st" ∷ codes "st" ∷ codes "st" ∷ codes "no" ∷
@@ -108,7 +116,12 @@ warning_codes : map warning_code (
     codes "ar" ∷ codes "ar" ∷ codes "ar" ∷ codes "rt" ∷ codes "us" ∷ codes "in" ∷ codes "in" ∷ codes "hi" ∷
     codes "hi" ∷ codes "ma" ∷ codes "ed" ∷ codes "ed" ∷ codes "ix" ∷ codes "st" ∷ codes "lp" ∷ codes "no" ∷
     codes "lp" ∷ codes "la" ∷ codes "us" ∷ codes "ma" ∷ codes "st" ∷ codes "pr" ∷ codes "op" ∷ codes "ar" ∷
-    codes "no" ∷ codes "lp" ∷ codes "ma" ∷ []
+    codes "no" ∷ codes "lp" ∷ codes "ma" ∷
+    codes "la" ∷ codes "if" ∷ codes "if" ∷ codes "oc" ∷ codes "sg" ∷ codes "pr" ∷ codes "pr" ∷ codes "if" ∷
+    codes "if" ∷ codes "ix" ∷ codes "ix" ∷ codes "lp" ∷ codes "lp" ∷ codes "lp" ∷ codes "en" ∷ codes "lp" ∷
+    codes "no" ∷ codes "st" ∷ codes "us" ∷ codes "no" ∷ codes "en" ∷ codes "sw" ∷ codes "ar" ∷ codes "ix" ∷
+    codes "if" ∷ codes "sg" ∷ codes "st" ∷ codes "st" ∷ codes "ar" ∷ codes "en" ∷ codes "bs" ∷ codes "hi" ∷
+    codes "rt" ∷ []
 warning_codes = refl
 
 -- the line and the column of a place after a text

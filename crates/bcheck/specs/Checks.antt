@@ -42,14 +42,14 @@ use Rattle.bcheck.specs.declared.verdict.Verdict.{Verdict}
 use Rattle.bcheck.specs.declared.verdict.Verdict.TheVariants as verdict
 
 -- the line and the status of code that doesn't load; a program without a function main is no fault
-abbrev pub told_of : LoadFault → List ℕ × ℕ
-told_of fault.NoMain = ([], DONE)
-told_of f = (unwrap_or (load_line f) [], REFUSED)
+abbrev pub load_told : LoadFault → List ℕ × ℕ
+load_told fault.NoMain = ([], DONE)
+load_told f = (unwrap_or (load_line f) [], REFUSED)
 
 -- the line and the status of a source with this diagnostic, or, without one, of code with this fault
 abbrev pub told_first : Option Diagnostic → Option LoadFault → List ℕ × ℕ
 told_first (Some diagnostic) fault = (line_of diagnostic, FAULT)
-told_first None (Some f) = told_of f
+told_first None (Some f) = load_told f
 told_first None None = ([], DONE)
 
 abbrev pub verdict_line : Verdict → List ℕ

@@ -60,8 +60,8 @@ places_from edition line (suc fuel) source head at =
     opened head p.lexeme
     ++ (if is_end p.lexeme then [] else places_from edition line fuel source (head_after line source head p) p.end)
 
-abbrev pub places_in : Edition → (line : ℕ) → List ℕ → List ℕ
-places_in edition line source = places_from edition line (suc (length source)) source None 0
+abbrev pub head_places : Edition → (line : ℕ) → List ℕ → List ℕ
+head_places edition line source = places_from edition line (suc (length source)) source None 0
 
 abbrev pub has_return : List ℕ → Bool
 has_return source = list_any (λ b. b == 13) source
@@ -70,7 +70,7 @@ has_return source = list_any (λ b. b == 13) source
 -- place is known.
 abbrev pub section_places : Edition → (line : ℕ) → List ℕ → List ℕ
 section_places edition line source =
-    if has_return source then [] else places_in edition line source
+    if has_return source then [] else head_places edition line source
 
 -- a section, and what comes before it
 pub record Section : Type 0 where

@@ -22,6 +22,8 @@ pub(crate) enum Byte {
     HashRemark,
     Backslash,
     Dot,
+    Fraction,
+    Method,
     Other,
 }
 
@@ -45,13 +47,19 @@ impl Byte {
                 ("this is a form feed, as between old pages",
                  "write a space in its place: tr '\\f' ' ' < old.b > new.b"),
             Byte::Letter => ("this is a letter beyond ASCII", "take other letters, or put it in a comment"),
-            Byte::Caret => ("there is no operator ^", "(a | b) - (a & b) is the exclusive or of a and b"),
+            Byte::Caret =>
+                ("there is no operator ^", "p =* x; in a loop is a power, and (a | b) - (a & b) the exclusive or"),
             Byte::Tilde => ("there is no operator ~", "-x - 1 has the bits of x the other way round"),
             Byte::Hash =>
                 ("nothing begins with #: there is no #define", "take it out; an external has a value: size 10;"),
             Byte::HashRemark => ("nothing begins with #: a remark is between /* and */", "/* remark */"),
             Byte::Backslash => ("no token begins with \\", "take it out; in quotes * begins an escape"),
             Byte::Dot => ("there are no structures and no fractions", "a vector has its parts by numbers: p[0], p[1]"),
+            Byte::Fraction =>
+                ("there are no fractions: a word is a whole number", "count in smaller parts: 35 tenths for 3.5"),
+            Byte::Method =>
+                ("there are no methods: a call begins with its function",
+                 "length(s), and putstr(s); with b go FILE --with print"),
             Byte::Other => ("no token begins with this byte", "take it out"),
         }
     }
@@ -72,9 +80,22 @@ pub(crate) fn byte_of(text: &[u8]) -> Byte {
         (Some(b'#'), Some(b'd' | b'e' | b'i' | b'p' | b'u'), _) => Byte::Hash,
         (Some(b'#'), _, _) => Byte::HashRemark,
         (Some(b'\\'), _, _) => Byte::Backslash,
+        (Some(b'.'), Some(b'0'..=b'9'), _) => Byte::Fraction,
+        (Some(b'.'), _, _) if is_method(text) => Byte::Method,
         (Some(b'.'), _, _) => Byte::Dot,
         _ => Byte::Other,
     }
+}
+
+// Whether names with points between them lead to a parenthesis.
+fn is_method(text: &[u8]) -> bool {
+    for byte in text {
+        match *byte {
+            b'.' | b'_' | b'a'..=b'z' | b'A'..=b'Z' | b'0'..=b'9' => {}
+            byte => return byte == b'(',
+        }
+    }
+    false
 }
 
 /// What is wrong with a constant.

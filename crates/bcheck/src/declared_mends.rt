@@ -66,8 +66,12 @@ fn push_names(
     for token in first..end {
         let lexeme = draft.at(token);
         match lexeme {
-            Lexeme::OpenParen | Lexeme::OpenBracket => depth = depth.saturating_add(1),
-            Lexeme::CloseParen | Lexeme::CloseBracket => depth = depth.saturating_sub(1),
+            Lexeme::OpenParen | Lexeme::OpenBracket | Lexeme::OpenBrace => {
+                depth = depth.saturating_add(1);
+            }
+            Lexeme::CloseParen | Lexeme::CloseBracket | Lexeme::CloseBrace => {
+                depth = depth.saturating_sub(1);
+            }
             Lexeme::Comma if depth == 0 => is_value = false,
             Lexeme::Assign(_) => is_value = true,
             Lexeme::Name(_) if !is_value && !is_left_out(&lexeme) => {
@@ -99,8 +103,12 @@ fn push_values(
     let mut depth: u64 = 0;
     for token in first..end.saturating_add(1) {
         match draft.at(token) {
-            Lexeme::OpenParen | Lexeme::OpenBracket => depth = depth.saturating_add(1),
-            Lexeme::CloseParen | Lexeme::CloseBracket => depth = depth.saturating_sub(1),
+            Lexeme::OpenParen | Lexeme::OpenBracket | Lexeme::OpenBrace => {
+                depth = depth.saturating_add(1);
+            }
+            Lexeme::CloseParen | Lexeme::CloseBracket | Lexeme::CloseBrace => {
+                depth = depth.saturating_sub(1);
+            }
             Lexeme::Assign(_) if from.is_none() => from = Some(token.saturating_add(1)),
             Lexeme::Comma | Lexeme::Semicolon if depth == 0 => {
                 if let Some(value) = from {
@@ -115,6 +123,7 @@ fn push_values(
     Ok(())
 }
 
+// An assignment of what stands from one token to another; of a list in brackets or braces, one for each of its values.
 fn push_value(
     text: &mut Text,
     draft: &Draft<'_>,
@@ -122,11 +131,42 @@ fn push_value(
     first: usize,
     last: usize,
 ) -> Result<(), AllocError> {
+    if let Lexeme::OpenBrace | Lexeme::OpenBracket = draft.at(first) {
+        text.push(b" ")?;
+        return push_each(text, draft, name, first, last);
+    }
     text.push(b" ")?;
     text.push(draft.bytes(name, name))?;
     text.push(b" = ")?;
     text.push(draft.bytes(first, last))?;
     text.push(b";")
+}
+
+/// An assignment to a word of a vector for each value of a list, which these two tokens open and close.
+pub(crate) fn push_each(
+    text: &mut Text,
+    draft: &Draft<'_>,
+    name: usize,
+    opener: usize,
+    closer: usize,
+) -> Result<(), AllocError> {
+    let (mut from, mut count): (usize, u64) = (opener.saturating_add(1), 0);
+    for token in from..closer.saturating_add(1) {
+        if token != closer && draft.at(token) != Lexeme::Comma {
+            continue;
+        }
+        if count > 0 {
+            text.push(b" ")?;
+        }
+        text.push(draft.bytes(name, name))?;
+        text.push(b"[")?;
+        text.push_number(count)?;
+        text.push(b"] = ")?;
+        text.push(draft.bytes(from, token.wrapping_sub(1)))?;
+        text.push(b";")?;
+        (from, count) = (token.saturating_add(1), count.saturating_add(1));
+    }
+    Ok(())
 }
 
 /// The head of a function without types.

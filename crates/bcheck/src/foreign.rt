@@ -25,6 +25,7 @@ pub(crate) enum Foreign {
     Truth,
     Nothing,
     InputEnd,
+    StringEnd,
     Writes,
     Reads,
     ElseIf,
@@ -114,13 +115,14 @@ impl Foreign {
             Foreign::External =>
                 ("there is no @: extrn is in a function", "extrn n; in each function that has n, and here nothing"),
             Foreign::Function => ("there is no @: a function begins with its name", "f(x) { .. }"),
-            Foreign::And => ("there is no operator @", "a ? b : 0"),
-            Foreign::Or => ("there is no operator @", "a ? 1 : b"),
+            Foreign::And => ("there is no operator @", "a & b between comparisons, and else a ? b : 0"),
+            Foreign::Or => ("there is no operator @", "a | b between comparisons, and else a ? 1 : b"),
             Foreign::Not => ("there is no operator @: it is !", "!(a > b)"),
             Foreign::Block => ("there is no @: braces are around statements", "{ f(); g(); }"),
             Foreign::Truth => ("there is no @: 0 is false, and all else is true", "1 is true, and 0 is false"),
             Foreign::Nothing => ("there is no @: 0 is no address", "write 0"),
             Foreign::InputEnd => ("there is no @: the input ends with '*e', 4", "write '*e'"),
+            Foreign::StringEnd => ("there is no @: a string ends with '*e', 4", "write '*e'"),
             Foreign::Writes =>
                 ("there is no @: printn writes a number", "printn(n, 10); and putstr(s); with b go FILE --with print"),
             Foreign::Reads =>

@@ -3,7 +3,7 @@ ghost use Rattle.std.specs.List.{All};
 ghost use Rattle.std.specs.Prelude.{◌≡◌, ◌+◌, ◌++◌, ◌<◌, ◌^◌, IfOk, OnOk, drop, min, vec_items};
 ghost use Rattle.bcheck.specs.Findings.{HasFaults, IsMilestone, TellsAfter, matter_code};
 ghost use Rattle.bcheck.specs.Sections.{begins_head, has_return, head_after, is_any_name, is_first_column, is_in_head};
-ghost use Rattle.bcheck.specs.Sections.{is_end, opened, places_in, section_at, section_end, section_places};
+ghost use Rattle.bcheck.specs.Sections.{is_end, opened, head_places, section_at, section_end, section_places};
 
 use crate::compiled::compile;
 use crate::explain::{alone, fault_of};
@@ -165,7 +165,7 @@ fn section_places(
 // The same of any source.
 fn places_after(alloc: Global, source: SourceText<'_>, line: u64) -> Result<Vec<usize>, AllocError>
     ensures { IfOk result (λ places. vec_items places
-        ≡ places_in source.entry.edition line source.entry.text.now) }
+        ≡ head_places source.entry.edition line source.entry.text.now) }
 {
     let mut scanner = Scanner::new(source.text, source.edition);
     let mut places = Vec::new(alloc);

@@ -29,6 +29,8 @@ mod mention;
 mod name_mends;
 mod named;
 mod near;
+mod number_mends;
+mod own_parts;
 mod pieces;
 mod places;
 mod spans;

@@ -312,18 +312,50 @@ fn is_quiet(
     })
 }
 
-// Whether findings are some of others, but not all of them. Where no more are told, another one may come last.
+// Whether findings are some of others, but not all of them. Where no more are told, another one may come last. That a
+// loop doesn't see the end of the input comes of no edit: it shows where a condition is right otherwise.
 fn are_fewer(new: &[Finding], old: &[Finding]) -> bool {
-    let mut count: usize = 0;
+    let mut place = 0;
     for finding in old {
-        if let Some(next) = new.get(count) {
-            if is_same(next, finding) {
-                count = count.saturating_add(1);
+        let next = after_endless(new, place);
+        if let Some(same) = new.get(next) {
+            if is_same(same, finding) {
+                place = next.saturating_add(1);
             }
         }
     }
-    let spare: usize = if old.len() < MOST_FINDINGS { 0 } else { 1 };
-    count.saturating_add(spare) >= new.len() && count < old.len()
+    let (before, after) = (old.len(), new.len());
+    let (endless, left) = (endless_in(old), endless_in(new));
+    let spare: usize = if before < MOST_FINDINGS { 0 } else { 1 };
+    let is_whole = after_endless(new, place).saturating_add(spare) >= after;
+    let (others, kept) = (before.saturating_sub(endless), after.saturating_sub(left));
+    is_whole && (kept < others || left < endless)
+}
+
+// How many findings are that a loop doesn't see the end of the input.
+fn endless_in(findings: &[Finding]) -> usize {
+    let mut count: usize = 0;
+    for finding in findings {
+        if is_endless(finding) {
+            count = count.saturating_add(1);
+        }
+    }
+    count
+}
+
+// The next place of findings from one on that isn't such a one.
+fn after_endless(findings: &[Finding], from: usize) -> usize {
+    for place in from..findings.len() {
+        match findings.get(place) {
+            Some(finding) if is_endless(finding) => {}
+            _ => return place,
+        }
+    }
+    findings.len()
+}
+
+fn is_endless(finding: &Finding) -> bool {
+    matches!(finding.matter, Matter::Warning(Warning::InputEndless))
 }
 
 // Whether two findings say the same of the same name.
@@ -331,7 +363,7 @@ fn is_same(one: &Finding, other: &Finding) -> bool {
     one.name == other.name && one.matter.advice().1 == other.matter.advice().1
 }
 
-// Whether no finding stands on the line of an edit, or speaks of its name. That a loop never ends comes of no edit, nor
+// Whether no finding stands on the line of an edit, or speaks of its name. What comes of no edit doesn't count, nor
 // does a name alone as a statement on another line than what was found.
 fn none_at(findings: &[Finding], spot: Spot, found: Option<&Finding>) -> bool {
     for finding in findings {
@@ -342,8 +374,8 @@ fn none_at(findings: &[Finding], spot: Spot, found: Option<&Finding>) -> bool {
             None => false,
         };
         let is_here = match finding.matter {
-            Matter::Warning(Warning::EndlessLoop) => false,
             Matter::Warning(Warning::NameAlone) => is_on || is_named && is_own,
+            Matter::Warning(warning) if comes_of_no_edit(warning) => false,
             _ => is_on || is_named,
         };
         if is_here {
@@ -351,4 +383,25 @@ fn none_at(findings: &[Finding], spot: Spot, found: Option<&Finding>) -> bool {
         }
     }
     true
+}
+
+// Whether no edit of a fault makes this a mistake: a number, a sum or a loop was one before.
+fn comes_of_no_edit(warning: Warning) -> bool {
+    matches!(
+        warning,
+        Warning::EndlessLoop
+            | Warning::InputEndless
+            | Warning::OctalNumber
+            | Warning::LargeNumber
+            | Warning::DividesFirst
+            | Warning::ZeroQuotient
+            | Warning::StringAdded
+            | Warning::FormValues
+            | Warning::DigitForCharacter
+            | Warning::LoopPastVector
+            | Warning::CountPastVector
+            | Warning::CountsAway
+            | Warning::InnerOnce
+            | Warning::BeginsAnew
+    )
 }

@@ -8,7 +8,7 @@ use crate::mends::{Site, token_at};
 use crate::syntax_mends::{after_brackets, statement_of, word_here};
 use crate::undefined::UndefinedName;
 use crate::unknown::{Lvalue, Unknown};
-use crate::warning_mends::{and_and, bracketed, compares};
+use crate::warning_mends::{and_and, bracketed, compares, takes_arguments};
 use blang::Keyword;
 use blex::Lexeme;
 use bword::Name;
@@ -66,7 +66,10 @@ pub(crate) fn of_unknown(
         Unknown::External => declare(draft, site, Keyword::Extrn, &name),
         Unknown::Function | Unknown::Library => {
             draft.after(site.token, b"()")?;
-            declare(draft, site, Keyword::Extrn, &name)
+            if takes_arguments(draft, &name) {
+                declare(draft, site, Keyword::Extrn, &name)?;
+            }
+            Ok(())
         }
         Unknown::Foreign(word) => {
             draft.is_guess = true;
@@ -77,6 +80,15 @@ pub(crate) fn of_unknown(
             declare_either(draft, site, &name)
         }
         Unknown::NoLabel => label(draft, site, &name),
+        Unknown::Letter => draft.replace(
+            site.token,
+            site.token,
+            &[
+                Part::Words(b"'"),
+                Part::Words(name.as_bytes()),
+                Part::Words(b"'"),
+            ],
+        ),
         Unknown::Other => declare_either(draft, site, &name),
         _ => Ok(()),
     }

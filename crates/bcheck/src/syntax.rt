@@ -28,6 +28,7 @@ pub(crate) enum Syntax {
     TypeFirst,
     TypeParameter,
     VectorParameter,
+    ParameterComma,
     EqualsOutside,
     SignOutside,
     BracesOutside,
@@ -119,6 +120,7 @@ impl Syntax {
                  "main() and not int main(); n 5; and not int n = 5;"),
             Syntax::TypeParameter => ("there are no types: parameters are names alone", "f(a, b)"),
             Syntax::VectorParameter => ("a parameter is a word, and has no brackets", "f(v), and then v[i] in f"),
+            Syntax::ParameterComma => ("parameters have commas between them", "f(a, b)"),
             Syntax::EqualsOutside => ("outside of functions a value comes without =", "n 5; or v[2] 1, 2, 3;"),
             Syntax::SignOutside => ("an initial value has no sign", "65535 is -1, and 65536 - x is -x"),
             Syntax::HeadParens => ("a function has parentheses after its name", "main() { .. }"),
@@ -134,7 +136,7 @@ impl Syntax {
             Syntax::ExtrnList => ("extrn has names alone, with commas between them", "extrn n, v;"),
             Syntax::For => ("there is no for: this is taken for a call", "i = 0; while(i < 3) { .. i++; }"),
             Syntax::ForEach => ("there is no for: a while counts", "i = 0; while(i < 3) { .. i++; }"),
-            Syntax::Do => ("there is no do", "a label and a goto: L: { .. } if(i < 3) goto L;"),
+            Syntax::Do => ("there is no do", "L: { .. } and then, in place of its while, if(..) goto L;"),
             Syntax::DoAfter => ("no do comes here: the body follows the ) of the while", "while(x > 3) { .. }"),
             Syntax::Then => ("there is no then", "if(x) f(); else g();"),
             Syntax::TypeInside => ("there are no types", "auto i;"),
@@ -154,7 +156,7 @@ impl Syntax {
             Syntax::ElseAlone =>
                 ("no if ends right before this else", "between if(x) and else is one statement: put { } around more"),
             Syntax::ElseCondition => ("an else has no condition of its own", "else if(x > 3) .."),
-            Syntax::OrOr => ("there is no operator ||", "a ? 1 : b"),
+            Syntax::OrOr => ("there is no operator ||", "a | b between comparisons, and else a ? 1 : b"),
             Syntax::EqualsAfter => ("the = of an assignment comes first", "x =+ 2; and not x += 2;"),
             Syntax::Arrow => ("there are no structures, and no ->", "a vector has its parts by numbers: p[0], p[1]"),
             Syntax::QuoteEscaped =>
@@ -334,7 +336,7 @@ const BEGINNINGS: [Mistake; 10] = [
 
 /// Externals and the parameters of a function.
 #[rattlefmt::skip]
-const OUTSIDE: [Mistake; 18] = [
+const OUTSIDE: [Mistake; 20] = [
     Mistake(EXTERNAL, If::Prototype, [Like::Type, ANY, Like::Name, OPEN_PAREN, ANY], Syntax::Prototype, Marking::First),
     Mistake(HEADER, If::Prototype, [ANY, ANY, Like::Type, Like::Name, ANY], Syntax::Prototype, Marking::Before),
     Mistake(EXTERNAL, If::Always, [Like::Type, ANY, ANY, ANY, ANY], Syntax::TypeFirst, Marking::First),
@@ -343,6 +345,7 @@ const OUTSIDE: [Mistake; 18] = [
     Mistake(EXTERNAL, If::Always, [ANY, CLOSE_BRACKET, Like::Name, OPEN_PAREN, ANY], Syntax::SemicolonBefore,
         Marking::Before),
     Mistake(EXTERNAL, If::Always, [ANY, ANY, Like::Name, OPEN_PAREN, ANY], Syntax::TypeFirst, Marking::First),
+    Mistake(EXTERNAL, If::Always, [ANY, Like::Name, Like::Name, Like::Name, ANY], Syntax::TypeFirst, Marking::First),
     Mistake(EXTERNAL, If::Always, [ANY, ANY, ANY, Like::Assigns, ANY], Syntax::EqualsOutside, Marking::Here),
     Mistake(EXTERNAL, If::Always, [ANY, ANY, ANY, SUB, ANY], Syntax::SignOutside, Marking::Here),
     Mistake(EXTERNAL, If::Always, [ANY, ANY, CLOSE_BRACKET, OPEN_BRACKET, ANY], Syntax::TwoSizes, Marking::Here),
@@ -351,6 +354,7 @@ const OUTSIDE: [Mistake; 18] = [
     Mistake(HEADER, If::Always, [ANY, ANY, Like::Name, Like::Name, ANY], Syntax::TypeParameter, Marking::Before),
     Mistake(HEADER, If::Always, [ANY, ANY, ANY, Like::Keyword, ANY], Syntax::TypeParameter, Marking::Here),
     Mistake(HEADER, If::Always, [ANY, ANY, Like::Name, OPEN_BRACKET, ANY], Syntax::VectorParameter, Marking::Here),
+    Mistake(HEADER, If::Always, [ANY, ANY, Like::Name, SEMICOLON, Like::Name], Syntax::ParameterComma, Marking::Here),
     Mistake(HEADER, If::Always, [ANY, ANY, ANY, Like::Constant, ANY], Syntax::CallOutside, Marking::Here),
     Mistake(HEADER, If::Always, [ANY, ANY, ANY, STRING, ANY], Syntax::CallOutside, Marking::Here),
     Mistake(HEADER, If::Always, [ANY, ANY, Like::Name, OPEN_PAREN, ANY], Syntax::CallOutside, Marking::Here),
@@ -370,8 +374,9 @@ const DECLARATIONS: [Mistake; 7] = [
 
 /// Words, with what has to come after them.
 #[rattlefmt::skip]
-const WORDS: [Mistake; 17] = [
+const WORDS: [Mistake; 18] = [
     Mistake(BODY, If::For, [ANY, ANY, ANY, ANY, ANY], Syntax::For, Marking::Head),
+    Mistake(BODY, If::Always, [Like::Word("for"), ANY, CLOSE_PAREN, ANY, ANY], Syntax::For, Marking::First),
     Mistake(BODY, If::Always, [ANY, ANY, Like::Word("for"), Like::Name, ANY], Syntax::ForEach, Marking::Before),
     Mistake(BODY, If::Always, [ANY, CLOSE_PAREN, Like::Word("do"), ANY, ANY], Syntax::DoAfter, Marking::Before),
     Mistake(BODY, If::Always, [ANY, ANY, Like::Word("do"), ANY, ANY], Syntax::Do, Marking::Before),
@@ -393,7 +398,7 @@ const WORDS: [Mistake; 17] = [
 
 /// Operators and operands, and brackets around them.
 #[rattlefmt::skip]
-const OPERANDS: [Mistake; 23] = [
+const OPERANDS: [Mistake; 25] = [
     Mistake(BODY, If::Always, [ANY, ANY, OR, OR, ANY], Syntax::OrOr, Marking::Here),
     Mistake(BODY, If::Always, [IF_WHILE, ANY, CLOSE_PAREN, COLON, ANY], Syntax::HeadColon, Marking::Here),
     Mistake(BODY, If::Always, [ELSE, ANY, CLOSE_PAREN, COLON, ANY], Syntax::HeadColon, Marking::Here),
@@ -404,6 +409,8 @@ const OPERANDS: [Mistake; 23] = [
     Mistake(BODY, If::Always, [ANY, ANY, Like::Compares, Like::Assigns, ANY], Syntax::CompareSigns, Marking::Before),
     Mistake(BODY, If::Always, [ANY, ANY, Like::Relates, Like::Assigns, ANY], Syntax::CompareSigns, Marking::Before),
     Mistake(BODY, If::Always, [ANY, ANY, Like::Operator, Like::Assigns, ANY], Syntax::EqualsAfter, Marking::Here),
+    Mistake(BODY, If::Always, [ANY, ANY, EQUALS, OPEN_BRACKET, ANY], Syntax::ListAssigned, Marking::Here),
+    Mistake(BODY, If::Always, [ANY, ANY, EQUALS, OPEN_BRACE, ANY], Syntax::ListAssigned, Marking::Here),
     Mistake(BODY, If::Joined, [ANY, ANY, SUB, GT, ANY], Syntax::Arrow, Marking::Before),
     Mistake(BODY, If::Backslash, [ANY, ANY, STRING, ANY, ANY], Syntax::QuoteEscaped, Marking::Here),
     Mistake(BODY, If::Joined, [ANY, ANY, STRING, Like::Name, ANY], Syntax::QuoteInside, Marking::Here),

@@ -1,7 +1,7 @@
 //! Edits for a token with which no program goes on.
 use crate::around::opener_of;
 use crate::byte_mends::remark;
-use crate::declared_mends::{definition, head, local, names_alone};
+use crate::declared_mends::{definition, head, local, names_alone, push_each};
 use crate::draft::{Draft, Part};
 use crate::finding::Finding;
 use crate::foreign::Foreign;
@@ -9,6 +9,8 @@ use crate::kinds::{closes_bracket, is_comparison, is_operand, is_word, opens_bra
 use crate::logic_mends::{Logic, mend_logic};
 use crate::mends::{Site, token_at};
 use crate::name_mends::body_of;
+use crate::near::near_keyword;
+use crate::own_parts::body_end;
 use crate::syntax::Syntax;
 use crate::warning_mends::as_character;
 use blang::Keyword;
@@ -55,6 +57,7 @@ fn of_definition(draft: &mut Draft<'_>, site: Site, syntax: Syntax) -> Result<()
             definition(draft, first)
         }
         Syntax::VectorParameter => head(draft, first),
+        Syntax::ParameterComma => draft.rename(token, b","),
         Syntax::HeadParens => draft.after(token.wrapping_sub(1), b"()"),
         Syntax::EqualsOutside | Syntax::SignOutside | Syntax::BracesOutside => definition(
             draft, first,
@@ -96,7 +99,19 @@ fn of_braces(
     match syntax {
         Syntax::FunctionInside if is_whole => draft.before(site.token, b"} "),
         Syntax::ElseInBraces => draft.before(site.token, b"} "),
+        Syntax::BraceOpen | Syntax::FunctionInside => brace_after(draft, finding),
         _ => Ok(()),
+    }
+}
+
+// A closing brace after the last line that stands farther in than the open one.
+fn brace_after(draft: &mut Draft<'_>, finding: &Finding) -> Result<(), AllocError> {
+    let Some(brace) = finding.related else {
+        return Ok(());
+    };
+    match body_end(draft.source, brace.start) {
+        Some((_, end)) => draft.put(end, end, &[Part::Words(b" }")]),
+        None => Ok(()),
     }
 }
 
@@ -135,6 +150,7 @@ fn of_statement(draft: &mut Draft<'_>, site: Site, syntax: Syntax) -> Result<(),
     let token = site.token;
     let before = token.wrapping_sub(1);
     match syntax {
+        Syntax::SemicolonMissing if has_keyword(draft, token) => keyword(draft, token),
         Syntax::SemicolonMissing | Syntax::SemicolonBefore | Syntax::NoStatement => draft.after(
             before, b";",
         ),
@@ -155,7 +171,8 @@ fn of_statement(draft: &mut Draft<'_>, site: Site, syntax: Syntax) -> Result<(),
         Syntax::CaseColon => draft.after(before, b":"),
         Syntax::Condition => condition(draft, token),
         Syntax::ReturnValue => parenthesized(draft, token, Lexeme::Semicolon, b"("),
-        Syntax::CallParens => parenthesized(draft, token, Lexeme::Semicolon, b"("),
+        Syntax::CallParens if has_keyword(draft, token) => keyword(draft, token),
+        Syntax::CallParens => call_parens(draft, token),
         Syntax::ElseAlone => else_alone(draft, before),
         Syntax::HeadColon => draft.remove(token, token),
         Syntax::CallBody => call_body(draft, token),
@@ -165,6 +182,7 @@ fn of_statement(draft: &mut Draft<'_>, site: Site, syntax: Syntax) -> Result<(),
         }
         Syntax::DoAfter => draft.remove(token, token),
         Syntax::ElseCondition => else_if(draft, before),
+        Syntax::ListAssigned => one_by_one(draft, token),
         _ => Ok(()),
     }
 }
@@ -258,7 +276,9 @@ fn is_headed(draft: &Draft<'_>, token: usize) -> bool {
 // Whether a comma stands between what may be two statements.
 fn is_between_statements(draft: &Draft<'_>, comma: usize) -> bool {
     let next = comma.wrapping_add(1);
-    let begins = is_name(&draft.at(next)) && does_something(&draft.at(next.wrapping_add(1)));
+    let after = draft.at(next.wrapping_add(1));
+    let begins = is_name(&draft.at(next))
+        && (does_something(&after) || after == Lexeme::OpenBracket);
     if is_headed(draft, comma) || !begins {
         return false;
     }
@@ -422,13 +442,41 @@ fn case_value(draft: &mut Draft<'_>, token: usize) -> Result<(), AllocError> {
     as_character(draft, token)
 }
 
-// A `;` that ends an `if` before its `else`.
+// The parenthesis that is missing before the arguments of a call, or both.
+fn call_parens(draft: &mut Draft<'_>, token: usize) -> Result<(), AllocError> {
+    let before = draft.end(token.wrapping_sub(1));
+    draft.put(before, draft.start(token), &[Part::Words(b"(")])?;
+    parenthesized(draft, token, Lexeme::Semicolon, b"(")
+}
+
+// A `;` right after the condition of an `if`, before the one statement that comes before an `else`; or one that ends an
+// `if` before that.
 fn else_alone(draft: &mut Draft<'_>, before: usize) -> Result<(), AllocError> {
-    if draft.at(before) == Lexeme::Semicolon {
-        draft.remove(before, before)
-    } else {
-        Ok(())
+    if draft.at(before) != Lexeme::Semicolon {
+        return Ok(());
     }
+    let early = statement_of(draft, before).wrapping_sub(1);
+    if draft.at(early) == Lexeme::Semicolon
+        && draft.at(early.wrapping_sub(1)) == Lexeme::CloseParen
+    {
+        draft.remove(early, early)?;
+    }
+    draft.remove(before, before)
+}
+
+// An assignment for each value of a list between brackets or braces, which this token opens after `=`.
+fn one_by_one(draft: &mut Draft<'_>, opener: usize) -> Result<(), AllocError> {
+    let name = opener.wrapping_sub(2);
+    let Some(end) = draft.on_line(name, Lexeme::Semicolon) else {
+        return Ok(());
+    };
+    let closer = end.wrapping_sub(1);
+    if !is_name(&draft.at(name)) || after_brackets(draft, opener) != end || closer <= opener {
+        return Ok(());
+    }
+    let mut text = draft.text();
+    push_each(&mut text, draft, name, opener, closer)?;
+    draft.put_text(draft.start(name), draft.end(end), text)
 }
 
 // An `if` after the `else` before a condition that ends with this token.
@@ -439,18 +487,34 @@ fn else_if(draft: &mut Draft<'_>, closer: usize) -> Result<(), AllocError> {
     }
 }
 
-// A keyword that is spelt almost like what is called.
+// Whether the statement of a token begins with a name like a keyword.
+fn has_keyword(draft: &Draft<'_>, token: usize) -> bool {
+    match draft.at(statement_of(draft, token)) {
+        Lexeme::Name(name) => near_keyword(&name).is_some(),
+        _ => false,
+    }
+}
+
+// The keyword that the first name of the statement of a token is like.
+fn keyword(draft: &mut Draft<'_>, token: usize) -> Result<(), AllocError> {
+    let first = statement_of(draft, token);
+    if let Lexeme::Name(name) = draft.at(first) {
+        if let Some(keyword) = near_keyword(&name) {
+            return draft.rename(first, keyword.as_bytes());
+        }
+    }
+    Ok(())
+}
+
+// A keyword that is spelt almost like what is called, or is called otherwise elsewhere.
 fn call_body(draft: &mut Draft<'_>, token: usize) -> Result<(), AllocError> {
     let Lexeme::Name(name) = draft.at(token) else {
         return Ok(());
     };
     match name.as_str() {
-        "If" | "IF" | "fi" | "iff" | "when" | "unless" => draft.rename(token, b"if"),
-        "While" | "WHILE" | "wihle" | "whlie" | "whiel" | "whle" | "wile" | "hwile" | "until" => {
-            draft.rename(token, b"while")
-        }
-        "Switch" | "swich" | "swtich" | "siwtch" | "switc" => draft.rename(token, b"switch"),
-        _ => Ok(()),
+        "fi" | "iff" | "when" | "unless" => draft.rename(token, b"if"),
+        "until" => draft.rename(token, b"while"),
+        _ => keyword(draft, token),
     }
 }
 
@@ -601,7 +665,7 @@ pub(crate) fn word_here(
         (Foreign::Not, _) => draft.rename(token, b"!"),
         (Foreign::Truth, "True" | "true" | "TRUE") => draft.rename(token, b"1"),
         (Foreign::Truth | Foreign::Nothing, _) => draft.rename(token, b"0"),
-        (Foreign::InputEnd, _) => draft.rename(token, b"'*e'"),
+        (Foreign::InputEnd | Foreign::StringEnd, _) => draft.rename(token, b"'*e'"),
         (Foreign::Block, "begin") => draft.rename(token, b"{"),
         (Foreign::Block, "end") => draft.rename(token, b"}"),
         (Foreign::ElseIf, _) => draft.rename(token, b"else if"),

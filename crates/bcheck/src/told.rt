@@ -44,7 +44,7 @@ pub(crate) fn push_told(
     let excerpt = excerpt_at(source, setting.milestones, &finding.place);
     let at = asked.files.own_line(excerpt.line);
     let second = spot_of(source, &asked.files, setting.milestones, &finding.related);
-    let words = Words::new(alloc, finding, at.file, &second)?;
+    let words = Words::new(alloc, source, finding, at.file, &second)?;
     let told = Told {
         at,
         excerpt,

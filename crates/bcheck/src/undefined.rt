@@ -13,7 +13,7 @@ use crate::finding::Finding;
 use crate::foreign::{Foreign, foreign_word, heading_word};
 use crate::mention::{Mention, Subject, token_of_mention, undefined_mentions};
 use crate::named::place_named;
-use crate::near::near_library;
+use crate::near::{near_keyword, near_library};
 use crate::spans::{SourceText, SpanReader, Spans, place_of};
 use blang::Definition;
 use blint::is_near;
@@ -262,7 +262,7 @@ fn on_name(spans: &Spans, extent: Extent, definitions: &[Definition], name: Name
 {
     let token = token_of_mention(spans, extent, name);
     let defined = near_definition(definitions, &name);
-    let alike = near_library(&name).or(defined);
+    let alike = near_library(&name).or(defined).or(near_keyword(&name));
     let (what, other) = match (name.as_str(), in_library(&name), foreign_word(&name)) {
         ("break" | "default", _, _) => (UndefinedName::OtherEdition, None),
         (_, Some((_, Some(here))), _) if here.as_str() == "getvec" => {

@@ -28,6 +28,7 @@ pub(crate) enum Unknown {
     Elsewhere,
     Near,
     NoLabel,
+    Letter,
     Other,
 }
 
@@ -45,15 +46,17 @@ impl Unknown {
             Unknown::External => ("@ is an external of line %, not declared here", "extrn @; before it"),
             Unknown::Function =>
                 ("@ is the function of line %, not declared here",
-                 "@() calls it, and after extrn @; its name is its value"),
+                 "@() calls it; and after extrn @; its name hands it on"),
             Unknown::Library =>
-                ("@ is a function of the library", "@() calls it, and after extrn @; its name is its value"),
+                ("@ is a function of the library", "@() calls it; and after extrn @; its name hands it on"),
             Unknown::Foreign(word) => word.advice(),
             Unknown::Elsewhere =>
                 ("@ is a word of another function, of line %",
                  "hand it over as an argument, or make it external: extrn @; in both"),
             Unknown::Near => ("no @ is declared here: did you mean #?", "write #, or declare @"),
             Unknown::NoLabel => ("this function has no label @", "put @: before a statement of this function"),
+            Unknown::Letter =>
+                ("@ is neither declared nor a label", "'@' is the character, and auto @; declares a word"),
             Unknown::Other =>
                 ("@ is neither declared nor a label", "auto @; for a word of the function, extrn @; for an external"),
         }
@@ -82,7 +85,8 @@ impl Lvalue {
         ensures { IsTrue (list_all is_on_line (result.0.now ∷ result.1.now ∷ [])) }
     {
         match self {
-            Lvalue::AndAnd => ("there is no operator &&: this & takes an address", "a ? b : 0"),
+            Lvalue::AndAnd => ("there is no operator &&: this & takes an address",
+                 "a & b between comparisons, and else a ? b : 0"),
             Lvalue::Constant => ("= assigns, and a constant has no address", "== compares: if(5 == x)"),
             Lvalue::Character => ("char gives a character, which has no address", "lchar(s, 0, 'x'); stores one"),
             Lvalue::Call => ("the value of a call has no address", "take a name, x[i] or *x as the operand"),
@@ -130,10 +134,11 @@ pub(crate) fn unknown_name(
         _ if defined.is_function => Unknown::Function,
         _ if defined.same.is_some() => Unknown::External,
         _ if library_arguments(&name).is_some() => Unknown::Library,
-        (_, Some(word)) => Unknown::Foreign(word),
+        (_, Some(word)) => Unknown::Foreign(meant_by(spans, token, word)),
         _ if elsewhere.is_some() => Unknown::Elsewhere,
         _ if other.is_some() => Unknown::Near,
         _ if is_label => Unknown::NoLabel,
+        _ if is_for_character(spans, token, &name) => Unknown::Letter,
         _ => Unknown::Other,
     };
     Finding {
@@ -143,6 +148,52 @@ pub(crate) fn unknown_name(
         place: place_of(spans, token),
         related: defined.same.or(elsewhere),
     }
+}
+
+// Whether a name of one letter is compared with a character, or put by `putchar`.
+fn is_for_character(spans: &Spans, token: usize, name: &Name) -> bool {
+    let (before, after) = (token.wrapping_sub(1), token.wrapping_add(1));
+    let is_put = lexeme_at(spans, before) == Lexeme::OpenParen
+        && is_word(&lexeme_at(spans, token.wrapping_sub(2)), "putchar")
+        && lexeme_at(spans, after) == Lexeme::CloseParen;
+    let is_compared = Like::Compares.fits(&lexeme_at(spans, before))
+        && is_read(spans, &lexeme_at(spans, token.wrapping_sub(2)));
+    name.as_bytes().len() == 1 && (is_put || is_compared)
+}
+
+// Whether a character is assigned to a name somewhere in these tokens.
+fn is_read(spans: &Spans, name: &Lexeme) -> bool {
+    for at in spans.first..spans.end() {
+        let value = lexeme_at(spans, at.wrapping_add(2));
+        let is_assigned = lexeme_at(spans, at) == *name
+            && lexeme_at(spans, at.wrapping_add(1)) == Lexeme::Assign(None);
+        if is_assigned && (is_word(&value, "getchar") || is_word(&value, "char")) {
+            return true;
+        }
+    }
+    false
+}
+
+// What a word is for where it is compared with a character: `NULL` is the end of a string or of the input.
+fn meant_by(spans: &Spans, token: usize, word: Foreign) -> Foreign {
+    let closer = token.wrapping_sub(2);
+    let is_compared = Like::Compares.fits(&lexeme_at(spans, token.wrapping_sub(1)));
+    if word != Foreign::Nothing || !is_compared || lexeme_at(spans, closer) != Lexeme::CloseParen {
+        return word;
+    }
+    let Some(opener) = opener_of(spans, closer) else {
+        return word;
+    };
+    for at in opener.saturating_sub(1)..closer {
+        let lexeme = lexeme_at(spans, at);
+        if is_word(&lexeme, "char") {
+            return Foreign::StringEnd;
+        }
+        if is_word(&lexeme, "getchar") {
+            return Foreign::InputEnd;
+        }
+    }
+    word
 }
 
 /// A finding on a name that a part of a source doesn't declare, by what the whole source has of it.
@@ -174,18 +225,12 @@ fn known(
     ensures { matter_code result.0 ≡ matter_code fault.now.matter }
 {
     match fault.matter {
-        Matter::Unknown(Unknown::Near | Unknown::Other) if defined.is_function => (
-            Matter::Unknown(Unknown::Function),
-            defined.same,
-        ),
-        Matter::Unknown(Unknown::Near | Unknown::Other) if defined.same.is_some() => (
-            Matter::Unknown(Unknown::External),
-            defined.same,
-        ),
-        Matter::Unknown(Unknown::Near | Unknown::Other) if elsewhere.is_some() => (
-            Matter::Unknown(Unknown::Elsewhere),
-            elsewhere,
-        ),
+        Matter::Unknown(Unknown::Near | Unknown::Letter | Unknown::Other) if defined.is_function =>
+            (Matter::Unknown(Unknown::Function), defined.same),
+        Matter::Unknown(Unknown::Near | Unknown::Letter | Unknown::Other)
+            if defined.same.is_some() => (Matter::Unknown(Unknown::External), defined.same),
+        Matter::Unknown(Unknown::Near | Unknown::Letter | Unknown::Other) if elsewhere.is_some() =>
+            (Matter::Unknown(Unknown::Elsewhere), elsewhere),
         Matter::NotLvalue(Lvalue::Near | Lvalue::Label) if defined.same.is_some() => (
             Matter::NotLvalue(Lvalue::External),
             defined.same,

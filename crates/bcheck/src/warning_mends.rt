@@ -7,6 +7,7 @@ use crate::logic_mends::{Logic, mend_logic};
 use crate::mends::{Site, token_at};
 use crate::name_mends::{body_of, declared_at};
 use crate::near::library_arguments;
+use crate::number_mends::of_numbers;
 use crate::syntax_mends::{after_brackets, opener_before};
 use blang::Keyword;
 use blex::Lexeme;
@@ -23,6 +24,7 @@ pub(crate) fn of_warning(
 ) -> Result<(), AllocError> {
     of_operators(draft, site, warning)?;
     of_operands(draft, site, warning, finding)?;
+    of_numbers(draft, site, warning, finding)?;
     of_statements(draft, site, warning, finding)
 }
 
@@ -69,6 +71,7 @@ fn of_operands(
         Warning::PastVector => whole_vector(draft, token),
         Warning::Unset => unset(draft, site, finding),
         Warning::UnsetVector => sized(draft, site, finding, b" 10"),
+        Warning::VectorForWord => unsized_word(draft, token),
         _ => Ok(()),
     }
 }
@@ -86,6 +89,7 @@ fn of_statements(
         Warning::NameAlone if is_function(draft, token) => draft.after(token, b"()"),
         Warning::NeverUsed | Warning::HidesLibrary => undeclared(draft, token),
         Warning::NearMain | Warning::NoMain => draft.rename(token, b"main"),
+        Warning::IfsInRow => draft.before(token, b"else "),
         _ => Ok(()),
     }
 }
@@ -325,12 +329,21 @@ pub(crate) fn bracketed(draft: &mut Draft<'_>, opener: usize) -> Result<(), Allo
 fn whole_vector(draft: &mut Draft<'_>, index: usize) -> Result<(), AllocError> {
     let after = draft.at(index.wrapping_add(2));
     let bracket = index.wrapping_sub(1);
-    if opener_before(draft, bracket).is_some()
-        && matches!(after, Lexeme::Comma | Lexeme::CloseParen)
-    {
+    if is_passed_on(draft, bracket) && matches!(after, Lexeme::Comma | Lexeme::CloseParen) {
         draft.replace(bracket, index.wrapping_add(1), &[])
     } else {
         Ok(())
+    }
+}
+
+// Whether a token is within the parentheses of a call of a function that isn't one of the library.
+fn is_passed_on(draft: &Draft<'_>, token: usize) -> bool {
+    match opener_before(draft, token) {
+        Some(opener) => match draft.at(opener.wrapping_sub(1)) {
+            Lexeme::Name(name) => library_arguments(&name).is_none(),
+            _ => false,
+        },
+        None => false,
     }
 }
 
@@ -356,7 +369,7 @@ fn unset(draft: &mut Draft<'_>, site: Site, finding: &Finding) -> Result<(), All
     begun(draft, site, &name)
 }
 
-// A 0 for a word, after the declarations in which it is.
+// A 0 for a word, or a 1 for a product, after the declarations in which it is.
 fn begun(draft: &mut Draft<'_>, site: Site, name: &Name) -> Result<(), AllocError> {
     let Some(declared) = declared_at(draft, site, name) else {
         return Ok(());
@@ -368,14 +381,27 @@ fn begun(draft: &mut Draft<'_>, site: Site, name: &Name) -> Result<(), AllocErro
         return Ok(());
     }
     let place = draft.end(end);
+    let value: &[u8] = if is_multiplied(draft, site.token) {
+        b" = 1;"
+    } else {
+        b" = 0;"
+    };
     draft.put(
         place,
         place,
         &[
             Part::Words(b" "),
             Part::Words(name.as_bytes()),
-            Part::Words(b" = 0;"),
+            Part::Words(value),
         ],
+    )
+}
+
+// Whether the first use of a name multiplies it.
+fn is_multiplied(draft: &Draft<'_>, token: usize) -> bool {
+    matches!(
+        draft.at(token.wrapping_add(1)),
+        Lexeme::Operator(BinOp::Mul) | Lexeme::Assign(Some(BinOp::Mul))
     )
 }
 
@@ -395,6 +421,15 @@ fn sized(
     }
 }
 
+// A word without the last index after its name.
+fn unsized_word(draft: &mut Draft<'_>, token: usize) -> Result<(), AllocError> {
+    let number = token.wrapping_add(1);
+    match draft.at(number) {
+        Lexeme::Number(_) => draft.put(draft.end(token), draft.end(number), &[]),
+        _ => Ok(()),
+    }
+}
+
 // Whether the name of a token is a function of the library, or one that the source defines.
 fn is_function(draft: &Draft<'_>, token: usize) -> bool {
     let Lexeme::Name(name) = draft.at(token) else {
@@ -404,11 +439,9 @@ fn is_function(draft: &Draft<'_>, token: usize) -> bool {
         return true;
     }
     for at in 0..draft.spans.end() {
-        let before = draft.at(at.wrapping_sub(1));
-        let begins = at == 0 || matches!(before, Lexeme::CloseBrace | Lexeme::Semicolon);
         let is_head = draft.at(at) == Lexeme::Name(name)
             && draft.at(at.saturating_add(1)) == Lexeme::OpenParen;
-        if begins && is_head && is_definition(draft, at) {
+        if begins_definition(draft, at) && is_head && is_definition(draft, at) {
             return true;
         }
     }
@@ -418,6 +451,32 @@ fn is_function(draft: &Draft<'_>, token: usize) -> bool {
 // Whether a body comes after the parentheses that follow a name.
 fn is_definition(draft: &Draft<'_>, name: usize) -> bool {
     draft.at(after_brackets(draft, name.saturating_add(1))) != Lexeme::Semicolon
+}
+
+/// Whether a function asks for arguments, of the library or of the source.
+pub(crate) fn takes_arguments(draft: &Draft<'_>, name: &Name) -> bool {
+    if let Some(count) = library_arguments(name) {
+        return count > 0;
+    }
+    for at in 0..draft.spans.end() {
+        let opener = at.saturating_add(1);
+        let is_head = draft.at(at) == Lexeme::Name(*name)
+            && draft.at(opener) == Lexeme::OpenParen
+            && begins_definition(draft, at)
+            && is_definition(draft, at);
+        if is_head {
+            return draft.at(opener.saturating_add(1)) != Lexeme::CloseParen;
+        }
+    }
+    false
+}
+
+fn begins_definition(draft: &Draft<'_>, token: usize) -> bool {
+    token == 0
+        || matches!(
+            draft.at(token.wrapping_sub(1)),
+            Lexeme::CloseBrace | Lexeme::Semicolon
+        )
 }
 
 /// A declaration by `auto` without a word that is declared already, as a parameter or by `auto`, and not as a vector.

@@ -14,7 +14,8 @@ pub(crate) fn advice_of(warning: Warning) -> (&'static str, &'static str, &'stat
 {
     match warning {
         Warning::CommentGoesOn => ("*/", "this comment goes on into another file", "write */ where it ends"),
-        Warning::AndAnd => ("and", "&& is the operator & and then an address", "a ? b : 0"),
+        Warning::AndAnd =>
+            ("and", "&& is the operator & and then an address", "a & b between comparisons, and else a ? b : 0"),
         Warning::Power =>
             ("and", "** is the operator * and then the word at an address", "a loop multiplies: p =* x;"),
         Warning::OperatorAssigns =>
@@ -139,5 +140,77 @@ pub(crate) fn advice_of(warning: Warning) -> (&'static str, &'static str, &'stat
         Warning::NoMain =>
             ("ma", "there is no function main to begin a run with",
              "main() .. calls the others, or is one of them"),
+        Warning::DanglingElse =>
+            ("la", "this else belongs to the if of line %",
+             "put { before that if and } before this else, if the outer one is meant"),
+        Warning::IfsInRow =>
+            ("if", "this if is no part of the one before it",
+             "else if(..) makes one chain of both: only the first that holds is done"),
+        Warning::ElseOverwrites =>
+            ("if", "this if and its else are no part of the one before",
+             "ask first for what holds least often, then else if(..), and else last"),
+        Warning::OctalNumber =>
+            ("oc", "a number that begins with 0 is to the base 8", "take the 0 away: 010 is 8, and 10 is 10"),
+        Warning::LargeNumber =>
+            ("sg", "this number is below 0, as 32768 and more are",
+             "take a smaller one: thousands, or two words for both halves"),
+        Warning::DividesFirst =>
+            ("pr", "the division comes first, and drops its fraction", "multiply first: part * 100 / all"),
+        Warning::ZeroQuotient => ("pr", "this is 0: a division drops its fraction", "multiply first: x * 5 / 9"),
+        Warning::AlwaysTrue =>
+            ("if", "one of these two always holds", "& wants both: c >= 'a' & c <= 'z', or c != 'y' & c != 'n'"),
+        Warning::NeverTrue => ("if", "these two never hold at once", "| wants one of them: c == 'a' | c == 'e'"),
+        Warning::LoopPastVector =>
+            ("ix", "the loop of line % goes past the last word of @",
+             "five words have the indices 0 to 4: i = 0; while(i < 5)"),
+        Warning::CountPastVector =>
+            ("ix", "the loop of line % goes past the end of @ with this",
+             "five words have the indices 0 to 4: while(i < n), where n is 5"),
+        Warning::CountsAway =>
+            ("lp", "@ goes away from what ends the loop of line %", "i++ goes with i < 10, and i-- with i > 0"),
+        Warning::InnerOnce => ("lp", "@ isn't set again in the loop of line %", "@ = 0; right before this loop"),
+        Warning::BeginsAnew => ("lp", "@ begins anew in each turn of the loop of line %", "set it before the loop"),
+        Warning::InputEndless => ("en", "the loop never ends if the input ends before this", "c != '*n' & c != '*e'"),
+        Warning::SameArguments =>
+            ("lp", "@ calls itself for ever: its arguments are the same",
+             "hand on what is nearer to the end: @(n - 1)"),
+        Warning::ResultDropped => ("no", "nothing is done with the value of @", "x = @(..); keeps it"),
+        Warning::StringAdded =>
+            ("st", "this adds two addresses, and joins no strings",
+             "write one after the other: putstr(s); putstr(t); of lib/print.b"),
+        Warning::StoredBack => ("us", "this stores back what was just stored", "t = a; a = b; b = t; swaps a and b"),
+        Warning::NotReached =>
+            ("no", "nothing comes here: the statement before leaves", "put it before that one, or take it out"),
+        Warning::DigitForCharacter =>
+            ("en", "this is compared with a character, and is no digit",
+             "'5' is the character, and c - '0' the number"),
+        Warning::FallsIntoCase =>
+            ("sw", "the case before this one goes on into it",
+             "goto done; and done: ; after the switch, or break; in edition 2"),
+        Warning::FormValues =>
+            ("ar", "the form asks for another number of values",
+             "d, u, o and x are numbers, c a character, s a string: a value for each"),
+        Warning::TwoIndices =>
+            ("ix", "nothing sets the words of @ to addresses",
+             "one index: @[4 * i + k] is the word k of row i, in rows of 4"),
+        Warning::AssignsNot => ("if", "this assigns what ! gives, 1 or 0", "!= compares: x != 3"),
+        Warning::ProductTooLarge =>
+            ("sg", "no word holds this product", "words go from -32768 to 32767: count in thousands"),
+        Warning::NumberPut =>
+            ("st", "putchar writes a character, and this is a number",
+             "printn(n, 10) writes a number, and putchar('0' + n) a digit"),
+        Warning::AddressesCompared =>
+            ("st", "this compares two addresses, and no characters",
+             "a loop compares char(s, i) and char(t, i), as in examples/copy.b"),
+        Warning::ValueForAddress =>
+            ("ar", "@ is handed over as a value, and not as an address", "&@ is the address of @"),
+        Warning::CharacterCounted =>
+            ("en", "this is a character, and no number: '5' is 53", "c - '0' is the number of a digit"),
+        Warning::SlashEscape => ("bs", "this is a slash and then a letter", "* begins an escape: '*n' is a newline"),
+        Warning::WordCalled =>
+            ("hi", "@ is a word of this function, and no function",
+             "take another name for the word, or take the ( ) out"),
+        Warning::SomeReturn =>
+            ("rt", "@ gives 0 where this doesn't hold", "return(x); after it, or in an else, gives a value there, too"),
     }
 }

@@ -8,6 +8,7 @@ ghost use Rattle.bcheck.specs.UndefinedNames.{Tells};
 ghost use Rattle.bcheck.specs.declared.mention.Subject.{Subject};
 
 use crate::finding::{Finding, SecondPlace};
+use crate::own_parts::own_fix;
 use crate::pieces::{Fragment, push_all};
 use bsources::FileLine;
 use btools::Text;
@@ -26,6 +27,7 @@ impl Words {
     /// What is said of a finding in a file, where its second place is there or in another one.
     pub(crate) fn new(
         alloc: Global,
+        source: &[u8],
         finding: &Finding,
         file: &str,
         second: &Option<SecondPlace<'_>>,
@@ -44,13 +46,47 @@ impl Words {
             line: line.as_slice(),
         };
         let sentence = filled(alloc, sentence, &given)?;
-        let fix = filled(alloc, fix, &given)?;
+        let general = filled(alloc, fix, &given)?;
+        let own = own_fix(alloc, source, finding, own_line(file, second))?;
+        let fix = own_or(alloc, own, general)?;
         Ok(Words {
             code,
             sentence,
             fix,
         })
     }
+}
+
+// The line of a second place, if it is in this file.
+fn own_line(file: &str, second: &Option<SecondPlace<'_>>) -> Option<u64> {
+    match second {
+        Some(second) if second.at.file == file => Some(second.at.line),
+        _ => None,
+    }
+}
+
+// What is put together of a source, on one line, or the general text where nothing is.
+fn own_or(alloc: Global, own: Option<Text>, general: Text) -> Result<Text, AllocError>
+    ensures { IfOk result (λ text. IsTrue (is_on_line general) → IsTrue (is_on_line text)) }
+{
+    match own {
+        Some(own) => shown(alloc, own.as_slice()),
+        None => Ok(general),
+    }
+}
+
+fn shown(alloc: Global, words: &[u8]) -> Result<Text, AllocError>
+    ensures { IfOk result (λ text. IsTrue (is_on_line text)) }
+{
+    let mut text = Text::new(alloc);
+    push_shown(&mut text, words)?;
+    Ok(text)
+}
+
+fn push_shown(text: &mut Text, words: &[u8]) -> Result<(), AllocError>
+    ensures { IsTrue (is_on_line text.old) → OnOk result (IsTrue (is_on_line text.new)) }
+{
+    push_all(text, &[Fragment::Shown(words)])
 }
 
 /// What stands in the places of `@`, `#` and `%`: two names, and the line of a second place, or their signs.

@@ -1,5 +1,6 @@
 //! The definitions of a program, and what their tokens tell of each.
 use crate::cautions::Program;
+use crate::counters::PastLoop;
 use crate::locals::Locals;
 use crate::tokens::TokenPlace;
 use crate::tree::Tree;
@@ -8,6 +9,9 @@ use bnames::{NameTable, Probes};
 use btree::Node;
 use bword::Name;
 use std::alloc::{AllocError, Global};
+
+/// How many parameters of a function are looked at for addresses.
+const MOST_POINTERS: usize = 8;
 
 /// The function of the library that ends a program.
 const EXIT: &str = "exit";
@@ -134,6 +138,14 @@ pub(crate) struct Told {
     pub spreads: bool,
     /// With how few arguments it may be called.
     pub least: u64,
+    /// Whether all that it does hangs on its arguments, and whether it changes one of these, and does nothing else.
+    pub is_closed: bool,
+    pub is_in_vain: bool,
+    /// Which of its first parameters it takes for addresses: 1 for the first one, 2 for the second one, and so on.
+    pub pointers: u64,
+    /// Its first loop over the words of a parameter, up to another one and with that.
+    pub passed: Option<PastLoop>,
+    pub loop_place: TokenPlace,
 }
 
 impl Told {
@@ -155,13 +167,87 @@ impl Told {
         } else {
             least(locals, count)
         };
+        let is_closed = is_closed(tree, locals);
         Told {
             place: tree.tokens.place(0),
             returns,
             spreads,
             least: least as u64,
+            is_closed,
+            is_in_vain: is_closed && is_silent(tree) && changes_parameter(locals, count),
+            pointers: pointers(locals, count),
+            passed: None,
+            loop_place: tree.tokens.place(0),
         }
     }
+}
+
+// Whether all that a function does hangs on its arguments: it has words of its own alone, and what it calls is the
+// function itself, or writes.
+fn is_closed(tree: &Tree<'_>, locals: &Locals) -> bool {
+    if locals.has_external() {
+        return false;
+    }
+    for branch in &tree.branches {
+        let is_open = match branch.node {
+            Node::Indexed | Node::Indirection | Node::Address => true,
+            Node::Called => {
+                let writes = tree.is_call_of(branch, "putchar")
+                    || tree.is_call_of(branch, "printn");
+                !writes && !is_own_call(tree, tree.callee(branch))
+            }
+            _ => false,
+        };
+        if is_open {
+            return false;
+        }
+    }
+    true
+}
+
+// The parameters of so many before which a `*` stands, and that nothing else is done with.
+fn pointers(locals: &Locals, count: usize) -> u64 {
+    let (mut found, mut weight): (u64, u64) = (0, 1);
+    for place in 0..count.min(MOST_POINTERS) {
+        if let Some(parameter) = locals.parameter(place) {
+            if parameter.pointed > 0 && parameter.pointed == parameter.mentions {
+                found = found.saturating_add(weight);
+            }
+        }
+        weight = weight.saturating_mul(2);
+    }
+    found
+}
+
+// Whether a function changes one of so many parameters.
+fn changes_parameter(locals: &Locals, count: usize) -> bool {
+    for place in 0..count {
+        if let Some(parameter) = locals.parameter(place) {
+            if parameter.is_changed {
+                return true;
+            }
+        }
+    }
+    false
+}
+
+// Whether a function calls nothing but itself.
+fn is_silent(tree: &Tree<'_>) -> bool {
+    for branch in &tree.branches {
+        if branch.node == Node::Called && !is_own_call(tree, tree.callee(branch)) {
+            return false;
+        }
+    }
+    true
+}
+
+/// Whether a function takes the parameter before which so many come for an address.
+pub(crate) fn takes_address(told: &Told, place: u64) -> bool {
+    let mut rest = told.pointers;
+    for _ in 0..place.min(MOST_POINTERS as u64) {
+        rest = rest / 2;
+    }
+    rest % 2 == 1 && place < MOST_POINTERS as u64
 }
 
 /// Whether a call is one of the function itself.

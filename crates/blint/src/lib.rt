@@ -2,9 +2,13 @@
 #![tactic(auto)]
 
 mod at_token;
+mod bounds;
 mod calls;
+mod cases;
 mod cautions;
+mod chains;
 mod comparisons;
+mod counters;
 mod cutting;
 mod declared;
 mod defined;
@@ -15,6 +19,7 @@ mod layout;
 mod linting;
 mod locals;
 mod loops;
+mod numbers;
 mod remarks;
 mod ruled;
 mod spelling;

@@ -3,29 +3,38 @@ ghost use Rattle.std.specs.Prelude.{IfOk};
 ghost use Rattle.bsources.specs.Files.{files_shown};
 ghost use Rattle.blint.specs.Warns.{Warns};
 
-use crate::calls::called;
+use crate::bounds::settled;
+use crate::calls::{MOST_ARGUMENTS, called, counted_past, same_arguments, valued};
+use crate::cases::{digit_compared, not_assigned, of_case};
 use crate::cautions::{Caution, Program};
+use crate::chains::{dangling, in_row, some_return};
 use crate::comparisons::operated;
+use crate::counters::{
+    PastLoop, begins_anew, counter_of, counts_away, inner_once, passed, past_vector,
+};
 use crate::cutting::cut;
 use crate::declared::declared_in;
-use crate::defined::{Defined, Told};
+use crate::defined::{Defined, Told, takes_address};
 use crate::ends::loop_end;
 use crate::flow::unset_in;
 use crate::functions::{calls_itself, changes_nothing, outside, without_main};
 use crate::layout::indented;
 use crate::locals::Locals;
-use crate::loops::unchanged;
+use crate::loops::{input_endless, unchanged};
+use crate::numbers::{assigned, divided, multiplied, octal_in, too_large};
 use crate::remarks::{Remark, Remarks};
 use crate::ruled::{Ruled, rules_of, starts_of};
-use crate::stores::overwritten;
+use crate::stores::{not_reached, overwritten, stored_back};
+use crate::strings::{added, character_counted, form_of, names_compared};
 use crate::telling::{MOST_CAUTIONS, told};
 use crate::tokens::{TokenPlace, Tokens};
 use crate::tree::{Branch, NONE, Tree};
-use crate::vectors::{addressed, indexed, returned};
+use crate::vectors::{addressed, indexed, indexed_twice, returned};
 use crate::warnings::Warning;
 use blex::Lexeme;
 use bsources::SourceFiles;
 use btree::{Construct, Node};
+use bword::BinOp;
 use std::alloc::{AllocError, Global};
 
 /// A function, and what is known of its names.
@@ -34,6 +43,7 @@ pub(crate) struct Look<'a> {
     pub tree: &'a Tree<'a>,
     pub locals: &'a Locals,
     pub defined: &'a Defined<'a>,
+    pub told: &'a Told,
 }
 
 /// What in a program is probably a mistake, in the order of its tokens. Of a program in several files only the first
@@ -128,19 +138,24 @@ impl<'a> Linting<'a> {
         }
         let tree = Tree::new(alloc, tokens, ruled)?;
         let mut locals = Locals::new(alloc, &tree)?;
-        let told = Told::new(&tree, &locals);
+        let mut told = Told::new(&tree, &locals);
         remarks.say(outside(tokens, &self.defined, &told))?;
-        self.told.push(told)?;
+        octal_in(tokens, &mut further)?;
         if tokens.at(1) == Lexeme::OpenParen {
             unset_in(&tree, &mut locals, &mut further)?;
             let look = Look {
                 tree: &tree,
                 locals: &locals,
                 defined: &self.defined,
+                told: &told,
             };
             look_at(&look, &mut remarks)?;
             further.say(calls_itself(&look))?;
+            further.say(some_return(&look))?;
+            look_further(&look, &mut further)?;
+            told = with_loop(&look, passed(&look));
         }
+        self.told.push(told)?;
         let is_own = self.files.beyond_first(tokens.place(0).line).is_none();
         for token in 0..tokens.len() {
             if is_own {
@@ -199,7 +214,7 @@ impl<'a> Linting<'a> {
         if supposed.definition == NONE {
             return Some(caution);
         }
-        let told = self.told.get(supposed.definition)?;
+        let told = *self.told.get(supposed.definition)?;
         let is_unused = told.returns || !supposed.is_value;
         let warning = match caution.warning {
             Warning::ManyArguments if !told.spreads => Warning::ManyArguments,
@@ -212,6 +227,19 @@ impl<'a> Linting<'a> {
                     ..caution
                 });
             }
+            Warning::CountPastVector if is_passed(&told, supposed.given) => {
+                return Some(Caution {
+                    related: Some(told.loop_place),
+                    ..caution
+                });
+            }
+            Warning::CountPastVector => return None,
+            Warning::ValueForAddress if takes_address(&told, supposed.given) => {
+                Warning::ValueForAddress
+            }
+            Warning::ValueForAddress => return None,
+            Warning::ResultDropped if told.returns && told.is_in_vain => Warning::ResultDropped,
+            Warning::ResultDropped => return None,
             // A value that is used is missing there.
             Warning::ChangesNothing if self.used.get(supposed.definition) == Some(&false) => {
                 Warning::ChangesNothing
@@ -220,6 +248,30 @@ impl<'a> Linting<'a> {
             _ => Warning::NoReturn,
         };
         Some(Caution { warning, ..caution })
+    }
+}
+
+// What is told of a function with such a loop.
+fn with_loop(look: &Look<'_>, passed: Option<PastLoop>) -> Told {
+    let place = match passed {
+        Some(passed) => look.tree.tokens.place(passed.keyword),
+        None => look.told.loop_place,
+    };
+    Told {
+        passed,
+        loop_place: place,
+        ..*look.told
+    }
+}
+
+// Whether the arguments of these places are those of a loop that goes on past the last word.
+fn is_passed(told: &Told, given: u64) -> bool {
+    match told.passed {
+        Some(passed) => {
+            let places = (passed.vector as u64).saturating_mul(MOST_ARGUMENTS);
+            places.saturating_add(passed.count as u64) == given
+        }
+        None => false,
     }
 }
 
@@ -270,6 +322,80 @@ fn look_at(look: &Look<'_>, remarks: &mut Remarks) -> Result<(), AllocError> {
     }
     remarks.say(changes_nothing(look))?;
     declared_in(look, remarks)
+}
+
+// What is found beside it.
+fn look_further(look: &Look<'_>, further: &mut Remarks) -> Result<(), AllocError> {
+    for branch in &look.tree.branches {
+        further_by_branch(look, branch, further)?;
+    }
+    for statement in &look.tree.statements {
+        further.say(not_reached(look, statement))?;
+        match statement.construct {
+            Construct::Heading => further.say(of_case(look, statement))?,
+            Construct::If => {
+                further.say(dangling(look, statement))?;
+                further.say(in_row(look, statement))?;
+            }
+            _ => {}
+        }
+    }
+    Ok(())
+}
+
+fn further_by_branch(
+    look: &Look<'_>,
+    branch: &Branch,
+    further: &mut Remarks,
+) -> Result<(), AllocError> {
+    match branch.node {
+        Node::Called => {
+            further.say(same_arguments(look, branch))?;
+            further.say(form_of(look, branch))?;
+            further.say(counted_past(look, branch))?;
+            further.say(valued(look, branch))
+        }
+        Node::Binary(op) => {
+            further.say(settled(look, branch, op))?;
+            further.say(digit_compared(look, branch, op))?;
+            further.say(names_compared(look, branch, op))?;
+            further.say(character_counted(look, branch, op))?;
+            further.say(by_operator(look, branch, op))
+        }
+        Node::Assigned(None) => further.say(assigned(look, branch)),
+        Node::Evaluated => {
+            further.say(stored_back(look, branch))?;
+            further.say(begins_anew(look, branch))
+        }
+        Node::Indexed => further.say(indexed_twice(look, branch)),
+        Node::Tested => {
+            further.say(not_assigned(look, branch))?;
+            loop_further(look, branch, further)
+        }
+        _ => Ok(()),
+    }
+}
+
+fn by_operator(look: &Look<'_>, branch: &Branch, op: BinOp) -> Option<Remark> {
+    match op {
+        BinOp::Add => added(look, branch),
+        BinOp::Mul => multiplied(look, branch).or(too_large(look, branch)),
+        BinOp::Div => divided(look, branch),
+        _ => None,
+    }
+}
+
+fn loop_further(look: &Look<'_>, tested: &Branch, further: &mut Remarks) -> Result<(), AllocError> {
+    if !look.tree.is_loop(tested) {
+        return Ok(());
+    }
+    further.say(input_endless(look, tested))?;
+    if let Some(counted) = counter_of(look, tested) {
+        further.say(past_vector(look, &counted))?;
+        further.say(counts_away(look, &counted))?;
+        further.say(inner_once(look, &counted))?;
+    }
+    Ok(())
 }
 
 fn by_branch(look: &Look<'_>, branch: &Branch, remarks: &mut Remarks) -> Result<(), AllocError> {

@@ -23,16 +23,29 @@ pub(crate) struct Local {
     pub role: NameRole,
     /// Whether the function has it, but for the declaration.
     pub is_used: bool,
-    /// Whether it has an index somewhere.
+    /// Whether it has an index somewhere, and whether it is somewhere without two of them.
     pub is_indexed: bool,
+    pub is_plain: bool,
     /// Whether something is stored in it somewhere, or it is compared with a constant.
     pub is_word: bool,
     /// Whether its address is taken.
     pub has_address: bool,
     /// Whether it is asked for being 0.
     pub is_asked: bool,
+    /// Whether it is compared by its size.
+    pub is_related: bool,
+    /// Whether something changes it, or may do so by its address.
+    pub is_changed: bool,
     /// How often a value is assigned to it, or its address is taken.
     pub sets: u64,
+    /// How often the function has it, and how often with a `*` before it.
+    pub mentions: u64,
+    pub pointed: u64,
+    /// How often a constant is assigned to it, and how often a number of one digit.
+    pub constants: u64,
+    pub digits: u64,
+    /// Whether it is compared with a number above a digit's.
+    pub is_large: bool,
     /// How often a character of the input is assigned to it, one of a string, and a string.
     pub inputs: u64,
     pub characters: u64,
@@ -49,16 +62,25 @@ impl Local {
         let parent = tree.branch(mention.parent);
         let is_left = tree.branch(parent.left).token == mention.token;
         self.is_used = true;
+        self.mentions = self.mentions.saturating_add(1);
+        if parent.node == Node::Indirection {
+            self.pointed = self.pointed.saturating_add(1);
+        }
+        self.is_plain = self.is_plain || !is_left || !has_two_indices(tree, &parent);
         match parent.node {
             Node::Indexed if is_left => self.is_indexed = true,
-            Node::PreIncrement | Node::PreDecrement | Node::PostIncrement | Node::PostDecrement =>
-                self.is_word = true,
+            Node::PreIncrement | Node::PreDecrement | Node::PostIncrement | Node::PostDecrement => {
+                self.is_word = true;
+                self.is_changed = true;
+            }
             Node::Address => {
                 self.has_address = true;
+                self.is_changed = true;
                 self.sets = self.sets.saturating_add(1);
             }
             Node::Assigned(_) if is_left => self.count_given(tree, &parent),
             Node::Binary(op) if is_left => self.count_compared(tree, &parent, op),
+            Node::Binary(op) => self.is_related = self.is_related || relates(op),
             Node::Not => self.is_asked = true,
             Node::Tested => self.is_asked = self.is_asked || !tree.is_loop(&parent),
             Node::Conditional if is_left => self.is_asked = true,
@@ -69,6 +91,7 @@ impl Local {
     // Counts what is assigned to it.
     fn count_given(&mut self, tree: &Tree<'_>, assigned: &Branch) {
         self.is_word = true;
+        self.is_changed = true;
         if sets(tree, assigned) {
             self.sets = self.sets.saturating_add(1);
         }
@@ -76,6 +99,12 @@ impl Local {
             return;
         }
         let given = tree.branch(assigned.right);
+        if given.node == Node::Constant {
+            self.constants = self.constants.saturating_add(1);
+        }
+        if matches!(tree.tokens.at(given.token), Lexeme::Number(0..=9)) {
+            self.digits = self.digits.saturating_add(1);
+        }
         if given.node == Node::Text {
             self.strings = self.strings.saturating_add(1);
         } else if tree.is_call_of(&given, "getchar") {
@@ -87,6 +116,10 @@ impl Local {
 
     fn count_compared(&mut self, tree: &Tree<'_>, compared: &Branch, op: BinOp) {
         let other = tree.branch(compared.right);
+        self.is_related = self.is_related || relates(op);
+        let value = tree.tokens.at(other.token);
+        self.is_large = self.is_large
+            || matches!(value, Lexeme::Number(32..) | Lexeme::Character(_));
         if compares(op) || relates(op) {
             self.is_word = self.is_word || other.node == Node::Constant;
             self.is_asked = self.is_asked || (compares(op) && tree.is_value(&other, 0));
@@ -108,10 +141,28 @@ impl Local {
         self.inputs > 0 && self.inputs == self.sets
     }
 
+    /// Whether it counts from a number of one digit on, and no character is among its values.
+    pub(crate) fn is_small(&self) -> bool {
+        self.digits > 0 && self.digits == self.sets && !self.is_large && !self.has_address
+    }
+
+    /// Whether nothing but constants is assigned to it.
+    pub(crate) fn is_constant(&self) -> bool {
+        self.constants > 0 && self.constants == self.sets && !self.has_address
+    }
+
     /// Whether it is a word of the function alone.
     pub(crate) fn is_own_word(&self) -> bool {
         matches!(self.role, NameRole::Parameter | NameRole::Auto)
     }
+}
+
+// Whether an index is that of what has another one.
+fn has_two_indices(tree: &Tree<'_>, indexed: &Branch) -> bool {
+    let around = tree.branch(indexed.parent);
+    indexed.node == Node::Indexed
+        && around.node == Node::Indexed
+        && tree.branch(around.left).token == indexed.token
 }
 
 /// Whether an assignment gives its name a value. `x=-1` is told of in another way.
@@ -190,10 +241,18 @@ impl Locals {
             role,
             is_used: false,
             is_indexed: false,
+            is_plain: false,
             is_word: false,
             has_address: false,
             is_asked: false,
+            is_related: false,
+            is_changed: false,
             sets: 0,
+            mentions: 0,
+            pointed: 0,
+            constants: 0,
+            digits: 0,
+            is_large: false,
             inputs: 0,
             characters: 0,
             strings: 0,
@@ -243,6 +302,16 @@ impl Locals {
             Some(local) if local.role == NameRole::Parameter => Some(*local),
             _ => None,
         }
+    }
+
+    /// Whether one of them is an external.
+    pub(crate) fn has_external(&self) -> bool {
+        for local in &self.all {
+            if local.role == NameRole::External {
+                return true;
+            }
+        }
+        false
     }
 
     /// How many parameters there are.

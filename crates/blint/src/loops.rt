@@ -7,6 +7,7 @@ use crate::warnings::Warning;
 use blang::Keyword;
 use blex::Lexeme;
 use btree::Node;
+use bword::{BinOp, Name};
 
 /// The longest condition whose names are looked for in the loop.
 const MOST_TOKENS: usize = 16;
@@ -50,8 +51,8 @@ fn asks_own_words(look: &Look<'_>, condition: &Branch) -> bool {
     names > 0
 }
 
-// Whether the loop may be left at a token, or come to it from elsewhere.
-fn leaves(look: &Look<'_>, token: usize) -> bool {
+/// Whether the loop may be left at a token, or come to it from elsewhere.
+pub(crate) fn leaves(look: &Look<'_>, token: usize) -> bool {
     let leaves = matches!(
         look.tree.tokens.at(token),
         Lexeme::Keyword(Keyword::Return | Keyword::Goto | Keyword::Break)
@@ -90,4 +91,56 @@ fn is_among(tree: &Tree<'_>, name: &Branch, condition: &Branch) -> bool {
         }
     }
     false
+}
+
+/// Whether a name is changed at a token.
+pub(crate) fn changes_name(tree: &Tree<'_>, token: usize, name: &Name) -> bool {
+    let branch = tree.made_by(token);
+    let is_change = matches!(
+        branch.node,
+        Node::Assigned(_)
+            | Node::PreIncrement
+            | Node::PreDecrement
+            | Node::PostIncrement
+            | Node::PostDecrement
+    );
+    is_change && tree.name(&tree.branch(branch.left)) == Some(*name)
+}
+
+/// What is found of a loop up to a character, in which the input may end before that comes.
+pub(crate) fn input_endless(look: &Look<'_>, tested: &Branch) -> Option<Remark> {
+    let tree = look.tree;
+    let condition = tree.branch(tested.left);
+    let subject = tree.branch(condition.left);
+    let local = look.locals.of(tree, &subject)?;
+    if !is_up_to(tree, &condition) || !local.is_input() {
+        return None;
+    }
+    let end = tree.statement(tree.around(tested.token)).end;
+    if is_seen_between(look, tested.last, end, &local.name) {
+        return None;
+    }
+    Remark::about(condition.token, Warning::InputEndless, subject.token)
+}
+
+// Whether a condition asks for another character than one, which isn't the end of the input.
+fn is_up_to(tree: &Tree<'_>, condition: &Branch) -> bool {
+    let constant = tree.branch(condition.right);
+    condition.node == Node::Binary(BinOp::Ne)
+        && matches!(tree.tokens.at(constant.token), Lexeme::Character(5..))
+}
+
+// Whether between two tokens a loop may be left, or a name is compared.
+fn is_seen_between(look: &Look<'_>, first: usize, end: usize, name: &Name) -> bool {
+    for token in first..end {
+        if leaves(look, token) || is_compared(look.tree, token, name) {
+            return true;
+        }
+    }
+    false
+}
+
+fn is_compared(tree: &Tree<'_>, token: usize, name: &Name) -> bool {
+    let around = tree.branch(tree.made_by(token).parent);
+    matches!(around.node, Node::Binary(_)) && tree.tokens.name(token) == Some(*name)
 }

@@ -1,8 +1,11 @@
-//! Values that nothing uses.
+//! Values and statements of which nothing comes.
+use crate::bounds::are_alike;
 use crate::linting::Look;
 use crate::remarks::Remark;
-use crate::tree::Branch;
+use crate::tree::{Branch, Statement};
 use crate::warnings::Warning;
+use blang::Keyword;
+use blex::Lexeme;
 use btree::{Construct, Node};
 
 /// What is found of a statement that gives a name a value, where the next one gives it another value.
@@ -42,6 +45,76 @@ pub(crate) fn overwritten(look: &Look<'_>, evaluated: &Branch) -> Option<Remark>
     } else {
         None
     }
+}
+
+/// What is found of a statement that stores back what the one before it has stored: `a = b; b = a;`.
+pub(crate) fn stored_back(look: &Look<'_>, evaluated: &Branch) -> Option<Remark> {
+    let tree = look.tree;
+    let (here, next) = (
+        tree.statement(tree.around(evaluated.last)),
+        tree.statement(tree.around(evaluated.last.wrapping_add(1))),
+    );
+    if here.end != next.first || here.parent != next.parent || next.construct != Construct::Plain {
+        return None;
+    }
+    let (first, second) = (
+        stored(look, evaluated)?,
+        stored(look, &tree.made_by(next.end.wrapping_sub(1)))?,
+    );
+    let is_back = are_alike(tree, &tree.branch(first.left), &tree.branch(second.right))
+        && are_alike(tree, &tree.branch(first.right), &tree.branch(second.left));
+    if is_back && !first_acts(look, &first) {
+        return Remark::new(second.first, Warning::StoredBack);
+    }
+    None
+}
+
+// Whether something else than the assignment is done in it.
+fn first_acts(look: &Look<'_>, assigned: &Branch) -> bool {
+    look.tree.branch(assigned.left).acts || look.tree.branch(assigned.right).acts
+}
+
+/// What is found of a statement in a block right after one that always leaves.
+pub(crate) fn not_reached(look: &Look<'_>, statement: &Statement) -> Option<Remark> {
+    let tree = look.tree;
+    let before = tree.statement(tree.around(statement.first.wrapping_sub(1)));
+    let leaves = matches!(
+        tree.tokens.at(before.first),
+        Lexeme::Keyword(Keyword::Return | Keyword::Break)
+    );
+    let is_next = before.end == statement.first
+        && before.parent == statement.parent
+        && before.construct == Construct::Plain
+        && tree.statement(statement.parent).construct == Construct::Block;
+    if !leaves || !is_next || statement.construct == Construct::Heading {
+        return None;
+    }
+    if is_little(tree.tokens.at(statement.first)) || has_entry(look, statement) {
+        return None;
+    }
+    Remark::new(statement.first, Warning::NotReached)
+}
+
+// Whether a statement that begins so does nothing, or leaves, too.
+fn is_little(first: Lexeme) -> bool {
+    matches!(
+        first,
+        Lexeme::Semicolon | Lexeme::Keyword(Keyword::Return | Keyword::Goto | Keyword::Break)
+    )
+}
+
+// Whether control may come into a statement by a label or a case in it.
+fn has_entry(look: &Look<'_>, statement: &Statement) -> bool {
+    for token in statement.first..statement.end {
+        let is_case = matches!(
+            look.tree.tokens.at(token),
+            Lexeme::Keyword(Keyword::Case | Keyword::Default)
+        );
+        if is_case || look.tree.is_label(token) {
+            return true;
+        }
+    }
+    false
 }
 
 // The assignment that a statement is.

@@ -1,15 +1,133 @@
 //! Strings and characters that are probably mistakes.
 use crate::ends::local_in;
 use crate::linting::Look;
-use crate::tree::Branch;
+use crate::locals::{NameRole, compares};
+use crate::remarks::Remark;
+use crate::tree::{Branch, Tree};
+use crate::warnings::Warning;
 use blex::Lexeme;
 use btree::Node;
+use bword::BinOp;
 
 /// Whether the first of two branches is a word of a string, which has two characters, and the other one is one.
 pub(crate) fn is_word_of_string(look: &Look<'_>, word: &Branch, other: &Branch) -> bool {
     let is_character = matches!(look.tree.tokens.at(other.token), Lexeme::Character(..=0xFF));
-    is_character
-        && other.node == Node::Constant
-        && matches!(word.node, Node::Indexed | Node::Indirection)
+    is_character && other.node == Node::Constant && is_of_string(look, word)
+}
+
+/// Whether a branch is a word of a string, by an index or by `*`.
+pub(crate) fn is_of_string(look: &Look<'_>, word: &Branch) -> bool {
+    matches!(word.node, Node::Indexed | Node::Indirection)
         && matches!(local_in(look, word), Some(local) if local.is_string())
+}
+
+/// What is found of a comparison of two names that have strings or vectors.
+pub(crate) fn names_compared(look: &Look<'_>, branch: &Branch, op: BinOp) -> Option<Remark> {
+    let (left, right) = (
+        look.tree.branch(branch.left),
+        look.tree.branch(branch.right),
+    );
+    if compares(op) && has_address(look, &left) && has_address(look, &right) {
+        return Remark::new(branch.token, Warning::AddressesCompared);
+    }
+    None
+}
+
+// Whether a name has strings alone, or is a vector.
+fn has_address(look: &Look<'_>, branch: &Branch) -> bool {
+    match look.locals.of(look.tree, branch) {
+        Some(local) => matches!(local.role, NameRole::Vector(_)) || local.is_string(),
+        None => false,
+    }
+}
+
+/// What is found of a character of the input that is multiplied, or added to ten times a number.
+pub(crate) fn character_counted(look: &Look<'_>, branch: &Branch, op: BinOp) -> Option<Remark> {
+    let tree = look.tree;
+    let (left, right) = (tree.branch(branch.left), tree.branch(branch.right));
+    let is_tens = left.node == Node::Binary(BinOp::Mul)
+        && (tree.is_value(&tree.branch(left.right), 10)
+            || tree.is_value(&tree.branch(left.left), 10));
+    let token = match op {
+        BinOp::Mul if is_input(look, &left) => left.token,
+        BinOp::Mul if is_input(look, &right) => right.token,
+        BinOp::Add if is_input(look, &right) && is_tens && !is_reduced(tree, branch) => right.token,
+        _ => return None,
+    };
+    Remark::new(token, Warning::CharacterCounted)
+}
+
+// Whether something is taken away from a sum.
+fn is_reduced(tree: &Tree<'_>, sum: &Branch) -> bool {
+    tree.branch(sum.parent).node == Node::Binary(BinOp::Sub)
+}
+
+/// Whether a branch is a name to which characters of the input alone are assigned.
+pub(crate) fn is_input(look: &Look<'_>, branch: &Branch) -> bool {
+    matches!(look.locals.of(look.tree, branch), Some(local) if local.is_input())
+}
+
+/// What is found of a sum of a string and of what may be one, too.
+pub(crate) fn added(look: &Look<'_>, sum: &Branch) -> Option<Remark> {
+    let (left, right) = (look.tree.branch(sum.left), look.tree.branch(sum.right));
+    let is_sum = match (left.node, right.node) {
+        (Node::Text, Node::Name) => may_be_string(look, &right),
+        (Node::Name, Node::Text) => may_be_string(look, &left),
+        (Node::Name, Node::Name) => is_string(look, &left) && is_string(look, &right),
+        _ => false,
+    };
+    if is_sum {
+        Remark::new(sum.token, Warning::StringAdded)
+    } else {
+        None
+    }
+}
+
+/// Whether a branch is a name to which strings alone are assigned.
+pub(crate) fn is_string(look: &Look<'_>, branch: &Branch) -> bool {
+    matches!(look.locals.of(look.tree, branch), Some(local) if local.is_string())
+}
+
+// Whether a name has only strings, or is a vector, or a parameter that nothing changes and compares with a number.
+fn may_be_string(look: &Look<'_>, branch: &Branch) -> bool {
+    match look.locals.of(look.tree, branch) {
+        Some(local) => match local.role {
+            NameRole::Vector(_) => true,
+            NameRole::Parameter => !local.is_word && !local.is_related,
+            _ => local.is_string(),
+        },
+        None => false,
+    }
+}
+
+/// What is found of a call of `printf` whose form asks for more values than come after it, or for fewer.
+pub(crate) fn form_of(look: &Look<'_>, call: &Branch) -> Option<Remark> {
+    let form = look.tree.argument(call, 0);
+    if !look.tree.is_call_of(call, "printf") || form.node != Node::Text {
+        return None;
+    }
+    let values = look.tree.arguments(call).saturating_sub(1);
+    if items_in(look.tree.tokens.bytes(form.token)) == values {
+        None
+    } else {
+        Remark::new(form.token, Warning::FormValues)
+    }
+}
+
+// How many items of a form take a value: a `%`, a width or none, and a letter.
+fn items_in(form: &[u8]) -> u64 {
+    let mut count: u64 = 0;
+    let mut is_item = false;
+    for byte in form {
+        match *byte {
+            b'%' => is_item = !is_item,
+            b'-' | b'0'..=b'9' if is_item => {}
+            b'c' | b'd' | b'o' | b's' | b'u' | b'x' if is_item => {
+                count = count.saturating_add(1);
+                is_item = false;
+            }
+            _ => is_item = false,
+        }
+    }
+    count
 }

@@ -133,6 +133,29 @@ impl<'a> Tokens<'a> {
             _ => None,
         }
     }
+
+    /// The blanks at the beginning of the line of a token.
+    pub(crate) fn line_blanks(&self, token: usize) -> &'a [u8] {
+        let start = self.place(token).start;
+        let first = line_start(self.text, start);
+        for end in first..start {
+            if !matches!(self.text.get(end), Some(b' ' | b'\t')) {
+                return self.text.get(first..end).unwrap_or(&[]);
+            }
+        }
+        self.text.get(first..start).unwrap_or(&[])
+    }
+}
+
+// Where the line of a place begins.
+fn line_start(text: &[u8], place: usize) -> usize {
+    for count in 0..place {
+        let before = place.saturating_sub(count);
+        if text.get(before.saturating_sub(1)) == Some(&b'\n') {
+            return before;
+        }
+    }
+    0
 }
 
 // How many blanks are directly before a place.

@@ -26,6 +26,18 @@ pub(crate) fn indexed(look: &Look<'_>, indexed: &Branch) -> Option<Remark> {
     None
 }
 
+/// What is found of the second index of a vector, whose words nothing sets to addresses.
+pub(crate) fn indexed_twice(look: &Look<'_>, indexed: &Branch) -> Option<Remark> {
+    let inner = look.tree.branch(indexed.left);
+    let vector = look.tree.branch(inner.left);
+    let local = look.locals.of(look.tree, &vector)?;
+    let is_vector = matches!(local.role, NameRole::Vector(_));
+    if inner.node == Node::Indexed && is_vector && !local.is_plain {
+        return Remark::about(indexed.token, Warning::TwoIndices, vector.token);
+    }
+    None
+}
+
 // Whether an index is a constant past the last one, or below 0.
 fn is_past(look: &Look<'_>, index: &Branch, last: u64) -> bool {
     let tokens = look.tree.tokens;
@@ -37,8 +49,8 @@ fn is_past(look: &Look<'_>, index: &Branch, last: u64) -> bool {
     }
 }
 
-// The last index of the vector of this name.
-fn last_of(look: &Look<'_>, name: &Name) -> Option<u64> {
+/// The last index of the vector of this name.
+pub(crate) fn last_of(look: &Look<'_>, name: &Name) -> Option<u64> {
     match look.locals.find(name)?.role {
         NameRole::Vector(last) => Some(u64::from(last)),
         NameRole::External => match look.defined.find(name)? {

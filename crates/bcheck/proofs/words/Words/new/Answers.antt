@@ -13,8 +13,9 @@ returns-clause-on_lines c =
     let words = c.advice.result in
     let on = of_three words.0.now words.1.now words.2.now c.advice.ensures.on_lines in
     let sentence = filled_on_line given words.1.now c.name_or.ensures.on_line c.name_or-2.ensures.on_line line on.1 in
-    let fix = filled_on_line given words.2.now c.name_or.ensures.on_line c.name_or-2.ensures.on_line line on.2 in
-    all_three words.0.now c.in_ok-sentence.sentence c.in_ok-fix.fix on.0 (subst (λ t. IsTrue (is_on_line t)) (sym c.in_ok-sentence.ensures) sentence) (subst (λ t. IsTrue (is_on_line t)) (sym c.in_ok-fix.ensures) fix)
+    let general = filled_on_line given words.2.now c.name_or.ensures.on_line c.name_or-2.ensures.on_line line on.2 in
+    let fix = c.in_ok-fix.ensures (subst (λ t. IsTrue (is_on_line t)) (sym c.in_ok-general.ensures) general) in
+    all_three words.0.now c.in_ok-sentence.sentence c.in_ok-fix.fix on.0 (subst (λ t. IsTrue (is_on_line t)) (sym c.in_ok-sentence.ensures) sentence) fix
 
 pub returns-clause-subject : goal.returns-clause-subject
 returns-clause-subject c = λ subject on.

@@ -1,0 +1,5 @@
+main() {
+    auto x;
+    x = 5;
+    printn x, 10);
+}

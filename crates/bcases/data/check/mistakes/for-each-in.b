@@ -1,0 +1,6 @@
+main() {
+    auto v 3, x;
+    for x in v {
+        printn(x, 10);
+    }
+}

@@ -1,0 +1,5 @@
+main() {
+    Auto i;
+    i = 5;
+    printn(i, 10);
+}

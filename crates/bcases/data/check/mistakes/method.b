@@ -1,0 +1,3 @@
+main() {
+    System.out.println("hi");
+}

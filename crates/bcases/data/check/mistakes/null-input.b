@@ -1,0 +1,6 @@
+main() {
+    auto c;
+
+    while((c = getchar()) != NULL)
+        putchar(c);
+}

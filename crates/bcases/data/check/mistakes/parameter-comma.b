@@ -1,0 +1,6 @@
+add(a; b) {
+    return(a + b);
+}
+main() {
+    printn(add(1, 2), 10);
+}

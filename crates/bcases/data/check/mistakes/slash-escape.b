@@ -1,0 +1,5 @@
+main() {
+    putchar('/n');
+    putchar('/');
+    putchar('n/');
+}

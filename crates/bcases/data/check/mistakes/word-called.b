@@ -1,0 +1,7 @@
+main() {
+    auto square, f;
+    square = 5;
+    printn(square(3), 10);
+    f = square * 2;
+    printn(f(3), 10);
+}

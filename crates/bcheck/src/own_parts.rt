@@ -1,0 +1,328 @@
+//! Fixes that are put together of what stands in the source.
+use crate::advice::Matter;
+use crate::finding::{Finding, Place};
+use crate::kinds::is_type_name;
+use crate::syntax::Syntax;
+use blint::Warning;
+use btools::Text;
+use bword::Name;
+use std::alloc::{AllocError, Global};
+
+/// The fix of a finding, if it is put together of what stands there: a loop of the parts of its header, the line after
+/// which a brace is missing, or the first value of a product.
+pub(crate) fn own_fix(
+    alloc: Global,
+    source: &[u8],
+    finding: &Finding,
+    line: Option<u64>,
+) -> Result<Option<Text>, AllocError> {
+    let rest = source.get(finding.place.start..).unwrap_or(&[]);
+    match (finding.matter, &finding.related, line) {
+        (Matter::Syntax(Syntax::For), _, _) => loop_of_header(alloc, rest),
+        (Matter::Syntax(Syntax::ForEach), _, _) => loop_of_range(alloc, rest),
+        (Matter::Warning(Warning::Unset), _, _) => product(alloc, rest, finding.place.len),
+        (Matter::Syntax(Syntax::BraceOpen | Syntax::FunctionInside), Some(brace), Some(line)) =>
+            after_line(alloc, source, brace, line),
+        _ => Ok(None),
+    }
+}
+
+// What a product begins with, where a name of so many bytes is multiplied.
+fn product(alloc: Global, rest: &[u8], len: usize) -> Result<Option<Text>, AllocError> {
+    let next = trimmed(rest.get(len..).unwrap_or(&[]));
+    if next.get(0) != Some(&b'*') && next.get(..2) != Some(b"=*") {
+        return Ok(None);
+    }
+    let mut text = Text::new(alloc);
+    text.push(b"set it first: ")?;
+    text.push(up_to(rest, len))?;
+    text.push(b" = 1; for a product")?;
+    Ok(Some(text))
+}
+
+// What stands in the parentheses after a word, up to the end of the line, if no quote is there.
+fn in_parentheses(rest: &[u8]) -> Option<&[u8]> {
+    let mut depth: u64 = 0;
+    let mut first = None;
+    for index in 0..rest.len() {
+        match rest.get(index) {
+            Some(b'(') => {
+                depth = depth.saturating_add(1);
+                first = first.or(Some(index.saturating_add(1)));
+            }
+            Some(b')') => {
+                depth = depth.saturating_sub(1);
+                if depth == 0 {
+                    return rest.get(first?..index);
+                }
+            }
+            Some(b'\n' | b'"' | b'\'') | None => return None,
+            _ => {}
+        }
+    }
+    None
+}
+
+// The place of a byte among others that isn't in parentheses or brackets.
+fn place_of(bytes: &[u8], wanted: u8) -> Option<usize> {
+    let mut depth: u64 = 0;
+    for index in 0..bytes.len() {
+        match bytes.get(index) {
+            Some(b'(' | b'[') => depth = depth.saturating_add(1),
+            Some(b')' | b']') => depth = depth.saturating_sub(1),
+            Some(byte) if *byte == wanted && depth == 0 => return Some(index),
+            _ => {}
+        }
+    }
+    None
+}
+
+fn up_to(bytes: &[u8], end: usize) -> &[u8] {
+    trimmed(bytes.get(..end).unwrap_or(bytes))
+}
+
+fn after(bytes: &[u8], place: usize) -> &[u8] {
+    trimmed(bytes.get(place.saturating_add(1)..).unwrap_or(&[]))
+}
+
+// The bytes without blanks before and after them.
+fn trimmed(bytes: &[u8]) -> &[u8] {
+    let (mut first, mut end) = (0, 0);
+    let mut is_begun = false;
+    for index in 0..bytes.len() {
+        if !matches!(bytes.get(index), Some(b' ' | b'\t')) {
+            if !is_begun {
+                first = index;
+            }
+            is_begun = true;
+            end = index.saturating_add(1);
+        }
+    }
+    bytes.get(first..end).unwrap_or(&[])
+}
+
+// A loop of the three parts of the header of a `for`.
+fn loop_of_header(alloc: Global, rest: &[u8]) -> Result<Option<Text>, AllocError> {
+    let Some(header) = in_parentheses(rest) else {
+        return Ok(None);
+    };
+    let mark = if place_of(header, b';').is_some() {
+        b';'
+    } else {
+        b','
+    };
+    let Some(first) = place_of(header, mark) else {
+        return Ok(None);
+    };
+    let others = after(header, first);
+    let Some(second) = place_of(others, mark) else {
+        return Ok(None);
+    };
+    let begin = untyped(up_to(header, first));
+    looped(alloc, begin, up_to(others, second), after(others, second))
+}
+
+// A loop that begins with a statement, goes on as long as a condition holds, and ends each turn with a step.
+fn looped(
+    alloc: Global,
+    begin: &[u8],
+    condition: &[u8],
+    step: &[u8],
+) -> Result<Option<Text>, AllocError> {
+    let mut text = Text::new(alloc);
+    if !begin.is_empty() {
+        push_statements(&mut text, begin)?;
+        text.push(b"; ")?;
+    }
+    text.push(b"while(")?;
+    text.push(if condition.is_empty() {
+        b"1"
+    } else {
+        condition
+    })?;
+    text.push(b") { .. ")?;
+    if !step.is_empty() {
+        push_statements(&mut text, step)?;
+        text.push(b"; ")?;
+    }
+    text.push(b"}")?;
+    Ok(Some(text))
+}
+
+// Statements that stand with commas between them, with the `=` of an assignment before its operator.
+fn push_statements(text: &mut Text, statements: &[u8]) -> Result<(), AllocError> {
+    let mut rest = statements;
+    for _ in 0..statements.len() {
+        let Some(comma) = place_of(rest, b',') else {
+            return push_statement(text, rest);
+        };
+        push_statement(text, up_to(rest, comma))?;
+        text.push(b"; ")?;
+        rest = after(rest, comma);
+    }
+    Ok(())
+}
+
+fn push_statement(text: &mut Text, statement: &[u8]) -> Result<(), AllocError> {
+    let mut is_turned = false;
+    for index in 0..statement.len() {
+        let byte = statement.get(index).copied().unwrap_or(b' ');
+        let is_before = statement.get(index.saturating_add(1)) == Some(&b'=')
+            && matches!(byte, b'+' | b'-' | b'*' | b'/' | b'%');
+        if is_before {
+            text.push(b"=")?;
+            text.push(&[byte])?;
+        } else if !is_turned {
+            text.push(&[byte])?;
+        }
+        is_turned = is_before;
+    }
+    Ok(())
+}
+
+// An assignment without a type before its name.
+fn untyped(begin: &[u8]) -> &[u8] {
+    let Some(blank) = place_of(begin, b' ') else {
+        return begin;
+    };
+    match Name::from_bytes(up_to(begin, blank)) {
+        Some(name) if is_type_name(&name) || is_declaring(name.as_str()) => after(begin, blank),
+        _ => begin,
+    }
+}
+
+fn is_declaring(word: &str) -> bool {
+    matches!(word, "var" | "let" | "auto")
+}
+
+// A loop that counts, of `for i in range(a, b)`.
+fn loop_of_range(alloc: Global, rest: &[u8]) -> Result<Option<Text>, AllocError> {
+    let Some(range) = in_parentheses(rest) else {
+        return Ok(None);
+    };
+    let head = trimmed(rest.get(3..).unwrap_or(&[]));
+    let Some(blank) = place_of(head, b' ') else {
+        return Ok(None);
+    };
+    let name = up_to(head, blank);
+    let called = after(head, blank);
+    if called.get(..8) != Some(b"in range") || place_of(range, b',').is_none() && range.is_empty() {
+        return Ok(None);
+    }
+    let (first, last) = match place_of(range, b',') {
+        Some(comma) => (up_to(range, comma), after(range, comma)),
+        None => (&b"0"[..], range),
+    };
+    if place_of(last, b',').is_some() {
+        return Ok(None);
+    }
+    let mut text = Text::new(alloc);
+    for part in [
+        name,
+        b" = ",
+        first,
+        b"; while(",
+        name,
+        b" < ",
+        trimmed(last),
+        b") { .. ",
+        name,
+        b"++; }",
+    ] {
+        text.push(part)?;
+    }
+    Ok(Some(text))
+}
+
+// The line after which the `}` of a brace is missing.
+fn after_line(
+    alloc: Global,
+    source: &[u8],
+    brace: &Place,
+    line: u64,
+) -> Result<Option<Text>, AllocError> {
+    let Some((count, _)) = body_end(source, brace.start) else {
+        return Ok(None);
+    };
+    let mut text = Text::new(alloc);
+    text.push(b"write the } that is missing after line ")?;
+    text.push_number(line.saturating_add(count))?;
+    Ok(Some(text))
+}
+
+/// How many lines after that of an open brace the last one comes that stands farther in than it, up to the first that
+/// doesn't, and where it ends; nothing, where the lines don't show it, as of the brace of a function.
+pub(crate) fn body_end(source: &[u8], brace: usize) -> Option<(u64, usize)> {
+    let own = blanks_at(source, line_start(source, brace));
+    if own == 0 {
+        return None;
+    }
+    let mut count: u64 = 0;
+    let mut found = None;
+    let mut start = next_line(source, brace);
+    for _ in brace..source.len() {
+        if start >= source.len() {
+            break;
+        }
+        count = count.saturating_add(1);
+        let next = next_line(source, start);
+        let line = source.get(start..next).unwrap_or(&[]);
+        if !is_loose(line) {
+            if blanks_at(source, start) <= own {
+                return found;
+            }
+            found = Some((count, start.saturating_add(length_of(line))));
+        }
+        start = next;
+    }
+    None
+}
+
+// Whether a line is blank, a comment or a label, which stand anywhere.
+fn is_loose(line: &[u8]) -> bool {
+    let words = trimmed(line.get(..length_of(line)).unwrap_or(&[]));
+    words.is_empty() || words.get(..2) == Some(b"/*") || words.last() == Some(&b':')
+}
+
+// How long a line is without the blanks and the newline at its end.
+fn length_of(line: &[u8]) -> usize {
+    let mut length = 0;
+    for index in 0..line.len() {
+        if !matches!(line.get(index), Some(b' ' | b'\t' | b'\r' | b'\n')) {
+            length = index.saturating_add(1);
+        }
+    }
+    length
+}
+
+fn line_start(source: &[u8], place: usize) -> usize {
+    for back in 0..place {
+        let at = place.saturating_sub(back);
+        if source.get(at.saturating_sub(1)) == Some(&b'\n') {
+            return at;
+        }
+    }
+    0
+}
+
+fn next_line(source: &[u8], place: usize) -> usize {
+    for at in place..source.len() {
+        if source.get(at) == Some(&b'\n') {
+            return at.saturating_add(1);
+        }
+    }
+    source.len()
+}
+
+// How far in the line that begins here stands, where a tab goes on to the next eighth column.
+fn blanks_at(source: &[u8], start: usize) -> usize {
+    let mut width: usize = 0;
+    for at in start..source.len() {
+        match source.get(at) {
+            Some(b' ') => width = width.saturating_add(1),
+            Some(b'\t') => width = (width / 8).saturating_add(1).saturating_mul(8),
+            _ => return width,
+        }
+    }
+    width
+}

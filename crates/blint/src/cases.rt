@@ -1,0 +1,135 @@
+//! Cases of a `switch`, characters that are taken for digits, and a condition that assigns by `=!`.
+use crate::linting::Look;
+use crate::locals::{compares, relates};
+use crate::remarks::Remark;
+use crate::strings::is_input;
+use crate::tree::{Branch, Statement, Tree};
+use crate::warnings::Warning;
+use blang::Keyword;
+use blex::Lexeme;
+use btree::{Construct, Node};
+use bword::BinOp;
+
+/// What is found of a condition that assigns what `!` gives: `x =! 3`.
+pub(crate) fn not_assigned(look: &Look<'_>, tested: &Branch) -> Option<Remark> {
+    let assigned = look.tree.branch(tested.left);
+    let is_not = assigned.node == Node::Assigned(None)
+        && look.tree.branch(assigned.right).node == Node::Not;
+    if is_not && look.tree.tokens.is_joined(assigned.token) {
+        return Remark::new(assigned.token, Warning::AssignsNot);
+    }
+    None
+}
+
+/// What is found of a number of one digit with which a character of the input is compared.
+pub(crate) fn digit_compared(look: &Look<'_>, branch: &Branch, op: BinOp) -> Option<Remark> {
+    let tree = look.tree;
+    let (subject, constant) = (tree.branch(branch.left), tree.branch(branch.right));
+    if !compares(op) && !relates(op) || !is_input(look, &subject) {
+        return None;
+    }
+    let is_digit = match tree.tokens.at(constant.token) {
+        Lexeme::Number(1 | 2 | 3 | 5 | 6) => true,
+        Lexeme::Number(0) => op == BinOp::Ge,
+        Lexeme::Number(7 | 8 | 9) => relates(op),
+        _ => false,
+    };
+    if is_digit && constant.node == Node::Constant {
+        return Remark::new(constant.token, Warning::DigitForCharacter);
+    }
+    None
+}
+
+/// What is found of a case of one digit, where the switch looks at a character of the input; and of one into which
+/// control goes on from the case before, as from no other one.
+pub(crate) fn of_case(look: &Look<'_>, heading: &Statement) -> Option<Remark> {
+    let tree = look.tree;
+    let is_case = matches!(
+        tree.tokens.at(heading.first),
+        Lexeme::Keyword(Keyword::Case | Keyword::Default)
+    );
+    let block = tree.statement(heading.parent);
+    let around = tree.statement(block.parent);
+    if !is_case || around.construct != Construct::Switch {
+        return None;
+    }
+    let value = heading.first.wrapping_add(1);
+    let is_digit = matches!(
+        tree.tokens.at(value),
+        Lexeme::Number(1 | 2 | 3 | 5 | 6 | 7 | 8)
+    );
+    let switched = tree.branch(tree.made_by(around.first).left);
+    if is_digit && is_input(look, &ungrouped(tree, &switched)) {
+        return Remark::new(value, Warning::DigitForCharacter);
+    }
+    if ending(tree, heading) == Some(false)
+        && is_like_next(tree, heading)
+        && falls_alone(look, heading, &block)
+    {
+        return Remark::new(heading.first, Warning::FallsIntoCase);
+    }
+    None
+}
+
+fn ungrouped(tree: &Tree<'_>, branch: &Branch) -> Branch {
+    match branch.node {
+        Node::Grouped => tree.branch(branch.left),
+        _ => *branch,
+    }
+}
+
+// Whether what stands before a case leaves the switch; nothing, if that is another case or the beginning.
+fn ending(tree: &Tree<'_>, heading: &Statement) -> Option<bool> {
+    let mut before = tree.statement(tree.around(heading.first.wrapping_sub(1)));
+    if before.construct == Construct::Heading || before.end > heading.first {
+        return None;
+    }
+    for _ in 0..tree.statements.len() {
+        if before.parent == heading.parent {
+            break;
+        }
+        before = tree.statement(before.parent);
+    }
+    for token in before.first..before.end {
+        let leaves = matches!(
+            tree.tokens.at(token),
+            Lexeme::Keyword(Keyword::Return | Keyword::Goto | Keyword::Break)
+        );
+        if leaves || tree.is_call_of(&tree.made_by(token), "exit") {
+            return Some(true);
+        }
+    }
+    Some(false)
+}
+
+// Whether the statement before a case begins like the first one after it, as two calls of one function do, or two
+// assignments to one name.
+fn is_like_next(tree: &Tree<'_>, heading: &Statement) -> bool {
+    let before = tree.statement(tree.around(heading.first.wrapping_sub(1)));
+    let next = heading.end;
+    before.construct == Construct::Plain
+        && tree.tokens.name(before.first).is_some()
+        && tree.tokens.at(before.first) == tree.tokens.at(next)
+        && tree.tokens.after(before.first) == tree.tokens.after(next)
+}
+
+// Whether control goes on from one case alone into the next one, where two others at least leave the switch.
+fn falls_alone(look: &Look<'_>, heading: &Statement, block: &Statement) -> bool {
+    let tree = look.tree;
+    let mut leaving: u64 = 0;
+    for token in block.first..block.end {
+        let other = tree.statement(tree.around(token));
+        let is_other = other.first == token
+            && other.construct == Construct::Heading
+            && other.parent == heading.parent
+            && token != heading.first;
+        if is_other {
+            match ending(tree, &other) {
+                Some(false) => return false,
+                Some(true) => leaving = leaving.saturating_add(1),
+                None => {}
+            }
+        }
+    }
+    leaving > 1
+}

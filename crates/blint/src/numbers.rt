@@ -1,0 +1,158 @@
+//! Numbers that are worth another thing than they look, and quotients without their fraction.
+use crate::bounds::{are_alike, constant_of};
+use crate::linting::Look;
+use crate::remarks::{Remark, Remarks};
+use crate::tokens::Tokens;
+use crate::tree::{Branch, Tree};
+use crate::warnings::Warning;
+use blex::Lexeme;
+use btree::Node;
+use bword::BinOp;
+use std::alloc::AllocError;
+
+/// The largest number of a word without a sign.
+const LARGEST_WORD: u64 = 65535;
+
+/// How many digits a number has, at most.
+const MOST_DIGITS: usize = 8;
+
+/// How many tokens before and after a quotient are looked at.
+const NEAR: usize = 32;
+
+/// Says of the numbers of a definition which begin with a 0 among others that don't.
+pub(crate) fn octal_in(tokens: &Tokens<'_>, remarks: &mut Remarks) -> Result<(), AllocError> {
+    let is_function = tokens.at(1) == Lexeme::OpenParen;
+    let mut lengths = [false; MOST_DIGITS];
+    let mut has_decimal = false;
+    for token in 0..tokens.len() {
+        if is_decimal(tokens, token) {
+            has_decimal = true;
+            if let Some(place) = lengths.get_mut(tokens.bytes(token).len()) {
+                *place = true;
+            }
+        }
+    }
+    for token in 0..tokens.len() {
+        let is_padded = lengths.get(tokens.bytes(token).len()) == Some(&true);
+        let is_among = if is_function {
+            is_padded && !is_of_bits(tokens, token)
+        } else {
+            has_decimal
+        };
+        if is_among && is_octal(tokens, token) {
+            remarks.say(Remark::new(token, Warning::OctalNumber))?;
+        }
+    }
+    Ok(())
+}
+
+// Whether a number of two digits or more doesn't begin with 0, and is no base.
+fn is_decimal(tokens: &Tokens<'_>, token: usize) -> bool {
+    let before = tokens.at(token.wrapping_sub(1));
+    let is_base = before == Lexeme::Comma && tokens.after(token) == Lexeme::CloseParen;
+    let bytes = tokens.bytes(token);
+    let is_number = matches!(tokens.at(token), Lexeme::Number(10..));
+    is_number
+        && bytes.first() != Some(&b'0')
+        && !(is_base && tokens.at(token) == Lexeme::Number(10))
+}
+
+fn is_octal(tokens: &Tokens<'_>, token: usize) -> bool {
+    matches!(tokens.at(token), Lexeme::Number(8..)) && tokens.bytes(token).first() == Some(&b'0')
+}
+
+// Whether a number is one of bits, as its operator shows.
+fn is_of_bits(tokens: &Tokens<'_>, token: usize) -> bool {
+    is_for_bits(&tokens.at(token.wrapping_sub(1))) || is_for_bits(&tokens.after(token))
+}
+
+fn is_for_bits(lexeme: &Lexeme) -> bool {
+    matches!(
+        lexeme,
+        Lexeme::Operator(BinOp::And | BinOp::Or | BinOp::Shl | BinOp::Shr)
+            | Lexeme::Assign(Some(BinOp::And | BinOp::Or | BinOp::Shl | BinOp::Shr))
+    )
+}
+
+/// What is found of a product of a quotient, which has lost its fraction.
+pub(crate) fn multiplied(look: &Look<'_>, product: &Branch) -> Option<Remark> {
+    let tree = look.tree;
+    let (left, right) = (tree.branch(product.left), tree.branch(product.right));
+    let (quotient, factor) = match ungrouped(tree, &left).node {
+        Node::Binary(BinOp::Div) => (ungrouped(tree, &left), right),
+        _ => (ungrouped(tree, &right), left),
+    };
+    let divisor = tree.branch(quotient.right);
+    let is_large = matches!(constant_of(tree, &factor), Some(10..));
+    let is_quotient = quotient.node == Node::Binary(BinOp::Div) && divisor.node != Node::Constant;
+    if is_quotient && is_large && !has_remainder(tree, &quotient, &divisor) {
+        return Remark::new(quotient.token, Warning::DividesFirst);
+    }
+    None
+}
+
+// The branch in parentheses, or the branch itself.
+fn ungrouped(tree: &Tree<'_>, branch: &Branch) -> Branch {
+    match branch.node {
+        Node::Grouped => tree.branch(branch.left),
+        _ => *branch,
+    }
+}
+
+// Whether a remainder by the same divisor stands near.
+fn has_remainder(tree: &Tree<'_>, quotient: &Branch, divisor: &Branch) -> bool {
+    let first = quotient.first.saturating_sub(NEAR);
+    for token in first..quotient.last.saturating_add(NEAR) {
+        let other = tree.made_by(token);
+        let is_remainder = other.node == Node::Binary(BinOp::Rem);
+        if is_remainder && are_alike(tree, &tree.branch(other.right), divisor) {
+            return true;
+        }
+    }
+    false
+}
+
+/// What is found of a quotient of two constants that is 0.
+pub(crate) fn divided(look: &Look<'_>, quotient: &Branch) -> Option<Remark> {
+    let tree = look.tree;
+    let dividend = constant_of(tree, &tree.branch(quotient.left))?;
+    let divisor = constant_of(tree, &tree.branch(quotient.right))?;
+    if 0 < dividend && dividend < divisor {
+        return Remark::new(quotient.token, Warning::ZeroQuotient);
+    }
+    None
+}
+
+/// What is found of a product of two constants that no word holds.
+pub(crate) fn too_large(look: &Look<'_>, branch: &Branch) -> Option<Remark> {
+    let tree = look.tree;
+    let one = constant_of(tree, &tree.branch(branch.left))?;
+    let other = constant_of(tree, &tree.branch(branch.right))?;
+    if one.saturating_mul(other) > LARGEST_WORD {
+        Remark::new(branch.token, Warning::ProductTooLarge)
+    } else {
+        None
+    }
+}
+
+/// What is found of a number that is below 0, where it is assigned to a word that is compared by its size.
+pub(crate) fn assigned(look: &Look<'_>, assigned: &Branch) -> Option<Remark> {
+    let local = look.locals.of(look.tree, &look.tree.branch(assigned.left))?;
+    if local.is_related {
+        large(look.tree, &look.tree.branch(assigned.right))
+    } else {
+        None
+    }
+}
+
+/// What is found of a number that is below 0, and is written without its sign.
+pub(crate) fn large(tree: &Tree<'_>, number: &Branch) -> Option<Remark> {
+    let is_large = number.node == Node::Constant
+        && matches!(tree.tokens.at(number.token), Lexeme::Number(32768..=65534))
+        && tree.tokens.bytes(number.token).first() != Some(&b'0');
+    if is_large {
+        Remark::new(number.token, Warning::LargeNumber)
+    } else {
+        None
+    }
+}
