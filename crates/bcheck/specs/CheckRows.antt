@@ -117,10 +117,10 @@ warning_codes : map warning_code (
     codes "hi" ∷ codes "ma" ∷ codes "ed" ∷ codes "ed" ∷ codes "ix" ∷ codes "st" ∷ codes "lp" ∷ codes "no" ∷
     codes "lp" ∷ codes "la" ∷ codes "us" ∷ codes "ma" ∷ codes "st" ∷ codes "pr" ∷ codes "op" ∷ codes "ar" ∷
     codes "no" ∷ codes "lp" ∷ codes "ma" ∷
-    codes "la" ∷ codes "if" ∷ codes "if" ∷ codes "oc" ∷ codes "sg" ∷ codes "pr" ∷ codes "pr" ∷ codes "if" ∷
-    codes "if" ∷ codes "ix" ∷ codes "ix" ∷ codes "lp" ∷ codes "lp" ∷ codes "lp" ∷ codes "en" ∷ codes "lp" ∷
+    codes "la" ∷ codes "la" ∷ codes "la" ∷ codes "nu" ∷ codes "nu" ∷ codes "di" ∷ codes "di" ∷ codes "tr" ∷
+    codes "tr" ∷ codes "ix" ∷ codes "ix" ∷ codes "lp" ∷ codes "lp" ∷ codes "lp" ∷ codes "en" ∷ codes "lp" ∷
     codes "no" ∷ codes "st" ∷ codes "us" ∷ codes "no" ∷ codes "en" ∷ codes "sw" ∷ codes "ar" ∷ codes "ix" ∷
-    codes "if" ∷ codes "sg" ∷ codes "st" ∷ codes "st" ∷ codes "ar" ∷ codes "en" ∷ codes "bs" ∷ codes "hi" ∷
+    codes "tr" ∷ codes "nu" ∷ codes "st" ∷ codes "st" ∷ codes "ar" ∷ codes "en" ∷ codes "es" ∷ codes "hi" ∷
     codes "rt" ∷ []
 warning_codes = refl
 

@@ -144,22 +144,22 @@ pub(crate) fn advice_of(warning: Warning) -> (&'static str, &'static str, &'stat
             ("la", "this else belongs to the if of line %",
              "put { before that if and } before this else, if the outer one is meant"),
         Warning::IfsInRow =>
-            ("if", "this if is no part of the one before it",
+            ("la", "this if is no part of the one before it",
              "else if(..) makes one chain of both: only the first that holds is done"),
         Warning::ElseOverwrites =>
-            ("if", "this if and its else are no part of the one before",
+            ("la", "this if and its else are no part of the one before",
              "ask first for what holds least often, then else if(..), and else last"),
         Warning::OctalNumber =>
-            ("oc", "a number that begins with 0 is to the base 8", "take the 0 away: 010 is 8, and 10 is 10"),
+            ("nu", "a number that begins with 0 is to the base 8", "take the 0 away: 010 is 8, and 10 is 10"),
         Warning::LargeNumber =>
-            ("sg", "this number is below 0, as 32768 and more are",
+            ("nu", "this number is below 0, as 32768 and more are",
              "take a smaller one: thousands, or two words for both halves"),
         Warning::DividesFirst =>
-            ("pr", "the division comes first, and drops its fraction", "multiply first: part * 100 / all"),
-        Warning::ZeroQuotient => ("pr", "this is 0: a division drops its fraction", "multiply first: x * 5 / 9"),
+            ("di", "the division comes first, and drops its fraction", "multiply first: part * 100 / all"),
+        Warning::ZeroQuotient => ("di", "this is 0: a division drops its fraction", "multiply first: x * 5 / 9"),
         Warning::AlwaysTrue =>
-            ("if", "one of these two always holds", "& wants both: c >= 'a' & c <= 'z', or c != 'y' & c != 'n'"),
-        Warning::NeverTrue => ("if", "these two never hold at once", "| wants one of them: c == 'a' | c == 'e'"),
+            ("tr", "one of these two always holds", "& wants both: c >= 'a' & c <= 'z', or c != 'y' & c != 'n'"),
+        Warning::NeverTrue => ("tr", "these two never hold at once", "| wants one of them: c == 'a' | c == 'e'"),
         Warning::LoopPastVector =>
             ("ix", "the loop of line % goes past the last word of @",
              "five words have the indices 0 to 4: i = 0; while(i < 5)"),
@@ -193,9 +193,9 @@ pub(crate) fn advice_of(warning: Warning) -> (&'static str, &'static str, &'stat
         Warning::TwoIndices =>
             ("ix", "nothing sets the words of @ to addresses",
              "one index: @[4 * i + k] is the word k of row i, in rows of 4"),
-        Warning::AssignsNot => ("if", "this assigns what ! gives, 1 or 0", "!= compares: x != 3"),
+        Warning::AssignsNot => ("tr", "this assigns what ! gives, 1 or 0", "!= compares: x != 3"),
         Warning::ProductTooLarge =>
-            ("sg", "no word holds this product", "words go from -32768 to 32767: count in thousands"),
+            ("nu", "no word holds this product", "words go from -32768 to 32767: count in thousands"),
         Warning::NumberPut =>
             ("st", "putchar writes a character, and this is a number",
              "printn(n, 10) writes a number, and putchar('0' + n) a digit"),
@@ -206,7 +206,7 @@ pub(crate) fn advice_of(warning: Warning) -> (&'static str, &'static str, &'stat
             ("ar", "@ is handed over as a value, and not as an address", "&@ is the address of @"),
         Warning::CharacterCounted =>
             ("en", "this is a character, and no number: '5' is 53", "c - '0' is the number of a digit"),
-        Warning::SlashEscape => ("bs", "this is a slash and then a letter", "* begins an escape: '*n' is a newline"),
+        Warning::SlashEscape => ("es", "this is a slash and then a letter", "* begins an escape: '*n' is a newline"),
         Warning::WordCalled =>
             ("hi", "@ is a word of this function, and no function",
              "take another name for the word, or take the ( ) out"),
