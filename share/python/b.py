@@ -12,7 +12,7 @@ import ctypes
 import json
 import operator
 import os
-from typing import Any, Dict, List, Mapping, NamedTuple, Optional, Union
+from typing import Any, Callable, Dict, Iterator, List, Mapping, NamedTuple, Optional, Union
 
 Text = Union[bytes, bytearray, memoryview, str]
 Libs = Mapping[Text, Text]
@@ -270,3 +270,235 @@ def show(
     """A page that shows the run of the program of a source with this input. `start` and `last` are as for `trace`."""
     words = (*_source(source, libs), *_bytes(input), _edition(edition), *_rows(steps, start, last))
     return _text(_library.b_show, *words, room=4 * _ROOM)
+
+
+class _Held(ctypes.Structure):
+    _fields_ = [("run", ctypes.c_void_p), ("program", ctypes.c_void_p)]
+
+
+class _Place(ctypes.Structure):
+    _fields_ = [("function", ctypes.c_uint32), ("place", ctypes.c_size_t), ("callers", ctypes.c_size_t),
+                ("steps", ctypes.c_uint64)]
+
+
+class Place(NamedTuple):
+    """Where a run stands: its function, by the address of its first string word, the place of its next instruction, how
+    many calls are below, and how many steps were made."""
+
+    function: int
+    place: int
+    callers: int
+    steps: int
+
+
+class End(NamedTuple):
+    """Why a slice has ended: `halted` with a status, `trapped` with two letters, `limit`, or `wants input`."""
+
+    why: str
+    status: int = 0
+    trap: str = ""
+
+
+_TRAPS = ("", "dz", "fn", "gt", "st", "dp", "bs", "sk")
+_SLICE = 1_000_000
+
+
+def _sessions(library):
+    """Tells what the calls for sessions take."""
+    held, text = ctypes.POINTER(_Held), [ctypes.c_char_p, ctypes.c_size_t]
+    takes = {
+        "load": text + [ctypes.c_uint8, held],
+        "load_code": text + [held],
+        "begin": [held],
+        "continue": [held, ctypes.c_uint64, ctypes.POINTER(ctypes.c_uint8)],
+        "feed": [held] + text,
+        "close_input": [held],
+        "output": [held, ctypes.c_void_p, ctypes.c_size_t, ctypes.POINTER(ctypes.c_size_t)],
+        "place": [held, ctypes.POINTER(_Place)],
+        "word": [held, ctypes.c_uint16, ctypes.POINTER(ctypes.c_uint16)],
+        "set_word": [held, ctypes.c_uint16, ctypes.c_uint16],
+        "end": [held],
+        "unload": [held],
+    }
+    for name, words in takes.items():
+        function = getattr(library, f"b_{name}")
+        function.argtypes, function.restype = words, ctypes.c_uint8
+    library.b_unload.restype = None
+
+
+_sessions(_library)
+
+
+class Session:
+    """A program that stays in memory, and its run, in slices.
+
+      >>> talk = b.Session("main() { putchar(getchar()); }")
+      >>> talk.go_on().why
+      'wants input'
+      >>> talk.feed("!"), talk.go_on(), talk.output()
+      (None, End(why='halted', status=0, trap=''), b'!')
+
+    However a run is cut into slices, it is the same run. A session is used by one thread at a time. What it has in
+    memory goes with it, or by `close`, or at the end of a `with`."""
+
+    def __init__(self, source: Text = b"", input: Text = b"", *, code: Optional[Text] = None, edition: int = 1):
+        self._held = _Held()
+        if code is None:
+            status = _library.b_load(*_bytes(source), _edition(edition), self._held)
+        else:
+            status = _library.b_load_code(*_bytes(code), self._held)
+        if status in (FAULT, REFUSED):
+            self._tell_fault(source, code, edition)
+        _expect(status)
+        self.start(input)
+
+    @staticmethod
+    def _tell_fault(source, code, edition):
+        """Raises the Error of a program that can't be loaded, with its line."""
+        if code is None:
+            go(source, edition=edition, steps=0)
+        else:
+            run(code, steps=0)
+
+    def start(self, input: Text = b"") -> None:
+        """Begins the run anew, with this much of its input."""
+        self._look_for_program()
+        if self._held.run:
+            _library.b_end(self._held)
+        _expect(_library.b_begin(self._held))
+        if input:
+            self.feed(input)
+
+    def go_on(self, steps: int = _SLICE) -> End:
+        """Makes so many steps at most, and tells why it ends."""
+        steps = _number("steps", steps, 0, 2**64 - 1)
+        while True:
+            now = min(steps, _SLICE)
+            end = self._slice(now)
+            steps -= now
+            if end.why != "limit" or steps == 0:
+                return end
+
+    def _slice(self, steps):
+        self._look_for_run()
+        value = ctypes.c_uint8()
+        status = _library.b_continue(self._held, steps, value)
+        if status == 0:
+            return End("halted", value.value)
+        if status == TRAP:
+            return End("trapped", trap=_TRAPS[value.value])
+        if status == LIMIT:
+            return End("limit")
+        if status == FAILED:
+            return End("wants input")
+        raise Error(status, b"", b"")
+
+    def run(
+        self,
+        read: Optional[Callable[[], Text]] = None,
+        write: Optional[Callable[[bytes], Any]] = None,
+        *,
+        steps: int = STEPS,
+    ) -> End:
+        """Runs on for so many steps at most. `read` is asked for more input where a byte lacks, and answers nothing at
+        its end; `write` gets the output. Without `read` there is no more input. Between slices Python sees to signals,
+        so an interrupt comes through within milliseconds."""
+        self._look_for_run()
+        last = self.place().steps + _number("steps", steps, 0, 2**64 - 1)
+        while True:
+            end = self._slice(min(last - self.place().steps, _SLICE))
+            if write is not None:
+                output = self.output()
+                if output:
+                    write(output)
+            if end.why == "wants input":
+                more = read() if read is not None else b""
+                if more:
+                    self.feed(more)
+                else:
+                    self.close_input()
+            elif end.why != "limit" or self.place().steps >= last:
+                return end
+
+    def __iter__(self) -> Iterator[Place]:
+        """Makes one step after another, and tells where the run stands before each, as long as it can go on."""
+        while self._slice(0).why == "limit":
+            place = self.place()
+            yield place
+            if self._slice(1).why != "limit":
+                return
+
+    def feed(self, bytes: Text) -> None:
+        """Adds bytes to the input."""
+        self._look_for_run()
+        status = _library.b_feed(self._held, *_bytes(bytes))
+        if status == WRONG_EDITION:
+            raise ValueError("the input of this session was closed")
+        _expect(status)
+
+    def close_input(self) -> None:
+        """Tells that no more input comes."""
+        self._look_for_run()
+        _expect(_library.b_close_input(self._held))
+
+    def output(self) -> bytes:
+        """Takes what the program has written since."""
+        self._look_for_run()
+        room, count, parts = ctypes.create_string_buffer(_ROOM), ctypes.c_size_t(), []
+        while True:
+            _expect(_library.b_output(self._held, room, _ROOM, count))
+            parts.append(room.raw[: count.value])
+            if count.value < _ROOM:
+                return b"".join(parts)
+
+    def place(self) -> Place:
+        """Where the run stands; after its end the call that ran before the last step."""
+        self._look_for_run()
+        place = _Place()
+        _expect(_library.b_place(self._held, place))
+        return Place(place.function, place.place, place.callers, place.steps)
+
+    def word(self, address: int) -> int:
+        """The word at an address."""
+        self._look_for_run()
+        word = ctypes.c_uint16()
+        _expect(_library.b_word(self._held, _number("address", address, 0, 65535), word))
+        return word.value
+
+    def set_word(self, address: int, word: int) -> None:
+        """Stores a word at an address."""
+        self._look_for_run()
+        address, word = _number("address", address, 0, 65535), _number("word", word, 0, 65535)
+        _expect(_library.b_set_word(self._held, address, word))
+
+    def close(self) -> None:
+        """Gives all of it back."""
+        if self._held.run:
+            _library.b_end(self._held)
+        if self._held.program:
+            _library.b_unload(self._held)
+
+    def __enter__(self) -> "Session":
+        return self
+
+    def __exit__(self, *failure) -> None:
+        self.close()
+
+    def __del__(self):
+        if hasattr(self, "_held"):
+            self.close()
+
+    def _look_for_program(self):
+        if not self._held.program:
+            raise ValueError("this session was closed")
+
+    def _look_for_run(self):
+        self._look_for_program()
+        if not self._held.run:
+            raise ValueError("this session has no run")
+
+
+def _expect(status):
+    """Raises what a call answers other than that all is well."""
+    if status != 0:
+        raise Error(status, b"", b"")

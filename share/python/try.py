@@ -5,7 +5,9 @@
 CASES is the folder of kept cases, whose README.md tells their files, and VERSION what the program `b` says of its
 own."""
 import pathlib
+import signal
 import sys
+import time
 from typing import Dict, List, NamedTuple
 
 import b
@@ -112,6 +114,53 @@ def places(source, **named):
     return [tuple(finding[name] for name in names) for finding in b.check(source, **named)]
 
 
+def sessions():
+    """What is found of sessions, and what is wanted."""
+    told, source = [], "n; main() { extrn n; auto c; while((c = getchar()) != '*e') { n++; putchar(c + 1); } exit(n); }"
+    with b.Session(source) as it:
+        yield it.go_on(1).why, "limit"
+        yield it.go_on().why, "wants input"
+        it.feed("HA")
+        yield (it.go_on().why, it.output(), it.word(7)), ("wants input", b"IB", 2)
+        it.set_word(7, 5)
+        read = iter(["L", b""])
+        yield it.run(lambda: next(read), told.append), b.End("halted", 6)
+        yield b"".join(told), b"M"
+        it.start("Z")
+        yield len([place for place in it if place.callers == 0]) > 5, True
+        yield refused(it.go_on, -1), ValueError
+        it.close_input()
+        yield refused(it.feed, "x"), ValueError
+    yield refused(it.go_on), ValueError
+    yield b.Session(code="F main 0 0 0 0 3\nc 1\nc 0\nb /\nE\n").run(), b.End("trapped", trap="dz")
+    yield b.Session("main() { while(1) ; }").run(steps=3_000_001).why, "limit"
+    yield refused(b.Session, "main() {"), b.Error
+    yield refused(b.Session, code="E"), b.Error
+    yield interrupted() < 0.05, True
+
+
+def refused(call, *words, **named):
+    """The kind of error that a call raises."""
+    try:
+        call(*words, **named)
+    except Exception as error:
+        return type(error)
+    return None
+
+
+def interrupted():
+    """How many seconds pass from a signal to the interrupt of a run that never ends."""
+    it = b.Session("main() { while(1) ; }")
+    signal.setitimer(signal.ITIMER_REAL, 0.2)
+    signal.signal(signal.SIGALRM, signal.default_int_handler)
+    begun = time.monotonic()
+    try:
+        it.run(steps=1 << 60)
+    except KeyboardInterrupt:
+        return time.monotonic() - begun - 0.2
+    return 1
+
+
 def contents(path):
     return path.read_bytes() if path.exists() else b""
 
@@ -202,7 +251,7 @@ def cases(folder):
             yield found, (int(status or 0), wanted, line), f"{path.relative_to(folder)}, edition {edition}"
 
 
-tried = [(found, wanted, "a row") for found, wanted in (*rows(), *texts_and_numbers(), *with_files())]
+tried = [(found, wanted, "a row") for found, wanted in (*rows(), *texts_and_numbers(), *with_files(), *sessions())]
 tried += cases(pathlib.Path(sys.argv[1]))
 wrong = [row for row in tried if row[0] != row[1]]
 for found, wanted, name in wrong:

@@ -11,7 +11,11 @@ mod compilers;
 #[cfg(test)]
 mod drafts;
 #[cfg(test)]
+mod hosts;
+#[cfg(test)]
 mod programs;
+#[cfg(test)]
+mod sessions;
 #[cfg(test)]
 mod streams;
 #[cfg(test)]

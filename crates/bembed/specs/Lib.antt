@@ -4,5 +4,7 @@ pub mod Wholes
 pub mod Asks
 pub mod WithFiles
 pub mod Looks
+pub mod Sessions
 mod CallRows
 pub mod RoomsExcluded
+mod SessionRows

@@ -9,6 +9,7 @@ mod calls;
 mod joined;
 mod looking;
 mod room;
+mod sessions;
 mod with_files;
 
 pub use calls::wrong_rooms_are_excluded;

@@ -1,13 +1,14 @@
 //! A program that runs in slices.
-ghost use Rattle.std.specs.Prelude.{◌≡◌, ◌++◌, MatchResult, OnErr, OnOk, drop, false, length, min, true};
+ghost use Rattle.std.specs.Prelude.{◌≡◌, ◌++◌, IfErr, MatchResult, OnErr, OnOk, drop, false, length, min, true};
 ghost use Rattle.bsession.specs.Sessions.{BeginsSession, Goes, SessionContinues, SliceComesTo, StartsNot, call_in, callers_in, end_of, state_after, state_of, stored_in, word_in};
+ghost use Rattle.bsession.specs.declared.session.FeedFault.TheVariants.{Closed};
 
 use crate::feed::Feed;
 use blang::{Outcome, Trap};
 use bmach::{Active, Image, MOST_STEPS, Stepper, Stop};
 use bpages::PagedStore;
 use bword::{MemOut, NoMemory};
-use std::alloc::{AllocError, Global};
+use std::alloc::Global;
 use std::marker::Model;
 use std::mem;
 
@@ -23,6 +24,15 @@ pub enum SliceEnd {
     /// The next step asks for a byte that isn't there yet.
     WantsInput,
     /// Memory was refused. The session is lost.
+    Memory,
+}
+
+/// Why bytes were not added to an input.
+#[derive(Clone, Copy, Debug, PartialEq, Eq)]
+pub enum FeedFault {
+    /// It was told that the input ends.
+    Closed,
+    /// Memory was refused.
     Memory,
 }
 
@@ -106,13 +116,20 @@ impl<'a> Session<'a> {
         end_of(stop.outcome)
     }
 
-    /// Adds bytes to the input; none where memory is refused.
-    pub fn feed(&mut self, bytes: &[u8]) -> Result<(), AllocError>
-        requires { self.old.is_closed ≡ false }
-        ensures fed { OnOk result (self.new ≡ record self.old { unread = self.old.unread ++ bytes.now }) }
+    /// Adds bytes to the input; none where it is closed, or memory is refused.
+    pub fn feed(&mut self, bytes: &[u8]) -> Result<(), FeedFault>
+        ensures fed { OnOk result ((self.old.is_closed ≡ false)
+            × (self.new ≡ record self.old { unread = self.old.unread ++ bytes.now })) }
         ensures unchanged { OnErr result (self.new ≡ self.old) }
+        ensures closed { IfErr result (λ fault. fault ≡ Closed → self.old.is_closed ≡ true) }
     {
-        self.input.add(bytes)
+        if self.input.is_closed() {
+            return Err(FeedFault::Closed);
+        }
+        match self.input.add(bytes) {
+            Ok(()) => Ok(()),
+            Err(_) => Err(FeedFault::Memory),
+        }
     }
 
     /// Tells that the input ends after the bytes that were fed.

@@ -1,0 +1,50 @@
+use bhost::Host;
+use bhost::calls::{Whereabouts, begin, close, end, feed, go_on, load, look, read, store, take, unload};
+use btools::Origin;
+use bword::Edition;
+use std::test::Fail;
+
+// Writes each character but one, until the input ends.
+const SOURCE: &[u8] =
+    b"n; main() { extrn n; auto c; while((c = getchar()) != '*e') { n++; putchar(c + 1); } exit(n); }";
+
+#[test]
+fn a_program_is_held_with_its_session(rt: HostRuntime) -> Result<(), Fail> {
+    let alloc = rt.alloc();
+    let mut host = Host::none();
+    assert_eq!(rt; load(alloc, b"main() {", Origin::Source(Edition::One), &mut host), 1);
+    assert_eq!(rt; load(alloc, SOURCE, Origin::Source(Edition::One), &mut host), 0);
+    assert_eq!(rt; begin(alloc, &mut host), 0);
+    let mut value = 7;
+    assert_eq!(rt; go_on(alloc, &mut host, 1, &mut value), 131);
+    assert_eq!(rt; go_on(alloc, &mut host, 1000, &mut value), 133);
+    assert_eq!(rt; feed(alloc, &mut host, b"HAL"), 0);
+    assert_eq!(rt; go_on(alloc, &mut host, 1000, &mut value), 133);
+    let mut room = [0; 2];
+    let mut count = 0;
+    assert_eq!(rt; take(alloc, &mut host, &mut room, &mut count), 0);
+    assert!(rt; count == 2 && room == *b"IB");
+    assert_eq!(rt; take(alloc, &mut host, &mut room, &mut count), 0);
+    assert!(rt; count == 1 && room == *b"MB");
+    let mut word = 0;
+    assert_eq!(rt; read(alloc, &mut host, 7, &mut word), 0);
+    assert_eq!(rt; word, 3);
+    assert_eq!(rt; store(alloc, &mut host, 7, 9), 0);
+    let mut there = Whereabouts {
+        function: 0,
+        place: 0,
+        callers: 9,
+        steps: 0,
+    };
+    assert_eq!(rt; look(alloc, &mut host, &mut there), 0);
+    assert!(rt; there.callers == 0 && there.steps > 3);
+    assert_eq!(rt; close(alloc, &mut host), 0);
+    assert_eq!(rt; feed(alloc, &mut host, b"x"), 135);
+    assert_eq!(rt; go_on(alloc, &mut host, 1000, &mut value), 0);
+    assert_eq!(rt; value, 9);
+    assert_eq!(rt; end(alloc, &mut host), 0);
+    assert_eq!(rt; begin(alloc, &mut host), 0);
+    assert_eq!(rt; end(alloc, &mut host), 0);
+    unload(alloc, &mut host);
+    Ok(())
+}

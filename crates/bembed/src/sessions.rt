@@ -1,0 +1,170 @@
+//! Sessions: programs that stay in memory, and their runs, in slices.
+ghost use Rattle.std.specs.Prelude.{◌≡◌, ◌≤◌, ⊤, IsSome, None, [], drop, length, take};
+ghost use Rattle.bhost.specs.Statuses.{Answers, answer_callers, answer_function, answer_place, answer_steps, answer_value, answer_word};
+ghost use Rattle.bhost.specs.declared.desk.Deed.TheVariants as deed;
+ghost use Rattle.bembed.specs.Calls.{edition_of};
+ghost use Rattle.bembed.specs.Sessions.{LoadsCode, LoadsSource};
+
+use crate::calls::edition_of;
+use bhost::Host;
+use bhost::calls::{
+    Whereabouts, begin, close, end, feed, go_on, load, look, read, store, take, unload,
+};
+use blang::status;
+use btools::{CodeText, Origin};
+use std::alloc::Global;
+
+/// Compiles a source, and puts its program in memory.
+#[unsafe(no_mangle)]
+pub extern "C" fn b_load(alloc: Global, source: &[u8], edition: u8, session: &mut Host) -> u8
+    requires { session.old.read ≡ None }
+    ensures { LoadsSource (edition_of edition) source.now session.new.run session.new.read result }
+{
+    match edition_of(edition) {
+        Some(edition) => load(alloc, source, Origin::Source(edition), session),
+        None => {
+            *session = Host::none();
+            status::WRONG_COMMAND
+        }
+    }
+}
+
+/// Reads a code text, and puts its program in memory.
+#[unsafe(no_mangle)]
+pub extern "C" fn b_load_code(alloc: Global, code: &[u8], session: &mut Host) -> u8
+    requires { session.old.read ≡ None }
+    ensures { LoadsCode code.now session.new.run session.new.read result }
+{
+    load(
+        alloc,
+        b"",
+        Origin::Code(CodeText {
+            code,
+            lines: None,
+            names: None,
+        }),
+        session,
+    )
+}
+
+/// Begins a run of the program.
+#[unsafe(no_mangle)]
+pub extern "C" fn b_begin(alloc: Global, session: &mut Host) -> u8
+    requires program { IsSome session.old.read }
+    requires no_run { session.old.run ≡ None }
+    ensures program { session.new.read ≡ session.old.read }
+    ensures begins { Answers deed.Begin [] session.old.read session.old.run session.new.run result (λ _ _. ⊤) }
+{
+    begin(alloc, session)
+}
+
+/// Makes so many steps at most.
+#[unsafe(no_mangle)]
+pub extern "C" fn b_continue(alloc: Global, session: &mut Host, steps: u64, value: &mut u8) -> u8
+    requires program { IsSome session.old.read }
+    requires run { IsSome session.old.run }
+    ensures program { session.new.read ≡ session.old.read }
+    ensures goes { Answers (deed.Continue steps) [] session.old.read session.old.run session.new.run result
+        (λ _ told. value.new ≡ answer_value told) }
+{
+    go_on(alloc, session, steps, value)
+}
+
+/// Adds bytes to the input.
+#[unsafe(no_mangle)]
+pub extern "C" fn b_feed(alloc: Global, session: &mut Host, bytes: &[u8]) -> u8
+    requires program { IsSome session.old.read }
+    requires run { IsSome session.old.run }
+    ensures program { session.new.read ≡ session.old.read }
+    ensures feeds { Answers deed.Feed bytes.now session.old.read session.old.run session.new.run result (λ _ _. ⊤) }
+{
+    feed(alloc, session, bytes)
+}
+
+/// Tells that no more input comes.
+#[unsafe(no_mangle)]
+pub extern "C" fn b_close_input(alloc: Global, session: &mut Host) -> u8
+    requires program { IsSome session.old.read }
+    requires run { IsSome session.old.run }
+    ensures program { session.new.read ≡ session.old.read }
+    ensures closes { Answers deed.Close [] session.old.read session.old.run session.new.run result (λ _ _. ⊤) }
+{
+    close(alloc, session)
+}
+
+/// Takes as much of the output as there is room for.
+#[unsafe(no_mangle)]
+pub extern "C" fn b_output(
+    alloc: Global,
+    session: &mut Host,
+    room: &mut [u8],
+    count: &mut usize,
+) -> u8
+    requires program { IsSome session.old.read }
+    requires run { IsSome session.old.run }
+    ensures program { session.new.read ≡ session.old.read }
+    ensures takes { Answers (deed.Take (length room.old)) [] session.old.read session.old.run session.new.run result
+        (λ after _. take count.new room.new ≡ take (length room.old) after) }
+    ensures kept { drop count.new room.new ≡ drop count.new room.old }
+    ensures within { count.new ≤ length room.old }
+{
+    take(alloc, session, room, count)
+}
+
+/// Tells where the run stands.
+#[unsafe(no_mangle)]
+pub extern "C" fn b_place(alloc: Global, session: &mut Host, there: &mut Whereabouts) -> u8
+    requires program { IsSome session.old.read }
+    requires run { IsSome session.old.run }
+    ensures program { session.new.read ≡ session.old.read }
+    ensures looks { Answers deed.Look [] session.old.read session.old.run session.new.run result
+        (λ _ told. (there.new.function ≡ answer_function told) × (there.new.place ≡ answer_place told)
+        × (there.new.callers ≡ answer_callers told) × (there.new.steps ≡ answer_steps told)) }
+{
+    look(alloc, session, there)
+}
+
+/// Tells the word at an address.
+#[unsafe(no_mangle)]
+pub extern "C" fn b_word(alloc: Global, session: &mut Host, address: u16, word: &mut u16) -> u8
+    requires program { IsSome session.old.read }
+    requires run { IsSome session.old.run }
+    ensures program { session.new.read ≡ session.old.read }
+    ensures reads { Answers (deed.Read address) [] session.old.read session.old.run session.new.run result
+        (λ _ told. word.new ≡ answer_word told) }
+{
+    read(alloc, session, address, word)
+}
+
+/// Stores a word.
+#[unsafe(no_mangle)]
+pub extern "C" fn b_set_word(alloc: Global, session: &mut Host, address: u16, word: u16) -> u8
+    requires program { IsSome session.old.read }
+    requires run { IsSome session.old.run }
+    ensures program { session.new.read ≡ session.old.read }
+    ensures stores { Answers (deed.Store address word) [] session.old.read session.old.run session.new.run result (λ _ _. ⊤) }
+{
+    store(alloc, session, address, word)
+}
+
+/// Gives the run up.
+#[unsafe(no_mangle)]
+pub extern "C" fn b_end(alloc: Global, session: &mut Host) -> u8
+    requires program { IsSome session.old.read }
+    requires run { IsSome session.old.run }
+    ensures program { session.new.read ≡ session.old.read }
+    ensures ends { Answers deed.End [] session.old.read session.old.run session.new.run result (λ _ _. ⊤) }
+{
+    end(alloc, session)
+}
+
+/// Lets go of the program.
+#[unsafe(no_mangle)]
+pub extern "C" fn b_unload(alloc: Global, session: &mut Host)
+    requires program { IsSome session.old.read }
+    requires no_run { session.old.run ≡ None }
+    ensures no_program { session.new.read ≡ None }
+    ensures no_run { session.new.run ≡ None }
+{
+    unload(alloc, session)
+}

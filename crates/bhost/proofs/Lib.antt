@@ -1,0 +1,3 @@
+pub mod Hosting
+pub mod Refusing
+pub mod Boxes

@@ -1,0 +1,5 @@
+pub mod Places
+pub mod Hosts
+pub mod Deeds
+pub mod Statuses
+mod HostRows

@@ -1,0 +1,101 @@
+-- Promise: what each call of a session tells.
+use Rattle.std.specs.Prelude.{◌≡◌, ℕ, List, Option, None, MatchOption}
+use Rattle.blang.specs.declared.run.Outcome.TheVariants as outcome
+use Rattle.blang.specs.declared.run.Trap.{Trap}
+use Rattle.blang.specs.declared.run.Trap.TheVariants as trap
+use Rattle.blang.specs.declared.run.Outcome.{Outcome}
+use Rattle.blang.specs.declared.status.TheConstants.{DEVICE, DONE, FAULT, LIMIT, MEMORY, REFUSED, TRAP, WRONG_COMMAND}
+use Rattle.bsession.specs.Sessions.{SessionView}
+use Rattle.bsession.specs.declared.session.SliceEnd.{SliceEnd}
+use Rattle.bsession.specs.declared.session.SliceEnd.TheVariants as end
+use Rattle.btools.specs.Origins.{HasNoProgramOf, IsProgramOf, Origin}
+use Rattle.btools.specs.declared.program.ProgramFault.{ProgramFault}
+use Rattle.btools.specs.declared.program.ProgramFault.TheVariants as fault
+use Rattle.bhost.specs.Deeds.{Acts}
+use Rattle.bhost.specs.Hosts.{ProgramValue}
+use Rattle.bhost.specs.declared.desk.Answer.{Answer}
+use Rattle.bhost.specs.declared.desk.Answer.TheVariants as answer
+use Rattle.bhost.specs.declared.desk.Deed.{Deed}
+
+-- the status of a program that could not be read
+abbrev pub fault_status : ProgramFault → ℕ
+fault_status (fault.Faulty d) = FAULT
+fault_status (fault.Unread line) = REFUSED
+fault_status (fault.Unlined count) = WRONG_COMMAND
+fault_status (fault.Unnamed line wanted) = WRONG_COMMAND
+fault_status (fault.Unloaded f) = REFUSED
+fault_status fault.Memory = MEMORY
+
+-- A program is in memory now, or none, and the status tells why.
+abbrev pub Loads : Origin → (source : List ℕ) → (run : Option SessionView) → (read : Option ProgramValue) → (status : ℕ)
+    → Type 0
+Loads origin source run read status = (run ≡ None) × MatchOption read
+    ((why : ProgramFault) × HasNoProgramOf origin source why × (status ≡ fault_status why))
+    (λ program. IsProgramOf origin source program × (status ≡ DONE))
+
+-- the number of a trap
+abbrev pub trap_number : Trap → ℕ
+trap_number trap.ZeroDivisor = 1
+trap_number trap.NotAFunction = 2
+trap_number trap.NotALabel = 3
+trap_number trap.NoRoom = 4
+trap_number trap.TooDeep = 5
+trap_number trap.BadBase = 6
+trap_number trap.Stuck = 7
+
+-- the status of a slice, and beside it that of the program which has halted, or the number of a trap
+abbrev pub end_status : SliceEnd → ℕ
+end_status (end.Halted status) = DONE
+end_status (end.Trapped kind) = TRAP
+end_status end.Limit = LIMIT
+end_status end.WantsInput = DEVICE
+end_status end.Memory = MEMORY
+
+abbrev pub end_value : SliceEnd → ℕ
+end_value (end.Halted status) = status
+end_value (end.Trapped kind) = trap_number kind
+end_value other = 0
+
+-- the status where a run hasn't begun
+abbrev pub begin_status : Outcome → ℕ
+begin_status outcome.Memory = MEMORY
+begin_status other = TRAP
+
+abbrev pub answer_status : Answer → ℕ
+answer_status answer.Done = DONE
+answer_status (answer.Ended why) = end_status why
+answer_status (answer.Unbegun why) = begin_status why
+answer_status answer.Closed = WRONG_COMMAND
+answer_status answer.Refused = MEMORY
+answer_status (answer.Stands there) = DONE
+answer_status (answer.Word word) = DONE
+
+abbrev pub answer_value : Answer → ℕ
+answer_value (answer.Ended why) = end_value why
+answer_value other = 0
+
+abbrev pub answer_word : Answer → ℕ
+answer_word (answer.Word word) = word
+answer_word other = 0
+
+abbrev pub answer_function : Answer → ℕ
+answer_function (answer.Stands there) = there.strings
+answer_function other = 0
+
+abbrev pub answer_place : Answer → ℕ
+answer_place (answer.Stands there) = there.place
+answer_place other = 0
+
+abbrev pub answer_callers : Answer → ℕ
+answer_callers (answer.Stands there) = there.callers
+answer_callers other = 0
+
+abbrev pub answer_steps : Answer → ℕ
+answer_steps (answer.Stands there) = there.steps
+answer_steps other = 0
+
+-- A deed with these bytes is done, and the status tells its answer. `P` holds of the bytes after it, and of the answer.
+abbrev pub Answers : Deed → (bytes : List ℕ) → Option ProgramValue → (old new : Option SessionView) → (status : ℕ)
+    → (List ℕ → Answer → Type 0) → Type 0
+Answers deed bytes program old new status P =
+    (after : List ℕ) × (told : Answer) × Acts deed bytes program old new after told × (status ≡ answer_status told) × P after told

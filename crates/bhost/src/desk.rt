@@ -1,0 +1,67 @@
+//! What is asked of a session, and what it answers.
+use blang::Outcome;
+use bsession::SliceEnd;
+use std::alloc::Global;
+
+/// What is done with a session.
+#[derive(Clone, Copy)]
+pub enum Deed {
+    /// A run begins, in place of the one before.
+    Begin,
+    /// So many steps are made at most.
+    Continue(u64),
+    /// The bytes on the desk come after those that were fed.
+    Feed,
+    /// No more bytes come.
+    Close,
+    /// So many bytes of the output are taken at most, and put on the desk.
+    Take(usize),
+    /// It is told where the run stands.
+    Look,
+    /// The word at an address is told.
+    Read(u16),
+    /// A word is stored at an address.
+    Store(u16, u16),
+    /// The run is given up.
+    End,
+}
+
+/// Where a run stands.
+#[derive(Clone, Copy)]
+pub struct Standing {
+    /// The address of the first string word of the running function.
+    pub strings: u32,
+    /// The place of its next instruction.
+    pub place: usize,
+    /// How many calls are below the running one.
+    pub callers: usize,
+    /// How many steps were made.
+    pub steps: u64,
+}
+
+/// What a session answers.
+#[derive(Clone, Copy)]
+pub enum Answer {
+    Done,
+    /// A slice has ended.
+    Ended(SliceEnd),
+    /// A run hasn't begun.
+    Unbegun(Outcome),
+    /// The input was closed.
+    Closed,
+    /// Memory was refused, and nothing was done; or it was refused before, and the session is lost.
+    Refused,
+    /// The run stands there.
+    Stands(Standing),
+    /// This word is there.
+    Word(u16),
+}
+
+/// What goes to a session and comes back.
+#[derive(Drop)]
+pub struct Desk {
+    pub alloc: Global,
+    pub deed: Deed,
+    pub bytes: Vec<u8>,
+    pub answer: Answer,
+}

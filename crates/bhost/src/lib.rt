@@ -1,0 +1,11 @@
+//! A session together with its program, for callers that know no lifetimes.
+#![tactic(auto)]
+
+mod acting;
+pub mod calls;
+mod desk;
+mod host;
+mod place;
+
+pub use desk::{Answer, Deed, Desk, Standing};
+pub use host::Host;

@@ -1,0 +1,162 @@
+/* Sessions of B, for programs in C: a program that stays in memory, and its run, in slices, between which its input is
+ * fed, its output is taken, and its words can be seen.
+ *
+ *     struct b_session session = B_NO_SESSION;
+ *     if (b_load(source, size, 1, &session) == B_DONE && b_start(&session, input, input_size) == B_DONE)
+ *         while (b_continue(&session, 1000, &value) == B_LIMIT) { .. }
+ *     b_free(&session);
+ *
+ * However a run is cut into slices, it is the same run. Beside what b.h says, the caller sees to this:
+ * - A session is B_NO_SESSION at first. Of its two pointers only the calls write one; a copy of it isn't used.
+ * - b_load and b_load_code get one without a program, b_begin one with a program and without a run, b_unload the same.
+ *   All else gets one with a run. Its pointers tell: without a program or a run it is null. b_start and b_free look.
+ * - Threads may each have sessions of their own. A session is in one call at a time.
+ * - b_free comes last, or the memory of the session stays. */
+#ifndef B_SESSION_H
+#define B_SESSION_H
+
+#include "b.h"
+
+#ifdef __cplusplus
+extern "C" {
+#endif
+
+struct b_session {
+    void *run;
+    void *program;
+};
+
+#define B_NO_SESSION {0, 0}
+
+/* Where a run stands: its function, by the address of its first string word, the place of its next instruction, how
+ * many calls are below, and how many steps were made. After the end of a run it is the call that ran before the last
+ * step. */
+struct b_place {
+    uint32_t function;
+    size_t place;
+    size_t callers;
+    uint64_t steps;
+};
+
+/* The traps by their numbers, from 1, as the lines of `b` name them. */
+static const char b_traps[8][3] = {"", "dz", "fn", "gt", "st", "dp", "bs", "sk"};
+
+/* Compiles a source of edition 1 or 2, or reads a code text of either edition, and puts the program in memory. The
+ * status is B_DONE; B_FAULT or B_REFUSED, where b_compile or b_run has the line; B_NO_MEMORY; or B_WRONG_EDITION.
+ * Unless it is B_DONE there is no program. */
+uint8_t b_load(const uint8_t *source, size_t source_size, uint8_t edition, struct b_session *session);
+uint8_t b_load_code(const uint8_t *code, size_t code_size, struct b_session *session);
+
+/* Begins a run, with no input yet. The status is B_DONE; B_TRAP where there is no function `main` to begin with; or
+ * B_NO_MEMORY. Unless it is B_DONE there is no run. */
+uint8_t b_begin(struct b_session *session);
+
+/* Makes so many steps at most, and tells why it ends:
+ *   B_DONE       the program has halted, and `value` is its status;
+ *   B_TRAP       a trap has ended it, and `value` is its number;
+ *   B_LIMIT      all steps were made;
+ *   B_FAILED     the next step asks for a byte that isn't there yet: feed it, or close the input;
+ *   B_NO_MEMORY  memory was refused, and the run is lost.
+ * A run that is over tells its end again. */
+uint8_t b_continue(struct b_session *session, uint64_t steps, uint8_t *value);
+
+/* Adds bytes to the input; none with B_NO_MEMORY, and with B_WRONG_EDITION where the input was closed. */
+uint8_t b_feed(struct b_session *session, const uint8_t *bytes, size_t size);
+
+/* Tells that no more input comes. */
+uint8_t b_close_input(struct b_session *session);
+
+/* Takes as much of the output as there is room for, and tells how much. None was taken with B_NO_MEMORY. */
+uint8_t b_output(struct b_session *session, uint8_t *room, size_t room_size, size_t *count);
+
+/* Tells where the run stands; B_NO_MEMORY where it is lost. */
+uint8_t b_place(struct b_session *session, struct b_place *place);
+
+/* Tells the word at an address, or stores one; B_NO_MEMORY where the run is lost, or memory is refused. */
+uint8_t b_word(struct b_session *session, uint16_t address, uint16_t *word);
+uint8_t b_set_word(struct b_session *session, uint16_t address, uint16_t word);
+
+/* Gives a run up, and lets go of a program. */
+uint8_t b_end(struct b_session *session);
+void b_unload(struct b_session *session);
+
+/* Begins a run anew, with this much of its input. */
+static inline uint8_t b_start(struct b_session *session, const uint8_t *input, size_t size) {
+    uint8_t status;
+    if (session->program == 0)
+        return B_REFUSED;
+    if (session->run != 0)
+        b_end(session);
+    status = b_begin(session);
+    return status != B_DONE || size == 0 ? status : b_feed(session, input, size);
+}
+
+/* Gives all of a session back, whatever it has. */
+static inline void b_free(struct b_session *session) {
+    if (session->run != 0)
+        b_end(session);
+    if (session->program != 0)
+        b_unload(session);
+}
+
+/* What a run asks its caller. `read` puts at most so many bytes into the room and tells how many; 0 is the end of the
+ * input. `write` gets what the program has written. `goes_on` is asked between two slices; the run stops at 0. Each may
+ * be null: then there is no input, the output is dropped, and the run goes on. */
+struct b_talk {
+    size_t (*read)(void *own, uint8_t *room, size_t size);
+    void (*write)(void *own, const uint8_t *bytes, size_t size);
+    int (*goes_on)(void *own);
+    void *own;
+};
+
+/* Hands the output to `write`. */
+static inline uint8_t b_write_out(struct b_session *session, const struct b_talk *talk) {
+    uint8_t room[4096];
+    size_t count;
+    do {
+        uint8_t status = b_output(session, room, sizeof room, &count);
+        if (status != B_DONE)
+            return status;
+        if (count > 0 && talk->write != 0)
+            talk->write(talk->own, room, count);
+    } while (count == sizeof room);
+    return B_DONE;
+}
+
+/* Reads what a run asks for, and feeds it. */
+static inline uint8_t b_read_in(struct b_session *session, const struct b_talk *talk) {
+    uint8_t room[4096];
+    size_t count = talk->read != 0 ? talk->read(talk->own, room, sizeof room) : 0;
+    return count > 0 ? b_feed(session, room, count) : b_close_input(session);
+}
+
+/* Runs on to the end, or for so many steps at most, in slices of so many steps. It answers as b_continue does, and
+ * B_LIMIT also where `goes_on` told to stop. */
+static inline uint8_t b_talk_on(struct b_session *session, const struct b_talk *talk, uint64_t steps, uint64_t slice,
+                                uint8_t *value) {
+    struct b_place before, after;
+    uint8_t status = B_LIMIT;
+    while (status == B_LIMIT && steps > 0) {
+        uint8_t told = b_place(session, &before);
+        if (told != B_DONE || (talk->goes_on != 0 && !talk->goes_on(talk->own)))
+            return told != B_DONE ? told : B_LIMIT;
+        status = b_continue(session, slice < steps ? slice : steps, value);
+        told = b_write_out(session, talk);
+        if (status == B_FAILED && told == B_DONE) {
+            told = b_read_in(session, talk);
+            status = B_LIMIT;
+        }
+        if (told == B_DONE)
+            told = b_place(session, &after);
+        if (told != B_DONE)
+            return told;
+        steps -= after.steps - before.steps;
+    }
+    return status;
+}
+
+#ifdef __cplusplus
+}
+#endif
+
+#endif
