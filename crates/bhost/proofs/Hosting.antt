@@ -23,7 +23,7 @@ use Rattle.std_heap.specs.contracts.Global as Heap
 use Rattle.std_heap.specs.declared.Global.{Global}
 use Rattle.std_heap.specs.contracts.GlobalAllocator.TheImpl.{ghosts, dict}
 use Rattle.std_heap.proofs.Global.TheLaws as heap
-use Rattle.libc.specs.Heap.{chunk}
+use Rattle.bhost.specs.Blocks.{chunk}
 use Rattle.bhost.specs.Places.{placed_owns}
 use Rattle.bhost.specs.Hosts.{ProgramValue, for_life, lends_for}
 use Rattle.bhost.specs.contracts.place.Place as place

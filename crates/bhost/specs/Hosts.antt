@@ -10,7 +10,7 @@ use denote.RattleType.{RattleType}
 use denote.RawPtr.{Ptr, lies_at}
 use denote.Struct.Lending.{lent_at}
 use Rattle.std.specs.Coded.{coded_option}
-use Rattle.libc.specs.Heap.{chunk}
+use Rattle.bhost.specs.Blocks.{chunk}
 use Rattle.bsession.specs.contracts.session.Session as Session
 use Rattle.btools.specs.contracts.program.Program as Program
 use Rattle.bhost.specs.Places.{placed_owns}

@@ -1,3 +1,4 @@
+pub mod Blocks
 pub mod Places
 pub mod Hosts
 pub mod Deeds

@@ -25,7 +25,7 @@ use denote.Triple.Walked.{Stays, stay_dropped, walk_of, ends_at, Goes-dropped}
 use Rattle.core.specs.declared.option.Option.{Option}
 use Rattle.core.specs.declared.option.Option.TheVariants.{Some, None}
 use Rattle.std.proofs.raw_atomic.Walks.{proved_at}
-use Rattle.libc.specs.Heap.{chunk}
+use Rattle.bhost.specs.Blocks.{chunk}
 use Rattle.bhost.specs.Places.{placed_owns}
 use Rattle.btools.specs.contracts.program.Program as Program
 use Rattle.bhost.specs.contracts.host.Host as host

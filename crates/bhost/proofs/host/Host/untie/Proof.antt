@@ -22,7 +22,7 @@ use Rattle.core.specs.declared.option.Option.{Option}
 use Rattle.core.specs.declared.option.Option.TheVariants.{Some, None}
 use Rattle.std.proofs.raw_atomic.Walks.{proved_at}
 use Rattle.std_heap.specs.contracts.Global as Heap
-use Rattle.libc.specs.Heap.{chunk}
+use Rattle.bhost.specs.Blocks.{chunk}
 use Rattle.bhost.specs.Places.{placed_owns}
 use Rattle.bhost.specs.Hosts.{ProgramValue}
 use Rattle.btools.specs.contracts.program.Program as Program
