@@ -1,5 +1,7 @@
 use bhost::Host;
-use bhost::calls::{Whereabouts, begin, close, end, feed, go_on, load, look, read, store, take, unload};
+use bhost::calls::{
+    Whereabouts, begin, close, end, feed, go_on, load, look, read, store, take, unload,
+};
 use btools::Origin;
 use bword::Edition;
 use std::test::Fail;
@@ -12,8 +14,14 @@ const SOURCE: &[u8] =
 fn a_program_is_held_with_its_session(rt: HostRuntime) -> Result<(), Fail> {
     let alloc = rt.alloc();
     let mut host = Host::none();
-    assert_eq!(rt; load(alloc, b"main() {", Origin::Source(Edition::One), &mut host), 1);
-    assert_eq!(rt; load(alloc, SOURCE, Origin::Source(Edition::One), &mut host), 0);
+    assert_eq!(rt;
+        load(alloc, b"main() {", Origin::Source(Edition::One), &mut host),
+        1
+    );
+    assert_eq!(rt;
+        load(alloc, SOURCE, Origin::Source(Edition::One), &mut host),
+        0
+    );
     assert_eq!(rt; begin(alloc, &mut host), 0);
     let mut value = 7;
     assert_eq!(rt; go_on(alloc, &mut host, 1, &mut value), 131);

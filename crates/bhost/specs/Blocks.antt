@@ -6,4 +6,4 @@ use Rattle.std_heap.specs.contracts.GlobalAllocator.TheImpl.{ghosts}
 
 -- what the allocator asks for of who frees a block, whose handle it doesn't look at
 abbrev pub chunk : Ty → Ptr → Fml
-chunk σ p = ghosts.dealloc_token (record { memory = record { seal = record { } } }) σ p
+chunk σ p = ghosts.dealloc_token (record { memory = record { seal = record {} } }) σ p
