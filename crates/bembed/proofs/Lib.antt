@@ -1,3 +1,5 @@
 mod Filling
+mod Following
+mod Over
 pub mod RoomSteps
 pub mod RoomsExcluded
