@@ -108,7 +108,8 @@ warning_codes : map warning_code (
     warning.DigitForCharacter ∷ warning.FallsIntoCase ∷ warning.FormValues ∷ warning.TwoIndices ∷
     warning.AssignsNot ∷ warning.ProductTooLarge ∷ warning.NumberPut ∷ warning.AddressesCompared ∷
     warning.ValueForAddress ∷ warning.CharacterCounted ∷ warning.SlashEscape ∷ warning.WordCalled ∷
-    warning.SomeReturn ∷ []
+    warning.SomeReturn ∷ warning.QuotientCut ∷ warning.FirstTurnOnly ∷ warning.StringMoved ∷
+    warning.TestedBefore ∷ warning.OnlyInIf ∷ warning.IndexKept ∷ warning.OwnResultDropped ∷ []
     ) ≡ codes "*/" ∷ codes "and" ∷ codes "and" ∷ codes "op" ∷ codes "if" ∷ codes "if" ∷ codes "if" ∷ codes "em" ∷
     codes "em" ∷ codes "ix" ∷ codes "ix" ∷ codes "ix" ∷ codes "ix" ∷ codes "ix" ∷ codes "ix" ∷ codes "sg" ∷
     codes "en" ∷ codes "en" ∷ codes "en" ∷ codes "st" ∷ codes "st" ∷ codes "st" ∷ codes "st" ∷ codes "no" ∷
@@ -121,7 +122,7 @@ warning_codes : map warning_code (
     codes "tr" ∷ codes "ix" ∷ codes "ix" ∷ codes "lp" ∷ codes "lp" ∷ codes "lp" ∷ codes "en" ∷ codes "lp" ∷
     codes "no" ∷ codes "st" ∷ codes "us" ∷ codes "no" ∷ codes "en" ∷ codes "sw" ∷ codes "ar" ∷ codes "ix" ∷
     codes "tr" ∷ codes "nu" ∷ codes "st" ∷ codes "st" ∷ codes "ar" ∷ codes "en" ∷ codes "es" ∷ codes "hi" ∷
-    codes "rt" ∷ []
+    codes "rt" ∷ codes "di" ∷ codes "no" ∷ codes "st" ∷ codes "no" ∷ codes "lp" ∷ codes "ix" ∷ codes "no" ∷ []
 warning_codes = refl
 
 -- the line and the column of a place after a text

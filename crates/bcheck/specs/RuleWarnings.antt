@@ -106,6 +106,13 @@ warning_code warning.CharacterCounted = codes "en"
 warning_code warning.SlashEscape = codes "es"
 warning_code warning.WordCalled = codes "hi"
 warning_code warning.SomeReturn = codes "rt"
+warning_code warning.QuotientCut = codes "di"
+warning_code warning.FirstTurnOnly = codes "no"
+warning_code warning.StringMoved = codes "st"
+warning_code warning.TestedBefore = codes "no"
+warning_code warning.OnlyInIf = codes "lp"
+warning_code warning.IndexKept = codes "ix"
+warning_code warning.OwnResultDropped = codes "no"
 
 -- codes that tokens and rules alone give
 abbrev pub IsOfTokens : List ℕ → Type 0

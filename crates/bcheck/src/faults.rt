@@ -322,7 +322,7 @@ fn related(
     let token = match syntax {
         Syntax::BraceOpen => open_brace(source, spans, extent, around.token)?,
         Syntax::FunctionInside => open_brace(source, spans, extent, around.first)?,
-        Syntax::ParenOpen | Syntax::ElseInBraces => around.opener?,
+        Syntax::ParenOpen | Syntax::OtherBracket | Syntax::ElseInBraces => around.opener?,
         Syntax::SemicolonMissing => around.token.wrapping_sub(1),
         _ => return None,
     };

@@ -22,7 +22,9 @@ pub(crate) fn of_numbers(
     let token = site.token;
     match warning {
         Warning::OctalNumber => decimal(draft, token),
-        Warning::DividesFirst | Warning::ZeroQuotient => multiplied_first(draft, token),
+        Warning::DividesFirst | Warning::ZeroQuotient | Warning::QuotientCut => {
+            multiplied_first(draft, token)
+        }
         Warning::AlwaysTrue => all_signs(draft, token, BinOp::Or, b"&"),
         Warning::NeverTrue => all_signs(draft, token, BinOp::And, b"|"),
         Warning::LoopPastVector => below(draft, finding),

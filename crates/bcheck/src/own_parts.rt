@@ -21,6 +21,13 @@ pub(crate) fn own_fix(
         (Matter::Syntax(Syntax::For), _, _) => loop_of_header(alloc, rest),
         (Matter::Syntax(Syntax::ForEach), _, _) => loop_of_range(alloc, rest),
         (Matter::Warning(Warning::Unset), _, _) => product(alloc, rest, finding.place.len),
+        (Matter::Warning(Warning::QuotientCut), _, _) => quotient(
+            alloc,
+            source,
+            finding.place.start,
+        ),
+        (Matter::Warning(Warning::ResultDropped), _, _) => kept(alloc, rest),
+        (Matter::Warning(Warning::StoredBack), _, _) => swapped(alloc, rest),
         (Matter::Syntax(Syntax::BraceOpen | Syntax::FunctionInside), Some(brace), Some(line)) =>
             after_line(alloc, source, brace, line),
         _ => Ok(None),
@@ -37,6 +44,126 @@ fn product(alloc: Global, rest: &[u8], len: usize) -> Result<Option<Text>, Alloc
     text.push(b"set it first: ")?;
     text.push(up_to(rest, len))?;
     text.push(b" = 1; for a product")?;
+    Ok(Some(text))
+}
+
+// What a quotient of two numbers is, whose sign is at this place.
+fn quotient(alloc: Global, source: &[u8], sign: usize) -> Result<Option<Text>, AllocError> {
+    let line = source.get(line_start(source, sign)..sign).unwrap_or(&[]);
+    let dividend = digits_at_end(trimmed(line));
+    let divisor = digits(trimmed(source.get(sign.saturating_add(1)..).unwrap_or(&[])));
+    let (Some(one), Some(other)) = (value_of(dividend), value_of(divisor)) else {
+        return Ok(None);
+    };
+    if other == 0 {
+        return Ok(None);
+    }
+    let mut text = Text::new(alloc);
+    for part in [dividend, b" / ", divisor, b" is "] {
+        text.push(part)?;
+    }
+    text.push_number(one / other)?;
+    for part in [b", so multiply first: ", dividend, b" * x / ", divisor] {
+        text.push(part)?;
+    }
+    Ok(Some(text))
+}
+
+// The value of a decimal number.
+fn value_of(digits: &[u8]) -> Option<u64> {
+    if digits.first() == Some(&b'0') || digits.is_empty() {
+        return None;
+    }
+    let mut value: u64 = 0;
+    for digit in digits {
+        let number = u64::from(digit.saturating_sub(b'0'));
+        value = value.checked_mul(10)?.checked_add(number)?;
+    }
+    Some(value)
+}
+
+// The digits with which bytes begin, and those with which they end.
+fn digits(bytes: &[u8]) -> &[u8] {
+    for end in 0..bytes.len() {
+        if !matches!(bytes.get(end), Some(b'0'..=b'9')) {
+            return bytes.get(..end).unwrap_or(&[]);
+        }
+    }
+    bytes
+}
+
+fn digits_at_end(bytes: &[u8]) -> &[u8] {
+    for count in 0..bytes.len() {
+        let first = bytes.len().saturating_sub(count);
+        if !matches!(bytes.get(first.saturating_sub(1)), Some(b'0'..=b'9')) {
+            return bytes.get(first..).unwrap_or(&[]);
+        }
+    }
+    bytes
+}
+
+// An assignment of what a call gives, to the name that is its first argument.
+fn kept(alloc: Global, rest: &[u8]) -> Result<Option<Text>, AllocError> {
+    let (Some(opener), Some(arguments)) = (place_of_opener(rest), in_parentheses(rest)) else {
+        return Ok(None);
+    };
+    let first = match place_of(arguments, b',') {
+        Some(comma) => up_to(arguments, comma),
+        None => trimmed(arguments),
+    };
+    if Name::from_bytes(first).is_none() {
+        return Ok(None);
+    }
+    let mut text = Text::new(alloc);
+    for part in [
+        first,
+        b" = ",
+        up_to(rest, opener),
+        b"(",
+        arguments,
+        b"); keeps it",
+    ] {
+        text.push(part)?;
+    }
+    Ok(Some(text))
+}
+
+fn place_of_opener(rest: &[u8]) -> Option<usize> {
+    for index in 0..rest.len() {
+        if rest.get(index) == Some(&b'(') {
+            return Some(index);
+        }
+    }
+    None
+}
+
+// How two characters of a string are swapped, of which the second one is stored by this call.
+fn swapped(alloc: Global, rest: &[u8]) -> Result<Option<Text>, AllocError> {
+    if rest.get(..5) != Some(b"lchar") {
+        return Ok(None);
+    }
+    let Some(arguments) = in_parentheses(rest) else {
+        return Ok(None);
+    };
+    let Some(first) = place_of(arguments, b',') else {
+        return Ok(None);
+    };
+    let others = after(arguments, first);
+    let Some(second) = place_of(others, b',') else {
+        return Ok(None);
+    };
+    let mut text = Text::new(alloc);
+    for part in [
+        b"c = ",
+        after(others, second),
+        b"; before both, and here lchar(",
+        up_to(arguments, first),
+        b", ",
+        up_to(others, second),
+        b", c);",
+    ] {
+        text.push(part)?;
+    }
     Ok(Some(text))
 }
 

@@ -17,6 +17,7 @@ pub(crate) enum Syntax {
     CodeText,
     BraceOpen,
     ParenOpen,
+    OtherBracket,
     SourceEnds,
     Slashes,
     BraceSemicolon,
@@ -102,6 +103,8 @@ impl Syntax {
             Syntax::BraceOpen => ("the source ends here, and the { of line % is open", "write the } that is missing"),
             Syntax::ParenOpen =>
                 ("the bracket of line % is still open here", "write the ) or the ] that is missing before this"),
+            Syntax::OtherBracket =>
+                ("the bracket of line % is of the other kind", "] closes what [ opens, and ) what ( opens"),
             Syntax::SourceEnds =>
                 ("the source ends here, and something is open", "write what is missing: a value, a ; or a statement"),
             Syntax::Slashes => ("this is no comment: // is the operator / twice", "/* remark */"),
@@ -223,6 +226,8 @@ enum If {
     /// A `?` has no `:`.
     Asked,
     ParenOpen,
+    /// The token closes a bracket of the other kind, and no other one is open in the statement.
+    OtherBracket,
     BraceOpen,
     /// The brace that is open is the one after the condition of an `if`.
     IfBrace,
@@ -398,7 +403,7 @@ const WORDS: [Mistake; 18] = [
 
 /// Operators and operands, and brackets around them.
 #[rattlefmt::skip]
-const OPERANDS: [Mistake; 25] = [
+const OPERANDS: [Mistake; 26] = [
     Mistake(BODY, If::Always, [ANY, ANY, OR, OR, ANY], Syntax::OrOr, Marking::Here),
     Mistake(BODY, If::Always, [IF_WHILE, ANY, CLOSE_PAREN, COLON, ANY], Syntax::HeadColon, Marking::Here),
     Mistake(BODY, If::Always, [ELSE, ANY, CLOSE_PAREN, COLON, ANY], Syntax::HeadColon, Marking::Here),
@@ -423,6 +428,7 @@ const OPERANDS: [Mistake; 25] = [
     Mistake(BODY, If::Asked, [ANY, ANY, Like::Ended, Like::Closes, ANY], Syntax::ColonMissing, Marking::Here),
     Mistake(BODY, If::Indexed, [ANY, ANY, Like::Ended, COMMA, Like::Operand], Syntax::TwoIndices, Marking::Here),
     Mistake(BODY, If::Returned, [ANY, ANY, Like::Ended, COMMA, ANY], Syntax::ReturnTwo, Marking::Here),
+    Mistake(BODY, If::OtherBracket, [ANY, ANY, Like::Ended, CLOSE_BRACKETS, ANY], Syntax::OtherBracket, Marking::Here),
     Mistake(BODY, If::ParenOpen, [ANY, ANY, Like::Ended, Like::Closes, ANY], Syntax::ParenOpen, Marking::Here),
 ];
 
@@ -556,6 +562,7 @@ fn holds(condition: If, source: &[u8], spans: &Spans, around: &Around) -> bool {
         If::Asked => around.is_asked,
         If::ParenOpen => around.is_in(spans, Lexeme::OpenParen)
             || around.is_in(spans, Lexeme::OpenBracket),
+        If::OtherBracket => is_other_bracket(spans, around),
         If::BraceOpen => around.is_in(spans, Lexeme::OpenBrace),
         If::IfBrace => around.is_in(spans, Lexeme::OpenBrace) && is_after_if(spans, around.head()),
         If::For => around.is_call_of(spans, "for"),
@@ -570,6 +577,33 @@ fn holds(condition: If, source: &[u8], spans: &Spans, around: &Around) -> bool {
         If::Assigned => around.own == before
             && EQUALS.fits(&lexeme_at(spans, around.token.wrapping_add(2))),
     }
+}
+
+// Whether a bracket closes one of the other kind, and no other one is open in the statement.
+fn is_other_bracket(spans: &Spans, around: &Around) -> bool {
+    let Some(opener) = around.opener else {
+        return false;
+    };
+    let is_other = matches!(
+        (lexeme_at(spans, opener), lexeme_at(spans, around.token)),
+        (Lexeme::OpenBracket, Lexeme::CloseParen) | (Lexeme::OpenParen, Lexeme::CloseBracket)
+    );
+    is_other && !is_open_before(spans, opener)
+}
+
+// Whether a bracket is open before a token, in its statement.
+fn is_open_before(spans: &Spans, token: usize) -> bool {
+    let mut depth: u64 = 0;
+    for back in 0..token {
+        match lexeme_at(spans, token.saturating_sub(back).saturating_sub(1)) {
+            Lexeme::CloseParen | Lexeme::CloseBracket => depth = depth.saturating_add(1),
+            Lexeme::OpenParen | Lexeme::OpenBracket if depth == 0 => return true,
+            Lexeme::OpenParen | Lexeme::OpenBracket => depth = depth.saturating_sub(1),
+            Lexeme::Semicolon | Lexeme::OpenBrace | Lexeme::CloseBrace => return false,
+            _ => {}
+        }
+    }
+    false
 }
 
 // Whether a `;` comes right after the first `)` after a token.

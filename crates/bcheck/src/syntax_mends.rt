@@ -194,6 +194,8 @@ fn of_expression(draft: &mut Draft<'_>, site: Site, syntax: Syntax) -> Result<()
     let next = token.wrapping_add(1);
     match syntax {
         Syntax::ParenOpen => closing(draft, token),
+        Syntax::OtherBracket if draft.at(token) == Lexeme::CloseParen => draft.rename(token, b"]"),
+        Syntax::OtherBracket => draft.rename(token, b")"),
         Syntax::OrOr => mend_logic(draft, Logic::Or, before, token),
         Syntax::EqualsAfter => draft.replace(
             before,

@@ -90,8 +90,43 @@ fn of_statements(
         Warning::NeverUsed | Warning::HidesLibrary => undeclared(draft, token),
         Warning::NearMain | Warning::NoMain => draft.rename(token, b"main"),
         Warning::IfsInRow => draft.before(token, b"else "),
+        Warning::OwnResultDropped => returned(draft, site),
         _ => Ok(()),
     }
+}
+
+// A return of what a function gives that calls itself in its last statement.
+fn returned(draft: &mut Draft<'_>, site: Site) -> Result<(), AllocError> {
+    let token = site.token;
+    let end = after_brackets(draft, token.wrapping_add(1));
+    let is_last = draft.at(end) == Lexeme::Semicolon
+        && draft.at(end.wrapping_add(1)) == Lexeme::CloseBrace;
+    if !is_last || draft.at(site.first) != draft.at(token) || !is_outermost(draft, site) {
+        return Ok(());
+    }
+    let last = end.wrapping_sub(1);
+    draft.replace(
+        token,
+        last,
+        &[
+            Part::Words(b"return("),
+            Part::Tokens(token, last),
+            Part::Words(b")"),
+        ],
+    )
+}
+
+// Whether a token is in the braces of a function alone, and in none within these.
+fn is_outermost(draft: &Draft<'_>, site: Site) -> bool {
+    let mut depth: u64 = 0;
+    for token in site.first..site.token {
+        match draft.at(token) {
+            Lexeme::OpenBrace => depth = depth.saturating_add(1),
+            Lexeme::CloseBrace => depth = depth.saturating_sub(1),
+            _ => {}
+        }
+    }
+    depth == 1
 }
 
 /// What means the same as `&&`, of which this token is one.

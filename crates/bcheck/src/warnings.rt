@@ -174,7 +174,7 @@ pub(crate) fn advice_of(warning: Warning) -> (&'static str, &'static str, &'stat
         Warning::SameArguments =>
             ("lp", "@ calls itself for ever: its arguments are the same",
              "hand on what is nearer to the end: @(n - 1)"),
-        Warning::ResultDropped => ("no", "nothing is done with the value of @", "x = @(..); keeps it"),
+        Warning::ResultDropped => ("no", "@ only gives a value, which is thrown away", "x = @(..); keeps it"),
         Warning::StringAdded =>
             ("st", "this adds two addresses, and joins no strings",
              "write one after the other: putstr(s); putstr(t); of lib/print.b"),
@@ -212,5 +212,22 @@ pub(crate) fn advice_of(warning: Warning) -> (&'static str, &'static str, &'stat
              "take another name for the word, or take the ( ) out"),
         Warning::SomeReturn =>
             ("rt", "@ gives 0 where this doesn't hold", "return(x); after it, or in an else, gives a value there, too"),
+        Warning::QuotientCut => ("di", "this division drops its fraction", "multiply first: 9 * c / 5"),
+        Warning::FirstTurnOnly =>
+            ("no", "nothing comes here: the loop of line % turns once",
+             "take the else out: its return comes after the loop"),
+        Warning::StringMoved =>
+            ("st", "this moves an address, and joins nothing",
+             "one after the other: putstr(s); printn(n, 10); of lib/print.b"),
+        Warning::TestedBefore =>
+            ("no", "nothing comes here: the if of line % takes it", "ask for this before that one"),
+        Warning::OnlyInIf =>
+            ("lp", "once this is false, the loop of line % never ends",
+             "what ends it, as i++; does, comes after the } of the if"),
+        Warning::IndexKept =>
+            ("ix", "@ gets the index, and is compared with the word",
+             "@ = v[i]; keeps the word; or compare v[@], if the index is meant"),
+        Warning::OwnResultDropped =>
+            ("no", "@ only gives a value, and here it is thrown away", "return(@(..)); hands it on"),
     }
 }

@@ -41,11 +41,15 @@ impl Bound {
 
 /// What the condition of an `if` asks of a name, by one comparison.
 pub(crate) fn bound_of(tree: &Tree<'_>, statement: &Statement) -> Option<Bound> {
-    let condition = tree.branch(tree.made_by(statement.first).left);
-    let name = tree.name(&tree.branch(condition.left))?;
+    bound_in(tree, &tree.branch(tree.made_by(statement.first).left))
+}
+
+/// What a comparison asks of a name.
+pub(crate) fn bound_in(tree: &Tree<'_>, comparison: &Branch) -> Option<Bound> {
+    let name = tree.name(&tree.branch(comparison.left))?;
     Some(Bound {
         name,
-        limits: limits_of(tree, &condition)?,
+        limits: limits_of(tree, comparison)?,
     })
 }
 
@@ -100,7 +104,8 @@ pub(crate) fn settled(look: &Look<'_>, branch: &Branch, op: BinOp) -> Option<Rem
     }
 }
 
-fn inner(tree: &Tree<'_>, branch: Branch) -> Branch {
+/// The branch in parentheses, or the branch itself.
+pub(crate) fn inner(tree: &Tree<'_>, branch: Branch) -> Branch {
     match branch.node {
         Node::Grouped => tree.branch(branch.left),
         _ => branch,

@@ -48,15 +48,17 @@ pub(crate) fn called(look: &Look<'_>, call: &Branch) -> Option<Remark> {
 fn by_definition(look: &Look<'_>, call: &Branch, name: Name, parameters: u64) -> Option<Remark> {
     let given = look.tree.arguments(call);
     let is_value = is_value(look, call);
-    let is_dropped = look.tree.branch(call.parent).node == Node::Evaluated
-        && look.tree.argument(call, 0).node == Node::Name;
+    let is_dropped = look.tree.branch(call.parent).node == Node::Evaluated;
+    let is_own = is_own_call(look.tree, Some(name));
     let warning = if given > parameters {
         Warning::ManyArguments
     } else if given < parameters {
         Warning::FewArguments
     } else if is_value {
         Warning::NoReturn
-    } else if is_dropped {
+    } else if is_dropped && is_own {
+        Warning::OwnResultDropped
+    } else if is_dropped && gets_word(look, call) {
         Warning::ResultDropped
     } else {
         return None;
@@ -67,6 +69,12 @@ fn by_definition(look: &Look<'_>, call: &Branch, name: Name, parameters: u64) ->
         is_value,
         ..Remark::new(look.tree.branch(call.left).token, warning)?
     })
+}
+
+// Whether the first argument of a call is a word of the function, which might get the value.
+fn gets_word(look: &Look<'_>, call: &Branch) -> bool {
+    let first = look.tree.argument(call, 0);
+    matches!(look.locals.of(look.tree, &first), Some(local) if local.is_own_word())
 }
 
 // Whether the value of a call is used.

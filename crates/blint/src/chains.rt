@@ -88,8 +88,8 @@ fn first_name(tree: &Tree<'_>, statement: &Statement) -> Option<usize> {
     Some(first)
 }
 
-// The `else` of an `if`.
-fn else_of(tree: &Tree<'_>, statement: &Statement) -> Option<usize> {
+/// The `else` of an `if`.
+pub(crate) fn else_of(tree: &Tree<'_>, statement: &Statement) -> Option<usize> {
     let body = body_of(tree, statement)?;
     let is_else = tree.tokens.at(body.end) == Lexeme::Keyword(Keyword::Else);
     if is_else && body.end < statement.end {
@@ -99,8 +99,8 @@ fn else_of(tree: &Tree<'_>, statement: &Statement) -> Option<usize> {
     }
 }
 
-// The statement after the condition of an `if`.
-fn body_of(tree: &Tree<'_>, statement: &Statement) -> Option<Statement> {
+/// The statement after the condition of an `if`.
+pub(crate) fn body_of(tree: &Tree<'_>, statement: &Statement) -> Option<Statement> {
     if tree.tokens.at(statement.first) != Lexeme::Keyword(Keyword::If) {
         return None;
     }
@@ -119,15 +119,8 @@ fn begun_at(tree: &Tree<'_>, token: usize) -> Option<Statement> {
 
 // The `if` that ends right before a statement, in the same block.
 fn before(tree: &Tree<'_>, statement: &Statement) -> Option<Statement> {
-    let mut found = tree.statement(tree.around(statement.first.wrapping_sub(1)));
-    for _ in 0..tree.statements.len() {
-        if found.parent == statement.parent || found.end > statement.first {
-            break;
-        }
-        found = tree.statement(found.parent);
-    }
-    let is_before = found.parent == statement.parent && found.end == statement.first;
-    if is_before && tree.tokens.at(found.first) == Lexeme::Keyword(Keyword::If) {
+    let found = tree.before(statement)?;
+    if found.construct == Construct::If {
         Some(found)
     } else {
         None

@@ -13,6 +13,9 @@ use std::alloc::{AllocError, Global};
 /// How many parameters of a function are looked at for addresses.
 const MOST_POINTERS: usize = 8;
 
+/// How often it is looked which functions call one that may end a program.
+const MOST_ROUNDS: usize = 8;
+
 /// The function of the library that ends a program.
 const EXIT: &str = "exit";
 
@@ -34,8 +37,9 @@ pub(crate) struct Defined<'a> {
     definitions: &'a [Definition],
     names: NameTable,
     library: &'a [(&'static str, u64)],
-    /// Whether one of them names the function that ends a program.
+    /// Whether one of them names the function that ends a program, and of each whether it may call that.
     pub exits: bool,
+    exiting: Vec<bool>,
 }
 
 impl<'a> Defined<'a> {
@@ -51,12 +55,93 @@ impl<'a> Defined<'a> {
                 }
             }
         }
-        Ok(Defined {
+        let mut defined = Defined {
             definitions: program.definitions,
             names,
             library: program.library,
             exits,
-        })
+            exiting: Vec::new(alloc),
+        };
+        if exits {
+            defined.find_exiting()?;
+        }
+        Ok(defined)
+    }
+
+    // Looks which definitions name the function that ends a program, or another one that does so.
+    fn find_exiting(&mut self) -> Result<(), AllocError> {
+        for definition in self.definitions {
+            self.exiting.push(names_exit(definition))?;
+        }
+        for _ in 0..MOST_ROUNDS {
+            if !self.spread() {
+                return Ok(());
+            }
+        }
+        self.exiting.clear();
+        Ok(())
+    }
+
+    // Whether a definition is new among those that may end a program, as it names one of them.
+    fn spread(&mut self) -> bool {
+        let mut is_new = false;
+        for index in 0..self.definitions.len() {
+            let is_known = self.exiting.get(index) == Some(&true);
+            if !is_known && self.names_exiting(index) {
+                is_new = true;
+                if let Some(exiting) = self.exiting.get_mut(index) {
+                    *exiting = true;
+                }
+            }
+        }
+        is_new
+    }
+
+    fn names_exiting(&self, index: usize) -> bool {
+        let Some(definition) = self.definitions.get(index) else {
+            return false;
+        };
+        match definition.view() {
+            View::Function { code, .. } => self.puts_exiting(code),
+            View::Simple { values, .. } | View::Vector { values, .. } => self.has_exiting(values),
+        }
+    }
+
+    fn puts_exiting(&self, code: &[Instr]) -> bool {
+        for instr in code {
+            if let Instr::External(name) = instr {
+                if self.is_exiting(name) {
+                    return true;
+                }
+            }
+        }
+        false
+    }
+
+    fn has_exiting(&self, values: &[Ival]) -> bool {
+        for value in values {
+            if let Ival::Name(name) = value {
+                if self.is_exiting(name) {
+                    return true;
+                }
+            }
+        }
+        false
+    }
+
+    fn is_exiting(&self, name: &Name) -> bool {
+        match self.place(name) {
+            Some(place) => self.exiting.get(place) == Some(&true),
+            None => false,
+        }
+    }
+
+    /// Whether a call of this name may end the program, where none is one of a value.
+    pub(crate) fn may_exit(&self, name: &Name) -> bool {
+        match self.place(name) {
+            Some(place) => self.exits && self.exiting.get(place) != Some(&false),
+            None => self.exits,
+        }
     }
 
     /// The number of the definition of this name.
@@ -138,9 +223,9 @@ pub(crate) struct Told {
     pub spreads: bool,
     /// With how few arguments it may be called.
     pub least: u64,
-    /// Whether all that it does hangs on its arguments, and whether it changes one of these, and does nothing else.
+    /// Whether all that it does hangs on its arguments, and whether it does nothing but to give a value.
     pub is_closed: bool,
-    pub is_in_vain: bool,
+    pub is_pure: bool,
     /// Which of its first parameters it takes for addresses: 1 for the first one, 2 for the second one, and so on.
     pub pointers: u64,
     /// Its first loop over the words of a parameter, up to another one and with that.
@@ -167,14 +252,13 @@ impl Told {
         } else {
             least(locals, count)
         };
-        let is_closed = is_closed(tree, locals);
         Told {
             place: tree.tokens.place(0),
             returns,
             spreads,
             least: least as u64,
-            is_closed,
-            is_in_vain: is_closed && is_silent(tree) && changes_parameter(locals, count),
+            is_closed: is_closed(tree, locals),
+            is_pure: is_pure(tree, locals),
             pointers: pointers(locals, count),
             passed: None,
             loop_place: tree.tokens.place(0),
@@ -219,26 +303,31 @@ fn pointers(locals: &Locals, count: usize) -> u64 {
     found
 }
 
-// Whether a function changes one of so many parameters.
-fn changes_parameter(locals: &Locals, count: usize) -> bool {
-    for place in 0..count {
-        if let Some(parameter) = locals.parameter(place) {
-            if parameter.is_changed {
-                return true;
-            }
-        }
-    }
-    false
-}
-
-// Whether a function calls nothing but itself.
-fn is_silent(tree: &Tree<'_>) -> bool {
+// Whether a function stores in words of its own alone, calls nothing but itself and `char`, and is more than a return.
+fn is_pure(tree: &Tree<'_>, locals: &Locals) -> bool {
+    let mut works = false;
     for branch in &tree.branches {
-        if branch.node == Node::Called && !is_own_call(tree, tree.callee(branch)) {
+        let is_pure = match branch.node {
+            Node::Called => {
+                is_own_call(tree, tree.callee(branch)) || tree.is_call_of(branch, "char")
+            }
+            Node::Assigned(_)
+            | Node::PreIncrement
+            | Node::PreDecrement
+            | Node::PostIncrement
+            | Node::PostDecrement => is_own_word(tree, locals, branch.left),
+            _ => true,
+        };
+        if !is_pure {
             return false;
         }
+        works = works || matches!(branch.node, Node::Assigned(_) | Node::Tested);
     }
-    true
+    works
+}
+
+fn is_own_word(tree: &Tree<'_>, locals: &Locals, index: usize) -> bool {
+    matches!(locals.of(tree, &tree.branch(index)), Some(local) if local.is_own_word())
 }
 
 /// Whether a function takes the parameter before which so many come for an address.

@@ -8,6 +8,7 @@ mod cases;
 mod cautions;
 mod chains;
 mod comparisons;
+mod conditions;
 mod counters;
 mod cutting;
 mod declared;

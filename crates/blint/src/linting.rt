@@ -9,6 +9,7 @@ use crate::cases::{digit_compared, not_assigned, of_case};
 use crate::cautions::{Caution, Program};
 use crate::chains::{dangling, in_row, some_return};
 use crate::comparisons::operated;
+use crate::conditions::{index_kept, only_in_if, tested_before};
 use crate::counters::{
     PastLoop, begins_anew, counter_of, counts_away, inner_once, passed, past_vector,
 };
@@ -24,12 +25,12 @@ use crate::loops::{input_endless, unchanged};
 use crate::numbers::{assigned, divided, multiplied, octal_in, too_large};
 use crate::remarks::{Remark, Remarks};
 use crate::ruled::{Ruled, rules_of, starts_of};
-use crate::stores::{not_reached, overwritten, stored_back};
+use crate::stores::{not_reached, overwritten, put_back, stored_back};
 use crate::strings::{added, character_counted, form_of, names_compared};
 use crate::telling::{MOST_CAUTIONS, told};
 use crate::tokens::{TokenPlace, Tokens};
 use crate::tree::{Branch, NONE, Tree};
-use crate::vectors::{addressed, indexed, indexed_twice, returned};
+use crate::vectors::{addressed, indexed, indexed_twice, never_set, returned};
 use crate::warnings::Warning;
 use blex::Lexeme;
 use bsources::SourceFiles;
@@ -238,8 +239,9 @@ impl<'a> Linting<'a> {
                 Warning::ValueForAddress
             }
             Warning::ValueForAddress => return None,
-            Warning::ResultDropped if told.returns && told.is_in_vain => Warning::ResultDropped,
-            Warning::ResultDropped => return None,
+            Warning::ResultDropped if told.returns && told.is_pure => Warning::ResultDropped,
+            Warning::OwnResultDropped if told.returns && told.is_pure => Warning::OwnResultDropped,
+            Warning::ResultDropped | Warning::OwnResultDropped => return None,
             // A value that is used is missing there.
             Warning::ChangesNothing if self.used.get(supposed.definition) == Some(&false) => {
                 Warning::ChangesNothing
@@ -336,6 +338,8 @@ fn look_further(look: &Look<'_>, further: &mut Remarks) -> Result<(), AllocError
             Construct::If => {
                 further.say(dangling(look, statement))?;
                 further.say(in_row(look, statement))?;
+                further.say(tested_before(look, statement))?;
+                further.say(index_kept(look, statement))?;
             }
             _ => {}
         }
@@ -365,9 +369,13 @@ fn further_by_branch(
         Node::Assigned(None) => further.say(assigned(look, branch)),
         Node::Evaluated => {
             further.say(stored_back(look, branch))?;
+            further.say(put_back(look, branch))?;
             further.say(begins_anew(look, branch))
         }
-        Node::Indexed => further.say(indexed_twice(look, branch)),
+        Node::Indexed => {
+            further.say(indexed_twice(look, branch))?;
+            further.say(never_set(look, branch))
+        }
         Node::Tested => {
             further.say(not_assigned(look, branch))?;
             loop_further(look, branch, further)
@@ -390,6 +398,7 @@ fn loop_further(look: &Look<'_>, tested: &Branch, further: &mut Remarks) -> Resu
         return Ok(());
     }
     further.say(input_endless(look, tested))?;
+    further.say(only_in_if(look, tested))?;
     if let Some(counted) = counter_of(look, tested) {
         further.say(past_vector(look, &counted))?;
         further.say(counts_away(look, &counted))?;

@@ -51,6 +51,36 @@ fn asks_own_words(look: &Look<'_>, condition: &Branch) -> bool {
     names > 0
 }
 
+/// Whether a condition is made of constants, of words of the function alone and of characters of strings, and changes
+/// nothing.
+pub(crate) fn has_own_words(look: &Look<'_>, condition: &Branch) -> bool {
+    let tree = look.tree;
+    let mut names: u64 = 0;
+    if condition.last.saturating_sub(condition.first) > MOST_TOKENS {
+        return false;
+    }
+    for token in condition.first..=condition.last {
+        let branch = tree.made_by(token);
+        let is_called = tree.is_call_of(&tree.branch(branch.parent), "char")
+            && tree.tokens.is_word(token, "char");
+        match branch.node {
+            Node::Name if is_called => {}
+            Node::Name => match look.locals.of(tree, &branch) {
+                Some(local) if local.is_own_word() && !local.has_address => {
+                    names = names.saturating_add(1);
+                }
+                _ => return false,
+            },
+            Node::Constant | Node::Grouped | Node::Negate | Node::Not | Node::Binary(_) => {}
+            Node::Argument => {}
+            Node::Called if tree.is_call_of(&branch, "char") => {}
+            Node::NoArguments => {}
+            _ => return false,
+        }
+    }
+    names > 0
+}
+
 /// Whether the loop may be left at a token, or come to it from elsewhere.
 pub(crate) fn leaves(look: &Look<'_>, token: usize) -> bool {
     let leaves = matches!(
@@ -63,11 +93,17 @@ pub(crate) fn leaves(look: &Look<'_>, token: usize) -> bool {
 // Whether a call may end the program, which a function does somewhere.
 fn may_exit(look: &Look<'_>, token: usize) -> bool {
     let call = look.tree.made_by(token);
-    look.defined.exits && call.node == Node::Called && !is_plain_call(look.tree, &call)
+    if call.node != Node::Called || is_plain_call(look.tree, &call) {
+        return false;
+    }
+    match look.tree.callee(&call) {
+        Some(name) => look.defined.may_exit(&name),
+        None => look.defined.exits,
+    }
 }
 
-// Whether a name of the condition may be changed at a token.
-fn changes(tree: &Tree<'_>, token: usize, condition: &Branch) -> bool {
+/// Whether a name of the condition may be changed at a token.
+pub(crate) fn changes(tree: &Tree<'_>, token: usize, condition: &Branch) -> bool {
     let branch = tree.made_by(token);
     let changed = tree.branch(branch.left);
     match (branch.node, changed.node) {

@@ -112,7 +112,7 @@ fn has_remainder(tree: &Tree<'_>, quotient: &Branch, divisor: &Branch) -> bool {
     false
 }
 
-/// What is found of a quotient of two constants that is 0.
+/// What is found of a quotient of two constants that is 0, or of a factor that is one and drops its fraction.
 pub(crate) fn divided(look: &Look<'_>, quotient: &Branch) -> Option<Remark> {
     let tree = look.tree;
     let dividend = constant_of(tree, &tree.branch(quotient.left))?;
@@ -120,7 +120,23 @@ pub(crate) fn divided(look: &Look<'_>, quotient: &Branch) -> Option<Remark> {
     if 0 < dividend && dividend < divisor {
         return Remark::new(quotient.token, Warning::ZeroQuotient);
     }
+    if divisor > 0 && dividend % divisor > 0 && is_factor(tree, quotient) {
+        return Remark::new(quotient.token, Warning::QuotientCut);
+    }
     None
+}
+
+// Whether another factor than a constant stands beside a quotient.
+fn is_factor(tree: &Tree<'_>, quotient: &Branch) -> bool {
+    let parent = tree.branch(quotient.parent);
+    let product = match parent.node {
+        Node::Grouped => tree.branch(parent.parent),
+        _ => parent,
+    };
+    let (left, right) = (tree.branch(product.left), tree.branch(product.right));
+    product.node == Node::Binary(BinOp::Mul)
+        && left.node != Node::Constant
+        && right.node != Node::Constant
 }
 
 /// What is found of a product of two constants that no word holds.

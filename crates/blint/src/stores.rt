@@ -11,16 +11,9 @@ use btree::{Construct, Node};
 /// What is found of a statement that gives a name a value, where the next one gives it another value.
 pub(crate) fn overwritten(look: &Look<'_>, evaluated: &Branch) -> Option<Remark> {
     let tree = look.tree;
-    let (here, next) = (
-        tree.statement(tree.around(evaluated.last)),
-        tree.statement(tree.around(evaluated.last.wrapping_add(1))),
-    );
-    if here.end != next.first || here.parent != next.parent || next.construct != Construct::Plain {
-        return None;
-    }
     let (first, second) = (
         stored(look, evaluated)?,
-        stored(look, &tree.made_by(next.end.wrapping_sub(1)))?,
+        stored(look, &next_of(look, evaluated)?)?,
     );
     let name = tree.name(&tree.branch(first.left))?;
     let local = look.locals.find(&name)?;
@@ -47,8 +40,8 @@ pub(crate) fn overwritten(look: &Look<'_>, evaluated: &Branch) -> Option<Remark>
     }
 }
 
-/// What is found of a statement that stores back what the one before it has stored: `a = b; b = a;`.
-pub(crate) fn stored_back(look: &Look<'_>, evaluated: &Branch) -> Option<Remark> {
+// What the plain statement right after another one evaluates.
+fn next_of(look: &Look<'_>, evaluated: &Branch) -> Option<Branch> {
     let tree = look.tree;
     let (here, next) = (
         tree.statement(tree.around(evaluated.last)),
@@ -57,9 +50,48 @@ pub(crate) fn stored_back(look: &Look<'_>, evaluated: &Branch) -> Option<Remark>
     if here.end != next.first || here.parent != next.parent || next.construct != Construct::Plain {
         return None;
     }
+    Some(tree.made_by(next.end.wrapping_sub(1)))
+}
+
+/// What is found of a statement that stores a character back which the one before it has stored:
+/// `lchar(s, i, char(s, j)); lchar(s, j, char(s, i));`.
+pub(crate) fn put_back(look: &Look<'_>, evaluated: &Branch) -> Option<Remark> {
+    let tree = look.tree;
+    let first = tree.branch(evaluated.left);
+    let second = tree.branch(next_of(look, evaluated)?.left);
+    if !tree.is_call_of(&first, "lchar") || !tree.is_call_of(&second, "lchar") {
+        return None;
+    }
+    let (taken, back) = (tree.argument(&first, 2), tree.argument(&second, 2));
+    if !tree.is_call_of(&taken, "char") || !tree.is_call_of(&back, "char") {
+        return None;
+    }
+    if are_of_one(look, &first, &back) && are_of_one(look, &second, &taken) {
+        return Remark::new(second.first, Warning::StoredBack);
+    }
+    None
+}
+
+// Whether the first two arguments of two calls are alike, and do nothing.
+fn are_of_one(look: &Look<'_>, one: &Branch, other: &Branch) -> bool {
+    for place in [0, 1] {
+        let (first, second) = (
+            look.tree.argument(one, place),
+            look.tree.argument(other, place),
+        );
+        if first.acts || !are_alike(look.tree, &first, &second) {
+            return false;
+        }
+    }
+    true
+}
+
+/// What is found of a statement that stores back what the one before it has stored: `a = b; b = a;`.
+pub(crate) fn stored_back(look: &Look<'_>, evaluated: &Branch) -> Option<Remark> {
+    let tree = look.tree;
     let (first, second) = (
         stored(look, evaluated)?,
-        stored(look, &tree.made_by(next.end.wrapping_sub(1)))?,
+        stored(look, &next_of(look, evaluated)?)?,
     );
     let is_back = are_alike(tree, &tree.branch(first.left), &tree.branch(second.right))
         && are_alike(tree, &tree.branch(first.right), &tree.branch(second.left));
@@ -74,25 +106,36 @@ fn first_acts(look: &Look<'_>, assigned: &Branch) -> bool {
     look.tree.branch(assigned.left).acts || look.tree.branch(assigned.right).acts
 }
 
-/// What is found of a statement in a block right after one that always leaves.
+/// What is found of a statement in a block right after one that always leaves, as an `if` does whose parts both do.
 pub(crate) fn not_reached(look: &Look<'_>, statement: &Statement) -> Option<Remark> {
     let tree = look.tree;
-    let before = tree.statement(tree.around(statement.first.wrapping_sub(1)));
-    let leaves = matches!(
-        tree.tokens.at(before.first),
-        Lexeme::Keyword(Keyword::Return | Keyword::Break)
-    );
-    let is_next = before.end == statement.first
-        && before.parent == statement.parent
-        && before.construct == Construct::Plain
-        && tree.statement(statement.parent).construct == Construct::Block;
-    if !leaves || !is_next || statement.construct == Construct::Heading {
+    let before = tree.before(statement)?;
+    let block = tree.statement(statement.parent);
+    let is_heading = statement.construct == Construct::Heading;
+    if !tree.leaves(&before) || block.construct != Construct::Block || is_heading {
         return None;
     }
     if is_little(tree.tokens.at(statement.first)) || has_entry(look, statement) {
         return None;
     }
+    let around = tree.statement(block.parent);
+    let is_in_loop = around.construct == Construct::While && before.construct == Construct::If;
+    if is_in_loop && !has_goto(look, &around) {
+        return Some(Remark {
+            other: around.first,
+            ..Remark::new(statement.first, Warning::FirstTurnOnly)?
+        });
+    }
     Remark::new(statement.first, Warning::NotReached)
+}
+
+fn has_goto(look: &Look<'_>, statement: &Statement) -> bool {
+    for token in statement.first..statement.end {
+        if look.tree.tokens.at(token) == Lexeme::Keyword(Keyword::Goto) {
+            return true;
+        }
+    }
+    false
 }
 
 // Whether a statement that begins so does nothing, or leaves, too.

@@ -77,10 +77,32 @@ pub(crate) fn added(look: &Look<'_>, sum: &Branch) -> Option<Remark> {
         _ => false,
     };
     if is_sum {
-        Remark::new(sum.token, Warning::StringAdded)
-    } else {
-        None
+        return Remark::new(sum.token, Warning::StringAdded);
     }
+    let is_moved = left.node == Node::Text
+        && matches!(right.node, Node::Name | Node::Called | Node::Indexed);
+    if is_moved && is_written(look, sum) {
+        return Remark::new(sum.token, Warning::StringMoved);
+    }
+    None
+}
+
+// Whether a sum is an argument of a call, as of one that writes, and of none that takes characters of a string.
+fn is_written(look: &Look<'_>, sum: &Branch) -> bool {
+    let tree = look.tree;
+    let mut around = tree.branch(sum.parent);
+    if around.node != Node::Argument {
+        return false;
+    }
+    for _ in 0..tree.branches.len() {
+        if around.node != Node::Argument {
+            break;
+        }
+        around = tree.branch(around.parent);
+    }
+    around.node == Node::Called
+        && !tree.is_call_of(&around, "char")
+        && !tree.is_call_of(&around, "lchar")
 }
 
 /// Whether a branch is a name to which strings alone are assigned.

@@ -36,6 +36,8 @@ pub(crate) struct Statement {
     pub end: usize,
     /// In which one it is.
     pub parent: usize,
+    /// In how many of its parts control leaves: the last one of a block, or both of an `if`.
+    leaving: u64,
 }
 
 /// What a definition consists of. A branch comes after its parts, and a statement before what is in it.
@@ -69,6 +71,7 @@ impl<'a> Tree<'a> {
         };
         tree.grow(alloc)?;
         tree.frame(alloc)?;
+        tree.find_leaving();
         Ok(tree)
     }
 
@@ -152,6 +155,7 @@ impl<'a> Tree<'a> {
             first: self.around.len(),
             end: self.tokens.len(),
             parent,
+            leaving: 0,
         })?;
         Ok(())
     }
@@ -160,6 +164,58 @@ impl<'a> Tree<'a> {
         let end = self.around.len();
         if let Some(statement) = self.statements.get_mut(statement) {
             statement.end = end;
+        }
+    }
+
+    // Counts of each statement the parts in which control leaves. What is in a statement comes after it.
+    fn find_leaving(&mut self) {
+        for count in 0..self.statements.len() {
+            let index = self.statements.len().wrapping_sub(count).wrapping_sub(1);
+            let here = self.statement(index);
+            if self.leaves(&here) && self.ends_part(&here) {
+                if let Some(around) = self.statements.get_mut(here.parent) {
+                    around.leaving = around.leaving.saturating_add(1);
+                }
+            }
+        }
+    }
+
+    // Whether a statement is a part of an `if`, or the last one of a block.
+    fn ends_part(&self, statement: &Statement) -> bool {
+        let around = self.statement(statement.parent);
+        match around.construct {
+            Construct::If => true,
+            Construct::Block => statement.end.saturating_add(1) == around.end,
+            _ => false,
+        }
+    }
+
+    /// Whether control never comes from a statement to what stands after it.
+    pub(crate) fn leaves(&self, statement: &Statement) -> bool {
+        match statement.construct {
+            Construct::Plain => matches!(
+                self.tokens.at(statement.first),
+                Lexeme::Keyword(Keyword::Return | Keyword::Goto | Keyword::Break)
+            ),
+            Construct::Block => statement.leaving > 0,
+            Construct::If => statement.leaving > 1,
+            _ => false,
+        }
+    }
+
+    /// The statement that ends right before another one, in the same block.
+    pub(crate) fn before(&self, statement: &Statement) -> Option<Statement> {
+        let mut found = self.statement(self.around(statement.first.wrapping_sub(1)));
+        for _ in 0..self.statements.len() {
+            if found.parent == statement.parent || found.end > statement.first {
+                break;
+            }
+            found = self.statement(found.parent);
+        }
+        if found.parent == statement.parent && found.end == statement.first {
+            Some(found)
+        } else {
+            None
         }
     }
 
@@ -200,6 +256,7 @@ impl<'a> Tree<'a> {
                 first: NONE,
                 end: NONE,
                 parent: NONE,
+                leaving: 0,
             },
         }
     }

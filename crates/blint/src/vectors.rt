@@ -3,7 +3,7 @@ use crate::defined::What;
 use crate::linting::Look;
 use crate::locals::NameRole;
 use crate::remarks::Remark;
-use crate::tree::Branch;
+use crate::tree::{Branch, Tree};
 use crate::warnings::Warning;
 use blex::Lexeme;
 use btree::Node;
@@ -36,6 +36,32 @@ pub(crate) fn indexed_twice(look: &Look<'_>, indexed: &Branch) -> Option<Remark>
         return Remark::about(indexed.token, Warning::TwoIndices, vector.token);
     }
     None
+}
+
+/// What is found of the first index of a word that nothing sets.
+pub(crate) fn never_set(look: &Look<'_>, indexed: &Branch) -> Option<Remark> {
+    let tree = look.tree;
+    let vector = tree.branch(indexed.left);
+    let local = look.locals.of(tree, &vector)?;
+    if local.role != NameRole::Auto || local.sets > 0 || local.is_changed || local.is_unset {
+        return None;
+    }
+    if is_named_before(tree, vector.token, &local.name) {
+        return None;
+    }
+    Remark::new(vector.token, Warning::UnsetVector)
+}
+
+// Whether an expression before a token has a name.
+fn is_named_before(tree: &Tree<'_>, end: usize, name: &Name) -> bool {
+    for token in 0..end {
+        let branch = tree.made_by(token);
+        let named = tree.name(&branch);
+        if named == Some(*name) {
+            return true;
+        }
+    }
+    false
 }
 
 // Whether an index is a constant past the last one, or below 0.

@@ -95,4 +95,11 @@ pub enum Warning {
     SlashEscape,
     WordCalled,
     SomeReturn,
+    QuotientCut,
+    FirstTurnOnly,
+    StringMoved,
+    TestedBefore,
+    OnlyInIf,
+    IndexKept,
+    OwnResultDropped,
 }

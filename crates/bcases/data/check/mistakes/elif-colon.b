@@ -3,6 +3,6 @@ main() {
     n = getchar();
     if(n > 'a')
         putchar('1');
-    else if(n > 'b'):
+    else if(n > '0'):
         putchar('2');
 }

@@ -1,6 +1,6 @@
 main() {
     auto x;
     x = 1;
-    if(x) putchar('a');
+    if(x > 1) putchar('a');
     elif(x) putchar('b');
 }

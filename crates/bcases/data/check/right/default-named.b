@@ -1,5 +1,5 @@
 main() {
-    goto default;
+    if(getchar()) goto default;
     putchar('a');
     default: putchar('b');
 }

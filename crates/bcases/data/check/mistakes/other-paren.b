@@ -1,0 +1,5 @@
+main() {
+    auto i;
+    i = 'a';
+    putchar(i];
+}

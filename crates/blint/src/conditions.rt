@@ -1,0 +1,205 @@
+//! Conditions of `if`s that others make useless, or that ask for another thing than is done.
+use crate::bounds::{are_alike, bound_in, constant_of, inner};
+use crate::chains::{body_of, else_of};
+use crate::linting::Look;
+use crate::locals::relates;
+use crate::loops::{changes, has_own_words, leaves};
+use crate::remarks::Remark;
+use crate::tree::{Branch, Statement, Tree};
+use crate::warnings::Warning;
+use blang::Keyword;
+use blex::Lexeme;
+use btree::{Construct, Node};
+use bword::BinOp;
+
+/// How many levels around an `if` are looked at.
+const MOST_LEVELS: usize = 64;
+
+/// The longest loop that is looked at, in tokens.
+const MOST_TOKENS: usize = 600;
+
+/// What is found of an `if` after an `else` where one before it in the chain has taken all that it asks for.
+pub(crate) fn tested_before(look: &Look<'_>, statement: &Statement) -> Option<Remark> {
+    let tree = look.tree;
+    let own = condition_of(tree, statement);
+    let mut here = *statement;
+    for _ in 0..MOST_LEVELS {
+        let before = tree.tokens.at(here.first.wrapping_sub(1));
+        let outer = tree.statement(here.parent);
+        if before != Lexeme::Keyword(Keyword::Else) || outer.construct != Construct::If {
+            return None;
+        }
+        let test = condition_of(tree, &outer);
+        if test.acts || own.acts {
+            return None;
+        }
+        if covers(tree, &test, &own) {
+            return Some(Remark {
+                other: outer.first,
+                ..Remark::new(statement.first, Warning::TestedBefore)?
+            });
+        }
+        here = outer;
+    }
+    None
+}
+
+fn condition_of(tree: &Tree<'_>, statement: &Statement) -> Branch {
+    inner(tree, tree.branch(tree.made_by(statement.first).left))
+}
+
+// Whether one condition holds whenever another one does.
+fn covers(tree: &Tree<'_>, one: &Branch, other: &Branch) -> bool {
+    are_alike(tree, one, other) || bounds(tree, one, other) || divides(tree, one, other)
+}
+
+// Whether the values of a name for which a comparison holds are among those of another one.
+fn bounds(tree: &Tree<'_>, one: &Branch, other: &Branch) -> bool {
+    let Some(bound) = bound_in(tree, one) else {
+        return false;
+    };
+    if tree.name(&tree.branch(other.left)) != Some(bound.name) {
+        return false;
+    }
+    match (
+        bound_in(tree, other),
+        constant_of(tree, &tree.branch(other.right)),
+    ) {
+        (Some(other), _) => other.implies(&bound),
+        (None, Some(value)) if other.node == Node::Binary(BinOp::Eq) => {
+            let limits = bound.limits;
+            limits.least.unwrap_or(0) <= value && value <= limits.largest.unwrap_or(value)
+        }
+        _ => false,
+    }
+}
+
+// Whether both ask for remainders of the same value, and the divisor of one divides that of the other.
+fn divides(tree: &Tree<'_>, one: &Branch, other: &Branch) -> bool {
+    match (divisor_in(tree, one), divisor_in(tree, other)) {
+        (Some(divisor), Some(multiple)) if divisor > 0 => {
+            let (one, other) = (remainder_in(tree, one), remainder_in(tree, other));
+            multiple % divisor == 0
+                && are_alike(tree, &tree.branch(one.left), &tree.branch(other.left))
+        }
+        _ => false,
+    }
+}
+
+fn remainder_in(tree: &Tree<'_>, comparison: &Branch) -> Branch {
+    inner(tree, tree.branch(comparison.left))
+}
+
+// The constant by which a condition asks whether something can be divided: `x % 3 == 0`.
+fn divisor_in(tree: &Tree<'_>, comparison: &Branch) -> Option<u64> {
+    let remainder = remainder_in(tree, comparison);
+    let is_zero = comparison.node == Node::Binary(BinOp::Eq)
+        && tree.is_value(&tree.branch(comparison.right), 0);
+    if !is_zero || remainder.node != Node::Binary(BinOp::Rem) {
+        return None;
+    }
+    constant_of(tree, &tree.branch(remainder.right))
+}
+
+/// What is found of `if(v[i] > m) m = i;`: the index is kept, where the word is compared.
+pub(crate) fn index_kept(look: &Look<'_>, statement: &Statement) -> Option<Remark> {
+    let tree = look.tree;
+    let condition = condition_of(tree, statement);
+    let (left, right) = (tree.branch(condition.left), tree.branch(condition.right));
+    let (word, kept) = match (condition.node, left.node, right.node) {
+        (Node::Binary(op), Node::Indexed, Node::Name) if relates(op) => (left, right),
+        (Node::Binary(op), Node::Name, Node::Indexed) if relates(op) => (right, left),
+        _ => return None,
+    };
+    let (index, name) = (tree.name(&tree.branch(word.right))?, tree.name(&kept)?);
+    let body = body_of(tree, statement)?;
+    for token in body.first..body.end {
+        let assigned = tree.made_by(token);
+        let (to, given) = (tree.branch(assigned.left), tree.branch(assigned.right));
+        let is_kept = assigned.node == Node::Assigned(None)
+            && tree.name(&to) == Some(name)
+            && tree.name(&given) == Some(index);
+        if is_kept && index != name {
+            return Remark::about(given.token, Warning::IndexKept, to.token);
+        }
+    }
+    None
+}
+
+/// What is found of a loop whose condition can change in one `if` alone, when nothing else changes what that asks for.
+pub(crate) fn only_in_if(look: &Look<'_>, tested: &Branch) -> Option<Remark> {
+    let tree = look.tree;
+    let condition = tree.branch(tested.left);
+    let (first, end) = (
+        tested.last.wrapping_add(1),
+        tree.statement(tree.around(tested.token)).end,
+    );
+    if end.saturating_sub(first) > MOST_TOKENS || !has_own_words(look, &condition) {
+        return None;
+    }
+    let inside = changing_if(tree, tested, &condition)?;
+    let test = condition_of(tree, &inside);
+    if !has_own_words(look, &test) || covers(tree, &test, &inner(tree, condition)) {
+        return None;
+    }
+    let reads = condition.acts || test.acts;
+    for token in first..end {
+        let is_inside = inside.first <= token && token < inside.end;
+        let is_other = leaves(look, token)
+            || changes(tree, token, &condition)
+            || changes(tree, token, &test)
+            || reads && may_store(tree, token);
+        if is_other && !is_inside {
+            return None;
+        }
+    }
+    Some(Remark {
+        other: tested.token,
+        ..Remark::new(inside.first, Warning::OnlyInIf)?
+    })
+}
+
+// The `if` without an `else`, right in the body of a loop, in which a name of its condition is changed first.
+fn changing_if(tree: &Tree<'_>, tested: &Branch, condition: &Branch) -> Option<Statement> {
+    let body = tested.last.wrapping_add(1);
+    let end = tree.statement(tree.around(tested.token)).end;
+    let parent = match tree.tokens.at(body) {
+        Lexeme::OpenBrace => tree.around(body),
+        _ => tree.around(tested.token),
+    };
+    let changed = first_change(tree, body, end, condition)?;
+    let mut found = tree.statement(tree.around(changed));
+    for _ in 0..MOST_LEVELS {
+        if found.parent == parent {
+            break;
+        }
+        found = tree.statement(found.parent);
+    }
+    if found.parent == parent
+        && found.construct == Construct::If
+        && else_of(tree, &found).is_none()
+    {
+        Some(found)
+    } else {
+        None
+    }
+}
+
+fn first_change(tree: &Tree<'_>, first: usize, end: usize, condition: &Branch) -> Option<usize> {
+    for token in first..end {
+        if changes(tree, token, condition) {
+            return Some(token);
+        }
+    }
+    None
+}
+
+// Whether something may be stored in a string at a token.
+fn may_store(tree: &Tree<'_>, token: usize) -> bool {
+    let branch = tree.made_by(token);
+    match branch.node {
+        Node::Called => !tree.is_call_of(&branch, "char") && !tree.is_call_of(&branch, "putchar"),
+        Node::Assigned(_) => tree.branch(branch.left).node != Node::Name,
+        _ => false,
+    }
+}
