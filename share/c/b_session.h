@@ -130,8 +130,8 @@ static inline uint8_t b_read_in(struct b_session *session, const struct b_talk *
     return count > 0 ? b_feed(session, room, count) : b_close_input(session);
 }
 
-/* Runs on to the end, or for so many steps at most, in slices of so many steps. It answers as b_continue does, and
- * B_LIMIT also where `goes_on` told to stop. */
+/* Runs on to the end, or for so many steps at most, in slices of so many steps, or in one if `slice` is 0. It answers as
+ * b_continue does, and B_LIMIT also where `goes_on` told to stop. */
 static inline uint8_t b_talk_on(struct b_session *session, const struct b_talk *talk, uint64_t steps, uint64_t slice,
                                 uint8_t *value) {
     struct b_place before, after;
@@ -140,7 +140,7 @@ static inline uint8_t b_talk_on(struct b_session *session, const struct b_talk *
         uint8_t told = b_place(session, &before);
         if (told != B_DONE || (talk->goes_on != 0 && !talk->goes_on(talk->own)))
             return told != B_DONE ? told : B_LIMIT;
-        status = b_continue(session, slice < steps ? slice : steps, value);
+        status = b_continue(session, slice > 0 && slice < steps ? slice : steps, value);
         told = b_write_out(session, talk);
         if (status == B_FAILED && told == B_DONE) {
             told = b_read_in(session, talk);

@@ -406,9 +406,10 @@ class Session:
         self._look_for_run()
         last = self.place().steps + _number("steps", steps, 0, 2**64 - 1)
         while True:
-            end = self._slice(min(last - self.place().steps, _SLICE))
-            if write is not None:
-                output = self.output()
+            try:
+                end = self._slice(min(last - self.place().steps, _SLICE))
+            finally:
+                output = self.output() if write is not None else b""
                 if output:
                     write(output)
             if end.why == "wants input":
