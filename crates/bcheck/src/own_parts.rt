@@ -1,6 +1,6 @@
 //! Fixes that are put together of what stands in the source.
 use crate::advice::Matter;
-use crate::finding::{Finding, Place};
+use crate::finding::{Finding, Place, SecondPlace};
 use crate::kinds::is_type_name;
 use crate::syntax::Syntax;
 use blint::Warning;
@@ -14,10 +14,11 @@ pub(crate) fn own_fix(
     alloc: Global,
     source: &[u8],
     finding: &Finding,
-    line: Option<u64>,
+    file: &str,
+    second: &Option<SecondPlace<'_>>,
 ) -> Result<Option<Text>, AllocError> {
     let rest = source.get(finding.place.start..).unwrap_or(&[]);
-    match (finding.matter, &finding.related, line) {
+    match (finding.matter, &finding.related, second) {
         (Matter::Syntax(Syntax::For), _, _) => loop_of_header(alloc, rest),
         (Matter::Syntax(Syntax::ForEach), _, _) => loop_of_range(alloc, rest),
         (Matter::Warning(Warning::Unset), _, _) => product(alloc, rest, finding.place.len),
@@ -28,8 +29,8 @@ pub(crate) fn own_fix(
         ),
         (Matter::Warning(Warning::ResultDropped), _, _) => kept(alloc, rest),
         (Matter::Warning(Warning::StoredBack), _, _) => swapped(alloc, rest),
-        (Matter::Syntax(Syntax::BraceOpen | Syntax::FunctionInside), Some(brace), Some(line)) =>
-            after_line(alloc, source, brace, line),
+        (Matter::Syntax(Syntax::BraceOpen | Syntax::FunctionInside), Some(brace), Some(second)) =>
+            after_line(alloc, source, brace, file, second),
         _ => Ok(None),
     }
 }
@@ -361,19 +362,24 @@ fn loop_of_range(alloc: Global, rest: &[u8]) -> Result<Option<Text>, AllocError>
     Ok(Some(text))
 }
 
-// The line after which the `}` of a brace is missing.
+// The line after which the `}` of a brace is missing, and its file, if it is another one.
 fn after_line(
     alloc: Global,
     source: &[u8],
     brace: &Place,
-    line: u64,
+    file: &str,
+    second: &SecondPlace<'_>,
 ) -> Result<Option<Text>, AllocError> {
     let Some((count, _)) = body_end(source, brace.start) else {
         return Ok(None);
     };
     let mut text = Text::new(alloc);
     text.push(b"write the } that is missing after line ")?;
-    text.push_number(line.saturating_add(count))?;
+    text.push_number(second.at.line.saturating_add(count))?;
+    if second.at.file != file {
+        text.push(b" of ")?;
+        text.push(second.at.file.as_bytes())?;
+    }
     Ok(Some(text))
 }
 

@@ -5,7 +5,9 @@ ghost use Rattle.bcheck.specs.Checks.{is_on_line};
 
 use crate::around::{Around, Region, opener_of};
 use crate::foreign::Foreign;
-use crate::kinds::{ANY, CLOSE_PAREN, COMMA, Like, OPEN_PAREN, STRING};
+use crate::kinds::{
+    ANY, CLOSE_PAREN, COMMA, Like, OPEN_PAREN, STRING, closes_bracket, is_ended, is_operand,
+};
 use crate::spans::{Spans, is_joined, is_next_line, lexeme_at, place_of};
 use blang::Keyword;
 use blex::Lexeme;
@@ -20,6 +22,7 @@ pub(crate) enum Syntax {
     OtherBracket,
     SourceEnds,
     Slashes,
+    SlashesDivide,
     BraceSemicolon,
     BraceCloses,
     StatementOutside,
@@ -104,10 +107,11 @@ impl Syntax {
             Syntax::ParenOpen =>
                 ("the bracket of line % is still open here", "write the ) or the ] that is missing before this"),
             Syntax::OtherBracket =>
-                ("the bracket of line % is of the other kind", "] closes what [ opens, and ) what ( opens"),
+                ("the bracket of line % is of another kind", "] closes what [ opens, ) what ( opens, and } what {"),
             Syntax::SourceEnds =>
                 ("the source ends here, and something is open", "write what is missing: a value, a ; or a statement"),
             Syntax::Slashes => ("this is no comment: // is the operator / twice", "/* remark */"),
+            Syntax::SlashesDivide => ("there is no operator //: / drops the fraction, too", "a / b"),
             Syntax::BraceSemicolon => ("a function ends with its }", "take the ; out"),
             Syntax::BraceCloses =>
                 ("no { is open that this } closes", "take it out, or look before it for a } too many"),
@@ -226,8 +230,12 @@ enum If {
     /// A `?` has no `:`.
     Asked,
     ParenOpen,
-    /// The token closes a bracket of the other kind, and no other one is open in the statement.
+    /// The token closes a bracket of another kind, and none is missing in the statement.
     OtherBracket,
+    /// The token closes a parenthesis or a bracket on a line of its own, where a brace is open.
+    BraceMeant,
+    /// Two slashes stand between an operand and another one, which a `;` or a bracket ends on the same line.
+    Divides,
     BraceOpen,
     /// The brace that is open is the one after the condition of an `if`.
     IfBrace,
@@ -326,10 +334,11 @@ const BODY: Option<Region> = Some(Region::Body);
 
 /// The end of the source, comments, and the first token of a definition.
 #[rattlefmt::skip]
-const BEGINNINGS: [Mistake; 10] = [
+const BEGINNINGS: [Mistake; 11] = [
     Mistake(None, If::ParenOpen, [ANY, ANY, ANY, END, ANY], Syntax::ParenOpen, Marking::Here),
     Mistake(None, If::BraceOpen, [ANY, ANY, ANY, END, ANY], Syntax::BraceOpen, Marking::Here),
     Mistake(None, If::Always, [ANY, ANY, ANY, END, ANY], Syntax::SourceEnds, Marking::Here),
+    Mistake(BODY, If::Divides, [ANY, Like::Ended, DIV, DIV, ANY], Syntax::SlashesDivide, Marking::Before),
     Mistake(None, If::Joined, [ANY, ANY, DIV, DIV, ANY], Syntax::Slashes, Marking::Before),
     Mistake(None, If::Always, [ANY, ANY, ANY, DIV, DIV], Syntax::Slashes, Marking::Here),
     Mistake(START, If::Always, [ANY, ANY, CLOSE_BRACE, SEMICOLON, ANY], Syntax::BraceSemicolon, Marking::Here),
@@ -403,7 +412,7 @@ const WORDS: [Mistake; 18] = [
 
 /// Operators and operands, and brackets around them.
 #[rattlefmt::skip]
-const OPERANDS: [Mistake; 26] = [
+const OPERANDS: [Mistake; 27] = [
     Mistake(BODY, If::Always, [ANY, ANY, OR, OR, ANY], Syntax::OrOr, Marking::Here),
     Mistake(BODY, If::Always, [IF_WHILE, ANY, CLOSE_PAREN, COLON, ANY], Syntax::HeadColon, Marking::Here),
     Mistake(BODY, If::Always, [ELSE, ANY, CLOSE_PAREN, COLON, ANY], Syntax::HeadColon, Marking::Here),
@@ -428,7 +437,8 @@ const OPERANDS: [Mistake; 26] = [
     Mistake(BODY, If::Asked, [ANY, ANY, Like::Ended, Like::Closes, ANY], Syntax::ColonMissing, Marking::Here),
     Mistake(BODY, If::Indexed, [ANY, ANY, Like::Ended, COMMA, Like::Operand], Syntax::TwoIndices, Marking::Here),
     Mistake(BODY, If::Returned, [ANY, ANY, Like::Ended, COMMA, ANY], Syntax::ReturnTwo, Marking::Here),
-    Mistake(BODY, If::OtherBracket, [ANY, ANY, Like::Ended, CLOSE_BRACKETS, ANY], Syntax::OtherBracket, Marking::Here),
+    Mistake(BODY, If::OtherBracket, [ANY, ANY, Like::Ended, Like::Closes, ANY], Syntax::OtherBracket, Marking::Here),
+    Mistake(BODY, If::BraceMeant, [ANY, ANY, STATEMENT_END, CLOSE_BRACKETS, ANY], Syntax::OtherBracket, Marking::Here),
     Mistake(BODY, If::ParenOpen, [ANY, ANY, Like::Ended, Like::Closes, ANY], Syntax::ParenOpen, Marking::Here),
 ];
 
@@ -563,6 +573,8 @@ fn holds(condition: If, source: &[u8], spans: &Spans, around: &Around) -> bool {
         If::ParenOpen => around.is_in(spans, Lexeme::OpenParen)
             || around.is_in(spans, Lexeme::OpenBracket),
         If::OtherBracket => is_other_bracket(spans, around),
+        If::BraceMeant => is_next_line(spans, before) && around.is_in(spans, Lexeme::OpenBrace),
+        If::Divides => divides(spans, around.token),
         If::BraceOpen => around.is_in(spans, Lexeme::OpenBrace),
         If::IfBrace => around.is_in(spans, Lexeme::OpenBrace) && is_after_if(spans, around.head()),
         If::For => around.is_call_of(spans, "for"),
@@ -579,28 +591,106 @@ fn holds(condition: If, source: &[u8], spans: &Spans, around: &Around) -> bool {
     }
 }
 
-// Whether a bracket closes one of the other kind, and no other one is open in the statement.
+// Whether a bracket closes one of another kind, and as many close in the statement as are open there.
 fn is_other_bracket(spans: &Spans, around: &Around) -> bool {
     let Some(opener) = around.opener else {
         return false;
     };
-    let is_other = matches!(
-        (lexeme_at(spans, opener), lexeme_at(spans, around.token)),
-        (Lexeme::OpenBracket, Lexeme::CloseParen) | (Lexeme::OpenParen, Lexeme::CloseBracket)
-    );
-    is_other && !is_open_before(spans, opener)
+    let next = lexeme_at(spans, around.token.wrapping_add(1));
+    let is_other = match (lexeme_at(spans, opener), lexeme_at(spans, around.token)) {
+        (Lexeme::OpenBracket, Lexeme::CloseParen) | (Lexeme::OpenParen, Lexeme::CloseBracket) => {
+            true
+        }
+        (Lexeme::OpenBracket | Lexeme::OpenParen, Lexeme::CloseBrace) => {
+            !is_next_line(spans, around.token.wrapping_sub(1))
+                && matches!(
+                    next,
+                    Lexeme::CloseParen | Lexeme::CloseBracket | Lexeme::Semicolon
+                )
+        }
+        _ => false,
+    };
+    is_other && closing_from(spans, around.token) >= open_before(spans, around.token)
 }
 
-// Whether a bracket is open before a token, in its statement.
-fn is_open_before(spans: &Spans, token: usize) -> bool {
-    let mut depth: u64 = 0;
+// How many brackets are open before a token in its statement.
+fn open_before(spans: &Spans, token: usize) -> u64 {
+    let (mut open, mut depth): (u64, u64) = (0, 0);
     for back in 0..token {
         match lexeme_at(spans, token.saturating_sub(back).saturating_sub(1)) {
             Lexeme::CloseParen | Lexeme::CloseBracket => depth = depth.saturating_add(1),
-            Lexeme::OpenParen | Lexeme::OpenBracket if depth == 0 => return true,
+            Lexeme::OpenParen | Lexeme::OpenBracket if depth == 0 => open = open.saturating_add(1),
             Lexeme::OpenParen | Lexeme::OpenBracket => depth = depth.saturating_sub(1),
-            Lexeme::Semicolon | Lexeme::OpenBrace | Lexeme::CloseBrace => return false,
+            Lexeme::Semicolon | Lexeme::OpenBrace | Lexeme::CloseBrace => return open,
             _ => {}
+        }
+    }
+    open
+}
+
+// How many brackets are closed from a token on in its statement that were opened before. The token closes one.
+fn closing_from(spans: &Spans, token: usize) -> u64 {
+    let (mut closed, mut depth): (u64, u64) = (1, 0);
+    for at in token.saturating_add(1)..spans.end() {
+        match lexeme_at(spans, at) {
+            Lexeme::OpenParen | Lexeme::OpenBracket => depth = depth.saturating_add(1),
+            Lexeme::CloseParen | Lexeme::CloseBracket if depth == 0 => {
+                closed = closed.saturating_add(1);
+            }
+            Lexeme::CloseParen | Lexeme::CloseBracket => depth = depth.saturating_sub(1),
+            Lexeme::Semicolon | Lexeme::OpenBrace | Lexeme::CloseBrace => return closed,
+            _ => {}
+        }
+    }
+    closed
+}
+
+// Whether two slashes, of which this token is the second one, stand between the operands of a division: an operand ends
+// before them, and an expression of numbers and of names that stand before comes after them, up to a `;` or a bracket
+// on the same line.
+fn divides(spans: &Spans, token: usize) -> bool {
+    let (first, before) = (token.wrapping_sub(1), token.wrapping_sub(2));
+    let next = token.saturating_add(1);
+    if is_heading_end(spans, before) || !is_joined(spans, first) || is_next_line(spans, token) {
+        return false;
+    }
+    let mut is_after = false;
+    for at in next..spans.end() {
+        let lexeme = lexeme_at(spans, at);
+        if closes_bracket(&lexeme) || matches!(lexeme, Lexeme::Semicolon | Lexeme::Comma) {
+            return is_after;
+        }
+        let is_known = !Like::Name.fits(&lexeme) || is_named_between(spans, first, &lexeme);
+        let is_part = if is_operand(&lexeme) {
+            !is_after && is_known
+        } else {
+            matches!(
+                lexeme,
+                Lexeme::Operator(_) | Lexeme::OpenParen | Lexeme::OpenBracket
+            )
+        };
+        if !is_part || is_next_line(spans, at) {
+            return false;
+        }
+        is_after = is_ended(&lexeme);
+    }
+    false
+}
+
+// Whether a token is the `)` of a condition.
+fn is_heading_end(spans: &Spans, closer: usize) -> bool {
+    lexeme_at(spans, closer) == Lexeme::CloseParen
+        && matches!(
+            opener_of(spans, closer),
+            Some(opener) if IF_WHILE.fits(&lexeme_at(spans, opener.wrapping_sub(1)))
+        )
+}
+
+// Whether a token stands before another one, too.
+fn is_named_between(spans: &Spans, end: usize, lexeme: &Lexeme) -> bool {
+    for at in spans.first..end {
+        if lexeme_at(spans, at) == *lexeme {
+            return true;
         }
     }
     false

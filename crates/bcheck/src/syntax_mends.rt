@@ -194,8 +194,8 @@ fn of_expression(draft: &mut Draft<'_>, site: Site, syntax: Syntax) -> Result<()
     let next = token.wrapping_add(1);
     match syntax {
         Syntax::ParenOpen => closing(draft, token),
-        Syntax::OtherBracket if draft.at(token) == Lexeme::CloseParen => draft.rename(token, b"]"),
-        Syntax::OtherBracket => draft.rename(token, b")"),
+        Syntax::OtherBracket => other_bracket(draft, token),
+        Syntax::SlashesDivide => draft.replace(token, next, &[Part::Words(b"/")]),
         Syntax::OrOr => mend_logic(draft, Logic::Or, before, token),
         Syntax::EqualsAfter => draft.replace(
             before,
@@ -222,6 +222,19 @@ fn of_expression(draft: &mut Draft<'_>, site: Site, syntax: Syntax) -> Result<()
             let is_inside = opener_before(draft, token).is_some();
             draft.after(before, if is_inside { b"," } else { b";" })
         }
+        _ => Ok(()),
+    }
+}
+
+// The bracket that closes the one which is open before a token, in the place of another one.
+fn other_bracket(draft: &mut Draft<'_>, token: usize) -> Result<(), AllocError> {
+    let Some(opener) = opener_of(draft.spans, token) else {
+        return Ok(());
+    };
+    match draft.at(opener) {
+        Lexeme::OpenBracket => draft.rename(token, b"]"),
+        Lexeme::OpenParen => draft.rename(token, b")"),
+        Lexeme::OpenBrace => draft.rename(token, b"}"),
         _ => Ok(()),
     }
 }

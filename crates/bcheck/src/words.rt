@@ -47,21 +47,13 @@ impl Words {
         };
         let sentence = filled(alloc, sentence, &given)?;
         let general = filled(alloc, fix, &given)?;
-        let own = own_fix(alloc, source, finding, own_line(file, second))?;
+        let own = own_fix(alloc, source, finding, file, second)?;
         let fix = own_or(alloc, own, general)?;
         Ok(Words {
             code,
             sentence,
             fix,
         })
-    }
-}
-
-// The line of a second place, if it is in this file.
-fn own_line(file: &str, second: &Option<SecondPlace<'_>>) -> Option<u64> {
-    match second {
-        Some(second) if second.at.file == file => Some(second.at.line),
-        _ => None,
     }
 }
 

@@ -145,7 +145,7 @@ pub(crate) fn exclusive_or(
     found: Exclusive,
 ) -> Result<(), AllocError> {
     let last = found.end.wrapping_sub(1);
-    if !is_pure(source, found.first, found.end) || !source.is_plain(found.first, last) {
+    if !is_quiet(source, found.first, found.end) || !source.is_plain(found.first, last) {
         return draft.note(source, found.sign, NoteKind::Exclusive);
     }
     let (start, end) = (source.start(found.first), source.end(last));
@@ -176,7 +176,7 @@ pub(crate) fn exclusive_assignment(
     let first = sign.wrapping_add(1);
     let end = source.semicolon(sign);
     let is_whole = source.is_name(name) && source.begins_statement(name) && end != NONE;
-    if !is_whole || !is_pure(source, first, end) || !source.is_plain(sign, end) {
+    if !is_whole || !is_quiet(source, first, end) || !source.is_plain(sign, end) {
         return draft.note(source, sign, NoteKind::Exclusive);
     }
     let edits = &draft.edits;
@@ -211,9 +211,19 @@ pub(crate) fn exclusive_assignment(
 /// Whether no token from one up to another calls, stores or may end the run.
 pub(crate) fn is_pure(source: &Source<'_>, first: usize, end: usize) -> bool {
     for index in first..end.min(source.tokens.len()) {
+        if matches!(source.word(index), b"/" | b"%") {
+            return false;
+        }
+    }
+    is_quiet(source, first, end)
+}
+
+// Whether no token from one up to another calls or stores.
+fn is_quiet(source: &Source<'_>, first: usize, end: usize) -> bool {
+    for index in first..end.min(source.tokens.len()) {
         let before = index.wrapping_sub(1);
         match source.word(index) {
-            b"++" | b"--" | b"/" | b"%" => return false,
+            b"++" | b"--" => return false,
             b"(" if index > first && is_callee(source, before) => return false,
             word if is_assignment(word) => return false,
             _ => {}

@@ -13,16 +13,17 @@ use crate::logic::signs;
 use crate::loops::loops_of;
 use crate::mentions::{heap, mentions};
 use crate::names::{Constants, name, number, short_names};
+use crate::parts::SourceParts;
 use crate::quotes::quoted;
 use crate::remarks::remarks;
 use crate::row::{Note, NoteKind};
-use crate::shape::{ends_of, is_closing, is_opening, partners_of, semicolons_of};
+use crate::shape::{ends_of, is_closing, is_opening};
 use crate::source::{Dialect, Draft, Source};
 use crate::statements::statement;
 use crate::staying::{has_refused, tell_old};
 use crate::streams::streams;
-use crate::table::{NONE, first_names, word_of};
-use crate::tokens::{Token, TokenKind, tokens_of};
+use crate::table::NONE;
+use crate::tokens::TokenKind;
 use crate::within::{Within, places_of};
 use btools::{Origin, ProgramFault, Text, read_program};
 use bword::Edition;
@@ -98,7 +99,7 @@ fn plain_notes(alloc: Global, source: &[u8]) -> Result<Vec<Note>, AllocError> {
             draft.note_first(at, kind)?;
         }
     }
-    plain_tokens(alloc, source, &places, &mut draft)?;
+    plain_tokens(alloc, source, &mut draft)?;
     let Draft {
         alloc: _,
         edits: _,
@@ -108,29 +109,13 @@ fn plain_notes(alloc: Global, source: &[u8]) -> Result<Vec<Note>, AllocError> {
     Ok(notes)
 }
 
-fn plain_tokens(
-    alloc: Global,
-    text: &[u8],
-    places: &[Within],
-    draft: &mut Draft,
-) -> Result<(), AllocError> {
-    let tokens = tokens_of(alloc, text, places)?;
-    let partners = partners_of(alloc, text, &tokens)?;
-    let bare = Source {
-        text,
-        places,
-        tokens: &tokens,
-        partners: &partners,
-        semicolons: &[],
-        ends: &[],
-        firsts: &[],
-        edition: Edition::One,
-        dialect: dialect_of(text, &tokens),
-    };
+fn plain_tokens(alloc: Global, text: &[u8], draft: &mut Draft) -> Result<(), AllocError> {
+    let parts = SourceParts::of(alloc, text)?;
+    let bare = parts.source(text, Edition::One);
     if let Some(call) = without_base(&bare) {
         draft.note(&bare, call, NoteKind::Base)?;
     }
-    for index in 0..tokens.len() {
+    for index in 0..bare.tokens.len() {
         if bare.dialect != Dialect::Early && is_joined(&bare, index) {
             draft.note_once(&bare, index, NoteKind::Signs)?;
         } else if may_wrap(&bare, index) {
@@ -226,23 +211,8 @@ fn draft_of(
     rest: &[u8],
     edition: Edition,
 ) -> Result<Draft, AllocError> {
-    let places = places_of(alloc, text)?;
-    let tokens = tokens_of(alloc, text, &places)?;
-    let partners = partners_of(alloc, text, &tokens)?;
-    let semicolons = semicolons_of(alloc, text, &tokens, &partners)?;
-    let firsts = first_names(alloc, text, &tokens)?;
-    let dialect = dialect_of(text, &tokens);
-    let bare = Source {
-        text,
-        places: &places,
-        tokens: &tokens,
-        partners: &partners,
-        semicolons: &semicolons,
-        ends: &[],
-        firsts: &firsts,
-        edition,
-        dialect,
-    };
+    let parts = SourceParts::of(alloc, text)?;
+    let bare = parts.source(text, edition);
     let ends = ends_of(alloc, &bare)?;
     let source = Source {
         ends: &ends,
@@ -267,63 +237,40 @@ fn unpaired(source: &Source<'_>) -> Option<usize> {
     None
 }
 
-// By its assignment operators and types.
-fn dialect_of(text: &[u8], tokens: &[Token]) -> Dialect {
-    let mut is_later = false;
-    let mut is_early = false;
-    for index in 0..tokens.len() {
-        match word_of(text, tokens, index) {
-            b"+=" | b"-=" | b"*=" | b"/=" | b"%=" | b"<<=" | b">>=" | b"int" => is_later = true,
-            b"=+" | b"=-" | b"=*" | b"=&" | b"=/" | b"=|" => {
-                if matches!(text.get(tokens[index].end), Some(b' ')) {
-                    is_early = true;
-                }
-            }
-            _ => {}
-        }
-    }
-    match (is_early, is_later) {
-        (true, false) => Dialect::Early,
-        (false, true) => Dialect::Later,
-        _ => Dialect::Either,
-    }
-}
-
 fn draft_rows(
     alloc: Global,
     source: &Source<'_>,
     rest: &[u8],
     draft: &mut Draft,
 ) -> Result<(), AllocError> {
+    let parts = SourceParts::of(alloc, rest)?;
+    let others = parts.source(rest, source.edition);
     let mut constants = Constants::new(alloc);
     remarks(draft, &mut constants, source.text, source.places)?;
     let mut outline = outline_of(alloc, source, draft, &mut constants)?;
-    let places = places_of(alloc, rest)?;
-    let tokens = tokens_of(alloc, rest, &places)?;
-    let partners = partners_of(alloc, rest, &tokens)?;
-    let firsts = first_names(alloc, rest, &tokens)?;
-    let others = Source {
-        text: rest,
-        places: &places,
-        tokens: &tokens,
-        partners: &partners,
-        semicolons: &[],
-        ends: &[],
-        firsts: &firsts,
-        edition: source.edition,
-        dialect: Dialect::Either,
-    };
-    let short = short_names(alloc, source, &others)?;
+    draft_words(alloc, source, &others, draft, &constants, &outline)?;
+    draft_statements(alloc, source, draft, &mut outline)
+}
+
+// Edits what is one word, and calls, beside the other files.
+fn draft_words(
+    alloc: Global,
+    source: &Source<'_>,
+    others: &Source<'_>,
+    draft: &mut Draft,
+    constants: &Constants,
+    outline: &Outline,
+) -> Result<(), AllocError> {
+    let short = short_names(alloc, source, others)?;
     for index in 0..source.tokens.len() {
         if !outline.is_gone(index) {
-            token(source, draft, &constants, &short, index)?;
+            token(source, draft, constants, &short, index)?;
         }
     }
-    calls(alloc, source, &others, draft)?;
-    streams(source, &others, draft)?;
-    mentions(alloc, source, draft, &outline, &short)?;
-    heap(source, &others, draft, &outline)?;
-    draft_statements(alloc, source, draft, &mut outline)
+    calls(alloc, source, others, draft)?;
+    streams(source, others, draft)?;
+    mentions(alloc, source, draft, outline, &short)?;
+    heap(source, others, draft, outline)
 }
 
 // Edits operators that stand for several, and statements, from the innermost ones on.

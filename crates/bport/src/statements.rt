@@ -2,11 +2,13 @@
 use crate::apply::render;
 use crate::definitions::{Outline, after_types, negative, types};
 use crate::edit::is_free;
+use crate::lists::listed;
 use crate::logic::after_part;
 use crate::loops::{Loops, do_loop, for_loop, repeat, turn, while_loop};
 use crate::names::is_type;
 use crate::row::{NoteKind, Row};
 use crate::shape::case_colon;
+use crate::sizes::{external_size, local_size};
 use crate::source::{Draft, Source};
 use crate::table::{NONE, slot};
 use crate::tokens::TokenKind;
@@ -46,6 +48,7 @@ pub(crate) fn statement(
         b"break" | b"default" => newer(source, draft, index),
         b"extern" | b"extrn" => external(source, draft, index),
         b"auto" => locals(source, draft, next, next),
+        b"[" if slot(&outline.owners, index) == NONE => external_size(source, draft, index),
         b":" if source.is_close_brace(next) && ends_label(source, index) => {
             draft.insert(source.end(index), b" ;", Row::Empty)
         }
@@ -266,20 +269,31 @@ fn local(
         draft.remove(source, from, name, Row::Type)?;
     }
     let sign = name.wrapping_add(1);
-    let close = source.partner(sign);
     match source.word(sign) {
-        b"[" if close == sign.wrapping_add(2) => {
-            draft.put(
-                source.end(name),
-                source.start(sign.wrapping_add(1)),
-                b" ",
-                Row::Vector,
-            )?;
-            draft.replace(source, close, b"", Row::Vector)
-        }
+        b"[" => vector(source, draft, values, name, end),
         b"=" if sign < end => value(source, draft, values, name, end),
         _ => Ok(()),
     }
+}
+
+// A vector without brackets, with its last index, and a statement for each of its values.
+fn vector(
+    source: &Source<'_>,
+    draft: &mut Draft,
+    values: &mut Text,
+    name: usize,
+    end: usize,
+) -> Result<(), AllocError> {
+    if listed(source, draft, values, name, end)? {
+        return Ok(());
+    }
+    let size = name.wrapping_add(2);
+    let close = size.wrapping_add(1);
+    if source.partner(name.wrapping_add(1)) != close {
+        return local_size(source, draft, name);
+    }
+    draft.put(source.end(name), source.start(size), b" ", Row::Vector)?;
+    draft.replace(source, close, b"", Row::Vector)
 }
 
 // Makes a statement of the value of a name.

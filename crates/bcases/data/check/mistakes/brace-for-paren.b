@@ -1,0 +1,5 @@
+main() {
+    auto x;
+    x = getchar();
+    putchar(x};
+}

@@ -1,0 +1,6 @@
+main() {
+    auto s, i;
+    s = "abc";
+    i = 1;
+    putchar(char(s, i]);
+}

@@ -1,0 +1,72 @@
+//! What is known of a source before anything of it is edited.
+use crate::shape::{partners_of, semicolons_of};
+use crate::source::{Dialect, Source};
+use crate::table::{first_names, word_of};
+use crate::tokens::{Token, tokens_of};
+use crate::within::{Within, places_of};
+use bword::Edition;
+use std::alloc::{AllocError, Global};
+
+/// In what each byte of a source stands, its tokens, and what is known of each of these.
+#[derive(Drop)]
+pub(crate) struct SourceParts {
+    places: Vec<Within>,
+    tokens: Vec<Token>,
+    partners: Vec<usize>,
+    semicolons: Vec<usize>,
+    firsts: Vec<usize>,
+}
+
+impl SourceParts {
+    pub(crate) fn of(alloc: Global, text: &[u8]) -> Result<Self, AllocError> {
+        let places = places_of(alloc, text)?;
+        let tokens = tokens_of(alloc, text, &places)?;
+        let partners = partners_of(alloc, text, &tokens)?;
+        let semicolons = semicolons_of(alloc, text, &tokens, &partners)?;
+        let firsts = first_names(alloc, text, &tokens)?;
+        Ok(SourceParts {
+            places,
+            tokens,
+            partners,
+            semicolons,
+            firsts,
+        })
+    }
+
+    /// The text that has these parts, without the ends of its statements.
+    pub(crate) fn source<'a>(&'a self, text: &'a [u8], edition: Edition) -> Source<'a> {
+        Source {
+            text,
+            places: &self.places,
+            tokens: &self.tokens,
+            partners: &self.partners,
+            semicolons: &self.semicolons,
+            ends: &[],
+            firsts: &self.firsts,
+            edition,
+            dialect: dialect_of(text, &self.tokens),
+        }
+    }
+}
+
+// By its assignment operators and types.
+fn dialect_of(text: &[u8], tokens: &[Token]) -> Dialect {
+    let mut is_later = false;
+    let mut is_early = false;
+    for index in 0..tokens.len() {
+        match word_of(text, tokens, index) {
+            b"+=" | b"-=" | b"*=" | b"/=" | b"%=" | b"<<=" | b">>=" | b"int" => is_later = true,
+            b"=+" | b"=-" | b"=*" | b"=&" | b"=/" | b"=|" => {
+                if matches!(text.get(tokens[index].end), Some(b' ')) {
+                    is_early = true;
+                }
+            }
+            _ => {}
+        }
+    }
+    match (is_early, is_later) {
+        (true, false) => Dialect::Early,
+        (false, true) => Dialect::Later,
+        _ => Dialect::Either,
+    }
+}
