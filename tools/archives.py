@@ -366,6 +366,7 @@ PACKAGE = """{{
   "exports": {{
     ".": {{ "types": "./b.d.ts", "default": "./b.mjs" }},
     "./b.wasm": "./b.wasm",
+    "./sessions.wasm": "./sessions.wasm",
     "./bcode": "./bcode.mjs",
     "./package.json": "./package.json"
   }},

@@ -159,6 +159,20 @@ class Proved:
             log.seek(0)
             return re.findall(r"^logic=proved .*", log.read(), re.M)[-1]
 
+    def leave(self):
+        """Lets other runs of the kit work in the folders of the crate, and of those below it."""
+        for folder in self.crate.held if self.crate else ():
+            os.close(folder)
+        self.crate = None
+
+    def facts(self, build):
+        """What PROVED says of a build of the crate: of which sources it is, and by what."""
+        return [
+            f"sources (sha256 of the list of their digests): {self.sources}",
+            f"the check of the crate {self.name}, over the proved libraries: {build.verdict}",
+            f"what the backend made of it (sha256): {digest(build.module)}",
+        ]
+
     def tell(self, folder, head, build, told):
         """Writes PROVED into a folder: what its files are, of which sources, by what, and their digests."""
         files = sorted(it for it in folder.rglob("*") if it.is_file() and it.name != "PROVED")
@@ -166,9 +180,7 @@ class Proved:
             head,
             f"commit: {run('git', 'rev-parse', 'HEAD', cwd=TOP).strip()}",
             f"kit: {run('rt', 'version').strip()}",
-            f"sources (sha256 of the list of their digests): {self.sources}",
-            f"the check of the crate {self.name}, over the proved libraries: {build.verdict}",
-            f"what the backend made of it (sha256): {digest(build.module)}",
+            *self.facts(build),
             *told,
             "the files (sha256):",
             *[f"{digest(it)}  {it.relative_to(folder)}" for it in files],

@@ -4,7 +4,8 @@
 //
 // Each case of crates/bcases/data is answered byte for byte as by PROGRAM. In the rows of tools/rows_to_fail.sh each
 // open, read and write fails in turn, or moves one byte, and the memory has each size from that at the start on. The
-// command line and each call of b.mjs answers as PROGRAM, and so does b.wasm as Node's own host of WASI runs it.
+// command line and each call of b.mjs answers as PROGRAM, and so does b.wasm as Node's own host of WASI runs it, and
+// sessions.wasm in slices.
 //
 // RUNS is a list in JSON. Each run in it has `command`, `args`, `file` and `stdin`, which may be null, and its answer:
 // `status`, `stdout` and `stderr`, of which null is any text but none.
@@ -13,9 +14,10 @@ import fs from 'node:fs';
 import os from 'node:os';
 import path from 'node:path';
 import {fileURLToPath, pathToFileURL} from 'node:url';
+import {withMost} from './module_memory.mjs';
 
 const [folder, native, runsFile] = process.argv.slice(2).map(it => path.resolve(it));
-const {load, Failed} = await import(pathToFileURL(path.join(folder, 'b.mjs')).href);
+const {load, loadSessions, Failed, Refused} = await import(pathToFileURL(path.join(folder, 'b.mjs')).href);
 const TOP = fileURLToPath(new URL('..', import.meta.url)), DATA = path.join(TOP, 'crates/bcases/data');
 const PAGE = 65536, MOST_PAGES = 32, MOST_TOLD = 10;
 const module = fs.readFileSync(path.join(folder, 'b.wasm'));
@@ -199,38 +201,12 @@ function inTurn(row, kind) {
   }
 }
 
-/** The module with a memory of so many pages at most; and how many it has at the start. */
-function withMost(pages) {
-  for (let at = 8; at < module.length; ) {
-    const section = module[at], size = numberAt(at + 1), end = size.end + size.value;
-    if (section !== 5) {
-      at = end;
-      continue;
-    }
-    const least = numberAt(size.end + 2);
-    const body = [1, 1, ...module.subarray(size.end + 2, least.end), ...numberOf(pages)];
-    const parts = [module.subarray(0, at), Buffer.from([5, body.length, ...body]), module.subarray(end)];
-    return {bytes: Buffer.concat(parts), least: least.value};
-  }
-  throw new Error('the module has no memory of its own');
-}
-
-function numberAt(at) {
-  let value = 0, shift = 0;
-  for (;; shift += 7) {
-    value += (module[at] & 127) << shift;
-    if (module[at++] < 128) return {value, end: at};
-  }
-}
-
-const numberOf = value => (value < 128 ? [value] : [(value & 127) | 128, ...numberOf(value >> 7)]);
-
 /** Runs all rows with a memory that can't grow, then with one page more, and so on. */
 async function tryMemory(rows) {
-  const {least} = withMost(0);
+  const {least} = withMost(module, 0);
   let runs = 0, ended = 0;
   for (let pages = least; pages <= MOST_PAGES; pages++) {
-    const program = await load(withMost(pages).bytes);
+    const program = await load(withMost(module, pages).bytes);
     for (const row of rows) {
       const got = run(program, row.words, keep => new FailingSystem(row, 'none', 0).io(keep));
       const isWhole = isSame(got, row.whole) || isSame(got, unsearched(row.whole));
@@ -376,7 +352,55 @@ function tryHosts() {
   console.log('the command line, the calls of b.mjs, and node:wasi');
 }
 
+// ---- Sessions ----
+
+const SLICE = 997, DEFAULT_STEPS = 10_000_000;
+
+/** The program of a source in slices, and what the command `go` answers to it. */
+function inSlices(sessions, source, edition, input) {
+  const kept = [];
+  try {
+    const it = sessions.load(source, {edition, input});
+    it.closeInput();
+    let end;
+    for (end of it.slices(SLICE)) {
+      kept.push(it.output());
+      if (it.steps > DEFAULT_STEPS - SLICE) break;
+    }
+    if (end.why === 'limit') end = it.goOn(DEFAULT_STEPS - it.steps);
+    kept.push(it.output());
+    it.free();
+    const status = {halted: end.status, trapped: 130, limit: 131}[end.why];
+    const line = {halted: '', trapped: `trap ${end.trap}\n`, limit: 'limit\n'}[end.why];
+    return {status, out: Buffer.concat(kept), line: Buffer.from(line)};
+  } catch (error) {
+    if (!(error instanceof Refused)) throw error;
+    return {status: error.status, out: Buffer.concat(kept), line: Buffer.from(error.line)};
+  }
+}
+
+/** Each case of `go` with a source alone, as a session. */
+async function trySessions() {
+  const sessions = await loadSessions(fs.readFileSync(path.join(folder, 'sessions.wasm')));
+  let runs = 0;
+  for (const file of fs.readdirSync(DATA, {recursive: true}).filter(it => it.endsWith('.args')).sort()) {
+    const at = kind => path.join(DATA, file).replace(/args$/, kind);
+    const [command, ...words] = fs.readFileSync(at('args'), 'utf8').replace(/\n$/, '').split('\n');
+    const [name, ...rest] = words.filter(it => !it.startsWith('--edition='));
+    if (command !== 'go' || rest.length > 0 || !at('b').endsWith(`/${name}`)) continue;
+    const given = words.find(it => it.startsWith('--edition='))?.slice('--edition='.length) ?? '1';
+    for (const edition of given === 'both' ? [1, 2] : [Number(given)]) {
+      const input = readOr(at('in'), Buffer.alloc(0)), got = inSlices(sessions, readOr(at('b')), edition, input);
+      const wanted = runNative(['go', '--edition', `${edition}`, name], input, path.dirname(at('b')));
+      expect(isSame(got, wanted), `${file}, a session: native ${shown(wanted)}; ${shown(got)}`);
+      runs++;
+    }
+  }
+  console.log(`${runs} cases in slices`);
+}
+
 tryCases();
+await trySessions();
 if (runsFile) tryRuns();
 tryHosts();
 await tryFailures();

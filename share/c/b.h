@@ -43,7 +43,9 @@ enum {
     B_REFUSED = 132,       /* the text is no code text, or its code doesn't load; the line tells why */
     B_FAILED = 133,        /* a room is too small */
     B_NO_MEMORY = 134,     /* out of memory */
-    B_WRONG_EDITION = 135  /* there is no edition of this number, or a name isn't UTF-8; nothing was written */
+    B_WRONG_EDITION = 135, /* there is no edition of this number, or a name isn't UTF-8; nothing was written */
+    B_HAS_OUTPUT = 136,    /* a session has more output than its limit; see b_session.h */
+    B_TOO_LARGE = 137      /* a session has more operands or memory than its limit */
 };
 
 /* Compiles a source of edition 1 or 2 to its code text, as `b compile` does. */

@@ -8,8 +8,9 @@
  *
  * However a run is cut into slices, it is the same run. Beside what b.h says, the caller sees to this:
  * - A session is B_NO_SESSION at first. Of its two pointers only the calls write one; a copy of it isn't used.
- * - b_load and b_load_code get one without a program, b_begin one with a program and without a run, b_unload the same.
- *   All else gets one with a run. Its pointers tell: without a program or a run it is null. b_start and b_free look.
+ * - The four calls that load get one without a program, b_begin one with a program and without a run, b_unload the
+ *   same, and b_name_of one with a program. All else gets one with a run. Its pointers tell: without a program or a run
+ *   it is null. b_start and b_free look.
  * - Threads may each have sessions of their own. A session is in one call at a time.
  * - b_free comes last, or the memory of the session stays. */
 #ifndef B_SESSION_H
@@ -29,17 +30,22 @@ struct b_session {
 #define B_NO_SESSION {0, 0}
 
 /* Where a run stands: its function, by the address of its first string word, the place of its next instruction, how
- * many calls are below, and how many steps were made. After the end of a run it is the call that ran before the last
- * step. */
+ * many calls are below, how many steps were made, and the line of that instruction, or 0 where there is none. It is a
+ * line of the source, where files that follow it count on; of a code text its own line, or an author's. After the end
+ * of a run it is the call that ran before the last step. */
 struct b_place {
     uint32_t function;
     size_t place;
     size_t callers;
     uint64_t steps;
+    uint64_t line;
 };
 
 /* The traps by their numbers, from 1, as the lines of `b` name them. */
 static const char b_traps[8][3] = {"", "dz", "fn", "gt", "st", "dp", "bs", "sk"};
+
+/* What there is too much of, beside B_TOO_LARGE. */
+enum { B_OPERANDS = 1, B_PAGES = 2 };
 
 /* Compiles a source of edition 1 or 2, or reads a code text of either edition, and puts the program in memory. The
  * status is B_DONE; B_FAULT or B_REFUSED, where b_compile or b_run has the line; B_NO_MEMORY; or B_WRONG_EDITION.
@@ -47,8 +53,23 @@ static const char b_traps[8][3] = {"", "dz", "fn", "gt", "st", "dp", "bs", "sk"}
 uint8_t b_load(const uint8_t *source, size_t source_size, uint8_t edition, struct b_session *session);
 uint8_t b_load_code(const uint8_t *code, size_t code_size, struct b_session *session);
 
-/* Begins a run, with no input yet. The status is B_DONE; B_TRAP where there is no function `main` to begin with; or
- * B_NO_MEMORY. Unless it is B_DONE there is no run. */
+/* The same of a source with the files that follow it, and of a code text with an author's file of lines and one of
+ * names, as CODE.md tells them; none where its size is 0. Unless the status is B_DONE there is no program, and the line
+ * tells why, as `b` does; after a fault in a file that follows, its line there. With B_WRONG_EDITION there is no such
+ * edition, or a file's name isn't UTF-8, and no line; or an author's file isn't one of this code text. */
+uint8_t b_load_with(const uint8_t *source, size_t source_size, const struct b_file *files, size_t file_count,
+                    uint8_t edition, uint8_t *line, size_t line_size, struct b_written *written,
+                    struct b_session *session);
+uint8_t b_load_code_with(const uint8_t *code, size_t code_size, const uint8_t *lines, size_t lines_size,
+                         const uint8_t *names, size_t names_size, uint8_t *line, size_t line_size,
+                         struct b_written *written, struct b_session *session);
+
+/* Tells the name of the function whose first string word has this address. B_FAILED where the room is too small and has
+ * its beginning; B_REFUSED where no function lies there; or B_NO_MEMORY. */
+uint8_t b_name_of(struct b_session *session, uint32_t function, uint8_t *room, size_t room_size, size_t *count);
+
+/* Begins a run, with no input yet. The status is B_DONE; B_TRAP where the memory has no room for the frame of `main`,
+ * which is trap 4; or B_NO_MEMORY. Unless it is B_DONE there is no run. */
 uint8_t b_begin(struct b_session *session);
 
 /* Makes so many steps at most, and tells why it ends:
@@ -56,9 +77,17 @@ uint8_t b_begin(struct b_session *session);
  *   B_TRAP       a trap has ended it, and `value` is its number;
  *   B_LIMIT      all steps were made;
  *   B_FAILED     the next step asks for a byte that isn't there yet: feed it, or close the input;
+ *   B_HAS_OUTPUT more output is there than the limit;
+ *   B_TOO_LARGE  more operands or pages are there than the limit, and `value` tells which;
  *   B_NO_MEMORY  memory was refused, and the run is lost.
  * A run that is over tells its end again. */
 uint8_t b_continue(struct b_session *session, uint64_t steps, uint8_t *value);
+
+/* Sets how much a run may hold: so many operands, so many pages of 256 words of its memory, and so many bytes of
+ * output. A slice is made in parts of at most 65536 steps, and ends after one where more is there. It makes no step
+ * where more is there already, and goes on once the output was taken or the limits are raised. With 0 bytes of output a
+ * slice ends where any is there. A run begins without limits. */
+uint8_t b_limit(struct b_session *session, size_t operands, uint16_t pages, size_t output);
 
 /* Adds bytes to the input; none with B_NO_MEMORY, and with B_WRONG_EDITION where the input was closed. */
 uint8_t b_feed(struct b_session *session, const uint8_t *bytes, size_t size);
@@ -69,7 +98,7 @@ uint8_t b_close_input(struct b_session *session);
 /* Takes as much of the output as there is room for, and tells how much. None was taken with B_NO_MEMORY. */
 uint8_t b_output(struct b_session *session, uint8_t *room, size_t room_size, size_t *count);
 
-/* Tells where the run stands; B_NO_MEMORY where it is lost. */
+/* Tells where the run stands; B_NO_MEMORY where it is lost, or memory is refused. */
 uint8_t b_place(struct b_session *session, struct b_place *place);
 
 /* Tells the word at an address, or stores one; B_NO_MEMORY where the run is lost, or memory is refused. */
@@ -130,29 +159,30 @@ static inline uint8_t b_read_in(struct b_session *session, const struct b_talk *
     return count > 0 ? b_feed(session, room, count) : b_close_input(session);
 }
 
-/* Runs on to the end, or for so many steps at most, in slices of so many steps, or in one if `slice` is 0. It answers as
- * b_continue does, and B_LIMIT also where `goes_on` told to stop. */
+/* Runs on to the end, or for so many steps at most, in slices of so many steps, or in one if `slice` is 0. It answers
+ * as b_continue does, and B_LIMIT also where `goes_on` told to stop. Output past the limit is handed on, and the run
+ * goes on. */
 static inline uint8_t b_talk_on(struct b_session *session, const struct b_talk *talk, uint64_t steps, uint64_t slice,
                                 uint8_t *value) {
     struct b_place before, after;
-    uint8_t status = B_LIMIT;
-    while (status == B_LIMIT && steps > 0) {
-        uint8_t told = b_place(session, &before);
-        if (told != B_DONE || (talk->goes_on != 0 && !talk->goes_on(talk->own)))
-            return told != B_DONE ? told : B_LIMIT;
+    uint8_t status = B_LIMIT, told = b_place(session, &before);
+    while (told == B_DONE && status == B_LIMIT && steps > 0) {
+        if (talk->goes_on != 0 && !talk->goes_on(talk->own))
+            return B_LIMIT;
         status = b_continue(session, slice > 0 && slice < steps ? slice : steps, value);
         told = b_write_out(session, talk);
-        if (status == B_FAILED && told == B_DONE) {
+        if (status == B_FAILED && told == B_DONE)
             told = b_read_in(session, talk);
+        if (status == B_FAILED || status == B_HAS_OUTPUT)
             status = B_LIMIT;
-        }
         if (told == B_DONE)
             told = b_place(session, &after);
-        if (told != B_DONE)
-            return told;
-        steps -= after.steps - before.steps;
+        if (told == B_DONE) {
+            steps -= after.steps - before.steps;
+            before = after;
+        }
     }
-    return status;
+    return told != B_DONE ? told : status;
 }
 
 #ifdef __cplusplus

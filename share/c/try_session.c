@@ -1,5 +1,6 @@
-/* Tries the calls for sessions: worked rows, rooms of every small size, many sessions, threads, and the time of slices.
- * An argument is the number of sessions that are made and freed. */
+/* Tries the calls for sessions: worked rows, rooms of every small size, memory that is refused, many sessions, threads,
+ * and the time of slices. An argument is the number of sessions that are made and freed. It is linked with
+ * --wrap=malloc, --wrap=realloc and --wrap=free. */
 #include "b_session.h"
 
 #include <malloc.h>
@@ -61,6 +62,7 @@ static void try_run(size_t size) {
     expect("a word stored", b_set_word(&session, 7, 9), B_DONE);
     expect("a place", b_place(&session, &place), B_DONE);
     expect("calls below", place.callers, 0);
+    expect("its line", place.line, 1);
     expect("the end of the input", b_close_input(&session), B_DONE);
     expect("bytes after it", b_feed(&session, (const uint8_t *)"x", 1), B_WRONG_EDITION);
     expect("the end", b_continue(&session, 1000, &value), B_DONE);
@@ -69,6 +71,153 @@ static void try_run(size_t size) {
     expect("another run", b_start(&session, (const uint8_t *)"a", 1), B_DONE);
     b_free(&session);
     expect("all given back", session.run != 0 || session.program != 0, 0);
+}
+
+/* The name of a function, in rooms of each size. */
+static void try_names(void) {
+    struct b_session session = B_NO_SESSION;
+    struct b_place place;
+    uint8_t value, room[8];
+    size_t count;
+    expect("a program", load("f() {\n  return(1/0);\n}\nmain() {\n  f();\n}", &session), B_DONE);
+    expect("a name without a run", b_name_of(&session, 0, room, sizeof room, &count), B_REFUSED);
+    expect("its size", count, 0);
+    expect("a run", b_start(&session, (const uint8_t *)"", 0), B_DONE);
+    expect("the first place", b_place(&session, &place), B_DONE);
+    expect("the line of the call", place.line, 5);
+    for (size_t size = 0; size < sizeof room; size++) {
+        memset(room, 9, sizeof room);
+        expect("a name", b_name_of(&session, place.function, room, size, &count), size < 4 ? B_FAILED : B_DONE);
+        expect("how much of it", count, size < 4 ? size : 4);
+        expect("its bytes", memcmp(room, "main", count), 0);
+        for (size_t i = count; i < sizeof room; i++)
+            expect("the rest of the room", room[i], 9);
+    }
+    expect("a trap", b_continue(&session, 100, &value), B_TRAP);
+    expect("the last place", b_place(&session, &place), B_DONE);
+    expect("the line of the division", place.line, 2);
+    expect("its name", b_name_of(&session, place.function, room, sizeof room, &count), B_DONE);
+    expect("which it is", count == 1 && room[0] == 'f', 1);
+    b_free(&session);
+}
+
+/* What a load tells, in rooms of each size. A text that is given by a size of 0 may be null. */
+static void try_lines(void) {
+    static const struct {
+        const char *source, *lib, *line;
+        uint8_t edition, status;
+    } rows[] = {
+        {"main() {", "", "", 1, B_FAULT},
+        {"main() { f(); }", "f() {\n  $;\n}\n", "", 1, B_FAULT},
+        {"n;", "m;", "load 4\n", 1, B_REFUSED},
+        {"main() { f(); }", "f() { }", "", 1, B_DONE},
+        {"main() { }", "", "", 3, B_WRONG_EDITION},
+    };
+    for (size_t i = 0; i < sizeof rows / sizeof *rows; i++) {
+        struct b_session session = B_NO_SESSION;
+        struct b_file file = {(const uint8_t *)"f.b", 3, (const uint8_t *)rows[i].lib, strlen(rows[i].lib)};
+        struct b_written written, whole;
+        uint8_t line[64], code[400], compiled[64];
+        const uint8_t *source = (const uint8_t *)rows[i].source;
+        size_t size = strlen(rows[i].source);
+        expect("a load", b_load_with(source, size, &file, 1, rows[i].edition, line, sizeof line, &written, &session),
+               rows[i].status);
+        expect("no output", written.out, 0);
+        if (rows[i].status == B_FAULT) {
+            b_compile_with(source, size, &file, 1, rows[i].edition, code, sizeof code, compiled, sizeof compiled,
+                           &whole);
+            expect("the line of the compiler", memcmp(line, compiled, whole.line), 0);
+        } else
+            expect("a line", written.line == strlen(rows[i].line) && !memcmp(line, rows[i].line, written.line), 1);
+        expect("a program", session.program != 0, rows[i].status == B_DONE);
+        expect("no run", session.run != 0, 0);
+        b_free(&session);
+        for (size_t room = 0; room < written.line; room++) {
+            struct b_written cut;
+            memset(line, 9, sizeof line);
+            expect("a small room", b_load_with(source, size, &file, 1, rows[i].edition, line, room, &cut, &session),
+                   B_FAILED);
+            expect("which is full", cut.line, room);
+            expect("and no more", line[room], 9);
+            expect("no program", session.program != 0, 0);
+        }
+    }
+}
+
+/* Code texts with what an author gives beside them. */
+static void try_authors(void) {
+    static const struct {
+        const char *code, *lines, *names, *line;
+        uint8_t status;
+        uint64_t at;
+    } rows[] = {
+        {"F main 0 0 0 0 3\nc 1\nc 0\nb /\nE\n", "", "", "", B_DONE, 4},
+        {"F main 0 0 0 0 3\nc 1\nc 0\nb /\nE\n", "70\n80\n90\n", "F main\n", "", B_DONE, 90},
+        {"F main 0 0 0 0 3\nc 1\nc 0\nb /\nE\n", "70\n80\n", "",
+         "error: the file of lines needs 3 lines, a decimal number for each place of the code\n", B_WRONG_EDITION, 0},
+        {"F main 0 0 0 0 3\nc 1\nc 0\nb /\nE\n", "", "F f\n",
+         "error: line 1 of the file of names has to be 'F main'\n", B_WRONG_EDITION, 0},
+        {"F main 0 0 0 0 3\nc 1\nc 0\nE\n", "", "", "code 4\n", B_REFUSED, 0},
+        {"X n 0 0\nE\n", "", "", "load 4\n", B_REFUSED, 0},
+    };
+    for (size_t i = 0; i < sizeof rows / sizeof *rows; i++) {
+        struct b_session session = B_NO_SESSION;
+        struct b_written written;
+        struct b_place place;
+        uint8_t line[128], value;
+        size_t lines = strlen(rows[i].lines), names = strlen(rows[i].names);
+        expect("a code text",
+               b_load_code_with((const uint8_t *)rows[i].code, strlen(rows[i].code),
+                                lines > 0 ? (const uint8_t *)rows[i].lines : 0, lines,
+                                names > 0 ? (const uint8_t *)rows[i].names : 0, names, line, sizeof line, &written,
+                                &session),
+               rows[i].status);
+        expect("its line", written.line == strlen(rows[i].line) && !memcmp(line, rows[i].line, written.line), 1);
+        if (rows[i].status == B_DONE) {
+            expect("its run", b_start(&session, (const uint8_t *)"", 0), B_DONE);
+            expect("its trap", b_continue(&session, 9, &value), B_TRAP);
+            expect("its place", b_place(&session, &place), B_DONE);
+            expect("an author's line", place.line, rows[i].at);
+        }
+        b_free(&session);
+    }
+}
+
+/* Limits: what a run may hold, and that it goes on. */
+static void try_limits(void) {
+    static const struct {
+        const char *source;
+        size_t operands, output;
+        uint16_t pages;
+        uint8_t status, value;
+    } rows[] = {
+        {"main() { while(1) putchar('a'); }", 1000, 1000, 256, B_HAS_OUTPUT, 0},
+        {"main() { while(1) putchar('a'); }", 1000, 0, 256, B_HAS_OUTPUT, 0},
+        {"main() { auto i; while(1) i++; }", 1000, 0, 256, B_LIMIT, 0},
+        {"v[9999]; main() { extrn v; auto i; i = 0; while(1) { v[i] = 1; if(++i == 9999) i = 0; } }", 1000, 0, 9,
+         B_TOO_LARGE, B_PAGES},
+    };
+    for (size_t i = 0; i < sizeof rows / sizeof *rows; i++) {
+        struct b_session session = B_NO_SESSION;
+        struct b_place place;
+        uint8_t value, room[99];
+        size_t count;
+        expect("a program", load(rows[i].source, &session), B_DONE);
+        expect("a run", b_start(&session, (const uint8_t *)"", 0), B_DONE);
+        expect("limits", b_limit(&session, rows[i].operands, rows[i].pages, rows[i].output), B_DONE);
+        expect("what stops it", b_continue(&session, 1000000, &value), rows[i].status);
+        expect("which it is", value, rows[i].value);
+        expect("where it stopped", b_place(&session, &place), B_DONE);
+        if (rows[i].status != B_LIMIT)
+            expect("early", place.steps <= 65536, 1);
+        expect("what stops it again", b_continue(&session, 1000, &value), rows[i].status);
+        expect("no limits", b_limit(&session, SIZE_MAX, 256, SIZE_MAX), B_DONE);
+        expect("nothing stops it", b_continue(&session, 1000000, &value), B_LIMIT);
+        do
+            b_output(&session, room, sizeof room, &count);
+        while (count > 0);
+        b_free(&session);
+    }
 }
 
 /* Programs that can't be loaded, and a trap. */
@@ -81,6 +230,9 @@ static void try_others(void) {
     expect("no main", load("n;", &session), B_REFUSED);
     expect("no code text", b_load_code((const uint8_t *)"E", 1, &session), B_REFUSED);
     expect("nothing to start", b_start(&session, (const uint8_t *)"", 0), B_REFUSED);
+    expect("words to the end", load("v[32766]; w[32758]; main() { auto a; ; }", &session), B_DONE);
+    expect("no room for a frame", b_start(&session, (const uint8_t *)"", 0), B_TRAP);
+    b_free(&session);
     expect("a code text", b_load_code((const uint8_t *)trap, strlen(trap), &session), B_DONE);
     expect("its run", b_start(&session, (const uint8_t *)"", 0), B_DONE);
     expect("a trap", b_continue(&session, 10, &value), B_TRAP);
@@ -89,10 +241,87 @@ static void try_others(void) {
     b_free(&session);
 }
 
+void *__real_malloc(size_t size);
+void *__real_realloc(void *old, size_t size);
+void __real_free(void *old);
+
+/* Of the thread that sets it: the call for memory that is refused, from 0 on; and how many blocks are given out. */
+static _Thread_local long until = -1, blocks;
+
+static int is_refused(void) { return until >= 0 && until-- == 0; }
+
+void *__wrap_malloc(size_t size) {
+    void *block = is_refused() ? NULL : __real_malloc(size);
+    blocks += block != NULL;
+    return block;
+}
+
+void *__wrap_realloc(void *old, size_t size) {
+    void *block = is_refused() ? NULL : __real_realloc(old, size);
+    blocks += old == NULL && block != NULL;
+    return block;
+}
+
+void __wrap_free(void *old) {
+    blocks -= old != NULL;
+    __real_free(old);
+}
+
+/* All calls, one after another, of which each may be refused memory. It tells whether all was done. */
+static int try_all(void) {
+    static const char *source = "v[999]; main() { f(); } f() { extrn v; v[getchar()] = 1; putchar('a'); g(); }";
+    static const char next_file[] = "g() { extrn v; v[700] = 1; }";
+    static const struct b_file file = {(const uint8_t *)"g", 1, (const uint8_t *)next_file, sizeof next_file - 1};
+    struct b_session session = B_NO_SESSION;
+    struct b_written written;
+    struct b_place place;
+    uint8_t value, room[8], line[64];
+    size_t count;
+    uint16_t word;
+    uint8_t status = b_load_with((const uint8_t *)source, strlen(source), &file, 1, 2, line, sizeof line, &written,
+                                 &session);
+    if (status == B_DONE)
+        status = b_start(&session, (const uint8_t *)"abc", 3);
+    if (status == B_DONE)
+        status = b_limit(&session, 1000, 256, 1000);
+    if (status == B_DONE)
+        status = b_continue(&session, 1000, &value);
+    if (status == B_DONE)
+        status = b_place(&session, &place);
+    if (status == B_DONE)
+        status = b_name_of(&session, place.function, room, sizeof room, &count);
+    if (status == B_DONE)
+        status = b_output(&session, room, sizeof room, &count);
+    if (status == B_DONE)
+        status = b_set_word(&session, 60000, 7);
+    if (status == B_DONE)
+        status = b_word(&session, 60000, &word);
+    expect("a status", status == B_DONE || status == B_NO_MEMORY, 1);
+    b_free(&session);
+    return status == B_DONE;
+}
+
+static void try_refused(void) {
+    long calls = 0, before = blocks;
+    do {
+        until = calls++;
+        int done = try_all();
+        long left = until;
+        until = -1;
+        expect("blocks after one that was refused", blocks, before);
+        if (done || left >= 0) {
+            expect("all done", done && left >= 0, 1);
+            break;
+        }
+    } while (calls < 100000);
+    expect("calls for memory", calls > 20, 1);
+}
+
 struct own {
     const char *input;
     char output[16];
     size_t written;
+    int asked, most;
 };
 
 static size_t read_some(void *own, uint8_t *room, size_t size) {
@@ -110,17 +339,39 @@ static void write_some(void *own, const uint8_t *bytes, size_t size) {
     it->written += size;
 }
 
-static void try_talk(void) {
-    struct b_session session = B_NO_SESSION;
-    struct own own = {"HAL9", "", 0};
-    struct b_talk talk = {read_some, write_some, 0, &own};
-    uint8_t value;
-    expect("a program", load(next, &session), B_DONE);
-    expect("a run", b_start(&session, (const uint8_t *)"", 0), B_DONE);
-    expect("a talk", b_talk_on(&session, &talk, 100000, 3, &value), B_DONE);
-    expect("its status", value, 4);
-    expect("what it wrote", own.written == 4 && memcmp(own.output, "IBM:", 4) == 0, 1);
-    b_free(&session);
+static int goes_for(void *own) {
+    struct own *it = own;
+    return it->asked++ < it->most;
+}
+
+/* Talks in slices of each kind: of all steps, of one, and of some; and with an end of the steps, and a stop. */
+static void try_talks(void) {
+    static const struct {
+        uint64_t steps, slice;
+        size_t limit;
+        int most;
+        uint8_t status;
+    } rows[] = {
+        {100000, 0, SIZE_MAX, 1000, B_DONE}, {100000, 1, SIZE_MAX, 1000, B_DONE}, {100000, 3, SIZE_MAX, 1000, B_DONE},
+        {100000, 0, 0, 1000, B_DONE},        {100000, 1, 0, 1000, B_DONE},        {100000, 100001, 1, 1000, B_DONE},
+        {0, 0, SIZE_MAX, 1000, B_LIMIT},     {5, 0, SIZE_MAX, 1000, B_LIMIT},     {100000, 0, SIZE_MAX, 0, B_LIMIT},
+        {100000, 2, SIZE_MAX, 3, B_LIMIT},
+    };
+    for (size_t i = 0; i < sizeof rows / sizeof *rows; i++) {
+        struct b_session session = B_NO_SESSION;
+        struct own own = {"HAL9", "", 0, 0, rows[i].most};
+        struct b_talk talk = {read_some, write_some, goes_for, &own};
+        uint8_t value;
+        expect("a program", load(next, &session), B_DONE);
+        expect("a run", b_start(&session, (const uint8_t *)"", 0), B_DONE);
+        expect("a limit", b_limit(&session, SIZE_MAX, 256, rows[i].limit), B_DONE);
+        expect("a talk", b_talk_on(&session, &talk, rows[i].steps, rows[i].slice, &value), rows[i].status);
+        if (rows[i].status == B_DONE) {
+            expect("its status", value, 4);
+            expect("what it wrote", own.written == 4 && memcmp(own.output, "IBM:", 4) == 0, 1);
+        }
+        b_free(&session);
+    }
 }
 
 static void *in_thread(void *own) {
@@ -148,12 +399,17 @@ int main(int argc, char **argv) {
     pthread_t threads[4];
     for (size_t size = 0; size < 8; size++)
         try_run(size);
+    try_names();
+    try_lines();
+    try_authors();
+    try_limits();
     try_others();
-    try_talk();
+    try_talks();
+    try_refused();
     size_t before = mallinfo2().uordblks;
     for (long i = 0; i < sessions; i++) {
         struct b_session session = B_NO_SESSION;
-        load("main() { }", &session);
+        load(i % 2 == 0 ? "main() { }" : "main() {", &session);
         b_start(&session, (const uint8_t *)"", 0);
         b_free(&session);
     }

@@ -12,12 +12,13 @@ import ctypes
 import json
 import operator
 import os
-from typing import Any, Callable, Dict, Iterator, List, Mapping, NamedTuple, Optional, Union
+from typing import Any, Callable, Dict, Generator, Iterator, List, Mapping, NamedTuple, Optional, Union
 
 Text = Union[bytes, bytearray, memoryview, str]
 Libs = Mapping[Text, Text]
 STEPS = 100_000_000
 FAULT, TRAP, LIMIT, REFUSED, FAILED, NO_MEMORY, WRONG_EDITION = 1, 130, 131, 132, 133, 134, 135
+HAS_OUTPUT, TOO_LARGE = 136, 137
 _LINE = 1024
 _ROOM = 1 << 16
 _SHOWN = 2000
@@ -278,42 +279,55 @@ class _Held(ctypes.Structure):
 
 class _Place(ctypes.Structure):
     _fields_ = [("function", ctypes.c_uint32), ("place", ctypes.c_size_t), ("callers", ctypes.c_size_t),
-                ("steps", ctypes.c_uint64)]
+                ("steps", ctypes.c_uint64), ("line", ctypes.c_uint64)]
 
 
 class Place(NamedTuple):
     """Where a run stands: its function, by the address of its first string word, the place of its next instruction, how
-    many calls are below, and how many steps were made."""
+    many calls are below, and how many steps were made; the line of that instruction, or 0, and the function's name."""
 
     function: int
     place: int
     callers: int
     steps: int
+    line: int = 0
+    name: str = ""
 
 
 class End(NamedTuple):
-    """Why a slice has ended: `halted` with a status, `trapped` with two letters, `limit`, or `wants input`."""
+    """Why a slice has ended: `halted` with a status, `trapped` with two letters, `limit`, or `wants input`; or `has
+    output` or `too large`, where more is there than the limits allow, which are of `operands` or of `pages`."""
 
     why: str
     status: int = 0
     trap: str = ""
+    of: str = ""
 
 
 _TRAPS = ("", "dz", "fn", "gt", "st", "dp", "bs", "sk")
+_UNBEGUN = b"trap st\n"  # where the memory has no room for the frame of `main`
+_OF = ("", "operands", "pages")
+_WHY = {LIMIT: "limit", FAILED: "wants input", HAS_OUTPUT: "has output"}
 _SLICE = 1_000_000
+_ALL = ctypes.c_size_t(-1).value
+_PAGES = 256
 
 
 def _sessions(library):
     """Tells what the calls for sessions take."""
     held, text = ctypes.POINTER(_Held), [ctypes.c_char_p, ctypes.c_size_t]
+    files, room = [ctypes.c_void_p, ctypes.c_size_t], [ctypes.c_void_p, ctypes.c_size_t]
+    line = room + [ctypes.POINTER(_Written), held]
     takes = {
-        "load": text + [ctypes.c_uint8, held],
-        "load_code": text + [held],
+        "load_with": text + files + [ctypes.c_uint8] + line,
+        "load_code_with": text + text + text + line,
+        "name_of": [held, ctypes.c_uint32] + room + [ctypes.POINTER(ctypes.c_size_t)],
         "begin": [held],
+        "limit": [held, ctypes.c_size_t, ctypes.c_uint16, ctypes.c_size_t],
         "continue": [held, ctypes.c_uint64, ctypes.POINTER(ctypes.c_uint8)],
         "feed": [held] + text,
         "close_input": [held],
-        "output": [held, ctypes.c_void_p, ctypes.c_size_t, ctypes.POINTER(ctypes.c_size_t)],
+        "output": [held] + room + [ctypes.POINTER(ctypes.c_size_t)],
         "place": [held, ctypes.POINTER(_Place)],
         "word": [held, ctypes.c_uint16, ctypes.POINTER(ctypes.c_uint16)],
         "set_word": [held, ctypes.c_uint16, ctypes.c_uint16],
@@ -335,43 +349,76 @@ class Session:
       >>> talk = b.Session("main() { putchar(getchar()); }")
       >>> talk.go_on().why
       'wants input'
-      >>> talk.feed("!"), talk.go_on(), talk.output()
-      (None, End(why='halted', status=0, trap=''), b'!')
+      >>> talk.feed("!"), talk.go_on().why, talk.output()
+      (None, 'halted', b'!')
 
     However a run is cut into slices, it is the same run. A session is used by one thread at a time. What it has in
-    memory goes with it, or by `close`, or at the end of a `with`."""
+    memory goes with it, or by `close`, or at the end of a `with`.
 
-    def __init__(self, source: Text = b"", input: Text = b"", *, code: Optional[Text] = None, edition: int = 1):
+    `libs` are the files that follow a source. With `code` it is a code text, of which `lines` and `names` are files of
+    its author, as `b list --lines` and `--names` take them. `operands`, `pages` and `output` are as for `limit`."""
+
+    def __init__(
+        self,
+        source: Text = b"",
+        input: Text = b"",
+        *,
+        code: Optional[Text] = None,
+        edition: int = 1,
+        libs: Optional[Libs] = None,
+        lines: Text = b"",
+        names: Text = b"",
+        operands: Optional[int] = None,
+        pages: Optional[int] = None,
+        output: Optional[int] = None,
+    ):
         self._held = _Held()
+        self._names: Dict[int, str] = {}
+        self._limits = _limits(operands, pages, output)
         if code is None:
-            status = _library.b_load(*_bytes(source), _edition(edition), self._held)
+            self._load(_library.b_load_with, *_source(source, libs), _edition(edition))
         else:
-            status = _library.b_load_code(*_bytes(code), self._held)
-        if status in (FAULT, REFUSED):
-            self._tell_fault(source, code, edition)
-        _expect(status)
+            self._load(_library.b_load_code_with, *_bytes(code), *_bytes(lines), *_bytes(names))
         self.start(input)
 
-    @staticmethod
-    def _tell_fault(source, code, edition):
-        """Raises the Error of a program that can't be loaded, with its line."""
-        if code is None:
-            go(source, edition=edition, steps=0)
-        else:
-            run(code, steps=0)
+    def _load(self, function, *words):
+        """Puts the program in memory, or raises the Error with its line."""
+        room = _LINE
+        while True:
+            line, written = ctypes.create_string_buffer(room), _Written()
+            status = function(*words, line, room, written, self._held)
+            if status != FAILED or written.line < room:
+                break
+            room *= 8
+        if status != 0:
+            raise Error(status, b"", line.raw[: written.line])
 
     def start(self, input: Text = b"") -> None:
         """Begins the run anew, with this much of its input."""
         self._look_for_program()
         if self._held.run:
             _library.b_end(self._held)
-        _expect(_library.b_begin(self._held))
+        status = _library.b_begin(self._held)
+        if status == TRAP:
+            raise Error(status, b"", _UNBEGUN)
+        _expect(status)
+        _expect(_library.b_limit(self._held, *self._limits))
         if input:
             self.feed(input)
 
+    def limit(
+        self, *, operands: Optional[int] = None, pages: Optional[int] = None, output: Optional[int] = None
+    ) -> None:
+        """How much the run may hold between two slices: so many operands, pages of 256 words of memory, and bytes of
+        output; with None there is no limit. That is looked at after each 65536 steps. A slice then ends with `has
+        output` or `too large`, and the run can go on."""
+        self._look_for_run()
+        self._limits = _limits(operands, pages, output)
+        _expect(_library.b_limit(self._held, *self._limits))
+
     def go_on(self, steps: int = _SLICE) -> End:
         """Makes so many steps at most, and tells why it ends."""
-        steps = _number("steps", steps, 0, 2**64 - 1)
+        steps = _steps(steps)
         while True:
             now = min(steps, _SLICE)
             end = self._slice(now)
@@ -387,10 +434,10 @@ class Session:
             return End("halted", value.value)
         if status == TRAP:
             return End("trapped", trap=_TRAPS[value.value])
-        if status == LIMIT:
-            return End("limit")
-        if status == FAILED:
-            return End("wants input")
+        if status == TOO_LARGE:
+            return End("too large", of=_OF[value.value])
+        if status in _WHY:
+            return End(_WHY[status])
         raise Error(status, b"", b"")
 
     def run(
@@ -401,31 +448,49 @@ class Session:
         steps: int = STEPS,
     ) -> End:
         """Runs on for so many steps at most. `read` is asked for more input where a byte lacks, and answers nothing at
-        its end; `write` gets the output. Without `read` there is no more input. Between slices Python sees to signals,
-        so an interrupt comes through within milliseconds."""
-        self._look_for_run()
-        last = self.place().steps + _number("steps", steps, 0, 2**64 - 1)
+        its end; `write` gets the output. Without `read` there is no more input, and without `write` the output stays.
+        Between slices Python sees to signals, so an interrupt comes through within milliseconds."""
+        parts = self._parts(read, steps, write is not None)
+        while True:
+            try:
+                part = next(parts)
+            except StopIteration as over:
+                return over.value
+            write(part)
+
+    def outputs(
+        self, read: Optional[Callable[[], Text]] = None, *, steps: int = STEPS
+    ) -> Generator[bytes, None, End]:
+        """Runs on as `run` does, and gives what the program writes as it comes. The End is the generator's value."""
+        return self._parts(read, steps, True)
+
+    def _parts(self, read, steps, takes):
+        """Runs on, and gives the output where it is taken. It comes before what else is raised."""
+        last = self.place().steps + _steps(steps)
         while True:
             try:
                 end = self._slice(min(last - self.place().steps, _SLICE))
             finally:
-                output = self.output() if write is not None else b""
+                output = self.output() if takes else b""
                 if output:
-                    write(output)
+                    yield output
             if end.why == "wants input":
-                more = read() if read is not None else b""
-                if more:
-                    self.feed(more)
-                else:
-                    self.close_input()
-            elif end.why != "limit" or self.place().steps >= last:
+                self._ask(read)
+            elif not (end.why == "has output" and takes or end.why == "limit" and self.place().steps < last):
                 return end
+
+    def _ask(self, read):
+        """Feeds what `read` answers, or closes the input."""
+        more = read() if read is not None else b""
+        if more:
+            self.feed(more)
+        else:
+            self.close_input()
 
     def __iter__(self) -> Iterator[Place]:
         """Makes one step after another, and tells where the run stands before each, as long as it can go on."""
         while self._slice(0).why == "limit":
-            place = self.place()
-            yield place
+            yield self.place()
             if self._slice(1).why != "limit":
                 return
 
@@ -457,7 +522,19 @@ class Session:
         self._look_for_run()
         place = _Place()
         _expect(_library.b_place(self._held, place))
-        return Place(place.function, place.place, place.callers, place.steps)
+        name = self.name_of(place.function)
+        return Place(place.function, place.place, place.callers, place.steps, place.line, name)
+
+    def name_of(self, function: int) -> str:
+        """The name of the function whose first string word has this address; nothing where none lies there."""
+        self._look_for_program()
+        if function not in self._names:
+            number, room, count = _number("function", function, 0, 2**32 - 1), _LINE, ctypes.c_size_t()
+            text = ctypes.create_string_buffer(room)
+            status = _library.b_name_of(self._held, number, text, room, count)
+            _expect(0 if status == REFUSED else status)
+            self._names[function] = text.raw[: count.value].decode()
+        return self._names[function]
 
     def word(self, address: int) -> int:
         """The word at an address."""
@@ -497,6 +574,15 @@ class Session:
         self._look_for_program()
         if not self._held.run:
             raise ValueError("this session has no run")
+
+
+def _limits(operands, pages, output):
+    """The limits of a run, as a call takes them."""
+    return (
+        _ALL if operands is None else _number("operands", operands, 0, _ALL),
+        _PAGES if pages is None else _number("pages", pages, 0, _PAGES),
+        _ALL if output is None else _number("output", output, 0, _ALL),
+    )
 
 
 def _expect(status):

@@ -4,7 +4,9 @@
 
 CASES is the folder of kept cases, whose README.md tells their files, and VERSION what the program `b` says of its
 own."""
+import contextlib
 import pathlib
+import resource
 import signal
 import sys
 import time
@@ -135,8 +137,94 @@ def sessions():
     yield b.Session(code="F main 0 0 0 0 3\nc 1\nc 0\nb /\nE\n").run(), b.End("trapped", trap="dz")
     yield b.Session("main() { while(1) ; }").run(steps=3_000_001).why, "limit"
     yield refused(b.Session, "main() {"), b.Error
+    yield error_of(b.Session, "v[32766]; w[32758]; main() { auto a; ; }"), (b.TRAP, b"trap st\n", b"")
     yield refused(b.Session, code="E"), b.Error
+    it = b.Session("main() { while(1) ; }")
+    for steps in (0, 1, 0):
+        yield (it.go_on(steps), it.run(steps=steps)), (b.End("limit"), b.End("limit"))
+    yield it.place().steps, 2
+    for steps in (-1, 2**64):
+        yield refused(it.run, steps=steps), ValueError
+    for edition in (0, 3, 257):
+        yield refused(b.Session, "main() ;", edition=edition), ValueError
+    for address, word in ((-1, 0), (65536, 0), (0, -1), (0, 65536)):
+        yield refused(it.set_word, address, word), ValueError
     yield interrupted() < 0.05, True
+    yield from lost()
+    yield from loads()
+    yield from limits()
+
+
+def loads():
+    """What is found of sessions with other files, of faults when they are loaded, and of their places."""
+    source, libs = "main() { printn(six(), 10); }", {"six.b": "six() {\n  return(6);\n}"}
+    yield b"".join(b.Session(source, libs=libs).outputs()), b"6"
+    yield error_of(b.Session, source), (b.REFUSED, b"load 3\n", b"")
+    yield error_of(b.Session, source, libs={b"\xff": ""}), (b.WRONG_EDITION, b"", b"")
+    yield error_of(b.Session, "main() {\nreturn(x); }"), (b.FAULT, b"un x 2\n", b"")
+    yield error_of(b.Session, code="F"), (b.REFUSED, b"code 1\n", b"")
+    code, lines = "F main 0 0 0 0 4\nc 7\np\nc 0\nr\nE\n", "8\n8\n9\n9\n"
+    yield [place.line for place in b.Session(code=code)], [2, 3, 4, 5]
+    yield [place.line for place in b.Session(code=code, lines=lines)], [8, 8, 9, 9]
+    yield b.Session(code=code, lines=lines, names="F main\n").go_on(), b.End("halted")
+    status, line, _ = error_of(b.Session, code=code, lines=lines[2:])
+    yield status, b.WRONG_EDITION
+    yield line, b"error: the file of lines needs 4 lines, a decimal number for each place of the code\n"
+    status, line, _ = error_of(b.Session, code=code, names="F f\n")
+    yield (status, line.startswith(b"error: line 1 of the file of names has to be 'F main'")), (b.WRONG_EDITION, True)
+    with b.Session("f(n) {\n  return(n);\n}\nmain() {\n  f(2);\n}") as it:
+        seen = {(place.name, place.line, place.callers) for place in it}
+        yield {("main", 5, 0), ("f", 2, 1)} <= seen, True
+        yield (it.name_of(it.place().function), it.name_of(3)), ("main", "")
+        yield refused(it.name_of, 2**32), ValueError
+
+
+def limits():
+    """What is found of limits."""
+    writes = "main() { auto n; n = 60000; while(n--) putchar('ab'); }"
+    it = b.Session(writes, output=100)
+    yield it.go_on().why, "has output"
+    yield 100 < len(it.output()) < 65536, True
+    told = []
+    yield it.run(write=told.append).why, "halted"
+    yield len(told) > 3, True
+    yield b"".join(b.Session(writes, output=0).outputs()), b"ab" * 60000
+    yield b.Session(writes, output=0).run().why, "has output"
+    grows = "F main 0 0 0 0 2\nc 1\nj 0\nE\n"
+    yield b.Session(code=grows, operands=1000).run(), b.End("too large", of="operands")
+    yield b.Session(code=grows).run(steps=200_000), b.End("limit")
+    it = b.Session("v[20000]; main() { extrn v; auto n; n = 0; while(n < 20000) v[n++] = 7; }")
+    it.limit(pages=3)
+    yield it.run(), b.End("too large", of="pages")
+    it.limit()
+    yield it.run(), b.End("halted")
+    for named in ({"pages": 257}, {"pages": -1}, {"operands": -1}, {"output": 2**64}):
+        yield refused(it.limit, **named), ValueError
+        yield refused(b.Session, writes, **named), ValueError
+
+
+def lost():
+    """A run whose operands grow until memory is refused, while it writes: what it wrote in its last slice is handed on
+    before that is told."""
+    it, parts = b.Session(code="F main 0 0 0 0 7\nx putchar\nv\nc 97\nk 1\np\nc 1\nj 0\nE\n"), []
+    with little_memory():
+        failure = error_of(it.run, write=lambda out: parts.append(len(out)), steps=MOST)
+    yield failure, (b.NO_MEMORY, b"", b"")
+    yield 0 < parts[-1] < min(parts[:-1]), True
+    for call in (it.go_on, it.place):
+        yield error_of(call), (b.NO_MEMORY, b"", b"")
+
+
+@contextlib.contextmanager
+def little_memory():
+    """Leaves this process some megabytes more than it has."""
+    limits = resource.getrlimit(resource.RLIMIT_AS)
+    has = int(pathlib.Path("/proc/self/statm").read_text().split()[0]) * resource.getpagesize()
+    resource.setrlimit(resource.RLIMIT_AS, (has + (1 << 24), limits[1]))
+    try:
+        yield
+    finally:
+        resource.setrlimit(resource.RLIMIT_AS, limits)
 
 
 def refused(call, *words, **named):

@@ -127,3 +127,124 @@ export interface Program {
 /** The program of b.wasm: of its bytes, of a response that has them, or of the module that was compiled of them. */
 export function load(given: Source | Promise<Source>): Promise<Program>;
 type Source = BufferSource | Response | WebAssembly.Module;
+
+/** What a call for sessions has refused: `status` is one of `b_session.h`, and `line` what `b` writes of it, if any. */
+export class Refused extends Error {
+  status: Status;
+  line: string;
+}
+
+/** Why a slice has ended. `status` is that of a program which has halted, `trap` has the two letters of a trap, and
+    `of` tells what is too large. */
+export interface End {
+  why: 'halted' | 'trapped' | 'limit' | 'wants input' | 'has output' | 'too large';
+  status: number;
+  trap: string;
+  of: '' | 'operands' | 'pages';
+}
+
+/** Where a run stands: its function, by the address of its first string word, and by its name; the place of its next
+    instruction, and the line of that, or 0; how many calls are below, and how many steps were made. */
+export interface Place {
+  function: number;
+  name: string;
+  place: number;
+  line: number;
+  callers: number;
+  steps: number;
+}
+
+/** How much a run may hold between two slices. What isn't given has no limit. */
+export interface Limits {
+  operands?: number | bigint;
+  /** Of 256 words of memory each, up to 256. */
+  pages?: number;
+  /** In bytes. */
+  output?: number | bigint;
+}
+
+/** How many steps: a whole number below 2 ** 64, or `Infinity`. */
+export type Steps = number | bigint;
+
+export interface OutputOptions {
+  /** Is asked for more input where a byte lacks, and answers nothing at its end. Without it there is no more input. */
+  input?: () => Text | undefined | null | Promise<Text | undefined | null>;
+  /** The most steps; 100000000 if not given. */
+  steps?: Steps;
+  /** Stops the run between two slices, or where it waits for input, with the reason of the signal. It can go on. */
+  signal?: AbortSignal;
+}
+
+export interface TalkOptions extends OutputOptions {
+  /** Gets what the program writes, as it comes. */
+  output?: (bytes: Uint8Array) => unknown;
+}
+
+/** A program that stays in memory, and its run, in slices. However a run is cut into slices, it is the same run. */
+export interface Session {
+  /** Begins the run anew, with this much of its input. */
+  start(input?: Text): void;
+  /** Makes so many steps at most, 1000000 if not given, and tells why it ends. */
+  goOn(steps?: Steps): End;
+  /** Runs on, in slices of some milliseconds, between which a page is drawn and other code runs. */
+  run(options?: TalkOptions): Promise<End>;
+  /** The same, with what the program writes as an iterator. Its value at the end is the `End`. */
+  outputs(options?: OutputOptions): AsyncGenerator<Uint8Array, End, void>;
+  /** Makes one slice after another, up to one that doesn't end at its limit. */
+  slices(steps?: Steps): Generator<End, void, void>;
+  /** Makes one step after another, and tells where the run stands before each, as long as it can go on. */
+  [Symbol.iterator](): Generator<Place, void, void>;
+  /** Adds to the input; tells that no more of it comes. */
+  feed(text: Text): void;
+  closeInput(): void;
+  /** Takes what the program has written since. */
+  output(): Uint8Array;
+  /** Where the run stands; after its end the call that ran before the last step. */
+  place(): Place;
+  readonly steps: number;
+  readonly callers: number;
+  /** The name of the function whose first string word has this address; empty where none lies there. */
+  nameOf(address: number): string;
+  /** Sets the limits of this run, and of those that `start` begins. A slice is looked at after each 65536 steps. */
+  limit(limits?: Limits): void;
+  /** The word at an address; stores one. */
+  word(address: number): number;
+  setWord(address: number, word: number): void;
+  /** Gives all of it back. What nothing refers to any more is given back sooner or later without this. */
+  free(): void;
+  [Symbol.dispose](): void;
+}
+
+export interface BeginOptions {
+  /** The beginning of the input. */
+  input?: Text;
+  limits?: Limits;
+}
+
+export interface LoadOptions extends BeginOptions {
+  edition?: 1 | 2;
+  /** Sources that come after it, by their names. */
+  libs?: Record<string, Text>;
+}
+
+export interface LoadCodeOptions extends BeginOptions {
+  /** The files of an author, as `b list` takes them by `--lines` and `--names`. */
+  lines?: Text;
+  names?: Text;
+}
+
+/** Loads programs into one memory, which their sessions share. A program that can't be loaded is a `Refused`. */
+export interface Sessions {
+  load(source: Text, options?: LoadOptions): Session;
+  loadCode(code: Text, options?: LoadCodeOptions): Session;
+}
+
+/** The module for sessions, of the bytes of sessions.wasm, of a response that has them, or of the module that was
+    compiled of them. Each call gives one with a memory of its own. */
+export function loadSessions(given: Source | Promise<Source>): Promise<Sessions>;
+
+declare global {
+  interface SymbolConstructor {
+    readonly dispose: unique symbol;
+  }
+}

@@ -13,6 +13,15 @@ export class Failed extends Error {}
 /** What is thrown where the module itself is stopped by its engine, as when that has no stack left. */
 export class Stopped extends Error {}
 
+/** What a call for sessions has refused: its status, and the line of `b`, if there is one. */
+export class Refused extends Error {
+  constructor(status, line = '') {
+    super(line.trim() || `status ${status}`);
+    this.status = status;
+    this.line = line;
+  }
+}
+
 /** The end of a run, with its status. */
 class Exit {
   constructor(status) {
@@ -27,7 +36,7 @@ const TERMINAL = 2, REGULAR = 4;
 const encoder = new TextEncoder(), decoder = new TextDecoder('utf-8', {ignoreBOM: true});
 
 /** The bytes of a text: of a string, of a buffer, or of any view of one. */
-function bytesOf(given) {
+export function bytesOf(given) {
   if (typeof given === 'string') return encoder.encode(given);
   if (given instanceof Uint8Array) return given;
   if (ArrayBuffer.isView(given)) return new Uint8Array(given.buffer, given.byteOffset, given.byteLength);
@@ -158,7 +167,7 @@ function reading(given) {
 }
 
 /** Keeps the bytes that are written, in one room that grows. */
-class Kept {
+export class Kept {
   constructor() {
     this.room = new Uint8Array(256);
     this.count = 0;
@@ -302,11 +311,22 @@ class Program {
   }
 }
 
-/** The program of the bytes of b.wasm, or of a response that has them, or of a module that was compiled before. */
-export async function load(given) {
+/** The module of given bytes, of a response that has them, or one that was compiled before. */
+async function moduleOf(given) {
   const it = await given;
-  if (it instanceof WebAssembly.Module) return new Program(it);
-  return new Program(await WebAssembly.compile(typeof it.arrayBuffer === 'function' ? await it.arrayBuffer() : it));
+  if (it instanceof WebAssembly.Module) return it;
+  return WebAssembly.compile(typeof it.arrayBuffer === 'function' ? await it.arrayBuffer() : it);
+}
+
+/** The program of b.wasm. */
+export async function load(given) {
+  return new Program(await moduleOf(given));
+}
+
+/** The module for sessions, of sessions.wasm, in a memory of its own. */
+export async function loadSessions(given) {
+  const {Sessions} = await import('./sessions.mjs');
+  return new Sessions(await WebAssembly.instantiate(await moduleOf(given)));
 }
 
 // ---- The command line, for Node alone ----

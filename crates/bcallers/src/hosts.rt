@@ -1,7 +1,9 @@
 use bhost::Host;
 use bhost::calls::{
-    Whereabouts, begin, close, end, feed, go_on, load, look, read, store, take, unload,
+    Whereabouts, begin, close, end, feed, go_on, limit, load, look, name_of, read, store, take,
+    unload,
 };
+use bsession::Limits;
 use btools::Origin;
 use bword::Edition;
 use std::test::Fail;
@@ -24,7 +26,6 @@ fn a_program_is_held_with_its_session(rt: HostRuntime) -> Result<(), Fail> {
     );
     assert_eq!(rt; begin(alloc, &mut host), 0);
     let mut value = 7;
-    assert_eq!(rt; go_on(alloc, &mut host, 1, &mut value), 131);
     assert_eq!(rt; go_on(alloc, &mut host, 1000, &mut value), 133);
     assert_eq!(rt; feed(alloc, &mut host, b"HAL"), 0);
     assert_eq!(rt; go_on(alloc, &mut host, 1000, &mut value), 133);
@@ -32,27 +33,64 @@ fn a_program_is_held_with_its_session(rt: HostRuntime) -> Result<(), Fail> {
     let mut count = 0;
     assert_eq!(rt; take(alloc, &mut host, &mut room, &mut count), 0);
     assert!(rt; count == 2 && room == *b"IB");
-    assert_eq!(rt; take(alloc, &mut host, &mut room, &mut count), 0);
-    assert!(rt; count == 1 && room == *b"MB");
     let mut word = 0;
     assert_eq!(rt; read(alloc, &mut host, 7, &mut word), 0);
     assert_eq!(rt; word, 3);
+    assert_eq!(rt; end(alloc, &mut host), 0);
+    unload(alloc, &mut host);
+    host.forget();
+    Ok(())
+}
+
+#[test]
+fn a_program_whose_input_is_closed(rt: HostRuntime) -> Result<(), Fail> {
+    let alloc = rt.alloc();
+    let mut host = Host::none();
+    assert_eq!(rt;
+        load(alloc, SOURCE, Origin::Source(Edition::One), &mut host),
+        0
+    );
+    assert_eq!(rt; begin(alloc, &mut host), 0);
     assert_eq!(rt; store(alloc, &mut host, 7, 9), 0);
+    assert_eq!(rt; close(alloc, &mut host), 0);
+    assert_eq!(rt; feed(alloc, &mut host, b"x"), 135);
+    let mut value = 7;
+    assert_eq!(rt; go_on(alloc, &mut host, 1000, &mut value), 0);
+    assert_eq!(rt; value, 9);
+    assert_eq!(rt; end(alloc, &mut host), 0);
+    unload(alloc, &mut host);
+    host.forget();
+    Ok(())
+}
+
+#[test]
+fn a_host_tells_its_place(rt: HostRuntime) -> Result<(), Fail> {
+    let alloc = rt.alloc();
+    let mut host = Host::none();
+    assert_eq!(rt;
+        load(alloc, SOURCE, Origin::Source(Edition::One), &mut host),
+        0
+    );
+    assert_eq!(rt; begin(alloc, &mut host), 0);
+    assert_eq!(rt; limit(alloc, &mut host, Limits::none()), 0);
     let mut there = Whereabouts {
         function: 0,
         place: 0,
         callers: 9,
-        steps: 0,
+        steps: 7,
+        line: 0,
     };
     assert_eq!(rt; look(alloc, &mut host, &mut there), 0);
-    assert!(rt; there.callers == 0 && there.steps > 3);
-    assert_eq!(rt; close(alloc, &mut host), 0);
-    assert_eq!(rt; feed(alloc, &mut host, b"x"), 135);
-    assert_eq!(rt; go_on(alloc, &mut host, 1000, &mut value), 0);
-    assert_eq!(rt; value, 9);
-    assert_eq!(rt; end(alloc, &mut host), 0);
-    assert_eq!(rt; begin(alloc, &mut host), 0);
+    assert!(rt; there.callers == 0 && there.steps == 0 && there.line == 1);
+    let mut name = [0; 4];
+    let mut count = 0;
+    assert_eq!(rt;
+        name_of(alloc, &mut host, there.function, &mut name, &mut count),
+        0
+    );
+    assert!(rt; count == 4 && name == *b"main");
     assert_eq!(rt; end(alloc, &mut host), 0);
     unload(alloc, &mut host);
+    host.forget();
     Ok(())
 }

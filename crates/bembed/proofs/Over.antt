@@ -2,11 +2,16 @@
 use Rattle.std.proofs.Common.{◌≡◌, ℕ, List, ◌∷◌, length, false}
 use Rattle.bword.specs.ByteEnds.{Outgoing, Unread, incoming_of}
 use Rattle.blang.specs.Reports.{RunEnds, run_ends}
+use Rattle.blang.specs.declared.token.Diagnostic.{Diagnostic}
+use Rattle.btools.specs.Origins.{Origin}
 use Rattle.btools.specs.Programs.{ToldEnds, told_ends}
+use Rattle.bhost.specs.Statuses.{LoadsTelling}
+use Rattle.bhost.specs.declared.host.Host.{Host}
 use Rattle.bembed.specs.declared.room.Room as stream
 use Rattle.bembed.specs.Looks.{RunsOver, TellsOver}
+use Rattle.bembed.specs.Sessions.{LoadsInto}
 use Rattle.bembed.specs.Rooms.{Overflow, Room, fresh, overflow_of, room_of}
-use Rattle.bembed.proofs.Filling.{filled, into_both, into_rooms}
+use Rattle.bembed.proofs.Filling.{filled, into_both, into_room, into_rooms}
 
 abbrev pub over_of : stream.Room → Overflow
 over_of it = overflow_of it.failures it.over
@@ -53,4 +58,16 @@ tells_over P om ol lm ll out line o l h = record {
       om.room.now ol.room.now out.after om.count.now (over_of om) ol.count.now (over_of ol) out.count
       lm.room.now ll.room.now line.after lm.count.now (over_of lm) ll.count.now (over_of ll) line.count
       o.empty l.empty o.after l.after o.told l.told h;
+}
+
+pub loads_into : (origin : Origin) (source : List ℕ) (h : Host) (lines : Diagnostic → List ℕ) (made left : stream.Room) (line : Room) (status : ℕ)
+    → IsLeft made left line
+    → LoadsTelling origin source h (record { lines = lines; before = shown made; after = shown left; status = status })
+    → LoadsInto origin source h lines line status
+loads_into origin source h lines made left line status l loads = record {
+  line_over = over_of left;
+  line_filled = filled made left line l.before l.same l.after l.told l.size;
+  loads = into_room (λ before after. LoadsTelling origin source h (record { lines = lines; before = before; after = after; status = status }))
+      made.room.now left.room.now line.after made.count.now (over_of made) left.count.now (over_of left) line.count
+      l.empty l.after l.told loads;
 }

@@ -100,4 +100,6 @@ excluded = record {
   traces = λ steps which input. with_files _ (λ it out line status t. over input out line _ t);
   counts = λ steps style input. with_files _ (λ it out line status c. over input out line _ c);
   shows = λ steps which input. with_files _ (λ it out line status s. over input out line _ s);
+  loads_with = λ h. with_files _ (λ it out line status l. (untouched out l.no_output, changed line l.loads.line_over l.loads.line_filled));
+  loads_text = λ text h out line status l. (untouched out l.no_output, changed line l.loads.line_over l.loads.line_filled);
 }

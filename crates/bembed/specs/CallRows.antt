@@ -255,7 +255,7 @@ listed : (l : ListsWhole (two 1) (one 1) 0 both) → Lists (Source editions.Two)
     (told_ends (stream [] 0) (stream_of (two 1) l.out_over) (stream [] 0) (stream_of (one 1) l.line_over)) 0
 listed l = l.tells
 
-laid_out : (m : MapsWhole (two 1) (one 1) 0 both) → Maps editions.Two (97 ∷ 10 ∷ 99 ∷ 10 ∷ [])
+laid_out : (m : MapsWhole (two 1) (one 1) 0 both) → Maps (Source editions.Two) (97 ∷ 10 ∷ 99 ∷ 10 ∷ [])
     (told_ends (stream [] 0) (stream_of (two 1) m.out_over) (stream [] 0) (stream_of (one 1) m.line_over)) 0
 laid_out m = m.tells
 
@@ -274,7 +274,7 @@ counted c = c.runs
 
 -- a page has the input that is given
 showed : (s : ShowsWhole 5 (rows.From 2) (98 ∷ []) (two 1) (one 1) 0 both)
-    → Shows editions.Two (97 ∷ 10 ∷ 99 ∷ 10 ∷ []) (record {
+    → Shows (Source editions.Two) (97 ∷ 10 ∷ 99 ∷ 10 ∷ []) (record {
       steps = 5;
       which = rows.From 2;
       files = both.files;

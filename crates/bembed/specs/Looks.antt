@@ -48,7 +48,7 @@ abbrev pub ListsWhole : (out line : Room) → (status : ℕ) → Whole → Type 
 ListsWhole out line status it = TellsOver out line (λ ends. Lists (Source it.edition) it.text None ends status)
 
 abbrev pub MapsWhole : (out line : Room) → (status : ℕ) → Whole → Type 0
-MapsWhole out line status it = TellsOver out line (λ ends. Maps it.edition it.text ends status)
+MapsWhole out line status it = TellsOver out line (λ ends. Maps (Source it.edition) it.text ends status)
 
 abbrev pub TracesWhole : (steps : ℕ) → TraceRows → (input : List ℕ) → (out line : Room) → (status : ℕ) → Whole → Type 0
 TracesWhole steps which input out line status it = RunsOver input out line
@@ -69,4 +69,4 @@ page_asked steps which files given =
 
 abbrev pub ShowsWhole : (steps : ℕ) → TraceRows → (input : List ℕ) → (out line : Room) → (status : ℕ) → Whole → Type 0
 ShowsWhole steps which input out line status it = RunsOver input out line
-    (λ ends. Shows it.edition it.text (page_asked steps which it.files input) ends status)
+    (λ ends. Shows (Source it.edition) it.text (page_asked steps which it.files input) ends status)

@@ -6,11 +6,14 @@ use Rattle.bword.specs.declared.ends.EndFault.TheVariants as fault
 use Rattle.blang.specs.declared.status.TheConstants.{DEVICE}
 use Rattle.bcount.specs.declared.table.CountStyle.{CountStyle}
 use Rattle.bsources.specs.FileLines.{NamedText}
+use Rattle.btools.specs.PlaceLines.{CodeText}
+use Rattle.bhost.specs.declared.host.Host.{Host}
 use Rattle.bwatch.specs.declared.trail.TraceRows.{TraceRows}
 use Rattle.bembed.specs.Asks.{ChecksIn, FormatsIn, SaysIn}
 use Rattle.bembed.specs.Calls.{CompilesIn, GoesIn, InEdition, LocatesIn, MigratesIn, RunsIn, edition_of}
 use Rattle.bembed.specs.Looks.{CountsWhole, ListsWhole, MapsWhole, ShowsWhole, TracesWhole}
 use Rattle.bembed.specs.Rooms.{Filled, Overflow, Room, fresh, stream_of}
+use Rattle.bembed.specs.Sessions.{LoadsText, LoadsWhole}
 use Rattle.bembed.specs.Wholes.{Whole}
 use Rattle.bembed.specs.WithFiles.{AskedWith, ChecksWhole, CompilesWhole, GoesWhole}
 
@@ -58,3 +61,5 @@ pub record Excluded : Type 0 where
   pub traces : (steps : ℕ) (which : TraceRows) (input : List ℕ) → KeepsWith (TracesWhole steps which input)
   pub counts : (steps : ℕ) (style : CountStyle) (input : List ℕ) → KeepsWith (CountsWhole steps style input)
   pub shows : (steps : ℕ) (which : TraceRows) (input : List ℕ) → KeepsWith (ShowsWhole steps which input)
+  pub loads_with : (h : Host) → KeepsWith (LoadsWhole h)
+  pub loads_text : (text : CodeText) (h : Host) → KeepsAll (LoadsText text h)

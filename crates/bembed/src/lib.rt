@@ -7,6 +7,7 @@ mod asking;
 mod before;
 mod calls;
 mod joined;
+mod loading;
 mod looking;
 mod room;
 mod sessions;

@@ -69,7 +69,8 @@ pub extern "C" fn b_map(
     let (out_before, line_before) = (Before::of(out), Before::of(line));
     let mut out = Room::new(out, &out_before, &mut written.out);
     let mut line = Room::new(line, &line_before, &mut written.line);
-    map(alloc, whole.text(), whole.edition(), &mut out, &mut line)
+    let origin = Origin::Source(whole.edition());
+    map(alloc, whole.text(), origin, &mut out, &mut line)
 }
 
 /// Writes each step of the program of a source, as `trace` does: the last steps, or those from a number on if `last`
@@ -195,7 +196,7 @@ pub extern "C" fn b_show(
     show(
         alloc,
         whole.text(),
-        whole.edition(),
+        Origin::Source(whole.edition()),
         wanted,
         &mut input,
         &mut out,

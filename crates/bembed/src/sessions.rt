@@ -1,6 +1,8 @@
 //! Sessions: programs that stay in memory, and their runs, in slices.
-ghost use Rattle.std.specs.Prelude.{◌≡◌, ◌≤◌, ⊤, IsSome, None, [], drop, length, take};
-ghost use Rattle.bhost.specs.Statuses.{Answers, answer_callers, answer_function, answer_place, answer_steps, answer_value, answer_word};
+ghost use Rattle.std.specs.Prelude.{◌≡◌, ◌≤◌, ⊤, ℕ, IsSome, List, None, [], drop, length, take};
+ghost use Rattle.bhost.specs.Deeds.{Acts};
+ghost use Rattle.bhost.specs.Statuses.{Answers, answer_callers, answer_function, answer_line, answer_place, answer_steps, answer_value, answer_word, name_status};
+ghost use Rattle.bhost.specs.declared.desk.Answer.{Answer};
 ghost use Rattle.bhost.specs.declared.desk.Deed.TheVariants as deed;
 ghost use Rattle.bembed.specs.Calls.{edition_of};
 ghost use Rattle.bembed.specs.Sessions.{LoadsCode, LoadsSource};
@@ -8,9 +10,11 @@ ghost use Rattle.bembed.specs.Sessions.{LoadsCode, LoadsSource};
 use crate::calls::edition_of;
 use bhost::Host;
 use bhost::calls::{
-    Whereabouts, begin, close, end, feed, go_on, load, look, read, store, take, unload,
+    Whereabouts, begin, close, end, feed, go_on, limit, load, look, name_of, read, store, take,
+    unload,
 };
 use blang::status;
+use bsession::Limits;
 use btools::{CodeText, Origin};
 use std::alloc::Global;
 
@@ -18,12 +22,12 @@ use std::alloc::Global;
 #[unsafe(no_mangle)]
 pub extern "C" fn b_load(alloc: Global, source: &[u8], edition: u8, session: &mut Host) -> u8
     requires { session.old.read ≡ None }
-    ensures { LoadsSource (edition_of edition) source.now session.new.run session.new.read result }
+    ensures { LoadsSource (edition_of edition) source.now session.new result }
 {
     match edition_of(edition) {
         Some(edition) => load(alloc, source, Origin::Source(edition), session),
         None => {
-            *session = Host::none();
+            session.put(Host::none());
             status::WRONG_COMMAND
         }
     }
@@ -33,18 +37,14 @@ pub extern "C" fn b_load(alloc: Global, source: &[u8], edition: u8, session: &mu
 #[unsafe(no_mangle)]
 pub extern "C" fn b_load_code(alloc: Global, code: &[u8], session: &mut Host) -> u8
     requires { session.old.read ≡ None }
-    ensures { LoadsCode code.now session.new.run session.new.read result }
+    ensures { LoadsCode code.now session.new result }
 {
-    load(
-        alloc,
-        b"",
-        Origin::Code(CodeText {
-            code,
-            lines: None,
-            names: None,
-        }),
-        session,
-    )
+    let text = CodeText {
+        code,
+        lines: None,
+        names: None,
+    };
+    load(alloc, b"", Origin::Code(text), session)
 }
 
 /// Begins a run of the program.
@@ -68,6 +68,29 @@ pub extern "C" fn b_continue(alloc: Global, session: &mut Host, steps: u64, valu
         (λ _ told. value.new ≡ answer_value told) }
 {
     go_on(alloc, session, steps, value)
+}
+
+/// Sets how many operands, pages and bytes of output the run may hold.
+#[unsafe(no_mangle)]
+pub extern "C" fn b_limit(
+    alloc: Global,
+    session: &mut Host,
+    operands: usize,
+    pages: u16,
+    output: usize,
+) -> u8
+    requires program { IsSome session.old.read }
+    requires run { IsSome session.old.run }
+    ensures program { session.new.read ≡ session.old.read }
+    ensures limits { Answers (deed.Limit (record { operands = operands; pages = pages; output = output })) []
+        session.old.read session.old.run session.new.run result (λ _ _. ⊤) }
+{
+    let limits = Limits {
+        operands,
+        pages,
+        output,
+    };
+    limit(alloc, session, limits)
 }
 
 /// Adds bytes to the input.
@@ -119,9 +142,31 @@ pub extern "C" fn b_place(alloc: Global, session: &mut Host, there: &mut Whereab
     ensures program { session.new.read ≡ session.old.read }
     ensures looks { Answers deed.Look [] session.old.read session.old.run session.new.run result
         (λ _ told. (there.new.function ≡ answer_function told) × (there.new.place ≡ answer_place told)
-        × (there.new.callers ≡ answer_callers told) × (there.new.steps ≡ answer_steps told)) }
+        × (there.new.callers ≡ answer_callers told) × (there.new.steps ≡ answer_steps told)
+        × (there.new.line ≡ answer_line told)) }
 {
     look(alloc, session, there)
+}
+
+/// Tells the name of a function, by the address of its first string word.
+#[unsafe(no_mangle)]
+pub extern "C" fn b_name_of(
+    alloc: Global,
+    session: &mut Host,
+    function: u32,
+    room: &mut [u8],
+    count: &mut usize,
+) -> u8
+    requires program { IsSome session.old.read }
+    ensures program { session.new.read ≡ session.old.read }
+    ensures names { (name : List ℕ) × (told : Answer)
+        × Acts (deed.Name function) [] session.old.read session.old.run session.new.run name told
+        × (take count.new room.new ≡ take (length room.old) name)
+        × (result ≡ name_status (length room.old) name told) }
+    ensures kept { drop count.new room.new ≡ drop count.new room.old }
+    ensures within { count.new ≤ length room.old }
+{
+    name_of(alloc, session, function, room, count)
 }
 
 /// Tells the word at an address.

@@ -25,7 +25,7 @@ use Rattle.std_heap.specs.contracts.GlobalAllocator.TheImpl.{ghosts, dict}
 use Rattle.std_heap.proofs.Global.TheLaws as heap
 use Rattle.bhost.specs.Blocks.{chunk}
 use Rattle.bhost.specs.Places.{placed_owns}
-use Rattle.bhost.specs.Hosts.{ProgramValue, for_life, lends_for}
+use Rattle.bhost.specs.Hosts.{LoadedValue, for_life, host_owns, lends_for}
 use Rattle.bhost.specs.contracts.place.Place as place
 use Rattle.bhost.specs.contracts.host.Host as host
 use Rattle.bhost.specs.declared.place.Place.{Place}
@@ -47,7 +47,7 @@ abbrev pub al : Al
 al = record { row = Heap.the_row; laws = heap.the_row_laws; g = ghosts; d = dict; drops = impl [] tnil dnil }
 
 -- a host, with this program in its place
-abbrev pub with_program : Host → ProgramValue → Host
+abbrev pub with_program : Host → LoadedValue → Host
 with_program h x = record { session = h.session; program = h.program; run = h.run; read = Some x }
 
 pub ptr_good : (p : Ptr) → T (has_ty ty_ptr (ptr_val p)) × WT (ptr_val p)
@@ -69,15 +69,21 @@ place_good (block_ptr b o) hv fits = (and_tt (has_ty (α al) hv) fits.0, (tt, (f
 place_good null_ptr hv fits = (and_tt (has_ty (α al) hv) fits.0, (record { fits = lit< tt }, (fits.1, tt)))
 
 module _ {M : Type 1} {𝓤 : Ura M} {𝓛 : Logic 𝓤} {K : Type 0} {Γ : List (Item 𝓤)} {G : Goal 𝓤 𝓛.H} where
-  pub host_out : K → (h : Host) (x : ProgramValue) (vs : List Val)
+  pub host_word : K → (h : Host) (vs : List Val)
+      → (vs ≡ word (ptr_val h.session) (ptr_val h.program) ∷ []
+      → Seq K 𝓛 (‵ (host_owns h.session h.run h.program h.read) ∷ Γ) G)
+      → Seq K 𝓛 (‵ ((host.the_row).own_val h vs) ∷ Γ) G
+  host_word t h vs k =
+      fsplit t $ fpick t (λ vss. fsplit t $ feq_l t (λ ev. fsplit t $ feq_l t (λ es. fsplit t $ feq_l t (λ ei. drop t $
+      k (ev ∙ (λ j. vstruct (of_list (es j ++ (ei j ++ []))) ∷ []))))))
+
+  pub host_out : K → (h : Host) (x : LoadedValue) (vs : List Val)
       → ((a : ℕ) → vs ≡ word (ptr_val h.session) (ptr_val h.program) ∷ []
       → Seq K 𝓛 (‵ (lends_for a h.program x) ∷ ‵ (placed_owns (λ σ p. chunk σ p) (for_life (a ∷ [])) h.session h.run) ∷ Γ) G)
       → Seq K 𝓛 (‵ ((host.the_row).own_val (with_program h x) vs) ∷ Γ) G
-  host_out t h x vs k =
-      fsplit t $ fpick t (λ vss. fsplit t $ feq_l t (λ ev. fsplit t $ feq_l t (λ es. fsplit t $ feq_l t (λ ei. drop t $
-      fpick t (λ a. fsplit t $ k a (ev ∙ (λ j. vstruct (of_list (es j ++ (ei j ++ []))) ∷ [])))))))
+  host_out t h x vs k = host_word t (with_program h x) vs (λ is. fpick t (λ a. fsplit t $ k a is))
 
-  pub host_in : K → (a : ℕ) (h : Host) (x : ProgramValue)
+  pub host_in : K → (a : ℕ) (h : Host) (x : LoadedValue)
       → Step K 𝓛 (‵ ((host.the_row).own_val (with_program h x) (word (ptr_val h.session) (ptr_val h.program) ∷ [])) ∷ Γ) G
       (‵ (lends_for a h.program x) ∷ ‵ (placed_owns (λ σ p. chunk σ p) (for_life (a ∷ [])) h.session h.run) ∷ Γ) G
   host_in t a h x = step (λ s. let v : Val = ptr_val h.session in let w : Val = ptr_val h.program in

@@ -1,3 +1,4 @@
 pub mod Hosting
 pub mod Refusing
 pub mod Boxes
+pub mod Loading

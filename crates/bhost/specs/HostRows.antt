@@ -1,49 +1,123 @@
--- Closed facts: what is no answer of a session that is held with its program.
-use Rattle.std.specs.Prelude.{◌≡◌, [], ◌∷◌, map, false, true, None, Some, refl}
+-- Closed facts: what is no answer of a session that is held with its program, and the statuses of all answers.
+use Rattle.std.specs.Prelude.{◌≡◌, ℕ, ◌+◌, [], ◌∷◌, map, false, true, None, Some, refl}
+use Rattle.std.proofs.Common.{ap, arith}
+use Rattle.blang.specs.declared.run.LoadFault.TheVariants as load
 use Rattle.blang.specs.declared.run.Outcome.TheVariants as outcome
 use Rattle.blang.specs.declared.run.Trap.TheVariants as trap
+use Rattle.blang.specs.declared.token.Diagnostic.{Diagnostic}
+use Rattle.bmach.specs.declared.machine.Active.{Active}
+use Rattle.bauthor.specs.declared.fault.Wanted.TheVariants as wanted
 use Rattle.bsession.specs.Sessions.{Lost, SessionView}
+use Rattle.bsession.specs.declared.session.Held.TheVariants as held
+use Rattle.bsession.specs.declared.session.Limits.{Limits}
 use Rattle.bsession.specs.declared.session.SliceEnd.TheVariants as end
-use Rattle.bhost.specs.Deeds.{Acts, IsFed, IsTaken}
-use Rattle.bhost.specs.Statuses.{answer_status, answer_value}
+use Rattle.btools.specs.declared.program.ProgramFault.TheVariants as fault
+use Rattle.bhost.specs.Deeds.{Acts, Does, IsFed, NamesFunction, IsTaken, stands_with, word_told}
+use Rattle.bhost.specs.Hosts.{LoadedValue}
+use Rattle.bhost.specs.Statuses.{answer_callers, answer_function, answer_line, answer_place, answer_status, answer_steps}
+use Rattle.bhost.specs.Statuses.{answer_value, answer_word, fault_status, name_status, trap_number}
+use Rattle.bhost.specs.declared.desk.Answer.{Answer}
 use Rattle.bhost.specs.declared.desk.Answer.TheVariants as answer
 use Rattle.bhost.specs.declared.desk.Deed.TheVariants as deed
 
+abbrev none : Limits
+none = record { operands = 0; pages = 0; output = 0 }
+
 -- a session that is lost, with a byte of input and two of output
 abbrev lost : SessionView
-lost = record { state = Lost; unread = 5 ∷ []; is_closed = true; output = 7 ∷ 8 ∷ []; steps = 3 }
+lost = record { state = Lost; unread = 5 ∷ []; is_closed = true; output = 7 ∷ 8 ∷ []; steps = 3; limits = none }
 
--- no run begins without a program
+-- no run begins without a program, and nothing is done without one
 not_begun : Acts deed.Begin [] None None None [] answer.Done → ⊥
 not_begun begun = begun
+
+not_ended : Acts deed.End [] None (Some lost) None [] answer.Done → ⊥
+not_ended ended = ended
 
 -- an input that was closed takes no bytes
 closed_is_closed : IsFed lost lost (6 ∷ []) answer.Done → ⊥
 closed_is_closed fed = let closed = fed.0 in cc
 
+closed_is_told : IsFed lost lost (6 ∷ []) answer.Refused → ⊥
+closed_is_told fed = let closed = fed.0 in cc
+
 -- bytes that were fed are there
 fed_comes_after : IsFed (record lost { is_closed = false }) lost (6 ∷ []) answer.Done → ⊥
 fed_comes_after fed = let same = fed.1 in cc
 
--- what is taken is the beginning of the output
+-- what is taken is the beginning of the output; and where memory is refused, nothing is
 taken_is_there : IsTaken lost lost 1 (8 ∷ []) answer.Done → ⊥
 taken_is_there taken = let same = taken.0 in cc
 
--- a look changes nothing
-looked_only : Acts deed.Look [] None (Some lost) (Some (record lost { steps = 4 })) [] answer.Refused → ⊥
-looked_only looked = let same = looked.0 in cc
+nothing_is_taken : IsTaken lost lost 1 (7 ∷ []) answer.Refused → ⊥
+nothing_is_taken taken = let none = taken.0 in cc
+
+-- a look changes nothing, and tells of no other place
+looked_only : (loaded : LoadedValue) → Does deed.Look loaded lost (record lost { steps = 4 }) [] [] answer.Refused → ⊥
+looked_only loaded looked = let same : 4 ≡ 3 = ap (λ (h : SessionView). h.steps) looked.0 in omega (arith, same)
 
 -- no session is left after the end
-ended : Acts deed.End [] None (Some lost) (Some lost) [] answer.Done → ⊥
-ended gone = let none = gone.0 in cc
+ended : (loaded : LoadedValue) → Acts deed.End [] (Some loaded) (Some lost) (Some lost) [] answer.Done → ⊥
+ended loaded gone = let none = gone.0 in cc
+
+-- a name that is told is that of a function, and none is told where there is none, or memory is refused
+no_name : NamesFunction None (7 ∷ []) answer.Missing → ⊥
+no_name named = let none = named.1 in cc
+
+not_there : NamesFunction None [] answer.Done → ⊥
+not_there named = let is = named.0 in cc
+
+half_a_name : NamesFunction None (7 ∷ []) answer.Refused → ⊥
+half_a_name named = cc
+
+-- where a run stands
+abbrev call : Active
+call = record { strings = 5; parameters = 1; place = 6; start = 90 }
+
+abbrev told : Answer
+told = answer.Stands (record { strings = 5; place = 6; callers = 7; steps = 8; line = 11 })
+
+places : map (λ it. stands_with (λ c. c.strings + c.place) it 7 8) (Some call ∷ None ∷ [])
+    ≡ (told ∷ answer.Refused ∷ [])
+places = refl
+
+parts : map (λ (f : Answer → ℕ). f told) (answer_function ∷ answer_place ∷ answer_callers ∷ answer_steps ∷ answer_line
+    ∷ answer_word ∷ answer_value ∷ answer_status ∷ []) ≡ (5 ∷ 6 ∷ 7 ∷ 8 ∷ 11 ∷ 0 ∷ 0 ∷ 0 ∷ [])
+parts = refl
+
+no_parts : map (λ (f : Answer → ℕ). f (answer.Word 3)) (answer_function ∷ answer_place ∷ answer_callers ∷ answer_steps
+    ∷ answer_line ∷ answer_word ∷ answer_value ∷ answer_status ∷ []) ≡ (0 ∷ 0 ∷ 0 ∷ 0 ∷ 0 ∷ 3 ∷ 0 ∷ 0 ∷ [])
+no_parts = refl
+
+words : map word_told (None ∷ Some 0 ∷ Some 65535 ∷ []) ≡ (answer.Refused ∷ answer.Word 0 ∷ answer.Word 65535 ∷ [])
+words = refl
 
 -- the statuses of all answers, and what stands beside them
 statuses : map answer_status (answer.Done ∷ answer.Ended (end.Halted 9) ∷ answer.Ended (end.Trapped trap.Stuck)
-    ∷ answer.Ended end.Limit ∷ answer.Ended end.WantsInput ∷ answer.Ended end.Memory ∷ answer.Unbegun outcome.Memory
-    ∷ answer.Unbegun (outcome.Trap trap.NotAFunction) ∷ answer.Closed ∷ answer.Refused ∷ answer.Word 9 ∷ [])
-    ≡ (0 ∷ 0 ∷ 130 ∷ 131 ∷ 133 ∷ 134 ∷ 134 ∷ 130 ∷ 135 ∷ 134 ∷ 0 ∷ [])
+    ∷ answer.Ended end.Limit ∷ answer.Ended end.WantsInput ∷ answer.Ended (end.Holds held.Output)
+    ∷ answer.Ended (end.Holds held.Operands) ∷ answer.Ended (end.Holds held.Pages) ∷ answer.Ended end.Memory
+    ∷ answer.Unbegun outcome.Memory ∷ answer.Unbegun (outcome.Trap trap.NotAFunction) ∷ answer.Closed
+    ∷ answer.Missing ∷ answer.Refused ∷ answer.Word 9 ∷ [])
+    ≡ (0 ∷ 0 ∷ 130 ∷ 131 ∷ 133 ∷ 136 ∷ 137 ∷ 137 ∷ 134 ∷ 134 ∷ 130 ∷ 135 ∷ 132 ∷ 134 ∷ 0 ∷ [])
 statuses = refl
 
-values : map answer_value (answer.Ended (end.Halted 9) ∷ answer.Ended (end.Trapped trap.Stuck) ∷ answer.Ended end.Limit ∷ [])
-    ≡ (9 ∷ 7 ∷ 0 ∷ [])
+values : map answer_value (answer.Ended (end.Halted 0) ∷ answer.Ended (end.Halted 9) ∷ answer.Ended (end.Halted 255)
+    ∷ answer.Ended (end.Trapped trap.Stuck) ∷ answer.Ended end.Limit ∷ answer.Ended end.WantsInput
+    ∷ answer.Ended (end.Holds held.Output) ∷ answer.Ended (end.Holds held.Operands)
+    ∷ answer.Ended (end.Holds held.Pages) ∷ answer.Ended end.Memory ∷ [])
+    ≡ (0 ∷ 9 ∷ 255 ∷ 7 ∷ 0 ∷ 0 ∷ 0 ∷ 1 ∷ 2 ∷ 0 ∷ [])
 values = refl
+
+traps : map trap_number (trap.ZeroDivisor ∷ trap.NotAFunction ∷ trap.NotALabel ∷ trap.NoRoom ∷ trap.TooDeep
+    ∷ trap.BadBase ∷ trap.Stuck ∷ []) ≡ (1 ∷ 2 ∷ 3 ∷ 4 ∷ 5 ∷ 6 ∷ 7 ∷ [])
+traps = refl
+
+-- the statuses of all reasons why there is no program
+faults : (d : Diagnostic) → map fault_status (fault.Faulty d ∷ fault.Unread 4 ∷ fault.Unlined 4
+    ∷ fault.Unnamed 4 wanted.End ∷ fault.Unloaded load.NoMain ∷ fault.Unloaded load.TooLarge ∷ fault.Memory ∷ [])
+    ≡ (1 ∷ 132 ∷ 135 ∷ 135 ∷ 132 ∷ 132 ∷ 134 ∷ [])
+faults d = refl
+
+-- a name of two bytes in rooms of 0 to 3 bytes
+name_statuses : map (λ size. name_status size (7 ∷ 8 ∷ []) answer.Done) (0 ∷ 1 ∷ 2 ∷ 3 ∷ []) ≡ (133 ∷ 133 ∷ 0 ∷ 0 ∷ [])
+name_statuses = refl

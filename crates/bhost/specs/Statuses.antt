@@ -1,21 +1,27 @@
 -- Promise: what each call of a session tells.
-use Rattle.std.specs.Prelude.{◌≡◌, ℕ, List, Option, None, MatchOption}
+use Rattle.std.specs.Prelude.{◌≡◌, ◌<◌, ℕ, nat_lt, if◌then◌else◌, length, List, Option, None, MatchOption}
 use Rattle.blang.specs.declared.run.Outcome.TheVariants as outcome
 use Rattle.blang.specs.declared.run.Trap.{Trap}
 use Rattle.blang.specs.declared.run.Trap.TheVariants as trap
 use Rattle.blang.specs.declared.run.Outcome.{Outcome}
 use Rattle.blang.specs.declared.status.TheConstants.{DEVICE, DONE, FAULT, LIMIT, MEMORY, REFUSED, TRAP, WRONG_COMMAND}
 use Rattle.bsession.specs.Sessions.{SessionView}
+use Rattle.bsession.specs.declared.session.Held.{Held}
+use Rattle.bsession.specs.declared.session.Held.TheVariants as held
 use Rattle.bsession.specs.declared.session.SliceEnd.{SliceEnd}
 use Rattle.bsession.specs.declared.session.SliceEnd.TheVariants as end
-use Rattle.btools.specs.Origins.{HasNoProgramOf, IsProgramOf, Origin}
+use Rattle.bword.specs.ByteEnds.{Outgoing}
+use Rattle.blang.specs.declared.token.Diagnostic.{Diagnostic}
+use Rattle.btools.specs.Origins.{HasNoProgramOf, IsProgramOf, LinesOf, NamesOf, NoProgramOf, Origin}
 use Rattle.btools.specs.declared.program.ProgramFault.{ProgramFault}
 use Rattle.btools.specs.declared.program.ProgramFault.TheVariants as fault
 use Rattle.bhost.specs.Deeds.{Acts}
-use Rattle.bhost.specs.Hosts.{ProgramValue}
+use Rattle.bhost.specs.Hosts.{LoadedValue}
+use Rattle.bhost.specs.declared.calls.TheConstants.{HAS_OUTPUT, TOO_LARGE}
 use Rattle.bhost.specs.declared.desk.Answer.{Answer}
 use Rattle.bhost.specs.declared.desk.Answer.TheVariants as answer
 use Rattle.bhost.specs.declared.desk.Deed.{Deed}
+use Rattle.bhost.specs.declared.host.Host.{Host}
 
 -- the status of a program that could not be read
 abbrev pub fault_status : ProgramFault → ℕ
@@ -26,12 +32,30 @@ fault_status (fault.Unnamed line wanted) = WRONG_COMMAND
 fault_status (fault.Unloaded f) = REFUSED
 fault_status fault.Memory = MEMORY
 
+-- A program was read from there, with its lines and names.
+pub record HoldsProgramOf (origin : Origin) (source : List ℕ) (loaded : LoadedValue) : Type 0 where
+  pub program : IsProgramOf origin source loaded.program
+  pub lines : LinesOf origin source loaded.program.names.lines.items
+  pub names : NamesOf origin source loaded.program.names.frames.items
+
 -- A program is in memory now, or none, and the status tells why.
-abbrev pub Loads : Origin → (source : List ℕ) → (run : Option SessionView) → (read : Option ProgramValue) → (status : ℕ)
-    → Type 0
-Loads origin source run read status = (run ≡ None) × MatchOption read
+abbrev pub Loads : Origin → (source : List ℕ) → Host → (status : ℕ) → Type 0
+Loads origin source h status = (h.run ≡ None) × MatchOption h.read
     ((why : ProgramFault) × HasNoProgramOf origin source why × (status ≡ fault_status why))
-    (λ program. IsProgramOf origin source program × (status ≡ DONE))
+    (λ loaded. HoldsProgramOf origin source loaded × (status ≡ DONE))
+
+-- where it is told why there is no program: the lines of a fault, the stream before and after, and the status
+pub record LineTold : Type 0 where
+  pub lines : Diagnostic → List ℕ
+  pub before : Outgoing
+  pub after : Outgoing
+  pub status : ℕ
+
+-- A program is in memory now, and nothing is told; or none, and it is told why.
+abbrev pub LoadsTelling : Origin → (source : List ℕ) → Host → LineTold → Type 0
+LoadsTelling origin source h it = (h.run ≡ None) × MatchOption h.read
+    (NoProgramOf origin source it.lines it.before it.after it.status)
+    (λ loaded. HoldsProgramOf origin source loaded × (it.after ≡ it.before) × (it.status ≡ DONE))
 
 -- the number of a trap
 abbrev pub trap_number : Trap → ℕ
@@ -43,17 +67,27 @@ trap_number trap.TooDeep = 5
 trap_number trap.BadBase = 6
 trap_number trap.Stuck = 7
 
--- the status of a slice, and beside it that of the program which has halted, or the number of a trap
+-- the number of what is too large
+abbrev pub held_number : Held → ℕ
+held_number held.Output = 0
+held_number held.Operands = 1
+held_number held.Pages = 2
+
+-- the status of a slice, and beside it that of the program which has halted, or the number of a trap or of what is too
+-- large
 abbrev pub end_status : SliceEnd → ℕ
 end_status (end.Halted status) = DONE
 end_status (end.Trapped kind) = TRAP
 end_status end.Limit = LIMIT
 end_status end.WantsInput = DEVICE
+end_status (end.Holds held.Output) = HAS_OUTPUT
+end_status (end.Holds other) = TOO_LARGE
 end_status end.Memory = MEMORY
 
 abbrev pub end_value : SliceEnd → ℕ
 end_value (end.Halted status) = status
 end_value (end.Trapped kind) = trap_number kind
+end_value (end.Holds what) = held_number what
 end_value other = 0
 
 -- the status where a run hasn't begun
@@ -66,9 +100,15 @@ answer_status answer.Done = DONE
 answer_status (answer.Ended why) = end_status why
 answer_status (answer.Unbegun why) = begin_status why
 answer_status answer.Closed = WRONG_COMMAND
+answer_status answer.Missing = REFUSED
 answer_status answer.Refused = MEMORY
 answer_status (answer.Stands there) = DONE
 answer_status (answer.Word word) = DONE
+
+-- the status where no bytes were fed for want of memory
+abbrev pub unfed_status : Answer → ℕ
+unfed_status answer.Done = MEMORY
+unfed_status told = answer_status told
 
 abbrev pub answer_value : Answer → ℕ
 answer_value (answer.Ended why) = end_value why
@@ -94,8 +134,17 @@ abbrev pub answer_steps : Answer → ℕ
 answer_steps (answer.Stands there) = there.steps
 answer_steps other = 0
 
+abbrev pub answer_line : Answer → ℕ
+answer_line (answer.Stands there) = there.line
+answer_line other = 0
+
+-- the status where a name is told in a room of this size
+abbrev pub name_status : (size : ℕ) → (name : List ℕ) → Answer → ℕ
+name_status size name told = if nat_lt size (length name) then DEVICE else answer_status told
+
 -- A deed with these bytes is done, and the status tells its answer. `P` holds of the bytes after it, and of the answer.
-abbrev pub Answers : Deed → (bytes : List ℕ) → Option ProgramValue → (old new : Option SessionView) → (status : ℕ)
+abbrev pub Answers : Deed → (bytes : List ℕ) → Option LoadedValue → (old new : Option SessionView) → (status : ℕ)
     → (List ℕ → Answer → Type 0) → Type 0
 Answers deed bytes program old new status P =
-    (after : List ℕ) × (told : Answer) × Acts deed bytes program old new after told × (status ≡ answer_status told) × P after told
+    (after : List ℕ) × (told : Answer) × Acts deed bytes program old new after told × (status ≡ answer_status told)
+    × P after told

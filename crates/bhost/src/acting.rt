@@ -1,26 +1,28 @@
 //! What is done with a session.
 ghost use Rattle.std.specs.Prelude.{◌≡◌, Some};
-ghost use Rattle.bhost.specs.Deeds.{Acts, Allows, Begins, Does, IsFed, IsStored, IsTaken, stands_at};
+ghost use Rattle.bhost.specs.Deeds.{Acts, Allows, Begins, Does, IsFed, NamesFunction, TellsPlace, IsStored, IsTaken, placed_at};
 
 use crate::desk::{Answer, Deed, Desk, Standing};
+use crate::loaded::LoadedProgram;
 use crate::place::Place;
 use bsession::{FeedFault, Session};
-use btools::Program;
+use btools::{Tables, name_of};
 use std::alloc::Global;
 
 /// Does with a session what is asked for on the desk.
 pub(crate) fn act_on<'a>(
     place: Place<Session<'a>, Global>,
-    program: &'a Program,
+    loaded: &'a LoadedProgram,
     desk: Desk,
 ) -> (Place<Session<'a>, Global>, Desk)
     requires { Allows desk.deed place.value }
-    ensures { Acts desk.deed desk.bytes.items (Some program.now) place.entry.value result.0.value result.1.bytes.items result.1.answer }
+    ensures { Acts desk.deed desk.bytes.items (Some loaded.now) place.entry.value result.0.value result.1.bytes.items result.1.answer }
 {
     let mut desk = desk;
     match desk.deed {
         Deed::Begin => {
-            let (place, answer) = begin(desk.alloc, program);
+            place.forget();
+            let (place, answer) = begin(desk.alloc, loaded);
             desk.answer = answer;
             (place, desk)
         }
@@ -29,7 +31,12 @@ pub(crate) fn act_on<'a>(
             desk.answer = Answer::Done;
             (Place::none(desk.alloc), desk)
         }
+        Deed::Name(strings) => {
+            desk.answer = tell_name(loaded, strings, desk.alloc, &mut desk.bytes);
+            (place, desk)
+        }
         Deed::Continue(_)
+        | Deed::Limit(_)
         | Deed::Feed
         | Deed::Close
         | Deed::Take(_)
@@ -37,17 +44,17 @@ pub(crate) fn act_on<'a>(
         | Deed::Read(_)
         | Deed::Store(_, _) => {
             let mut session = place.into_box();
-            act_within(&mut session, &mut desk);
+            act_within(&mut session, loaded, &mut desk);
             (Place::of(session), desk)
         }
     }
 }
 
 // Begins a run.
-fn begin<'a>(alloc: Global, program: &'a Program) -> (Place<Session<'a>, Global>, Answer)
-    ensures { Begins program.now.image result.0.value result.1 }
+fn begin<'a>(alloc: Global, loaded: &'a LoadedProgram) -> (Place<Session<'a>, Global>, Answer)
+    ensures { Begins loaded.now.program.image result.0.value result.1 }
 {
-    match Session::start(alloc, &program.image) {
+    match Session::start(alloc, &loaded.program.image) {
         Err(outcome) => (Place::none(alloc), Answer::Unbegun(outcome)),
         Ok(session) => match Box::new(alloc, session) {
             Ok(session) => (Place::of(session), Answer::Done),
@@ -57,14 +64,18 @@ fn begin<'a>(alloc: Global, program: &'a Program) -> (Place<Session<'a>, Global>
 }
 
 // Does something between or in two slices of a run.
-fn act_within(session: &mut Session<'_>, desk: &mut Desk)
-    ensures { Does desk.old.deed session.old session.new desk.old.bytes.items desk.new.bytes.items desk.new.answer }
+fn act_within(session: &mut Session<'_>, loaded: &LoadedProgram, desk: &mut Desk)
+    ensures { Does desk.old.deed loaded.now session.old session.new desk.old.bytes.items desk.new.bytes.items desk.new.answer }
 {
     desk.answer = match desk.deed {
         Deed::Continue(steps) => Answer::Ended(session.continue_for(steps)),
+        Deed::Limit(limits) => {
+            session.set_limits(limits);
+            Answer::Done
+        }
         Deed::Feed => feed(session, desk.bytes.as_slice()),
         Deed::Take(count) => take(session, desk.alloc, count, &mut desk.bytes),
-        Deed::Look => look(session),
+        Deed::Look => look(session, loaded, desk.alloc),
         Deed::Read(address) => match session.word(address) {
             Some(word) => Answer::Word(word),
             None => Answer::Refused,
@@ -74,7 +85,7 @@ fn act_within(session: &mut Session<'_>, desk: &mut Desk)
             session.close_input();
             Answer::Done
         }
-        Deed::Begin | Deed::End => Answer::Done,
+        Deed::Begin | Deed::End | Deed::Name(_) => Answer::Done,
     };
 }
 
@@ -104,17 +115,39 @@ fn take(session: &mut Session<'_>, alloc: Global, count: usize, bytes: &mut Vec<
 }
 
 // Tells where a run stands.
-fn look(session: &Session<'_>) -> Answer
-    ensures { result ≡ stands_at session.now }
+fn look(session: &Session<'_>, loaded: &LoadedProgram, alloc: Global) -> Answer
+    ensures { TellsPlace loaded.now session.now result }
 {
-    match session.call() {
-        Some(call) => Answer::Stands(Standing {
-            strings: call.strings,
-            place: call.place,
-            callers: session.callers(),
-            steps: session.steps(),
-        }),
-        None => Answer::Refused,
+    let Some(call) = session.call() else {
+        return Answer::Refused;
+    };
+    let Ok(tables) = Tables::new(alloc, &loaded.program) else {
+        return Answer::Refused;
+    };
+    Answer::Stands(Standing {
+        strings: call.strings,
+        place: call.place,
+        callers: session.callers(),
+        steps: session.steps(),
+        line: tables.line(tables.entry(call.strings), call.place),
+    })
+}
+
+// Puts the name of a function on the desk.
+fn tell_name(loaded: &LoadedProgram, strings: u32, alloc: Global, bytes: &mut Vec<u8>) -> Answer
+    ensures { NamesFunction (placed_at loaded.now strings) bytes.new.items result }
+{
+    bytes.clear();
+    let Ok(tables) = Tables::new(alloc, &loaded.program) else {
+        return Answer::Refused;
+    };
+    let entry = tables.entry(strings);
+    if entry.is_none() {
+        return Answer::Missing;
+    }
+    match bytes.extend_from_slice(name_of(entry)) {
+        Ok(()) => Answer::Done,
+        Err(_) => Answer::Refused,
     }
 }
 

@@ -1,17 +1,30 @@
 //! Calls for a session with its program, which tell a status.
-ghost use Rattle.std.specs.Prelude.{◌≡◌, ◌≤◌, ⊤, IsSome, None, [], drop, length, take};
-ghost use Rattle.bhost.specs.Statuses.{Answers, Loads, answer_callers, answer_function, answer_place, answer_status, answer_steps, answer_value, answer_word, end_status, end_value, fault_status, trap_number};
+ghost use Rattle.std.specs.Prelude.{◌≡◌, ◌≤◌, ⊤, ℕ, IsSome, List, MatchResult, None, [], drop, length, take};
+ghost use Rattle.bhost.specs.Deeds.{Acts};
+ghost use Rattle.bhost.specs.Statuses.{Answers, HoldsProgramOf, Loads, LoadsTelling, answer_callers, answer_function, answer_line, answer_place, answer_status, answer_steps, answer_value, answer_word, end_status, end_value, fault_status, held_number, name_status, trap_number, unfed_status};
+ghost use Rattle.bhost.specs.declared.desk.Answer.{Answer};
 ghost use Rattle.bhost.specs.declared.desk.Deed.TheVariants as deed;
-ghost use Rattle.btools.specs.Origins.{origin_shown};
+ghost use Rattle.blang.specs.Compiles.{line_of};
+ghost use Rattle.bsources.specs.Files.{files_shown};
+ghost use Rattle.btools.specs.FaultPlaces.{fault_lines};
+ghost use Rattle.btools.specs.Origins.{Code, HasNoProgramOf, Source, code_text_shown, origin_shown};
 
 use crate::desk::{Answer, Deed};
 use crate::host::Host;
+use crate::loaded::LoadedProgram;
 use blang::status::{self, Status};
 use blang::{Outcome, Trap};
-use bsession::SliceEnd;
-use btools::{Origin, ProgramFault, read_program};
+use bsession::{Held, Limits, SliceEnd};
+use bsources::SourceFiles;
+use btools::{CodeText, Origin, ProgramFault, read_program, tell_fault, tell_placed};
+use bword::{ByteOut, Edition};
 use std::alloc::Global;
 use std::mem;
+
+/// A slice ends since the session has more output than it may.
+pub const HAS_OUTPUT: Status = 136;
+/// A slice ends since the session has more operands or pages than it may.
+pub const TOO_LARGE: Status = 137;
 
 /// Where a run stands, as a call tells it.
 #[repr(C)]
@@ -25,28 +38,99 @@ pub struct Whereabouts {
     pub callers: usize,
     /// How many steps were made.
     pub steps: u64,
+    /// The line of the next instruction, or 0.
+    pub line: u64,
 }
 
 /// Reads a program, and puts it in memory.
 pub fn load(alloc: Global, source: &[u8], origin: Origin<'_>, host: &mut Host) -> Status
     requires { host.old.read ≡ None }
-    ensures { Loads (origin_shown origin.entry) source.now host.new.run host.new.read result }
+    ensures { Loads (origin_shown origin.entry) source.now host.new result }
 {
-    match read_program(alloc, source, origin) {
+    match read_loaded(alloc, source, origin) {
+        Ok(loaded) => {
+            host.put(Host::of(loaded));
+            status::DONE
+        }
         Err(fault) => {
-            *host = Host::none();
+            host.put(Host::none());
             fault_status(&fault)
         }
-        Ok(program) => match Box::new(alloc, program) {
-            Ok(program) => {
-                *host = Host::of(program);
-                status::DONE
-            }
-            Err(_) => {
-                *host = Host::none();
-                status::MEMORY
-            }
-        },
+    }
+}
+
+/// Compiles a source and puts its program in memory, or tells why there is none, with the file of a fault if that isn't
+/// the first one.
+pub fn load_source<D: ByteOut>(
+    alloc: Global,
+    source: &[u8],
+    edition: Edition,
+    files: SourceFiles<'_>,
+    host: &mut Host,
+    diag: &mut D,
+) -> Status
+    requires { host.old.read ≡ None }
+    ensures loads { LoadsTelling (Source edition) source.now host.new (record {
+      lines = fault_lines (files_shown files.entry);
+      before = D.outgoing diag.old;
+      after = D.outgoing diag.new;
+      status = result;
+    }) }
+    ensures diag_lender { D.lender diag.new ≡ D.lender diag.old }
+{
+    match read_loaded(alloc, source, Origin::Source(edition)) {
+        Ok(loaded) => {
+            host.put(Host::of(loaded));
+            status::DONE
+        }
+        Err(fault) => {
+            host.put(Host::none());
+            tell_placed(alloc, &fault, files, diag)
+        }
+    }
+}
+
+/// Reads a code text and puts its program in memory, or tells why there is none.
+pub fn load_text<D: ByteOut>(
+    alloc: Global,
+    text: CodeText<'_>,
+    host: &mut Host,
+    diag: &mut D,
+) -> Status
+    requires { host.old.read ≡ None }
+    ensures loads { LoadsTelling (Code (code_text_shown text.entry)) [] host.new (record {
+      lines = line_of;
+      before = D.outgoing diag.old;
+      after = D.outgoing diag.new;
+      status = result;
+    }) }
+    ensures diag_lender { D.lender diag.new ≡ D.lender diag.old }
+{
+    match read_loaded(alloc, b"", Origin::Code(text)) {
+        Ok(loaded) => {
+            host.put(Host::of(loaded));
+            status::DONE
+        }
+        Err(fault) => {
+            host.put(Host::none());
+            tell_fault(&fault, diag)
+        }
+    }
+}
+
+// Reads a program, or tells why there is none.
+fn read_loaded(
+    alloc: Global,
+    source: &[u8],
+    origin: Origin<'_>,
+) -> Result<Box<LoadedProgram>, ProgramFault>
+    ensures { MatchResult result (λ loaded. HoldsProgramOf (origin_shown origin.entry) source.now loaded.value)
+        (HasNoProgramOf (origin_shown origin.entry) source.now) }
+{
+    let program = read_program(alloc, source, origin)?;
+    match Box::new(alloc, LoadedProgram { program }) {
+        Ok(loaded) => Ok(loaded),
+        Err(_) => Err(ProgramFault::Memory),
     }
 }
 
@@ -74,7 +158,8 @@ pub fn begin(alloc: Global, host: &mut Host) -> Status
     status_of(desk.answer)
 }
 
-/// Makes so many steps at most, and tells beside the status that of a program which has halted, or the number of a trap.
+/// Makes so many steps at most, and tells beside the status that of a program which has halted, the number of a trap, or
+/// that of what is too large.
 pub fn go_on(alloc: Global, host: &mut Host, steps: u64, value: &mut u8) -> Status
     requires program { IsSome host.old.read }
     requires run { IsSome host.old.run }
@@ -90,6 +175,17 @@ pub fn go_on(alloc: Global, host: &mut Host, steps: u64, value: &mut u8) -> Stat
     status_of(desk.answer)
 }
 
+/// Sets how much the run may hold.
+pub fn limit(alloc: Global, host: &mut Host, limits: Limits) -> Status
+    requires program { IsSome host.old.read }
+    requires run { IsSome host.old.run }
+    ensures program { host.new.read ≡ host.old.read }
+    ensures limits { Answers (deed.Limit limits) [] host.old.read host.old.run host.new.run result (λ _ _. ⊤) }
+{
+    let desk = host.ask(alloc, Deed::Limit(limits), Vec::new(alloc));
+    status_of(desk.answer)
+}
+
 /// Adds bytes to the input.
 pub fn feed(alloc: Global, host: &mut Host, bytes: &[u8]) -> Status
     requires program { IsSome host.old.read }
@@ -99,10 +195,32 @@ pub fn feed(alloc: Global, host: &mut Host, bytes: &[u8]) -> Status
 {
     let mut fed = Vec::new(alloc);
     if fed.extend_from_slice(bytes).is_err() {
-        return status::MEMORY;
+        return feed_nothing(alloc, host);
     }
     let desk = host.ask(alloc, Deed::Feed, fed);
     status_of(desk.answer)
+}
+
+// Adds no bytes, for want of memory, unless the input is closed.
+fn feed_nothing(alloc: Global, host: &mut Host) -> Status
+    requires program { IsSome host.old.read }
+    requires run { IsSome host.old.run }
+    ensures program { host.new.read ≡ host.old.read }
+    ensures feeds { (bytes : List ℕ)
+        → Answers deed.Feed bytes host.old.read host.old.run host.new.run result (λ _ _. ⊤) }
+{
+    let desk = host.ask(alloc, Deed::Feed, Vec::new(alloc));
+    unfed_status(desk.answer)
+}
+
+// The status of an answer where no bytes were fed for want of memory.
+fn unfed_status(answer: Answer) -> Status
+    ensures { result ≡ unfed_status answer }
+{
+    match answer {
+        Answer::Done => status::MEMORY,
+        _ => status_of(answer),
+    }
 }
 
 /// Tells that no more bytes come.
@@ -127,11 +245,46 @@ pub fn take(alloc: Global, host: &mut Host, room: &mut [u8], count: &mut usize) 
     ensures within { count.new ≤ length room.old }
 {
     let desk = host.ask(alloc, Deed::Take(room.len()), Vec::new(alloc));
-    let taken = desk.bytes.as_slice();
-    let len = taken.len().min(room.len());
-    room[..len].copy_from_slice(&taken[..len]);
-    *count = len;
+    *count = hand_out(desk.bytes.as_slice(), room);
     status_of(desk.answer)
+}
+
+// Puts as many bytes as there is room for at the head of a room, and tells how many.
+fn hand_out(bytes: &[u8], room: &mut [u8]) -> usize
+    ensures within { result ≤ length room.old }
+    ensures handed { take result room.new ≡ take (length room.old) bytes.now }
+    ensures kept { drop result room.new ≡ drop result room.old }
+{
+    let count = bytes.len().min(room.len());
+    room[..count].copy_from_slice(&bytes[..count]);
+    count
+}
+
+/// Tells the name of the function whose first string word has an address, as much of it as there is room for.
+pub fn name_of(
+    alloc: Global,
+    host: &mut Host,
+    strings: u32,
+    room: &mut [u8],
+    count: &mut usize,
+) -> Status
+    requires program { IsSome host.old.read }
+    ensures program { host.new.read ≡ host.old.read }
+    ensures names { (name : List ℕ) × (told : Answer)
+        × Acts (deed.Name strings) [] host.old.read host.old.run host.new.run name told
+        × (take count.new room.new ≡ take (length room.old) name)
+        × (result ≡ name_status (length room.old) name told) }
+    ensures kept { drop count.new room.new ≡ drop count.new room.old }
+    ensures within { count.new ≤ length room.old }
+{
+    let desk = host.ask(alloc, Deed::Name(strings), Vec::new(alloc));
+    let size = room.len();
+    *count = hand_out(desk.bytes.as_slice(), room);
+    if size < desk.bytes.len() {
+        status::DEVICE
+    } else {
+        status_of(desk.answer)
+    }
 }
 
 /// Tells where the run stands.
@@ -141,7 +294,8 @@ pub fn look(alloc: Global, host: &mut Host, there: &mut Whereabouts) -> Status
     ensures program { host.new.read ≡ host.old.read }
     ensures looks { Answers deed.Look [] host.old.read host.old.run host.new.run result
         (λ _ told. (there.new.function ≡ answer_function told) × (there.new.place ≡ answer_place told)
-        × (there.new.callers ≡ answer_callers told) × (there.new.steps ≡ answer_steps told)) }
+        × (there.new.callers ≡ answer_callers told) × (there.new.steps ≡ answer_steps told)
+        × (there.new.line ≡ answer_line told)) }
 {
     let desk = host.ask(alloc, Deed::Look, Vec::new(alloc));
     *there = match desk.answer {
@@ -150,12 +304,14 @@ pub fn look(alloc: Global, host: &mut Host, there: &mut Whereabouts) -> Status
             place: standing.place,
             callers: standing.callers,
             steps: standing.steps,
+            line: standing.line,
         },
         _ => Whereabouts {
             function: 0,
             place: 0,
             callers: 0,
             steps: 0,
+            line: 0,
         },
     };
     status_of(desk.answer)
@@ -220,6 +376,7 @@ fn status_of(answer: Answer) -> Status
         Answer::Unbegun(Outcome::Memory) => status::MEMORY,
         Answer::Unbegun(_) => status::TRAP,
         Answer::Closed => status::WRONG_COMMAND,
+        Answer::Missing => status::REFUSED,
         Answer::Refused => status::MEMORY,
     }
 }
@@ -233,18 +390,32 @@ fn end_status(end: SliceEnd) -> Status
         SliceEnd::Trapped(_) => status::TRAP,
         SliceEnd::Limit => status::LIMIT,
         SliceEnd::WantsInput => status::DEVICE,
+        SliceEnd::Holds(Held::Output) => HAS_OUTPUT,
+        SliceEnd::Holds(Held::Operands | Held::Pages) => TOO_LARGE,
         SliceEnd::Memory => status::MEMORY,
     }
 }
 
-// The status of a program that has halted, or the number of a trap.
+// The status of a program that has halted, the number of a trap, or that of what is too large.
 fn end_value(end: SliceEnd) -> u8
     ensures { result ≡ end_value end }
 {
     match end {
         SliceEnd::Halted(status) => status,
         SliceEnd::Trapped(trap) => trap_number(trap),
+        SliceEnd::Holds(held) => held_number(held),
         SliceEnd::Limit | SliceEnd::WantsInput | SliceEnd::Memory => 0,
+    }
+}
+
+// The number of what is too large.
+fn held_number(held: Held) -> u8
+    ensures { result ≡ held_number held }
+{
+    match held {
+        Held::Output => 0,
+        Held::Operands => 1,
+        Held::Pages => 2,
     }
 }
 

@@ -1,6 +1,6 @@
 //! What is asked of a session, and what it answers.
 use blang::Outcome;
-use bsession::SliceEnd;
+use bsession::{Limits, SliceEnd};
 use std::alloc::Global;
 
 /// What is done with a session.
@@ -10,6 +10,8 @@ pub enum Deed {
     Begin,
     /// So many steps are made at most.
     Continue(u64),
+    /// It is set how much the run may hold.
+    Limit(Limits),
     /// The bytes on the desk come after those that were fed.
     Feed,
     /// No more bytes come.
@@ -22,6 +24,8 @@ pub enum Deed {
     Read(u16),
     /// A word is stored at an address.
     Store(u16, u16),
+    /// The name is put on the desk of the function whose first string word has this address.
+    Name(u32),
     /// The run is given up.
     End,
 }
@@ -37,6 +41,8 @@ pub struct Standing {
     pub callers: usize,
     /// How many steps were made.
     pub steps: u64,
+    /// The line of the next instruction, or 0 where none is known.
+    pub line: u64,
 }
 
 /// What a session answers.
@@ -49,6 +55,8 @@ pub enum Answer {
     Unbegun(Outcome),
     /// The input was closed.
     Closed,
+    /// No function lies there.
+    Missing,
     /// Memory was refused, and nothing was done; or it was refused before, and the session is lost.
     Refused,
     /// The run stands there.

@@ -1,27 +1,27 @@
 //! A session together with its program.
 ghost use Rattle.std.specs.Prelude.{◌≡◌, IsSome, None, Option, Some};
 ghost use Rattle.bhost.specs.Deeds.{Acts, Allows};
-ghost use Rattle.bhost.specs.Hosts.{host_owns, session_coded, program_coded, ProgramValue, SessionValue};
+ghost use Rattle.bhost.specs.Hosts.{host_owns, session_coded, loaded_coded, LoadedValue, SessionValue};
 
 use crate::acting::act_on;
 use crate::desk::{Answer, Deed, Desk};
+use crate::loaded::LoadedProgram;
 use crate::place::Place;
 use bsession::Session;
-use btools::Program;
 use std::alloc::Global;
 use std::marker::Model;
 use std::{mem, ptr};
 
 /// A program in memory, with its session if one was begun; or none.
 ///
-/// The session reads the program, which stays where it is until the session is over.
+/// The session reads the program, which stays where it is until the session is over. A host can't be dropped, so that no
+/// block is forgotten: `forget` lets go of one without a program.
 #[repr(C)]
-#[derive(Drop)]
 pub struct Host {
     session: *mut u8,
     program: *mut u8,
     pub ghost run: { Option SessionValue } by { session_coded },
-    pub ghost read: { Option ProgramValue } by { program_coded },
+    pub ghost read: { Option LoadedValue } by { loaded_coded },
 }
 
 impl Model for Host {
@@ -41,7 +41,7 @@ impl Host {
     }
 
     // One with this program, and no session yet.
-    pub(crate) fn tie(program: Place<Program, Global>) -> Host
+    pub(crate) fn tie(program: Place<LoadedProgram, Global>) -> Host
         requires { IsSome program.value }
         ensures no_run { result.run ≡ None }
         ensures program { result.read ≡ program.value }
@@ -65,14 +65,14 @@ impl Host {
             at: session as *mut Session,
             alloc,
         };
-        let (place, desk) = act_on(place, unsafe { &*(program as *mut Program) }, desk);
+        let (place, desk) = act_on(place, unsafe { &*(program as *mut LoadedProgram) }, desk);
         let Place { at, alloc: _ } = place;
         let session = at as *mut u8;
         (Host { session, program }, desk)
     }
 
     // The program of one without a session.
-    pub(crate) fn untie(self, alloc: Global) -> Place<Program, Global>
+    pub(crate) fn untie(self, alloc: Global) -> Place<LoadedProgram, Global>
         requires no_run { self.run ≡ None }
         requires program { IsSome self.read }
         ensures { result.value ≡ self.read }
@@ -81,7 +81,7 @@ impl Host {
             session: _,
             program,
         } = self;
-        let at = program as *mut Program;
+        let at = program as *mut LoadedProgram;
         Place { at, alloc }
     }
 
@@ -101,12 +101,30 @@ impl Host {
         };
         let host = mem::replace(self, Host::none());
         let (host, desk) = host.act(alloc, desk);
-        *self = host;
+        self.put(host);
         desk
     }
 
+    /// Puts another one in the place of one without a program.
+    pub fn put(&mut self, host: Host)
+        requires { self.old.read ≡ None }
+        ensures { self.new ≡ host }
+    {
+        mem::replace(self, host).forget();
+    }
+
+    /// Lets go of one without a program.
+    pub fn forget(self)
+        requires { self.read ≡ None }
+    {
+        let Host {
+            session: _,
+            program: _,
+        } = self;
+    }
+
     /// One with this program, and no session yet.
-    pub fn of(program: Box<Program>) -> Host
+    pub fn of(program: Box<LoadedProgram>) -> Host
         ensures no_run { result.run ≡ None }
         ensures program { result.read ≡ Some program.value }
     {
@@ -114,7 +132,7 @@ impl Host {
     }
 
     /// The program of one without a session.
-    pub fn into_program(self, alloc: Global) -> Box<Program>
+    pub fn into_program(self, alloc: Global) -> Box<LoadedProgram>
         requires no_run { self.run ≡ None }
         requires program { IsSome self.read }
     {

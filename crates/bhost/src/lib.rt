@@ -5,7 +5,9 @@ mod acting;
 pub mod calls;
 mod desk;
 mod host;
+mod loaded;
 mod place;
 
 pub use desk::{Answer, Deed, Desk, Standing};
 pub use host::Host;
+pub use loaded::LoadedProgram;

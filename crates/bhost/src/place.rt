@@ -3,12 +3,13 @@ ghost use Rattle.std.specs.Prelude.{◌≡◌, IsSome, None, Option, Some};
 ghost use Rattle.std.specs.Coded.{coded_option};
 ghost use Rattle.bhost.specs.Places.{placed_owns};
 
-use std::alloc::Allocator;
+use std::alloc::{Allocator, Global};
 use std::marker::Model;
 use std::ptr;
 
 /// The place of a box's block, with what the box owned; or of none.
-#[derive(Drop)]
+///
+/// It can't be dropped, so that no block is forgotten.
 pub(crate) struct Place<T, A: Allocator> {
     pub(crate) at: *mut T,
     pub(crate) alloc: A,
@@ -44,5 +45,14 @@ impl<T, A: Allocator> Place<T, A> {
     {
         let Place { at, alloc } = self;
         unsafe { Box::from_raw(alloc, at) }
+    }
+}
+
+impl<T> Place<T, Global> {
+    // Lets go of one of none.
+    pub(crate) fn forget(self)
+        requires { self.value ≡ None }
+    {
+        let Place { at: _, alloc: _ } = self;
     }
 }

@@ -2,3 +2,4 @@ pub mod Sessions
 pub mod OneRun
 pub mod TwoSlices
 pub mod SlicesExcluded
+pub mod Parts

@@ -6,7 +6,8 @@ use Rattle.bmach.specs.Slices.{after_pause}
 use Rattle.bmach.specs.Stepping.{Paused, machine_at}
 use Rattle.bmach.proofs.Running.{steps_add}
 use Rattle.bsession.specs.Sessions.{BeginsSession, SessionContinues, SliceComesTo, Goes, SliceMade, SessionView, IsStateOf, HasImage, Lost, MayCome, Over, SessionState}
-use Rattle.bsession.specs.SessionRuns.{ComesBy, Continued, Deed, DeedDoes, OneRun, WasClosed, WasFed, WasTaken, all_fed, all_taken, fed_by, taken_by}
+use Rattle.bsession.specs.SessionRuns.{ComesBy, Continued, Deed, DeedDoes, OneRun, WasClosed, WasFed, WasLimited, WasTaken, all_fed, all_taken, fed_by, taken_by}
+use Rattle.bsession.specs.declared.session.Limits.{Limits}
 use Rattle.bsession.specs.declared.session.SliceEnd.{SliceEnd}
 use Rattle.bsession.specs.declared.session.SliceEnd.TheVariants as end
 
@@ -29,6 +30,9 @@ module _ (image : Image) (old new : SessionView) (fed taken : List ℕ) (s : Sta
 
   closed_stands : new ≡ record old { is_closed = true } → Stands image new fed taken
   closed_stands is = subst (λ h. Stands image h fed taken) (sym is) (record { of = s.of; at = λ rest may. s.at rest (λ closed. may refl) })
+
+  limited_stands : (limits : Limits) → new ≡ record old { limits = limits } → Stands image new fed taken
+  limited_stands limits is = subst (λ h. Stands image h fed taken) (sym is) (record { of = s.of; at = s.at })
 
   taken_stands : (bytes : List ℕ) → old.output ≡ bytes ++ new.output → new ≡ record old { output = new.output }
       → Stands image new fed (taken ++ bytes)
@@ -77,9 +81,10 @@ module _ (image : Image) (old new : SessionView) (fed taken : List ℕ) (s : Sta
   same_stands is = subst (λ h. Stands image h fed taken) (sym is) s
 
   gave : (p : Paused) (n : ℕ) (why : SliceEnd) → old.state ≡ Goes p → SliceComesTo p old new n why → Stands image new fed taken
-  gave p n end.Memory is g = lost_stands g
+  gave p n end.Memory is g = lost_stands g.lost
   gave p n end.Limit is g = went p n end.Limit is g
   gave p n end.WantsInput is g = went p n end.WantsInput is g
+  gave p n (end.Holds what) is g = went p n (end.Holds what) is g
   gave p n (end.Halted status) is g = went p n (end.Halted status) is g
   gave p n (end.Trapped kind) is g = went p n (end.Trapped kind) is g
 
@@ -96,6 +101,9 @@ module _ (image : Image) (old new : SessionView) (fed taken : List ℕ) (s : Sta
   done WasClosed d =
       subst (λ f. Stands image new f (taken ++ [])) (sym (append-nil fed))
       (subst (Stands image new fed) (sym (append-nil taken)) (closed_stands d))
+  done (WasLimited limits) d =
+      subst (λ f. Stands image new f (taken ++ [])) (sym (append-nil fed))
+      (subst (Stands image new fed) (sym (append-nil taken)) (limited_stands limits d))
   done (WasTaken bytes) d = subst (λ f. Stands image new f (taken ++ bytes)) (sym (append-nil fed)) (taken_stands bytes d.0 d.1)
 
 all_done : (image : Image) (deeds : List Deed) (old new : SessionView) (fed taken : List ℕ) → Stands image old fed taken

@@ -1,21 +1,22 @@
 -- What a slice of a run makes of a session.
-use Rattle.std.proofs.Common.{◌≡◌, ◌∙◌, ℕ, zero, suc, ◌+◌, ◌<◌, ◌≤◌, min, Bool, true, false, List, [], ◌∷◌, ◌++◌, Option, Some, None, append_assoc, ap, arith, drop, length, refl, subst, sym, inl, inr, ⊎_elim}
+use Rattle.std.proofs.Common.{◌≡◌, ◌∙◌, ℕ, zero, suc, ◌+◌, ◌<◌, ◌≤◌, min, Bool, true, false, List, [], ◌∷◌, ◌++◌, Option, Some, None, append-nil, append_assoc, ap, arith, drop, length, refl, subst, sym, inl, inr, ⊎_elim}
 use Rattle.std.specs.Prelude.{if◌then◌else◌}
 use Rattle.std.proofs.lemmas.List.{length-append}
-use Rattle.std.specs.Io.KnownBytes.{Consumes, Keeps}
+use Rattle.std.specs.Io.KnownBytes.{Appends, Consumes, Keeps}
 use Rattle.bword.specs.ByteEnds.{Fails, Grew, Incoming, Kept, Took, most, outgoing_of}
 use Rattle.blang.specs.declared.run.Outcome.{Outcome}
 use Rattle.blang.specs.declared.run.Outcome.TheVariants as outcome
 use Rattle.blang.specs.Machine.{state_world, step, steps}
 use Rattle.blang.specs.Reports.{Shows}
-use Rattle.bmach.specs.Slices.{IsOverWithin, SliceGives, WaitsAtRead, after_pause}
+use Rattle.bmach.specs.Slices.{BrokenAfter, IsOverWithin, SliceGives, WaitsAtRead, after_pause, output_after}
 use Rattle.bmach.specs.Stepping.{Paused, machine_at}
 use Rattle.bmach.specs.Steps.{world_with}
 use Rattle.bmach.specs.Stops.{RunsCall, active_of}
 use Rattle.bmach.specs.Turns.{MovesOn}
 use Rattle.bmach.specs.declared.machine.Stop.{Stop}
 use Rattle.bmach.proofs.Running.{one_more}
-use Rattle.bsession.specs.Sessions.{Fed, SliceComesTo, Goes, SliceMade, SessionView, IsStateOf, IsSessionOver, Lost, Over, EndsFor, allowed, closed_mark, fed_incoming, end_of, state_after}
+use Rattle.bsession.specs.declared.session.Limits.{Limits}
+use Rattle.bsession.specs.Sessions.{Fed, SliceComesTo, Goes, SliceMade, SessionView, IsStateOf, IsSessionOver, IsLostAfter, Lost, Over, EndsFor, allowed, closed_mark, fed_incoming, end_of, state_after}
 
 read_before : (f g : Fed) (m : Option (List ℕ)) (taken : List ℕ) → Consumes (Some f.unread) m taken → Keeps m (Some g.unread)
     → f.unread ≡ taken ++ g.unread
@@ -57,6 +58,16 @@ still_taken taken xs ys zs le is =
     let all : min taken (length zs) ≡ taken = omega (arith, le, size, longer) in
     ap (λ n. drop n zs) all ∙ ap (drop taken) is ∙ drop_after taken xs ys le
 
+-- no more input comes where its end was told
+none_left : (g : Fed) → IsKnown g → (rest : List ℕ) → (g.is_closed ≡ true → rest ≡ []) → g.is_over ≡ true → g.unread ++ rest ≡ []
+none_left g known rest may is = let e = known.over is in rw (e.0, may e.1) refl
+
+-- bytes that were added twice were added at once
+appended_twice : (xs zs : List ℕ) (m : Option (List ℕ)) (a b : List ℕ) → Appends (Some xs) m a → Appends m (Some zs) b
+    → zs ≡ xs ++ (a ++ b)
+appended_twice xs zs None a b first next = absurd first
+appended_twice xs zs (Some ys) a b first next = next ∙ ap (λ t. t ++ b) first ∙ append_assoc xs a b
+
 abbrev marked : Bool → List ℕ
 marked b = if b then 1 ∷ [] else []
 
@@ -68,10 +79,10 @@ same_mark f g is = of_marks g.is_closed f.is_closed is where
   of_marks false true e = cc
   of_marks false false e = refl
 
-module _ (p q : Paused) (f g : Fed) (o w : Kept) (taken made n : ℕ) (stop : Stop)
+module _ (p q : Paused) (f g : Fed) (o w : Kept) (taken made n : ℕ) (limits : Limits) (stop : Stop)
     (within : taken ≤ length o.bytes) (known : IsKnown g) (same : g.is_closed ≡ f.is_closed) (image : q.image ≡ p.image) where
   abbrev old : SessionView
-  old = record { state = Goes p; unread = f.unread; is_closed = f.is_closed; output = drop taken o.bytes; steps = made }
+  old = record { state = Goes p; unread = f.unread; is_closed = f.is_closed; output = drop taken o.bytes; steps = made; limits = limits }
 
   abbrev new : Outcome → SessionView
   new r = record {
@@ -80,44 +91,47 @@ module _ (p q : Paused) (f g : Fed) (o w : Kept) (taken made n : ℕ) (stop : St
     is_closed = g.is_closed;
     output = drop (min taken (length w.bytes)) w.bytes;
     steps = made + stop.steps;
+    limits = limits;
   }
 
   limit_gives : SliceGives p q (allowed old n) (fed_incoming f) (fed_incoming g) (outgoing_of o) (outgoing_of w) stop outcome.Limit
       → SliceMade p old (new outcome.Limit) n (end_of outcome.Limit)
-  limit_gives (all, h) = record {
+  limit_gives a = record {
     made = stop.steps;
-    within = omega (arith, all);
+    within = let all = a.counted in omega (arith, all);
     counted = refl;
-    taken = h.taken;
-    read = h.took.bytes;
-    written = h.output;
-    output = still_taken taken o.bytes h.output w.bytes within h.written.appended;
+    taken = a.goes.taken;
+    read = a.goes.took.bytes;
+    written = a.goes.output;
+    output = still_taken taken o.bytes a.goes.output w.bytes within a.goes.written.appended;
     same = same;
+    limits = refl;
     image = image;
     comes = λ rest before may.
-        ap (λ m. after_pause p m (f.unread ++ rest) before) all
-        ∙ went p q (allowed old n) f g o w h h.took.bytes refl known same rest before may;
-    ends = (all, (q, refl));
+        ap (λ m. after_pause p m (f.unread ++ rest) before) a.counted
+        ∙ went p q (allowed old n) f g o w a.goes a.goes.took.bytes refl known same rest before may;
+    ends = (a.counted, (q, refl));
   }
 
-  wait_gives : WaitsAtRead p q (allowed old n) stop.steps (fed_incoming f) (fed_incoming g) (outgoing_of o) (outgoing_of w)
+  wait_gives : WaitsAtRead p q (allowed old n) (fed_incoming f) (fed_incoming g) (outgoing_of o) (outgoing_of w) stop
       → SliceMade p old (new outcome.Device) n (end_of outcome.Device)
   wait_gives a = record {
     made = stop.steps;
     within = let less = a.within in omega (arith, less);
     counted = refl;
-    taken = a.goes.taken;
+    taken = a.pauses.goes.taken;
     read = read;
-    written = a.goes.output;
-    output = still_taken taken o.bytes a.goes.output w.bytes within a.goes.written.appended;
+    written = a.pauses.goes.output;
+    output = still_taken taken o.bytes a.pauses.goes.output w.bytes within a.pauses.goes.written.appended;
     same = same;
+    limits = refl;
     image = image;
-    comes = λ rest before may. went p q stop.steps f g o w a.goes read (sym a.fails.over) known same rest before may;
+    comes = λ rest before may. went p q stop.steps f g o w a.pauses.goes read (sym a.fails.over) known same rest before may;
     ends = (let less = a.within in omega (arith, less), none.0, none.1, (q, refl, a.asks));
   }
     where
-      read : f.unread ≡ a.goes.taken ++ g.unread
-      read = read_before f g a.before.left a.goes.taken a.goes.took.bytes a.fails.bytes
+      read : f.unread ≡ a.pauses.goes.taken ++ g.unread
+      read = read_before f g a.before.left a.pauses.goes.taken a.pauses.goes.took.bytes a.fails.bytes
 
       none : (g.unread ≡ []) × (g.is_closed ≡ false)
       none = let grew = a.fails.counted in known.failed (omega (arith, grew))
@@ -134,6 +148,7 @@ module _ (p q : Paused) (f g : Fed) (o w : Kept) (taken made n : ℕ) (stop : St
     written = a.goes.output;
     output = still_taken taken o.bytes a.goes.output w.bytes within a.goes.written.appended;
     same = same;
+    limits = refl;
     image = rw stands tt;
     comes = λ rest before may. rw stands (at rest before may);
     ends = ends;
@@ -161,20 +176,56 @@ module _ (p q : Paused) (f g : Fed) (o w : Kept) (taken made n : ℕ) (stop : St
     there = q;
     stands = stands;
     outcome_is = is;
-    ran = λ rest before may. record {
-      call = a.there.call;
-      below = a.there.below;
-      world = world_with a.there.store (g.unread ++ rest) (before ++ a.goes.output);
-      state_is = went p a.there a.last f g o w a.goes a.goes.took.bytes refl known same rest before may;
-      active_is = a.ran;
-    };
+    ran = λ rest before may. (
+      record {
+        call = a.there.call;
+        below = a.there.below;
+        world = world_with a.there.store (g.unread ++ rest) (before ++ a.goes.output);
+        state_is = went p a.there a.last f g o w a.goes a.goes.took.bytes refl known same rest before may;
+        active_is = a.ran;
+      },
+      ap length a.below,
+    );
   }
+
+  -- memory was refused, and nothing of the output is lost
+  lost_gives : BrokenAfter p (allowed old n) (fed_incoming f) (fed_incoming g) (outgoing_of o) (outgoing_of w)
+      → IsLostAfter p old (new outcome.Memory) n
+  lost_gives a = record {
+    lost = refl;
+    made = a.made;
+    within = a.within;
+    last = a.last;
+    near = a.near;
+    written = a.output ++ a.began;
+    output = still_taken taken o.bytes (a.output ++ a.began) w.bytes within (appended_twice o.bytes w.bytes a.between.written a.output a.began a.written.appended a.appended);
+    all = λ rest before may. (
+      a.began,
+      sym (append_assoc before a.output a.began)
+          ∙ ap (λ t. t ++ a.began) (sym (ap (λ u. output_after p a.made u before) (read rest) ∙ a.comes (g.unread ++ rest) before (can rest may))),
+    );
+    no_more = λ rest before may.
+        let goes = a.goes_on (g.unread ++ rest) before (can rest may) in (
+          goes.0,
+          ap (λ u. output_after p a.last u before) (read rest)
+              ∙ goes.1
+              ∙ append_assoc before a.output (a.began ++ goes.0)
+              ∙ ap (λ t. before ++ t) (sym (append_assoc a.output a.began goes.0))
+              ∙ sym (append_assoc before (a.output ++ a.began) goes.0),
+        );
+  }
+    where
+      read : (rest : List ℕ) → f.unread ++ rest ≡ a.taken ++ (g.unread ++ rest)
+      read rest = ap (λ u. u ++ rest) a.took.bytes ∙ append_assoc a.taken g.unread rest
+
+      can : (rest : List ℕ) → (f.is_closed ≡ true → rest ≡ []) → g.is_over ≡ true → g.unread ++ rest ≡ []
+      can rest may = none_left g known rest (λ closed. may (sym same ∙ closed))
 
   pub slice_gives : (r : Outcome) → stop.outcome ≡ r
       → SliceGives p q (allowed old n) (fed_incoming f) (fed_incoming g) (outgoing_of o) (outgoing_of w) stop r
       → SliceComesTo p old (new r) n (end_of r)
   slice_gives outcome.Limit is h = limit_gives h
-  slice_gives outcome.Device is h = ⊎_elim wait_gives (λ grew. absurd (omega (arith, grew))) h
+  slice_gives outcome.Device is h = ⊎_elim wait_gives (λ failed. let grew = failed.0 in absurd (omega (arith, grew))) h
   slice_gives (outcome.Exit status) is h = over_gives (outcome.Exit status) is refl h (over_by (outcome.Exit status) is refl h)
-  slice_gives (outcome.Trap kind) is h = over_gives (outcome.Trap kind) is refl h.0 (over_by (outcome.Trap kind) is refl h.0)
-  slice_gives outcome.Memory is h = refl
+  slice_gives (outcome.Trap kind) is h = over_gives (outcome.Trap kind) is refl h (over_by (outcome.Trap kind) is refl h)
+  slice_gives outcome.Memory is h = lost_gives h

@@ -1,5 +1,5 @@
 -- What no slice of a program gives that halts with 0 in its second step, and reads nothing.
-use Rattle.std.proofs.Common.{◌≡◌, ◌∙◌, ℕ, zero, suc, ◌+◌, List, [], ◌∷◌, ◌++◌, Some, ap, arith, refl, subst, sym}
+use Rattle.std.proofs.Common.{◌≡◌, ◌∙◌, ℕ, zero, suc, ◌+◌, ◌<◌, ◌≤◌, false, List, [], ◌∷◌, ◌++◌, Some, ap, arith, refl, subst, sym}
 use Rattle.blang.specs.declared.code.Instr.TheVariants as instr
 use Rattle.blang.specs.declared.run.Outcome.{Outcome}
 use Rattle.blang.specs.declared.run.Outcome.TheVariants as outcome
@@ -8,11 +8,12 @@ use Rattle.blang.specs.Machine.{Call, Halted, Image, Loaded, Running, State, ste
 use Rattle.blang.specs.Reports.{AsksForByte, Shows, state_outcome}
 use Rattle.bmach.specs.Slices.{after_pause}
 use Rattle.bmach.specs.Steps.{world_with}
-use Rattle.bmach.specs.Stepping.{Paused, machine_at}
+use Rattle.bmach.specs.Stepping.{Paused, machine_at, operands_held}
 use Rattle.bmach.specs.Stops.{RunsCall}
 use Rattle.bmach.specs.declared.machine.Active.{Active}
 use Rattle.bmach.proofs.Running.{over_stays}
-use Rattle.bsession.specs.Sessions.{Goes, IsStateOf, SessionContinues, SessionView, SliceMade}
+use Rattle.bsession.specs.Sessions.{Goes, IsStateOf, KeepsLimits, SessionContinues, SessionView, SliceMade}
+use Rattle.bsession.specs.declared.session.Held.TheVariants as held
 use Rattle.bsession.specs.declared.session.SliceEnd.TheVariants as end
 
 abbrev main : Loaded
@@ -86,5 +87,35 @@ pub no_other_status : (old new : SessionView) (n status : ℕ) → SessionContin
 no_other_status old new n status g =
     let over = g.ends in
     let at = subst (λ t. IsStateOf t (new.unread ++ []) ([] ++ g.written) (after_pause first g.made (old.unread ++ []) [])) over.stands (g.comes [] [] (λ closed. refl)) in
-    shown g.made (old.unread ++ []) [] over.stop.call over.last status (new.unread ++ []) ([] ++ g.written) over.made_is (over.ran [] [] (λ closed. refl))
+    shown g.made (old.unread ++ []) [] over.stop.call over.last status (new.unread ++ []) ([] ++ g.written) over.made_is (over.ran [] [] (λ closed. refl)).0
     (subst (λ r. Shows r (new.unread ++ []) ([] ++ g.written) (after_pause first g.made (old.unread ++ []) [])) over.outcome_is at.0)
+
+-- a pause with three operands, two of the running call and one of the call below
+abbrev three : Paused
+three = record first { call = record { function = main; start = 8; place = 0; operands = 1 ∷ 2 ∷ [] }; below = record { function = main; start = 8; place = 0; operands = 3 ∷ [] } ∷ [] }
+
+abbrev holds : (operands output : ℕ) → SessionView
+holds operands output = record {
+  state = Goes three;
+  unread = [];
+  is_closed = false;
+  output = 97 ∷ 98 ∷ [];
+  steps = 0;
+  limits = record { operands = operands; pages = 256; output = output };
+}
+
+pub all_are_held : operands_held three ≡ 3
+all_are_held = refl
+
+-- it ends for what it holds more of than it may, and not for what it holds no more of
+pub operands_within : KeepsLimits (holds 2 2) end.Limit → ⊥
+operands_within keeps = let few = keeps.operands in omega (arith, few)
+
+pub output_within : KeepsLimits (holds 3 1) end.WantsInput → ⊥
+output_within keeps = let few = keeps.output in omega (arith, few)
+
+pub no_stop_for_operands : KeepsLimits (holds 3 0) (end.Holds held.Operands) → ⊥
+no_stop_for_operands more = omega (arith, more)
+
+pub no_stop_for_output : KeepsLimits (holds 0 2) (end.Holds held.Output) → ⊥
+no_stop_for_output more = omega (arith, more)

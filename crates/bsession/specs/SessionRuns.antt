@@ -5,15 +5,17 @@ use Rattle.blang.specs.Machine.{Image, run}
 use Rattle.bmach.specs.Stepping.{Paused, machine_at}
 use Rattle.bmach.specs.declared.advance.TheConstants.{MOST_STEPS}
 use Rattle.bsession.specs.Sessions.{BeginsSession, SessionContinues, Goes, SessionView, IsStateOf, MayCome, SessionState}
+use Rattle.bsession.specs.declared.session.Limits.{Limits}
 use Rattle.bsession.specs.declared.session.SliceEnd.{SliceEnd}
 use Rattle.bsession.specs.declared.session.SliceEnd.TheVariants as end
 
--- What is done with a session: it makes so many steps at most, and ends; or it is fed, or its input is closed; or these
--- bytes of its output are taken.
+-- What is done with a session: it makes so many steps at most, and ends; or it is fed, or its input is closed; or it is
+-- told how much it may hold; or these bytes of its output are taken.
 pub data Deed : Type 0 where
   Continued : (steps : ℕ) → SliceEnd → Deed
   WasFed : (bytes : List ℕ) → Deed
   WasClosed : Deed
+  WasLimited : Limits → Deed
   WasTaken : (bytes : List ℕ) → Deed
 
 -- what a deed makes of a session, by what its calls promise
@@ -21,6 +23,7 @@ abbrev pub DeedDoes : Deed → (old new : SessionView) → Type 0
 DeedDoes (Continued steps why) old new = SessionContinues old.state old new steps why
 DeedDoes (WasFed bytes) old new = (old.is_closed ≡ false) × (new ≡ record old { unread = old.unread ++ bytes })
 DeedDoes WasClosed old new = new ≡ record old { is_closed = true }
+DeedDoes (WasLimited limits) old new = new ≡ record old { limits = limits }
 DeedDoes (WasTaken bytes) old new = (old.output ≡ bytes ++ new.output) × (new ≡ record old { output = new.output })
 
 -- one deed after another

@@ -1,18 +1,26 @@
 -- Promise: a program that runs in slices, between which its input is fed and its output is taken.
 use Rattle.std.specs.Prelude.{◌≡◌, ◌⊎◌, ℕ, ◌+◌, ◌-◌, ◌<◌, ◌≤◌, min, Bool, true, false, List, [], ◌∷◌, ◌++◌, drop, if◌then◌else◌, length, Option, Some, None}
-use Rattle.std.specs.Prelude.{slice_index}
+use Rattle.std.specs.Prelude.{slice_index, ⊤}
+use Rattle.std.specs.FinSet as set
 use Rattle.std.proofs.Common.{arith}
 use Rattle.bword.specs.ByteEnds.{Incoming, most}
 use Rattle.blang.specs.declared.run.Outcome.{Outcome}
 use Rattle.blang.specs.declared.run.Outcome.TheVariants as outcome
 use Rattle.blang.specs.Machine.{Image, State, state_world, steps}
 use Rattle.blang.specs.Reports.{AsksForByte, Shows}
-use Rattle.bmach.specs.Slices.{after_pause, with_word_at}
-use Rattle.bmach.specs.Stepping.{BeginsNot, IsUnstarted, Paused, machine_at}
+use Rattle.bmach.specs.Slices.{after_pause, output_after, with_word_at}
+use Rattle.bmach.specs.Stepping.{BeginsNot, IsUnstarted, Paused, machine_at, operands_held}
 use Rattle.bmach.specs.Stops.{RunsCall, active_of}
 use Rattle.bmach.specs.declared.advance.TheConstants.{MOST_STEPS}
 use Rattle.bmach.specs.declared.machine.Active.{Active}
 use Rattle.bmach.specs.declared.machine.Stop.{Stop}
+use Rattle.bpages.specs.PagedStores.{paged_words, pages_of}
+use Rattle.bpages.specs.declared.paged_store.PagedStore.{PagedStore}
+use Rattle.bsession.specs.declared.session.FeedFault.{FeedFault}
+use Rattle.bsession.specs.declared.session.FeedFault.TheVariants as feed_fault
+use Rattle.bsession.specs.declared.session.Held.{Held}
+use Rattle.bsession.specs.declared.session.Held.TheVariants as held
+use Rattle.bsession.specs.declared.session.Limits.{Limits}
 use Rattle.bsession.specs.declared.session.SliceEnd.{SliceEnd}
 use Rattle.bsession.specs.declared.session.SliceEnd.TheVariants as end
 use Rattle.bsession.specs.declared.session.Stand.{Stand}
@@ -52,21 +60,23 @@ state_of (stand.Over stop p) = Over stop p
 state_of stand.Lost = Lost
 
 -- A session: where it stands, the input that was fed and not read, whether no more is fed, the output that wasn't taken,
--- and how many steps were made.
+-- how many steps were made, and how much it may hold.
 pub record SessionView : Type 0 where
   pub state : SessionState
   pub unread : List ℕ
   pub is_closed : Bool
   pub output : List ℕ
   pub steps : ℕ
+  pub limits : Limits
 
-abbrev pub session_view : Stand → Fed → (written : List ℕ) → (taken steps : ℕ) → SessionView
-session_view s f written taken steps = record {
+abbrev pub session_view : Stand → Fed → (written : List ℕ) → (taken steps : ℕ) → Limits → SessionView
+session_view s f written taken steps limits = record {
   state = state_of s;
   unread = f.unread;
   is_closed = f.is_closed;
   output = drop taken written;
   steps = steps;
+  limits = limits;
 }
 
 -- a session before the first step of a program, with no input yet
@@ -102,7 +112,12 @@ HasImage image other = Unit {0}
 abbrev pub allowed : SessionView → ℕ → ℕ
 allowed h n = min (min n MOST_STEPS) (most - h.steps)
 
--- A session was over with the last of the steps made from a pause, and the call ran before it that is told.
+-- the machine runs this call, above so many others
+abbrev pub RunsAbove : State → Active → ℕ → Type 0
+RunsAbove s call depth = (runs : RunsCall s call) × (length runs.below ≡ depth)
+
+-- A session was over with the last of the steps made from a pause, and the call ran before it that is told, above as many
+-- as are told.
 pub record IsSessionOver (p : Paused) (old new : SessionView) (made : ℕ) (result : Outcome) : Type 0 where
   pub last : ℕ
   pub made_is : made ≡ last + 1
@@ -111,7 +126,7 @@ pub record IsSessionOver (p : Paused) (old new : SessionView) (made : ℕ) (resu
   pub stands : new.state ≡ Over stop there
   pub outcome_is : stop.outcome ≡ result
   pub ran : (rest before : List ℕ) → MayCome old rest
-      → RunsCall (after_pause p last (old.unread ++ rest) before) stop.call
+      → RunsAbove (after_pause p last (old.unread ++ rest) before) stop.call (length there.below)
 
 -- why a slice ends after so many steps from a pause
 abbrev pub EndsFor : Paused → (old new : SessionView) → (n made : ℕ) → SliceEnd → Type 0
@@ -121,6 +136,7 @@ EndsFor p old new n made end.WantsInput =
     × ((there : Paused) × (new.state ≡ Goes there) × ((left written : List ℕ) → AsksForByte (machine_at there left written)))
 EndsFor p old new n made (end.Halted status) = IsSessionOver p old new made (outcome.Exit status)
 EndsFor p old new n made (end.Trapped kind) = IsSessionOver p old new made (outcome.Trap kind)
+EndsFor p old new n made (end.Holds what) = (there : Paused) × (new.state ≡ Goes there)
 EndsFor p old new n made end.Memory = ⊥
 
 -- A session makes so many steps from a pause, which read and write what the machine reads and writes, whatever comes after
@@ -134,10 +150,30 @@ pub record SliceMade (p : Paused) (old new : SessionView) (n : ℕ) (why : Slice
   pub written : List ℕ
   pub output : new.output ≡ old.output ++ written
   pub same : new.is_closed ≡ old.is_closed
+  pub limits : new.limits ≡ old.limits
   pub image : HasImage p.image new.state
   pub comes : (rest before : List ℕ) → MayCome old rest
       → IsStateOf new.state (new.unread ++ rest) (before ++ written) (after_pause p made (old.unread ++ rest) before)
   pub ends : EndsFor p old new n made why
+
+-- a list of bytes begins with another
+abbrev pub BeginsWith : (whole part : List ℕ) → Type 0
+BeginsWith whole part = (more : List ℕ) × (whole ≡ part ++ more)
+
+-- A session was lost in the step after so many. All of the output is there that the steps before it write, and of what it
+-- writes itself a beginning at most.
+pub record IsLostAfter (p : Paused) (old new : SessionView) (n : ℕ) : Type 0 where
+  pub lost : new.state ≡ Lost
+  pub made : ℕ
+  pub within : made ≤ allowed old n
+  pub last : ℕ
+  pub near : last ≤ made + 1
+  pub written : List ℕ
+  pub output : new.output ≡ old.output ++ written
+  pub all : (rest before : List ℕ) → MayCome old rest
+      → BeginsWith (before ++ written) (output_after p made (old.unread ++ rest) before)
+  pub no_more : (rest before : List ℕ) → MayCome old rest
+      → BeginsWith (output_after p last (old.unread ++ rest) before) (before ++ written)
 
 -- where a session stands after a slice of a run that came to this
 abbrev pub state_after : Outcome → Stop → Paused → SessionState
@@ -146,6 +182,22 @@ state_after (outcome.Trap kind) stop p = Over stop p
 state_after outcome.Limit stop p = Goes p
 state_after outcome.Device stop p = Goes p
 state_after outcome.Memory stop p = Lost
+
+-- whether all steps were made of a run that came to this
+abbrev pub is_limit : Outcome → Bool
+is_limit outcome.Limit = true
+is_limit other = false
+
+-- whether a run that came to this can go on
+abbrev pub can_go_on : Outcome → Bool
+can_go_on outcome.Limit = true
+can_go_on outcome.Device = true
+can_go_on other = false
+
+-- an input that is closed takes no bytes, and tells it
+abbrev pub TellsClosed : FeedFault → (is_closed : Bool) → Type 0
+TellsClosed feed_fault.Closed is_closed = is_closed ≡ true
+TellsClosed feed_fault.Memory is_closed = is_closed ≡ false
 
 -- the answer of a session that is over
 abbrev pub end_of : Outcome → SliceEnd
@@ -157,7 +209,7 @@ end_of outcome.Memory = end.Memory
 
 -- what comes of so many steps at most, by the answer
 abbrev pub SliceComesTo : Paused → (old new : SessionView) → (n : ℕ) → SliceEnd → Type 0
-SliceComesTo p old new n end.Memory = new.state ≡ Lost
+SliceComesTo p old new n end.Memory = IsLostAfter p old new n
 SliceComesTo p old new n why = SliceMade p old new n why
 
 -- a session that is over or lost stays as it is
@@ -165,6 +217,39 @@ abbrev pub SessionContinues : SessionState → (old new : SessionView) → (n : 
 SessionContinues (Goes p) old new n why = SliceComesTo p old new n why
 SessionContinues (Over stop p) old new n why = (new ≡ old) × (why ≡ end_of stop.outcome)
 SessionContinues Lost old new n why = (new ≡ old) × (why ≡ end.Memory)
+
+-- a session can go on
+abbrev pub IsGoing : SessionState → Type 0
+IsGoing state = (p : Paused) × (state ≡ Goes p)
+
+-- a store with these words has so many pages
+abbrev pub HasPages : Paused → ℕ → Type 0
+HasPages p count = (store : PagedStore) × (paged_words store ≡ p.store) × (set.len (pages_of store) ≡ count)
+
+-- A session that stands there holds no more than it may.
+pub record HoldsNoMore (p : Paused) (h : SessionView) : Type 0 where
+  pub operands : operands_held p ≤ h.limits.operands
+  pub pages : (count : ℕ) × HasPages p count × (count ≤ h.limits.pages)
+  pub output : length h.output ≤ h.limits.output
+
+-- it holds more of this than it may
+abbrev pub HoldsMore : Paused → SessionView → Held → Type 0
+HoldsMore p h held.Operands = h.limits.operands < operands_held p
+HoldsMore p h held.Pages = (count : ℕ) × HasPages p count × (h.limits.pages < count)
+HoldsMore p h held.Output = h.limits.output < length h.output
+
+-- what of a session that can go on is more than it may hold
+abbrev pub PassesAt : SessionState → SessionView → Option Held → Type 0
+PassesAt (Goes p) h None = HoldsNoMore p h
+PassesAt (Goes p) h (Some what) = HoldsMore p h what
+PassesAt other h what = what ≡ None
+
+-- A slice that ends where the session can go on ends for what the session holds more of than it may, if there is such.
+abbrev pub KeepsLimits : SessionView → SliceEnd → Type 0
+KeepsLimits h end.Limit = PassesAt h.state h None
+KeepsLimits h end.WantsInput = PassesAt h.state h None
+KeepsLimits h (end.Holds what) = PassesAt h.state h (Some what)
+KeepsLimits h other = ⊤
 
 -- the call that runs, or that ran before the step that ended the run
 abbrev pub call_in : SessionState → Option Active

@@ -6,4 +6,4 @@ mod law;
 mod session;
 
 pub use law::{slices_are_one_run, two_slices_are_one};
-pub use session::{FeedFault, Session, SliceEnd};
+pub use session::{FeedFault, Held, Limits, Session, SliceEnd};

@@ -1,7 +1,8 @@
 //! A program that runs in slices.
-ghost use Rattle.std.specs.Prelude.{◌≡◌, ◌++◌, IfErr, MatchResult, OnErr, OnOk, drop, false, length, min, true};
-ghost use Rattle.bsession.specs.Sessions.{BeginsSession, Goes, SessionContinues, SliceComesTo, StartsNot, call_in, callers_in, end_of, state_after, state_of, stored_in, word_in};
-ghost use Rattle.bsession.specs.declared.session.FeedFault.TheVariants.{Closed};
+ghost use Rattle.std.specs.Prelude.{◌≡◌, ◌++◌, ◌-◌, ◌^◌, IfErr, MatchResult, OnErr, OnOk, drop, false, length, min, true};
+ghost use Rattle.bmach.specs.Stepping.{Paused};
+ghost use Rattle.bsession.specs.Sessions.{BeginsSession, Goes, IsGoing, KeepsLimits, PassesAt, SessionContinues, SliceComesTo, StartsNot, TellsClosed, call_in, callers_in, can_go_on, end_of, is_limit, state_after, state_of, stored_in, word_in};
+ghost use Rattle.bsession.specs.declared.session.SliceEnd.TheVariants as end;
 
 use crate::feed::Feed;
 use blang::{Outcome, Trap};
@@ -23,9 +24,46 @@ pub enum SliceEnd {
     Limit,
     /// The next step asks for a byte that isn't there yet.
     WantsInput,
+    /// After the steps that were made the session holds more than it may. It can go on.
+    Holds(Held),
     /// Memory was refused. The session is lost.
     Memory,
 }
+
+/// What a session holds.
+#[derive(Clone, Copy, PartialEq, Eq)]
+pub enum Held {
+    /// The operands of all active calls.
+    Operands,
+    /// The pages of its store, of 256 words each.
+    Pages,
+    /// The bytes of its output that weren't taken.
+    Output,
+}
+
+/// How much of each a session may hold. It looks after each 65,536 steps, and at the end of a slice.
+#[derive(Clone, Copy)]
+pub struct Limits {
+    pub operands: usize,
+    pub pages: u16,
+    pub output: usize,
+}
+
+impl Limits {
+    /// No limit is ever passed.
+    pub fn none() -> Limits
+        ensures { result ≡ record { operands = 2 ^ 64 - 1; pages = 256; output = 2 ^ 64 - 1 } }
+    {
+        Limits {
+            operands: usize::MAX,
+            pages: 256,
+            output: usize::MAX,
+        }
+    }
+}
+
+/// How many steps a session makes at most before it looks at what it holds.
+const PART_STEPS: u64 = 65_536;
 
 /// Why bytes were not added to an input.
 #[derive(Clone, Copy, Debug, PartialEq, Eq)]
@@ -55,6 +93,7 @@ pub struct Session<'a> {
     // How many bytes of the output were taken.
     taken: usize,
     steps: u64,
+    limits: Limits,
 }
 
 impl<'a> Model for Session<'a> {
@@ -63,7 +102,7 @@ impl<'a> Model for Session<'a> {
 
     ghost Value = { SessionView };
 
-    ghost view = { λ s. session_view s.stand s.input s.out.bytes s.taken s.steps };
+    ghost view = { λ s. session_view s.stand s.input s.out.bytes s.taken s.steps s.limits };
 
     ghost invariant = { λ s. s.taken ≤ length s.out.bytes };
 }
@@ -84,36 +123,95 @@ impl<'a> Session<'a> {
                 out: MemOut::new(alloc),
                 taken: 0,
                 steps: 0,
+                limits: Limits::none(),
             }),
         }
     }
 
-    /// Makes so many steps, or fewer where the program is over before or the next step asks for a byte that isn't there,
-    /// and tells why it ends. A session that is over tells it again.
-    pub fn continue_for(&mut self, steps: u64) -> SliceEnd
-        ensures { SessionContinues self.old.state self.old self.new steps result }
+    /// Sets how much the session may hold.
+    pub fn set_limits(&mut self, limits: Limits)
+        ensures { self.new ≡ record self.old { limits = limits } }
     {
-        match mem::replace(&mut self.stand, Stand::Lost) {
-            Stand::Goes(stepper) => self.go_on(stepper, steps),
-            Stand::Over(stop, stepper) => {
-                self.stand = Stand::Over(stop, stepper);
-                end_of(stop.outcome)
-            }
+        self.limits = limits;
+    }
+
+    /// Makes so many steps, or fewer where the program is over before, the next step asks for a byte that isn't there, or
+    /// the session holds more than it may, and tells why it ends. It makes none where it holds more already. A session
+    /// that is over tells it again.
+    pub fn continue_for(&mut self, steps: u64) -> SliceEnd
+        ensures goes { SessionContinues self.old.state self.old self.new steps result }
+        ensures limits { KeepsLimits self.new result }
+    {
+        match &self.stand {
+            Stand::Goes(_) => self.go_on(steps),
+            Stand::Over(stop, _) => end_of(stop.outcome),
             Stand::Lost => SliceEnd::Memory,
         }
     }
 
-    // Makes so many steps of a run, or fewer.
-    fn go_on(&mut self, stepper: Stepper<'a, PagedStore>, steps: u64) -> SliceEnd
-        ensures { SliceComesTo stepper.entry (record self.old { state = Goes stepper.entry }) self.new steps result }
+    // Makes so many steps in parts, or fewer.
+    fn go_on(&mut self, steps: u64) -> SliceEnd
+        requires { IsGoing self.old.state }
+        ensures goes { (p : Paused) → self.old.state ≡ Goes p → SliceComesTo p self.old self.new steps result }
+        ensures limits { KeepsLimits self.new result }
+    {
+        if let Some(held) = self.passed() {
+            return SliceEnd::Holds(held);
+        }
+        let mut left = steps.min(MOST_STEPS).min(u64::MAX - self.steps);
+        loop {
+            let part = left.min(PART_STEPS);
+            let outcome = self.make_part(part);
+            if !can_go_on(outcome) {
+                return end_of(outcome);
+            }
+            if let Some(held) = self.passed() {
+                return SliceEnd::Holds(held);
+            }
+            if !is_limit(outcome) {
+                return end_of(outcome);
+            }
+            left -= part;
+            if left == 0 {
+                return SliceEnd::Limit;
+            }
+        }
+    }
+
+    // Makes so many steps, or fewer.
+    fn make_part(&mut self, steps: u64) -> Outcome
+        requires { IsGoing self.old.state }
+        ensures { (p : Paused) → self.old.state ≡ Goes p → SliceComesTo p self.old self.new steps (end_of result) }
     {
         let most = steps.min(MOST_STEPS).min(u64::MAX - self.steps);
-        let (stepper, stop) = stepper.slice(&mut self.input, &mut self.out, most);
+        let Stand::Goes(stepper) = &mut self.stand else {
+            return Outcome::Memory;
+        };
+        let stop = stepper.slice(&mut self.input, &mut self.out, most);
         self.input.known();
         self.taken = taken_of(self.taken, &self.out);
         self.steps += stop.steps;
-        self.stand = stand_after(stepper, stop);
-        end_of(stop.outcome)
+        end_part(&mut self.stand, stop);
+        stop.outcome
+    }
+
+    // What of a session that can go on is more than it may hold.
+    fn passed(&self) -> Option<Held>
+        ensures { PassesAt self.now.state self.now result }
+    {
+        let Stand::Goes(stepper) = &self.stand else {
+            return None;
+        };
+        if stepper.operand_count() > self.limits.operands {
+            return Some(Held::Operands);
+        }
+        if stepper.store().made() > self.limits.pages {
+            return Some(Held::Pages);
+        }
+        if self.output().len() > self.limits.output {
+            return Some(Held::Output);
+        }
+        None
     }
 
     /// Adds bytes to the input; none where it is closed, or memory is refused.
@@ -121,7 +219,7 @@ impl<'a> Session<'a> {
         ensures fed { OnOk result ((self.old.is_closed ≡ false)
             × (self.new ≡ record self.old { unread = self.old.unread ++ bytes.now })) }
         ensures unchanged { OnErr result (self.new ≡ self.old) }
-        ensures closed { IfErr result (λ fault. fault ≡ Closed → self.old.is_closed ≡ true) }
+        ensures closed { IfErr result (λ fault. TellsClosed fault self.old.is_closed) }
     {
         if self.input.is_closed() {
             return Err(FeedFault::Closed);
@@ -240,15 +338,34 @@ fn taken_of(taken: usize, out: &MemOut) -> usize
     taken.min(out.bytes().len())
 }
 
-// Where a session stands after a slice of a run.
-fn stand_after<'a>(stepper: Stepper<'a, PagedStore>, stop: Stop) -> Stand<'a>
-    ensures { state_of result ≡ state_after stop.outcome stop stepper.entry }
+// Tells a session that a slice of its run came to this.
+fn end_part(stand: &mut Stand<'_>, stop: Stop)
+    requires { IsGoing (state_of stand.old) }
+    ensures { (p : Paused) → state_of stand.old ≡ Goes p → state_of stand.new ≡ state_after stop.outcome stop p }
 {
     match stop.outcome {
-        Outcome::Limit | Outcome::Device => Stand::Goes(stepper),
-        Outcome::Exit(_) | Outcome::Trap(_) => Stand::Over(stop, stepper),
-        Outcome::Memory => Stand::Lost,
+        Outcome::Limit | Outcome::Device => {}
+        Outcome::Exit(_) | Outcome::Trap(_) => {
+            if let Stand::Goes(stepper) = mem::replace(stand, Stand::Lost) {
+                *stand = Stand::Over(stop, stepper);
+            }
+        }
+        Outcome::Memory => *stand = Stand::Lost,
     }
+}
+
+// Whether all steps were made.
+fn is_limit(outcome: Outcome) -> bool
+    ensures { result ≡ is_limit outcome }
+{
+    matches!(outcome, Outcome::Limit)
+}
+
+// Whether a run that came to this can go on.
+fn can_go_on(outcome: Outcome) -> bool
+    ensures { result ≡ can_go_on outcome }
+{
+    matches!(outcome, Outcome::Limit | Outcome::Device)
 }
 
 // The answer where a run came to this.

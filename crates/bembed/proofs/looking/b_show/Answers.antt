@@ -1,6 +1,7 @@
 use Rattle.std.proofs.Common.{rules}
 use Rattle.bshow.specs.Shows.{Shows}
 use Rattle.bembed.specs.Looks.{page_asked, rows_of}
+use Rattle.btools.specs.Origins.{Source}
 use Rattle.bembed.specs.WithFiles.{done}
 use Rattle.bembed.proofs.Over.{runs_over}
 use Rattle.bembed.proofs.looking.b_show.Goals as goal
@@ -8,7 +9,7 @@ use Rattle.bembed.proofs.looking.b_show.Goals as goal
 pub returns : goal.returns
 returns c = record {
   shows = done c.in-Ok.whole c.in-Ok.ensures.ok (runs_over
-      (λ ends. Shows c.in-Ok.whole.edition c.in-Ok.whole.text (page_asked c.args.steps
+      (λ ends. Shows (Source c.in-Ok.whole.edition) c.in-Ok.whole.text (page_asked c.args.steps
       (rows_of c.args.from c.args.last) c.in-Ok.whole.files c.args.input.now) ends c.show.result)
       c.args.input.now c.new-input.result c.show.new.input c.new-out.result c.show.new.out c.new-line.result c.show.new.diag _ _
       c.new-input.ensures

@@ -37,8 +37,8 @@ use Rattle.core.specs.declared.option.Option.TheVariants.{Some}
 use Rattle.std.proofs.raw_atomic.Walks.{proved_at}
 use Rattle.std_heap.specs.contracts.Global as Heap
 use Rattle.bhost.specs.Deeds.{Acts, Allows}
-use Rattle.bhost.specs.Hosts.{ProgramValue, for_life}
-use Rattle.btools.specs.contracts.program.Program as Program
+use Rattle.bhost.specs.Hosts.{LoadedValue, for_life}
+use Rattle.bhost.specs.contracts.loaded.LoadedProgram as LoadedProgram
 use Rattle.bhost.specs.contracts.host.Host as host
 use Rattle.bhost.specs.contracts.host.Host.act as f
 use Rattle.bhost.proofs.Hosting.{word, al, ptr_good, both_good, place_good, some_of, pair_tt, host_out, host_in, place_out, place_in, OfPlace}
@@ -47,7 +47,7 @@ use Rattle.bhost.proofs.host.Host.act.Code as code
 use Rattle.bhost.specs.contracts.desk.Desk as Desk
 use Rattle.bhost.specs.contracts.acting.act_on as callee
 use Rattle.bhost.proofs.acting.act_on.Met.{met}
-use Rattle.btools.proofs.program.Program.TheLaws as laws
+use Rattle.bhost.proofs.loaded.LoadedProgram.TheLaws as laws
 use Rattle.bhost.proofs.desk.Desk.TheLaws as desk_laws
 
 abbrev stayed : Stays f.ended.signature.params f.ended.kept
@@ -59,7 +59,7 @@ dk = record { row = Desk.the_row; laws = desk_laws.the_row_laws; g = record { de
 
 pub act_spec : {M : Type 1} → statement M
 act_spec 𝓤 𝓛 𝓜 𝓡 wired =
-    let c = f.clauses 𝓛 𝓜.mem 𝓡.returns in let H = 𝓛.H in let 𝓣 = tables 𝓤 H 𝓜 𝓡 𝓡.env in let R : RattleType = Program.the_row in
+    let c = f.clauses 𝓛 𝓜.mem 𝓡.returns in let H = 𝓛.H in let 𝓣 = tables 𝓤 H 𝓜 𝓡 𝓡.env in let R : RattleType = LoadedProgram.the_row in
     proved_at 𝓛 f.ended stayed c 𝓜 𝓡 (
       Goes-dropped 𝓛 0 (plain (λ _. host.the_row)) yes (λ κs x w. refl),
       (
@@ -76,9 +76,9 @@ act_spec 𝓤 𝓛 𝓜 𝓡 wired =
     let Asked : Type 0 = Allows d.deed h.run in
     let k = triple_of 𝓛 callee.signature (callee.spec 𝓛 𝓜.mem 𝓡.returns) in
     qed 𝓛 ((‵ ftrue ⊛ ‵ (fsep ((host.the_row).own_val h vs) (fsep ((Heap.the_row).own_val g us) (fsep ((Desk.the_row).own_val d ds) ftrue)))) ∷ (raw (fact 𝓤 (IsSome h.read)) ⊛ raw (fact 𝓤 Asked)) ∷ []) ∵
-    move ! (1 ∷ []) $ split ! $ heard ! (IsSome h.read) (λ is. heard ! Asked (λ asked. let there = some_of h.read is in let x : ProgramValue = there.0 in
+    move ! (1 ∷ []) $ split ! $ heard ! (IsSome h.read) (λ is. heard ! Asked (λ asked. let there = some_of h.read is in let x : LoadedValue = there.0 in
     split ! $ drop ! $ fsplit ! $
-    rewrite ! 0 (λ (s : Option ProgramValue). ‵ ((host.the_row).own_val (record { session = h.session; program = h.program; run = h.run; read = s }) vs)) there.1 refl $
+    rewrite ! 0 (λ (s : Option LoadedValue). ‵ ((host.the_row).own_val (record { session = h.session; program = h.program; run = h.run; read = s }) vs)) there.1 refl $
     host_out ! h x vs (λ life ev.
     let κ = life ∷ [] in let S = for_life κ in let L = lent_at R p x κ in
     move ! (2 ∷ []) $ fsplit ! $ handle_tells al ! g us (λ hv eu fa. move ! (1 ∷ []) $ fsplit ! $ handle_tells dk ! d ds (λ dv ed fd.
@@ -134,5 +134,5 @@ act_spec 𝓤 𝓛 𝓜 𝓡 wired =
     let out = word w dw in let Rows : List RattleType = host.the_row ∷ Desk.the_row ∷ [] in
     nothing ! $ move ! (1 ∷ 2 ∷ 0 ∷ []) $ fjoin3 ! $ feq_i ! (List Val) (out ∷ []) (out ∷ []) refl $ fjoin ! $
     fpack ! (Valss Rows) (λ uss. fsep (feq (List Val) (out ∷ []) (vstruct (of_list (uss.0 ++ (uss.1.0 ++ []))) ∷ [])) (owns Rows (made, (r.1, tt)) uss)) (w ∷ [], (dw ∷ [], tt)) $
-    suffices ! _ (ends_at 𝓛 f.ended stayed c z out (made, r.1) (tt, (tt, ((tt, (tt, (tt, tt))), tt))) (tt, (tt, (tt, tt)))) $ says_two ! (sym there.1, subst (λ (s : Option ProgramValue). Acts d.deed d.bytes.items s h.run r.0.value r.1.bytes.items r.1.answer) (sym there.1) same) $
+    suffices ! _ (ends_at 𝓛 f.ended stayed c z out (made, r.1) (tt, (tt, ((tt, (tt, (tt, tt))), tt))) (tt, (tt, (tt, tt)))) $ says_two ! (sym there.1, subst (λ (s : Option LoadedValue). Acts d.deed d.bytes.items s h.run r.0.value r.1.bytes.items r.1.answer) (sym there.1) same) $
     nothing ! $ nothing ! $ fjoin ! $ nothing ! $ fjoin ! $ nothing ! $ fjoin ! $ join ! $ nothing ! $ join ! $ done !))))))))))))))))

@@ -10,7 +10,7 @@ use types.Run.{lit, no_more, and_then, returns, enter}
 use types.ByLocal.{alloc_all, pass_all, free_all, look_at, sets}
 use denote.RattleType.{Valss}
 use denote.Builtin.{RawPtr}
-use denote.RawPtr.{null_ptr}
+use denote.RawPtr.{Ptr, null_ptr}
 use denote.Steps.{nothing}
 use denote.Struct.Struct.{within}
 use denote.Struct.Owning.{shape, to}
@@ -34,7 +34,7 @@ none_spec 𝓤 𝓛 𝓜 𝓡 wired =
     enter ! 𝓣.C 𝓣.Λ code.function [] Post $ alloc_all ! (λ ls. pass_all ! refl tt $
     sets ! (agg ! (and_then ! (lit ! tt) (and_then ! (lit ! tt) (no_more !)))) refl (both_good null_ptr null_ptr) $
     returns ! (look_at ! 0 refl) $ free_all ! refl $
-    nothing ! $ nothing ! $ feq_i ! (List Val) (v ∷ []) (v ∷ []) refl $ fjoin ! $ feq_i ! (List Val) (v ∷ []) (v ∷ []) refl $ fjoin ! $
+    feq_i ! Ptr null_ptr null_ptr refl $ feq_i ! Ptr null_ptr null_ptr refl $ fjoin ! $ nothing ! $ feq_i ! (List Val) (v ∷ []) (v ∷ []) refl $ fjoin ! $ feq_i ! (List Val) (v ∷ []) (v ∷ []) refl $ fjoin ! $
     feq_i ! (List Val) (w ∷ []) (w ∷ []) refl $ fjoin ! $
     fpack ! (Valss (RawPtr ∷ RawPtr ∷ [])) (within (shape host.the_type) (to host.the_type made) (w ∷ [])) (v ∷ [], (v ∷ [], tt)) $ fjoin ! $
     use1 𝓛 (‵ ((host.the_row).own_val made (w ∷ []))) (id⊢ 𝓤 _) $

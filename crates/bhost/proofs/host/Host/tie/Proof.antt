@@ -9,7 +9,7 @@ use prog.Wp.{WpFn}
 use contract.BorrowLft.{⊑_static, ⊑_refl}
 use contract.Monad.{fact}
 use contract.Running.{tables}
-use types.Kit.{‵, raw, ◌⊛◌, later, ◌$◌, ◌∵◌, !, qed, move, keep, drop, use2, join, split, fsplit, fjoin, rewrite, await, suffices, done}
+use types.Kit.{‵, raw, ◌⊛◌, later, ◌$◌, ◌∵◌, !, qed, move, keep, drop, use2, join, split, fsplit, fjoin, rewrite, await, suffices, feq_i, done}
 use types.Part.{whole, sub, agg}
 use types.Run.{stop, fld, lit, no_more, and_then, of_opd, returns, enter}
 use types.ByLocal.{alloc_all, pass_all, free_all, look_at, get, get_in, sets}
@@ -27,20 +27,20 @@ use Rattle.core.specs.declared.option.Option.TheVariants.{Some, None}
 use Rattle.std.proofs.raw_atomic.Walks.{proved_at}
 use Rattle.bhost.specs.Blocks.{chunk}
 use Rattle.bhost.specs.Places.{placed_owns}
-use Rattle.btools.specs.contracts.program.Program as Program
+use Rattle.bhost.specs.contracts.loaded.LoadedProgram as LoadedProgram
 use Rattle.bhost.specs.contracts.host.Host as host
 use Rattle.bhost.specs.contracts.host.Host.tie as f
 use Rattle.bhost.proofs.Hosting.{word, ptr_good, both_good, place_good, some_of, host_in, place_out, OfPlace}
 use Rattle.bhost.proofs.host.Host.tie.Statement.{statement}
 use Rattle.bhost.proofs.host.Host.tie.Code as code
-use Rattle.btools.proofs.program.Program.TheLaws as laws
+use Rattle.bhost.proofs.loaded.LoadedProgram.TheLaws as laws
 
 abbrev stayed : Stays f.ended.signature.params f.ended.kept
-stayed = (stay_dropped (plain (λ _. OfPlace Program.the_row)) yes, tt)
+stayed = (stay_dropped (plain (λ _. OfPlace LoadedProgram.the_row)) yes, tt)
 
 pub tie_spec : {M : Type 1} → statement M
 tie_spec 𝓤 𝓛 𝓜 𝓡 wired =
-    let c = f.clauses 𝓛 𝓜.mem 𝓡.returns in let H = 𝓛.H in let 𝓣 = tables 𝓤 H 𝓜 𝓡 𝓡.env in let R : RattleType = Program.the_row in
+    let c = f.clauses 𝓛 𝓜.mem 𝓡.returns in let H = 𝓛.H in let 𝓣 = tables 𝓤 H 𝓜 𝓡 𝓡.env in let R : RattleType = LoadedProgram.the_row in
     proved_at 𝓛 f.ended stayed c 𝓜 𝓡 (Goes-dropped 𝓛 0 (plain (λ _. OfPlace R)) yes (λ κs x w. refl), tt)
     f.Key.name code.function (code.unfolded 𝓤 H 𝓜 𝓡 wired) (λ z are.
     let d = z.0.3.0 in let vs : List Val = z.0.4.0 in let p : Ptr = d.at in
@@ -59,7 +59,7 @@ tie_spec 𝓤 𝓛 𝓜 𝓡 wired =
     use2 𝓛 (later (‵ (lent_at R p x (a ∷ [])) ⊛ ‵ (flft (a ∷ []) full_share)))
     (Lends-lies 𝓛 R [] p x (laws.the_row_laws.shares 𝓛 x) (a ∷ []) ((a ∷ [], full_share) ∷ []) (⊑_static (a ∷ [])) (⊑_refl (a ∷ []))) $ await ! tt $ split ! $
     -- [the program, lent; the lifetime; what gives it back; the right to free it]
-    move ! (0 ∷ 3 ∷ []) $ fjoin ! $ move ! (2 ∷ 0 ∷ []) $ fjoin ! $ move ! (1 ∷ 0 ∷ []) $ fjoin ! $ nothing ! $ move ! (1 ∷ 0 ∷ []) $
+    move ! (0 ∷ 3 ∷ []) $ fjoin ! $ move ! (2 ∷ 0 ∷ []) $ fjoin ! $ move ! (1 ∷ 0 ∷ []) $ fjoin ! $ feq_i ! Ptr null_ptr null_ptr refl $ move ! (1 ∷ 0 ∷ []) $
     sets ! (of_opd ! (get_in ! (fld ! refl (stop !)) (sub ! 0 refl (whole !)))) refl (ptr_good p) $
     sets ! (of_opd ! (get ! refl)) refl (ptr_good p) $
     sets ! (agg ! (and_then ! (lit ! tt) (and_then ! (get ! refl) (no_more !)))) refl (both_good null_ptr p) $

@@ -24,8 +24,8 @@ use Rattle.std.proofs.raw_atomic.Walks.{proved_at}
 use Rattle.std_heap.specs.contracts.Global as Heap
 use Rattle.bhost.specs.Blocks.{chunk}
 use Rattle.bhost.specs.Places.{placed_owns}
-use Rattle.bhost.specs.Hosts.{ProgramValue}
-use Rattle.btools.specs.contracts.program.Program as Program
+use Rattle.bhost.specs.Hosts.{LoadedValue}
+use Rattle.bhost.specs.contracts.loaded.LoadedProgram as LoadedProgram
 use Rattle.bhost.specs.contracts.host.Host as host
 use Rattle.bhost.specs.contracts.host.Host.untie as f
 use Rattle.bhost.proofs.Hosting.{word, al, ptr_good, both_good, place_good, some_of, host_out, place_in, OfPlace}
@@ -44,11 +44,11 @@ untie_spec 𝓤 𝓛 𝓜 𝓡 wired =
     let h = z.0.3.0 in let a = z.0.3.1.0 in let vs : List Val = z.0.4.0 in let us : List Val = z.0.4.1.0 in
     let Post : Val → SProp 𝓤 = (walk_of 𝓛 f.ended stayed c).post z in
     let Run : List Val → SProp 𝓤 = λ ws. WpFn 𝓤 H 𝓣.C 𝓣.Λ code.function ws Post in
-    let made : (OfPlace Program.the_row).Denot = record { at = h.program; alloc = a; value = h.read } in
+    let made : (OfPlace LoadedProgram.the_row).Denot = record { at = h.program; alloc = a; value = h.read } in
     qed 𝓛 ((‵ ftrue ⊛ ‵ (fsep ((host.the_row).own_val h vs) (fsep ((Heap.the_row).own_val a us) ftrue))) ∷ (raw (fact 𝓤 (h.run ≡ None)) ⊛ raw (fact 𝓤 (IsSome h.read))) ∷ []) ∵
-    move ! (1 ∷ []) $ split ! $ heard ! (h.run ≡ None) (λ none. heard ! (IsSome h.read) (λ is. let there = some_of h.read is in let x : ProgramValue = there.0 in
+    move ! (1 ∷ []) $ split ! $ heard ! (h.run ≡ None) (λ none. heard ! (IsSome h.read) (λ is. let there = some_of h.read is in let x : LoadedValue = there.0 in
     split ! $ drop ! $ fsplit ! $
-    rewrite ! 0 (λ (o : Option ProgramValue). ‵ ((host.the_row).own_val (record { session = h.session; program = h.program; run = h.run; read = o }) vs)) there.1 refl $
+    rewrite ! 0 (λ (o : Option LoadedValue). ‵ ((host.the_row).own_val (record { session = h.session; program = h.program; run = h.run; read = o }) vs)) there.1 refl $
     host_out ! h x vs (λ α ev.
     move ! (2 ∷ []) $ fsplit ! $ handle_tells al ! a us (λ hv eu fits. keep ! (2 ∷ 0 ∷ []) $
     let v = word (ptr_val h.session) (ptr_val h.program) in let w = word (ptr_val h.program) hv in
@@ -57,8 +57,8 @@ untie_spec 𝓤 𝓛 𝓜 𝓡 wired =
     -- the lifetime ends, and what was lent comes back
     fsplit ! $ lft_end ! tt $ move ! (1 ∷ []) $ fsplit ! $ move ! (2 ∷ 0 ∷ []) $ lent_back ! tt $
     move ! (1 ∷ []) $ fsplit ! $ drop ! $ move ! (1 ∷ 0 ∷ []) $ fjoin ! $
-    use1 𝓛 (‵ (placed_owns (λ σ p. chunk σ p) Program.the_row h.program (Some x))) (id⊢ 𝓤 _) $
-    rewrite ! 0 (λ (o : Option ProgramValue). ‵ (placed_owns (λ σ p. chunk σ p) Program.the_row h.program o)) (sym there.1) refl $ place_in Program.the_row ! hv made $
+    use1 𝓛 (‵ (placed_owns (λ σ p. chunk σ p) LoadedProgram.the_row h.program (Some x))) (id⊢ 𝓤 _) $
+    rewrite ! 0 (λ (o : Option LoadedValue). ‵ (placed_owns (λ σ p. chunk σ p) LoadedProgram.the_row h.program o)) (sym there.1) refl $ place_in LoadedProgram.the_row ! hv made $
     sets ! (of_opd ! (get_in ! (fld ! refl (stop !)) (sub ! 1 refl (whole !)))) refl (ptr_good h.program) $
     sets ! (of_opd ! (get ! refl)) refl (ptr_good h.program) $
     sets ! (agg ! (and_then ! (get ! refl) (and_then ! (get ! refl) (no_more !)))) refl (place_good h.program hv fits) $

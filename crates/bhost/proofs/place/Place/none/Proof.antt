@@ -16,7 +16,7 @@ use types.ByLocal.{alloc_all, pass_all, free_all, look_at, get, sets}
 use denote.Exit.{no}
 use denote.RattleType.{RattleType, Valss, owns}
 use denote.Builtin.{RawPtr}
-use denote.RawPtr.{null_ptr}
+use denote.RawPtr.{Ptr, null_ptr}
 use denote.Param.{bounded}
 use denote.Signature.{plain, types_at}
 use denote.Steps.{nothing}
@@ -53,7 +53,7 @@ none_spec 𝓤 𝓛 𝓜 𝓡 wired T A L LA g d dd met glue =
     sets ! (of_opd ! (get ! refl)) refl fits $
     sets ! (agg ! (and_then ! (lit ! tt) (and_then ! (get ! refl) (no_more !)))) refl ((box_typed E hv 0 0 fits).0, (record { fits = lit< tt }, (box_typed E hv 0 0 fits).1.1)) $
     returns ! (look_at ! 0 refl) $ free_all ! refl $
-    nothing ! $ nothing ! $ move ! (2 ∷ 0 ∷ []) $ fjoin ! $ feq_i ! (List Val) (vint w64 0 ∷ []) (vint w64 0 ∷ []) refl $ fjoin ! $
+    feq_i ! Ptr null_ptr null_ptr refl $ nothing ! $ move ! (2 ∷ 0 ∷ []) $ fjoin ! $ feq_i ! (List Val) (vint w64 0 ∷ []) (vint w64 0 ∷ []) refl $ fjoin ! $
     feq_i ! (List Val) (w ∷ []) (w ∷ []) refl $ fjoin ! $
     fpack ! (Valss (RawPtr ∷ P E ∷ [])) (within (shape (place.the_type (R E) (P E) g)) (to (place.the_type (R E) (P E) g) made) (w ∷ [])) (vint w64 0 ∷ [], (hv ∷ [], tt)) $ fjoin ! $
     use1 𝓛 (‵ (To.own_val made (w ∷ []))) (id⊢ 𝓤 _) $

@@ -1,36 +1,127 @@
-use Rattle.std.proofs.Common.{◌≡◌, ℕ, ◌+◌, arith, drop, length, refl, subst, sym}
-use Rattle.std.specs.Prelude.{min}
-use Rattle.bword.specs.ByteEnds.{outgoing_of}
-use Rattle.bmach.specs.Slices.{SliceGives}
-use Rattle.bsession.specs.Sessions.{Goes, SessionState, SessionView, SliceComesTo, allowed, end_of, fed_incoming, state_after, state_of}
+use Rattle.std.proofs.Common.{◌≡◌, ◌∙◌, ℕ, ◌+◌, ◌-◌, ◌≤◌, true, ap, arith, refl, subst, sym}
+use Rattle.blang.specs.declared.run.Outcome.TheVariants as outcome
+use Rattle.bsession.specs.Sessions.{SessionView, SliceComesTo, SliceMade, allowed, can_go_on, end_of, is_limit}
+use Rattle.bsession.specs.declared.session.Held.TheVariants as held
 use Rattle.bsession.specs.declared.session.SliceEnd.{SliceEnd}
-use Rattle.bsession.proofs.Sessions.{IsKnown, same_mark, slice_gives}
+use Rattle.bsession.specs.declared.session.SliceEnd.TheVariants as end
+use Rattle.bsession.proofs.Parts.{all_made, goes_later, limit_is, not_limit, not_over, nothing_made, part_gives}
 use Rattle.bsession.proofs.session.Session.go_on.Goals as goal
 
-pub invariant_of-self : goal.invariant_of-self
-invariant_of-self c = let taken = c.taken_of-self-inside.ensures in omega (arith, taken)
+pub loop-outcome-init : goal.loop-outcome-init
+loop-outcome-init c =
+    let now = c.args.self.now in
+    let steps : c.self.inside.steps ≡ now.steps = ap (λ (h : SessionView). h.steps) c.self.view_is in
+    let few = c.min.ensures in
+    let least = c.min-left.ensures in
+    record {
+      left = omega (arith, few, least, steps);
+      goes = c.requires;
+      made = λ p is. nothing_made p now c.args.steps held.Output is;
+    }
 
-pub returns : goal.returns
-returns c =
-    let p = c.args.stepper in
-    let s = c.self.inside in
-    let q = c.slice-stepper.result.0 in
-    let stop = c.slice-stepper.result.1 in
-    let f = s.input in
-    let g = c.slice-stepper.new.input in
-    let o = s.out in
-    let w = c.slice-stepper.new.out in
+pub loop-outcome-preserved : goal.loop-outcome-preserved
+loop-outcome-preserved c =
+    let old = c.args.self.now in
     let n = c.args.steps in
-    let known : IsKnown g = record { over = c.known.ensures.over; failed = c.known.ensures.failed } in
-    let old : SessionView = record { state = Goes p; unread = f.unread; is_closed = f.is_closed; output = drop s.taken o.bytes; steps = s.steps } in
-    let most : c.min-most.result ≡ allowed old n = let a = c.min.ensures in let b = c.min-most.ensures in omega (arith, a, b) in
-    let gives = subst (λ (m : ℕ). SliceGives p q m (fed_incoming f) (fed_incoming g) (outgoing_of o) (outgoing_of w) stop stop.outcome) most c.slice-stepper.ensures.gives in
-    let comes = slice_gives p q f g o w s.taken s.steps n stop c.self.invariant known (same_mark f g c.slice-stepper.ensures.input) c.slice-stepper.ensures.image stop.outcome refl gives in
-    subst (λ (h : SessionView). SliceComesTo p (record h { state = Goes p })
-    (record { state = state_of c.stand_after.result; unread = g.unread; is_closed = g.is_closed; output = drop c.taken_of-self-inside.result w.bytes; steps = s.steps + stop.steps }) n c.end_of.result) c.self.view_is
-    (subst (λ (e : SliceEnd). SliceComesTo p old
-    (record { state = state_of c.stand_after.result; unread = g.unread; is_closed = g.is_closed; output = drop c.taken_of-self-inside.result w.bytes; steps = s.steps + stop.steps }) n e) (sym c.end_of.ensures)
-    (subst (λ (t : SessionState). SliceComesTo p old
-    (record { state = t; unread = g.unread; is_closed = g.is_closed; output = drop c.taken_of-self-inside.result w.bytes; steps = s.steps + stop.steps }) n (end_of stop.outcome)) (sym c.stand_after.ensures)
-    (subst (λ (k : ℕ). SliceComesTo p old
-    (record { state = state_after stop.outcome stop q; unread = g.unread; is_closed = g.is_closed; output = drop k w.bytes; steps = s.steps + stop.steps }) n (end_of stop.outcome)) (sym c.taken_of-self-inside.ensures) comes)))
+    let mid = c.loop-outcome.self in
+    let new = c.make_part-outcome.new.self in
+    let part = c.min-part.result in
+    let came = c.make_part-outcome.result in
+    let q = c.loop-outcome.invariant.goes.0 in
+    let stands = c.loop-outcome.invariant.goes.1 in
+    let left = c.loop-outcome.invariant.left in
+    let least = c.min-part.ensures in
+    let can = sym c.can_go_on.ensures ∙ c.if-not-can_go_on.false in
+    let p = c.requires.0 in
+    let g = c.loop-outcome.invariant.made p c.requires.1 in
+    let counted = g.counted in
+    let within : g.made + part ≤ allowed old n = omega (arith, counted, left, least) in
+    let limit : came ≡ outcome.Limit = limit_is came (sym c.is_limit.ensures ∙ c.if-not-is_limit.false) in
+    let h : SliceMade q mid new part end.Limit = subst (λ r. SliceComesTo q mid new part (end_of r)) limit (c.make_part-outcome.ensures q stands) in
+    let all = all_made p q old mid new n part (end.Holds held.Output) g stands within (omega (arith, within)) h in
+    let made = h.counted in
+    record {
+      left = omega (arith, left, least, all, made);
+      goes = h.ends.1;
+      made = λ p is.
+          let g = c.loop-outcome.invariant.made p is in
+          let counted = g.counted in
+          let within : g.made + part ≤ allowed old n = omega (arith, counted, left, least) in
+          goes_later p q old mid new n part (end.Holds held.Output) g stands within (omega (arith, within)) held.Output came can
+          (c.make_part-outcome.ensures q stands);
+    }
+
+pub returns-in-Some-clause-goes : goal.returns-in-Some-clause-goes
+returns-in-Some-clause-goes c p is = nothing_made p c.args.self.now c.args.steps c.in-Some.held is
+
+pub returns-then-not-can_go_on-clause-goes : goal.returns-then-not-can_go_on-clause-goes
+returns-then-not-can_go_on-clause-goes c p is =
+    let old = c.args.self.now in
+    let n = c.args.steps in
+    let part = c.min-part.result in
+    let came = c.make_part-outcome.result in
+    let new = c.make_part-outcome.new.self in
+    let g = c.loop-outcome.invariant.made p is in
+    let q = c.loop-outcome.invariant.goes.0 in
+    let stands = c.loop-outcome.invariant.goes.1 in
+    let counted = g.counted in
+    let left = c.loop-outcome.invariant.left in
+    let least = c.min-part.ensures in
+    let within : g.made + part ≤ allowed old n = omega (arith, counted, left, least) in
+    subst (λ (why : SliceEnd). SliceComesTo p old new n why) (sym c.end_of.ensures)
+    (part_gives p q old c.loop-outcome.self new n part (end.Holds held.Output) g stands within (omega (arith, within)) came
+    (λ limit. absurd (not_over came (sym c.can_go_on.ensures ∙ c.if-not-can_go_on.true) limit)) (c.make_part-outcome.ensures q stands))
+
+pub returns-in-Some-passed-clause-goes : goal.returns-in-Some-passed-clause-goes
+returns-in-Some-passed-clause-goes c p is =
+    let old = c.args.self.now in
+    let n = c.args.steps in
+    let part = c.min-part.result in
+    let came = c.make_part-outcome.result in
+    let g = c.loop-outcome.invariant.made p is in
+    let q = c.loop-outcome.invariant.goes.0 in
+    let stands = c.loop-outcome.invariant.goes.1 in
+    let counted = g.counted in
+    let left = c.loop-outcome.invariant.left in
+    let least = c.min-part.ensures in
+    let within : g.made + part ≤ allowed old n = omega (arith, counted, left, least) in
+    goes_later p q old c.loop-outcome.self c.make_part-outcome.new.self n part (end.Holds held.Output) g stands within (omega (arith, within))
+    c.in-Some-passed.held came (sym c.can_go_on.ensures ∙ c.if-not-can_go_on.false) (c.make_part-outcome.ensures q stands)
+
+pub returns-then-not-is_limit-clause-goes : goal.returns-then-not-is_limit-clause-goes
+returns-then-not-is_limit-clause-goes c p is =
+    let old = c.args.self.now in
+    let n = c.args.steps in
+    let part = c.min-part.result in
+    let came = c.make_part-outcome.result in
+    let new = c.make_part-outcome.new.self in
+    let g = c.loop-outcome.invariant.made p is in
+    let q = c.loop-outcome.invariant.goes.0 in
+    let stands = c.loop-outcome.invariant.goes.1 in
+    let counted = g.counted in
+    let left = c.loop-outcome.invariant.left in
+    let least = c.min-part.ensures in
+    let within : g.made + part ≤ allowed old n = omega (arith, counted, left, least) in
+    subst (λ (why : SliceEnd). SliceComesTo p old new n why) (sym c.end_of-then-not-is_limit.ensures)
+    (part_gives p q old c.loop-outcome.self new n part (end.Holds held.Output) g stands within (omega (arith, within)) came
+    (λ limit. absurd (not_limit came (sym c.is_limit.ensures ∙ c.if-not-is_limit.true) limit)) (c.make_part-outcome.ensures q stands))
+
+pub returns-then-left-eq0-clause-goes : goal.returns-then-left-eq0-clause-goes
+returns-then-left-eq0-clause-goes c p is =
+    let old = c.args.self.now in
+    let n = c.args.steps in
+    let part = c.min-part.result in
+    let came = c.make_part-outcome.result in
+    let new = c.make_part-outcome.new.self in
+    let g = c.loop-outcome.invariant.made p is in
+    let q = c.loop-outcome.invariant.goes.0 in
+    let stands = c.loop-outcome.invariant.goes.1 in
+    let counted = g.counted in
+    let left = c.loop-outcome.invariant.left in
+    let least = c.min-part.ensures in
+    let none = c.if-left-eq0.true in
+    let within : g.made + part ≤ allowed old n = omega (arith, counted, left, least) in
+    let limit : came ≡ outcome.Limit = limit_is came (sym c.is_limit.ensures ∙ c.if-not-is_limit.false) in
+    subst (λ r. SliceComesTo p old new n (end_of r)) limit
+    (part_gives p q old c.loop-outcome.self new n part (end.Holds held.Output) g stands within (omega (arith, within)) came
+    (λ is. omega (arith, counted, left, least, none)) (c.make_part-outcome.ensures q stands))

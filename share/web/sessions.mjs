@@ -1,0 +1,385 @@
+// Sessions: programs that stay in memory, and their runs, in slices. Between these the input is fed, the output is
+// taken, and words are seen and stored. `loadSessions` of b.mjs takes this file, and b.d.ts has the types.
+//
+// The module sessions.wasm has the calls of share/c/b_session.h. An address and a size have 64 bits there, and so they
+// are BigInts here.
+import {Kept, Refused, Stopped, bytesOf} from './b.mjs';
+
+const DONE = 0, TRAP = 130, REFUSED = 132, FULL = 133, MEMORY = 134, CLOSED = 135, LARGE = 137;
+const WHY = {131: 'limit', 133: 'wants input', 136: 'has output'};
+const TRAPS = ['', 'dz', 'fn', 'gt', 'st', 'dp', 'bs', 'sk'], OF = ['', 'operands', 'pages'];
+const UNBEGUN = 'trap st\n'; // where the memory has no room for the frame of `main`
+const ROOM = 65536, OWN = 64, LINE = 1024; // bytes for output, for a line, and for what else calls tell
+const MOST = 2n ** 64n - 1n, MOST_PAGES = 256;
+const HELD = 16; // bytes of the two pointers of a session
+const SLICE = 1_000_000, STEPS = 100_000_000;
+const QUICK = 4, SLOW = 12, FIRST_PACE = 10_000; // milliseconds of a slice, and steps
+
+/** A whole number that is in its range. */
+function whole(name, number, most) {
+  if (Number.isInteger(number) && number >= 0 && number <= most) return number;
+  throw new RangeError(`${name} is ${String(number)}, and has to be a whole number from 0 to ${most}`);
+}
+
+/** The same for one of 64 bits, as a call takes it. */
+function large(name, number) {
+  if (number === Infinity) return MOST;
+  const is = typeof number === 'bigint' || Number.isInteger(number) ? BigInt(number) : -1n;
+  if (is >= 0n && is <= MOST) return is;
+  throw new RangeError(`${name} is ${String(number)}, and has to be a whole number from 0 to ${MOST}, or Infinity`);
+}
+
+/** The limits of a run, as a call takes them. */
+function limitsOf({operands = Infinity, pages = MOST_PAGES, output = Infinity}) {
+  return [large('operands', operands), whole('pages', pages, MOST_PAGES), large('output', output)];
+}
+
+const fewer = (one, other) => (one < other ? one : other);
+
+/** Lets the event loop go on: a page is drawn, and what was pressed is heard. */
+function turn() {
+  if (typeof setImmediate === 'function') return new Promise(done => setImmediate(done));
+  return new Promise(done => {
+    const {port1, port2} = new MessageChannel();
+    port1.onmessage = () => done(port1.close());
+    port2.postMessage(null);
+  });
+}
+
+/** What a promise answers, unless the signal comes before that. */
+async function unless(signal, promise) {
+  if (!signal) return promise;
+  let stop;
+  const stopped = new Promise((_, fail) => {
+    stop = () => fail(signal.reason);
+    signal.addEventListener('abort', stop);
+  });
+  try {
+    return await Promise.race([promise, stopped]);
+  } finally {
+    signal.removeEventListener('abort', stop);
+  }
+}
+
+/** The steps of a slice, so many that a page can be drawn between two of them. */
+class Pace {
+  constructor() {
+    this.steps = FIRST_PACE;
+  }
+
+  /** Does a slice, and goes by how long it took. */
+  time(slice) {
+    const began = performance.now();
+    try {
+      return slice(BigInt(this.steps));
+    } finally {
+      const took = performance.now() - began;
+      if (took < QUICK) this.steps = Math.min(2 * this.steps, SLICE);
+      if (took > SLOW) this.steps = Math.ceil(this.steps / 2);
+    }
+  }
+}
+
+/** The module for sessions, with one memory for all of them. */
+export class Sessions {
+  constructor({exports}) {
+    this.exports = exports;
+    this.given = new FinalizationRegistry(held => this.free(held));
+    this.own = this.take(OWN);
+    this.room = this.take(ROOM);
+  }
+
+  /** Puts the program of a source in memory, and begins its run. */
+  load(source, {edition = 1, libs = {}, ...how} = {}) {
+    if (edition !== 1 && edition !== 2) throw new RangeError(`edition is ${String(edition)}, and has to be 1 or 2`);
+    const texts = [source, ...Object.entries(libs).flat()];
+    return this.lend(texts, ([at, size, ...files]) => {
+      const rows = new Uint8Array(BigUint64Array.from(files).buffer), count = BigInt(files.length / 4);
+      return this.lend([rows], ([row]) => this.loaded(how, 'load_with', [at, size, row, count, edition]));
+    });
+  }
+
+  /** The same for a code text, with an author's files of lines and of names. */
+  loadCode(code, {lines = '', names = '', ...how} = {}) {
+    return this.lend([code, lines, names], words => this.loaded(how, 'load_code_with', words));
+  }
+
+  loaded({input = '', limits = {}}, name, words) {
+    const most = limitsOf(limits), held = this.take(HELD);
+    try {
+      this.bytes(held, HELD).fill(0);
+      this.expectWithLine((...line) => this.call(name, ...words, ...line, BigInt(held)));
+      return new Session(this, held, input, most);
+    } catch (error) {
+      this.free(held);
+      throw error;
+    }
+  }
+
+  /** Makes a call that writes a line, which tells why it is refused. */
+  expectWithLine(call) {
+    for (let size = LINE; ; size *= 8) {
+      const at = this.take(size);
+      try {
+        const status = call(BigInt(at), BigInt(size), BigInt(this.own));
+        const count = Number(this.told.getBigUint64(8, true));
+        if (status === FULL && count === size) continue;
+        if (status !== DONE) throw new Refused(status, new TextDecoder().decode(this.bytes(at, count)));
+        return;
+      } finally {
+        this.giveBack(at);
+      }
+    }
+  }
+
+  /** The status of a call. Where the engine stops one, nothing is known of the memory any more. */
+  call(name, ...words) {
+    if (this.stopped) throw new Stopped(this.stopped.message, {cause: this.stopped});
+    try {
+      return this.exports[`b_${name}`](...words) & 255;
+    } catch (error) {
+      this.stopped = error;
+      throw new Stopped(`the engine has stopped the sessions: ${error.message}`, {cause: error});
+    }
+  }
+
+  expect(status) {
+    if (status !== DONE) throw new Refused(status);
+  }
+
+  bytes(at, size) {
+    return new Uint8Array(this.exports.memory.buffer, at, size);
+  }
+
+  get told() {
+    return new DataView(this.exports.memory.buffer, this.own, OWN);
+  }
+
+  take(size) {
+    const at = this.exports.b_take(size) >>> 0;
+    if (at === 0) throw new Refused(MEMORY);
+    return at;
+  }
+
+  giveBack(at) {
+    if (!this.stopped) this.exports.b_give_back(at);
+  }
+
+  /** Puts texts into the memory for the time of a call, which gets the place and the length of each. */
+  lend(texts, call) {
+    const places = [], words = [];
+    try {
+      for (const bytes of texts.map(bytesOf)) {
+        const at = this.take(bytes.length);
+        places.push(at);
+        words.push(BigInt(at), BigInt(bytes.length));
+        this.bytes(at, bytes.length).set(bytes);
+      }
+      return call(words);
+    } finally {
+      for (const at of places) this.giveBack(at);
+    }
+  }
+
+  /** Gives back what the two pointers of a session hold, and their place. */
+  free(held) {
+    if (this.stopped) return;
+    const has = at => new DataView(this.exports.memory.buffer).getBigUint64(held + at, true) !== 0n;
+    if (has(0)) this.call('end', BigInt(held));
+    if (has(8)) this.call('unload', BigInt(held));
+    this.giveBack(held);
+  }
+}
+
+const END = {why: '', status: 0, trap: '', of: ''};
+
+/** A program that stays in memory, and its run, in slices. */
+class Session {
+  #sessions;
+  #held;
+  #limits;
+  #names = new Map();
+  #isRunning = false;
+
+  constructor(sessions, held, input, limits) {
+    this.#sessions = sessions;
+    this.#held = held;
+    this.#limits = limits;
+    this.#begin(input);
+    sessions.given.register(this, held, this);
+  }
+
+  /** The status of a call for this session. */
+  #call(name, ...words) {
+    if (this.#held === 0) throw new Error('this session was freed');
+    return this.#sessions.call(name, BigInt(this.#held), ...words);
+  }
+
+  #begin(input) {
+    const status = this.#call('begin');
+    if (status === TRAP) throw new Refused(status, UNBEGUN);
+    this.#sessions.expect(status);
+    this.#sessions.expect(this.#call('limit', ...this.#limits));
+    const bytes = bytesOf(input);
+    if (bytes.length > 0) this.feed(bytes);
+  }
+
+  start(input = '') {
+    if (this.#isRunning) throw new Error('this session is running');
+    this.#sessions.expect(this.#call('end'));
+    this.#begin(input);
+  }
+
+  limit(limits = {}) {
+    const most = limitsOf(limits);
+    this.#sessions.expect(this.#call('limit', ...most));
+    this.#limits = most;
+  }
+
+  goOn(steps = SLICE) {
+    const status = this.#call('continue', large('steps', steps), BigInt(this.#sessions.own));
+    const value = this.#sessions.told.getUint8(0);
+    if (status === DONE) return {...END, why: 'halted', status: value};
+    if (status === TRAP) return {...END, why: 'trapped', trap: TRAPS[value]};
+    if (status === LARGE) return {...END, why: 'too large', of: OF[value]};
+    if (status in WHY) return {...END, why: WHY[status]};
+    throw new Refused(status);
+  }
+
+  async run({output, ...how} = {}) {
+    const parts = this.outputs(how);
+    try {
+      for (;;) {
+        const {done, value} = await parts.next();
+        if (done) return value;
+        await output?.(value);
+      }
+    } finally {
+      await parts.return();
+    }
+  }
+
+  async *outputs({input, steps = STEPS, signal} = {}) {
+    const pace = new Pace(), last = fewer(this.#made() + large('steps', steps), MOST);
+    if (this.#isRunning) throw new Error('this session is running');
+    this.#isRunning = true;
+    try {
+      for (;;) {
+        signal?.throwIfAborted();
+        const {end, failure} = pace.time(most => this.#slice(fewer(most, last - this.#made())));
+        const bytes = this.output();
+        if (bytes.length > 0) yield bytes;
+        if (failure) throw failure;
+        if (end.why === 'wants input') await this.#ask(input, signal);
+        else if (end.why !== 'has output' && (end.why !== 'limit' || this.#made() >= last)) return end;
+        await turn();
+      }
+    } finally {
+      this.#isRunning = false;
+    }
+  }
+
+  /** A slice, of which the output is handed on before its failure is told. */
+  #slice(steps) {
+    try {
+      return {end: this.goOn(steps)};
+    } catch (failure) {
+      if (!(failure instanceof Refused)) throw failure;
+      return {failure};
+    }
+  }
+
+  /** Asks for more of the input, and feeds it; where none comes, there is no more. */
+  async #ask(input, signal) {
+    const bytes = bytesOf((await unless(signal, input?.())) ?? '');
+    if (bytes.length > 0) this.feed(bytes);
+    else this.closeInput();
+  }
+
+  *slices(steps = SLICE) {
+    for (;;) {
+      const end = this.goOn(steps);
+      yield end;
+      if (end.why !== 'limit') return;
+    }
+  }
+
+  *[Symbol.iterator]() {
+    while (this.goOn(0).why === 'limit') {
+      yield this.place();
+      if (this.goOn(1).why !== 'limit') return;
+    }
+  }
+
+  feed(text) {
+    const status = this.#sessions.lend([text], bytes => this.#call('feed', ...bytes));
+    if (status === CLOSED) throw new Error('the input of this session was closed');
+    this.#sessions.expect(status);
+  }
+
+  closeInput() {
+    this.#sessions.expect(this.#call('close_input'));
+  }
+
+  output() {
+    const {room, own} = this.#sessions, kept = new Kept();
+    for (;;) {
+      this.#sessions.expect(this.#call('output', BigInt(room), BigInt(ROOM), BigInt(own)));
+      const count = Number(this.#sessions.told.getBigUint64(0, true));
+      kept.put(this.#sessions.bytes(room, count));
+      if (count < ROOM) return kept.bytes();
+    }
+  }
+
+  #made() {
+    this.#sessions.expect(this.#call('place', BigInt(this.#sessions.own)));
+    return this.#sessions.told.getBigUint64(24, true);
+  }
+
+  place() {
+    const steps = Number(this.#made()), {told} = this.#sessions, at = place => Number(told.getBigUint64(place, true));
+    const is = {function: told.getUint32(0, true), place: at(8), callers: at(16), steps, line: at(32)};
+    return {...is, name: this.nameOf(is.function)};
+  }
+
+  nameOf(address) {
+    if (!this.#names.has(address)) this.#names.set(address, this.#nameOf(whole('function', address, 2 ** 32 - 1)));
+    return this.#names.get(address);
+  }
+
+  #nameOf(address) {
+    const {room, own} = this.#sessions;
+    const status = this.#call('name_of', address, BigInt(room), BigInt(ROOM), BigInt(own));
+    if (status !== REFUSED) this.#sessions.expect(status);
+    const count = Number(this.#sessions.told.getBigUint64(0, true));
+    return new TextDecoder().decode(this.#sessions.bytes(room, count));
+  }
+
+  get steps() {
+    return this.place().steps;
+  }
+
+  get callers() {
+    return this.place().callers;
+  }
+
+  word(address) {
+    this.#sessions.expect(this.#call('word', whole('address', address, 65535), BigInt(this.#sessions.own)));
+    return this.#sessions.told.getUint16(0, true);
+  }
+
+  setWord(address, word) {
+    const words = [whole('address', address, 65535), whole('word', word, 65535)];
+    this.#sessions.expect(this.#call('set_word', ...words));
+  }
+
+  free() {
+    if (this.#held === 0) return;
+    const held = this.#held;
+    this.#held = 0;
+    this.#sessions.given.unregister(this);
+    this.#sessions.free(held);
+  }
+}
+
+if (Symbol.dispose) Session.prototype[Symbol.dispose] = Session.prototype.free;

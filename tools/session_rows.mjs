@@ -1,0 +1,308 @@
+// Tries the sessions of b.mjs, under Node and in pages: tools/try-sessions starts it in each.
+import {withMost} from './module_memory.mjs';
+
+const NEXT = "n; main() { extrn n; auto c; while((c = getchar()) != '*e') { n++; putchar(c + 1); } exit(n); }";
+const LOOP = 'main() { while(1) ; }';
+const TRAPS = 'F main 0 0 0 0 3\nc 1\nc 0\nb /\nE\n';
+// Writes, and puts one more operand each time.
+const GROWS = 'F main 0 0 0 0 7\nx putchar\nv\nc 97\nk 1\np\nc 1\nj 0\nE\n';
+const MOST_PAGES = 60, SOON = 50; // pages of 64 KB, and milliseconds
+const MANY = 3000;
+
+const text = bytes => new TextDecoder().decode(bytes);
+const pause = milliseconds => new Promise(done => setTimeout(done, milliseconds));
+const ended = (why, parts = {}) => ({status: 0, trap: '', of: '', ...parts, why});
+const limit = ended('limit'), wants = ended('wants input'), halted = status => ended('halted', {status});
+
+/** An object with its parts in the order of their names. */
+const sorted = it => (it?.constructor === Object ? Object.fromEntries(Object.entries(it).sort()) : it);
+
+/** The error that a call throws, or a promise. */
+async function thrown(call) {
+  try {
+    await call();
+    return null;
+  } catch (error) {
+    return error;
+  }
+}
+
+const kindOf = async call => (await thrown(call))?.constructor.name;
+
+/** A run that is fed, looked at and taken from. */
+async function talks({sessions, expect}) {
+  const it = sessions.load(NEXT);
+  expect('one step', it.goOn(1), limit);
+  expect('no input', it.goOn(), wants);
+  expect('no input again', it.goOn(1000n), wants);
+  it.feed('HA');
+  expect('all read', it.goOn(), wants);
+  expect('its output', text(it.output()), 'IB');
+  expect('no more output', it.output().length, 0);
+  expect('a word', it.word(7), 2);
+  it.setWord(7, 5);
+  const asked = ['L', new Uint8Array([77]).buffer, ''], told = [], output = part => void told.push(text(part));
+  expect('a run', await it.run({input: async () => asked.shift(), output}), halted(7));
+  expect('what it wrote', told.join(''), 'MN');
+  expect('the end again', it.goOn(), halted(7));
+  it.start('Z');
+  expect('a run without input', await it.run(), halted(1));
+  expect('its word', it.word(7), 1);
+  it.free();
+}
+
+/** Steps and slices, and where a run stands. */
+async function places({sessions, expect}) {
+  const it = sessions.load('main() { f(); } f() { g(); } g() { putchar(7); }');
+  const all = [...it], deepest = Math.max(...all.map(place => place.callers));
+  expect('calls below', deepest, 2);
+  expect('each step', all.map(place => place.steps), all.map((_, at) => at));
+  expect('its functions', new Set(all.map(place => place.function)).size, 3);
+  expect('the end', it.goOn(), halted(0));
+  expect('all steps', [it.steps, it.callers], [it.place().steps, 0]);
+  const loop = sessions.load(LOOP);
+  expect('no steps', [loop.goOn(0), loop.steps], [limit, 0]);
+  let slices = 0;
+  for (const end of loop.slices(1000)) if (++slices === 5 || end.why !== 'limit') break;
+  expect('slices', [slices, loop.steps], [5, 5000]);
+  expect('slices up to an end', [...sessions.load(NEXT, {input: 'abc'}).slices(10)].at(-1), wants);
+  expect('many steps', [await loop.run({steps: 3_000_001}), loop.steps], [limit, 3_005_001]);
+  expect('no more steps', [await loop.run({steps: 0}), loop.steps], [limit, 3_005_001]);
+}
+
+/** Files after a source, faults of what is loaded, and names and lines. */
+async function loads({sessions, expect}) {
+  const source = 'main() { printn(six(), 10); }', libs = {'six.b': 'six() {\n  return(6);\n}'};
+  const told = async call => (({status, line}) => [status, line])((await thrown(call)) ?? {});
+  const it = sessions.load(source, {libs});
+  expect('a file after it', [it.goOn(), text(it.output())], [halted(0), '6']);
+  expect('no such file', await told(() => sessions.load(source)), [132, 'load 3\n']);
+  expect('a fault', await told(() => sessions.load('main() {\nreturn(x); }')), [1, 'un x 2\n']);
+  expect('no code text', await told(() => sessions.loadCode('F')), [132, 'code 1\n']);
+  const code = 'F main 0 0 0 0 4\nc 7\np\nc 0\nr\nE\n', lines = '8\n8\n9\n9\n';
+  const linesOf = options => [...sessions.loadCode(code, options)].map(place => place.line);
+  expect('lines of a code text', linesOf({}), [2, 3, 4, 5]);
+  expect('lines of its author', linesOf({lines, names: 'F main\n'}), [8, 8, 9, 9]);
+  expect('too few lines', await told(() => sessions.loadCode(code, {lines: '8\n'})),
+    [135, 'error: the file of lines needs 4 lines, a decimal number for each place of the code\n']);
+  expect('a wrong name', (await told(() => sessions.loadCode(code, {names: 'F f\n'})))[0], 135);
+  const calls = sessions.load('f(n) {\n  return(n);\n}\nmain() {\n  f(2);\n}');
+  const seen = new Set([...calls].map(({name, line, callers}) => `${name} ${line} ${callers}`));
+  expect('names and lines', ['main 5 0', 'f 2 1'].every(place => seen.has(place)), true);
+  expect('a name', [calls.nameOf(calls.place().function), calls.nameOf(3)], ['main', '']);
+}
+
+/** What a run may hold between two slices. */
+async function limits({sessions, expect}) {
+  const writes = "main() { auto n; n = 60000; while(n--) putchar('ab'); }", whole = 'ab'.repeat(60000);
+  const it = sessions.load(writes, {limits: {output: 100}});
+  expect('output past its limit', it.goOn(), ended('has output'));
+  const first = text(it.output()), parts = [];
+  expect('so much of it', first.length > 100 && first.length < 65536, true);
+  expect('the rest', await it.run({output: part => void parts.push(text(part))}), halted(0));
+  expect('all of it', first + parts.join('') === whole, true);
+  const grows = sessions.loadCode('F main 0 0 0 0 2\nc 1\nj 0\nE\n', {limits: {operands: 1000}});
+  expect('operands past their limit', await grows.run(), ended('too large', {of: 'operands'}));
+  grows.limit();
+  expect('without a limit', await grows.run({steps: 200000}), limit);
+  const fills = sessions.load('v[20000]; main() { extrn v; auto n; n = 0; while(n < 20000) v[n++] = 7; }');
+  fills.limit({pages: 3});
+  expect('pages past their limit', await fills.run(), ended('too large', {of: 'pages'}));
+  fills.limit({pages: 256});
+  expect('more pages', await fills.run(), halted(0));
+  for (const most of [{pages: 257}, {pages: -1}, {operands: -1}, {output: 2 ** 64}, {operands: 1.5}]) {
+    expect('a limit', await kindOf(() => fills.limit(most)), 'RangeError');
+    expect('a limit of a load', await kindOf(() => sessions.load(writes, {limits: most})), 'RangeError');
+  }
+}
+
+/** However a run is cut, it is the same run. */
+async function cuts({sessions, expect}) {
+  const source = "main() { auto n; n = 30000; while(n--) { putchar('ab'); putchar('cd'); putchar('*n'); } exit(9); }";
+  const whole = 'abcd\n'.repeat(30000), once = sessions.load(source);
+  expect('one slice', [once.goOn(Infinity), text(once.output()) === whole], [halted(9), true]);
+  for (const steps of [1000, 77777]) {
+    const it = sessions.load(source), parts = [];
+    let end;
+    for (end of it.slices(steps)) parts.push(text(it.output()));
+    expect(`slices of ${steps}`, [end, parts.join('') === whole], [halted(9), true]);
+  }
+  const parts = [], written = sessions.load(source).outputs();
+  for (;;) {
+    const {done, value} = await written.next();
+    if (done) expect('the end of the output', value, halted(9));
+    if (done) break;
+    parts.push(text(value));
+  }
+  expect('output as an iterator', parts.join('') === whole, true);
+  const read = [];
+  for await (const part of sessions.load(NEXT, {input: 'HAL'}).outputs()) read.push(text(part));
+  expect('output of an input', read.join(''), 'IBM');
+}
+
+/** What is refused. */
+async function refusals({sessions, expect, b}) {
+  const it = sessions.load(NEXT), told = async call => (await thrown(call))?.status;
+  expect('a fault', await told(() => sessions.load('main() {')), 1);
+  expect('no main', await told(() => sessions.load('n;')), 132);
+  const full = await thrown(() => sessions.load('v[32766]; w[32758]; main() { auto a; ; }'));
+  expect('no room for a frame', `${full.status} ${full.line}`, '130 trap st\n');
+  expect('no code text', await told(() => sessions.loadCode('E')), 132);
+  expect('its kind', (await thrown(() => sessions.loadCode('E'))) instanceof b.Refused, true);
+  expect('a trap', await sessions.loadCode(TRAPS).run(), ended('trapped', {trap: 'dz'}));
+  for (const edition of [0, 3, 257, -1, 1.5, '2', NaN])
+    expect(`edition ${edition}`, await kindOf(() => sessions.load(NEXT, {edition})), 'RangeError');
+  for (const steps of [-1, 2 ** 64, 1.5, NaN, -Infinity, '1', -1n, 2n ** 64n]) {
+    expect(`${steps} steps`, await kindOf(() => it.goOn(steps)), 'RangeError');
+    expect(`a run of ${steps} steps`, await kindOf(() => it.run({steps})), 'RangeError');
+  }
+  for (const number of [-1, 65536, 1.5, NaN, '1']) {
+    expect(`address ${number}`, await kindOf(() => it.word(number)), 'RangeError');
+    expect(`word ${number}`, await kindOf(() => it.setWord(7, number)), 'RangeError');
+  }
+  it.closeInput();
+  expect('bytes after the end', (await thrown(() => it.feed('x'))).message, 'the input of this session was closed');
+  it.start('ab');
+  const failing = () => { throw new SyntaxError('of the output'); };
+  expect('an error of the output', await kindOf(() => it.run({output: failing})), 'SyntaxError');
+  expect('it goes on', await it.run(), halted(2));
+  it.free();
+  it.free();
+  for (const call of ['goOn', 'output', 'place', 'closeInput', 'start', 'run'])
+    expect(`${call} after it was freed`, (await thrown(() => it[call]())).message, 'this session was freed');
+  if (Symbol.dispose) {
+    const held = sessions.load(LOOP);
+    held[Symbol.dispose]();
+    expect('disposed of', (await thrown(() => held.goOn())).message, 'this session was freed');
+  }
+}
+
+/** A long run leaves the page alive, and stops soon. */
+async function stopsSoon({sessions}) {
+  const it = sessions.load(LOOP), stopper = new AbortController(), gaps = [];
+  let last = performance.now(), pressed;
+  const clock = setInterval(() => {
+    gaps.push(performance.now() - last);
+    last = performance.now();
+  }, 5);
+  setTimeout(() => {
+    pressed = performance.now();
+    stopper.abort();
+  }, 300);
+  const failure = await thrown(() => it.run({steps: Infinity, signal: stopper.signal}));
+  const took = performance.now() - pressed;
+  clearInterval(clock);
+  const goesOn = it.goOn(10).why === 'limit', late = gaps.filter(gap => gap > SOON).length;
+  it.free();
+  const isRight = failure.name === 'AbortError' && goesOn && took < SOON && 10 * late < gaps.length;
+  return isRight ? null : [failure.name, took, late, gaps.length];
+}
+
+async function stops(all) {
+  const {sessions, expect} = all;
+  let wrong = await stopsSoon(all);
+  for (let tries = 0; wrong && tries < 5; tries++) wrong = await stopsSoon(all); // a busy machine may be late
+  expect('an endless run: stopped, after milliseconds, and how many gaps of how many were long', wrong, null);
+  const it = sessions.load(NEXT), stopper = new AbortController();
+  const run = thrown(() => it.run({input: () => new Promise(() => {}), signal: stopper.signal}));
+  await pause(20);
+  expect('a second run beside it', (await thrown(() => it.run())).message, 'this session is running');
+  expect('a start beside it', (await thrown(() => it.start())).message, 'this session is running');
+  stopper.abort(new RangeError('by hand'));
+  expect('stopped where it waits', (await run).message, 'by hand');
+  it.feed('a');
+  expect('it goes on', await it.run(), halted(1));
+  const signal = AbortSignal.abort(new TypeError('before'));
+  expect('stopped before', await kindOf(() => it.run({signal})), 'TypeError');
+}
+
+/** Several sessions in one memory, which stays as large as it is. */
+async function many({sessions, expect, collect}) {
+  const size = () => sessions.exports.memory.buffer.byteLength;
+  const [one, other] = [sessions.load(NEXT, {input: 'HAL'}), sessions.load(NEXT, {input: '123'})];
+  for (let at = 0; at < 50; at++) [one, other].map(it => it.goOn(2));
+  expect('two sessions in turn', [one, other].map(it => text(it.output())), ['IBM', '234']);
+  const makes = count => {
+    for (let at = 0; at < count; at++) sessions.load(NEXT, {input: 'HAL'}).free();
+  };
+  makes(10);
+  const before = size();
+  makes(MANY);
+  expect('memory after many sessions', size(), before);
+  if (!collect) return;
+  const forgets = () => {
+    for (let at = 0; at < 200; at++) sessions.load(NEXT).goOn(5);
+  };
+  forgets();
+  const grown = Math.max(size() - before, 1 << 20);
+  for (let round = 0; round < 30; round++) {
+    await collect();
+    forgets();
+  }
+  expect('memory after sessions that nobody freed', size() - before <= 5 * grown, true);
+}
+
+/** Memories of each size: a session is whole, or it is refused, after the beginning of its output. */
+async function memories({module, expect, b}) {
+  const {least} = withMost(module, 0);
+  let refused = 0, whole = 0;
+  for (let pages = least; pages <= MOST_PAGES; pages++) {
+    const parts = [];
+    const failure = await thrown(async () => {
+      const it = (await b.loadSessions(withMost(module, pages).bytes)).load(NEXT, {input: 'HAL'});
+      const end = await it.run({output: part => void parts.push(text(part))});
+      expect('a run in little memory', end, halted(3));
+      it.free();
+    });
+    const out = parts.join('');
+    if (failure) expect(`${pages} pages`, [failure.status, 'IBM'.startsWith(out)], [134, true]);
+    else expect(`${pages} pages`, out, 'IBM');
+    if (failure) refused++;
+    else whole++;
+  }
+  expect('some were refused, and some were whole', refused > 0 && whole > 0, true);
+}
+
+/** A run that takes all memory: what its last slice wrote is handed on before that is told. */
+async function lost({module, expect, b}) {
+  const {least} = withMost(module, 0), {bytes} = withMost(module, least + 60), parts = [];
+  const it = (await b.loadSessions(bytes)).loadCode(GROWS), goOn = it.goOn.bind(it);
+  let before = -1;
+  it.goOn = steps => {
+    try {
+      return goOn(steps);
+    } catch (error) {
+      before = parts.length;
+      throw error;
+    }
+  };
+  const failure = await thrown(() => it.run({output: part => void parts.push(part.length), steps: Infinity}));
+  expect('memory is refused', [failure.status, parts.length], [134, before + 1]);
+  expect('and again', (await thrown(() => goOn())).status, 134);
+  expect('a place of a run that is lost', (await thrown(() => it.place())).status, 134);
+  it.start();
+  expect('another run', it.goOn(10).why, 'limit');
+  it.free();
+}
+
+const PARTS = [talks, places, loads, limits, cuts, refusals, stops, many, memories, lost];
+
+/** Runs all rows over a module, and tells how many there were and what was wrong. `collect` lets go of what nothing
+    refers to, where that can be asked for. */
+export async function tried(b, module, collect) {
+  const wrong = [];
+  let rows = 0;
+  const expect = (what, got, wanted) => {
+    const [is, should] = [got, wanted].map(it => JSON.stringify(it, (_, part) => sorted(part)));
+    rows++;
+    if (is !== should) wrong.push(`${what}: ${is}, and not ${should}`);
+  };
+  for (const part of PARTS) {
+    try {
+      await part({b, module, expect, collect, sessions: await b.loadSessions(module)});
+    } catch (error) {
+      wrong.push(`${part.name}: ${error.stack ?? error}`);
+    }
+  }
+  return {rows, wrong};
+}
