@@ -34,17 +34,17 @@ _b() {
     case ${COMP_WORDS[1]} in
     compile) words='--edition --with --help' ;;
     run) words='--steps --no-limit --where --help' ;;
-    go) words='--edition --steps --no-limit --where --careful --with --help' ;;
+    go) words='--edition --steps --no-limit --where --careful --with --code --made --lines --names --help' ;;
     try) words='--edition --steps --no-limit --with --help' ;;
     migrate) words='--help' ;;
     verify) words='--help' ;;
     list) words='--edition --with --code --made --lines --names --help' ;;
-    map) words='--edition --with --svg --steps --help' ;;
+    map) words='--edition --with --code --made --lines --names --svg --steps --help' ;;
     check) words='--write --diff --edition --with --json --fix --help' ;;
     names) words='--edition --with --json --help' ;;
     trace) words='--edition --with --code --made --lines --names --steps --from --last --function --help' ;;
     count) words='--edition --with --code --made --lines --names --steps --no-limit --json --help' ;;
-    show) words='--edition --with --steps --from --last --input --careful --help' ;;
+    show) words='--edition --with --code --made --lines --names --steps --from --last --input --careful --help' ;;
     format) words='--write --edition --check --help' ;;
     port) words='--write --diff --edition --with --help' ;;
     esac

@@ -15,6 +15,8 @@ use Rattle.blang.specs.declared.run.Outcome.{Outcome}
 use Rattle.blang.specs.declared.run.Outcome.TheVariants as outcome
 use Rattle.blang.specs.Compiles.{Compilation, CompilesTo, Tells, status_of}
 use Rattle.blang.specs.Cut.{tokens_from}
+use Rattle.blang.specs.Text.{IsCodeText}
+use Rattle.bword.specs.declared.edition.Edition.{Edition}
 use Rattle.blang.specs.Machine.{Halted, Image, Loaded, Running, State, States, Stuck, image_of, machine}
 use Rattle.blang.specs.Reports.{ComesTo, Finishes, Reported, RunEnds, RunGives, Shows, state_outcome}
 use Rattle.bmach.specs.Readings.{LeftBySteps}
@@ -28,8 +30,10 @@ use Rattle.bendless.specs.Repeats.{IsEndless}
 use Rattle.bendless.specs.declared.endless.Endless.{Endless}
 use Rattle.btools.specs.Functions.{functions_of}
 use Rattle.btools.specs.ProgramsExcluded.{code_in}
-use Rattle.btools.specs.Programs.{HasProgram, located_status, nothing_written}
-use Rattle.btools.proofs.Unasked.{program_left, untaken}
+use Rattle.btools.specs.Origins.{Code, Origin, ProgramOf, Source}
+use Rattle.btools.specs.PlaceLines.{CodeText}
+use Rattle.btools.specs.Programs.{located_status, nothing_written}
+use Rattle.btools.proofs.Unasked.{left_by_code, program_left, untaken, untaken_by_code}
 use Rattle.btrace.specs.Locates as locates
 use Rattle.btrace.specs.Locates.{Locates}
 use Rattle.btrace.specs.RowTexts.{Legend}
@@ -38,7 +42,7 @@ use Rattle.bcareful.specs.Things.{Atlas, atlas_in}
 use Rattle.bcareful.specs.Effects.{marks_at, step_in}
 use Rattle.bcareful.specs.Findings.{careful, finding_at, finding_of, made_by}
 use Rattle.bcareful.specs.Carefuls.{IsClean, IsUnfound, StaysAt}
-use Rattle.bcareful.specs.CareExcluded.{DidNotRun, IsToldClean, IsToldFound, IsToldOn, NoCarefulRuns, OfSource, own_atlas, own_legend, own_sights}
+use Rattle.bcareful.specs.CareExcluded.{DidNotRun, IsToldClean, IsToldFound, IsToldOn, NoCarefulRuns, OfOrigin, own_atlas, own_legend, own_sights}
 use Rattle.bcareful.specs.First.{FindsFirst, FindsNothing, IsFirst}
 use Rattle.bcareful.specs.Runs as runs
 use Rattle.bcareful.specs.Runs.{CarefulAsked, Runs, StaysThere, finds_wraps, stays}
@@ -236,7 +240,7 @@ kept_told answer text less =
 
 module _ (asked : CarefulAsked) (source : List ℕ) (ends : RunEnds) (bytes : List ℕ) (tells : Tells ends.input bytes) where
   -- the first finding of a program
-  module _ (p : OfSource asked source ends) (found : Found) (text : List ℕ) where
+  module _ (p : OfOrigin asked source ends) (found : Found) (text : List ℕ) where
     abbrev first_atlas : Atlas
     first_atlas = own_atlas asked source ends p
 
@@ -275,7 +279,7 @@ module _ (asked : CarefulAsked) (source : List ℕ) (ends : RunEnds) (bytes : Li
   all_is a legend s n text outcome.Memory ended h = absurd (ended.1 refl)
 
   -- a program of the source
-  module _ (p : OfSource asked source ends) (stop : Stop) (again : Option Endless) (back : IfSome again (IsEndless p.ds p.image (functions_of p.ds) p.frames ends.input ends.input_after)) where
+  module _ (p : OfOrigin asked source ends) (stop : Stop) (again : Option Endless) (back : IfSome again (IsEndless p.ds p.image (functions_of p.ds) p.frames ends.input ends.input_after)) where
     abbrev own : Atlas
     own = own_atlas asked source ends p
 
@@ -291,7 +295,7 @@ module _ (asked : CarefulAsked) (source : List ℕ) (ends : RunEnds) (bytes : Li
     -- what its line and its place were told with
     at_place : (line : Outgoing) (status : ℕ) → status < 132 → (Ended → RunGives (machine p.ds) asked.steps ends.input ends.input_after ends.out ends.out_after stop.outcome)
         → IsOverAt (machine p.ds) asked.steps ends.input ends.input_after stop.outcome stop.call stop.steps
-        → TellsOver told_by source stop again ends.line line status → Ended × Locates asked.edition source asked.files asked.steps (record ends { line_after = line }) status
+        → TellsOver told_by source stop again ends.line line status → Ended × Locates asked.origin source asked.files asked.steps (record ends { line_after = line }) status
     at_place line status less gives over (tellings.placed first answer finishes located site) =
         let ended = ends_placed stop.outcome answer located in (
           ended,
@@ -300,7 +304,7 @@ module _ (asked : CarefulAsked) (source : List ℕ) (ends : RunEnds) (bytes : Li
         )
     at_place line status less gives over (tellings.unplaced finishes none_is) =
         let ended = ends_told stop.outcome ends.line line status less finishes in
-        (ended, locates.unlocated p.ds p.image stop.outcome p.program (gives ended) finishes none_is)
+        (ended, locates.unlocated p.ds p.image stop.outcome p.program ((p.lines, p.lined), (p.frames, p.named)) (gives ended) finishes none_is)
 
     -- a run without a finding
     clean_told : IsClean own (image_of p.ds).functions (machine p.ds) asked.steps ends.input ends.input_after ends.out ends.out_after stop
@@ -329,7 +333,7 @@ module _ (asked : CarefulAsked) (source : List ℕ) (ends : RunEnds) (bytes : Li
         subst (λ (xs : List ℕ). IsAll own told_by source stop.outcome (own_sights asked source ends p xs) asked.steps text) rest.whole (gives.told rest.more rest.follows) in
         record {
           line = line;
-          locates = subst (λ n. Locates asked.edition source asked.files asked.steps (record ends { line_after = line }) n) (sym same) it.1;
+          locates = subst (λ n. Locates asked.origin source asked.files asked.steps (record ends { line_after = line }) n) (sym same) it.1;
           text = text;
           written = subst (λ (t : List ℕ). Writes line t ends.line_after) (kept_told answer text below) written.0;
           told = inr (p, all_is own told_by own_run asked.steps text stop.outcome it.0 all);
@@ -342,15 +346,15 @@ module _ (asked : CarefulAsked) (source : List ℕ) (ends : RunEnds) (bytes : Li
       inr (clean_told (record { ds = ds; image = image; frames = frames; lines = lines; program = has; named = named; lined = lined }) stop again back clean status less told)
   staying is status less (runs.warned ds image frames lines stop again text line answer has named lined going gives back told reported) =
       absurd (both_ways _ going is)
-  staying is status less (runs.not_begun ds image result has never finishes quiet) =
+  staying is status less (runs.not_begun ds image result has suits never finishes quiet) =
       inr (record {
-        locates = locates.not_begun ds image result has never finishes quiet;
+        locates = locates.not_begun ds image result has suits never finishes quiet;
         clean = inl (inr (ds, image, result, has, never, finishes));
       })
   staying is status less (runs.stopped why quiet) = inr (record { locates = locates.stopped why quiet; clean = inl (inl why) })
 
   -- without more after its line
-  nothing_more : (status : ℕ) → Locates asked.edition source asked.files asked.steps ends status
+  nothing_more : (status : ℕ) → Locates asked.origin source asked.files asked.steps ends status
       → DidNotRun asked source ends status → IsToldOn asked source ends bytes status
   nothing_more status it quiet =
       record { line = ends.line_after; locates = it; text = []; written = Writes-none ends.line_after; told = inl (quiet, refl) }
@@ -361,33 +365,40 @@ module _ (asked : CarefulAsked) (source : List ℕ) (ends : RunEnds) (bytes : Li
   going_on is status less (runs.warned ds image frames lines stop again text line answer has named lined going gives back told reported) =
       warned_told (record { ds = ds; image = image; frames = frames; lines = lines; program = has; named = named; lined = lined }) stop again back text line answer status less gives told
       (told_whole (told_after answer text) answer line ends.line_after status less reported)
-  going_on is status less (runs.not_begun ds image result has never finishes quiet) =
-      nothing_more status (locates.not_begun ds image result has never finishes quiet) (inr (ds, image, result, has, never, finishes))
+  going_on is status less (runs.not_begun ds image result has suits never finishes quiet) =
+      nothing_more status (locates.not_begun ds image result has suits never finishes quiet) (inr (ds, image, result, has, never, finishes))
   going_on is status less (runs.stopped why quiet) = nothing_more status (locates.stopped why quiet) (inl why)
 
 module _ (asked : CarefulAsked) (source : List ℕ) (ends : RunEnds) where
-  module _ (r : Compilation) (g : CompilesTo [] (tokens_from asked.edition 1 source) r) where
-    abbrev Left : (ds : List Definition) → Type 0
-    Left ds = LeftBySteps (machine ds) asked.steps ends.input ends.input_after
+  abbrev Left : (ds : List Definition) → Type 0
+  Left ds = LeftBySteps (machine ds) asked.steps ends.input ends.input_after
 
-    source_left : (ds : List Definition) (image : Image) → HasProgram asked.edition source ds image → Left ds → Left (code_in asked.edition source r g)
-    source_left ds image has = program_left asked.edition source r g asked.steps ends.input ends.input_after ds image has
+  -- the machine of a program has left what was read of it, if that of each program does of which the origin is
+  left_in : (origin : Origin) (ds : List Definition) → ((other : List Definition) (image : Image) → ProgramOf origin source other image → Left other → Left ds)
+      → (ends.input_after ≡ ends.input → Left ds) → (status : ℕ) → Runs (record asked { origin = origin }) source ends status → Left ds
+  left_in origin ds same none status (runs.found other image frames lines found text has named lined staying_too there told) =
+      same other image has (left_by (machine other) asked.steps ends.input ends.input_after there.is.read)
+  left_in origin ds same none status (runs.unfound other image frames lines stop again has named lined staying_too clean back told) =
+      same other image has
+      (careful_left (atlas_in other frames (finds_wraps asked.care)) (image_of other).functions (machine other) asked.steps
+      ends.input ends.input_after ends.out ends.out_after stop.outcome clean.gives)
+  left_in origin ds same none status (runs.warned other image frames lines stop again text line answer has named lined going gives back told reported) =
+      same other image has
+      (run_left (machine other) asked.steps ends.input ends.input_after ends.out ends.out_after stop.outcome gives.gives)
+  left_in origin ds same none status (runs.not_begun other image result has suits never finishes quiet) = none quiet.unread
+  left_in origin ds same none status (runs.stopped why quiet) = none quiet.unread
 
-    none_left : ends.input_after ≡ ends.input → Left (code_in asked.edition source r g)
-    none_left still = untaken asked.edition source r g asked.steps ends.input ends.input_after still
+  unasked : (edition : Edition) (r : Compilation) (g : CompilesTo [] (tokens_from edition 1 source) r) (status : ℕ)
+      → Runs (record asked { origin = Source edition }) source ends status → Left (code_in edition source r g)
+  unasked edition r g status =
+      left_in (Source edition) (code_in edition source r g) (program_left edition source r g asked.steps ends.input ends.input_after)
+      (untaken edition source r g asked.steps ends.input ends.input_after) status
 
-    unasked : (status : ℕ) → Runs asked source ends status → Left (code_in asked.edition source r g)
-    unasked status (runs.found ds image frames lines found text has named lined staying_too there told) =
-        source_left ds image has (left_by (machine ds) asked.steps ends.input ends.input_after there.is.read)
-    unasked status (runs.unfound ds image frames lines stop again has named lined staying_too clean back told) =
-        source_left ds image has
-        (careful_left (atlas_in ds frames (finds_wraps asked.care)) (image_of ds).functions (machine ds) asked.steps
-        ends.input ends.input_after ends.out ends.out_after stop.outcome clean.gives)
-    unasked status (runs.warned ds image frames lines stop again text line answer has named lined going gives back told reported) =
-        source_left ds image has
-        (run_left (machine ds) asked.steps ends.input ends.input_after ends.out ends.out_after stop.outcome gives.gives)
-    unasked status (runs.not_begun ds image result has never finishes quiet) = none_left quiet.unread
-    unasked status (runs.stopped why quiet) = none_left quiet.unread
+  unasked_by_code : (c : CodeText) (ds : List Definition) → IsCodeText c.code ds → (status : ℕ)
+      → Runs (record asked { origin = Code c }) source ends status → Left ds
+  unasked_by_code c ds is status =
+      left_in (Code c) ds (λ other image has. left_by_code c.code ds is asked.steps ends.input ends.input_after other has.text)
+      (untaken_by_code c.code ds is asked.steps ends.input ends.input_after) status
 
 module _ (ds : List Definition) (image : Image) (steps : ℕ) (i j : Incoming) where
   abbrev functions : List Loaded
@@ -442,7 +453,8 @@ no_careful_runs = (
   λ asked source ends. record {
     staying = λ bytes tells is status less. staying asked source ends bytes tells is status less;
     going_on = λ bytes tells is status less. going_on asked source ends bytes tells is status less;
-    unasked = λ r g. unasked asked source ends r g;
+    unasked = unasked asked source ends;
+    unasked_by_code = unasked_by_code asked source ends;
   },
   λ ds image steps i j. record {
     passed = passed ds image steps i j;

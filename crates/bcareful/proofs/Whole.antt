@@ -1,4 +1,4 @@
--- What comes of a source that is run carefully.
+-- What comes of a program that is run carefully.
 use Rattle.std.specs.Prelude.{IfSome}
 use Rattle.std.proofs.Common.{◌≡◌, ◌∙◌, ◌+◌, ◌<◌, ◌^◌, ℕ, List, [], Option, ap, arith, false, refl, subst, sym, true}
 use Rattle.bword.specs.ByteEnds.{Incoming, Outgoing}
@@ -10,13 +10,13 @@ use Rattle.bmach.specs.Stepping.{IsUnstarted, Paused}
 use Rattle.bmach.specs.declared.machine.Stop.{Stop}
 use Rattle.bendless.specs.Repeats.{IsEndless}
 use Rattle.bendless.specs.declared.endless.Endless.{Endless}
-use Rattle.btools.specs.FrameNames.{HasNames}
 use Rattle.btools.specs.Functions.{functions_of}
-use Rattle.btools.specs.ProgramLines.{HasLines}
-use Rattle.btools.specs.Programs.{HasProgram, steps_from}
+use Rattle.btools.specs.Origins.{LinesOf, NamesOf, ProgramOf}
+use Rattle.btools.specs.Programs.{steps_from}
 use Rattle.btools.specs.declared.names.Frame.{Frame}
 use Rattle.btrace.specs.RowTexts.{Legend, legend_in}
 use Rattle.bwatch.specs.Sights.{Sight, sight_at}
+use Rattle.bwatch.proofs.Origins.{loaded_in}
 use Rattle.bcareful.specs.Things.{Atlas, atlas_in}
 use Rattle.bcareful.specs.Carefuls.{CarefulGives, IsClean, IsFound}
 use Rattle.bcareful.specs.Runs.{CarefulAsked, Runs, finds_wraps, found, stays, unfound, warned}
@@ -32,8 +32,8 @@ counted a functions states n i j p f fits is =
     let lt : f.made < n = (is.stays [] (λ over. refl)).within in
     omega (arith, lt, fits)
 
-module _ (asked : CarefulAsked) (source : List ℕ) (ends : RunEnds) (status : ℕ) (ds : List Definition) (image : Image) (frames : List Frame) (lines : List ℕ) (p now : Paused) (is : HasProgram asked.edition source ds image) (named : HasNames asked.edition source frames)
-    (lined : HasLines asked.edition source lines) (begins : IsUnstarted image p) (a : Atlas) (whole : a ≡ atlas_in ds frames (finds_wraps asked.care)) (legend : Legend) (same : legend ≡ legend_in ds lines asked.files) where
+module _ (asked : CarefulAsked) (source : List ℕ) (ends : RunEnds) (status : ℕ) (ds : List Definition) (image : Image) (frames : List Frame) (lines : List ℕ) (p now : Paused) (is : ProgramOf asked.origin source ds image) (named : NamesOf asked.origin source frames)
+    (lined : LinesOf asked.origin source lines) (begins : IsUnstarted image p) (a : Atlas) (whole : a ≡ atlas_in ds frames (finds_wraps asked.care)) (legend : Legend) (same : legend ≡ legend_in ds lines asked.files) where
   abbrev n : ℕ
   n = asked.steps
 
@@ -53,7 +53,7 @@ module _ (asked : CarefulAsked) (source : List ℕ) (ends : RunEnds) (status : �
   unfound_whole stop again staying clean comes told =
       let g : IsClean b p.image.functions (steps_from p) n ends.input ends.input_after ends.out ends.out_after stop =
       subst (λ (x : Atlas). IsClean x p.image.functions (steps_from p) n ends.input ends.input_after ends.out ends.out_after stop) whole clean in
-      unfound ds image frames lines stop again is named lined staying (clean_alike ds image p is.loaded begins b n ends.input ends.input_after ends.out ends.out_after stop g) comes
+      unfound ds image frames lines stop again is named lined staying (clean_alike ds image p (loaded_in asked.origin source ds image is) begins b n ends.input ends.input_after ends.out ends.out_after stop g) comes
       (subst (λ (x : Legend). TellsOver x source stop again ends.line ends.line_after status) same told)
 
   -- one that stays at a finding
@@ -62,11 +62,11 @@ module _ (asked : CarefulAsked) (source : List ℕ) (ends : RunEnds) (status : �
   found_whole f staying gives told =
       let g : CarefulGives b p.image.functions (steps_from p) n ends.input ends.input_after ends.out ends.out_after now (ended.Found f) =
       subst (λ (x : Atlas). CarefulGives x p.image.functions (steps_from p) n ends.input ends.input_after ends.out ends.out_after now (ended.Found f)) whole gives in
-      let here = found_alike ds image p is.loaded begins b n ends.input ends.input_after now f g.1 in
+      let here = found_alike ds image p (loaded_in asked.origin source ds image is) begins b n ends.input ends.input_after now f g.1 in
       found ds image frames lines f (careful_text a legend source (sight_at now []) f) is named lined staying
       (record {
         now = now;
-        gives = gives_alike ds image p is.loaded begins b n ends.input ends.input_after ends.out ends.out_after outcome.Limit g.0;
+        gives = gives_alike ds image p (loaded_in asked.origin source ds image is) begins b n ends.input ends.input_after ends.out ends.out_after outcome.Limit g.0;
         is = here;
         tells = λ more can. (λ k. careful_text (whole k) (same k) source (sight_at now []) f)
             ∙ ap (λ (s : Sight). careful_text b l source s f) (sym (here.stays more can).seen);
@@ -81,5 +81,5 @@ module _ (asked : CarefulAsked) (source : List ℕ) (ends : RunEnds) (status : �
       let g : WarnGives b l source p.image.functions (steps_from p) n ends.input ends.input_after ends.out ends.out_after stop text =
       subst (λ (x : Legend). WarnGives b x source p.image.functions (steps_from p) n ends.input ends.input_after ends.out ends.out_after stop text) same
       (subst (λ (x : Atlas). WarnGives x legend source p.image.functions (steps_from p) n ends.input ends.input_after ends.out ends.out_after stop text) whole gives) in
-      warned ds image frames lines stop again text told answer is named lined going (warned_alike ds image p is.loaded begins b l source n ends.input ends.input_after ends.out ends.out_after stop text g) comes
+      warned ds image frames lines stop again text told answer is named lined going (warned_alike ds image p (loaded_in asked.origin source ds image is) begins b l source n ends.input ends.input_after ends.out ends.out_after stop text g) comes
       (subst (λ (x : Legend). TellsOver x source stop again ends.line told answer) same over) reported

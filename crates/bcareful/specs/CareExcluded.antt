@@ -4,6 +4,8 @@ use Rattle.bword.specs.ByteEnds.{Grew, Incoming, Outgoing, Writes}
 use Rattle.blang.specs.declared.code.Definition.{Definition}
 use Rattle.blang.specs.declared.run.Outcome.{Outcome}
 use Rattle.blang.specs.declared.run.Outcome.TheVariants as outcome
+use Rattle.bword.specs.declared.edition.Edition.{Edition}
+use Rattle.blang.specs.Text.{IsCodeText}
 use Rattle.blang.specs.declared.status.TheConstants.{REFUSED, TRAP}
 use Rattle.blang.specs.Compiles.{Compilation, CompilesTo, Tells}
 use Rattle.blang.specs.Cut.{tokens_from}
@@ -15,9 +17,8 @@ use Rattle.bmach.specs.declared.machine.Stop.{Stop}
 use Rattle.bendless.specs.Recordings.{Records, is_whole}
 use Rattle.bendless.specs.declared.recorder.Record.{Record}
 use Rattle.btools.specs.FaultPlaces.{fault_lines}
-use Rattle.btools.specs.FrameNames.{HasNames}
-use Rattle.btools.specs.ProgramLines.{HasLines}
-use Rattle.btools.specs.Programs.{HasProgram, NoProgram}
+use Rattle.btools.specs.Origins.{Code, LinesOf, NamesOf, NoProgramOf, ProgramOf, Source}
+use Rattle.btools.specs.PlaceLines.{CodeText}
 use Rattle.btools.specs.ProgramsExcluded.{code_in}
 use Rattle.btools.specs.declared.names.Frame.{Frame}
 use Rattle.btrace.specs.Locates.{Locates}
@@ -33,38 +34,38 @@ use Rattle.bcareful.specs.declared.finding.Finding.{Finding}
 use Rattle.bcareful.specs.declared.watching.Found.{Found}
 
 module _ (asked : CarefulAsked) (source : List ℕ) (ends : RunEnds) where
-  -- The program of the source, with the words of its frames and the lines of its instructions.
-  pub record OfSource : Type 0 where
+  -- The program, with the words of its frames and the lines of its instructions.
+  pub record OfOrigin : Type 0 where
     pub ds : List Definition
     pub image : Image
     pub frames : List Frame
     pub lines : List ℕ
-    pub program : HasProgram asked.edition source ds image
-    pub named : HasNames asked.edition source frames
-    pub lined : HasLines asked.edition source lines
+    pub program : ProgramOf asked.origin source ds image
+    pub named : NamesOf asked.origin source frames
+    pub lined : LinesOf asked.origin source lines
 
-  abbrev pub own_atlas : OfSource → Atlas
+  abbrev pub own_atlas : OfOrigin → Atlas
   own_atlas p = atlas_in p.ds p.frames (finds_wraps asked.care)
 
-  abbrev pub own_legend : OfSource → Legend
+  abbrev pub own_legend : OfOrigin → Legend
   own_legend p = legend_in p.ds p.lines asked.files
 
   -- its run on these bytes, as it is seen, and what is found at the step after so many
-  abbrev pub own_sights : OfSource → (bytes : List ℕ) → Sights
+  abbrev pub own_sights : OfOrigin → (bytes : List ℕ) → Sights
   own_sights p bytes = sights_of (image_of p.ds).functions (machine p.ds) bytes
 
-  abbrev pub own_finding : OfSource → (bytes : List ℕ) → (made : ℕ) → Option Finding
+  abbrev pub own_finding : OfOrigin → (bytes : List ℕ) → (made : ℕ) → Option Finding
   own_finding p bytes made = finding_at (own_atlas p) (own_sights p bytes) made
 
   -- There is no program, or its run did not begin; and why was told.
   abbrev pub DidNotRun : (status : ℕ) → Type 0
-  DidNotRun status = NoProgram asked.edition source (fault_lines asked.files) ends.line ends.line_after status
-      ⊎ ((ds : List Definition) × (image : Image) × (result : Outcome) × HasProgram asked.edition source ds image
+  DidNotRun status = NoProgramOf asked.origin source (fault_lines asked.files) ends.line ends.line_after status
+      ⊎ ((ds : List Definition) × (image : Image) × (result : Outcome) × ProgramOf asked.origin source ds image
       × BeginsNot image result × Finishes result ends.line ends.line_after status)
 
   -- The first finding was told, by its name, and nothing else.
   pub record IsToldFound (bytes : List ℕ) (status : ℕ) : Type 0 where
-    pub of : OfSource
+    pub of : OfOrigin
     pub found : Found
     pub within : found.made < asked.steps
     pub before : (m : ℕ) → m < found.made → own_finding of bytes m ≡ None
@@ -75,21 +76,21 @@ module _ (asked : CarefulAsked) (source : List ℕ) (ends : RunEnds) where
 
   -- It was told as `locate` tells it, and no step has a finding.
   pub record IsToldClean (bytes : List ℕ) (status : ℕ) : Type 0 where
-    pub locates : Locates asked.edition source asked.files asked.steps ends status
+    pub locates : Locates asked.origin source asked.files asked.steps ends status
     pub clean : DidNotRun status
-        ⊎ ((of : OfSource) × ((m : ℕ) → m < asked.steps → own_finding of bytes m ≡ None))
+        ⊎ ((of : OfOrigin) × ((m : ℕ) → m < asked.steps → own_finding of bytes m ≡ None))
 
   -- It was told so; and then each place with a finding, by what is found there first.
   pub record IsToldOn (bytes : List ℕ) (status : ℕ) : Type 0 where
     pub line : Outgoing
-    pub locates : Locates asked.edition source asked.files asked.steps (record ends { line_after = line }) status
+    pub locates : Locates asked.origin source asked.files asked.steps (record ends { line_after = line }) status
     pub text : List ℕ
     pub written : Writes line text ends.line_after
     pub told : (DidNotRun status × (text ≡ []))
-        ⊎ ((of : OfSource) × (text ≡ Warnings.text
+        ⊎ ((of : OfOrigin) × (text ≡ Warnings.text
         (warnings_at (own_atlas of) (own_legend of) source (own_sights of bytes) asked.steps)))
 
-  -- What is excluded of a careful run of a source.
+  -- What is excluded of a careful run of a program.
   pub record WrongCarefulRuns : Type 0 where
     -- of a run that stays at a finding: one passed over, or told too early, another name, another text; or, without a
     -- finding, another status or line than those of `locate`, or none of its place
@@ -99,9 +100,12 @@ module _ (asked : CarefulAsked) (source : List ℕ) (ends : RunEnds) where
     pub going_on : (bytes : List ℕ) → Tells ends.input bytes → stays asked.care ≡ false → (status : ℕ)
         → status < REFUSED → Runs asked source ends status → IsToldOn bytes status
     -- whatever the status, as where memory was refused: a byte taken that no step asked for
-    pub unasked : (r : Compilation) (g : CompilesTo [] (tokens_from asked.edition 1 source) r) (status : ℕ)
-        → Runs asked source ends status
-        → LeftBySteps (machine (code_in asked.edition source r g)) asked.steps ends.input ends.input_after
+    pub unasked : (edition : Edition) (r : Compilation) (g : CompilesTo [] (tokens_from edition 1 source) r)
+        (status : ℕ) → Runs (record asked { origin = Source edition }) source ends status
+        → LeftBySteps (machine (code_in edition source r g)) asked.steps ends.input ends.input_after
+    pub unasked_by_code : (c : CodeText) (ds : List Definition) → IsCodeText c.code ds → (status : ℕ)
+        → Runs (record asked { origin = Code c }) source ends status
+        → LeftBySteps (machine ds) asked.steps ends.input ends.input_after
 
 module _ (ds : List Definition) (image : Image) (steps : ℕ) (i j : Incoming) where
   abbrev seen : (bytes : List ℕ) → Sights

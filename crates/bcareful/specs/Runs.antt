@@ -1,7 +1,6 @@
--- Promise: what comes of a source that is run carefully.
+-- Promise: what comes of a program that is run carefully.
 use Rattle.std.specs.Prelude.{◌≡◌, ℕ, Bool, true, false, List, ◌++◌, Option, IfSome}
 use Rattle.bword.specs.ByteEnds.{CanFollow, Outgoing}
-use Rattle.bword.specs.declared.edition.Edition.{Edition}
 use Rattle.blang.specs.declared.code.Definition.{Definition}
 use Rattle.blang.specs.declared.run.Outcome.{Outcome}
 use Rattle.blang.specs.declared.run.Outcome.TheVariants as outcome
@@ -13,10 +12,8 @@ use Rattle.bendless.specs.Repeats.{IsEndless}
 use Rattle.bendless.specs.declared.endless.Endless.{Endless}
 use Rattle.bsources.specs.Files.{Files, files_shown}
 use Rattle.btools.specs.FaultPlaces.{fault_lines}
-use Rattle.btools.specs.FrameNames.{HasNames}
 use Rattle.btools.specs.Functions.{functions_of}
-use Rattle.btools.specs.ProgramLines.{HasLines}
-use Rattle.btools.specs.Programs.{HasProgram, NoProgram}
+use Rattle.btools.specs.Origins.{IsSuited, LinesOf, NamesOf, NoProgramOf, Origin, ProgramOf, origin_shown}
 use Rattle.btools.specs.declared.names.Frame.{Frame}
 use Rattle.btrace.specs.RowTexts.{Legend, legend_in}
 use Rattle.bwatch.specs.Sights.{sights_of}
@@ -48,14 +45,14 @@ pub record StaysThere (ds : List Definition) (frames : List Frame) (wraps : Bool
 
 -- what is asked for
 pub record CarefulAsked : Type 0 where
-  pub edition : Edition
+  pub origin : Origin
   pub files : Files
   pub care : Care
   pub steps : ℕ
 
 -- the same, by the type of the code
 abbrev pub careful_asked : CarefulRequest → CarefulAsked
-careful_asked w = record { edition = w.edition; files = files_shown w.files; care = w.care; steps = w.steps }
+careful_asked w = record { origin = origin_shown w.origin; files = files_shown w.files; care = w.care; steps = w.steps }
 
 -- whether a run stays at its first finding, and whether a result that is no word is one
 abbrev pub stays : Care → Bool
@@ -66,7 +63,7 @@ abbrev pub finds_wraps : Care → Bool
 finds_wraps care.Wraps = true
 finds_wraps care = false
 
--- The program of the source was run as a careful machine runs it, for so many steps at most. It stays at its first
+-- The program of this origin was run as a careful machine runs it, for so many steps at most. It stays at its first
 -- finding, and that was told; or it has none, and its own line and status, and the place of a trap or of the limit
 -- after the line. Or it was run as the machine runs it, with the same line, place and status, and all findings were
 -- told after them, unless a read or a write failed, or memory ran out. Where the place is told, so is that the run
@@ -74,14 +71,14 @@ finds_wraps care = false
 -- was refused.
 pub data Runs (asked : CarefulAsked) (source : List ℕ) (ends : RunEnds) (status : ℕ) : Type 0 where
   found : (ds : List Definition) (image : Image) (frames : List Frame) (lines : List ℕ) (found : Found) (text : List ℕ)
-      → HasProgram asked.edition source ds image → HasNames asked.edition source frames
-      → HasLines asked.edition source lines → stays asked.care ≡ true
+      → ProgramOf asked.origin source ds image → NamesOf asked.origin source frames
+      → LinesOf asked.origin source lines → stays asked.care ≡ true
       → StaysThere ds frames (finds_wraps asked.care) (legend_in ds lines asked.files) source asked.steps ends found
       text
       → Tells text ends.line ends.line_after status → Runs asked source ends status
   unfound : (ds : List Definition) (image : Image) (frames : List Frame) (lines : List ℕ) (stop : Stop)
-      (again : Option Endless) → HasProgram asked.edition source ds image → HasNames asked.edition source frames
-      → HasLines asked.edition source lines → stays asked.care ≡ true
+      (again : Option Endless) → ProgramOf asked.origin source ds image → NamesOf asked.origin source frames
+      → LinesOf asked.origin source lines → stays asked.care ≡ true
       → IsClean (atlas_in ds frames (finds_wraps asked.care)) (image_of ds).functions (machine ds) asked.steps
       ends.input ends.input_after ends.out ends.out_after stop
       → IfSome again (IsEndless ds image (functions_of ds) frames ends.input ends.input_after)
@@ -89,8 +86,8 @@ pub data Runs (asked : CarefulAsked) (source : List ℕ) (ends : RunEnds) (statu
       → Runs asked source ends status
   warned : (ds : List Definition) (image : Image) (frames : List Frame) (lines : List ℕ) (stop : Stop)
       (again : Option Endless) (text : List ℕ) (told : Outgoing) (answer : ℕ)
-      → HasProgram asked.edition source ds image → HasNames asked.edition source frames
-      → HasLines asked.edition source lines → stays asked.care ≡ false
+      → ProgramOf asked.origin source ds image → NamesOf asked.origin source frames
+      → LinesOf asked.origin source lines → stays asked.care ≡ false
       → WarnGives (atlas_in ds frames (finds_wraps asked.care)) (legend_in ds lines asked.files) source
       (image_of ds).functions (machine ds) asked.steps ends.input ends.input_after ends.out ends.out_after stop text
       → IfSome again (IsEndless ds image (functions_of ds) frames ends.input ends.input_after)
@@ -98,7 +95,7 @@ pub data Runs (asked : CarefulAsked) (source : List ℕ) (ends : RunEnds) (statu
       → Reported (told_after answer text) answer told ends.line_after status
       → Runs asked source ends status
   not_begun : (ds : List Definition) (image : Image) (result : Outcome)
-      → HasProgram asked.edition source ds image → BeginsNot image result
+      → ProgramOf asked.origin source ds image → IsSuited asked.origin source → BeginsNot image result
       → Finishes result ends.line ends.line_after status → HasNotRun ends → Runs asked source ends status
-  stopped : NoProgram asked.edition source (fault_lines asked.files) ends.line ends.line_after status → HasNotRun ends
+  stopped : NoProgramOf asked.origin source (fault_lines asked.files) ends.line ends.line_after status → HasNotRun ends
       → Runs asked source ends status

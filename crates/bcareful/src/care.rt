@@ -3,7 +3,7 @@ ghost use Rattle.std.specs.Prelude.{◌≡◌};
 ghost use Rattle.bcareful.specs.Runs.{finds_wraps, stays};
 
 use bsources::SourceFiles;
-use bword::Edition;
+use btools::Origin;
 
 /// What a run does about its findings.
 #[derive(Clone, Copy)]
@@ -38,10 +38,12 @@ impl Care {
     }
 }
 
-/// A source of these files that is run carefully, for at most so many steps.
+/// A program that is run carefully, for at most so many steps.
 #[derive(Clone, Copy)]
 pub struct CarefulRequest<'a> {
-    pub edition: Edition,
+    /// What it is read from.
+    pub origin: Origin<'a>,
+    /// The files of the source.
     pub files: SourceFiles<'a>,
     pub care: Care,
     pub steps: u64,

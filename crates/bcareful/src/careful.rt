@@ -1,11 +1,9 @@
-//! Running a source carefully.
+//! Running a program carefully.
 ghost use Rattle.std.specs.Prelude.{◌≡◌};
 ghost use Rattle.blang.specs.Reports.{run_ends};
 ghost use Rattle.bsources.specs.Files.{files_shown};
-ghost use Rattle.btools.specs.FrameNames.{HasNames};
 ghost use Rattle.btools.specs.Functions.{entries_of, functions_of};
-ghost use Rattle.btools.specs.ProgramLines.{HasLines};
-ghost use Rattle.btools.specs.Programs.{IsThisProgram};
+ghost use Rattle.btools.specs.Origins.{IsProgramOf, LinesOf, NamesOf, origin_shown};
 ghost use Rattle.btrace.specs.RowTexts.{legend_in, legend_of};
 ghost use Rattle.bcareful.specs.CareExcluded.{NoCarefulRuns};
 ghost use Rattle.bcareful.specs.Runs.{Runs, careful_asked, finds_wraps};
@@ -23,12 +21,12 @@ use blang::status::{self, Status};
 use bmach::{Stepper, Stop};
 use bpages::PagedStore;
 use brun::finish;
-use btools::{Origin, Tables, read_program, tell, tell_placed};
+use btools::{Tables, read_program, tell, tell_placed};
 use btrace::Legend;
 use bword::{ByteIn, ByteOut};
 use std::alloc::Global;
 
-/// Compiles a source, and runs its program carefully.
+/// Runs a program carefully.
 ///
 /// A program without a finding has the output, the line and the status of `go_edition`, and the place of a trap or of
 /// the limit comes after its line, as `locate` tells it; the same where the run goes on after its findings. A finding
@@ -50,7 +48,7 @@ pub fn go_careful<I: ByteIn, O: ByteOut, D: ByteOut>(
     ensures out_lender { O.lender out.new ≡ O.lender out.old }
     ensures diag_lender { D.lender diag.new ≡ D.lender diag.old }
 {
-    let program = match read_program(alloc, source, Origin::Source(wanted.edition)) {
+    let program = match read_program(alloc, source, wanted.origin) {
         Ok(program) => program,
         Err(fault) => return tell_placed(alloc, &fault, wanted.files, diag),
     };
@@ -77,7 +75,7 @@ pub fn go_careful<I: ByteIn, O: ByteOut, D: ByteOut>(
     run_asked(&teller, wanted, input, out, diag)
 }
 
-// Runs the program of a source as is asked.
+// Runs a program as is asked.
 fn run_asked<I: ByteIn, O: ByteOut, D: ByteOut>(
     teller: &Teller<'_>,
     wanted: CarefulRequest<'_>,
@@ -85,15 +83,17 @@ fn run_asked<I: ByteIn, O: ByteOut, D: ByteOut>(
     out: &mut O,
     diag: &mut D,
 ) -> Status
-    requires program { IsThisProgram wanted.edition teller.now.source.now teller.now.atlas.program.now }
+    requires program { IsProgramOf (origin_shown wanted.origin) teller.now.source.now teller.now.atlas.program.now }
     requires functions { entries_of teller.now.atlas.tables.now
         ≡ functions_of teller.now.atlas.program.now.definitions.items }
     requires atlas { atlas_of teller.now.atlas ≡ atlas_in teller.now.atlas.program.now.definitions.items
         teller.now.atlas.program.now.names.frames.items (finds_wraps wanted.care) }
     requires legend { legend_of teller.now.legend ≡ legend_in teller.now.atlas.program.now.definitions.items
         teller.now.atlas.program.now.names.lines.items (files_shown wanted.files) }
-    ensures runs { HasNames wanted.entry.edition teller.now.source.now teller.now.atlas.program.now.names.frames.items
-        → HasLines wanted.entry.edition teller.now.source.now teller.now.atlas.program.now.names.lines.items
+    ensures runs { NamesOf (origin_shown wanted.entry.origin) teller.now.source.now
+        teller.now.atlas.program.now.names.frames.items
+        → LinesOf (origin_shown wanted.entry.origin) teller.now.source.now
+        teller.now.atlas.program.now.names.lines.items
         → Runs (careful_asked wanted.entry) teller.now.source.now (run_ends
         (I.incoming input.old) (I.incoming input.new) (O.outgoing out.old) (O.outgoing out.new)
         (D.outgoing diag.old) (D.outgoing diag.new)) result }
@@ -152,7 +152,7 @@ fn told_after(answer: Status, text: &[u8]) -> &[u8]
     }
 }
 
-/// No careful run of a source has its line without its place, none of a program passes a finding over, and none takes
+/// No careful run of a program has its line without its place, none of a program passes a finding over, and none takes
 /// a byte that no step asked for.
 pub fn wrong_careful_runs_are_excluded()
     ensures { NoCarefulRuns }

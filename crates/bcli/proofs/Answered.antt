@@ -200,27 +200,27 @@ shown_some [] some e = cc
 shown_some (lib ∷ libs) some e = cc
 
 -- a page of a run that reads the program's input
-pub shown_alone : (it : Option Care) (edition : Edition) (files : Files) (text : List ℕ) (steps : ℕ) (rows : Traced) (input : Option (Bor Text)) (asked : PageAsked) (ends : RunEnds) (status : ℕ)
-    → input ≡ None → asked ≡ page_asked steps rows files [] → ShowsBy it edition text asked ends status
-    → ShowsRun it edition files text steps rows (option_map (λ t. t.now) input) ends status
-shown_alone it edition files text steps rows None asked ends status none is shows = subst (λ (q : PageAsked). ShowsBy it edition text q ends status) is shows
-shown_alone it edition files text steps rows (Some given) asked ends status none is shows = cc
+pub shown_alone : (it : Option Care) (origin : Origin) (files : Files) (text : List ℕ) (steps : ℕ) (rows : Traced) (input : Option (Bor Text)) (asked : PageAsked) (ends : RunEnds) (status : ℕ)
+    → input ≡ None → asked ≡ page_asked steps rows files [] → ShowsBy it origin text asked ends status
+    → ShowsRun it origin files text steps rows (option_map (λ t. t.now) input) ends status
+shown_alone it origin files text steps rows None asked ends status none is shows = subst (λ (q : PageAsked). ShowsBy it origin text q ends status) is shows
+shown_alone it origin files text steps rows (Some given) asked ends status none is shows = cc
 
 -- a page of a run whose input is given
-pub shown_given : (it : Option Care) (edition : Edition) (files : Files) (text : List ℕ) (steps : ℕ) (rows : Traced) (input : Option (Bor Text)) (given : Bor Text) (asked : PageAsked) (first after : Unread) (told read : List ℕ) (ends : RunEnds) (status : ℕ)
+pub shown_given : (it : Option Care) (origin : Origin) (files : Files) (text : List ℕ) (steps : ℕ) (rows : Traced) (input : Option (Bor Text)) (given : Bor Text) (asked : PageAsked) (first after : Unread) (told read : List ℕ) (ends : RunEnds) (status : ℕ)
     → input ≡ Some given → told ≡ given.now → read ≡ given.now → asked ≡ page_asked steps rows files told → first ≡ record { left = read; is_over = false }
-    → ends.input_after ≡ ends.input → ShowsBy it edition text asked (record ends { input = incoming_of first; input_after = incoming_of after }) status
-    → ShowsRun it edition files text steps rows (option_map (λ t. t.now) input) ends status
-shown_given it edition files text steps rows None given asked first after told read ends status some t r a f still shows = cc
-shown_given it edition files text steps rows (Some other) given asked first after told read ends status some t r a f still shows =
+    → ends.input_after ≡ ends.input → ShowsBy it origin text asked (record ends { input = incoming_of first; input_after = incoming_of after }) status
+    → ShowsRun it origin files text steps rows (option_map (λ t. t.now) input) ends status
+shown_given it origin files text steps rows None given asked first after told read ends status some t r a f still shows = cc
+shown_given it origin files text steps rows (Some other) given asked first after told read ends status some t r a f still shows =
     let same : given ≡ other = cc in
     let bytes : given.now ≡ other.now = ap (λ (b : Bor Text). b.now) same in
     let asked_is : asked ≡ page_asked steps rows files other.now = a ∙ ap (page_asked steps rows files) (t ∙ bytes) in
     let first_is : incoming_of first ≡ unread other.now = ap incoming_of f ∙ ap unread (r ∙ bytes) in (
       still,
       after,
-      subst (λ (i : Incoming). ShowsBy it edition text (page_asked steps rows files other.now) (record ends { input = i; input_after = incoming_of after }) status) first_is
-          (subst (λ (q : PageAsked). ShowsBy it edition text q (record ends { input = incoming_of first; input_after = incoming_of after }) status) asked_is shows),
+      subst (λ (i : Incoming). ShowsBy it origin text (page_asked steps rows files other.now) (record ends { input = i; input_after = incoming_of after }) status) first_is
+          (subst (λ (q : PageAsked). ShowsBy it origin text q (record ends { input = incoming_of first; input_after = incoming_of after }) status) asked_is shows),
     )
 
 -- the words that were read are the full ones of a command line

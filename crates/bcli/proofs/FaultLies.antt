@@ -61,20 +61,20 @@ module _ (edition : Edition) (text : List ℕ) (d : Diagnostic) (faulty : HasFau
       the_same e = cc
 
   by_trace : (files : Files) (steps : ℕ) (shown : TraceRows) (name : Option (List ℕ)) (ends : RunEnds) → Traces (Source edition) text steps shown files name ends 1 → Writes ends.line (fault_lines files d) ends.line_after
-  by_trace files steps shown name ends (traces.traced ds image lines which result made again t told has lined named back watched reported tells) = absurd (no_program ds image has)
-  by_trace files steps shown name ends (traces.not_begun ds image which result has named never finishes quiet) = absurd (no_program ds image has)
-  by_trace files steps shown name ends (traces.unnamed ds image has unknown reported quiet) = absurd (no_program ds image has)
+  by_trace files steps shown name ends (traces.traced ds image lines frames which result made again t told has lined known named back watched reported tells) = absurd (no_program ds image has)
+  by_trace files steps shown name ends (traces.not_begun ds image which result has suits named never finishes quiet) = absurd (no_program ds image has)
+  by_trace files steps shown name ends (traces.unnamed ds image has suits unknown reported quiet) = absurd (no_program ds image has)
   by_trace files steps shown name ends (traces.stopped why quiet) = why_told files ends.line ends.line_after why
-  by_trace files steps shown name ends (traces.no_memory ds image has still same read e) = absurd (no_program ds image has)
+  by_trace files steps shown name ends (traces.no_memory ds image has suits still same read e) = absurd (no_program ds image has)
 
-  by_place : (files : Files) (steps : ℕ) (ends : RunEnds) → Locates edition text files steps ends 1 → Writes ends.line (fault_lines files d) ends.line_after
+  by_place : (files : Files) (steps : ℕ) (ends : RunEnds) → Locates (Source edition) text files steps ends 1 → Writes ends.line (fault_lines files d) ends.line_after
   by_place files steps ends (locates.located told ds image frames lines result answer active made again has named lined gives finishes at over comes tells) = absurd (no_program ds image has)
-  by_place files steps ends (locates.unlocated ds image result has gives finishes none) = absurd (no_program ds image has)
-  by_place files steps ends (locates.not_begun ds image result has never finishes quiet) = absurd (no_program ds image has)
+  by_place files steps ends (locates.unlocated ds image result has suits gives finishes none) = absurd (no_program ds image has)
+  by_place files steps ends (locates.not_begun ds image result has suits never finishes quiet) = absurd (no_program ds image has)
   by_place files steps ends (locates.stopped why quiet) = why_told files ends.line ends.line_after why
 
   -- the only fault of the source is told, and then explained
-  the_fault : (fault : ProgramFault) → HasNoProgram edition text fault → (fault ≡ why.Memory → ⊥) → fault_explained fault ≡ fault_explained (why.Faulty d)
+  the_fault : (fault : ProgramFault) → HasNoProgram edition text fault → (fault ≡ why.Memory → ⊥) → fault_explained (Source edition) fault ≡ fault_explained (Source edition) (why.Faulty d)
   the_fault (why.Faulty other) has some =
       let g = each_source_comes [] edition 1 text in
       let same : Some other ≡ Some d = sym (has g.0 g.1) ∙ faulty g.0 g.1 in
@@ -92,72 +92,76 @@ module _ (edition : Edition) (text : List ℕ) (d : Diagnostic) (faulty : HasFau
   no_write_fault end_fault.Device e = omega (arith, e)
   no_write_fault end_fault.Memory e = omega (arith, e)
 
-  then_explained : (files : Files) (steps : ℕ) (ends : RunEnds) (located : ℕ) (line : Outgoing) → Locates edition text files steps (record ends { line_after = line }) located → Explains edition text located line ends.line_after 1
-      → Writes ends.line (fault_lines files d ++ fault_explained (why.Faulty d)) ends.line_after
+  then_explained : (files : Files) (steps : ℕ) (ends : RunEnds) (located : ℕ) (line : Outgoing) → Locates (Source edition) text files steps (record ends { line_after = line }) located → Explains (Source edition) text located line ends.line_after 1
+      → Writes ends.line (fault_lines files d ++ fault_explained (Source edition) (why.Faulty d)) ends.line_after
   then_explained files steps ends located line locates (explains.tells fault has some which (inl written)) =
-      let at : Locates edition text files steps (record ends { line_after = line }) 1 = subst (λ n. Locates edition text files steps (record ends { line_after = line }) n) (sym written.1) locates in
+      let at : Locates (Source edition) text files steps (record ends { line_after = line }) 1 = subst (λ n. Locates (Source edition) text files steps (record ends { line_after = line }) n) (sym written.1) locates in
       Writes-append (by_place files steps (record ends { line_after = line }) at) (subst (λ t. Writes line t ends.line_after) (the_fault fault has some) written.0)
   then_explained files steps ends located line locates (explains.tells fault has some which (inr refused)) = absurd (no_write_fault refused.fault refused.status)
-  then_explained files steps ends located line locates (explains.has_program ds image has same at) = absurd (no_program ds image has)
+  then_explained files steps ends located line locates (explains.has_program ds image has suits same at) = absurd (no_program ds image has)
   then_explained files steps ends located line locates (explains.other_status no_fault loads same at) = absurd (no_fault (sym at))
   then_explained files steps ends located line locates (explains.no_memory same at) = absurd (omega (arith, at))
 
   by_count : (asked : Counting) → asked.origin ≡ Source edition → (ends : RunEnds) → Counts asked text ends 1 → Writes ends.line (fault_lines asked.files d) ends.line_after
-  by_count asked same ends (counts.counted ds image result made tallies lines told has watched own reported tells) = absurd (no_program ds image (subst (λ (o : Origin). ProgramOf o text ds image) same has))
-  by_count asked same ends (counts.unread ds image output has still gives quiet answer) = absurd (omega (arith, answer))
-  by_count asked same ends (counts.not_begun ds image result has never finishes quiet) = absurd (no_program ds image (subst (λ (o : Origin). ProgramOf o text ds image) same has))
+  by_count asked same ends (counts.counted ds image result made tallies lines frames told has watched own known reported tells) = absurd (no_program ds image (subst (λ (o : Origin). ProgramOf o text ds image) same has))
+  by_count asked same ends (counts.unread ds image output has suits still gives quiet answer) = absurd (omega (arith, answer))
+  by_count asked same ends (counts.not_begun ds image result has suits never finishes quiet) = absurd (no_program ds image (subst (λ (o : Origin). ProgramOf o text ds image) same has))
   by_count asked same ends (counts.stopped why quiet) =
       why_told asked.files ends.line ends.line_after (subst (λ (o : Origin). NoProgramOf o text (fault_lines asked.files) ends.line ends.line_after 1) same why)
-  by_count asked same ends (counts.no_memory ds image has still quiet read answer) = absurd (omega (arith, answer))
+  by_count asked same ends (counts.no_memory ds image has suits still quiet read answer) = absurd (omega (arith, answer))
 
-  by_page : (asked : Asked) (ends : RunEnds) → Shows edition text asked ends 1 → Writes ends.line (fault_lines asked.files d) ends.line_after
+  by_page : (asked : Asked) (ends : RunEnds) → Shows (Source edition) text asked ends 1 → Writes ends.line (fault_lines asked.files d) ends.line_after
   by_page asked ends (pages.shown ds image frames lines result made again page has lined known still back watched w) = absurd (no_program ds image has)
-  by_page asked ends (pages.not_begun ds image frames kind has known still never w same) = absurd (no_program ds image has)
-  by_page asked ends (pages.unread ds image output has still gives silent at) = absurd (no_program ds image has)
+  by_page asked ends (pages.not_begun ds image frames kind has suits known still never w same) = absurd (no_program ds image has)
+  by_page asked ends (pages.unread ds image output has suits still gives silent at) = absurd (no_program ds image has)
   by_page asked ends (pages.stopped why quiet) = why_told asked.files ends.line ends.line_after why
-  by_page asked ends (pages.no_memory ds image has still silent read at) = absurd (no_program ds image has)
+  by_page asked ends (pages.no_memory ds image has suits still silent read at) = absurd (no_program ds image has)
 
-  by_careful : (asked : CarefulAsked) → asked.edition ≡ edition → (ends : RunEnds) → Runs asked text ends 1 → Writes ends.line (fault_lines asked.files d) ends.line_after
-  by_careful asked same ends (carefuls.found ds image frames lines found told has named lined stays at tells) = absurd (no_program ds image (subst (λ e. HasProgram e text ds image) same has))
-  by_careful asked same ends (carefuls.unfound ds image frames lines stop again has named lined stays clean back tells) = absurd (no_program ds image (subst (λ e. HasProgram e text ds image) same has))
-  by_careful asked same ends (carefuls.warned ds image frames lines stop again more told answer has named lined stays gives back tells reported) = absurd (no_program ds image (subst (λ e. HasProgram e text ds image) same has))
-  by_careful asked same ends (carefuls.not_begun ds image result has never finishes quiet) = absurd (no_program ds image (subst (λ e. HasProgram e text ds image) same has))
-  by_careful asked same ends (carefuls.stopped why quiet) = why_told asked.files ends.line ends.line_after (subst (λ e. NoProgram e text (fault_lines asked.files) ends.line ends.line_after 1) same why)
+  by_careful : (asked : CarefulAsked) → asked.origin ≡ Source edition → (ends : RunEnds) → Runs asked text ends 1 → Writes ends.line (fault_lines asked.files d) ends.line_after
+  by_careful asked same ends (carefuls.found ds image frames lines found told has named lined stays at tells) = absurd (no_program ds image (subst (λ (o : Origin). ProgramOf o text ds image) same has))
+  by_careful asked same ends (carefuls.unfound ds image frames lines stop again has named lined stays clean back tells) = absurd (no_program ds image (subst (λ (o : Origin). ProgramOf o text ds image) same has))
+  by_careful asked same ends (carefuls.warned ds image frames lines stop again more told answer has named lined stays gives back tells reported) = absurd (no_program ds image (subst (λ (o : Origin). ProgramOf o text ds image) same has))
+  by_careful asked same ends (carefuls.not_begun ds image result has suits never finishes quiet) = absurd (no_program ds image (subst (λ (o : Origin). ProgramOf o text ds image) same has))
+  by_careful asked same ends (carefuls.stopped why quiet) = why_told asked.files ends.line ends.line_after (subst (λ (o : Origin). NoProgramOf o text (fault_lines asked.files) ends.line ends.line_after 1) same why)
 
-  by_careful_page : (care : Care) (asked : Asked) (ends : RunEnds) → ShowsCarefully care edition text asked ends 1 → Writes ends.line (fault_lines asked.files d) ends.line_after
-  by_careful_page care asked ends (first.shown ds image frames stop meaning taken left has named finds read ran took shows) = absurd (no_program ds image has)
-  by_careful_page care asked ends (first.unkept ds image frames stop meaning has named finds nothing) = absurd (no_program ds image has)
-  by_careful_page care asked ends (first.unread ds image frames stop meaning has named finds device nothing) = absurd (no_program ds image has)
-  by_careful_page care asked ends (first.not_begun ds image result has never shows) = absurd (no_program ds image has)
+  by_careful_page : (care : Care) (asked : Asked) (ends : RunEnds) → ShowsCarefully care (Source edition) text asked ends 1 → Writes ends.line (fault_lines asked.files d) ends.line_after
+  by_careful_page care asked ends (first.shown ds image frames stop meaning taken left has suits named finds read ran took shows) = absurd (no_program ds image has)
+  by_careful_page care asked ends (first.unkept ds image frames stop meaning has suits named finds nothing) = absurd (no_program ds image has)
+  by_careful_page care asked ends (first.unread ds image frames stop meaning has suits named finds device nothing) = absurd (no_program ds image has)
+  by_careful_page care asked ends (first.not_begun ds image result has suits never shows) = absurd (no_program ds image has)
   by_careful_page care asked ends (first.stopped why quiet) = why_told asked.files ends.line ends.line_after why
-  by_careful_page care asked ends (first.no_memory ds image has read nothing) = absurd (no_program ds image has)
+  by_careful_page care asked ends (first.no_memory ds image has suits read nothing) = absurd (no_program ds image has)
 
-  by_any_page : (it : Option asking.Care) (asked : Asked) (ends : RunEnds) → ShowsBy it edition text asked ends 1 → Writes ends.line (fault_lines asked.files d) ends.line_after
+  by_any_page : (it : Option asking.Care) (asked : Asked) (ends : RunEnds) → ShowsBy it (Source edition) text asked ends 1 → Writes ends.line (fault_lines asked.files d) ends.line_after
   by_any_page None asked ends shows = by_page asked ends shows
   by_any_page (Some it) asked ends shows = by_careful_page (care_taken it) asked ends shows
 
 pub fault_told : (shelf : Holdings) (edition : Edition) (files : Files) (text : List ℕ) (question : Question) (ends : RunEnds) (d : Diagnostic) → HasFault edition text d → tells_run question ≡ true
     → Answers shelf edition files text question ends 1 → Writes ends.line (fault_lines files d) ends.line_after
 fault_told shelf edition files text (list origin name) ends d faulty tells answers = cc
-fault_told shelf edition files text map ends d faulty tells answers = cc
-fault_told shelf edition files text (draw steps) ends d faulty tells answers = cc
+fault_told shelf edition files text (map origin) ends d faulty tells answers = cc
+fault_told shelf edition files text (draw origin steps) ends d faulty tells answers = cc
 fault_told shelf edition files text (check for_editor) ends d faulty tells answers = cc
 fault_told shelf edition files text fix ends d faulty tells answers = cc
 fault_told shelf edition files text tell_names ends d faulty tells answers = cc
 fault_told shelf edition files text (trace from_source steps shown function) ends d faulty tells answers = by_trace edition text d faulty files steps _ function ends answers
 fault_told shelf edition files text (trace from_code steps shown function) ends d faulty tells answers = cc
 fault_told shelf edition files text (trace (from_made made lined named) steps shown function) ends d faulty tells answers = cc
-fault_told shelf edition files text (locate steps) ends d faulty tells answers = cc
-fault_told shelf edition files text (go_careful it steps) ends d faulty tells answers = by_careful edition text d faulty _ refl ends answers
+fault_told shelf edition files text (locate origin steps) ends d faulty tells answers = cc
+fault_told shelf edition files text (go_careful from_source it steps) ends d faulty tells answers = by_careful edition text d faulty _ refl ends answers
+fault_told shelf edition files text (go_careful from_code it steps) ends d faulty tells answers = cc
+fault_told shelf edition files text (go_careful (from_made made lined named) it steps) ends d faulty tells answers = cc
 fault_told shelf edition files text (try_out steps) ends d faulty tells answers = cc
 fault_told shelf edition files text (count from_source steps for_editor) ends d faulty tells answers = by_count edition text d faulty _ refl ends answers
 fault_told shelf edition files text (count from_code steps for_editor) ends d faulty tells answers = cc
 fault_told shelf edition files text (count (from_made made lined named) steps for_editor) ends d faulty tells answers = cc
-fault_told shelf edition files text (show it steps shown None) ends d faulty tells answers = by_any_page edition text d faulty it _ ends answers
-fault_told shelf edition files text (show it steps shown (Some given)) ends d faulty tells answers = by_any_page edition text d faulty it _ _ answers.2
+fault_told shelf edition files text (show from_source it steps shown None) ends d faulty tells answers = by_any_page edition text d faulty it _ ends answers
+fault_told shelf edition files text (show from_source it steps shown (Some given)) ends d faulty tells answers = by_any_page edition text d faulty it _ _ answers.2
+fault_told shelf edition files text (show from_code it steps shown input) ends d faulty tells answers = cc
+fault_told shelf edition files text (show (from_made made lined named) it steps shown input) ends d faulty tells answers = cc
 fault_told shelf edition files text (format is_check) ends d faulty tells answers = cc
 fault_told shelf edition files text port ends d faulty tells answers = cc
 
 pub fault_meant : (shelf : Holdings) (edition : Edition) (files : Files) (text : List ℕ) (steps : ℕ) (ends : RunEnds) (d : Diagnostic) → HasFault edition text d
-    → Answers shelf edition files text (locate steps) ends 1 → Writes ends.line (fault_lines files d ++ fault_explained (why.Faulty d)) ends.line_after
+    → Answers shelf edition files text (locate from_source steps) ends 1 → Writes ends.line (fault_lines files d ++ fault_explained (Source edition) (why.Faulty d)) ends.line_after
 fault_meant shelf edition files text steps ends d faulty answers = then_explained edition text d faulty files steps ends answers.located answers.line answers.locates answers.explains

@@ -1,8 +1,7 @@
--- Promise: what is told of a source after the place where its run is over: what it means that it has no program, and
+-- Promise: what is told after the place where a run is over: what it means that there is no program, and
 -- what tells more.
 use Rattle.std.specs.Prelude.{◌≡◌, ◌⊎◌, ℕ, List, [], ◌++◌, codes}
 use Rattle.bword.specs.ByteEnds.{Outgoing}
-use Rattle.bword.specs.declared.edition.Edition.{Edition}
 use Rattle.blang.specs.declared.code.Definition.{Definition}
 use Rattle.blang.specs.declared.run.LoadFault.{LoadFault}
 use Rattle.blang.specs.declared.run.LoadFault.TheVariants as load
@@ -14,7 +13,7 @@ use Rattle.blang.specs.Reports.{Reported, RunEnds}
 use Rattle.bsources.specs.Files.{Files}
 use Rattle.btools.specs.declared.program.ProgramFault.{ProgramFault}
 use Rattle.btools.specs.declared.program.ProgramFault.TheVariants as why
-use Rattle.btools.specs.Programs.{HasNoProgram, HasProgram}
+use Rattle.btools.specs.Origins.{Code, HasNoProgramOf, IsSuited, Origin, ProgramOf, Source}
 use Rattle.btrace.specs.Locates.{Locates}
 
 -- what the letters of a fault mean
@@ -39,37 +38,43 @@ load_meaning (load.Undefined name) = codes "a name isn't defined"
 load_meaning load.NoMain = codes "there is no function main"
 load_meaning load.Memory = []
 
+-- what tells more of a code text
+abbrev pub code_advice : List ℕ
+code_advice = codes "b run --where of the code text tells more"
+
 -- what to do about it
-abbrev pub load_advice : LoadFault → List ℕ
-load_advice load.NoMain = codes "write a function main, with which a run begins"
-load_advice f = codes "b check in place of b go --where tells more"
+abbrev pub load_advice : Origin → LoadFault → List ℕ
+load_advice origin load.NoMain = codes "write a function main, with which a run begins"
+load_advice (Source edition) f = codes "b check in place of b go --where tells more"
+load_advice (Code c) f = code_advice
 
 abbrev pub explained : (meaning advice : List ℕ) → List ℕ
 explained meaning advice = codes "  means: " ++ meaning ++ codes "\nnext: " ++ advice ++ codes "\n"
 
--- what is told of a reason why a source has no program
-abbrev pub fault_explained : ProgramFault → List ℕ
-fault_explained (why.Faulty d) =
+-- what is told of a reason why there is no program
+abbrev pub fault_explained : Origin → ProgramFault → List ℕ
+fault_explained origin (why.Faulty d) =
     explained (letters_meaning d.letters) (codes "b check in place of b go --where shows the place, and a fix")
-fault_explained (why.Unloaded f) = explained (load_meaning f) (load_advice f)
-fault_explained other = []
+fault_explained origin (why.Unloaded f) = explained (load_meaning f) (load_advice origin f)
+fault_explained origin (why.Unread n) = explained (codes "no code text goes on with this line") code_advice
+fault_explained origin other = []
 
--- After a status that may be that of a source without a program, the reason was told, if there is one; or memory was
+-- After a status that may be that of an origin without a program, the reason was told, if there is one; or memory was
 -- refused for it.
-pub data Explains (edition : Edition) (text : List ℕ) (located : ℕ) (old new : Outgoing) (status : ℕ) : Type 0 where
-  tells : (fault : ProgramFault) → HasNoProgram edition text fault → (fault ≡ why.Memory → ⊥)
+pub data Explains (origin : Origin) (text : List ℕ) (located : ℕ) (old new : Outgoing) (status : ℕ) : Type 0 where
+  tells : (fault : ProgramFault) → HasNoProgramOf origin text fault → (fault ≡ why.Memory → ⊥)
       → (located ≡ FAULT) ⊎ (located ≡ REFUSED)
-      → Reported (fault_explained fault) located old new status → Explains edition text located old new status
-  has_program : (ds : List Definition) (image : Image) → HasProgram edition text ds image
-      → new ≡ old → status ≡ located → Explains edition text located old new status
+      → Reported (fault_explained origin fault) located old new status → Explains origin text located old new status
+  has_program : (ds : List Definition) (image : Image) → ProgramOf origin text ds image → IsSuited origin text
+      → new ≡ old → status ≡ located → Explains origin text located old new status
   other_status : (located ≡ FAULT → ⊥) → (located ≡ REFUSED → ⊥) → new ≡ old → status ≡ located
-      → Explains edition text located old new status
-  no_memory : new ≡ old → status ≡ MEMORY → Explains edition text located old new status
+      → Explains origin text located old new status
+  no_memory : new ≡ old → status ≡ MEMORY → Explains origin text located old new status
 
--- The source was run, its place told with this status, and after its lines stands this; then what that means.
-pub record LocatesAndExplains (edition : Edition) (text : List ℕ) (files : Files) (steps : ℕ) (ends : RunEnds)
+-- The program was run, its place told with this status, and after its lines stands this; then what that means.
+pub record LocatesAndExplains (origin : Origin) (text : List ℕ) (files : Files) (steps : ℕ) (ends : RunEnds)
     (status : ℕ) : Type 0 where
   pub located : ℕ
   pub line : Outgoing
-  pub locates : Locates edition text files steps (record ends { line_after = line }) located
-  pub explains : Explains edition text located line ends.line_after status
+  pub locates : Locates origin text files steps (record ends { line_after = line }) located
+  pub explains : Explains origin text located line ends.line_after status

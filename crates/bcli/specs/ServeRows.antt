@@ -36,6 +36,7 @@ use Rattle.btrace.specs.Traces.{Traces}
 use Rattle.bverify.specs.Verifies.{VerifiesText}
 use Rattle.bwatch.specs.declared.trail.TraceRows.TheVariants as traced
 use Rattle.bwhere.specs.Wheres.{LocatesCode}
+use Rattle.bword.specs.declared.edition.Edition.TheVariants as editions
 use Rattle.bcommand.specs.CommandLine.{OriginAsked, Question, SourceAsked, from_code, from_made, from_source}
 use Rattle.bcommand.specs.CommandLine.{ask, check, compile, count, draw, fix, format, go, go_careful, list, locate}
 use Rattle.bcommand.specs.CommandLine.{locate_code, try_out, verify, map as layout, run, show, tell_names, trace, port}
@@ -85,7 +86,8 @@ next_without_limit = refl
 
 -- what is told of a fault by `go --where`, and of what doesn't load
 abbrev of_letters : Letters → List ℕ
-of_letters it = fault_explained (why.Faulty (record { letters = it; about = about.Nothing; line = 1 }))
+of_letters it =
+    fault_explained (Source editions.Two) (why.Faulty (record { letters = it; about = about.Nothing; line = 1 }))
 
 fault_told_so : of_letters letters.Syntax
     ≡ codes "  means: a token that can't be there\nnext: b check in place of b go --where shows the place, and a fix\n"
@@ -103,13 +105,24 @@ letters_told : map letters_meaning
     ∷ codes "a definition past a limit of size" ∷ []
 letters_told = refl
 
-unloaded_told : map (λ f. fault_explained (why.Unloaded f))
+unloaded_told : map (λ f. fault_explained (Source editions.Two) (why.Unloaded f))
     (load.Duplicate (codes "f") ∷ load.TooLarge ∷ load.Undefined (codes "f") ∷ load.NoMain ∷ [])
     ≡ codes "  means: a name is defined twice\nnext: b check in place of b go --where tells more\n"
     ∷ codes "  means: there are too many data or labels\nnext: b check in place of b go --where tells more\n"
     ∷ codes "  means: a name isn't defined\nnext: b check in place of b go --where tells more\n"
     ∷ codes "  means: there is no function main\nnext: write a function main, with which a run begins\n" ∷ []
 unloaded_told = refl
+
+-- the same of a code text
+code_untold : map (fault_explained (Code (record { code = []; lines = None; names = None })))
+    (why.Unread 3 ∷ why.Unloaded (load.Duplicate (codes "f")) ∷ why.Unloaded load.TooLarge
+    ∷ why.Unloaded (load.Undefined (codes "f")) ∷ why.Unloaded load.NoMain ∷ why.Unlined 4 ∷ [])
+    ≡ codes "  means: no code text goes on with this line\nnext: b run --where of the code text tells more\n"
+    ∷ codes "  means: a name is defined twice\nnext: b run --where of the code text tells more\n"
+    ∷ codes "  means: there are too many data or labels\nnext: b run --where of the code text tells more\n"
+    ∷ codes "  means: a name isn't defined\nnext: b run --where of the code text tells more\n"
+    ∷ codes "  means: there is no function main\nnext: write a function main, with which a run begins\n" ∷ [] ∷ []
+code_untold = refl
 
 -- a file that can't be read is told by its own name
 no_file_told : no_file_line (codes "l.b") ≡ codes "error: the file 'l.b' can't be read\n"
@@ -134,11 +147,12 @@ module _ (origin : Origin) (edition : Edition) (files : Files) (text : List ℕ)
       → (ends.input_after ≡ ends.input) × Lists origin text name (telling_ends ends) status
   listed from name a = a
 
-  mapped : answered layout → (ends.input_after ≡ ends.input) × Maps edition text (telling_ends ends) status
-  mapped a = a
+  mapped : (from : OriginAsked) → answered (layout from)
+      → (ends.input_after ≡ ends.input) × Maps origin text (telling_ends ends) status
+  mapped from a = a
 
-  drawn : (steps : Option ℕ) → answered (draw steps) → Draws edition text steps ends status
-  drawn steps a = a
+  drawn : (from : OriginAsked) (steps : Option ℕ) → answered (draw from steps) → Draws origin text steps ends status
+  drawn from steps a = a
 
   checked : (for_editor : Bool) → answered (check for_editor)
       → (ends.input_after ≡ ends.input) × (ends.line_after ≡ ends.line) × Checks (record {
@@ -185,20 +199,21 @@ module _ (origin : Origin) (edition : Edition) (files : Files) (text : List ℕ)
       → Traces origin text steps (traced.Last most) files function ends status
   traced_last from steps most function a = a
 
-  located : (steps : ℕ) → answered (locate steps) → LocatesAndExplains edition text files steps ends status
-  located steps a = a
+  located : (from : OriginAsked) (steps : ℕ) → answered (locate from steps)
+      → LocatesAndExplains origin text files steps ends status
+  located from steps a = a
 
-  gone_carefully : (steps : ℕ) → answered (go_careful care.Stays steps)
-      → Runs (record { edition = edition; files = files; care = taken.Stays; steps = steps }) text ends status
-  gone_carefully steps a = a
+  gone_carefully : (from : OriginAsked) (steps : ℕ) → answered (go_careful from care.Stays steps)
+      → Runs (record { origin = origin; files = files; care = taken.Stays; steps = steps }) text ends status
+  gone_carefully from steps a = a
 
-  gone_on : (steps : ℕ) → answered (go_careful care.Warns steps)
-      → Runs (record { edition = edition; files = files; care = taken.Warns; steps = steps }) text ends status
-  gone_on steps a = a
+  gone_on : (from : OriginAsked) (steps : ℕ) → answered (go_careful from care.Warns steps)
+      → Runs (record { origin = origin; files = files; care = taken.Warns; steps = steps }) text ends status
+  gone_on from steps a = a
 
-  gone_for_wraps : (steps : ℕ) → answered (go_careful care.Wraps steps)
-      → Runs (record { edition = edition; files = files; care = taken.Wraps; steps = steps }) text ends status
-  gone_for_wraps steps a = a
+  gone_for_wraps : (from : OriginAsked) (steps : ℕ) → answered (go_careful from care.Wraps steps)
+      → Runs (record { origin = origin; files = files; care = taken.Wraps; steps = steps }) text ends status
+  gone_for_wraps from steps a = a
 
   tried : (steps : ℕ) → answered (try_out steps) → Tries edition files text steps ends status
   tried steps a = a
@@ -207,28 +222,30 @@ module _ (origin : Origin) (edition : Edition) (files : Files) (text : List ℕ)
       → Counts (record { origin = origin; steps = steps; files = files; style = style_of for_editor }) text ends status
   counted from steps for_editor a = a
 
-  shown : (steps number : ℕ) → answered (show None steps (which.From number) None)
-      → Shows edition text
+  shown : (from : OriginAsked) (steps number : ℕ) → answered (show from None steps (which.From number) None)
+      → Shows origin text
       (record { steps = steps; which = traced.From number; files = files; given = []; finding = None }) ends status
-  shown steps number a = a
+  shown from steps number a = a
 
-  shown_given : (steps most : ℕ) (given : Text) → answered (show None steps (which.Last most) (Some given))
-      → (ends.input_after ≡ ends.input) × (after : Unread) × Shows edition text
+  shown_given : (from : OriginAsked) (steps most : ℕ) (given : Text)
+      → answered (show from None steps (which.Last most) (Some given))
+      → (ends.input_after ≡ ends.input) × (after : Unread) × Shows origin text
       (record { steps = steps; which = traced.Last most; files = files; given = given; finding = None })
       (record ends { input = unread given; input_after = incoming_of after }) status
-  shown_given steps most given a = a
+  shown_given from steps most given a = a
 
-  shown_carefully : (steps most : ℕ) → answered (show (Some care.Stays) steps (which.Last most) None)
-      → ShowsCarefully taken.Stays edition text
+  shown_carefully : (from : OriginAsked) (steps most : ℕ)
+      → answered (show from (Some care.Stays) steps (which.Last most) None)
+      → ShowsCarefully taken.Stays origin text
       (record { steps = steps; which = traced.Last most; files = files; given = []; finding = None }) ends status
-  shown_carefully steps most a = a
+  shown_carefully from steps most a = a
 
-  shown_for_wraps : (steps number : ℕ) (given : Text)
-      → answered (show (Some care.Wraps) steps (which.From number) (Some given))
-      → (ends.input_after ≡ ends.input) × (after : Unread) × ShowsCarefully taken.Wraps edition text
+  shown_for_wraps : (from : OriginAsked) (steps number : ℕ) (given : Text)
+      → answered (show from (Some care.Wraps) steps (which.From number) (Some given))
+      → (ends.input_after ≡ ends.input) × (after : Unread) × ShowsCarefully taken.Wraps origin text
       (record { steps = steps; which = traced.From number; files = files; given = given; finding = None })
       (record ends { input = unread given; input_after = incoming_of after }) status
-  shown_for_wraps steps number given a = a
+  shown_for_wraps from steps number given a = a
 
   formatted : (is_check : Bool) → answered (format is_check)
       → (ends.input_after ≡ ends.input) × Formats (record {
@@ -257,11 +274,11 @@ module _ (origin : Origin) (edition : Edition) (files : Files) (text : List ℕ)
 
 -- what each question asks a program to be read from
 origins_asked : (from : OriginAsked) → map origin_of
-    (list from None ∷ trace from 3 (which.Last 2) None ∷ count from 3 true ∷ layout ∷ draw None ∷ check true
-    ∷ tell_names ∷ locate 3 ∷ go_careful care.Warns 3 ∷ try_out 3 ∷ show None 3 (which.From 1) None ∷ format true
-    ∷ port ∷ [])
-    ≡ from ∷ from ∷ from ∷ from_source ∷ from_source ∷ from_source ∷ from_source ∷ from_source ∷ from_source
-    ∷ from_source ∷ from_source ∷ from_source ∷ from_source ∷ []
+    (list from None ∷ trace from 3 (which.Last 2) None ∷ count from 3 true ∷ layout from ∷ draw from None
+    ∷ locate from 3 ∷ go_careful from care.Warns 3 ∷ show from None 3 (which.From 1) None ∷ check true ∷ fix
+    ∷ tell_names ∷ try_out 3 ∷ format true ∷ port ∷ [])
+    ≡ from ∷ from ∷ from ∷ from ∷ from ∷ from ∷ from ∷ from ∷ from_source ∷ from_source ∷ from_source ∷ from_source
+    ∷ from_source ∷ from_source ∷ []
 origins_asked from = refl
 
 -- What the shelf holds under the names that were asked for is compiled, run or told of, in the edition and for the

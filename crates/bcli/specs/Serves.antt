@@ -165,6 +165,11 @@ CompilesInput shelf edition (lib ∷ libs) ends status = NamesLib shelf (lib ∷
 -- what a question asks a program to be read from
 abbrev pub origin_of : Question → OriginAsked
 origin_of (list origin name) = origin
+origin_of (map origin) = origin
+origin_of (draw origin steps) = origin
+origin_of (locate origin steps) = origin
+origin_of (go_careful origin it steps) = origin
+origin_of (show origin it steps shown input) = origin
 origin_of (trace origin steps shown function) = origin
 origin_of (count origin steps for_editor) = origin
 origin_of question = from_source
@@ -181,27 +186,27 @@ page_asked steps rows files given =
     record { steps = steps; which = rows; files = files; given = given; finding = None }
 
 -- a page of a run, or of one that is looked at in this way
-abbrev pub ShowsBy : Option Care → Edition → (text : List ℕ) → PageAsked → RunEnds → ℕ → Type 0
-ShowsBy None edition text asked ends status = Shows edition text asked ends status
-ShowsBy (Some it) edition text asked ends status = ShowsCarefully (care_taken it) edition text asked ends status
+abbrev pub ShowsBy : Option Care → Origin → (text : List ℕ) → PageAsked → RunEnds → ℕ → Type 0
+ShowsBy None origin text asked ends status = Shows origin text asked ends status
+ShowsBy (Some it) origin text asked ends status = ShowsCarefully (care_taken it) origin text asked ends status
 
 -- one of a run whose input is given, or that reads the program's own
-abbrev pub ShowsRun : Option Care → Edition → Files → (text : List ℕ) → (steps : ℕ) → Traced → (input : Option Text)
+abbrev pub ShowsRun : Option Care → Origin → Files → (text : List ℕ) → (steps : ℕ) → Traced → (input : Option Text)
     → RunEnds → ℕ → Type 0
-ShowsRun it edition files text steps rows None ends status =
-    ShowsBy it edition text (page_asked steps rows files []) ends status
-ShowsRun it edition files text steps rows (Some given) ends status =
+ShowsRun it origin files text steps rows None ends status =
+    ShowsBy it origin text (page_asked steps rows files []) ends status
+ShowsRun it origin files text steps rows (Some given) ends status =
     (ends.input_after ≡ ends.input) × (after : Unread)
-    × ShowsBy it edition text (page_asked steps rows files given)
+    × ShowsBy it origin text (page_asked steps rows files given)
     (record ends { input = unread given; input_after = incoming_of after }) status
 
 -- what is asked of a source of these files and of this text is answered, or of the code text that is its origin
 abbrev pub AnswersOf : Origin → Edition → Files → (text : List ℕ) → Question → RunEnds → ℕ → Type 0
 AnswersOf origin edition files text (list asked name) ends status =
     (ends.input_after ≡ ends.input) × Lists origin text name (telling_ends ends) status
-AnswersOf origin edition files text map ends status =
-    (ends.input_after ≡ ends.input) × Maps edition text (telling_ends ends) status
-AnswersOf origin edition files text (draw steps) ends status = Draws edition text steps ends status
+AnswersOf origin edition files text (map asked) ends status =
+    (ends.input_after ≡ ends.input) × Maps origin text (telling_ends ends) status
+AnswersOf origin edition files text (draw asked steps) ends status = Draws origin text steps ends status
 AnswersOf origin edition files text (check for_editor) ends status =
     (ends.input_after ≡ ends.input) × (ends.line_after ≡ ends.line)
     × Checks (record {
@@ -235,15 +240,15 @@ AnswersOf origin edition files text tell_names ends status =
     })
 AnswersOf origin edition files text (trace asked steps shown function) ends status =
     Traces origin text steps (traced_rows shown) files function ends status
-AnswersOf origin edition files text (locate steps) ends status =
-    LocatesAndExplains edition text files steps ends status
-AnswersOf origin edition files text (go_careful it steps) ends status =
-    Runs (record { edition = edition; files = files; care = care_taken it; steps = steps }) text ends status
+AnswersOf origin edition files text (locate asked steps) ends status =
+    LocatesAndExplains origin text files steps ends status
+AnswersOf origin edition files text (go_careful asked it steps) ends status =
+    Runs (record { origin = origin; files = files; care = care_taken it; steps = steps }) text ends status
 AnswersOf origin edition files text (try_out steps) ends status = Tries edition files text steps ends status
 AnswersOf origin edition files text (count asked steps for_editor) ends status =
     Counts (record { origin = origin; steps = steps; files = files; style = style_of for_editor }) text ends status
-AnswersOf origin edition files text (show it steps shown input) ends status =
-    ShowsRun it edition files text steps (traced_rows shown) input ends status
+AnswersOf origin edition files text (show asked it steps shown input) ends status =
+    ShowsRun it origin files text steps (traced_rows shown) input ends status
 AnswersOf origin edition files text (format is_check) ends status = (ends.input_after ≡ ends.input) × Formats (record {
   edition = edition;
   source = text;

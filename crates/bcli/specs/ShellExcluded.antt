@@ -24,7 +24,7 @@ use Rattle.bcommand.specs.CommandLine.{count, from_code, from_made, from_source,
 use Rattle.bcommand.specs.CommandLine.{trace, try_out}
 use Rattle.bsources.specs.Files.{Files, file_of}
 use Rattle.bsources.specs.JoinedEnds.{joined_in}
-use Rattle.btools.specs.Origins.{Code}
+use Rattle.btools.specs.Origins.{Code, Source}
 use Rattle.btools.specs.FaultPlaces.{fault_lines}
 use Rattle.btools.specs.Programs.{HasFault, HasProgram}
 use Rattle.bcommand.specs.declared.job.Clash.{Clash}
@@ -70,9 +70,9 @@ pub record NothingFails (edition : Edition) (rest : List ℕ) (ends : RunEnds) (
 -- the questions that tell of a run of a source, but for a picture, a source that is tried, and the place of a run
 abbrev pub tells_run : Question → Bool
 tells_run (trace from_source steps shown function) = true
-tells_run (go_careful it steps) = true
+tells_run (go_careful from_source it steps) = true
 tells_run (count from_source steps for_editor) = true
-tells_run (show it steps shown input) = true
+tells_run (show from_source it steps shown input) = true
 tells_run question = false
 
 -- of the files on a shelf
@@ -150,8 +150,8 @@ pub record Excluded (shelf : Holdings) : Type 0 where
       → Writes ends.line (fault_lines files d) ends.line_after
   -- by the command that tells where a run is over another line than these, or another meaning
   pub fault_meant : (edition : Edition) (files : Files) (text : List ℕ) (steps : ℕ) (ends : RunEnds) (d : Diagnostic)
-      → HasFault edition text d → Answers shelf edition files text (locate steps) ends FAULT
-      → Writes ends.line (fault_lines files d ++ fault_explained (why.Faulty d)) ends.line_after
+      → HasFault edition text d → Answers shelf edition files text (locate from_source steps) ends FAULT
+      → Writes ends.line (fault_lines files d ++ fault_explained (Source edition) (why.Faulty d)) ends.line_after
   -- a source with a fault that is tried, after which something of the input was read
   pub tried_unread : (edition : Edition) (files : Files) (text : List ℕ) (steps : ℕ) (ends : RunEnds) (status : ℕ)
       (d : Diagnostic) → HasFault edition text d → Answers shelf edition files text (try_out steps) ends status

@@ -6,6 +6,7 @@ use Rattle.bword.specs.declared.edition.Edition.{Edition}
 use Rattle.blang.specs.Reports.{HasNotRun, Reported, RunEnds}
 use Rattle.blang.specs.declared.status.TheConstants.{DEVICE, DONE, FAULT, LIMIT, MEMORY, REFUSED, TRAP}
 use Rattle.bsources.specs.Files.{Files}
+use Rattle.btools.specs.Origins.{Source}
 use Rattle.bcareful.specs.Runs.{Runs}
 use Rattle.bcareful.specs.declared.care.Care.TheVariants as taken
 use Rattle.bcheck.specs.Checks.{Checks}
@@ -39,7 +40,7 @@ next_text steps checked ran =
 abbrev pub RunsWhere : (is_done : Bool) → (checked : ℕ) → Edition → Files → (text : List ℕ) → (steps : ℕ) → RunEnds
     → ℕ → Type 0
 RunsWhere true checked edition files text steps ends status =
-    Runs (record { edition = edition; files = files; care = taken.Stays; steps = steps }) text ends status
+    Runs (record { origin = Source edition; files = files; care = taken.Stays; steps = steps }) text ends status
 RunsWhere false checked edition files text steps ends status =
     HasNotRun ends × (ends.line_after ≡ ends.line) × (status ≡ checked)
 
@@ -79,6 +80,6 @@ pub record IsTriedWhole (edition : Edition) (files : Files) (text : List ℕ) (s
     out_after = out;
     status = DONE;
   })
-  pub runs : Runs (record { edition = edition; files = files; care = taken.Stays; steps = steps }) text
+  pub runs : Runs (record { origin = Source edition; files = files; care = taken.Stays; steps = steps }) text
       (record ends { out = out; line_after = line }) status
   pub next : Writes line (next_text steps DONE status) ends.line_after

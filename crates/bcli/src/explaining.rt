@@ -1,59 +1,69 @@
-//! What it means that a source has no program.
+//! What it means that there is no program.
 ghost use Rattle.std.specs.Prelude.{◌≡◌, IfOk};
 ghost use Rattle.blang.specs.Reports.{run_ends};
 ghost use Rattle.bsources.specs.Files.{files_shown};
 ghost use Rattle.bcli.specs.Explains.{Explains, LocatesAndExplains, explained, fault_explained, letters_meaning};
 ghost use Rattle.bcli.specs.Explains.{load_advice, load_meaning};
+ghost use Rattle.btools.specs.Origins.{origin_shown};
 
 use crate::trying::Attempt;
 use blang::status::{self, Status};
 use blang::{Letters, LoadFault};
 use btools::{Origin, ProgramFault, Text, read_program, tell};
 use btrace::locate;
-use bword::{ByteIn, ByteOut, Edition};
+use bword::{ByteIn, ByteOut};
 use std::alloc::{AllocError, Global};
 
-/// Runs a source and tells where its run was over; or what it means that it has no program.
+/// What tells more of a code text.
+const CODE_ADVICE: &[u8] = b"b run --where of the code text tells more";
+
+/// Runs a program and tells where its run was over; or what it means that there is none.
 pub(crate) fn locate_and_explain<I: ByteIn, O: ByteOut, D: ByteOut>(
     alloc: Global,
+    origin: Origin<'_>,
     attempt: Attempt<'_>,
     input: &mut I,
     out: &mut O,
     diag: &mut D,
 ) -> Status
-    ensures locates { LocatesAndExplains attempt.entry.edition attempt.entry.text.now (files_shown attempt.entry.files)
-        attempt.entry.steps (run_ends
+    ensures locates { LocatesAndExplains (origin_shown origin.entry) attempt.entry.text.now
+        (files_shown attempt.entry.files) attempt.entry.steps (run_ends
         (I.incoming input.old) (I.incoming input.new) (O.outgoing out.old) (O.outgoing out.new)
         (D.outgoing diag.old) (D.outgoing diag.new)) result }
     ensures input_lender { I.lender input.new ≡ I.lender input.old }
     ensures out_lender { O.lender out.new ≡ O.lender out.old }
     ensures diag_lender { D.lender diag.new ≡ D.lender diag.old }
 {
-    let Attempt {
-        edition,
-        files,
+    let text = attempt.text;
+    let located = locate(
+        alloc,
         text,
-        steps,
-    } = attempt;
-    let located = locate(alloc, text, edition, files, steps, input, out, diag);
-    explain(alloc, text, edition, located, diag)
+        origin,
+        attempt.files,
+        attempt.steps,
+        input,
+        out,
+        diag,
+    );
+    explain(alloc, text, origin, located, diag)
 }
 
-// Tells what a status means that may be that of a source without a program.
+// Tells what a status means that may be that of an origin without a program.
 fn explain<D: ByteOut>(
     alloc: Global,
     text: &[u8],
-    edition: Edition,
+    origin: Origin<'_>,
     located: Status,
     diag: &mut D,
 ) -> Status
-    ensures explains { Explains edition text.now located (D.outgoing diag.old) (D.outgoing diag.new) result }
+    ensures explains { Explains (origin_shown origin.entry) text.now located (D.outgoing diag.old)
+        (D.outgoing diag.new) result }
     ensures diag_lender { D.lender diag.new ≡ D.lender diag.old }
 {
     if located != status::FAULT && located != status::REFUSED {
         return located;
     }
-    let fault = match read_program(alloc, text, Origin::Source(edition)) {
+    let fault = match read_program(alloc, text, origin) {
         Ok(_) => return located,
         Err(fault) => fault,
     };
@@ -61,14 +71,14 @@ fn explain<D: ByteOut>(
         ProgramFault::Memory => return status::MEMORY,
         _ => {}
     }
-    match fault_text(alloc, &fault) {
+    match fault_text(alloc, origin, &fault) {
         Ok(told) => tell(told.as_slice(), located, diag),
         Err(_) => status::MEMORY,
     }
 }
 
-fn fault_text(alloc: Global, fault: &ProgramFault) -> Result<Text, AllocError>
-    ensures { IfOk result (λ text. text ≡ fault_explained fault.now) }
+fn fault_text(alloc: Global, origin: Origin<'_>, fault: &ProgramFault) -> Result<Text, AllocError>
+    ensures { IfOk result (λ text. text ≡ fault_explained (origin_shown origin.entry) fault.now) }
 {
     match fault {
         ProgramFault::Faulty(diagnostic) => explained(
@@ -76,8 +86,15 @@ fn fault_text(alloc: Global, fault: &ProgramFault) -> Result<Text, AllocError>
             letters_meaning(diagnostic.letters),
             b"b check in place of b go --where shows the place, and a fix",
         ),
-        ProgramFault::Unloaded(fault) => explained(alloc, load_meaning(fault), load_advice(fault)),
-        _ => Ok(Text::new(alloc)),
+        ProgramFault::Unloaded(fault) => {
+            explained(alloc, load_meaning(fault), load_advice(origin, fault))
+        }
+        ProgramFault::Unread(_) => {
+            explained(alloc, b"no code text goes on with this line", CODE_ADVICE)
+        }
+        ProgramFault::Unlined(_) | ProgramFault::Unnamed(..) | ProgramFault::Memory => {
+            Ok(Text::new(alloc))
+        }
     }
 }
 
@@ -123,11 +140,12 @@ fn load_meaning(fault: &LoadFault) -> &'static [u8]
     }
 }
 
-fn load_advice(fault: &LoadFault) -> &'static [u8]
-    ensures { result.now ≡ load_advice fault.now }
+fn load_advice(origin: Origin<'_>, fault: &LoadFault) -> &'static [u8]
+    ensures { result.now ≡ load_advice (origin_shown origin.entry) fault.now }
 {
-    match fault {
-        LoadFault::NoMain => b"write a function main, with which a run begins",
-        _ => b"b check in place of b go --where tells more",
+    match (origin, fault) {
+        (_, LoadFault::NoMain) => b"write a function main, with which a run begins",
+        (Origin::Source(_), _) => b"b check in place of b go --where tells more",
+        (Origin::Code(_), _) => CODE_ADVICE,
     }
 }

@@ -290,17 +290,18 @@ fn origin_of(question: Question<'_>) -> OriginNames<'_>
     ensures { asked_origin result ≡ origin_of (question_of question.entry) }
 {
     match question {
-        Question::List(origin, _) | Question::Count(origin, _, _) => origin,
+        Question::List(origin, _)
+        | Question::Map(origin)
+        | Question::Draw(origin, _)
+        | Question::Locate(origin, _)
+        | Question::GoCareful(origin, _, _)
+        | Question::Count(origin, _, _) => origin,
         Question::Trace(walk) => walk.origin,
-        Question::Map
-        | Question::Draw(_)
-        | Question::Check(_)
+        Question::Show(display) => display.origin,
+        Question::Check(_)
         | Question::Fix
         | Question::Names
-        | Question::Locate(_)
-        | Question::GoCareful(..)
         | Question::Try(_)
-        | Question::Show(_)
         | Question::Format(_)
         | Question::Port => OriginNames::Source,
     }
@@ -328,8 +329,8 @@ fn answer<I: ByteIn, O: ByteOut, D: ByteOut>(
 {
     match question {
         Question::List(_, name) => list(alloc, text, origin, name, out, diag),
-        Question::Map => map(alloc, text, edition, out, diag),
-        Question::Draw(steps) => draw(alloc, text, edition, steps, input, out, diag),
+        Question::Map(_) => map(alloc, text, origin, out, diag),
+        Question::Draw(_, steps) => draw(alloc, text, origin, steps, input, out, diag),
         Question::Check(for_editor) => {
             check(alloc, text, check_request(edition, files, for_editor), out)
         }
@@ -346,12 +347,12 @@ fn answer<I: ByteIn, O: ByteOut, D: ByteOut>(
                 diag,
             )
         }
-        Question::Locate(steps) => {
+        Question::Locate(_, steps) => {
             let attempt = Attempt::new(edition, files, text, steps);
-            locate_and_explain(alloc, attempt, input, out, diag)
+            locate_and_explain(alloc, origin, attempt, input, out, diag)
         }
-        Question::GoCareful(care, steps) => {
-            let wanted = careful_request(edition, files, care, steps);
+        Question::GoCareful(_, care, steps) => {
+            let wanted = careful_request(origin, files, care, steps);
             go_careful(alloc, text, wanted, input, out, diag)
         }
         Question::Try(steps) => {
@@ -363,7 +364,7 @@ fn answer<I: ByteIn, O: ByteOut, D: ByteOut>(
             count(alloc, text, counting, input, out, diag)
         }
         Question::Show(display) => {
-            show_run(alloc, edition, files, text, display, input, out, diag)
+            show_run(alloc, origin, files, text, display, input, out, diag)
         }
         Question::Format(is_check) => format(&House, alloc, text, edition, is_check, out, diag),
         Question::Port => port(alloc, text, edition, files, out, diag),
@@ -398,20 +399,20 @@ fn trace_request<'a>(walk: Walk<'a>, files: SourceFiles<'a>) -> TraceRequest<'a>
 }
 
 fn careful_request<'a>(
-    edition: Edition,
+    origin: Origin<'a>,
     files: SourceFiles<'a>,
     care: Care,
     steps: u64,
 ) -> CarefulRequest<'a>
     ensures { result ≡ record {
-      edition = edition;
+      origin = origin.entry;
       files = files.entry;
       care = care_taken care;
       steps = steps;
     } }
 {
     CarefulRequest {
-        edition,
+        origin,
         files,
         care: care_taken(care),
         steps,
@@ -442,7 +443,7 @@ fn counting_of<'a>(
 // Writes the page of a run, whose input is given or that of the program.
 fn show_run<I: ByteIn, O: ByteOut, D: ByteOut>(
     alloc: Global,
-    edition: Edition,
+    origin: Origin<'_>,
     files: SourceFiles<'_>,
     text: &[u8],
     display: Display<'_>,
@@ -450,8 +451,8 @@ fn show_run<I: ByteIn, O: ByteOut, D: ByteOut>(
     out: &mut O,
     diag: &mut D,
 ) -> Status
-    ensures shows { ShowsRun display.entry.care edition (files_shown files.entry) text.now display.entry.steps
-        (traced_rows display.entry.rows) (option_map (λ t. t.now) display.entry.input) (run_ends
+    ensures shows { ShowsRun display.entry.care (origin_shown origin.entry) (files_shown files.entry) text.now
+        display.entry.steps (traced_rows display.entry.rows) (option_map (λ t. t.now) display.entry.input) (run_ends
         (I.incoming input.old) (I.incoming input.new) (O.outgoing out.old) (O.outgoing out.new)
         (D.outgoing diag.old) (D.outgoing diag.new)) result }
     ensures input_lender { I.lender input.new ≡ I.lender input.old }
@@ -465,7 +466,7 @@ fn show_run<I: ByteIn, O: ByteOut, D: ByteOut>(
             show_by(
                 alloc,
                 text,
-                edition,
+                origin,
                 display.care,
                 wanted,
                 &mut given,
@@ -475,7 +476,7 @@ fn show_run<I: ByteIn, O: ByteOut, D: ByteOut>(
         }
         None => {
             let wanted = page_of(files, display, b"");
-            show_by(alloc, text, edition, display.care, wanted, input, out, diag)
+            show_by(alloc, text, origin, display.care, wanted, input, out, diag)
         }
     }
 }
@@ -484,14 +485,14 @@ fn show_run<I: ByteIn, O: ByteOut, D: ByteOut>(
 fn show_by<I: ByteIn, O: ByteOut, D: ByteOut>(
     alloc: Global,
     text: &[u8],
-    edition: Edition,
+    origin: Origin<'_>,
     care: Option<Care>,
     wanted: bshow::PageRequest<'_>,
     input: &mut I,
     out: &mut O,
     diag: &mut D,
 ) -> Status
-    ensures shows { ShowsBy care edition text.now (page_of wanted.entry) (run_ends
+    ensures shows { ShowsBy care (origin_shown origin.entry) text.now (page_of wanted.entry) (run_ends
         (I.incoming input.old) (I.incoming input.new) (O.outgoing out.old) (O.outgoing out.new)
         (D.outgoing diag.old) (D.outgoing diag.new)) result }
     ensures input_lender { I.lender input.new ≡ I.lender input.old }
@@ -499,11 +500,11 @@ fn show_by<I: ByteIn, O: ByteOut, D: ByteOut>(
     ensures diag_lender { D.lender diag.new ≡ D.lender diag.old }
 {
     match care {
-        None => show(alloc, text, edition, wanted, input, out, diag),
+        None => show(alloc, text, origin, wanted, input, out, diag),
         Some(care) => show_careful(
             alloc,
             text,
-            edition,
+            origin,
             care_taken(care),
             wanted,
             input,

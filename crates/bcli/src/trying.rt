@@ -9,7 +9,7 @@ use bcareful::{Care, CarefulRequest, go_careful};
 use bcheck::{FindingForm, Request, check};
 use blang::status::{self, Status};
 use bsources::SourceFiles;
-use btools::tell;
+use btools::{Origin, tell};
 use bword::{ByteIn, ByteOut, Edition};
 use std::alloc::Global;
 
@@ -83,7 +83,7 @@ fn run_checked<I: ByteIn, O: ByteOut, D: ByteOut>(
         return checked;
     }
     let wanted = CarefulRequest {
-        edition: attempt.edition,
+        origin: Origin::Source(attempt.edition),
         files: attempt.files,
         care: Care::Stays,
         steps: attempt.steps,

@@ -135,9 +135,13 @@ compile_command = with_rule (with_rule (new_app (codes "compile")) edition_rule)
 abbrev pub run_command : App
 run_command = with_rule (with_run_options (new_app (codes "run"))) where_rule
 
+-- a command that takes a code text, too
+abbrev pub taking_code : App → App
+taking_code command = with_rule (with_rule (with_rule (with_rule command code_rule) made_rule) lines_rule) names_rule
+
 abbrev pub go_command : App
-go_command = with_rule (with_rule (with_rule
-    (with_run_options (with_rule (new_app (codes "go")) edition_rule)) where_rule) careful_rule) with_lib_rule
+go_command = taking_code (with_rule (with_rule (with_rule
+    (with_run_options (with_rule (new_app (codes "go")) edition_rule)) where_rule) careful_rule) with_lib_rule)
 
 abbrev pub try_command : App
 try_command = with_rule (with_run_options (with_rule (new_app (codes "try")) edition_rule)) with_lib_rule
@@ -154,14 +158,13 @@ telling command = with_rule (with_rule (with_rule command edition_rule) file_rul
 
 -- one that tells of a code text, too
 abbrev pub telling_code : App → App
-telling_code command =
-    with_rule (with_rule (with_rule (with_rule (telling command) code_rule) made_rule) lines_rule) names_rule
+telling_code command = taking_code (telling command)
 
 abbrev pub list_command : App
 list_command = with_rule (telling_code (new_app (codes "list"))) name_rule
 
 abbrev pub map_command : App
-map_command = with_rule (with_rule (telling (new_app (codes "map"))) svg_rule) steps_rule
+map_command = with_rule (with_rule (telling_code (new_app (codes "map"))) svg_rule) steps_rule
 
 abbrev pub check_command : App
 check_command = with_rule (with_rule (telling (new_app (codes "check"))) json_rule) fix_rule
@@ -181,7 +184,7 @@ count_command =
     with_rule (with_rule (with_rule (telling_code (new_app (codes "count"))) steps_rule) no_limit_rule) json_rule
 
 abbrev pub show_command : App
-show_command = with_rule (with_rule (with_rows (telling (new_app (codes "show")))) input_rule) careful_rule
+show_command = with_rule (with_rule (with_rows (telling_code (new_app (codes "show")))) input_rule) careful_rule
 
 abbrev pub format_command : App
 format_command = with_rule (with_rule (with_rule (new_app (codes "format")) edition_rule) file_rule) check_rule
@@ -310,21 +313,21 @@ source_in rows = record { file = file_in rows; libs = libs_in rows; edition = ed
 -- program among so many, which of them are shown, and of which function; a run of so many steps, and where it is over;
 -- the same looked at carefully in some way; its faults, and such a run where there is none; how many steps each line
 -- takes in such a run, for an editor or for people; a page of a run, up to its first finding where it is looked at
--- carefully, with this input if there is one; the source in one style, or whether it is in that; it ported. Its code,
--- its steps and those of its lines may be asked of a code text, too.
+-- carefully, with this input if there is one; the source in one style, or whether it is in that; it ported. What has an
+-- origin may be asked of a code text, too.
 pub data Question : Type 0 where
   list : OriginAsked → (name : Option Text) → Question
-  map : Question
-  draw : (steps : Option ℕ) → Question
+  map : OriginAsked → Question
+  draw : OriginAsked → (steps : Option ℕ) → Question
   check : (for_editor : Bool) → Question
   fix : Question
   tell_names : Question
   trace : OriginAsked → (steps : ℕ) (shown : Rows) (function : Option Text) → Question
-  locate : (steps : ℕ) → Question
-  go_careful : Care → (steps : ℕ) → Question
+  locate : OriginAsked → (steps : ℕ) → Question
+  go_careful : OriginAsked → Care → (steps : ℕ) → Question
   try_out : (steps : ℕ) → Question
   count : OriginAsked → (steps : ℕ) (for_editor : Bool) → Question
-  show : Option Care → (steps : ℕ) (shown : Rows) (input : Option Text) → Question
+  show : OriginAsked → Option Care → (steps : ℕ) (shown : Rows) (input : Option Text) → Question
   format : (is_check : Bool) → Question
   port : Question
 
@@ -357,13 +360,29 @@ care_asked (Some how) = if bytes_eq how (codes "stay") then Ok (Some care.Stays)
 abbrev pub care_in : List Row → Result (Option Care) Clash
 care_in rows = care_asked (first_of (codes "careful") rows)
 
--- A careful run tells its place, too.
-abbrev pub go_asked : SourceAsked → (is_located : Bool) → Result (Option Care) Clash → Option ℕ → Asked
-go_asked source false (Ok None) (Some steps) = go source steps
-go_asked source true (Ok None) (Some steps) = ask source (locate steps)
-go_asked source is_located (Ok (Some it)) (Some steps) = ask source (go_careful it steps)
-go_asked source is_located (Ok it) None = contradiction clash.Limits
-go_asked source is_located (Err it) steps = contradiction it
+-- A careful run knows the words of frames by their names, so there is none of a code text without them.
+abbrev pub care_known : OriginAsked → Result (Option Care) Clash → Result (Option Care) Clash
+care_known from_code (Ok (Some it)) = Err clash.Unnamed
+care_known (from_made code lines None) (Ok (Some it)) = Err clash.Unnamed
+care_known origin it = it
+
+-- A careful run tells its place, too. A code text that is only run is for another command.
+abbrev pub going : SourceAsked → OriginAsked → (is_located : Bool) → Option Care → (steps : ℕ) → Asked
+going source origin is_located (Some it) steps = ask source (go_careful origin it steps)
+going source origin true None steps = ask source (locate origin steps)
+going source from_source false None steps = go source steps
+going source origin false None steps = contradiction clash.Plain
+
+abbrev pub go_of_origin : SourceAsked → OriginAsked → (is_located : Bool) → Result (Option Care) Clash → Option ℕ
+    → Asked
+go_of_origin source origin is_located (Ok it) (Some steps) = going source origin is_located it steps
+go_of_origin source origin is_located (Ok it) None = contradiction clash.Limits
+go_of_origin source origin is_located (Err it) steps = contradiction it
+
+abbrev pub go_asked : SourceAsked → Result OriginAsked Clash → (is_located : Bool) → Result (Option Care) Clash
+    → Option ℕ → Asked
+go_asked source (Ok origin) is_located it steps = go_of_origin source origin is_located (care_known origin it) steps
+go_asked source (Err clash) is_located it steps = contradiction clash
 
 abbrev pub check_asked : SourceAsked → (is_fixed : Bool) → (for_editor : Bool) → Asked
 check_asked source true true = contradiction clash.Fix
@@ -375,10 +394,14 @@ try_asked source (Some steps) = ask source (try_out steps)
 try_asked source None = contradiction clash.Limits
 
 -- a picture is asked for by its flag, or by a number of steps
-abbrev pub map_asked : Bool → Option ℕ → Question
-map_asked false None = map
-map_asked false (Some steps) = draw (Some steps)
-map_asked true steps = draw steps
+abbrev pub mapping : OriginAsked → (is_drawn : Bool) → Option ℕ → Question
+mapping origin false None = map origin
+mapping origin false (Some steps) = draw origin (Some steps)
+mapping origin true steps = draw origin steps
+
+abbrev pub map_asked : SourceAsked → Result OriginAsked Clash → (is_drawn : Bool) → Option ℕ → Asked
+map_asked source (Ok origin) is_drawn steps = ask source (mapping origin is_drawn steps)
+map_asked source (Err it) is_drawn steps = contradiction it
 
 abbrev pub list_asked : SourceAsked → Result OriginAsked Clash → (name : Option Text) → Asked
 list_asked source (Ok origin) name = ask source (list origin name)
@@ -401,15 +424,23 @@ abbrev pub page_rows : Option Care → (from last : Option ℕ) → Option Rows
 page_rows (Some it) None None = Some (which.Last DEFAULT_SHOWN_STEPS)
 page_rows it from last = rows_asked from last
 
-abbrev pub page_asked : SourceAsked → Option Care → (steps : Option ℕ) → Option Rows → (input : Option Text) → Asked
-page_asked source it steps (Some shown) input =
-    ask source (show it (unwrap_or steps (shown_steps shown)) shown input)
-page_asked source it steps None input = contradiction clash.Rows
-
-abbrev pub show_asked : SourceAsked → Result (Option Care) Clash → (steps from last : Option ℕ)
+abbrev pub page_asked : SourceAsked → OriginAsked → Option Care → (steps : Option ℕ) → Option Rows
     → (input : Option Text) → Asked
-show_asked source (Ok it) steps from last input = page_asked source it steps (page_rows it from last) input
-show_asked source (Err it) steps from last input = contradiction it
+page_asked source origin it steps (Some shown) input =
+    ask source (show origin it (unwrap_or steps (shown_steps shown)) shown input)
+page_asked source origin it steps None input = contradiction clash.Rows
+
+abbrev pub page_of_origin : SourceAsked → OriginAsked → Result (Option Care) Clash → (steps from last : Option ℕ)
+    → (input : Option Text) → Asked
+page_of_origin source origin (Ok it) steps from last input =
+    page_asked source origin it steps (page_rows it from last) input
+page_of_origin source origin (Err it) steps from last input = contradiction it
+
+abbrev pub show_asked : SourceAsked → Result OriginAsked Clash → Result (Option Care) Clash
+    → (steps from last : Option ℕ) → (input : Option Text) → Asked
+show_asked source (Ok origin) it steps from last input =
+    page_of_origin source origin (care_known origin it) steps from last input
+show_asked source (Err clash) it steps from last input = contradiction clash
 
 abbrev pub count_asked : SourceAsked → Result OriginAsked Clash → (for_editor : Bool) → Option ℕ → Asked
 count_asked source (Ok origin) for_editor (Some steps) = ask source (count origin steps for_editor)
@@ -422,7 +453,7 @@ run_in rows = run_asked (file_in rows) (is_set_in (codes "where") rows) (steps_i
 
 abbrev pub go_in : List Row → Asked
 go_in rows =
-    go_asked (source_in rows) (is_set_in (codes "where") rows) (care_in rows) (steps_in rows)
+    go_asked (source_in rows) (origin_in rows) (is_set_in (codes "where") rows) (care_in rows) (steps_in rows)
 
 abbrev pub try_in : List Row → Asked
 try_in rows = try_asked (source_in rows) (steps_in rows)
@@ -430,8 +461,9 @@ try_in rows = try_asked (source_in rows) (steps_in rows)
 abbrev pub check_in : List Row → Asked
 check_in rows = check_asked (source_in rows) (is_set_in (codes "fix") rows) (is_set_in (codes "json") rows)
 
-abbrev pub map_in : List Row → Question
-map_in rows = map_asked (is_set_in (codes "svg") rows) (option_number (codes "steps") rows)
+abbrev pub map_in : List Row → Asked
+map_in rows = map_asked (source_in rows) (origin_in rows) (is_set_in (codes "svg") rows)
+    (option_number (codes "steps") rows)
 
 abbrev pub list_in : List Row → Asked
 list_in rows = list_asked (source_in rows) (origin_in rows) (name_in rows)
@@ -444,8 +476,9 @@ abbrev pub count_in : List Row → Asked
 count_in rows = count_asked (source_in rows) (origin_in rows) (is_set_in (codes "json") rows) (steps_in rows)
 
 abbrev pub show_in : List Row → Asked
-show_in rows = show_asked (source_in rows) (shown_care (care_in rows)) (option_number (codes "steps") rows)
-    (option_number (codes "from") rows) (option_number (codes "last") rows) (input_in rows)
+show_in rows = show_asked (source_in rows) (origin_in rows) (shown_care (care_in rows))
+    (option_number (codes "steps") rows) (option_number (codes "from") rows) (option_number (codes "last") rows)
+    (input_in rows)
 
 -- what a command asks for, by its name and what was found of its options
 abbrev pub asked_by : Text → List Row → Asked
@@ -455,7 +488,7 @@ asked_by name rows = if bytes_eq name (codes "run") then run_in rows
     else (if bytes_eq name (codes "migrate") then migrate
     else (if bytes_eq name (codes "verify") then verify (file_in rows)
     else (if bytes_eq name (codes "list") then list_in rows
-    else (if bytes_eq name (codes "map") then ask (source_in rows) (map_in rows)
+    else (if bytes_eq name (codes "map") then map_in rows
     else (if bytes_eq name (codes "check") then check_in rows
     else (if bytes_eq name (codes "names") then ask (source_in rows) tell_names
     else (if bytes_eq name (codes "trace") then trace_in rows
@@ -504,19 +537,19 @@ abbrev pub walk_shown : Walk → Question
 walk_shown walk = trace (origin_shown walk.origin) walk.steps walk.rows (option_map (λ n. n.now) walk.function)
 
 abbrev pub display_shown : Display → Question
-display_shown it = show it.care it.steps it.rows (option_map (λ n. n.now) it.input)
+display_shown it = show (origin_shown it.origin) it.care it.steps it.rows (option_map (λ n. n.now) it.input)
 
 -- what a question of a job is
 abbrev pub question_of : Questioned → Question
 question_of (questioned.List origin name) = list (origin_shown origin) (option_map (λ n. n.now) name)
-question_of questioned.Map = map
-question_of (questioned.Draw steps) = draw steps
+question_of (questioned.Map origin) = map (origin_shown origin)
+question_of (questioned.Draw origin steps) = draw (origin_shown origin) steps
 question_of (questioned.Check for_editor) = check for_editor
 question_of questioned.Fix = fix
 question_of questioned.Names = tell_names
 question_of (questioned.Trace walk) = walk_shown walk
-question_of (questioned.Locate steps) = locate steps
-question_of (questioned.GoCareful it steps) = go_careful it steps
+question_of (questioned.Locate origin steps) = locate (origin_shown origin) steps
+question_of (questioned.GoCareful origin it steps) = go_careful (origin_shown origin) it steps
 question_of (questioned.Try steps) = try_out steps
 question_of (questioned.Count origin steps for_editor) = count (origin_shown origin) steps for_editor
 question_of (questioned.Show it) = display_shown it
@@ -548,4 +581,8 @@ clash_line clash.Fix = clash_message (codes "'--fix' cannot be used with '--json
 clash_line clash.Care = clash_message (codes "'--careful' is '--careful=stay', '--careful=warn' or '--careful=wraps'")
 clash_line clash.ShownCare = clash_message (codes "'--careful' of 'show' is '--careful=stay' or '--careful=wraps'")
 clash_line clash.Names = clash_message (codes "'--names <NAMES>' cannot be used without '--made <CODE>'")
+clash_line clash.Plain =
+    clash_message (codes "'--code' or '--made <CODE>' of 'go' cannot be used without '--where' or '--careful'")
+clash_line clash.Unnamed =
+    clash_message (codes "'--careful' of a code text cannot be used without '--names <NAMES>'")
 clash_line clash.Lines = clash_message (codes "'--lines <LINES>' cannot be used without '--made <CODE>'")

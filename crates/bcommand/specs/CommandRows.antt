@@ -62,7 +62,7 @@ unfolding clap_on_literals
 goes_without_limit = (refl, refl)
 
 locates : Asks (codes "b" ∷ codes "go" ∷ codes "--where" ∷ codes "--steps" ∷ codes "50" ∷ codes "x" ∷ [])
-    (ask (x editions.One) (locate 50))
+    (ask (x editions.One) (locate from_source 50))
 unfolding clap_on_literals
 locates = (refl, refl)
 
@@ -72,12 +72,12 @@ unfolding clap_on_literals
 locates_within_limits = (refl, refl)
 
 goes_careful : Asks (codes "b" ∷ codes "go" ∷ codes "--careful" ∷ codes "x" ∷ codes "--steps" ∷ codes "50" ∷ [])
-    (ask (x editions.One) (go_careful care.Stays 50))
+    (ask (x editions.One) (go_careful from_source care.Stays 50))
 unfolding clap_on_literals
 goes_careful = (refl, refl)
 
 goes_careful_where : Asks (codes "b" ∷ codes "go" ∷ codes "x" ∷ codes "--where" ∷ codes "--careful" ∷ [])
-    (ask (x editions.One) (go_careful care.Stays 10000000))
+    (ask (x editions.One) (go_careful from_source care.Stays 10000000))
 unfolding clap_on_literals
 goes_careful_where = (refl, refl)
 
@@ -87,12 +87,12 @@ unfolding clap_on_literals
 goes_careful_within_limits = (refl, refl)
 
 goes_on : Asks (codes "b" ∷ codes "go" ∷ codes "--careful=warn" ∷ codes "x" ∷ codes "--steps=5" ∷ [])
-    (ask (x editions.One) (go_careful care.Warns 5))
+    (ask (x editions.One) (go_careful from_source care.Warns 5))
 unfolding clap_on_literals
 goes_on = (refl, refl)
 
 goes_to_wraps : Asks (codes "b" ∷ codes "go" ∷ codes "x" ∷ codes "--careful=wraps" ∷ [])
-    (ask (x editions.One) (go_careful care.Wraps 10000000))
+    (ask (x editions.One) (go_careful from_source care.Wraps 10000000))
 unfolding clap_on_literals
 goes_to_wraps = (refl, refl)
 
@@ -177,7 +177,7 @@ lists_no_file : fault_in (codes "b" ∷ codes "list" ∷ []) ≡ kind.MissingReq
 unfolding clap_on_literals
 lists_no_file = refl
 
-maps : Asks (codes "b" ∷ codes "map" ∷ codes "x" ∷ codes "--edition=2" ∷ []) (ask (x editions.Two) map)
+maps : Asks (codes "b" ∷ codes "map" ∷ codes "x" ∷ codes "--edition=2" ∷ []) (ask (x editions.Two) (map from_source))
 unfolding clap_on_literals
 maps = (refl, refl)
 
@@ -185,17 +185,18 @@ maps_no_name : fault_in (codes "b" ∷ codes "map" ∷ codes "x" ∷ codes "f" �
 unfolding clap_on_literals
 maps_no_name = refl
 
-draws : Asks (codes "b" ∷ codes "map" ∷ codes "--svg" ∷ codes "x" ∷ []) (ask (x editions.One) (draw None))
+draws : Asks (codes "b" ∷ codes "map" ∷ codes "--svg" ∷ codes "x" ∷ [])
+    (ask (x editions.One) (draw from_source None))
 unfolding clap_on_literals
 draws = (refl, refl)
 
 draws_a_run : Asks (codes "b" ∷ codes "map" ∷ codes "x" ∷ codes "--svg" ∷ codes "--steps=40" ∷ [])
-    (ask (x editions.One) (draw (Some 40)))
+    (ask (x editions.One) (draw from_source (Some 40)))
 unfolding clap_on_literals
 draws_a_run = (refl, refl)
 
 draws_by_a_number : Asks (codes "b" ∷ codes "map" ∷ codes "--edition=2" ∷ codes "--steps" ∷ codes "40" ∷ codes "x" ∷ [])
-    (ask (x editions.Two) (draw (Some 40)))
+    (ask (x editions.Two) (draw from_source (Some 40)))
 unfolding clap_on_literals
 draws_by_a_number = (refl, refl)
 
@@ -268,7 +269,7 @@ unfolding clap_on_literals
 checks_with = (refl, refl)
 
 locates_with : Asks (codes "b" ∷ codes "go" ∷ codes "--where" ∷ codes "x" ∷ codes "--with" ∷ codes "l" ∷ [])
-    (ask (x_with (codes "l" ∷ [])) (locate 10000000))
+    (ask (x_with (codes "l" ∷ [])) (locate from_source 10000000))
 unfolding clap_on_literals
 locates_with = (refl, refl)
 
@@ -278,7 +279,7 @@ unfolding clap_on_literals
 lists_with = (refl, refl)
 
 maps_with : Asks (codes "b" ∷ codes "map" ∷ codes "--with" ∷ codes "l" ∷ codes "x" ∷ [])
-    (ask (x_with (codes "l" ∷ [])) map)
+    (ask (x_with (codes "l" ∷ [])) (map from_source))
 unfolding clap_on_literals
 maps_with = (refl, refl)
 
@@ -293,7 +294,7 @@ unfolding clap_on_literals
 counts_with = (refl, refl)
 
 shows_with : Asks (codes "b" ∷ codes "show" ∷ codes "x" ∷ codes "--with=l" ∷ [])
-    (ask (x_with (codes "l" ∷ [])) (show None 2000 (which.From 1) None))
+    (ask (x_with (codes "l" ∷ [])) (show from_source None 2000 (which.From 1) None))
 unfolding clap_on_literals
 shows_with = (refl, refl)
 
@@ -341,33 +342,34 @@ counts_within_limits : Asks (codes "b" ∷ codes "count" ∷ codes "--no-limit" 
 unfolding clap_on_literals
 counts_within_limits = (refl, refl)
 
-shows : Asks (codes "b" ∷ codes "show" ∷ codes "x" ∷ []) (ask (x editions.One) (show None 2000 (which.From 1) None))
+shows : Asks (codes "b" ∷ codes "show" ∷ codes "x" ∷ [])
+    (ask (x editions.One) (show from_source None 2000 (which.From 1) None))
 unfolding clap_on_literals
 shows = (refl, refl)
 
 shows_from : Asks (codes "b" ∷ codes "show" ∷ codes "--from=7" ∷ codes "--input=hi" ∷ codes "x" ∷ [])
-    (ask (x editions.One) (show None 2006 (which.From 7) (Some (codes "hi"))))
+    (ask (x editions.One) (show from_source None 2006 (which.From 7) (Some (codes "hi"))))
 unfolding clap_on_literals
 shows_from = (refl, refl)
 
 shows_last : Asks (codes "b" ∷ codes "show" ∷ codes "x" ∷ codes "--last" ∷ codes "3" ∷ [])
-    (ask (x editions.One) (show None 10000000 (which.Last 3) None))
+    (ask (x editions.One) (show from_source None 10000000 (which.Last 3) None))
 unfolding clap_on_literals
 shows_last = (refl, refl)
 
 -- a careful run, of which the last steps are shown if nothing is said
 shows_carefully : Asks (codes "b" ∷ codes "show" ∷ codes "--careful" ∷ codes "x" ∷ [])
-    (ask (x editions.One) (show (Some care.Stays) 10000000 (which.Last 2000) None))
+    (ask (x editions.One) (show from_source (Some care.Stays) 10000000 (which.Last 2000) None))
 unfolding clap_on_literals
 shows_carefully = (refl, refl)
 
 shows_carefully_from : Asks (codes "b" ∷ codes "show" ∷ codes "x" ∷ codes "--from=7" ∷ codes "--careful=stay" ∷ [])
-    (ask (x editions.One) (show (Some care.Stays) 2006 (which.From 7) None))
+    (ask (x editions.One) (show from_source (Some care.Stays) 2006 (which.From 7) None))
 unfolding clap_on_literals
 shows_carefully_from = (refl, refl)
 
 shows_wraps : Asks (codes "b" ∷ codes "show" ∷ codes "x" ∷ codes "--careful=wraps" ∷ codes "--last=3"
-    ∷ codes "--steps=9" ∷ []) (ask (x editions.One) (show (Some care.Wraps) 9 (which.Last 3) None))
+    ∷ codes "--steps=9" ∷ []) (ask (x editions.One) (show from_source (Some care.Wraps) 9 (which.Last 3) None))
 unfolding clap_on_literals
 shows_wraps = (refl, refl)
 

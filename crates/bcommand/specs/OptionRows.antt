@@ -40,7 +40,7 @@ run_takes = refl
 
 go_takes : taken (codes "go") x
     ≡ codes "--edition=2" ∷ codes "--with=l" ∷ codes "--steps=5" ∷ codes "--no-limit" ∷ codes "--where"
-    ∷ codes "--careful" ∷ []
+    ∷ codes "--careful" ∷ of_code
 unfolding clap_on_literals
 go_takes = refl
 
@@ -61,7 +61,8 @@ list_takes : taken (codes "list") x ≡ codes "--edition=2" ∷ codes "--with=l"
 unfolding clap_on_literals
 list_takes = refl
 
-map_takes : taken (codes "map") x ≡ codes "--edition=2" ∷ codes "--with=l" ∷ codes "--steps=5" ∷ codes "--svg" ∷ []
+map_takes : taken (codes "map") x
+    ≡ codes "--edition=2" ∷ codes "--with=l" ∷ codes "--steps=5" ∷ codes "--svg" ∷ of_code
 unfolding clap_on_literals
 map_takes = refl
 
@@ -88,7 +89,7 @@ count_takes = refl
 
 show_takes : taken (codes "show") x
     ≡ codes "--edition=2" ∷ codes "--with=l" ∷ codes "--steps=5" ∷ codes "--careful" ∷ codes "--from=5"
-    ∷ codes "--last=5" ∷ codes "--input=i" ∷ []
+    ∷ codes "--last=5" ∷ codes "--input=i" ∷ of_code
 unfolding clap_on_literals
 show_takes = refl
 
@@ -156,11 +157,12 @@ files_of_each :
     ∷ of_both (codes "check") (codes "--fix" ∷ [])
     ∷ of_both (codes "names") (codes "--json" ∷ []) ∷ of_both (codes "trace") [] ∷ of_both (codes "count") []
     ∷ of_both (codes "show") [] ∷ of_both (codes "port") [] ∷ []
-    ≡ go both 10000000 ∷ ask both (locate 10000000) ∷ ask both (go_careful care.Stays 10000000)
-    ∷ ask both (try_out 10000000) ∷ ask both (list from_source None) ∷ ask both layout
-    ∷ ask both (draw None) ∷ ask both (check false) ∷ ask both fix ∷ ask both tell_names
+    ≡ go both 10000000 ∷ ask both (locate from_source 10000000)
+    ∷ ask both (go_careful from_source care.Stays 10000000)
+    ∷ ask both (try_out 10000000) ∷ ask both (list from_source None) ∷ ask both (layout from_source)
+    ∷ ask both (draw from_source None) ∷ ask both (check false) ∷ ask both fix ∷ ask both tell_names
     ∷ ask both (trace from_source 1000 (which.From 1) None) ∷ ask both (count from_source 10000000 false)
-    ∷ ask both (show None 2000 (which.From 1) None) ∷ ask both port ∷ []
+    ∷ ask both (show from_source None 2000 (which.From 1) None) ∷ ask both port ∷ []
 unfolding clap_on_literals
 files_of_each = refl
 
@@ -187,17 +189,20 @@ steps_of_each :
     ∷ of_x (codes "show" ∷ codes "--steps=5" ∷ codes "--last=7" ∷ []) ∷ []
     ≡ run (codes "x") 18446744073709551615 ∷ contradiction clash.Limits
     ∷ locate_code (codes "x") 18446744073709551615
-    ∷ go alone 5 ∷ ask alone (locate 18446744073709551615) ∷ ask alone (go_careful care.Stays 18446744073709551615)
+    ∷ go alone 5 ∷ ask alone (locate from_source 18446744073709551615)
+    ∷ ask alone (go_careful from_source care.Stays 18446744073709551615)
     ∷ ask alone (try_out 18446744073709551615)
     ∷ ask alone (trace from_source 5 (which.From 1) None) ∷ ask alone (trace from_source 1000 (which.From 5) None)
     ∷ ask alone (count from_source 5 false) ∷ ask alone (count from_source 10000000 true)
-    ∷ ask alone (show None 5 (which.From 1) None) ∷ ask alone (show None 5 (which.From 7) None)
-    ∷ ask alone (show None 5 (which.Last 7) None) ∷ []
+    ∷ ask alone (show from_source None 5 (which.From 1) None)
+    ∷ ask alone (show from_source None 5 (which.From 7) None)
+    ∷ ask alone (show from_source None 5 (which.Last 7) None) ∷ []
 unfolding clap_on_literals
 steps_of_each = refl
 
 -- an input without a byte is one, too
-no_byte_given : of_x (codes "show" ∷ codes "--input=" ∷ []) ≡ ask alone (show None 2000 (which.From 1) (Some []))
+no_byte_given : of_x (codes "show" ∷ codes "--input=" ∷ [])
+    ≡ ask alone (show from_source None 2000 (which.From 1) (Some []))
 unfolding clap_on_literals
 no_byte_given = refl
 

@@ -7,13 +7,15 @@ use Rattle.clap.specs.declared.error.kind.ErrorKind.TheVariants as kind
 use Rattle.clap.proofs.OnLiterals.{clap_on_literals}
 use Rattle.bword.specs.declared.edition.Edition.TheVariants as editions
 use Rattle.bcommand.specs.CommandLine.{Asked, OriginAsked, SourceAsked, asked_in, clash_line, fault_in}
-use Rattle.bcommand.specs.CommandLine.{ask, contradiction, count, from_code, from_made, list, trace}
+use Rattle.bcommand.specs.CommandLine.{ask, contradiction, count, draw, from_code, from_made, go_careful, list, locate}
+use Rattle.bcommand.specs.CommandLine.{map as layout, show, trace}
+use Rattle.bcommand.specs.declared.job.Care.TheVariants as care
 use Rattle.bcommand.specs.declared.job.Clash.{Clash}
 use Rattle.bcommand.specs.declared.job.Clash.TheVariants as clash
 use Rattle.bcommand.specs.declared.job.Rows.TheVariants as which
 
 abbrev names : List Text
-names = codes "list" ∷ codes "trace" ∷ codes "count" ∷ []
+names = codes "list" ∷ codes "trace" ∷ codes "count" ∷ codes "map" ∷ codes "show" ∷ []
 
 abbrev words_of : (name : Text) → (words : List Text) → List Text
 words_of name words = codes "b" ∷ name ∷ words ++ codes "x" ∷ []
@@ -25,16 +27,21 @@ faults words = map (λ name. fault_in (words_of name words)) names
 abbrev each : (words : List Text) → List Asked
 each words = map (λ name. asked_in (words_of name words)) names
 
+-- each has these faults, or none
+abbrev all_have : List ErrorKind → List (List ErrorKind)
+all_have kinds = map (λ name. kinds) names
+
 abbrev none : List (List ErrorKind)
-none = [] ∷ [] ∷ [] ∷ []
+none = all_have []
 
 -- each of the commands asks for this
 abbrev asks : SourceAsked → OriginAsked → List Asked
 asks source origin = ask source (list origin None) ∷ ask source (trace origin 1000 (which.From 1) None)
-    ∷ ask source (count origin 10000000 false) ∷ []
+    ∷ ask source (count origin 10000000 false) ∷ ask source (layout origin)
+    ∷ ask source (show origin None 2000 (which.From 1) None) ∷ []
 
 abbrev refuse : Clash → List Asked
-refuse it = contradiction it ∷ contradiction it ∷ contradiction it ∷ []
+refuse it = map (λ name. contradiction it) names
 
 abbrev alone : SourceAsked
 alone = record { file = codes "x"; libs = []; edition = editions.One }
@@ -108,12 +115,11 @@ code_and_lib = (refl, refl)
 
 -- a text that lacks its value, and two of them
 no_value : map (λ name. fault_in (codes "b" ∷ name ∷ codes "x" ∷ codes "--made" ∷ [])) names
-    ≡ (kind.InvalidValue ∷ []) ∷ (kind.InvalidValue ∷ []) ∷ (kind.InvalidValue ∷ []) ∷ []
+    ≡ all_have (kind.InvalidValue ∷ [])
 unfolding clap_on_literals
 no_value = refl
 
-two_values : faults (codes "--lines=l" ∷ codes "--lines=m" ∷ [])
-    ≡ (kind.ArgumentConflict ∷ []) ∷ (kind.ArgumentConflict ∷ []) ∷ (kind.ArgumentConflict ∷ []) ∷ []
+two_values : faults (codes "--lines=l" ∷ codes "--lines=m" ∷ []) ≡ all_have (kind.ArgumentConflict ∷ [])
 unfolding clap_on_literals
 two_values = refl
 
@@ -129,13 +135,47 @@ told_first : one (codes "trace") (codes "--made=c" ∷ codes "--from=5" ∷ code
 unfolding clap_on_literals
 told_first = refl
 
+-- a run whose place is told, a picture, and careful runs, of a code text with names and without
+abbrev with_names : List Text
+with_names = codes "--names=n" ∷ with_lines
+
+abbrev named : OriginAsked
+named = from_made (codes "c") (codes "l") (Some (codes "n"))
+
+other_runs : one (codes "go") (codes "--where" ∷ codes "--code" ∷ []) ∷ one (codes "go") (codes "--where" ∷ with_lines)
+    ∷ one (codes "go") (codes "--where" ∷ with_names) ∷ one (codes "go") (codes "--careful" ∷ with_names)
+    ∷ one (codes "go") (codes "--careful=warn" ∷ codes "--where" ∷ with_names)
+    ∷ one (codes "map") (codes "--svg" ∷ with_names) ∷ one (codes "map") (codes "--steps=5" ∷ codes "--code" ∷ [])
+    ∷ one (codes "show") (codes "--careful" ∷ with_names) ∷ []
+    ≡ ask alone (locate from_code 10000000) ∷ ask alone (locate (from_made (codes "c") (codes "l") None) 10000000)
+    ∷ ask alone (locate named 10000000) ∷ ask alone (go_careful named care.Stays 10000000)
+    ∷ ask alone (go_careful named care.Warns 10000000)
+    ∷ ask alone (draw named None) ∷ ask alone (draw from_code (Some 5))
+    ∷ ask alone (show named (Some care.Stays) 10000000 (which.Last 2000) None) ∷ []
+unfolding clap_on_literals
+other_runs = refl
+
+other_runs_refused : one (codes "go") (codes "--code" ∷ []) ∷ one (codes "go") with_names
+    ∷ one (codes "go") (codes "--careful" ∷ codes "--code" ∷ []) ∷ one (codes "go") (codes "--careful" ∷ with_lines)
+    ∷ one (codes "show") (codes "--careful" ∷ codes "--code" ∷ [])
+    ∷ one (codes "show") (codes "--careful=wraps" ∷ with_lines)
+    ∷ one (codes "go") (codes "--where" ∷ codes "--names=n" ∷ codes "--code" ∷ [])
+    ∷ one (codes "go") (codes "--where" ∷ codes "--made=c" ∷ codes "--careful=war" ∷ [])
+    ∷ one (codes "go") (codes "--careful=war" ∷ with_lines)
+    ∷ one (codes "go") (codes "--no-limit" ∷ codes "--steps=5" ∷ codes "--code" ∷ []) ∷ []
+    ≡ contradiction clash.Plain ∷ contradiction clash.Plain ∷ contradiction clash.Unnamed ∷ contradiction clash.Unnamed
+    ∷ contradiction clash.Unnamed ∷ contradiction clash.Unnamed ∷ contradiction clash.Names ∷ contradiction clash.Made
+    ∷ contradiction clash.Care ∷ contradiction clash.Limits ∷ []
+unfolding clap_on_literals
+other_runs_refused = refl
+
 -- what is said of each contradiction
 abbrev hint : Text
 hint = codes "\n\nFor more information, try '--help'.\n"
 
 clashes_told : map clash_line
     (clash.Limits ∷ clash.Rows ∷ clash.Origins ∷ clash.Libs ∷ clash.Made ∷ clash.Lines ∷ clash.Care ∷ clash.Fix
-    ∷ clash.ShownCare ∷ clash.Names ∷ [])
+    ∷ clash.ShownCare ∷ clash.Names ∷ clash.Plain ∷ clash.Unnamed ∷ [])
     ≡ (codes "error: the argument '--steps <N>' cannot be used with '--no-limit'" ++ hint)
     ∷ (codes "error: the argument '--from <N>' cannot be used with '--last <N>'" ++ hint)
     ∷ (codes "error: the argument '--code' cannot be used with '--made <CODE>' or '--lines <LINES>'" ++ hint)
@@ -145,5 +185,8 @@ clashes_told : map clash_line
     ∷ (codes "error: the argument '--careful' is '--careful=stay', '--careful=warn' or '--careful=wraps'" ++ hint)
     ∷ (codes "error: the argument '--fix' cannot be used with '--json'" ++ hint)
     ∷ (codes "error: the argument '--careful' of 'show' is '--careful=stay' or '--careful=wraps'" ++ hint)
-    ∷ (codes "error: the argument '--names <NAMES>' cannot be used without '--made <CODE>'" ++ hint) ∷ []
+    ∷ (codes "error: the argument '--names <NAMES>' cannot be used without '--made <CODE>'" ++ hint)
+    ∷ (codes "error: the argument '--code' or '--made <CODE>' of 'go' cannot be used without '--where' or '--careful'"
+    ++ hint)
+    ∷ (codes "error: the argument '--careful' of a code text cannot be used without '--names <NAMES>'" ++ hint) ∷ []
 clashes_told = refl

@@ -37,6 +37,10 @@ pub enum Clash {
     Lines,
     /// Names of a code text, and none that was made of FILE.
     Names,
+    /// A code text that is only run, by the command that compiles.
+    Plain,
+    /// A careful run of a code text, and no names of its words.
+    Unnamed,
     /// A way of a careful run that there isn't.
     Care,
     /// A source mended, and findings for an editor.
@@ -51,9 +55,9 @@ pub enum Question<'a> {
     /// Its code, or only that of the definitions of a name, if there is one.
     List(OriginNames<'a>, Option<&'a str>),
     /// The layout of its memory.
-    Map,
+    Map(OriginNames<'a>),
     /// A picture of memory, after so many steps if a number is given.
-    Draw(Option<u64>),
+    Draw(OriginNames<'a>, Option<u64>),
     /// Its faults, and whether an editor reads them.
     Check(bool),
     /// The same source, mended.
@@ -62,9 +66,9 @@ pub enum Question<'a> {
     Names,
     Trace(Walk<'a>),
     /// Where a run of so many steps at most is over.
-    Locate(u64),
+    Locate(OriginNames<'a>, u64),
     /// A run of so many steps at most, which is looked at in this way.
-    GoCareful(Care, u64),
+    GoCareful(OriginNames<'a>, Care, u64),
     /// Its faults, such a run where there is none, and what to do next.
     Try(u64),
     /// The steps of each of its lines in a run of so many at most, and whether an editor reads them.
@@ -127,6 +131,7 @@ pub struct Walk<'a> {
 /// A run on a page.
 #[derive(Clone, Copy)]
 pub struct Display<'a> {
+    pub origin: OriginNames<'a>,
     /// How it is looked at, if it is shown up to its first finding.
     pub care: Option<Care>,
     /// The most steps that are made.

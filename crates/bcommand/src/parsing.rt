@@ -2,7 +2,9 @@
 ghost use Rattle.std.specs.Prelude.{◌≡◌, [], IfOk, IfErr, map, option_map};
 ghost use Rattle.clap.specs.Words.{HasKind, fault_of, first_of, found_of, rows_of, subcommand_of, subcommand_rows_of};
 ghost use Rattle.bcommand.specs.CommandLine.{asked, asked_of, command_line, edition_in, file_in, is_set_in, libs_in, option_number, question_of, source_in, source_shown, steps_in};
-ghost use Rattle.bcommand.specs.CommandLine.{care_asked, check_in, count_in, go_in, list_in, map_in, origin_asked, origin_in, origin_or_clash, page_rows, rows_asked, run_in};
+ghost use Rattle.bcommand.specs.CommandLine.{care_asked, care_known, check_in, count_in, go_in, going, list_in, map_in};
+ghost use Rattle.bcommand.specs.CommandLine.{mapping, origin_asked, origin_in, origin_or_clash, origin_shown};
+ghost use Rattle.bcommand.specs.CommandLine.{page_rows, rows_asked, run_in};
 ghost use Rattle.bcommand.specs.CommandLine.{show_in, shown_care, shown_steps, trace_in, trace_steps, try_in};
 
 use crate::commands::command;
@@ -47,7 +49,7 @@ pub fn job_of<'m, 'a: 'm>(matches: &'m ArgMatches<'a>) -> Job<'m>
         "migrate" => Job::Migrate,
         "verify" => Job::Verify(file_of(given)),
         "list" => list_of(given),
-        "map" => Job::Ask(source_of(given), map_of(given)),
+        "map" => map_of(given),
         "check" => check_of(given),
         "names" => Job::Ask(source_of(given), Question::Names),
         "trace" => trace_of(given),
@@ -73,16 +75,55 @@ fn run_of<'m, 'a: 'm>(given: &'m ArgMatches<'a>) -> Job<'m>
 fn go_of<'m, 'a: 'm>(given: &'m ArgMatches<'a>) -> Job<'m>
     ensures { asked_of result ≡ go_in (rows_of (found_of given.now)) }
 {
-    let source = source_of(given);
-    let care = match care_of(text_of(given, "careful")) {
+    let origin = match origin_of(given) {
+        Ok(origin) => origin,
+        Err(clash) => return Job::Contradiction(clash),
+    };
+    let care = match care_known(origin, care_of(text_of(given, "careful"))) {
         Ok(care) => care,
         Err(clash) => return Job::Contradiction(clash),
     };
-    match (steps_of(given), care) {
-        (Some(steps), Some(care)) => Job::Ask(source, Question::GoCareful(care, steps)),
-        (Some(steps), None) if is_set(given, "where") => Job::Ask(source, Question::Locate(steps)),
-        (Some(steps), None) => Job::Go(source, steps),
-        (None, _) => Job::Contradiction(Clash::Limits),
+    match steps_of(given) {
+        Some(steps) => going(
+            source_of(given),
+            origin,
+            is_set(given, "where"),
+            care,
+            steps,
+        ),
+        None => Job::Contradiction(Clash::Limits),
+    }
+}
+
+// A code text that is only run is for `run`.
+fn going<'a>(
+    source: SourceNames<'a>,
+    origin: OriginNames<'a>,
+    is_located: bool,
+    care: Option<Care>,
+    steps: u64,
+) -> Job<'a>
+    ensures { asked_of result ≡ going (source_shown source.entry) (origin_shown origin.entry) is_located care steps }
+{
+    match (origin, care) {
+        (_, Some(care)) => Job::Ask(source, Question::GoCareful(origin, care, steps)),
+        (_, None) if is_located => Job::Ask(source, Question::Locate(origin, steps)),
+        (OriginNames::Source, None) => Job::Go(source, steps),
+        (OriginNames::Code | OriginNames::Made(_), None) => Job::Contradiction(Clash::Plain),
+    }
+}
+
+// A careful run knows the words of frames by their names.
+fn care_known(
+    origin: OriginNames<'_>,
+    care: Result<Option<Care>, Clash>,
+) -> Result<Option<Care>, Clash>
+    ensures { result ≡ care_known (origin_shown origin.entry) care }
+{
+    match (origin, care) {
+        (OriginNames::Code, Ok(Some(_))) => Err(Clash::Unnamed),
+        (OriginNames::Made(MadeNames { names: None, .. }), Ok(Some(_))) => Err(Clash::Unnamed),
+        (_, care) => care,
     }
 }
 
@@ -183,13 +224,25 @@ fn check_of<'m, 'a: 'm>(given: &'m ArgMatches<'a>) -> Job<'m>
     }
 }
 
-// A number of steps asks for a picture, too.
-fn map_of<'a>(given: &ArgMatches<'a>) -> Question<'a>
-    ensures { question_of result ≡ map_in (rows_of (found_of given.now)) }
+fn map_of<'m, 'a: 'm>(given: &'m ArgMatches<'a>) -> Job<'m>
+    ensures { asked_of result ≡ map_in (rows_of (found_of given.now)) }
 {
-    match (is_set(given, "svg"), number_of(given, "steps")) {
-        (false, None) => Question::Map,
-        (_, steps) => Question::Draw(steps),
+    match origin_of(given) {
+        Ok(origin) => Job::Ask(
+            source_of(given),
+            mapping(origin, is_set(given, "svg"), number_of(given, "steps")),
+        ),
+        Err(clash) => Job::Contradiction(clash),
+    }
+}
+
+// A number of steps asks for a picture, too.
+fn mapping(origin: OriginNames<'_>, is_drawn: bool, steps: Option<u64>) -> Question<'_>
+    ensures { question_of result ≡ mapping (origin_shown origin.entry) is_drawn steps }
+{
+    match (is_drawn, steps) {
+        (false, None) => Question::Map(origin),
+        (_, steps) => Question::Draw(origin, steps),
     }
 }
 
@@ -215,7 +268,11 @@ fn trace_of<'m, 'a: 'm>(given: &'m ArgMatches<'a>) -> Job<'m>
 fn show_of<'m, 'a: 'm>(given: &'m ArgMatches<'a>) -> Job<'m>
     ensures { asked_of result ≡ show_in (rows_of (found_of given.now)) }
 {
-    let care = match shown_care(text_of(given, "careful")) {
+    let origin = match origin_of(given) {
+        Ok(origin) => origin,
+        Err(clash) => return Job::Contradiction(clash),
+    };
+    let care = match care_known(origin, shown_care(text_of(given, "careful"))) {
         Ok(care) => care,
         Err(clash) => return Job::Contradiction(clash),
     };
@@ -223,6 +280,7 @@ fn show_of<'m, 'a: 'm>(given: &'m ArgMatches<'a>) -> Job<'m>
         return Job::Contradiction(Clash::Rows);
     };
     let display = Display {
+        origin,
         care,
         steps: number_of(given, "steps").unwrap_or(shown_steps(rows)),
         rows,

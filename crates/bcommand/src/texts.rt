@@ -57,6 +57,18 @@ error: the argument '--names <NAMES>' cannot be used without '--made <CODE>'
 For more information, try '--help'.
 ";
 
+const PLAIN: &str = "\
+error: the argument '--code' or '--made <CODE>' of 'go' cannot be used without '--where' or '--careful'
+
+For more information, try '--help'.
+";
+
+const UNNAMED: &str = "\
+error: the argument '--careful' of a code text cannot be used without '--names <NAMES>'
+
+For more information, try '--help'.
+";
+
 const CARE: &str = "\
 error: the argument '--careful' is '--careful=stay', '--careful=warn' or '--careful=wraps'
 
@@ -87,6 +99,8 @@ pub fn clash_text(clash: Clash) -> &'static str
         Clash::Made => MADE,
         Clash::Lines => LINES,
         Clash::Names => NAMES,
+        Clash::Plain => PLAIN,
+        Clash::Unnamed => UNNAMED,
         Clash::Care => CARE,
         Clash::Fix => FIX,
         Clash::ShownCare => SHOWN_CARE,
@@ -247,15 +261,23 @@ them as they are before the run. The frame of main begins at the data end.
 --steps N draws the memory after N steps of the program, with the frames of the
 active calls. The program then reads standard input, and its output is dropped.
 
+With --code, FILE is a code text of any compiler, and its own lines are shown.
+With --made CODE and --lines LINES, another compiler made CODE of FILE. LINES
+has a line with a number for each place of CODE: the line of FILE that it comes
+from. NAMES has the names of the words and labels of its functions. With --code
+there is no LIB, and no edition is needed.
+A picture has the frames of a code text with NAMES alone.
+
 Examples:
   b map hello.b
   b map --svg --edition 2 menu.b > menu.svg
   b map --svg --steps 40 hello.b > hello.svg
   b map --with print sum.b
+  b map --code hello.code
 
-Statuses: 0 shown, 1 a fault of the source, 132 code that doesn't load,
-133 a failed read or write, 134 out of memory, 135 a wrong command line.
-b --help explains the letters.";
+Statuses: 0 shown, 1 a fault of the source, 132 no code text or one that
+doesn't load, 133 a failed read or write, 134 out of memory, 135 a wrong command
+line, or LINES or NAMES that don't fit. b --help explains the letters.";
 
 pub(crate) const TRACE_HELP: &str = "\
 A row has the number of a step, the function, the place in it, the number of the
@@ -377,17 +399,25 @@ Then come the place, as with --where, and the names of the words. With
 --careful=wraps it stays at careful wraps, too: a sum, a difference or a product
 that is below -32768 or above 32767.
 
+With --where or --careful the program may be a code text of any compiler. With
+--code, FILE is that text. With --made CODE and --lines LINES, another compiler
+made CODE of FILE, and LINES has a line with a number for each place of CODE:
+the line of FILE that it comes from. NAMES has the names of the words and labels
+of its functions, by which --careful knows them: a careful run needs it. With
+--code there is no LIB, and no edition is needed.
+
 Examples:
   b go --steps 1000 hello.b
   b go --edition 2 menu.b
   b go --where hello.b
   b go --careful hello.b
   b go --with print --with input sum.b
+  b go --where --made hello.code --lines hello.lines hello.bas
 
 Statuses: 0 to 127 the program's own, 1 also a fault of the source, 130 a trap
-or a finding, 131 the limit of steps, 132 code that doesn't load, 133 a failed
-read or write, 134 out of memory, 135 a wrong command line. b --help explains
-the letters.";
+or a finding, 131 the limit of steps, 132 no code text or one that doesn't load,
+133 a failed read or write, 134 out of memory, 135 a wrong command line, or
+LINES or NAMES that don't fit. b --help explains the letters.";
 
 pub(crate) const TRY_HELP: &str = "\
 The first command for a program of your own. It tells what b check tells. If
@@ -449,15 +479,23 @@ finding of b go --careful, and tells it as its last sentence. It shows the last
 looks for sums, differences and products that are no word, too. A run without a
 finding is shown as without --careful, up to its end or the limit.
 
+With --code, FILE is a code text of any compiler, and its own lines are shown.
+With --made CODE and --lines LINES, another compiler made CODE of FILE. LINES
+has a line with a number for each place of CODE: the line of FILE that it comes
+from. NAMES has the names of the words and labels of its functions. With --code
+there is no LIB, and no edition is needed.
+--careful knows the words of a code text by NAMES, and needs it.
+
 Examples:
   b show hello.b > run.html
   b show --careful hello.b > run.html
   b show --input 'a text' --edition 2 menu.b > run.html
   b show --last 500 hello.b > run.html
+  b show --made hello.code --lines hello.lines hello.bas > run.html
 
-Statuses: 0 written, 1 a fault of the source, 132 code that doesn't load,
-133 a failed read or write, 134 out of memory, 135 a wrong command line.
-b --help explains the letters.";
+Statuses: 0 written, 1 a fault of the source, 132 no code text or one that
+doesn't load, 133 a failed read or write, 134 out of memory, 135 a wrong command
+line, or LINES or NAMES that don't fit. b --help explains the letters.";
 
 pub(crate) const PORT_HELP: &str = "\
 FILE is of an old or a later form of B, or early C. It is written to standard

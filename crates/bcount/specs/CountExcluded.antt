@@ -11,10 +11,11 @@ use Rattle.blang.specs.declared.status.TheConstants.{DEVICE}
 use Rattle.blang.specs.Compiles.{Compilation, CompilesTo}
 use Rattle.blang.specs.Cut.{tokens_from}
 use Rattle.blang.specs.Machine.{image_of, machine}
-use Rattle.blang.specs.Reports.{RunEnds}
+use Rattle.blang.specs.Reports.{HasNotRun, RunEnds}
 use Rattle.blang.specs.Text.{IsCodeText}
 use Rattle.bmach.specs.Readings.{LeftBySteps}
-use Rattle.btools.specs.Origins.{Code, Source}
+use Rattle.btools.specs.FaultPlaces.{fault_lines}
+use Rattle.btools.specs.Origins.{Code, IsSuited, NoProgramOf, Source}
 use Rattle.btools.specs.PlaceLines.{CodeText}
 use Rattle.btools.specs.ProgramsExcluded.{code_in}
 use Rattle.btools.specs.Functions.{functions_of}
@@ -50,6 +51,10 @@ pub record CountsExcluded : Type 0 where
   pub read_failed : (asked : Asked) (source : List ℕ) (ends : RunEnds) (status : ℕ)
       → (ends.input_after.failures ≡ ends.input.failures → ⊥) → Counts asked source ends status
       → (status ≡ DEVICE) × (ends.out_after ≡ ends.out)
+  -- anything but why there is no program, where a file of lines or of names doesn't suit the code
+  pub unsuited : (asked : Asked) (source : List ℕ) → (IsSuited asked.origin source → ⊥) → (ends : RunEnds) (status : ℕ)
+      → Counts asked source ends status
+      → NoProgramOf asked.origin source (fault_lines asked.files) ends.line ends.line_after status × HasNotRun ends
   -- whatever the status, as where memory was refused: a byte taken that no step asked for
   pub unasked : (edition : Edition) (source : List ℕ) (r : Compilation)
       (g : CompilesTo [] (tokens_from edition 1 source) r) (asked : Asked) (ends : RunEnds) (status : ℕ)

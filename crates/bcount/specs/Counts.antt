@@ -14,7 +14,8 @@ use Rattle.bmach.specs.Readings.{ReadBySteps}
 use Rattle.bmach.specs.Stepping.{BeginsNot}
 use Rattle.btools.specs.Functions.{Placed, functions_of}
 use Rattle.btools.specs.FaultPlaces.{fault_lines}
-use Rattle.btools.specs.Origins.{Code, LinesOf, NoProgramOf, Origin, ProgramOf, Source, origin_shown}
+use Rattle.btools.specs.Origins.{Code, IsSuited, LinesOf, NamesOf, NoProgramOf, Origin, ProgramOf, Source, origin_shown}
+use Rattle.btools.specs.declared.names.Frame.{Frame}
 use Rattle.btools.specs.ProgramLines.{FunctionLines, line_in, lined_functions}
 use Rattle.btools.specs.Programs.{TellsEnd, nothing_written}
 use Rattle.bwatch.specs.Sights.{Sights}
@@ -92,25 +93,27 @@ AreCounts functions tallies sights made result = tallies ≡ map (counts_of sigh
 
 -- The program of this origin was run for so many steps at most, as the machine runs it, and its counts written, each
 -- instruction on its own line; or a read of it failed, and nothing was written; or it did not begin, or there is none,
--- and why was told; or memory was refused, and nothing was written, or read but by some of its steps.
+-- and why was told; or memory was refused, and nothing was written, or read but by some of its steps. Wherever there is
+-- a program, what stands beside its code text suits it.
 pub data Counts (asked : Asked) (source : List ℕ) (ends : RunEnds) (status : ℕ) : Type 0 where
   counted : (ds : List Definition) (image : Image) (result : Outcome) (made : ℕ) (tallies : List (List ℕ))
-      (lines : List ℕ) (told : ℕ) → ProgramOf asked.origin source ds image
+      (lines : List ℕ) (frames : List Frame) (told : ℕ) → ProgramOf asked.origin source ds image
       → Watches (image_of ds).functions (machine ds) asked.steps ends.input ends.input_after result made
       (AreCounts (functions_of ds) tallies)
-      → LinesOf asked.origin source lines
+      → LinesOf asked.origin source lines → NamesOf asked.origin source frames
       → Reported (count_text asked source (lined_functions ds lines) tallies made) DONE ends.out ends.out_after told
       → TellsEnd told result ends.line ends.line_after status → Counts asked source ends status
   unread : (ds : List Definition) (image : Image) (output : Kept)
-      → ProgramOf asked.origin source ds image → ends.line_after ≡ ends.line
+      → ProgramOf asked.origin source ds image → IsSuited asked.origin source → ends.line_after ≡ ends.line
       → RunGives (machine ds) asked.steps ends.input ends.input_after nothing_written (outgoing_of output) outcome.Device
       → ends.out_after ≡ ends.out → status ≡ DEVICE → Counts asked source ends status
   not_begun : (ds : List Definition) (image : Image) (result : Outcome)
-      → ProgramOf asked.origin source ds image → BeginsNot image result
+      → ProgramOf asked.origin source ds image → IsSuited asked.origin source → BeginsNot image result
       → Finishes result ends.line ends.line_after status → HasNotRun ends → Counts asked source ends status
   stopped : NoProgramOf asked.origin source (fault_lines asked.files) ends.line ends.line_after status → HasNotRun ends
       → Counts asked source ends status
   no_memory : (ds : List Definition) (image : Image)
-      → ProgramOf asked.origin source ds image → ends.line_after ≡ ends.line → ends.out_after ≡ ends.out
+      → ProgramOf asked.origin source ds image → IsSuited asked.origin source → ends.line_after ≡ ends.line
+      → ends.out_after ≡ ends.out
       → ReadBySteps (machine ds) asked.steps ends.input ends.input_after → status ≡ MEMORY
       → Counts asked source ends status

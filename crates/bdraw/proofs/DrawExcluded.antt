@@ -22,6 +22,7 @@ use Rattle.blang.specs.Layout.{load_fault}
 use Rattle.blang.specs.Machine.{Image, State, image_of, machine, state_world}
 use Rattle.blang.specs.Reports.{ComesTo, Reported, RunEnds, RunGives}
 use Rattle.btools.specs.FrameNames.{HasNames}
+use Rattle.btools.specs.Origins.{Source}
 use Rattle.btools.specs.ProgramsExcluded.{Excluded, code_in}
 use Rattle.btools.specs.Programs.{load_line, nothing_written}
 use Rattle.btools.specs.declared.names.Frame.{Frame}
@@ -146,8 +147,8 @@ module _ (edition : Edition) (source : List ℕ) (r : Compilation) (g : Compiles
   told : Excluded edition source r g line_of ends.line ends.line_after
   told = excluded edition source r g line_of ends.line ends.line_after
 
-  done : (steps : Option ℕ) → Draws edition source steps ends 0 → (r.stop ≡ None) × (load_fault code ≡ None)
-  done steps (draws.drew ds frames image p named silent h) = let is = told.program ds image p in (is.0, is.2)
+  done : (steps : Option ℕ) → Draws (Source edition) source steps ends 0 → (r.stop ≡ None) × (load_fault code ≡ None)
+  done steps (draws.drew ds frames image p suits named silent h) = let is = told.program ds image p in (is.0, is.2)
   done steps (draws.stopped why quiet unread) = absurd (no_done 0 refl (told.status 0 why))
 
   -- a picture of the program of the source
@@ -156,8 +157,8 @@ module _ (edition : Edition) (source : List ℕ) (r : Compilation) (g : Compiles
   shows_code ds frames image at named same h =
       (frames, [], named, subst (λ (x : List Definition). Writes ends.out (picture_at (drawn_of x frames image) at image.words []) ends.out_after) same (shown (drawn_of ds frames image) at ends.out ends.out_after h))
 
-  before : Draws edition source None ends 0 → (image : Image) × IsLoadedFrom code image × Shows edition source r g ends image moment.Before image.words × (ends.input_after ≡ ends.input)
-  before (draws.drew ds frames image p named silent h) =
+  before : Draws (Source edition) source None ends 0 → (image : Image) × IsLoadedFrom code image × Shows edition source r g ends image moment.Before image.words × (ends.input_after ≡ ends.input)
+  before (draws.drew ds frames image p suits named silent h) =
       let same = (told.program ds image p).1 in
       (image, subst (λ (x : List Definition). IsLoadedFrom x image) same p.loaded, shows_code ds frames image moment.Before named same h.0, h.1)
   before (draws.stopped why quiet unread) = absurd (no_done 0 refl (told.status 0 why))
@@ -200,35 +201,35 @@ module _ (edition : Edition) (source : List ℕ) (r : Compilation) (g : Compiles
     after_run ds frames image named same (draws.unread output gives quiet is) = absurd (omega (arith, is))
     after_run ds frames image named same (draws.no_memory read quiet is) = absurd (omega (arith, is))
 
-    after : Draws edition source (Some n) ends 0 → (image : Image) × (at : Moment) × (words : List ℕ) × IsLoadedFrom code image × Shows edition source r g ends image at words × IsOfStep edition source r g ends image n bytes at words
-    after (draws.drew ds frames image p named silent h) =
+    after : Draws (Source edition) source (Some n) ends 0 → (image : Image) × (at : Moment) × (words : List ℕ) × IsLoadedFrom code image × Shows edition source r g ends image at words × IsOfStep edition source r g ends image n bytes at words
+    after (draws.drew ds frames image p suits named silent h) =
         let same = (told.program ds image p).1 in
         let a = after_run ds frames image named same h in
         (image, a.0, a.1, subst (λ (x : List Definition). IsLoadedFrom x image) same p.loaded, a.2, a.3)
     after (draws.stopped why quiet unread) = absurd (no_done 0 refl (told.status 0 why))
 
-  unread : (steps : Option ℕ) (status : ℕ) → Draws edition source steps ends status → (ends.input_after.failures ≡ ends.input.failures → ⊥) → (status ≡ 133) × (ends.out_after ≡ ends.out)
-  unread steps status (draws.drew ds frames image p named silent h) failed = unread_in (drawn_of ds frames image) ends.input ends.input_after ends.out ends.out_after steps status h failed
+  unread : (steps : Option ℕ) (status : ℕ) → Draws (Source edition) source steps ends status → (ends.input_after.failures ≡ ends.input.failures → ⊥) → (status ≡ 133) × (ends.out_after ≡ ends.out)
+  unread steps status (draws.drew ds frames image p suits named silent h) failed = unread_in (drawn_of ds frames image) ends.input ends.input_after ends.out ends.out_after steps status h failed
   unread steps status (draws.stopped why quiet same) failed = absurd (failed (ap (λ (x : Incoming). x.failures) same))
 
-  device : (steps : Option ℕ) → Draws edition source steps ends 133 → Grew ends.input.failures ends.input_after.failures ⊎ Grew ends.out.failures ends.out_after.failures ⊎ Grew ends.line.failures ends.line_after.failures
-  device steps (draws.drew ds frames image p named silent h) =
+  device : (steps : Option ℕ) → Draws (Source edition) source steps ends 133 → Grew ends.input.failures ends.input_after.failures ⊎ Grew ends.out.failures ends.out_after.failures ⊎ Grew ends.line.failures ends.line_after.failures
+  device steps (draws.drew ds frames image p suits named silent h) =
       elim (device_in (drawn_of ds frames image) ends.input ends.input_after ends.out ends.out_after steps h) [ inl read ↦ inl read | inr written ↦ inr (inl written) ]
   device steps (draws.stopped why quiet same) = inr (inr (told.device why))
 
-  fault : (steps : Option ℕ) → Draws edition source steps ends 1
+  fault : (steps : Option ℕ) → Draws (Source edition) source steps ends 1
       → ((d : Diagnostic) × (r.stop ≡ Some d) × Writes ends.line (line_of d) ends.line_after) × (ends.out_after ≡ ends.out) × (ends.input_after ≡ ends.input)
-  fault steps (draws.drew ds frames image p named silent h) = absurd (no_fault (drawn_of ds frames image) ends.input ends.input_after ends.out ends.out_after steps h)
+  fault steps (draws.drew ds frames image p suits named silent h) = absurd (no_fault (drawn_of ds frames image) ends.input ends.input_after ends.out ends.out_after steps h)
   fault steps (draws.stopped why quiet same) = (told.fault why, quiet, same)
 
-  unloaded : (steps : Option ℕ) → Draws edition source steps ends 132
+  unloaded : (steps : Option ℕ) → Draws (Source edition) source steps ends 132
       → ((f : LoadFault) × (text : List ℕ) × (load_fault code ≡ Some f) × (load_line f ≡ Some text) × Writes ends.line text ends.line_after) × (ends.out_after ≡ ends.out) × (ends.input_after ≡ ends.input)
-  unloaded steps (draws.drew ds frames image p named silent h) = absurd (no_refusal (drawn_of ds frames image) ends.input ends.input_after ends.out ends.out_after steps h)
+  unloaded steps (draws.drew ds frames image p suits named silent h) = absurd (no_refusal (drawn_of ds frames image) ends.input ends.input_after ends.out ends.out_after steps h)
   unloaded steps (draws.stopped why quiet same) = (told.unloaded why, quiet, same)
 
   -- what was read of the input was asked for
-  unasked : (n status : ℕ) → Draws edition source (Some n) ends status → LeftBySteps (machine code) n ends.input ends.input_after
-  unasked n status (draws.drew ds frames image p named silent h) = by h
+  unasked : (n status : ℕ) → Draws (Source edition) source (Some n) ends status → LeftBySteps (machine code) n ends.input ends.input_after
+  unasked n status (draws.drew ds frames image p suits named silent h) = by h
     where
       by : DrawsRun (drawn_of ds frames image) n ends.input ends.input_after ends.out ends.out_after status → LeftBySteps (machine code) n ends.input ends.input_after
       by (draws.after result made text w report) =

@@ -19,6 +19,7 @@ use Rattle.blang.specs.Machine.{Image, machine, state_world}
 use Rattle.blang.specs.Reports.{RunEnds}
 use Rattle.bmach.specs.declared.machine.Active.{Active}
 use Rattle.btools.specs.FrameNames.{HasNames}
+use Rattle.btools.specs.Origins.{Source}
 use Rattle.btools.specs.ProgramsExcluded.{code_in}
 use Rattle.btools.specs.Programs.{load_line}
 use Rattle.btools.specs.declared.names.Frame.{Frame}
@@ -67,34 +68,35 @@ module _ (edition : Edition) (source : List ℕ) (r : Compilation) (g : Compiles
   -- What is excluded of a picture.
   pub record WrongPictures : Type 0 where
     -- 0 for a source with a fault, or for what doesn't load
-    pub done : (steps : Option ℕ) → Draws edition source steps ends DONE
+    pub done : (steps : Option ℕ) → Draws (Source edition) source steps ends DONE
         → (r.stop ≡ None) × (load_fault (code_in edition source r g) ≡ None)
     -- a picture before the run that is one of other words, or for which something was read
-    pub before : Draws edition source None ends DONE
+    pub before : Draws (Source edition) source None ends DONE
         → (image : Image) × IsLoadedFrom (code_in edition source r g) image × Shows image moment.Before image.words
         × (ends.input_after ≡ ends.input)
     -- a picture of the machine a step earlier or later, or that says so, or for which it read less or more
-    pub after : (n : ℕ) (bytes : List ℕ) → TellsBytes ends.input bytes → Draws edition source (Some n) ends DONE
+    pub after : (n : ℕ) (bytes : List ℕ) → TellsBytes ends.input bytes
+        → Draws (Source edition) source (Some n) ends DONE
         → (image : Image) × (at : Moment) × (words : List ℕ) × IsLoadedFrom (code_in edition source r g) image
         × Shows image at words × IsOfStep image n bytes at words
     -- a failed read that isn't told by 133, or something written after it
-    pub unread : (steps : Option ℕ) (status : ℕ) → Draws edition source steps ends status
+    pub unread : (steps : Option ℕ) (status : ℕ) → Draws (Source edition) source steps ends status
         → (ends.input_after.failures ≡ ends.input.failures → ⊥) → (status ≡ DEVICE) × (ends.out_after ≡ ends.out)
     -- 133 where no read and no write failed
-    pub device : (steps : Option ℕ) → Draws edition source steps ends DEVICE
+    pub device : (steps : Option ℕ) → Draws (Source edition) source steps ends DEVICE
         → Grew ends.input.failures ends.input_after.failures ⊎ Grew ends.out.failures ends.out_after.failures
         ⊎ Grew ends.line.failures ends.line_after.failures
     -- 1 for a source without a fault, or with another line, or with anything else written or read
-    pub fault : (steps : Option ℕ) → Draws edition source steps ends FAULT
+    pub fault : (steps : Option ℕ) → Draws (Source edition) source steps ends FAULT
         → ((d : Diagnostic) × (r.stop ≡ Some d) × Writes ends.line (line_of d) ends.line_after)
         × (ends.out_after ≡ ends.out) × (ends.input_after ≡ ends.input)
     -- 132 for definitions that load, or with another line, or with anything else written or read
-    pub unloaded : (steps : Option ℕ) → Draws edition source steps ends REFUSED
+    pub unloaded : (steps : Option ℕ) → Draws (Source edition) source steps ends REFUSED
         → ((f : LoadFault) × (text : List ℕ) × (load_fault (code_in edition source r g) ≡ Some f)
         × (load_line f ≡ Some text) × Writes ends.line text ends.line_after)
         × (ends.out_after ≡ ends.out) × (ends.input_after ≡ ends.input)
     -- whatever the status, as where memory was refused: a byte taken that no step asked for
-    pub unasked : (n status : ℕ) → Draws edition source (Some n) ends status
+    pub unasked : (n status : ℕ) → Draws (Source edition) source (Some n) ends status
         → LeftBySteps (machine (code_in edition source r g)) n ends.input ends.input_after
 
 abbrev pub NoPictures : Type 0

@@ -1,7 +1,6 @@
--- Promise: what comes of a source whose memory is drawn.
+-- Promise: what comes of a program whose memory is drawn.
 use Rattle.std.specs.Prelude.{◌≡◌, ℕ, ◌-◌, List, [], ◌∷◌, ◌++◌, codes, Option, Some, None}
 use Rattle.std.specs.Option.{option_map_or}
-use Rattle.bword.specs.declared.edition.Edition.{Edition}
 use Rattle.bword.specs.ByteEnds.{Incoming, Outgoing, Kept, outgoing_of}
 use Rattle.blang.specs.declared.code.Definition.{Definition}
 use Rattle.blang.specs.declared.run.Outcome.{Outcome}
@@ -14,8 +13,8 @@ use Rattle.blang.specs.Reports.{RunGives, RunEnds, Reported}
 use Rattle.bmach.specs.Readings.{ReadBySteps}
 use Rattle.bmach.specs.Stepping.{BeginsNot}
 use Rattle.bmach.specs.declared.machine.Active.{Active}
-use Rattle.btools.specs.FrameNames.{HasNames}
-use Rattle.btools.specs.Programs.{HasProgram, NoProgram, nothing_written}
+use Rattle.btools.specs.Origins.{IsSuited, NamesOf, NoProgramOf, Origin, ProgramOf}
+use Rattle.btools.specs.Programs.{nothing_written}
 use Rattle.btools.specs.declared.names.Frame.{Frame}
 use Rattle.bwatch.specs.Sights.{Sight, Sights}
 use Rattle.bwatch.specs.Watches.{Watches}
@@ -86,11 +85,11 @@ abbrev pub DrawsProgram : DrawnProgram → Option ℕ → (i j : Incoming) (old 
 DrawsProgram p None i j old new status = ShowsMemory p moment.Before old new status × (j ≡ i)
 DrawsProgram p (Some n) i j old new status = DrawsRun p n i j old new status
 
--- The memory of the program of the source was drawn; or there is none, and nothing but why was written.
-pub data Draws (edition : Edition) (source : List ℕ) (steps : Option ℕ) (ends : RunEnds) (status : ℕ) : Type 0 where
-  drew : (ds : List Definition) (frames : List Frame) (image : Image) → HasProgram edition source ds image
-      → HasNames edition source frames → ends.line_after ≡ ends.line
+-- The memory of the program of this origin was drawn; or there is none, and nothing but why was written.
+pub data Draws (origin : Origin) (source : List ℕ) (steps : Option ℕ) (ends : RunEnds) (status : ℕ) : Type 0 where
+  drew : (ds : List Definition) (frames : List Frame) (image : Image) → ProgramOf origin source ds image
+      → IsSuited origin source → NamesOf origin source frames → ends.line_after ≡ ends.line
       → DrawsProgram (drawn_of ds frames image) steps ends.input ends.input_after ends.out ends.out_after status
-      → Draws edition source steps ends status
-  stopped : NoProgram edition source line_of ends.line ends.line_after status → ends.out_after ≡ ends.out
-      → ends.input_after ≡ ends.input → Draws edition source steps ends status
+      → Draws origin source steps ends status
+  stopped : NoProgramOf origin source line_of ends.line ends.line_after status → ends.out_after ≡ ends.out
+      → ends.input_after ≡ ends.input → Draws origin source steps ends status

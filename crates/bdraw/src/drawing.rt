@@ -6,6 +6,7 @@ ghost use Rattle.bdraw.specs.DrawExcluded.{NoPictures, NoTags};
 ghost use Rattle.bdraw.specs.Draws.{Draws, DrawsRun, IsDrawn, ShowsMemory, moment_of, title_of};
 ghost use Rattle.bdraw.specs.Pictures.{rows_of, stacked_text};
 ghost use Rattle.bdraw.specs.Stacks.{IsOf, drawn_in};
+ghost use Rattle.btools.specs.Origins.{origin_shown};
 
 use crate::picture::{picture_of, title_of};
 use crate::scene::{Memory, Moment, Scene, calls_of, no_calls};
@@ -15,30 +16,30 @@ use blang::status::{self, Status};
 use bmach::{Stepper, Stop};
 use btools::{Origin, Program, Tables, Text, read_program, tell, tell_fault};
 use bwatch::{Onlooker, Watched, watch};
-use bword::{ByteIn, ByteOut, Edition, Store};
+use bword::{ByteIn, ByteOut, Store};
 use std::alloc::{AllocError, Global};
 
-/// Draws the memory of the program of a source as an SVG picture: before its run, or after so many steps of it.
+/// Draws the memory of a program as an SVG picture: before its run, or after so many steps of it.
 ///
-/// The output of these steps is dropped. The status is 0, or that of `go` if the source doesn't compile or load. It is
+/// The output of these steps is dropped. The status is 0, or that of `go` if there is no program. It is
 /// 133 if the program can't read its input.
 pub fn draw<I: ByteIn, O: ByteOut, D: ByteOut>(
     alloc: Global,
     source: &[u8],
-    edition: Edition,
+    origin: Origin<'_>,
     steps: Option<u64>,
     input: &mut I,
     out: &mut O,
     diag: &mut D,
 ) -> Status
-    ensures draws { Draws edition source.now steps (run_ends
+    ensures draws { Draws (origin_shown origin.entry) source.now steps (run_ends
         (I.incoming input.old) (I.incoming input.new) (O.outgoing out.old) (O.outgoing out.new)
         (D.outgoing diag.old) (D.outgoing diag.new)) result }
     ensures input_lender { I.lender input.new ≡ I.lender input.old }
     ensures out_lender { O.lender out.new ≡ O.lender out.old }
     ensures diag_lender { D.lender diag.new ≡ D.lender diag.old }
 {
-    let program = match read_program(alloc, source, Origin::Source(edition)) {
+    let program = match read_program(alloc, source, origin) {
         Ok(program) => program,
         Err(fault) => return tell_fault(&fault, diag),
     };

@@ -67,23 +67,23 @@ module _ (c : CodeText) (source : List ℕ) (name : Option (List ℕ)) (ends : T
                 (was_told (list_text image text name es lines frames) 0 ends.out ends.out_after (λ e. omega (arith, e)) (λ e. omega (arith, e)) report),
           ),
         )
-    list_done (listing.unnamed es image p none report quiet) = absurd (not_unnamed 0 (λ e. omega (arith, e)) (λ e. omega (arith, e)) (λ e. omega (arith, e)) report)
+    list_done (listing.unnamed es image p suits none report quiet) = absurd (not_unnamed 0 (λ e. omega (arith, e)) (λ e. omega (arith, e)) (λ e. omega (arith, e)) report)
     list_done (listing.stopped why quiet) = absurd (no_status 0 (omega arith) (told.status 0 why))
 
     list_fault : Gives c source name ends 1 → ⊥
     list_fault (listing.listed es image lines frames p own named silent some report) = not_listed _ 1 (λ e. omega (arith, e)) (λ e. omega (arith, e)) (λ e. omega (arith, e)) report
-    list_fault (listing.unnamed es image p none report quiet) = not_unnamed 1 (λ e. omega (arith, e)) (λ e. omega (arith, e)) (λ e. omega (arith, e)) report
+    list_fault (listing.unnamed es image p suits none report quiet) = not_unnamed 1 (λ e. omega (arith, e)) (λ e. omega (arith, e)) (λ e. omega (arith, e)) report
     list_fault (listing.stopped why quiet) = no_status 1 (omega arith) (told.status 1 why)
 
     list_unloaded : Gives c source name ends 132 → ((f : LoadFault) × (text : List ℕ) × (load_fault ds ≡ Some f) × (load_line f ≡ Some text) × Writes ends.line text ends.line_after) × (ends.out_after ≡ ends.out)
     list_unloaded (listing.listed es image lines frames p own named silent some report) = absurd (not_listed _ 132 (λ e. omega (arith, e)) (λ e. omega (arith, e)) (λ e. omega (arith, e)) report)
-    list_unloaded (listing.unnamed es image p none report quiet) = absurd (not_unnamed 132 (λ e. omega (arith, e)) (λ e. omega (arith, e)) (λ e. omega (arith, e)) report)
+    list_unloaded (listing.unnamed es image p suits none report quiet) = absurd (not_unnamed 132 (λ e. omega (arith, e)) (λ e. omega (arith, e)) (λ e. omega (arith, e)) report)
     list_unloaded (listing.stopped why quiet) = (told.unloaded why, quiet)
 
     list_unknown : Gives c source name ends 135
         → (((wanted name ds ≡ []) × Writes ends.line UNDEFINED.now ends.line_after) ⊎ IsUnsuited c ds ends.line ends.line_after) × (ends.out_after ≡ ends.out)
     list_unknown (listing.listed es image lines frames p own named silent some report) = absurd (not_listed _ 135 (λ e. omega (arith, e)) (λ e. omega (arith, e)) (λ e. omega (arith, e)) report)
-    list_unknown (listing.unnamed es image p none report quiet) = (
+    list_unknown (listing.unnamed es image p suits none report quiet) = (
       inl (
         subst (λ (x : List Definition). wanted name x ≡ []) (told.program es image p).0 none,
         was_told UNDEFINED.now 135 ends.line ends.line_after (λ e. omega (arith, e)) (λ e. omega (arith, e)) report,
@@ -94,7 +94,7 @@ module _ (c : CodeText) (source : List ℕ) (name : Option (List ℕ)) (ends : T
 
     list_device : Gives c source name ends 133 → Grew ends.out.failures ends.out_after.failures ⊎ Grew ends.line.failures ends.line_after.failures
     list_device (listing.listed es image lines frames p own named silent some report) = inl (device_grew _ 0 ends.out ends.out_after (λ e. omega (arith, e)) report)
-    list_device (listing.unnamed es image p none report quiet) = inr (device_grew UNDEFINED.now 135 ends.line ends.line_after (λ e. omega (arith, e)) report)
+    list_device (listing.unnamed es image p suits none report quiet) = inr (device_grew UNDEFINED.now 135 ends.line ends.line_after (λ e. omega (arith, e)) report)
     list_device (listing.stopped why quiet) = inr (told.device why)
 
     of_text : WrongTextListings c source name ends ds
@@ -112,12 +112,12 @@ module _ (c : CodeText) (source : List ℕ) (name : Option (List ℕ)) (ends : T
 
     only_stopped : (status : ℕ) → (status ≡ 132 → ⊥) → (status ≡ 133 → ⊥) → (status ≡ 134 → ⊥) → Gives c source name ends status → ⊥
     only_stopped status a b m (listing.listed es image lines frames p own named silent some report) = none_told.program es image p
-    only_stopped status a b m (listing.unnamed es image p none_wanted report quiet) = none_told.program es image p
+    only_stopped status a b m (listing.unnamed es image p suits none_wanted report quiet) = none_told.program es image p
     only_stopped status a b m (listing.stopped why quiet) = no_other status status refl a b m (none_told.status status why)
 
     unread : Gives c source name ends 132 → Writes ends.line (report_text (report.Code n)) ends.line_after × (ends.out_after ≡ ends.out)
     unread (listing.listed es image lines frames p own named silent some report) = absurd (none_told.program es image p)
-    unread (listing.unnamed es image p none_wanted report quiet) = absurd (none_told.program es image p)
+    unread (listing.unnamed es image p suits none_wanted report quiet) = absurd (none_told.program es image p)
     unread (listing.stopped why quiet) = (none_told.unread why, quiet)
 
     of_other : WrongOtherListings c source name ends n

@@ -98,14 +98,14 @@ module _ (edition : Edition) (source : List ℕ) (r : Compilation) (g : Compiles
                 (was_told text 0 ends.out ends.out_after (λ e. omega (arith, e)) (λ e. omega (arith, e)) report),
           ),
         )
-    list_done (listing.unnamed ds image p none report same) =
+    list_done (listing.unnamed ds image p suits none report same) =
         absurd (other_answer UNDEFINED.now 135 ends.line ends.line_after 0 (λ e. omega (arith, e)) (λ e. omega (arith, e)) (λ e. omega (arith, e)) report)
     list_done (listing.stopped why same) = absurd (no_done 0 refl (told.status 0 why))
 
     list_unknown : Gives 135 → (wanted name code ≡ []) × Writes ends.line UNDEFINED.now ends.line_after × (ends.out_after ≡ ends.out)
     list_unknown (listing.listed ds image lines frames p own named silent some report) =
         absurd (other_answer (list_text image source name ds lines frames) 0 ends.out ends.out_after 135 (λ e. omega (arith, e)) (λ e. omega (arith, e)) (λ e. omega (arith, e)) report)
-    list_unknown (listing.unnamed ds image p none report same) =
+    list_unknown (listing.unnamed ds image p suits none report same) =
         let is = told.program ds image p in (
           subst (λ (x : List Definition). wanted name x ≡ []) is.1 none,
           was_told UNDEFINED.now 135 ends.line ends.line_after (λ e. omega (arith, e)) (λ e. omega (arith, e)) report,
@@ -119,25 +119,25 @@ module _ (edition : Edition) (source : List ℕ) (r : Compilation) (g : Compiles
         fault : Gives 1 → ((d : Diagnostic) × (r.stop ≡ Some d) × Writes ends.line (line_of d) ends.line_after) × (ends.out_after ≡ ends.out)
         fault (listing.listed ds image lines frames p own named silent some report) =
             absurd (other_answer (list_text image source name ds lines frames) 0 ends.out ends.out_after 1 (λ e. omega (arith, e)) (λ e. omega (arith, e)) (λ e. omega (arith, e)) report)
-        fault (listing.unnamed ds image p none report same) =
+        fault (listing.unnamed ds image p suits none report same) =
             absurd (other_answer UNDEFINED.now 135 ends.line ends.line_after 1 (λ e. omega (arith, e)) (λ e. omega (arith, e)) (λ e. omega (arith, e)) report)
         fault (listing.stopped why same) = (told.fault why, same)
 
         unloaded : Gives 132 → ((f : LoadFault) × (text : List ℕ) × (load_fault code ≡ Some f) × (load_line f ≡ Some text) × Writes ends.line text ends.line_after) × (ends.out_after ≡ ends.out)
         unloaded (listing.listed ds image lines frames p own named silent some report) =
             absurd (other_answer (list_text image source name ds lines frames) 0 ends.out ends.out_after 132 (λ e. omega (arith, e)) (λ e. omega (arith, e)) (λ e. omega (arith, e)) report)
-        unloaded (listing.unnamed ds image p none report same) =
+        unloaded (listing.unnamed ds image p suits none report same) =
             absurd (other_answer UNDEFINED.now 135 ends.line ends.line_after 132 (λ e. omega (arith, e)) (λ e. omega (arith, e)) (λ e. omega (arith, e)) report)
         unloaded (listing.stopped why same) = (told.unloaded why, same)
 
         device : Gives 133 → Grew ends.out.failures ends.out_after.failures ⊎ Grew ends.line.failures ends.line_after.failures
         device (listing.listed ds image lines frames p own named silent some report) = inl (device_grew (list_text image source name ds lines frames) 0 ends.out ends.out_after (λ e. omega (arith, e)) report)
-        device (listing.unnamed ds image p none report same) =
+        device (listing.unnamed ds image p suits none report same) =
             inr (device_grew UNDEFINED.now 135 ends.line ends.line_after (λ e. omega (arith, e)) report)
         device (listing.stopped why same) = inr (told.device why)
 
-  map_done : Maps edition source ends 0 → (r.stop ≡ None) × (load_fault code ≡ None) × Writes ends.out (map_text (image_of code) code) ends.out_after
-  map_done (layout.mapped ds image p silent report) =
+  map_done : Maps (Source edition) source ends 0 → (r.stop ≡ None) × (load_fault code ≡ None) × Writes ends.out (map_text (image_of code) code) ends.out_after
+  map_done (layout.mapped ds image p suits silent report) =
       let is = told.program ds image p in (
         is.0,
         is.2,
@@ -146,26 +146,26 @@ module _ (edition : Edition) (source : List ℕ) (r : Compilation) (g : Compiles
       )
   map_done (layout.stopped why same) = absurd (no_done 0 refl (told.status 0 why))
 
-  map_unknown : Maps edition source ends 135 → ⊥
-  map_unknown (layout.mapped ds image p silent report) =
+  map_unknown : Maps (Source edition) source ends 135 → ⊥
+  map_unknown (layout.mapped ds image p suits silent report) =
       other_answer (map_text image ds) 0 ends.out ends.out_after 135 (λ e. omega (arith, e)) (λ e. omega (arith, e)) (λ e. omega (arith, e)) report
   map_unknown (layout.stopped why same) = no_unknown 135 refl (told.status 135 why)
 
-  map_statuses : WrongStatuses edition source r g ends (Maps edition source ends)
+  map_statuses : WrongStatuses edition source r g ends (Maps (Source edition) source ends)
   map_statuses = record { fault = fault; unloaded = unloaded; device = device }
     where
-      fault : Maps edition source ends 1 → ((d : Diagnostic) × (r.stop ≡ Some d) × Writes ends.line (line_of d) ends.line_after) × (ends.out_after ≡ ends.out)
-      fault (layout.mapped ds image p silent report) =
+      fault : Maps (Source edition) source ends 1 → ((d : Diagnostic) × (r.stop ≡ Some d) × Writes ends.line (line_of d) ends.line_after) × (ends.out_after ≡ ends.out)
+      fault (layout.mapped ds image p suits silent report) =
           absurd (other_answer (map_text image ds) 0 ends.out ends.out_after 1 (λ e. omega (arith, e)) (λ e. omega (arith, e)) (λ e. omega (arith, e)) report)
       fault (layout.stopped why same) = (told.fault why, same)
 
-      unloaded : Maps edition source ends 132 → ((f : LoadFault) × (text : List ℕ) × (load_fault code ≡ Some f) × (load_line f ≡ Some text) × Writes ends.line text ends.line_after) × (ends.out_after ≡ ends.out)
-      unloaded (layout.mapped ds image p silent report) =
+      unloaded : Maps (Source edition) source ends 132 → ((f : LoadFault) × (text : List ℕ) × (load_fault code ≡ Some f) × (load_line f ≡ Some text) × Writes ends.line text ends.line_after) × (ends.out_after ≡ ends.out)
+      unloaded (layout.mapped ds image p suits silent report) =
           absurd (other_answer (map_text image ds) 0 ends.out ends.out_after 132 (λ e. omega (arith, e)) (λ e. omega (arith, e)) (λ e. omega (arith, e)) report)
       unloaded (layout.stopped why same) = (told.unloaded why, same)
 
-      device : Maps edition source ends 133 → Grew ends.out.failures ends.out_after.failures ⊎ Grew ends.line.failures ends.line_after.failures
-      device (layout.mapped ds image p silent report) = inl (device_grew (map_text image ds) 0 ends.out ends.out_after (λ e. omega (arith, e)) report)
+      device : Maps (Source edition) source ends 133 → Grew ends.out.failures ends.out_after.failures ⊎ Grew ends.line.failures ends.line_after.failures
+      device (layout.mapped ds image p suits silent report) = inl (device_grew (map_text image ds) 0 ends.out ends.out_after (λ e. omega (arith, e)) report)
       device (layout.stopped why same) = inr (told.device why)
 
 pub no_listings : NoListings

@@ -56,13 +56,13 @@ module _ (edition : Edition) (source : List ℕ) (r : Compilation) (g : Compiles
   -- What is excluded of a map.
   pub record WrongMaps : Type 0 where
     -- 0 for a source with a fault, for what doesn't load, or with another map
-    pub done : Maps edition source ends DONE
+    pub done : Maps (Source edition) source ends DONE
         → (r.stop ≡ None) × (load_fault (code_in edition source r g) ≡ None)
         × Writes ends.out (map_text (image_of (code_in edition source r g)) (code_in edition source r g))
         ends.out_after
     -- 135
-    pub unknown : Maps edition source ends WRONG_COMMAND → ⊥
-    pub statuses : WrongStatuses (Maps edition source ends)
+    pub unknown : Maps (Source edition) source ends WRONG_COMMAND → ⊥
+    pub statuses : WrongStatuses (Maps (Source edition) source ends)
 
 abbrev pub NoListings : Type 0
 NoListings =

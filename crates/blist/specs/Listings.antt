@@ -13,7 +13,7 @@ use Rattle.blang.specs.Machine.{Image}
 use Rattle.blang.specs.Reports.{Reported}
 use Rattle.blist.specs.declared.listing.TheConstants.{HEADING, UNDEFINED}
 use Rattle.blist.specs.ListingTexts.{definition_rows}
-use Rattle.btools.specs.Origins.{LinesOf, NamesOf, NoProgramOf, Origin, ProgramOf, beside}
+use Rattle.btools.specs.Origins.{IsSuited, LinesOf, NamesOf, NoProgramOf, Origin, ProgramOf, beside}
 use Rattle.btools.specs.Programs.{ToldEnds, image_address}
 use Rattle.btools.specs.SourceLines.{source_lines}
 use Rattle.btools.specs.declared.names.Frame.{Frame}
@@ -74,8 +74,8 @@ pub data Lists (origin : Origin) (source : List ℕ) (name : Option (List ℕ)) 
         → ends.line_after ≡ ends.line → (wanted name ds ≡ [] → ⊥)
         → Reported (list_text image (beside origin source) name ds lines frames) DONE ends.out ends.out_after status
         → Lists origin source name ends status
-    unnamed : (ds : List Definition) (image : Image) → ProgramOf origin source ds image → wanted name ds ≡ []
-        → Reported UNDEFINED.now WRONG_COMMAND ends.line ends.line_after status → ends.out_after ≡ ends.out
-        → Lists origin source name ends status
+    unnamed : (ds : List Definition) (image : Image) → ProgramOf origin source ds image → IsSuited origin source
+        → wanted name ds ≡ [] → Reported UNDEFINED.now WRONG_COMMAND ends.line ends.line_after status
+        → ends.out_after ≡ ends.out → Lists origin source name ends status
     stopped : NoProgramOf origin source line_of ends.line ends.line_after status → ends.out_after ≡ ends.out
         → Lists origin source name ends status

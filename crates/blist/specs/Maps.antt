@@ -2,7 +2,6 @@
 use Rattle.std.specs.Prelude.{◌≡◌, ℕ, zero, suc, ◌+◌, ◌%◌, List, [], ◌++◌, codes, decimal, min, nat_lt}
 use Rattle.std.specs.Prelude.{slice_index, refl, if◌then◌else◌}
 use Rattle.std.specs.List.{flat_map}
-use Rattle.bword.specs.declared.edition.Edition.{Edition}
 use Rattle.blang.specs.declared.code.Definition.{Definition}
 use Rattle.blang.specs.declared.status.TheConstants.{DONE}
 use Rattle.blang.specs.Compiles.{line_of}
@@ -12,7 +11,8 @@ use Rattle.blang.specs.Reports.{Reported}
 use Rattle.blist.specs.declared.layout.TheConstants.{HEADING, SHOWN}
 use Rattle.btools.specs.Columns.{left, right}
 use Rattle.btools.specs.Functions.{kind_text}
-use Rattle.btools.specs.Programs.{HasProgram, NoProgram, ToldEnds, image_address}
+use Rattle.btools.specs.Origins.{IsSuited, NoProgramOf, Origin, ProgramOf}
+use Rattle.btools.specs.Programs.{ToldEnds, image_address}
 
 -- the columns, and the words that each program has
 map_heading : HEADING.now
@@ -53,9 +53,10 @@ map_text image ds =
     HEADING.now ++ flat_map (λ d. map_row image (shape_of d)) ds ++ codes "data end " ++ decimal image.data_end
     ++ codes "\n"
 
--- What is written for a source: its layout; or nothing but why there is none.
-pub data Maps (edition : Edition) (source : List ℕ) (ends : ToldEnds) (status : ℕ) : Type 0 where
-  mapped : (ds : List Definition) (image : Image) → HasProgram edition source ds image → ends.line_after ≡ ends.line
-      → Reported (map_text image ds) DONE ends.out ends.out_after status → Maps edition source ends status
-  stopped : NoProgram edition source line_of ends.line ends.line_after status → ends.out_after ≡ ends.out
-      → Maps edition source ends status
+-- What is written for a program: its layout; or nothing but why there is none.
+pub data Maps (origin : Origin) (source : List ℕ) (ends : ToldEnds) (status : ℕ) : Type 0 where
+  mapped : (ds : List Definition) (image : Image) → ProgramOf origin source ds image → IsSuited origin source
+      → ends.line_after ≡ ends.line → Reported (map_text image ds) DONE ends.out ends.out_after status
+      → Maps origin source ends status
+  stopped : NoProgramOf origin source line_of ends.line ends.line_after status → ends.out_after ≡ ends.out
+      → Maps origin source ends status

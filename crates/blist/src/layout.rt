@@ -3,13 +3,14 @@ ghost use Rattle.std.specs.Prelude.{◌≡◌, ◌++◌, IfOk, OnOk};
 ghost use Rattle.blang.specs.Layout.{shape_of};
 ghost use Rattle.blist.specs.ListExcluded.{NoMaps};
 ghost use Rattle.blist.specs.Maps.{Maps, dots, map_row, map_text, words_from};
+ghost use Rattle.btools.specs.Origins.{origin_shown};
 ghost use Rattle.btools.specs.Programs.{told_ends};
 
 use blang::Definition;
 use blang::status::{self, Status};
 use bmach::{Image, name_of, size_of};
 use btools::{Origin, Text, kind_name, read_program, tell, tell_fault};
-use bword::{ByteOut, Edition};
+use bword::ByteOut;
 use std::alloc::{AllocError, Global};
 
 /// How many words of a name are shown.
@@ -26,22 +27,22 @@ const HEADING: &[u8] = b"  word  name      kind      words  values
      6  exit      library       1  6
 ";
 
-/// Writes the address of each name of a source, how many words it has, its first words, and the data end.
+/// Writes the address of each name of a program, how many words it has, its first words, and the data end.
 ///
-/// The status is 0, or that of `go` if the source doesn't compile or load.
+/// The status is 0, or that of `go` if there is no program.
 pub fn map<O: ByteOut, D: ByteOut>(
     alloc: Global,
     source: &[u8],
-    edition: Edition,
+    origin: Origin<'_>,
     out: &mut O,
     diag: &mut D,
 ) -> Status
-    ensures maps { Maps edition source.now (told_ends
+    ensures maps { Maps (origin_shown origin.entry) source.now (told_ends
         (O.outgoing out.old) (O.outgoing out.new) (D.outgoing diag.old) (D.outgoing diag.new)) result }
     ensures out_lender { O.lender out.new ≡ O.lender out.old }
     ensures diag_lender { D.lender diag.new ≡ D.lender diag.old }
 {
-    let program = match read_program(alloc, source, Origin::Source(edition)) {
+    let program = match read_program(alloc, source, origin) {
         Ok(program) => program,
         Err(fault) => return tell_fault(&fault, diag),
     };

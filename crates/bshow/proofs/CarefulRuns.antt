@@ -1,7 +1,7 @@
 -- What a page of a careful run stands on.
 use Rattle.std.proofs.Common.{◌≡◌, ◌∙◌, ℕ, false, List, ap, refl, subst}
 use Rattle.bword.specs.ByteEnds.{Incoming, Unread, incoming_of}
-use Rattle.bword.specs.declared.edition.Edition.{Edition}
+use Rattle.btools.specs.Origins.{Origin}
 use Rattle.blang.specs.declared.run.Outcome.{Outcome}
 use Rattle.blang.specs.declared.run.Outcome.TheVariants as outcome
 use Rattle.blang.specs.declared.code.Definition.{Definition}
@@ -24,8 +24,8 @@ abbrev over : List ℕ → Unread
 over bytes = record { left = bytes; is_over = false }
 
 -- a page over the bytes that were read
-pub shown_over : (edition : Edition) (source : List ℕ) (asked other : Asked) (ends : RunEnds) (status : ℕ) (first left : Unread) (read bytes : List ℕ) → other ≡ asked → first ≡ record { left = read; is_over = false } → read ≡ bytes
-    → Shows edition source other (record ends { input = incoming_of first; input_after = incoming_of left }) status → Shows edition source asked (ends_over bytes left ends) status
-shown_over edition source asked other ends status first left read bytes same is all shows =
-    subst (λ (u : Unread). Shows edition source asked (record ends { input = incoming_of u; input_after = incoming_of left }) status) (is ∙ ap over all)
-    (subst (λ (q : Asked). Shows edition source q (record ends { input = incoming_of first; input_after = incoming_of left }) status) same shows)
+pub shown_over : (origin : Origin) (source : List ℕ) (asked other : Asked) (ends : RunEnds) (status : ℕ) (first left : Unread) (read bytes : List ℕ) → other ≡ asked → first ≡ record { left = read; is_over = false } → read ≡ bytes
+    → Shows origin source other (record ends { input = incoming_of first; input_after = incoming_of left }) status → Shows origin source asked (ends_over bytes left ends) status
+shown_over origin source asked other ends status first left read bytes same is all shows =
+    subst (λ (u : Unread). Shows origin source asked (record ends { input = incoming_of u; input_after = incoming_of left }) status) (is ∙ ap over all)
+    (subst (λ (q : Asked). Shows origin source q (record ends { input = incoming_of first; input_after = incoming_of left }) status) same shows)

@@ -15,6 +15,7 @@ use Rattle.blang.specs.Reports.{ComesTo, RunEnds}
 use Rattle.bmach.specs.Stepping.{BeginsNot}
 use Rattle.btools.specs.ProgramsExcluded.{code_in}
 use Rattle.btools.specs.FaultPlaces.{fault_lines}
+use Rattle.btools.specs.Origins.{Source}
 use Rattle.btools.specs.FrameNames.{HasNames}
 use Rattle.btools.specs.Programs.{HasProgram, load_line, nothing_written}
 use Rattle.btools.specs.declared.names.Frame.{Frame}
@@ -40,22 +41,23 @@ module _ (edition : Edition) (source : List ℕ) (r : Compilation) (g : Compiles
   -- What is excluded of a page of a careful run.
   pub record WrongCarefulPages : Type 0 where
     -- 0 for a source with a fault, or for what doesn't load, or without a page
-    pub done : ShowsCarefully care edition source asked ends DONE
+    pub done : ShowsCarefully care (Source edition) source asked ends DONE
         → (r.stop ≡ None) × (load_fault (code_in edition source r g) ≡ None)
         × ((rows sentence program facts : List ℕ)
         × Writes ends.out (page_text rows sentence program facts) ends.out_after)
     -- 0 for a run that was broken off, as where memory was refused or a read failed
-    pub broken : ShowsCarefully care edition source asked ends DONE → WasMade edition source care asked.steps ends
+    pub broken : ShowsCarefully care (Source edition) source asked ends DONE
+        → WasMade edition source care asked.steps ends
     -- 133 where no read and no write failed
-    pub device : ShowsCarefully care edition source asked ends DEVICE
+    pub device : ShowsCarefully care (Source edition) source asked ends DEVICE
         → Grew ends.input.failures ends.input_after.failures ⊎ Grew ends.out.failures ends.out_after.failures
         ⊎ Grew ends.line.failures ends.line_after.failures
     -- 1 for a source without a fault, or with another line or place, or with anything else written
-    pub fault : ShowsCarefully care edition source asked ends FAULT
+    pub fault : ShowsCarefully care (Source edition) source asked ends FAULT
         → ((d : Diagnostic) × (r.stop ≡ Some d) × Writes ends.line (fault_lines asked.files d) ends.line_after)
         × (ends.out_after ≡ ends.out)
     -- 132 for definitions that load, or with another line, or with anything else written
-    pub unloaded : ShowsCarefully care edition source asked ends REFUSED
+    pub unloaded : ShowsCarefully care (Source edition) source asked ends REFUSED
         → ((f : LoadFault) × (text : List ℕ) × (load_fault (code_in edition source r g) ≡ Some f)
         × (load_line f ≡ Some text) × Writes ends.line text ends.line_after)
         × (ends.out_after ≡ ends.out)

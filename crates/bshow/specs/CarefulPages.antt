@@ -1,6 +1,5 @@
 -- Promise: the page of a run that is looked at carefully, up to its first finding.
 use Rattle.std.specs.Prelude.{◌≡◌, ℕ, false, List, Option, Some, None}
-use Rattle.bword.specs.declared.edition.Edition.{Edition}
 use Rattle.bword.specs.ByteEnds.{Took, Unread, incoming_of}
 use Rattle.blang.specs.declared.code.Definition.{Definition}
 use Rattle.blang.specs.declared.run.Outcome.{Outcome}
@@ -13,8 +12,7 @@ use Rattle.bmach.specs.Stepping.{BeginsNot}
 use Rattle.bmach.specs.declared.machine.Stop.{Stop}
 use Rattle.btools.specs.declared.names.Frame.{Frame}
 use Rattle.btools.specs.FaultPlaces.{fault_lines}
-use Rattle.btools.specs.FrameNames.{HasNames}
-use Rattle.btools.specs.Programs.{HasProgram, NoProgram}
+use Rattle.btools.specs.Origins.{IsSuited, NamesOf, NoProgramOf, Origin, ProgramOf}
 use Rattle.bcareful.specs.First.{FindsFirst}
 use Rattle.bcareful.specs.Runs.{finds_wraps}
 use Rattle.bcareful.specs.Things.{atlas_in}
@@ -37,37 +35,38 @@ pub record ShowsNothing (ends : RunEnds) (status answer : ℕ) : Type 0 where
   pub no_line : ends.line_after ≡ ends.line
   pub status_is : status ≡ answer
 
--- The program of the source was run for so many steps at most, as a careful machine runs it. Then its page was written
+-- The program of this origin was run for so many steps at most, as a careful machine runs it. Then its page was written
 -- of the bytes that it has read: that of the steps before the first finding, which the page tells; or that of the whole
 -- run, where there is none. Or it could not read its input; or its input was more than is kept; or it did not begin,
 -- which the page says; or there is no program, and why was told; or memory was refused, and nothing was written.
-pub data ShowsCarefully (care : Care) (edition : Edition) (source : List ℕ) (asked : Asked) (ends : RunEnds)
+pub data ShowsCarefully (care : Care) (origin : Origin) (source : List ℕ) (asked : Asked) (ends : RunEnds)
     (status : ℕ) : Type 0 where
   shown : (ds : List Definition) (image : Image) (frames : List Frame) (stop : Stop) (meaning : Option (List ℕ))
       (taken : List ℕ) (left : Unread)
-      → HasProgram edition source ds image → HasNames edition source frames
+      → ProgramOf origin source ds image → IsSuited origin source → NamesOf origin source frames
       → FindsFirst (atlas_in ds frames (finds_wraps care)) (image_of ds).functions (machine ds) asked.steps
       ends.input ends.input_after stop meaning
       → (stop.outcome ≡ outcome.Device → ⊥) → (stop.outcome ≡ outcome.Memory → ⊥)
       → Took ends.input taken ends.input_after
-      → Shows edition source (asked_up_to asked stop meaning) (ends_over taken left ends) status
-      → ShowsCarefully care edition source asked ends status
+      → Shows origin source (asked_up_to asked stop meaning) (ends_over taken left ends) status
+      → ShowsCarefully care origin source asked ends status
   unkept : (ds : List Definition) (image : Image) (frames : List Frame) (stop : Stop) (meaning : Option (List ℕ))
-      → HasProgram edition source ds image → HasNames edition source frames
+      → ProgramOf origin source ds image → IsSuited origin source → NamesOf origin source frames
       → FindsFirst (atlas_in ds frames (finds_wraps care)) (image_of ds).functions (machine ds) asked.steps
       ends.input ends.input_after stop meaning
-      → ShowsNothing ends status MEMORY → ShowsCarefully care edition source asked ends status
+      → ShowsNothing ends status MEMORY → ShowsCarefully care origin source asked ends status
   unread : (ds : List Definition) (image : Image) (frames : List Frame) (stop : Stop) (meaning : Option (List ℕ))
-      → HasProgram edition source ds image → HasNames edition source frames
+      → ProgramOf origin source ds image → IsSuited origin source → NamesOf origin source frames
       → FindsFirst (atlas_in ds frames (finds_wraps care)) (image_of ds).functions (machine ds) asked.steps
       ends.input ends.input_after stop meaning
       → stop.outcome ≡ outcome.Device → ShowsNothing ends status DEVICE
-      → ShowsCarefully care edition source asked ends status
+      → ShowsCarefully care origin source asked ends status
   not_begun : (ds : List Definition) (image : Image) (result : Outcome)
-      → HasProgram edition source ds image → BeginsNot image result → Shows edition source asked ends status
-      → ShowsCarefully care edition source asked ends status
-  stopped : NoProgram edition source (fault_lines asked.files) ends.line ends.line_after status → HasNotRun ends
-      → ShowsCarefully care edition source asked ends status
-  no_memory : (ds : List Definition) (image : Image) → HasProgram edition source ds image
+      → ProgramOf origin source ds image → IsSuited origin source → BeginsNot image result
+      → Shows origin source asked ends status
+      → ShowsCarefully care origin source asked ends status
+  stopped : NoProgramOf origin source (fault_lines asked.files) ends.line ends.line_after status → HasNotRun ends
+      → ShowsCarefully care origin source asked ends status
+  no_memory : (ds : List Definition) (image : Image) → ProgramOf origin source ds image → IsSuited origin source
       → ReadBySteps (machine ds) asked.steps ends.input ends.input_after → ShowsNothing ends status MEMORY
-      → ShowsCarefully care edition source asked ends status
+      → ShowsCarefully care origin source asked ends status

@@ -2,7 +2,6 @@
 use Rattle.std.specs.Prelude.{◌≡◌, ℕ, ◌+◌, ◌-◌, List, [], ◌++◌, Option, Some, None, IfSome, codes, decimal, filter}
 use Rattle.std.specs.Prelude.{nat_le, option_map}
 use Rattle.std.specs.List.{flat_map, range_with_len}
-use Rattle.bword.specs.declared.edition.Edition.{Edition}
 use Rattle.bword.specs.ByteEnds.{Kept, outgoing_of}
 use Rattle.blang.specs.declared.code.Definition.{Definition}
 use Rattle.blang.specs.declared.run.Outcome.{Outcome}
@@ -16,11 +15,11 @@ use Rattle.bmach.specs.Stepping.{BeginsNot}
 use Rattle.bsources.specs.Files.{Files, files_shown}
 use Rattle.btools.specs.declared.names.Frame.{Frame}
 use Rattle.btools.specs.FaultPlaces.{fault_lines}
-use Rattle.btools.specs.FrameNames.{HasNames}
 use Rattle.bendless.specs.Repeats.{ComesBack}
 use Rattle.bendless.specs.declared.search.Repeat.{Repeat}
-use Rattle.btools.specs.ProgramLines.{HasLines, line_at}
-use Rattle.btools.specs.Programs.{HasProgram, NoProgram, nothing_written}
+use Rattle.btools.specs.Origins.{IsSuited, LinesOf, NamesOf, NoProgramOf, Origin, ProgramOf}
+use Rattle.btools.specs.ProgramLines.{line_at}
+use Rattle.btools.specs.Programs.{nothing_written}
 use Rattle.bwatch.specs.Trails.{chosen, first_of}
 use Rattle.bwatch.specs.declared.trail.TraceRows.{TraceRows}
 use Rattle.bwatch.specs.Sights.{Sights}
@@ -135,31 +134,33 @@ unbegun_page program kind = page_text [] (unbegun_sentence kind) program no_run_
 abbrev pub IsWritten : List ℕ → RunEnds → ℕ → Type 0
 IsWritten page ends status = Reported page DONE ends.out ends.out_after status
 
--- The program of the source was run for so many steps at most, as the machine runs it, and its page written, which
+-- The program of this origin was run for so many steps at most, as the machine runs it, and its page written, which
 -- tells the finding that was handed over, if there is one, and a state of its image that comes again, if one was
 -- found; or it did not begin, which the page says; or it could not read its input; or there is no program, and why was
 -- told; or memory was refused, and nothing was written, or read but by some of its steps.
-pub data Shows (edition : Edition) (source : List ℕ) (asked : Asked) (ends : RunEnds) (status : ℕ) : Type 0 where
+pub data Shows (origin : Origin) (source : List ℕ) (asked : Asked) (ends : RunEnds) (status : ℕ) : Type 0 where
   shown : (ds : List Definition) (image : Image) (frames : List Frame) (lines : List ℕ) (result : Outcome) (made : ℕ)
-      (again : Option Repeat) (page : List ℕ) → HasProgram edition source ds image → HasLines edition source lines
-      → HasNames edition source frames → ends.line_after ≡ ends.line
+      (again : Option Repeat) (page : List ℕ) → ProgramOf origin source ds image → LinesOf origin source lines
+      → NamesOf origin source frames → ends.line_after ≡ ends.line
       → IfSome again (ComesBack (run image) ends.input ends.input_after)
       → Watches (image_of ds).functions (machine ds) asked.steps ends.input ends.input_after result made
       (IsPageOf (lined_code ds lines) asked.which (last_facts (lined_code ds lines) asked.finding again)
       (program_text asked.files source asked.given ds frames) page)
-      → IsWritten page ends status → Shows edition source asked ends status
+      → IsWritten page ends status → Shows origin source asked ends status
   not_begun : (ds : List Definition) (image : Image) (frames : List Frame) (kind : Trap)
-      → HasProgram edition source ds image → HasNames edition source frames → ends.line_after ≡ ends.line
+      → ProgramOf origin source ds image → IsSuited origin source → NamesOf origin source frames
+      → ends.line_after ≡ ends.line
       → BeginsNot image (outcome.Trap kind)
       → IsWritten (unbegun_page (program_text asked.files source asked.given ds frames) kind) ends status
-      → ends.input_after ≡ ends.input → Shows edition source asked ends status
+      → ends.input_after ≡ ends.input → Shows origin source asked ends status
   unread : (ds : List Definition) (image : Image) (output : Kept)
-      → HasProgram edition source ds image → ends.line_after ≡ ends.line
+      → ProgramOf origin source ds image → IsSuited origin source → ends.line_after ≡ ends.line
       → RunGives (machine ds) asked.steps ends.input ends.input_after nothing_written (outgoing_of output)
-      outcome.Device → ends.out_after ≡ ends.out → status ≡ DEVICE → Shows edition source asked ends status
-  stopped : NoProgram edition source (fault_lines asked.files) ends.line ends.line_after status → HasNotRun ends
-      → Shows edition source asked ends status
+      outcome.Device → ends.out_after ≡ ends.out → status ≡ DEVICE → Shows origin source asked ends status
+  stopped : NoProgramOf origin source (fault_lines asked.files) ends.line ends.line_after status → HasNotRun ends
+      → Shows origin source asked ends status
   no_memory : (ds : List Definition) (image : Image)
-      → HasProgram edition source ds image → ends.line_after ≡ ends.line → ends.out_after ≡ ends.out
+      → ProgramOf origin source ds image → IsSuited origin source → ends.line_after ≡ ends.line
+      → ends.out_after ≡ ends.out
       → ReadBySteps (machine ds) asked.steps ends.input ends.input_after → status ≡ MEMORY
-      → Shows edition source asked ends status
+      → Shows origin source asked ends status

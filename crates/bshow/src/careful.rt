@@ -3,6 +3,7 @@ ghost use Rattle.std.specs.Prelude.{◌≡◌};
 ghost use Rattle.bshow.specs.CarefulExcluded.{NoCarefulPages};
 ghost use Rattle.bshow.specs.CarefulPages.{ShowsCarefully, asked_up_to};
 ghost use Rattle.bshow.specs.Shows.{asked_of};
+ghost use Rattle.btools.specs.Origins.{origin_shown};
 
 use crate::showing::{PageRequest, show};
 use bcareful::{Care, SilentRun, find_first};
@@ -10,25 +11,25 @@ use bendless::Extent;
 use blang::Outcome;
 use blang::status::{self, Status};
 use btools::{Origin, Tables, read_program, tell_placed};
-use bword::{ByteIn, ByteOut, Edition, MemIn};
+use bword::{ByteIn, ByteOut, MemIn};
 use std::alloc::Global;
 
-/// Runs the program of a source carefully, in silence, and then writes the page of the steps before its first finding,
+/// Runs a program carefully, in silence, and then writes the page of the steps before its first finding,
 /// which the page tells; or, where there is none, that of the whole run.
 ///
-/// The status is that of `show`, and so is the line of a source that has no program. A run that reads more than is kept
+/// The status is that of `show`, and so is the line where there is no program. A run that reads more than is kept
 /// of its input (`bendless` keeps 2 MB) is out of memory.
 pub fn show_careful<I: ByteIn, O: ByteOut, D: ByteOut>(
     alloc: Global,
     source: &[u8],
-    edition: Edition,
+    origin: Origin<'_>,
     care: Care,
     wanted: PageRequest<'_>,
     input: &mut I,
     out: &mut O,
     diag: &mut D,
 ) -> Status
-    ensures shows { ShowsCarefully care edition source.now (asked_of wanted.entry) (record {
+    ensures shows { ShowsCarefully care (origin_shown origin.entry) source.now (asked_of wanted.entry) (record {
       input = I.incoming input.old;
       input_after = I.incoming input.new;
       out = O.outgoing out.old;
@@ -40,7 +41,7 @@ pub fn show_careful<I: ByteIn, O: ByteOut, D: ByteOut>(
     ensures out_lender { O.lender out.new ≡ O.lender out.old }
     ensures diag_lender { D.lender diag.new ≡ D.lender diag.old }
 {
-    let program = match read_program(alloc, source, Origin::Source(edition)) {
+    let program = match read_program(alloc, source, origin) {
         Ok(program) => program,
         Err(fault) => return tell_placed(alloc, &fault, wanted.files, diag),
     };
@@ -51,7 +52,7 @@ pub fn show_careful<I: ByteIn, O: ByteOut, D: ByteOut>(
         Ok(silent) => silent,
         Err(why) => match why {
             Outcome::Memory => return status::MEMORY,
-            _ => return show(alloc, source, edition, wanted, input, out, diag),
+            _ => return show(alloc, source, origin, wanted, input, out, diag),
         },
     };
     match silent.stop.outcome {
@@ -65,7 +66,7 @@ pub fn show_careful<I: ByteIn, O: ByteOut, D: ByteOut>(
     }
     let found = up_to(wanted, &silent);
     let mut read = MemIn::new(silent.read.bytes.as_slice());
-    show(alloc, source, edition, found, &mut read, out, diag)
+    show(alloc, source, origin, found, &mut read, out, diag)
 }
 
 // What is asked of the page of a run that was made in silence.

@@ -2,6 +2,7 @@
 ghost use Rattle.std.specs.Prelude.{◌≡◌, ◌≤◌, IfOk, map};
 ghost use Rattle.blang.specs.Layout.{data_end, shape_of};
 ghost use Rattle.bsources.specs.Files.{files_shown};
+ghost use Rattle.btools.specs.Origins.{origin_shown};
 ghost use Rattle.bshow.specs.Facts.{program_text};
 ghost use Rattle.bshow.specs.ShowExcluded.{NoPages};
 ghost use Rattle.bshow.specs.Shows.{Shows, asked_of, unbegun_page};
@@ -18,7 +19,7 @@ use blang::{Outcome, Trap};
 use bsources::SourceFiles;
 use btools::{Origin, Program, Tables, Text, read_program, tell, tell_placed};
 use bwatch::{TraceRows, Watched};
-use bword::{ByteIn, ByteOut, Edition};
+use bword::{ByteIn, ByteOut};
 use std::alloc::{AllocError, Global};
 
 /// What is shown of a run.
@@ -40,22 +41,22 @@ pub struct PageRequest<'a> {
 const NO_RUN: &[u8] =
     b",\"calls_at\":0,\"calls\":[0],\"words\":[0],\"heard\":\"\",\"output\":\"\"}";
 
-/// Compiles a source, runs its program for at most so many steps, and writes a page that shows the run.
+/// Runs a program for at most so many steps, and writes a page that shows the run, beside the source.
 ///
 /// The status is 0 where the page was written, whatever came of the run, which the page tells. At the limit it tells
-/// whether a state comes again, so that the run never ends. For a source that has no program the line and the status
-/// are those of `go_edition`. If a read failed, there is no page, and the status is 133. If memory was refused, there
-/// is no page, either.
+/// whether a state comes again, so that the run never ends. Where there is no program the line and the status are
+/// those of `go_edition`, or of `run_text` for a code text. If a read failed, there is no page, and the status is 133.
+/// If memory was refused, there is no page, either.
 pub fn show<I: ByteIn, O: ByteOut, D: ByteOut>(
     alloc: Global,
     source: &[u8],
-    edition: Edition,
+    origin: Origin<'_>,
     wanted: PageRequest<'_>,
     input: &mut I,
     out: &mut O,
     diag: &mut D,
 ) -> Status
-    ensures shows { Shows edition source.now (asked_of wanted.entry) (record {
+    ensures shows { Shows (origin_shown origin.entry) source.now (asked_of wanted.entry) (record {
       input = I.incoming input.old;
       input_after = I.incoming input.new;
       out = O.outgoing out.old;
@@ -67,7 +68,7 @@ pub fn show<I: ByteIn, O: ByteOut, D: ByteOut>(
     ensures out_lender { O.lender out.new ≡ O.lender out.old }
     ensures diag_lender { D.lender diag.new ≡ D.lender diag.old }
 {
-    let program = match read_program(alloc, source, Origin::Source(edition)) {
+    let program = match read_program(alloc, source, origin) {
         Ok(program) => program,
         Err(fault) => return tell_placed(alloc, &fault, wanted.files, diag),
     };

@@ -7,7 +7,7 @@ use Rattle.blang.specs.Layout.{load_fault}
 use Rattle.blang.specs.Text.{IsCodeText}
 use Rattle.bmach.specs.Resolved.{IsLoadedFrom}
 use Rattle.btools.specs.NamedFrames.{HasFrames}
-use Rattle.btools.specs.Origins.{HasCode, HasNoCode, HasTextLines, HasTextNames}
+use Rattle.btools.specs.Origins.{HasCode, HasNoCode, HasTextLines, HasTextNames, IsLined, IsNamed}
 use Rattle.btools.specs.PlaceLines.{CodeText, HasPlaceLines}
 use Rattle.btools.specs.Programs.{LoadGives}
 use Rattle.btools.specs.declared.names.Names.{Names}
@@ -16,16 +16,16 @@ use Rattle.btools.specs.declared.program.ProgramFault.{ProgramFault}
 use Rattle.btools.specs.declared.program.ProgramFault.TheVariants as why
 
 module _ (c : CodeText) (ds : List Definition) (is : IsCodeText c.code ds) where
-  -- definitions of a code text that are loaded
-  pub loaded : (r : Result Program ProgramFault) → LoadGives ds r → MatchResult r (λ p. HasCode c.code p.definitions.items p.image) (HasNoCode c)
-  loaded (Ok p) gives = record {
+  -- definitions of a code text that are loaded, whose files of lines and names suit it
+  pub loaded : IsLined c ds → IsNamed c ds → (r : Result Program ProgramFault) → LoadGives ds r → MatchResult r (λ p. HasCode c.code p.definitions.items p.image) (HasNoCode c)
+  loaded lined named (Ok p) gives = record {
     text = subst (IsCodeText c.code) (sym gives.0) is;
     loads = subst (λ (x : List Definition). load_fault x ≡ None) (sym gives.0) gives.1;
     loaded = subst (λ (x : List Definition). IsLoadedFrom x p.image) (sym gives.0) gives.2;
   }
-  loaded (Err (why.Unloaded f)) gives = (ds, is, gives)
-  loaded (Err why.Memory) gives = tt
-  loaded _ gives = absurd gives
+  loaded lined named (Err (why.Unloaded f)) gives = (ds, is, gives, lined, named)
+  loaded lined named (Err why.Memory) gives = tt
+  loaded lined named _ gives = absurd gives
 
   -- its lines, whatever definitions it is said to have
   pub has_lines : (r : Result Program ProgramFault) (names : Names) → HasPlaceLines c ds names.lines.items → IfOk r (λ p. p.names ≡ names) → IfOk r (λ p. HasTextLines c p.names.lines.items)

@@ -65,16 +65,30 @@ abbrev pub NamesOf : Origin → (source : List ℕ) → List Frame → Type 0
 NamesOf (Source edition) source frames = HasNames edition source frames
 NamesOf (Code c) source frames = HasTextNames c frames
 
--- why a code text has no program: its first wrong line, or that its lines aren't one for each of so many places, or the
--- first wrong line of its file of names, or why it doesn't load, or that memory was refused
+-- It has lines and names: what stands beside a code text suits it.
+abbrev pub IsSuited : Origin → (source : List ℕ) → Type 0
+IsSuited origin source =
+    ((lines : List ℕ) × LinesOf origin source lines) × ((frames : List Frame) × NamesOf origin source frames)
+
+-- the file of lines of a code text of these definitions suits it, or there is none; and that of names
+abbrev pub IsLined : CodeText → List Definition → Type 0
+IsLined c ds = (lines : List ℕ) × HasPlaceLines c ds lines
+
+abbrev pub IsNamed : CodeText → List Definition → Type 0
+IsNamed c ds = (frames : List Frame) × HasFrames c ds frames
+
+-- why a code text has no program, in this order: its first wrong line, or that its lines aren't one for each of so many
+-- places, or the first wrong line of its file of names, or why it doesn't load; or that memory was refused
 abbrev pub HasNoCode : CodeText → ProgramFault → Type 0
 HasNoCode c (why.Faulty d) = ⊥
 HasNoCode c (why.Unread n) = IsFaultLine c.code n × ((ds : List Definition) → IsCodeText c.code ds → ⊥)
 HasNoCode c (why.Unlined count) =
     (ds : List Definition) × IsCodeText c.code ds × (places_in ds ≡ count)
     × ((lines : List ℕ) → HasPlaceLines c ds lines → ⊥)
-HasNoCode c (why.Unnamed n w) = (ds : List Definition) × IsCodeText c.code ds × HasWrongName c ds n w
-HasNoCode c (why.Unloaded f) = (ds : List Definition) × IsCodeText c.code ds × (load_fault ds ≡ Some f)
+HasNoCode c (why.Unnamed n w) =
+    (ds : List Definition) × IsCodeText c.code ds × HasWrongName c ds n w × IsLined c ds
+HasNoCode c (why.Unloaded f) =
+    (ds : List Definition) × IsCodeText c.code ds × (load_fault ds ≡ Some f) × IsLined c ds × IsNamed c ds
 HasNoCode c why.Memory = Unit {0}
 
 abbrev pub HasNoProgramOf : Origin → (source : List ℕ) → ProgramFault → Type 0

@@ -3,7 +3,7 @@ ghost use Rattle.std.specs.Prelude.{◌≡◌, ◌+◌, ◌++◌, IfOk, MatchRes
 ghost use Rattle.blang.specs.Text.{IsCodeText};
 ghost use Rattle.btools.specs.NamedFrames.{HasFrames, frames_named, function_names, is_vector, label_of, lines_named};
 ghost use Rattle.btools.specs.NamedFrames.{names_after, own_named, words_named};
-ghost use Rattle.btools.specs.Origins.{HasNoCode, code_text_shown};
+ghost use Rattle.btools.specs.Origins.{HasNoCode, IsLined, code_text_shown};
 
 use crate::names::{Frame, FrameWord};
 use crate::origin::CodeText;
@@ -19,7 +19,8 @@ pub(crate) fn frames_of_text(
     text: CodeText<'_>,
     definitions: &[Definition],
 ) -> Result<Vec<Frame>, ProgramFault>
-    requires { IsCodeText text.code.now definitions.now }
+    requires code { IsCodeText text.code.now definitions.now }
+    requires lined { IsLined (code_text_shown text) definitions.now }
     ensures { MatchResult result (λ v. HasFrames (code_text_shown text.entry) definitions.now v.items)
         (HasNoCode (code_text_shown text.entry)) }
 {

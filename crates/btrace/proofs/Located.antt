@@ -3,7 +3,6 @@ use Rattle.std.proofs.Common.{◌≡◌, ◌∙◌, ◌≤◌, ℕ, List, [], �
 use Rattle.std.specs.Prelude.{IfSome}
 use Rattle.bendless.specs.Repeats.{IsEndless}
 use Rattle.bendless.specs.declared.endless.Endless.{Endless}
-use Rattle.bword.specs.declared.edition.Edition.{Edition}
 use Rattle.bword.specs.ByteEnds.{Outgoing}
 use Rattle.blang.specs.declared.code.Definition.{Definition}
 use Rattle.blang.specs.declared.run.Outcome.{Outcome}
@@ -13,26 +12,26 @@ use Rattle.bmach.specs.Stepping.{IsUnstarted, Paused}
 use Rattle.bmach.specs.Stops.{IsOverAt}
 use Rattle.bmach.specs.declared.machine.Active.{Active}
 use Rattle.bsources.specs.Files.{Files}
-use Rattle.btools.specs.FrameNames.{HasNames}
 use Rattle.btools.specs.Functions.{functions_of}
-use Rattle.btools.specs.ProgramLines.{HasLines}
+use Rattle.btools.specs.Origins.{IsSuited, LinesOf, NamesOf, Origin, ProgramOf}
 use Rattle.btools.specs.declared.names.Frame.{Frame}
-use Rattle.btools.specs.Programs.{HasProgram, located_status, steps_from}
+use Rattle.btools.specs.Programs.{located_status, steps_from}
 use Rattle.btools.proofs.Stopped.{runs_whole, stops_run}
+use Rattle.bwatch.proofs.Origins.{loaded_in}
 use Rattle.btrace.specs.RowTexts.{Legend, legend_in}
 use Rattle.btrace.specs.Locates.{Locates, TellsSite, located, unlocated}
 
-module _ (edition : Edition) (source : List ℕ) (files : Files) (n : ℕ) (ends : RunEnds) (status : ℕ) (ds : List Definition) (image : Image) (p : Paused) (result : Outcome) where
+module _ (origin : Origin) (source : List ℕ) (files : Files) (n : ℕ) (ends : RunEnds) (status : ℕ) (ds : List Definition) (image : Image) (p : Paused) (result : Outcome) where
   -- a run whose place was told
-  pub located_whole : (told : Outgoing) (legend : Legend) (frames : List Frame) (lines : List ℕ) (answer : ℕ) (active : Active) (made : ℕ) (again : Option Endless) → HasProgram edition source ds image → HasNames edition source frames → HasLines edition source lines → legend ≡ legend_in ds lines files → IsUnstarted image p
+  pub located_whole : (told : Outgoing) (legend : Legend) (frames : List Frame) (lines : List ℕ) (answer : ℕ) (active : Active) (made : ℕ) (again : Option Endless) → ProgramOf origin source ds image → NamesOf origin source frames → LinesOf origin source lines → legend ≡ legend_in ds lines files → IsUnstarted image p
       → RunGives (steps_from p) n ends.input ends.input_after ends.out ends.out_after result → Finishes result ends.line told answer → located_status result ≡ Some answer
-      → IsOverAt (steps_from p) n ends.input ends.input_after result active made → IfSome again (IsEndless ds image (functions_of ds) frames ends.input ends.input_after) → TellsSite legend source result active made again answer told ends.line_after status → Locates edition source files n ends status
+      → IsOverAt (steps_from p) n ends.input ends.input_after result active made → IfSome again (IsEndless ds image (functions_of ds) frames ends.input ends.input_after) → TellsSite legend source result active made again answer told ends.line_after status → Locates origin source files n ends status
   located_whole told legend frames lines answer active made again is named lined same begins gives finishes at stops comes tells =
-      located told ds image frames lines result answer active made again is named lined (runs_whole ds image p is.loaded begins n ends.input ends.input_after result ends.out ends.out_after gives) finishes at
-      (stops_run ds image p is.loaded begins n ends.input ends.input_after result active made stops) comes
+      located told ds image frames lines result answer active made again is named lined (runs_whole ds image p (loaded_in origin source ds image is) begins n ends.input ends.input_after result ends.out ends.out_after gives) finishes at
+      (stops_run ds image p (loaded_in origin source ds image is) begins n ends.input ends.input_after result active made stops) comes
       (subst (λ (x : Legend). TellsSite x source result active made again answer told ends.line_after status) same tells)
 
   -- a run that has no place
-  pub unlocated_whole : HasProgram edition source ds image → IsUnstarted image p → RunGives (steps_from p) n ends.input ends.input_after ends.out ends.out_after result
-      → Finishes result ends.line ends.line_after status → (located_status result ≡ Some status → ⊥) → Locates edition source files n ends status
-  unlocated_whole is begins gives finishes unplaced = unlocated ds image result is (runs_whole ds image p is.loaded begins n ends.input ends.input_after result ends.out ends.out_after gives) finishes unplaced
+  pub unlocated_whole : ProgramOf origin source ds image → IsSuited origin source → IsUnstarted image p → RunGives (steps_from p) n ends.input ends.input_after ends.out ends.out_after result
+      → Finishes result ends.line ends.line_after status → (located_status result ≡ Some status → ⊥) → Locates origin source files n ends status
+  unlocated_whole is suits begins gives finishes unplaced = unlocated ds image result is suits (runs_whole ds image p (loaded_in origin source ds image is) begins n ends.input ends.input_after result ends.out ends.out_after gives) finishes unplaced

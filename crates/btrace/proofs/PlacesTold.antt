@@ -1,7 +1,7 @@
 -- The place that is told of a run is the one where the machine was.
 use Rattle.std.proofs.Common.{◌≡◌, ◌∙◌, ℕ, zero, suc, ◌+◌, ◌-◌, ◌≤◌, ⊎_elim, List, [], ◌++◌, None, Option, Some, ap, arith, refl, subst, sym}
 use Rattle.std.proofs.lemmas.Bool.{cases_order}
-use Rattle.bword.specs.declared.edition.Edition.{Edition}
+use Rattle.btools.specs.Origins.{Origin}
 use Rattle.blang.specs.declared.code.Definition.{Definition}
 use Rattle.blang.specs.declared.run.Outcome.{Outcome}
 use Rattle.blang.specs.declared.run.Outcome.TheVariants as outcome
@@ -63,8 +63,8 @@ trap_is outcome.Limit e = let bad : ◌≡◌ {A = ℕ} 131 130 = cc in absurd (
 trap_is outcome.Device e = cc
 trap_is outcome.Memory e = cc
 
-module _ (edition : Edition) (source : List ℕ) (files : Files) (ds : List Definition) (n : ℕ) (ends : RunEnds) (text : List ℕ) where
-  at_limit : (call : Active) → ((input : List ℕ) → RunsCall (machine ds input n) call) → Stops files edition source ds n ends text 131 → (again : Option Endless) × TellsPlaceOf edition source files ds n ends text (line_in files outcome.Limit) outcome.Limit call n again
+module _ (origin : Origin) (source : List ℕ) (files : Files) (ds : List Definition) (n : ℕ) (ends : RunEnds) (text : List ℕ) where
+  at_limit : (call : Active) → ((input : List ℕ) → RunsCall (machine ds input n) call) → Stops files origin source ds n ends text 131 → (again : Option Endless) × TellsPlaceOf origin source files ds n ends text (line_in files outcome.Limit) outcome.Limit call n again
   at_limit call runs s =
       let limit = limit_is files s.result s.located in
       let e = subst (λ x. EndsAt (machine ds s.input) n x s.active s.made) limit s.stops in
@@ -77,7 +77,7 @@ module _ (edition : Edition) (source : List ℕ) (files : Files) (ds : List Defi
         ),
       )
 
-  endless_told : Stops files edition source ds n ends text 131 → (call : Active) × (again : Option Endless) × TellsPlaceOf edition source files ds n ends text (line_in files outcome.Limit) outcome.Limit call n again × IfSome again (λ e. RunsForEver (machine ds) ends.input ends.input_after)
+  endless_told : Stops files origin source ds n ends text 131 → (call : Active) × (again : Option Endless) × TellsPlaceOf origin source files ds n ends text (line_in files outcome.Limit) outcome.Limit call n again × IfSome again (λ e. RunsForEver (machine ds) ends.input ends.input_after)
   endless_told s =
       let limit = limit_is files s.result s.located in
       let e = subst (λ x. EndsAt (machine ds s.input) n x s.active s.made) limit s.stops in (
@@ -100,7 +100,7 @@ module _ (edition : Edition) (source : List ℕ) (files : Files) (ds : List Defi
       cc
 
   at_trap : (call : Active) (last : ℕ) (kind : Trap) → ((input : List ℕ) → RunsCall (machine ds input last) call) → ((input : List ℕ) → state_outcome (machine ds input (last + 1)) ≡ outcome.Trap kind)
-      → Stops files edition source ds n ends text 130 → TellsPlaceOf edition source files ds n ends text (line_in files (outcome.Trap kind)) (outcome.Trap kind) call (last + 1) None
+      → Stops files origin source ds n ends text 130 → TellsPlaceOf origin source files ds n ends text (line_in files (outcome.Trap kind)) (outcome.Trap kind) call (last + 1) None
   at_trap call last kind runs over s =
       let t = trap_is s.result s.located in
       let e = subst (λ x. EndsAt (machine ds s.input) n x s.active s.made) t.1 s.stops in
@@ -115,11 +115,11 @@ module _ (edition : Edition) (source : List ℕ) (files : Files) (ds : List Defi
       )
 
 pub places_told : PlacesTold
-places_told edition source files ds n ends text = record {
-  at_limit = λ call runs h. at_limit edition source files ds n ends text call runs
-      (stops_so files edition source ds h.compiles n ends LIMIT (omega arith) h.begins text h.before h.after h.some h.locates);
-  never_ends = λ h. endless_told edition source files ds n ends text
-      (stops_so files edition source ds h.compiles n ends LIMIT (omega arith) h.begins text h.before h.after h.some h.locates);
-  at_trap = λ call last kind within runs over h. at_trap edition source files ds n ends text call last kind runs over
-      (stops_so files edition source ds h.compiles n ends TRAP (omega arith) h.begins text h.before h.after h.some h.locates);
+places_told origin source files ds n ends text = record {
+  at_limit = λ call runs h. at_limit origin source files ds n ends text call runs
+      (stops_so files origin source ds h.compiles n ends LIMIT (omega arith) h.begins text h.before h.after h.some h.locates);
+  never_ends = λ h. endless_told origin source files ds n ends text
+      (stops_so files origin source ds h.compiles n ends LIMIT (omega arith) h.begins text h.before h.after h.some h.locates);
+  at_trap = λ call last kind within runs over h. at_trap origin source files ds n ends text call last kind runs over
+      (stops_so files origin source ds h.compiles n ends TRAP (omega arith) h.begins text h.before h.after h.some h.locates);
 }

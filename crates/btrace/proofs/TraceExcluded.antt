@@ -23,7 +23,7 @@ use Rattle.bendless.specs.Repeats.{IsEndless, RunsForEver}
 use Rattle.bendless.specs.declared.endless.Endless.{Endless}
 use Rattle.bendless.specs.declared.search.Repeat.{Repeat}
 use Rattle.bendless.proofs.Again.{back_for_ever}
-use Rattle.blang.specs.Reports.{Finishes, Reported, RunEnds, RunGives, report_text, state_outcome}
+use Rattle.blang.specs.Reports.{Finishes, HasNotRun, Reported, RunEnds, RunGives, report_text, state_outcome}
 use Rattle.blang.specs.Text.{IsCodeText}
 use Rattle.bcode.proofs.FaultLaws.{unique_code}
 use Rattle.bmach.specs.Resolved.{IsLoadedFrom}
@@ -33,9 +33,9 @@ use Rattle.bmach.specs.declared.machine.Active.{Active}
 use Rattle.bmach.proofs.Running.{memory_unfailed}
 use Rattle.bmach.proofs.LoadedRuns.{shows_loaded}
 use Rattle.bsources.specs.Files.{Files}
-use Rattle.btools.specs.Origins.{Code, NoProgramOf, Origin, ProgramOf, Source}
+use Rattle.btools.specs.Origins.{Code, IsSuited, LinesOf, NoProgramOf, Origin, ProgramOf, Source}
+use Rattle.btools.specs.FaultPlaces.{fault_lines}
 use Rattle.btools.specs.Functions.{functions_of}
-use Rattle.btools.specs.ProgramLines.{HasLines}
 use Rattle.btools.specs.declared.names.Frame.{Frame}
 use Rattle.btools.specs.Programs.{HasProgram, NoProgram, TellsEnd, located_status, nothing_written}
 use Rattle.btools.proofs.Compiled.{text_in}
@@ -52,7 +52,7 @@ use Rattle.btrace.specs.declared.tracing.TheConstants.{HEADING}
 use Rattle.bwatch.specs.declared.trail.TraceRows.{TraceRows}
 use Rattle.bwatch.specs.Sights.{sights_of}
 use Rattle.bwatch.proofs.Origins.{loaded_in}
-use Rattle.btrace.proofs.Unasked.{by_code, by_place, by_trace}
+use Rattle.btrace.proofs.Unasked.{by_code, by_place, by_trace, place_by_code}
 
 -- a machine of which a state comes again runs for ever, and so does the one that was loaded so
 module _ (ds : List Definition) (image : Image) (loaded : IsLoadedFrom ds image) (i j : Incoming) where
@@ -147,20 +147,20 @@ module _ (files : Files) where
     finished text answer result reported (inr t) = let same : status ≡ answer = t.2 in absurd (t.0 ((told text DONE ends.out ends.out_after answer (omega arith) reported).1))
 
     status_told : (result : Outcome) → ComesAlways ds steps result → Traces origin source steps shown files name ends status → status ≡ status_of result
-    status_told result comes (traces.traced other image lines which r made again text answer program lined named back w reported tells) =
+    status_told result comes (traces.traced other image lines frames which r made again text answer program lined known named back w reported tells) =
         let f = finished text answer r reported tells in
         let c = came other steps ends.input ends.input_after nothing_written (outgoing_of w.output) ends.line ends.line_after status less r w.gives f.1 in
         let at_end = subst (λ x. state_outcome (machine x c.1.0 steps) ≡ r) (only_in origin source ds is other image program) c.1.1 in
         c.0 ∙ ap status_of (sym at_end ∙ comes c.1.0)
-    status_told result comes (traces.not_begun other image which r program named never f quiet) = absurd (no_beginning other image r program never f)
-    status_told result comes (traces.unnamed other image program unknown r quiet) =
+    status_told result comes (traces.not_begun other image which r program suits named never f quiet) = absurd (no_beginning other image r program never f)
+    status_told result comes (traces.unnamed other image program suits unknown r quiet) =
         let bad : status ≡ 135 = (told _ WRONG_COMMAND ends.line ends.line_after status (omega arith) r).1 in absurd (omega arith)
     status_told result comes (traces.stopped none quiet) = absurd (has_program_in origin source ds is _ ends.line ends.line_after status less none)
-    status_told result comes (traces.no_memory other image program still same read e) = let bad : status ≡ 134 = e in absurd (omega arith)
+    status_told result comes (traces.no_memory other image program suits still same read e) = let bad : status ≡ 134 = e in absurd (omega arith)
 
     -- a run that begins has its trace written
     written_so : Traces origin source steps shown files name ends status → (more : List ℕ) × Writes ends.out (HEADING.now ++ more) ends.out_after
-    written_so (traces.traced other image lines which r made again text answer program lined named back w reported tells) =
+    written_so (traces.traced other image lines frames which r made again text answer program lined known named back w reported tells) =
         let legend = legend_in other lines files in
         let sights = sights_of (image_of other).functions (machine other) (w.taken ++ []) in
         let rows = rows_text legend which sights made in
@@ -170,11 +170,11 @@ module _ (files : Files) where
           subst (λ (x : List ℕ). Writes ends.out x ends.out_after)
               (w.told [] (λ e. refl) ∙ append_assoc (HEADING.now ++ rows) ending after ∙ append_assoc HEADING.now rows (ending ++ after)) (finished text answer r reported tells).0,
         )
-    written_so (traces.not_begun other image which r program named never f quiet) = absurd (no_beginning other image r program never f)
-    written_so (traces.unnamed other image program unknown r quiet) =
+    written_so (traces.not_begun other image which r program suits named never f quiet) = absurd (no_beginning other image r program never f)
+    written_so (traces.unnamed other image program suits unknown r quiet) =
         let bad : status ≡ 135 = (told _ WRONG_COMMAND ends.line ends.line_after status (omega arith) r).1 in absurd (omega arith)
     written_so (traces.stopped none quiet) = absurd (has_program_in origin source ds is _ ends.line ends.line_after status less none)
-    written_so (traces.no_memory other image program still same read e) = let bad : status ≡ 134 = e in absurd (omega arith)
+    written_so (traces.no_memory other image program suits still same read e) = let bad : status ≡ 134 = e in absurd (omega arith)
 
   not_silent : (before more : List ℕ) → before ≡ before ++ (HEADING.now ++ more) → ⊥
   not_silent before more e = let bad : HEADING.now ++ more ≡ [] = sym (append_cancel_left before [] (HEADING.now ++ more) (append-nil before ∙ e)) in cc
@@ -196,15 +196,33 @@ module _ (files : Files) where
       by_kind end_fault.Memory h e = refused h.counted.0
 
   read_told : (origin : Origin) (source : List ℕ) (steps : ℕ) (shown : TraceRows) (name : Option (List ℕ)) (ends : RunEnds) → (ends.input_after.failures ≡ ends.input.failures → ⊥) → (Grew ends.out.refusals ends.out_after.refusals → ⊥) → Traces origin source steps shown files name ends MEMORY → ⊥
-  read_told origin source steps shown name ends failed refused (traces.traced ds image lines which result made again text answer program lined named back w reported tells) =
+  read_told origin source steps shown name ends failed refused (traces.traced ds image lines frames which result made again text answer program lined known named back w reported tells) =
       elim tells [
         | inl d ↦ read_whole ds steps ends.input ends.input_after nothing_written (outgoing_of w.output) ends.line ends.line_after result failed w.gives d.1
         | inr d ↦ cut_off text ends.out ends.out_after refused (subst (λ n. Reported text DONE ends.out ends.out_after n) (sym d.2) reported)
       ]
-  read_told origin source steps shown name ends failed refused (traces.not_begun ds image which result program named never f quiet) = failed (ap (λ (i : Incoming). i.failures) quiet.unread)
-  read_told origin source steps shown name ends failed refused (traces.unnamed ds image program unknown r quiet) = failed (ap (λ (i : Incoming). i.failures) quiet.unread)
+  read_told origin source steps shown name ends failed refused (traces.not_begun ds image which result program suits named never f quiet) = failed (ap (λ (i : Incoming). i.failures) quiet.unread)
+  read_told origin source steps shown name ends failed refused (traces.unnamed ds image program suits unknown r quiet) = failed (ap (λ (i : Incoming). i.failures) quiet.unread)
   read_told origin source steps shown name ends failed refused (traces.stopped none quiet) = failed (ap (λ (i : Incoming). i.failures) quiet.unread)
-  read_told origin source steps shown name ends failed refused (traces.no_memory ds image program still same read e) = failed read.no_failure
+  read_told origin source steps shown name ends failed refused (traces.no_memory ds image program suits still same read e) = failed read.no_failure
+
+  -- a file that doesn't suit the code is told
+  module _ (origin : Origin) (source : List ℕ) (no : IsSuited origin source → ⊥) (steps : ℕ) (ends : RunEnds) (status : ℕ) where
+    abbrev Tells : Type 0
+    Tells = NoProgramOf origin source (fault_lines files) ends.line ends.line_after status × HasNotRun ends
+
+    trace_unsuited : (shown : TraceRows) (name : Option (List ℕ)) → Traces origin source steps shown files name ends status → Tells
+    trace_unsuited shown name (traces.traced ds image lines frames which r made again text answer program lined known named back w reported tells) = absurd (no ((lines, lined), (frames, known)))
+    trace_unsuited shown name (traces.not_begun ds image which r program suits named never f quiet) = absurd (no suits)
+    trace_unsuited shown name (traces.unnamed ds image program suits unknown r quiet) = absurd (no suits)
+    trace_unsuited shown name (traces.stopped none quiet) = (none, quiet)
+    trace_unsuited shown name (traces.no_memory ds image program suits still same read e) = absurd (no suits)
+
+    place_unsuited : Locates origin source files steps ends status → Tells
+    place_unsuited (locates.located out ds image frames lines result answer active made again program named lined gives f located stops comes tells) = absurd (no ((lines, lined), (frames, named)))
+    place_unsuited (locates.unlocated ds image result program suits gives f unplaced) = absurd (no suits)
+    place_unsuited (locates.not_begun ds image result program suits never f quiet) = absurd (no suits)
+    place_unsuited (locates.stopped none quiet) = (none, quiet)
 
   pub excluded : TracesExcluded files
   excluded = record {
@@ -214,6 +232,7 @@ module _ (files : Files) where
         let w = written_so origin source ds is steps shown name ends status less starts h in
         not_silent before w.0 (wrote ends.out ends.out_after before (HEADING.now ++ w.0) before first last w.1);
     read_failed = λ origin source steps shown name ends failed refused h. read_told origin source steps shown name ends failed refused h;
+    unsuited = λ origin source no steps shown name ends status h. trace_unsuited origin source no steps ends status shown name h;
     unasked = λ edition source r g steps shown name ends status h. by_trace edition source r g steps files ends status shown name h;
     unasked_by_code = λ c ds is source steps shown name ends status h. by_code c ds is source steps files ends status shown name h;
   }
@@ -224,7 +243,7 @@ module _ (files : Files) where
   line_in result = []
 
   -- a run that is told with its place: the line of its outcome, and where the machine was
-  pub record Stops (edition : Edition) (source : List ℕ) (ds : List Definition) (steps : ℕ) (ends : RunEnds) (text : List ℕ) (status : ℕ) : Type 0 where
+  pub record Stops (origin : Origin) (source : List ℕ) (ds : List Definition) (steps : ℕ) (ends : RunEnds) (text : List ℕ) (status : ℕ) : Type 0 where
     pub result : Outcome
     pub located : located_status result ≡ Some status
     pub active : Active
@@ -232,7 +251,7 @@ module _ (files : Files) where
     pub input : List ℕ
     pub stops : EndsAt (machine ds input) steps result active made
     pub lines : List ℕ
-    pub lined : HasLines edition source lines
+    pub lined : LinesOf origin source lines
     pub again : Option Endless
     pub endless : IfSome again (λ e. RunsForEver (machine ds) ends.input ends.input_after)
     pub text_is : text ≡ line_in result ++ told_site (legend_in ds lines files) source result active made again
@@ -256,18 +275,18 @@ module _ (files : Files) where
   not_alone outcome.Device mid following status text less f unplaced e g some = let bad : status ≡ 133 = f.1 in omega arith
   not_alone outcome.Memory mid following status text less f unplaced e g some = let bad : status ≡ 134 = f.1 in omega arith
 
-  module _ (edition : Edition) (source : List ℕ) (ds : List Definition) (is : IsSourceOf edition source ds) (steps : ℕ) (ends : RunEnds) (status : ℕ) (less : status < 132) (starts : ComesAlways ds 0 outcome.Limit) where
-    never_begun : (other : List Definition) (image : Image) (result : Outcome) → HasProgram edition source other image → BeginsNot image result → Finishes result ends.line ends.line_after status → ⊥
+  module _ (origin : Origin) (source : List ℕ) (ds : List Definition) (is : IsCodeIn origin source ds) (steps : ℕ) (ends : RunEnds) (status : ℕ) (less : status < 132) (starts : ComesAlways ds 0 outcome.Limit) where
+    never_begun : (other : List Definition) (image : Image) (result : Outcome) → ProgramOf origin source other image → BeginsNot image result → Finishes result ends.line ends.line_after status → ⊥
     never_begun other image result program never f =
-        begins ds image result ends.line ends.line_after status less starts (subst (λ x. IsLoadedFrom x image) (only edition source ds is other image program) program.loaded) never f
+        begins ds image result ends.line ends.line_after status less starts (subst (λ x. IsLoadedFrom x image) (only_in origin source ds is other image program) (loaded_in origin source other image program)) never f
 
     -- the place is told
-    pub stops_so : (text : List ℕ) → ends.line.written ≡ Some [] → ends.line_after.written ≡ Some text → (text ≡ [] → ⊥) → Locates edition source files steps ends status → Stops edition source ds steps ends text status
+    pub stops_so : (text : List ℕ) → ends.line.written ≡ Some [] → ends.line_after.written ≡ Some text → (text ≡ [] → ⊥) → Locates origin source files steps ends status → Stops origin source ds steps ends text status
     stops_so text before following some (locates.located out other image frames lines result answer active made again program named lined gives f located stops comes tells) =
-        let same = only edition source ds is other image program in
+        let same = only_in origin source ds is other image program in
         let site = site_told (legend_in other lines files) source result active made again answer out ends.line_after status less tells in
         let whole = Writes-append (line_told result answer ends.line out located f) site.0 in
-        let here : Stops edition source other steps ends text status = record {
+        let here : Stops origin source other steps ends text status = record {
           result = result;
           located = located ∙ ap Some (sym site.1);
           active = active;
@@ -277,30 +296,30 @@ module _ (files : Files) where
           lines = lines;
           lined = lined;
           again = again;
-          endless = endless_so other image program.loaded ends.input ends.input_after frames again comes;
+          endless = endless_so other image (loaded_in origin source other image program) ends.input ends.input_after frames again comes;
           text_is = wrote ends.line ends.line_after [] _ text before following whole;
         } in
-        subst (λ x. Stops edition source x steps ends text status) same here
-    stops_so text before following some (locates.unlocated other image result program gives f unplaced) =
+        subst (λ x. Stops origin source x steps ends text status) same here
+    stops_so text before following some (locates.unlocated other image result program suits gives f unplaced) =
         absurd (not_alone result ends.line ends.line_after status text less f unplaced before following some)
-    stops_so text before following some (locates.not_begun other image result program never f quiet) = absurd (never_begun other image result program never f)
-    stops_so text before following some (locates.stopped none quiet) = absurd (has_program edition source ds is _ ends.line ends.line_after status less none)
+    stops_so text before following some (locates.not_begun other image result program suits never f quiet) = absurd (never_begun other image result program never f)
+    stops_so text before following some (locates.stopped none quiet) = absurd (has_program_in origin source ds is _ ends.line ends.line_after status less none)
 
     -- the status is that of the machine's outcome
-    came_to : (result : Outcome) → ComesAlways ds steps result → Locates edition source files steps ends status → status ≡ status_of result
+    came_to : (result : Outcome) → ComesAlways ds steps result → Locates origin source files steps ends status → status ≡ status_of result
     came_to result comes (locates.located out other image frames lines r answer active made again program named lined gives f located stops back tells) =
-        let same = only edition source ds is other image program in
+        let same = only_in origin source ds is other image program in
         let site = site_told (legend_in other lines files) source r active made again answer out ends.line_after status less tells in
         let c = came other steps ends.input ends.input_after ends.out ends.out_after ends.line out answer (omega (arith, site.1)) r gives f in
         let at_end = subst (λ x. state_outcome (machine x c.1.0 steps) ≡ r) same c.1.1 in
         site.1 ∙ c.0 ∙ ap status_of (sym at_end ∙ comes c.1.0)
-    came_to result comes (locates.unlocated other image r program gives f unplaced) =
-        let same = only edition source ds is other image program in
+    came_to result comes (locates.unlocated other image r program suits gives f unplaced) =
+        let same = only_in origin source ds is other image program in
         let c = came other steps ends.input ends.input_after ends.out ends.out_after ends.line ends.line_after status less r gives f in
         let at_end = subst (λ x. state_outcome (machine x c.1.0 steps) ≡ r) same c.1.1 in
         c.0 ∙ ap status_of (sym at_end ∙ comes c.1.0)
-    came_to result comes (locates.not_begun other image r program never f quiet) = absurd (never_begun other image r program never f)
-    came_to result comes (locates.stopped none quiet) = absurd (has_program edition source ds is _ ends.line ends.line_after status less none)
+    came_to result comes (locates.not_begun other image r program suits never f quiet) = absurd (never_begun other image r program never f)
+    came_to result comes (locates.stopped none quiet) = absurd (has_program_in origin source ds is _ ends.line ends.line_after status less none)
 
   pub limit_is : (result : Outcome) → located_status result ≡ Some 131 → result ≡ outcome.Limit
   limit_is (outcome.Exit n) e = cc
@@ -341,26 +360,28 @@ module _ (files : Files) where
   located_read ds steps i j o p outcome.Device answer e h = cc
   located_read ds steps i j o p outcome.Memory answer e h = cc
 
-  place_read : (edition : Edition) (source : List ℕ) (steps : ℕ) (ends : RunEnds) → (ends.input_after.failures ≡ ends.input.failures → ⊥) → Locates edition source files steps ends MEMORY → ⊥
-  place_read edition source steps ends failed (locates.located out ds image frames lines result answer active made again program named lined gives f located stops comes tells) =
+  place_read : (origin : Origin) (source : List ℕ) (steps : ℕ) (ends : RunEnds) → (ends.input_after.failures ≡ ends.input.failures → ⊥) → Locates origin source files steps ends MEMORY → ⊥
+  place_read origin source steps ends failed (locates.located out ds image frames lines result answer active made again program named lined gives f located stops comes tells) =
       failed (located_read ds steps ends.input ends.input_after ends.out ends.out_after result answer located gives)
-  place_read edition source steps ends failed (locates.unlocated ds image result program gives f unplaced) =
+  place_read origin source steps ends failed (locates.unlocated ds image result program suits gives f unplaced) =
       read_whole ds steps ends.input ends.input_after ends.out ends.out_after ends.line ends.line_after result failed gives f
-  place_read edition source steps ends failed (locates.not_begun ds image result program never f quiet) = failed (ap (λ (i : Incoming). i.failures) quiet.unread)
-  place_read edition source steps ends failed (locates.stopped none quiet) = failed (ap (λ (i : Incoming). i.failures) quiet.unread)
+  place_read origin source steps ends failed (locates.not_begun ds image result program suits never f quiet) = failed (ap (λ (i : Incoming). i.failures) quiet.unread)
+  place_read origin source steps ends failed (locates.stopped none quiet) = failed (ap (λ (i : Incoming). i.failures) quiet.unread)
 
   pub places_excluded : LocatesExcluded files
   places_excluded = record {
-    limit_alone = λ ds steps starts edition source ends is before following h.
-        let s = stops_so edition source ds is steps ends LIMIT (omega arith) starts (codes "limit\n") before following (λ e. cc) h in
+    limit_alone = λ ds steps starts origin source ends is before following h.
+        let s = stops_so origin source ds is steps ends LIMIT (omega arith) starts (codes "limit\n") before following (λ e. cc) h in
         let limit = s.text_is ∙ ap (λ x. line_in x ++ told_site (legend_in ds s.lines files) source x s.active s.made s.again) (limit_is s.result s.located) in
         let bad : 0 ≡ 97 = ap (at 6) limit in
         omega (arith, bad);
-    trap_alone = λ ds steps kind starts edition source ends is before following h.
-        let s = stops_so edition source ds is steps ends TRAP (omega arith) starts (report_text (report.Trap kind)) before following (λ e. cc) h in
+    trap_alone = λ ds steps kind starts origin source ends is before following h.
+        let s = stops_so origin source ds is steps ends TRAP (omega arith) starts (report_text (report.Trap kind)) before following (λ e. cc) h in
         trap_alone s.result kind (legend_in ds s.lines files) source s.active s.made s.again s.located s.text_is;
-    other_status = λ ds steps result status starts comes wrong less edition source ends is h.
-        wrong (came_to edition source ds is steps ends status less starts result comes h);
-    read_failed = λ edition source steps ends failed h. place_read edition source steps ends failed h;
+    other_status = λ ds steps result status starts comes wrong less origin source ends is h.
+        wrong (came_to origin source ds is steps ends status less starts result comes h);
+    read_failed = λ origin source steps ends failed h. place_read origin source steps ends failed h;
+    unsuited = λ origin source no steps ends status h. place_unsuited origin source no steps ends status h;
     unasked = λ edition source r g steps ends status h. by_place edition source r g steps files ends status h;
+    unasked_by_code = λ c ds is source steps ends status h. place_by_code c ds is source steps files ends status h;
   }

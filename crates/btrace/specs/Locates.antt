@@ -1,6 +1,5 @@
--- Promise: what comes of a source that is run and where its run was over is told.
+-- Promise: what comes of a program that is run and where its run was over is told.
 use Rattle.std.specs.Prelude.{◌≡◌, ◌⊎◌, ℕ, List, [], ◌++◌, Option, Some, None, IfSome, codes, decimal}
-use Rattle.bword.specs.declared.edition.Edition.{Edition}
 use Rattle.bword.specs.ByteEnds.{Outgoing}
 use Rattle.blang.specs.declared.code.Definition.{Definition}
 use Rattle.blang.specs.declared.run.Outcome.{Outcome}
@@ -16,10 +15,9 @@ use Rattle.bmach.specs.Stepping.{BeginsNot}
 use Rattle.bmach.specs.Stops.{IsOverAt}
 use Rattle.bmach.specs.declared.machine.Active.{Active}
 use Rattle.btools.specs.FaultPlaces.{fault_lines}
-use Rattle.btools.specs.FrameNames.{HasNames}
 use Rattle.btools.specs.Functions.{functions_of}
-use Rattle.btools.specs.ProgramLines.{HasLines}
-use Rattle.btools.specs.Programs.{HasProgram, NoProgram, located_status}
+use Rattle.btools.specs.Origins.{IsSuited, LinesOf, NamesOf, NoProgramOf, Origin, ProgramOf}
+use Rattle.btools.specs.Programs.{located_status}
 use Rattle.btools.specs.SourceLines.{line_at, shown_line}
 use Rattle.bsources.specs.Files.{Files}
 use Rattle.btools.specs.declared.names.Frame.{Frame}
@@ -65,28 +63,30 @@ TellsSite legend source result call number again answer old new status =
     Reported (told_site legend source result call number again) answer old new status
     ⊎ ((new ≡ old) × (status ≡ MEMORY))
 
--- The program of the source was run for so many steps at most, as the machine runs it, and has its line and status; and
--- if that is the line of a trap or of the limit, where it was over was told after it, and with which step, and that it
--- never ends if a state of its image comes again, with what its loop does. Or the program did not begin, or there is
--- none, and why was told; or memory was refused.
-pub data Locates (edition : Edition) (source : List ℕ) (files : Files) (steps : ℕ) (ends : RunEnds) (status : ℕ)
+-- The program of this origin was run for so many steps at most, as the machine runs it, and has its line and status;
+-- and if that is the line of a trap or of the limit, where it was over was told after it, and with which step, and that
+-- it never ends if a state of its image comes again, with what its loop does. Or the program did not begin, or there is
+-- none, and why was told; or memory was refused. Wherever there is a program, what stands beside its code text suits
+-- it.
+pub data Locates (origin : Origin) (source : List ℕ) (files : Files) (steps : ℕ) (ends : RunEnds) (status : ℕ)
     : Type 0 where
   located : (told : Outgoing) (ds : List Definition) (image : Image) (frames : List Frame) (lines : List ℕ)
       (result : Outcome) (answer : ℕ) (active : Active) (made : ℕ) (again : Option Endless)
-      → HasProgram edition source ds image → HasNames edition source frames → HasLines edition source lines
+      → ProgramOf origin source ds image → NamesOf origin source frames → LinesOf origin source lines
       → RunGives (machine ds) steps ends.input ends.input_after ends.out ends.out_after result
       → Finishes result ends.line told answer → located_status result ≡ Some answer
       → IsOverAt (machine ds) steps ends.input ends.input_after result active made
       → IfSome again (IsEndless ds image (functions_of ds) frames ends.input ends.input_after)
       → TellsSite (legend_in ds lines files) source result active made again answer told ends.line_after status
-      → Locates edition source files steps ends status
+      → Locates origin source files steps ends status
   unlocated : (ds : List Definition) (image : Image) (result : Outcome)
-      → HasProgram edition source ds image
+      → ProgramOf origin source ds image → IsSuited origin source
       → RunGives (machine ds) steps ends.input ends.input_after ends.out ends.out_after result
       → Finishes result ends.line ends.line_after status → (located_status result ≡ Some status → ⊥)
-      → Locates edition source files steps ends status
+      → Locates origin source files steps ends status
   not_begun : (ds : List Definition) (image : Image) (result : Outcome)
-      → HasProgram edition source ds image → BeginsNot image result
-      → Finishes result ends.line ends.line_after status → HasNotRun ends → Locates edition source files steps ends status
-  stopped : NoProgram edition source (fault_lines files) ends.line ends.line_after status → HasNotRun ends
-      → Locates edition source files steps ends status
+      → ProgramOf origin source ds image → IsSuited origin source → BeginsNot image result
+      → Finishes result ends.line ends.line_after status → HasNotRun ends
+      → Locates origin source files steps ends status
+  stopped : NoProgramOf origin source (fault_lines files) ends.line ends.line_after status → HasNotRun ends
+      → Locates origin source files steps ends status

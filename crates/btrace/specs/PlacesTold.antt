@@ -2,7 +2,6 @@
 use Rattle.std.specs.Prelude.{◌≡◌, ℕ, ◌+◌, ◌<◌, List, [], ◌++◌, Option, Some, None, IfSome}
 use Rattle.bendless.specs.Repeats.{RunsForEver}
 use Rattle.bendless.specs.declared.endless.Endless.{Endless}
-use Rattle.bword.specs.declared.edition.Edition.{Edition}
 use Rattle.blang.specs.declared.code.Definition.{Definition}
 use Rattle.blang.specs.declared.run.Outcome.{Outcome}
 use Rattle.blang.specs.declared.run.Outcome.TheVariants as outcome
@@ -14,26 +13,26 @@ use Rattle.blang.specs.Reports.{RunEnds, report_text, state_outcome}
 use Rattle.bmach.specs.Stops.{RunsCall}
 use Rattle.bmach.specs.declared.machine.Active.{Active}
 use Rattle.bsources.specs.Files.{Files}
-use Rattle.btools.specs.ProgramLines.{HasLines}
+use Rattle.btools.specs.Origins.{LinesOf, Origin}
 use Rattle.btrace.specs.Locates.{Locates, told_site}
 use Rattle.btrace.specs.RowTexts.{legend_in}
-use Rattle.btrace.specs.TraceExcluded.{ComesAlways, IsSourceOf}
+use Rattle.btrace.specs.TraceExcluded.{ComesAlways, IsCodeIn}
 
-module _ (edition : Edition) (source : List ℕ) (files : Files) (ds : List Definition) (steps : ℕ) (ends : RunEnds)
+module _ (origin : Origin) (source : List ℕ) (files : Files) (ds : List Definition) (steps : ℕ) (ends : RunEnds)
     (text : List ℕ) where
-  -- The source has these definitions, whose run begins, and this text was written of it, with this status.
+  -- The program has these definitions, its run begins, and this text was written of it, with this status.
   pub record IsLocated (status : ℕ) : Type 0 where
-    pub compiles : IsSourceOf edition source ds
+    pub compiles : IsCodeIn origin source ds
     pub begins : ComesAlways ds 0 outcome.Limit
     pub before : ends.line.written ≡ Some []
     pub after : ends.line_after.written ≡ Some text
     pub some : text ≡ [] → ⊥
-    pub locates : Locates edition source files steps ends status
+    pub locates : Locates origin source files steps ends status
 
   -- It is this line, and then the place of this call, with the line of the source, after so many steps.
   abbrev pub TellsPlaceOf : (line : List ℕ) → Outcome → Active → (number : ℕ) → Option Endless → Type 0
   TellsPlaceOf line result call number again =
-      (lines : List ℕ) × HasLines edition source lines
+      (lines : List ℕ) × LinesOf origin source lines
       × (text ≡ line ++ told_site (legend_in ds lines files) source result call number again)
 
   -- At the limit the call that runs after all steps is told, and after a trap the one that ran before its step. Where it is
@@ -54,5 +53,5 @@ module _ (edition : Edition) (source : List ℕ) (files : Files) (ds : List Defi
 -- for each source, each program and each run
 abbrev pub PlacesTold : Type 0
 PlacesTold =
-    (edition : Edition) (source : List ℕ) (files : Files) (ds : List Definition) (steps : ℕ) (ends : RunEnds)
-    (text : List ℕ) → PlaceIsTold edition source files ds steps ends text
+    (origin : Origin) (source : List ℕ) (files : Files) (ds : List Definition) (steps : ℕ) (ends : RunEnds)
+    (text : List ℕ) → PlaceIsTold origin source files ds steps ends text

@@ -11,11 +11,12 @@ use Rattle.blang.specs.declared.status.TheConstants.{DEVICE, LIMIT, MEMORY, REFU
 use Rattle.blang.specs.Compiles.{Compilation, CompilesTo, code_text}
 use Rattle.blang.specs.Cut.{tokens_from}
 use Rattle.blang.specs.Machine.{machine}
-use Rattle.blang.specs.Reports.{RunEnds, report_text, state_outcome}
+use Rattle.blang.specs.Reports.{HasNotRun, RunEnds, report_text, state_outcome}
 use Rattle.blang.specs.Text.{IsCodeText}
 use Rattle.bmach.specs.Readings.{LeftBySteps}
 use Rattle.bsources.specs.Files.{Files}
-use Rattle.btools.specs.Origins.{Code, Origin, Source}
+use Rattle.btools.specs.FaultPlaces.{fault_lines}
+use Rattle.btools.specs.Origins.{Code, IsSuited, NoProgramOf, Origin, Source}
 use Rattle.btools.specs.PlaceLines.{CodeText}
 use Rattle.btools.specs.ProgramsExcluded.{code_in}
 use Rattle.btrace.specs.Locates.{Locates}
@@ -63,6 +64,11 @@ module _ (files : Files) where
         (name : Option (List ℕ)) (ends : RunEnds) → (ends.input_after.failures ≡ ends.input.failures → ⊥)
         → (Grew ends.out.refusals ends.out_after.refusals → ⊥)
         → Traces origin source steps shown files name ends MEMORY → ⊥
+    -- anything but why there is no program, where a file of lines or of names doesn't suit the code
+    pub unsuited : (origin : Origin) (source : List ℕ) → (IsSuited origin source → ⊥) → (steps : ℕ)
+        (shown : TraceRows) (name : Option (List ℕ)) (ends : RunEnds) (status : ℕ)
+        → Traces origin source steps shown files name ends status
+        → NoProgramOf origin source (fault_lines files) ends.line ends.line_after status × HasNotRun ends
     -- whatever the status, as where memory was refused: a byte taken that no step asked for
     pub unasked : (edition : Edition) (source : List ℕ) (r : Compilation)
         (g : CompilesTo [] (tokens_from edition 1 source) r) (steps : ℕ) (shown : TraceRows)
@@ -77,9 +83,9 @@ module _ (files : Files) where
   -- no run of a program has this text of lines and this status
   abbrev pub NoPlace : List Definition → (steps status : ℕ) → List ℕ → Type 0
   NoPlace ds steps status text =
-      (edition : Edition) (source : List ℕ) (ends : RunEnds) → IsSourceOf edition source ds
+      (origin : Origin) (source : List ℕ) (ends : RunEnds) → IsCodeIn origin source ds
       → ends.line.written ≡ Some [] → ends.line_after.written ≡ Some text
-      → Locates edition source files steps ends status → ⊥
+      → Locates origin source files steps ends status → ⊥
 
   pub record LocatesExcluded : Type 0 where
     -- the line of the limit or of a trap without a place
@@ -90,14 +96,21 @@ module _ (files : Files) where
     -- another status than that of the machine after just so many steps
     pub other_status : (ds : List Definition) (steps : ℕ) (result : Outcome) (status : ℕ)
         → ComesAlways ds 0 outcome.Limit → ComesAlways ds steps result → (status ≡ status_of result → ⊥)
-        → status < REFUSED → (edition : Edition)
-        → (source : List ℕ) (ends : RunEnds) → IsSourceOf edition source ds
-        → Locates edition source files steps ends status → ⊥
+        → status < REFUSED → (origin : Origin)
+        → (source : List ℕ) (ends : RunEnds) → IsCodeIn origin source ds
+        → Locates origin source files steps ends status → ⊥
     -- want of memory told where a read failed
-    pub read_failed : (edition : Edition) (source : List ℕ) (steps : ℕ) (ends : RunEnds)
-        → (ends.input_after.failures ≡ ends.input.failures → ⊥) → Locates edition source files steps ends MEMORY → ⊥
+    pub read_failed : (origin : Origin) (source : List ℕ) (steps : ℕ) (ends : RunEnds)
+        → (ends.input_after.failures ≡ ends.input.failures → ⊥) → Locates origin source files steps ends MEMORY → ⊥
+    -- anything but why there is no program, where a file of lines or of names doesn't suit the code
+    pub unsuited : (origin : Origin) (source : List ℕ) → (IsSuited origin source → ⊥) → (steps : ℕ) (ends : RunEnds)
+        (status : ℕ) → Locates origin source files steps ends status
+        → NoProgramOf origin source (fault_lines files) ends.line ends.line_after status × HasNotRun ends
     -- whatever the status, as where memory was refused: a byte taken that no step asked for
     pub unasked : (edition : Edition) (source : List ℕ) (r : Compilation)
         (g : CompilesTo [] (tokens_from edition 1 source) r) (steps : ℕ) (ends : RunEnds) (status : ℕ)
-        → Locates edition source files steps ends status
+        → Locates (Source edition) source files steps ends status
         → LeftBySteps (machine (code_in edition source r g)) steps ends.input ends.input_after
+    pub unasked_by_code : (c : CodeText) (ds : List Definition) → IsCodeText c.code ds → (source : List ℕ) (steps : ℕ)
+        (ends : RunEnds) (status : ℕ) → Locates (Code c) source files steps ends status
+        → LeftBySteps (machine ds) steps ends.input ends.input_after

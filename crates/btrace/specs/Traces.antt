@@ -14,7 +14,8 @@ use Rattle.blang.specs.declared.run.Outcome.TheVariants as outcome
 use Rattle.bmach.specs.declared.machine.Active.{Active}
 use Rattle.btools.specs.FaultPlaces.{fault_lines}
 use Rattle.btools.specs.Functions.{Placed, function_named, functions_of}
-use Rattle.btools.specs.Origins.{LinesOf, NoProgramOf, Origin, ProgramOf}
+use Rattle.btools.specs.Origins.{IsSuited, LinesOf, NamesOf, NoProgramOf, Origin, ProgramOf}
+use Rattle.btools.specs.declared.names.Frame.{Frame}
 use Rattle.btools.specs.Programs.{TellsEnd}
 use Rattle.bsources.specs.Files.{Files}
 use Rattle.bwatch.specs.Sights.{Sight, Sights, stored_between}
@@ -106,12 +107,13 @@ IsTrace legend which again text sights made result =
 -- The program of this origin was run for so many steps at most, as the machine runs it, and its trace written, with a
 -- state of its image that comes again, if one was found; or it
 -- did not begin; or no function has the name, and that was told; or there is no program, and why was told; or memory
--- was refused, and nothing was written, or read but by some of its steps.
+-- was refused, and nothing was written, or read but by some of its steps. Wherever there is a program, what stands
+-- beside its code text suits it.
 pub data Traces (origin : Origin) (source : List ℕ) (steps : ℕ) (shown : TraceRows) (files : Files)
     (name : Option (List ℕ)) (ends : RunEnds) (status : ℕ) : Type 0 where
-  traced : (ds : List Definition) (image : Image) (lines : List ℕ) (which : Which) (result : Outcome) (made : ℕ)
-      (again : Option Repeat) (text : List ℕ) (told : ℕ) → ProgramOf origin source ds image
-      → LinesOf origin source lines
+  traced : (ds : List Definition) (image : Image) (lines : List ℕ) (frames : List Frame) (which : Which)
+      (result : Outcome) (made : ℕ) (again : Option Repeat) (text : List ℕ) (told : ℕ)
+      → ProgramOf origin source ds image → LinesOf origin source lines → NamesOf origin source frames
       → which_of (functions_of ds) shown name ≡ Some which
       → IfSome again (ComesBack (run image) ends.input ends.input_after)
       → Watches (image_of ds).functions (machine ds) steps ends.input ends.input_after result made
@@ -119,17 +121,17 @@ pub data Traces (origin : Origin) (source : List ℕ) (steps : ℕ) (shown : Tra
       → Reported text DONE ends.out ends.out_after told → TellsEnd told result ends.line ends.line_after status
       → Traces origin source steps shown files name ends status
   not_begun : (ds : List Definition) (image : Image) (which : Which) (result : Outcome)
-      → ProgramOf origin source ds image
+      → ProgramOf origin source ds image → IsSuited origin source
       → which_of (functions_of ds) shown name ≡ Some which → BeginsNot image result
       → Finishes result ends.line ends.line_after status → HasNotRun ends
       → Traces origin source steps shown files name ends status
-  unnamed : (ds : List Definition) (image : Image) → ProgramOf origin source ds image
+  unnamed : (ds : List Definition) (image : Image) → ProgramOf origin source ds image → IsSuited origin source
       → which_of (functions_of ds) shown name ≡ None
       → Reported UNNAMED.now WRONG_COMMAND ends.line ends.line_after status → HasNotRun ends
       → Traces origin source steps shown files name ends status
   stopped : NoProgramOf origin source (fault_lines files) ends.line ends.line_after status → HasNotRun ends
       → Traces origin source steps shown files name ends status
-  no_memory : (ds : List Definition) (image : Image) → ProgramOf origin source ds image
+  no_memory : (ds : List Definition) (image : Image) → ProgramOf origin source ds image → IsSuited origin source
       → ends.line_after ≡ ends.line → ends.out_after ≡ ends.out
       → ReadBySteps (machine ds) steps ends.input ends.input_after → status ≡ MEMORY
       → Traces origin source steps shown files name ends status

@@ -4,6 +4,7 @@ ghost use Rattle.blang.specs.Reports.{run_ends};
 ghost use Rattle.btrace.specs.TraceExcluded.{LocatesExcluded};
 ghost use Rattle.bsources.specs.Files.{Files, files_shown};
 ghost use Rattle.btrace.specs.PlacesTold.{PlacesTold};
+ghost use Rattle.btools.specs.Origins.{origin_shown};
 ghost use Rattle.btrace.specs.RowTexts.{legend_of};
 ghost use Rattle.btrace.specs.Locates.{Locates, TellsSite, meaning, meaning_text, told_site};
 
@@ -21,10 +22,10 @@ use btools::{
     Origin, Tables, Text, line_at, located_status, push_source_line, read_program, tell,
     tell_placed,
 };
-use bword::{ByteIn, ByteOut, Edition};
+use bword::{ByteIn, ByteOut};
 use std::alloc::{AllocError, Global};
 
-/// Compiles a source, runs its program for at most so many steps, and tells where the run ended.
+/// Runs a program for at most so many steps, and tells where the run ended.
 ///
 /// The output, the line and the status are those of `go_edition`. After the line of a trap or of the limit, a second
 /// line tells the function, the place in it, the number of the line of the source, and how many steps were made; then
@@ -33,21 +34,21 @@ use std::alloc::{AllocError, Global};
 pub fn locate<I: ByteIn, O: ByteOut, D: ByteOut>(
     alloc: Global,
     source: &[u8],
-    edition: Edition,
+    origin: Origin<'_>,
     files: SourceFiles<'_>,
     steps: u64,
     input: &mut I,
     out: &mut O,
     diag: &mut D,
 ) -> Status
-    ensures locates { Locates edition source.now (files_shown files.entry) steps (run_ends
+    ensures locates { Locates (origin_shown origin.entry) source.now (files_shown files.entry) steps (run_ends
         (I.incoming input.old) (I.incoming input.new) (O.outgoing out.old) (O.outgoing out.new)
         (D.outgoing diag.old) (D.outgoing diag.new)) result }
     ensures input_lender { I.lender input.new ≡ I.lender input.old }
     ensures out_lender { O.lender out.new ≡ O.lender out.old }
     ensures diag_lender { D.lender diag.new ≡ D.lender diag.old }
 {
-    let program = match read_program(alloc, source, Origin::Source(edition)) {
+    let program = match read_program(alloc, source, origin) {
         Ok(program) => program,
         Err(fault) => return tell_placed(alloc, &fault, files, diag),
     };

@@ -2,6 +2,9 @@ use Rattle.std.proofs.Common.{◌∙◌, List, ℕ, ap, refl, subst, sym}
 use Rattle.std.specs.Prelude.{IfSome}
 use Rattle.blang.specs.Reports.{Reported}
 use Rattle.btools.specs.Functions.{Placed}
+use Rattle.btools.specs.Origins.{origin_shown}
+use Rattle.btools.proofs.Refused.{no_memory}
+use Rattle.bwatch.proofs.Origins.{loaded_in, loads_in}
 use Rattle.btools.specs.Programs.{steps_from}
 use Rattle.btools.specs.declared.program.ProgramFault.TheVariants.{Memory}
 use Rattle.bendless.specs.Repeats.{IsEndless}
@@ -14,25 +17,33 @@ use Rattle.bcareful.proofs.Whole.{found_whole, unfound_whole, warned_whole}
 use Rattle.bcareful.proofs.careful.run_asked.Goals as goal
 
 pub returns-in_default-clause-runs : goal.returns-in_default-clause-runs
-returns-in_default-clause-runs g c named lined = stopped (Memory, tt, (refl, refl)) (record { unread = refl; silent = refl })
+returns-in_default-clause-runs g c named lined = stopped (Memory, no_memory (origin_shown c.args.wanted.origin) c.args.teller.now.source.now, (refl, refl)) (record { unread = refl; silent = refl })
 
 pub returns-in-Err-clause-runs : goal.returns-in-Err-clause-runs
 returns-in-Err-clause-runs g c named lined =
     let program = c.args.teller.now.atlas.program.now in
-    not_begun program.definitions.items program.image c.in-Err.outcome c.requires.program c.in-Err.ensures c.finish.ensures.gives
+    not_begun program.definitions.items program.image c.in-Err.outcome c.requires.program ((program.names.lines.items, lined), (program.names.frames.items, named)) c.in-Err.ensures c.finish.ensures.gives
     (record { unread = refl; silent = refl })
 
 pub endless_of-again-requires-clause-loads : goal.endless_of-again-requires-clause-loads
-endless_of-again-requires-clause-loads g c = c.requires.program.loads
+endless_of-again-requires-clause-loads g c =
+    let program = c.args.teller.now.atlas.program.now in
+    loads_in (origin_shown c.args.wanted.origin) c.args.teller.now.source.now program.definitions.items program.image c.requires.program
 
 pub endless_of-again-requires-clause-loaded : goal.endless_of-again-requires-clause-loaded
-endless_of-again-requires-clause-loaded g c = c.requires.program.loaded
+endless_of-again-requires-clause-loaded g c =
+    let program = c.args.teller.now.atlas.program.now in
+    loaded_in (origin_shown c.args.wanted.origin) c.args.teller.now.source.now program.definitions.items program.image c.requires.program
 
 pub endless_of-again-requires-in-Over-clause-loads : goal.endless_of-again-requires-in-Over-clause-loads
-endless_of-again-requires-in-Over-clause-loads g c = c.requires.program.loads
+endless_of-again-requires-in-Over-clause-loads g c =
+    let program = c.args.teller.now.atlas.program.now in
+    loads_in (origin_shown c.args.wanted.origin) c.args.teller.now.source.now program.definitions.items program.image c.requires.program
 
 pub endless_of-again-requires-in-Over-clause-loaded : goal.endless_of-again-requires-in-Over-clause-loaded
-endless_of-again-requires-in-Over-clause-loaded g c = c.requires.program.loaded
+endless_of-again-requires-in-Over-clause-loaded g c =
+    let program = c.args.teller.now.atlas.program.now in
+    loaded_in (origin_shown c.args.wanted.origin) c.args.teller.now.source.now program.definitions.items program.image c.requires.program
 
 pub returns-then-not-stays-clause-runs : goal.returns-then-not-stays-clause-runs
 returns-then-not-stays-clause-runs g c named lined =

@@ -4,7 +4,7 @@ use Rattle.bcli.specs.Explains as explains
 use Rattle.bcli.proofs.explaining.explain.Goals as goal
 
 pub returns-in-Ok-clause-explains : goal.returns-in-Ok-clause-explains
-returns-in-Ok-clause-explains g c = explains.has_program c.in-Ok.field-0.definitions.items c.in-Ok.field-0.image c.in-Ok.ensures.program refl refl
+returns-in-Ok-clause-explains g c = explains.has_program c.in-Ok.field-0.definitions.items c.in-Ok.field-0.image c.in-Ok.ensures.program ((c.in-Ok.field-0.names.lines.items, c.in-Ok.ensures.lines), (c.in-Ok.field-0.names.frames.items, c.in-Ok.ensures.names)) refl refl
 
 pub returns-in-Ok-fault_text : goal.returns-in-Ok-fault_text
 returns-in-Ok-fault_text g c = record {

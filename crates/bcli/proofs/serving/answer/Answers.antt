@@ -11,11 +11,11 @@ returns-in-List-clause-answers g c =
 
 pub returns-in-Map-clause-answers : goal.returns-in-Map-clause-answers
 returns-in-Map-clause-answers g c =
-    answered (origin_shown c.args.origin) c.args.edition (files_shown c.args.files) c.args.text.now c.args.question questions.Map _ _ c.in-Map.is (refl, c.map.ensures.maps)
+    answered (origin_shown c.args.origin) c.args.edition (files_shown c.args.files) c.args.text.now c.args.question (questions.Map c.in-Map.field-0) _ _ c.in-Map.is (refl, c.map.ensures.maps)
 
 pub returns-in-Draw-clause-answers : goal.returns-in-Draw-clause-answers
 returns-in-Draw-clause-answers g c =
-    answered (origin_shown c.args.origin) c.args.edition (files_shown c.args.files) c.args.text.now c.args.question (questions.Draw c.in-Draw.steps) _ _ c.in-Draw.is c.draw.ensures.draws
+    answered (origin_shown c.args.origin) c.args.edition (files_shown c.args.files) c.args.text.now c.args.question (questions.Draw c.in-Draw.field-0 c.in-Draw.steps) _ _ c.in-Draw.is c.draw.ensures.draws
 
 pub returns-in-Check-clause-answers : goal.returns-in-Check-clause-answers
 returns-in-Check-clause-answers g c =
@@ -37,12 +37,12 @@ returns-in-Trace-clause-answers g c =
 
 pub returns-in-Locate-clause-answers : goal.returns-in-Locate-clause-answers
 returns-in-Locate-clause-answers g c =
-    answered _ _ _ _ c.args.question (questions.Locate c.in-Locate.steps) _ _ c.in-Locate.is
+    answered _ _ _ _ c.args.question (questions.Locate c.in-Locate.field-0 c.in-Locate.steps) _ _ c.in-Locate.is
     (rw c.new-attempt.ensures at c.locate_and_explain.ensures.locates)
 
 pub returns-in-GoCareful-clause-answers : goal.returns-in-GoCareful-clause-answers
 returns-in-GoCareful-clause-answers g c =
-    answered _ _ _ _ c.args.question (questions.GoCareful c.in-GoCareful.care c.in-GoCareful.steps) _ _ c.in-GoCareful.is
+    answered _ _ _ _ c.args.question (questions.GoCareful c.in-GoCareful.field-0 c.in-GoCareful.care c.in-GoCareful.steps) _ _ c.in-GoCareful.is
     (rw c.careful_request-wanted.ensures at c.go_careful.ensures.runs)
 
 pub returns-in-Try-clause-answers : goal.returns-in-Try-clause-answers

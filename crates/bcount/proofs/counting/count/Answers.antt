@@ -32,33 +32,33 @@ returns-in-Err-clause-counts g c = stopped (c.tell_placed.ensures.tells (origin_
 
 pub returns-in_default-clause-counts : goal.returns-in_default-clause-counts
 returns-in_default-clause-counts g c =
-    no_memory c.in-Ok.program.definitions.items c.in-Ok.program.image c.in-Ok.ensures.program refl refl
+    no_memory c.in-Ok.program.definitions.items c.in-Ok.program.image c.in-Ok.ensures.program ((c.in-Ok.program.names.lines.items, c.in-Ok.ensures.lines), (c.in-Ok.program.names.frames.items, c.in-Ok.ensures.names)) refl refl
     (none_at_first (image_of c.in-Ok.program.definitions.items) c.args.counting.steps (g.I.ByteIn.incoming c.args.input.now) (g.I.ByteIn.incoming c.args.input.now) refl) refl
 
 pub returns-in_default-new-clause-counts : goal.returns-in_default-new-clause-counts
 returns-in_default-new-clause-counts g c =
-    no_memory c.in-Ok.program.definitions.items c.in-Ok.program.image c.in-Ok.ensures.program refl refl
+    no_memory c.in-Ok.program.definitions.items c.in-Ok.program.image c.in-Ok.ensures.program ((c.in-Ok.program.names.lines.items, c.in-Ok.ensures.lines), (c.in-Ok.program.names.frames.items, c.in-Ok.ensures.names)) refl refl
     (none_at_first (image_of c.in-Ok.program.definitions.items) c.args.counting.steps (g.I.ByteIn.incoming c.args.input.now) (g.I.ByteIn.incoming c.args.input.now) refl) refl
 
 pub returns-in-Ok-Unbegun-clause-counts : goal.returns-in-Ok-Unbegun-clause-counts
 returns-in-Ok-Unbegun-clause-counts g c =
     let w = rw c.in-Ok-Unbegun.field-0-is at c.in-Ok-Unbegun.ensures.gives in
-    not_begun c.in-Ok.program.definitions.items c.in-Ok.program.image (outcome.Trap c.in-Ok-Unbegun.trap) c.in-Ok.ensures.program w.0 c.finish.ensures.gives (record { unread = w.1; silent = refl })
+    not_begun c.in-Ok.program.definitions.items c.in-Ok.program.image (outcome.Trap c.in-Ok-Unbegun.trap) c.in-Ok.ensures.program ((c.in-Ok.program.names.lines.items, c.in-Ok.ensures.lines), (c.in-Ok.program.names.frames.items, c.in-Ok.ensures.names)) w.0 c.finish.ensures.gives (record { unread = w.1; silent = refl })
 
 pub returns-in-Err-watch-clause-counts : goal.returns-in-Err-watch-clause-counts
 returns-in-Err-watch-clause-counts g c =
-    no_memory c.in-Ok.program.definitions.items c.in-Ok.program.image c.in-Ok.ensures.program refl refl c.in-Err-watch.ensures.read refl
+    no_memory c.in-Ok.program.definitions.items c.in-Ok.program.image c.in-Ok.ensures.program ((c.in-Ok.program.names.lines.items, c.in-Ok.ensures.lines), (c.in-Ok.program.names.frames.items, c.in-Ok.ensures.names)) refl refl c.in-Err-watch.ensures.read refl
 
 pub returns-in-Device-clause-counts : goal.returns-in-Device-clause-counts
 returns-in-Device-clause-counts g c =
     let w = rw c.in-Ok-Ended.field-0-is at c.in-Ok-Ended.ensures.gives in
-    unread c.in-Ok.program.definitions.items c.in-Ok.program.image w.output c.in-Ok.ensures.program refl (rw c.in-Device.is at w.gives) refl refl
+    unread c.in-Ok.program.definitions.items c.in-Ok.program.image w.output c.in-Ok.ensures.program ((c.in-Ok.program.names.lines.items, c.in-Ok.ensures.lines), (c.in-Ok.program.names.frames.items, c.in-Ok.ensures.names)) refl (rw c.in-Device.is at w.gives) refl refl
 
 pub returns-in_default-text_of-clause-counts : goal.returns-in_default-text_of-clause-counts
 returns-in_default-text_of-clause-counts g c =
     let w = rw c.in-Ok-Ended.field-0-is at c.in-Ok-Ended.ensures.gives in
     let ds = c.in-Ok.program.definitions.items in
-    no_memory ds c.in-Ok.program.image c.in-Ok.ensures.program refl refl
+    no_memory ds c.in-Ok.program.image c.in-Ok.ensures.program ((c.in-Ok.program.names.lines.items, c.in-Ok.ensures.lines), (c.in-Ok.program.names.frames.items, c.in-Ok.ensures.names)) refl refl
     (read_watched (image_of ds).functions (machine ds) c.args.counting.steps _ _ c.in-Ok-Ended.stop.outcome c.in-Ok-Ended.stop.steps _ c.in_default-outcome.not-Device w) refl
 
 pub returns-then-told-ne-DONE-clause-counts : goal.returns-then-told-ne-DONE-clause-counts
@@ -73,7 +73,7 @@ returns-then-told-ne-DONE-clause-counts g c =
     let told = subst (λ (t : List ℕ). Reported t DONE (g.O.ByteOut.outgoing c.args.out.now) (g.O.ByteOut.outgoing c.tell-told.new.out) c.tell-told.result) text c.tell-told.ensures.told in
     let counts = told_so (image_of ds).functions (machine ds) c.args.counting.steps _ _ stop.outcome stop.steps _ (AreCounts fs (tallies_of tallies))
     (counted_so c.in-Ok-new-2.tallies tallies c.in-Ok-new.tables fs c.in-Ok-new-2.ensures.tables c.in-Ok-new.ensures.functions stop.outcome c.in_default-outcome.not-Device stop.steps) w in
-    counted ds c.in-Ok.program.image stop.outcome stop.steps (tallies_of tallies) lines c.tell-told.result c.in-Ok.ensures.program counts c.in-Ok.ensures.lines told (inr (c.if-told-ne-DONE.true, refl, refl))
+    counted ds c.in-Ok.program.image stop.outcome stop.steps (tallies_of tallies) lines c.in-Ok.program.names.frames.items c.tell-told.result c.in-Ok.ensures.program counts c.in-Ok.ensures.lines c.in-Ok.ensures.names told (inr (c.if-told-ne-DONE.true, refl, refl))
 
 pub returns-clause-counts : goal.returns-clause-counts
 returns-clause-counts g c =
@@ -87,4 +87,4 @@ returns-clause-counts g c =
     let told = subst (λ (t : List ℕ). Reported t DONE (g.O.ByteOut.outgoing c.args.out.now) (g.O.ByteOut.outgoing c.tell-told.new.out) c.tell-told.result) text c.tell-told.ensures.told in
     let counts = told_so (image_of ds).functions (machine ds) c.args.counting.steps _ _ stop.outcome stop.steps _ (AreCounts fs (tallies_of tallies))
     (counted_so c.in-Ok-new-2.tallies tallies c.in-Ok-new.tables fs c.in-Ok-new-2.ensures.tables c.in-Ok-new.ensures.functions stop.outcome c.in_default-outcome.not-Device stop.steps) w in
-    counted ds c.in-Ok.program.image stop.outcome stop.steps (tallies_of tallies) lines c.tell-told.result c.in-Ok.ensures.program counts c.in-Ok.ensures.lines told (inl (c.if-told-ne-DONE.false, c.finish-2.ensures.gives))
+    counted ds c.in-Ok.program.image stop.outcome stop.steps (tallies_of tallies) lines c.in-Ok.program.names.frames.items c.tell-told.result c.in-Ok.ensures.program counts c.in-Ok.ensures.lines c.in-Ok.ensures.names told (inl (c.if-told-ne-DONE.false, c.finish-2.ensures.gives))

@@ -16,6 +16,7 @@ returns-in-Err-clause-lists g c = stopped (c.in-Err.fault, c.in-Err.ensures.prog
 pub returns-then-is_none_wanted-clause-lists : goal.returns-then-is_none_wanted-clause-lists
 returns-then-is_none_wanted-clause-lists g c =
     unnamed c.in-Ok.program.definitions.items c.in-Ok.program.image c.in-Ok.ensures.program
+    ((c.in-Ok.program.names.lines.items, c.in-Ok.ensures.lines), (c.in-Ok.program.names.frames.items, c.in-Ok.ensures.names))
     (subst (λ (ds : List Definition). wanted (option_map (λ n. n.now) c.args.name) ds ≡ []) c.deref.ensures.value (c.is_none_wanted.ensures.0 c.if-is_none_wanted.true))
     c.tell.ensures.told refl
 

@@ -5,7 +5,7 @@ use Rattle.btools.specs.Origins.{code_text_shown}
 use Rattle.btools.specs.NamedFrames.{HasFrames}
 use Rattle.btools.specs.PlaceLines.{HasPlaceLines}
 use Rattle.btools.proofs.Reading.{no_line}
-use Rattle.btools.proofs.ReadingText.{has_frames, has_lines}
+use Rattle.btools.proofs.ReadingText.{has_frames, has_lines, loaded}
 use Rattle.btools.proofs.program.read_text.Goals as goal
 
 pub returns-in-Err-Line-clause-program : goal.returns-in-Err-Line-clause-program
@@ -13,6 +13,14 @@ returns-in-Err-Line-clause-program c = (
   subst (IsFaultLine c.args.text.code.now) (sym c.in-Err-Line.line-is) (subst (IsFaultOf c.args.text.code.now) c.in-Err-Line.field-0-is c.in-Err-Line.ensures.fault),
   λ ds is. no_line c.in-Err-Line.line (sym c.in-Err-Line.field-0-is ∙ c.in-Err-Line.ensures.only ds is),
 )
+
+pub returns-clause-program : goal.returns-clause-program
+returns-clause-program c =
+    let text = code_text_shown c.args.text in
+    loaded text c.in-Ok.definitions.items c.in-Ok.ensures.ok
+    (c.in-Ok-lines_of_places.lines.items, subst (λ (ds : List Definition). HasPlaceLines text ds c.in-Ok-lines_of_places.lines.items) c.deref.ensures.value c.in-Ok-lines_of_places.ensures)
+    (c.in-Ok-frames_of_text.frames.items, subst (λ (ds : List Definition). HasFrames text ds c.in-Ok-frames_of_text.frames.items) c.deref-2.ensures.value c.in-Ok-frames_of_text.ensures)
+    c.load_named.result c.load_named.ensures.gives
 
 pub returns-clause-lines : goal.returns-clause-lines
 returns-clause-lines c =

@@ -35,17 +35,17 @@ returns-in-Err-clause-traces g c = stopped (c.tell_placed.ensures.tells (origin_
 
 pub returns-in_default-clause-traces : goal.returns-in_default-clause-traces
 returns-in_default-clause-traces g c =
-    no_memory c.in-Ok.program.definitions.items c.in-Ok.program.image c.in-Ok.ensures.program refl refl
+    no_memory c.in-Ok.program.definitions.items c.in-Ok.program.image c.in-Ok.ensures.program ((c.in-Ok.program.names.lines.items, c.in-Ok.ensures.lines), (c.in-Ok.program.names.frames.items, c.in-Ok.ensures.names)) refl refl
     (none_at_first (image_of c.in-Ok.program.definitions.items) c.args.wanted.steps (g.I.ByteIn.incoming c.args.input.now) (g.I.ByteIn.incoming c.args.input.now) refl) refl
 
 pub returns-in_default-which_of-clause-traces : goal.returns-in_default-which_of-clause-traces
 returns-in_default-which_of-clause-traces g c =
-    unnamed c.in-Ok.program.definitions.items c.in-Ok.program.image c.in-Ok.ensures.program
+    unnamed c.in-Ok.program.definitions.items c.in-Ok.program.image c.in-Ok.ensures.program ((c.in-Ok.program.names.lines.items, c.in-Ok.ensures.lines), (c.in-Ok.program.names.frames.items, c.in-Ok.ensures.names))
     (subst (λ (fs : List Placed). which_of fs c.args.wanted.rows (option_map (λ n. n.now) c.args.wanted.function) ≡ None) c.in-Ok-new.ensures.functions (sym c.which_of.ensures ∙ c.in_default-which_of.is)) c.tell.ensures.told (record { unread = refl; silent = refl })
 
 pub returns-in_default-new-clause-traces : goal.returns-in_default-new-clause-traces
 returns-in_default-new-clause-traces g c =
-    no_memory c.in-Ok.program.definitions.items c.in-Ok.program.image c.in-Ok.ensures.program refl refl
+    no_memory c.in-Ok.program.definitions.items c.in-Ok.program.image c.in-Ok.ensures.program ((c.in-Ok.program.names.lines.items, c.in-Ok.ensures.lines), (c.in-Ok.program.names.frames.items, c.in-Ok.ensures.names)) refl refl
     (none_at_first (image_of c.in-Ok.program.definitions.items) c.args.wanted.steps (g.I.ByteIn.incoming c.args.input.now) (g.I.ByteIn.incoming c.args.input.now) refl) refl
 
 pub repeat_of-again-requires : goal.repeat_of-again-requires
@@ -57,13 +57,13 @@ repeat_of-again-requires g c =
 pub returns-in-Unbegun-clause-traces : goal.returns-in-Unbegun-clause-traces
 returns-in-Unbegun-clause-traces g c =
     let w = rw c.in-Unbegun.is at c.in-Ok-watch_recorded.ensures.gives in
-    not_begun c.in-Ok.program.definitions.items c.in-Ok.program.image c.in-Some.which (outcome.Trap c.in-Unbegun.trap) c.in-Ok.ensures.program
+    not_begun c.in-Ok.program.definitions.items c.in-Ok.program.image c.in-Some.which (outcome.Trap c.in-Unbegun.trap) c.in-Ok.ensures.program ((c.in-Ok.program.names.lines.items, c.in-Ok.ensures.lines), (c.in-Ok.program.names.frames.items, c.in-Ok.ensures.names))
     (subst (λ (fs : List Placed). which_of fs c.args.wanted.rows (option_map (λ n. n.now) c.args.wanted.function) ≡ Some c.in-Some.which) c.in-Ok-new.ensures.functions (sym c.which_of.ensures ∙ c.in-Some.is)) w.0
     c.finish.ensures.gives (record { unread = w.1; silent = refl })
 
 pub returns-in_default-watch_recorded-clause-traces : goal.returns-in_default-watch_recorded-clause-traces
 returns-in_default-watch_recorded-clause-traces g c =
-    no_memory c.in-Ok.program.definitions.items c.in-Ok.program.image c.in-Ok.ensures.program refl refl c.in_default-watch_recorded.ensures.read refl
+    no_memory c.in-Ok.program.definitions.items c.in-Ok.program.image c.in-Ok.ensures.program ((c.in-Ok.program.names.lines.items, c.in-Ok.ensures.lines), (c.in-Ok.program.names.frames.items, c.in-Ok.ensures.names)) refl refl c.in_default-watch_recorded.ensures.read refl
 
 pub returns-in_default-push_again-clause-traces : goal.returns-in_default-push_again-clause-traces
 returns-in_default-push_again-clause-traces g c =
@@ -71,7 +71,7 @@ returns-in_default-push_again-clause-traces g c =
     let ds = c.in-Ok.program.definitions.items in
     let stop = c.in-Ended.stop in
     let again = c.repeat_of-again in
-    no_memory ds c.in-Ok.program.image c.in-Ok.ensures.program refl refl
+    no_memory ds c.in-Ok.program.image c.in-Ok.ensures.program ((c.in-Ok.program.names.lines.items, c.in-Ok.ensures.lines), (c.in-Ok.program.names.frames.items, c.in-Ok.ensures.names)) refl refl
     (read_watched (image_of ds).functions (machine ds) c.args.wanted.steps _ _ stop.outcome stop.steps _
     (limit_found again.result stop.outcome again.ensures.limit c.in_default-push_again.ensures.some) w) refl
 
@@ -95,7 +95,7 @@ returns-then-told-ne-DONE-clause-traces g c =
     let back = comes_back (run image) _ _ c.in-Ok-watch_recorded.ran.record again.result c.in-Ok-watch_recorded.ensures.records again.ensures.whole again.ensures.repeats in
     let watched = told_so (image_of ds).functions (machine ds) c.args.wanted.steps _ _ stop.outcome stop.steps _ (IsTrace (legend_in ds lines files) which again.result text)
     (traced_so first last (legend_in ds lines files) which again.result text told c.in-Ok-new-2.ensures.which c.in-Ok-new-2.ensures.text added stop.outcome stop.steps) w in
-    traced ds image lines which stop.outcome stop.steps again.result text c.tell-told.result c.in-Ok.ensures.program c.in-Ok.ensures.lines named back watched c.tell-told.ensures.told (inr (c.if-told-ne-DONE.true, refl, refl))
+    traced ds image lines c.in-Ok.program.names.frames.items which stop.outcome stop.steps again.result text c.tell-told.result c.in-Ok.ensures.program c.in-Ok.ensures.lines c.in-Ok.ensures.names named back watched c.tell-told.ensures.told (inr (c.if-told-ne-DONE.true, refl, refl))
 
 pub returns-clause-traces : goal.returns-clause-traces
 returns-clause-traces g c =
@@ -117,4 +117,4 @@ returns-clause-traces g c =
     let back = comes_back (run image) _ _ c.in-Ok-watch_recorded.ran.record again.result c.in-Ok-watch_recorded.ensures.records again.ensures.whole again.ensures.repeats in
     let watched = told_so (image_of ds).functions (machine ds) c.args.wanted.steps _ _ stop.outcome stop.steps _ (IsTrace (legend_in ds lines files) which again.result text)
     (traced_so first last (legend_in ds lines files) which again.result text told c.in-Ok-new-2.ensures.which c.in-Ok-new-2.ensures.text added stop.outcome stop.steps) w in
-    traced ds image lines which stop.outcome stop.steps again.result text c.tell-told.result c.in-Ok.ensures.program c.in-Ok.ensures.lines named back watched c.tell-told.ensures.told (inl (c.if-told-ne-DONE.false, c.finish-2.ensures.gives))
+    traced ds image lines c.in-Ok.program.names.frames.items which stop.outcome stop.steps again.result text c.tell-told.result c.in-Ok.ensures.program c.in-Ok.ensures.lines c.in-Ok.ensures.names named back watched c.tell-told.ensures.told (inl (c.if-told-ne-DONE.false, c.finish-2.ensures.gives))

@@ -1,0 +1,3 @@
+10 LET I = 97
+20 PUT I
+30 END
