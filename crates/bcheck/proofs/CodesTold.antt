@@ -11,6 +11,8 @@ use Rattle.blang.specs.declared.token.Diagnostic.{Diagnostic}
 use Rattle.bsources.specs.Files.{Files}
 use Rattle.blint.specs.declared.cautions.Caution.{Caution}
 use Rattle.blint.specs.declared.tokens.TokenPlace.{TokenPlace}
+use Rattle.blint.specs.declared.warnings.Slip.{Slip}
+use Rattle.blint.specs.declared.warnings.Slip.TheVariants as slip
 use Rattle.blint.specs.declared.warnings.Warning.{Warning}
 use Rattle.blint.specs.declared.warnings.Warning.TheVariants as warning
 use Rattle.blint.specs.Warns.{IsDueIn, TellsDue, TellsOf, Warns, entry, is_of_tokens}
@@ -20,7 +22,7 @@ use Rattle.bcheck.specs.declared.verdict.Verdict.TheVariants as verdict
 use Rattle.bcheck.specs.Checks.{status_told}
 use Rattle.bcheck.specs.declared.advice.Matter.TheVariants as matter
 use Rattle.bcheck.specs.Findings.{AreWarned, found_at, matter_code}
-use Rattle.bcheck.specs.RuleWarnings.{IsOfTokens, TellsWarnings, caution_at, warning_code}
+use Rattle.bcheck.specs.RuleWarnings.{IsOfTokens, TellsWarnings, caution_at, slip_code, warning_code}
 
 any_of_map : {A B : Type 0} (P : B → Type 0) (f : A → B) (xs : List A) → Any P (map f xs) → Any (λ x. P (f x)) xs
 any_of_map P f [] a = absurd (omega (arith, a.2))
@@ -31,6 +33,10 @@ any_of_map P f (x ∷ xs) a =
 
 any_to_map : {A B : Type 0} (P : B → Type 0) (f : A → B) (xs : List A) → Any (λ x. P (f x)) xs → Any P (map f xs)
 any_to_map P f xs a = (a.0, f a.1, omega (arith, a.2, length-map xs f), get_or-map f xs a.0 a.1 (f a.1) a.2 ∙ ap f a.3, a.4)
+
+slip_of_tokens : (s : Slip) → IsOfTokens (slip_code s) → is_of_tokens (warning.Slip s) ≡ true
+slip_of_tokens slip.VectorAssigned e = cc
+slip_of_tokens _ e = cc
 
 code_of_tokens : (w : Warning) → IsOfTokens (warning_code w) → is_of_tokens w ≡ true
 code_of_tokens warning.OperatorAssigns e = refl
@@ -46,6 +52,7 @@ code_of_tokens warning.AssignsComparison e = refl
 code_of_tokens warning.AssignsCompared e = refl
 code_of_tokens warning.EmptyIf e = refl
 code_of_tokens warning.EmptyLoop e = refl
+code_of_tokens (warning.Slip s) e = slip_of_tokens s e
 code_of_tokens _ e = cc
 
 module _ (Due : TokenPlace → Warning → Type 0) (source : List ℕ) (cautions : List Caution) where

@@ -28,6 +28,7 @@ use Rattle.blang.specs.Cut.{escape_of, other_of, whole, with_quoted_byte, word_t
 use Rattle.bsources.specs.Files.{Files}
 use Rattle.bcheck.specs.declared.finding.Severity.TheVariants as severity
 use Rattle.bcheck.specs.declared.form.FindingForm.TheVariants as form
+use Rattle.blint.specs.declared.warnings.Slip.TheVariants as slip
 use Rattle.blint.specs.declared.warnings.Warning.TheVariants as warning
 
 -- a diagnostic comes before a fault of loading
@@ -109,7 +110,22 @@ warning_codes : map warning_code (
     warning.AssignsNot ∷ warning.ProductTooLarge ∷ warning.NumberPut ∷ warning.AddressesCompared ∷
     warning.ValueForAddress ∷ warning.CharacterCounted ∷ warning.SlashEscape ∷ warning.WordCalled ∷
     warning.SomeReturn ∷ warning.QuotientCut ∷ warning.FirstTurnOnly ∷ warning.StringMoved ∷
-    warning.TestedBefore ∷ warning.OnlyInIf ∷ warning.IndexKept ∷ warning.OwnResultDropped ∷ []
+    warning.TestedBefore ∷ warning.OnlyInIf ∷ warning.IndexKept ∷ warning.OwnResultDropped ∷
+    warning.Slip slip.VectorAssigned ∷ warning.Slip slip.VectorCopied ∷ warning.Slip slip.SameNow ∷ warning.Slip slip.CopiedLate ∷
+    warning.Slip slip.OtherExtreme ∷ warning.Slip slip.LeastFromZero ∷ warning.Slip slip.LargestFromZero ∷ warning.Slip slip.NotKept ∷
+    warning.Slip slip.SameTwice ∷ warning.Slip slip.NotSetBack ∷ warning.Slip slip.AfterLast ∷ warning.Slip slip.NotEnded ∷
+    warning.Slip slip.ComparedAlone ∷ warning.Slip slip.NewlineNext ∷ warning.Slip slip.PopsAbove ∷ warning.Slip slip.WordForAddress ∷
+    warning.Slip slip.CharacterLost ∷ warning.Slip slip.CharacterForString ∷ warning.Slip slip.NumberForString ∷ warning.Slip slip.FormKind ∷
+    warning.Slip slip.CallsAway ∷ warning.Slip slip.StepsPast ∷ warning.Slip slip.NeverAgain ∷ warning.Slip slip.LastTurnOnly ∷
+    warning.Slip slip.DividesByZero ∷ warning.Slip slip.CountsFirst ∷ warning.Slip slip.ValueKept ∷
+    warning.Slip slip.VectorReckoned ∷ warning.Slip slip.CountsEnd ∷ warning.Slip slip.SameAsked ∷ warning.Slip slip.WordStored ∷
+    warning.Slip slip.RemainderBelow ∷ warning.Slip slip.RoomTooSmall ∷ warning.Slip slip.NotFirst ∷
+    warning.Slip slip.ProductOfZero ∷ warning.Slip slip.BaseOfZero ∷ warning.Slip slip.ZeroDivisor ∷
+    warning.Slip slip.RemainderKept ∷ warning.Slip slip.DividedByOne ∷ warning.Slip slip.SetLater ∷ warning.Slip slip.ZeroEnd ∷
+    warning.Slip slip.CallsPast ∷ warning.Slip slip.CharacterIndex ∷ warning.Slip slip.HalfStays ∷ warning.Slip slip.NextPast ∷
+    warning.Slip slip.EndTaken ∷ warning.Slip slip.LeavesCountOut ∷ warning.Slip slip.BeginsAgain ∷
+    warning.Slip slip.BothEvaluated ∷ warning.Slip slip.ZeroAfter ∷ warning.Slip slip.SharedCounter ∷
+    warning.Slip slip.MovesAddress ∷ []
     ) ≡ codes "*/" ∷ codes "and" ∷ codes "and" ∷ codes "op" ∷ codes "if" ∷ codes "if" ∷ codes "if" ∷ codes "em" ∷
     codes "em" ∷ codes "ix" ∷ codes "ix" ∷ codes "ix" ∷ codes "ix" ∷ codes "ix" ∷ codes "ix" ∷ codes "sg" ∷
     codes "en" ∷ codes "en" ∷ codes "en" ∷ codes "st" ∷ codes "st" ∷ codes "st" ∷ codes "st" ∷ codes "no" ∷
@@ -122,7 +138,14 @@ warning_codes : map warning_code (
     codes "tr" ∷ codes "ix" ∷ codes "ix" ∷ codes "lp" ∷ codes "lp" ∷ codes "lp" ∷ codes "en" ∷ codes "lp" ∷
     codes "no" ∷ codes "st" ∷ codes "us" ∷ codes "no" ∷ codes "en" ∷ codes "sw" ∷ codes "ar" ∷ codes "ix" ∷
     codes "tr" ∷ codes "nu" ∷ codes "st" ∷ codes "st" ∷ codes "ar" ∷ codes "en" ∷ codes "es" ∷ codes "hi" ∷
-    codes "rt" ∷ codes "di" ∷ codes "no" ∷ codes "st" ∷ codes "no" ∷ codes "lp" ∷ codes "ix" ∷ codes "no" ∷ []
+    codes "rt" ∷ codes "di" ∷ codes "no" ∷ codes "st" ∷ codes "no" ∷ codes "lp" ∷ codes "ix" ∷ codes "no" ∷
+    codes "ix" ∷ codes "ix" ∷ codes "us" ∷ codes "us" ∷ codes "tr" ∷ codes "us" ∷ codes "us" ∷ codes "us" ∷
+    codes "ix" ∷ codes "lp" ∷ codes "ix" ∷ codes "st" ∷ codes "st" ∷ codes "en" ∷ codes "ix" ∷ codes "ar" ∷
+    codes "en" ∷ codes "st" ∷ codes "st" ∷ codes "ar" ∷ codes "lp" ∷ codes "lp" ∷ codes "lp" ∷ codes "lp" ∷
+    codes "di" ∷ codes "lp" ∷ codes "ar" ∷ codes "ix" ∷ codes "en" ∷ codes "lp" ∷ codes "st" ∷
+    codes "di" ∷ codes "ix" ∷ codes "tr" ∷ codes "us" ∷ codes "us" ∷ codes "di" ∷ codes "lp" ∷ codes "di" ∷ codes "in" ∷
+    codes "en" ∷ codes "lp" ∷ codes "ix" ∷ codes "lp" ∷ codes "ix" ∷ codes "en" ∷ codes "lp" ∷ codes "lp" ∷ codes "di" ∷
+    codes "lp" ∷ codes "lp" ∷ codes "no" ∷ []
 warning_codes = refl
 
 -- the line and the column of a place after a text

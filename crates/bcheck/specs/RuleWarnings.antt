@@ -7,10 +7,67 @@ use Rattle.blang.specs.Trees.{Definition}
 use Rattle.blang.specs.WellFormed.{AllFormed}
 use Rattle.bsources.specs.Files.{Files}
 use Rattle.blint.specs.declared.cautions.Caution.{Caution}
+use Rattle.blint.specs.declared.warnings.Slip.{Slip}
+use Rattle.blint.specs.declared.warnings.Slip.TheVariants as slip
 use Rattle.blint.specs.declared.warnings.Warning.{Warning}
 use Rattle.blint.specs.declared.warnings.Warning.TheVariants as warning
 use Rattle.blint.specs.SourceTokens.{IsSource}
 use Rattle.blint.specs.Warns.{IsDueIn, TellsDue}
+
+-- by which code each slip is known
+abbrev pub slip_code : Slip → List ℕ
+slip_code slip.VectorAssigned = codes "ix"
+slip_code slip.VectorCopied = codes "ix"
+slip_code slip.SameNow = codes "us"
+slip_code slip.CopiedLate = codes "us"
+slip_code slip.OtherExtreme = codes "tr"
+slip_code slip.LeastFromZero = codes "us"
+slip_code slip.LargestFromZero = codes "us"
+slip_code slip.NotKept = codes "us"
+slip_code slip.SameTwice = codes "ix"
+slip_code slip.NotSetBack = codes "lp"
+slip_code slip.AfterLast = codes "ix"
+slip_code slip.NotEnded = codes "st"
+slip_code slip.ComparedAlone = codes "st"
+slip_code slip.NewlineNext = codes "en"
+slip_code slip.PopsAbove = codes "ix"
+slip_code slip.WordForAddress = codes "ar"
+slip_code slip.CharacterLost = codes "en"
+slip_code slip.CharacterForString = codes "st"
+slip_code slip.NumberForString = codes "st"
+slip_code slip.FormKind = codes "ar"
+slip_code slip.CallsAway = codes "lp"
+slip_code slip.StepsPast = codes "lp"
+slip_code slip.NeverAgain = codes "lp"
+slip_code slip.LastTurnOnly = codes "lp"
+slip_code slip.DividesByZero = codes "di"
+slip_code slip.CountsFirst = codes "lp"
+slip_code slip.ValueKept = codes "ar"
+slip_code slip.VectorReckoned = codes "ix"
+slip_code slip.CountsEnd = codes "en"
+slip_code slip.SameAsked = codes "lp"
+slip_code slip.WordStored = codes "st"
+slip_code slip.RemainderBelow = codes "di"
+slip_code slip.RoomTooSmall = codes "ix"
+slip_code slip.NotFirst = codes "tr"
+slip_code slip.ProductOfZero = codes "us"
+slip_code slip.BaseOfZero = codes "us"
+slip_code slip.ZeroDivisor = codes "di"
+slip_code slip.RemainderKept = codes "lp"
+slip_code slip.DividedByOne = codes "di"
+slip_code slip.SetLater = codes "in"
+slip_code slip.ZeroEnd = codes "en"
+slip_code slip.CallsPast = codes "lp"
+slip_code slip.CharacterIndex = codes "ix"
+slip_code slip.HalfStays = codes "lp"
+slip_code slip.NextPast = codes "ix"
+slip_code slip.EndTaken = codes "en"
+slip_code slip.LeavesCountOut = codes "lp"
+slip_code slip.BeginsAgain = codes "lp"
+slip_code slip.BothEvaluated = codes "di"
+slip_code slip.ZeroAfter = codes "lp"
+slip_code slip.SharedCounter = codes "lp"
+slip_code slip.MovesAddress = codes "no"
 
 -- by which code each warning is known
 abbrev pub warning_code : Warning → List ℕ
@@ -113,6 +170,7 @@ warning_code warning.TestedBefore = codes "no"
 warning_code warning.OnlyInIf = codes "lp"
 warning_code warning.IndexKept = codes "ix"
 warning_code warning.OwnResultDropped = codes "no"
+warning_code (warning.Slip s) = slip_code s
 
 -- codes that tokens and rules alone give
 abbrev pub IsOfTokens : List ℕ → Type 0

@@ -135,6 +135,25 @@ impl<'a> Draft<'a> {
         self.put(self.start(first), self.end(last), parts)
     }
 
+    /// Proposes words before and after the tokens from one to another.
+    pub(crate) fn around<'x>(
+        &mut self,
+        first: usize,
+        last: usize,
+        before: &'x [u8],
+        after: &'x [u8],
+    ) -> Result<(), AllocError> {
+        self.replace(
+            first,
+            last,
+            &[
+                Part::Words(before),
+                Part::Tokens(first, last),
+                Part::Words(after),
+            ],
+        )
+    }
+
     /// Proposes words in the place of a token.
     pub(crate) fn rename(&mut self, token: usize, words: &[u8]) -> Result<(), AllocError> {
         self.replace(token, token, &[Part::Words(words)])

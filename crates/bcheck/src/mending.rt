@@ -403,5 +403,6 @@ fn comes_of_no_edit(warning: Warning) -> bool {
             | Warning::CountsAway
             | Warning::InnerOnce
             | Warning::BeginsAnew
+            | Warning::Slip(_)
     )
 }

@@ -1,11 +1,13 @@
 //! Edits for numbers, for comparisons and for loops that are probably mistakes.
 use crate::draft::{Draft, Part};
 use crate::finding::Finding;
+use crate::further_mends::enlarged;
 use crate::kinds::{closes_bracket, is_comparison, is_operand, opens_bracket};
 use crate::mends::{Site, token_at};
+use crate::slip_mends::of_slip;
 use crate::syntax_mends::{after_brackets, opener_before};
 use blex::Lexeme;
-use blint::Warning;
+use blint::{Slip, Warning};
 use bword::BinOp;
 use std::alloc::AllocError;
 
@@ -36,17 +38,11 @@ pub(crate) fn of_numbers(
         Warning::NoEffect => stored(draft, token),
         Warning::WordOfString => character_of(draft, token),
         Warning::ValueForAddress => draft.before(token, b"&"),
+        Warning::Slip(Slip::RoomTooSmall) => enlarged(draft, site, finding),
+        Warning::Slip(slip) => of_slip(draft, token, slip),
         Warning::CharacterCounted => digit(draft, token),
         Warning::AssignsNot => draft.replace(token, token.wrapping_add(1), &[Part::Words(b"!=")]),
-        Warning::DigitForCharacter => draft.replace(
-            token,
-            token,
-            &[
-                Part::Words(b"'"),
-                Part::Tokens(token, token),
-                Part::Words(b"'"),
-            ],
-        ),
+        Warning::DigitForCharacter => draft.around(token, token, b"'", b"'"),
         _ => Ok(()),
     }
 }
@@ -63,8 +59,8 @@ fn decimal(draft: &mut Draft<'_>, token: usize) -> Result<(), AllocError> {
     Ok(())
 }
 
-// The token after an operand that begins with this one.
-fn after_operand(draft: &Draft<'_>, first: usize) -> usize {
+/// The token after an operand that begins with this one.
+pub(crate) fn after_operand(draft: &Draft<'_>, first: usize) -> usize {
     let mut at = first;
     for _ in first..draft.spans.end() {
         if !matches!(
@@ -219,8 +215,8 @@ fn value_before(draft: &Draft<'_>, token: usize, name: Lexeme) -> Option<usize> 
     None
 }
 
-// What the name of a condition began with, once more right before the loop with this keyword.
-fn set_before(draft: &mut Draft<'_>, keyword: usize) -> Result<(), AllocError> {
+/// What the name of a condition began with, once more right before the loop with this keyword.
+pub(crate) fn set_before(draft: &mut Draft<'_>, keyword: usize) -> Result<(), AllocError> {
     let name = keyword.wrapping_add(2);
     let begins = matches!(
         draft.at(keyword.wrapping_sub(1)),
@@ -260,8 +256,8 @@ fn or_end(draft: &mut Draft<'_>, token: usize) -> Result<(), AllocError> {
     )
 }
 
-// A call of `printn` in the place of one of `putchar`, whose argument is this token alone.
-fn written(draft: &mut Draft<'_>, token: usize) -> Result<(), AllocError> {
+/// A call of `printn` in the place of another one, whose argument is this token alone.
+pub(crate) fn written(draft: &mut Draft<'_>, token: usize) -> Result<(), AllocError> {
     let (callee, closer) = (token.wrapping_sub(2), token.wrapping_add(1));
     if draft.at(closer) != Lexeme::CloseParen {
         return Ok(());
@@ -309,15 +305,7 @@ fn digit(draft: &mut Draft<'_>, name: usize) -> Result<(), AllocError> {
     if is_last {
         return draft.after(name, b" - '0'");
     }
-    draft.replace(
-        name,
-        name,
-        &[
-            Part::Words(b"("),
-            Part::Tokens(name, name),
-            Part::Words(b" - '0')"),
-        ],
-    )
+    draft.around(name, name, b"(", b" - '0')")
 }
 
 // A character constant with a star in the place of its slash.

@@ -5,6 +5,7 @@ use crate::declared_mends::{definition, head, local, names_alone, push_each};
 use crate::draft::{Draft, Part};
 use crate::finding::Finding;
 use crate::foreign::Foreign;
+use crate::further_mends::assigned_left;
 use crate::kinds::{closes_bracket, is_comparison, is_operand, is_word, opens_bracket};
 use crate::logic_mends::{Logic, mend_logic};
 use crate::mends::{Site, token_at};
@@ -216,7 +217,7 @@ fn of_expression(draft: &mut Draft<'_>, site: Site, syntax: Syntax) -> Result<()
         Syntax::OperandMissing if draft.at(before) == Lexeme::OpenBracket => {
             draft.replace(before, token, &[])
         }
-        Syntax::AssignLeft => draft.rename(token, b"=="),
+        Syntax::AssignLeft => assigned_left(draft, token),
         Syntax::Unopened => draft.remove(token, token),
         Syntax::TwoOperands => {
             let is_inside = opener_before(draft, token).is_some();

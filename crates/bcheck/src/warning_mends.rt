@@ -105,15 +105,7 @@ fn returned(draft: &mut Draft<'_>, site: Site) -> Result<(), AllocError> {
         return Ok(());
     }
     let last = end.wrapping_sub(1);
-    draft.replace(
-        token,
-        last,
-        &[
-            Part::Words(b"return("),
-            Part::Tokens(token, last),
-            Part::Words(b")"),
-        ],
-    )
+    draft.around(token, last, b"return(", b")")
 }
 
 // Whether a token is in the braces of a function alone, and in none within these.
@@ -163,15 +155,7 @@ fn around_assignment(draft: &mut Draft<'_>, token: usize) -> Result<(), AllocErr
                 BinOp::Eq | BinOp::Ne | BinOp::Lt | BinOp::Le | BinOp::Gt | BinOp::Ge,
             ) => {
                 let last = at.wrapping_sub(1);
-                return draft.replace(
-                    first,
-                    last,
-                    &[
-                        Part::Words(b"("),
-                        Part::Tokens(first, last),
-                        Part::Words(b")"),
-                    ],
-                );
+                return draft.around(first, last, b"(", b")");
             }
             Lexeme::Semicolon | Lexeme::CloseParen | Lexeme::End => break,
             _ => at = at.saturating_add(1),
@@ -192,9 +176,13 @@ fn turned(words: &[u8]) -> &'static [u8] {
     }
 }
 
-// Parentheses around an operator on bits, whose first operand is one token, up to the comparison after it.
+// Parentheses around an operator on bits and a constant, whose first operand is one token, up to the comparison after
+// it. Of two names the comparison may be meant.
 fn around_bits(draft: &mut Draft<'_>, token: usize) -> Result<(), AllocError> {
     let first = token.wrapping_sub(1);
+    if matches!(draft.at(token.wrapping_add(1)), Lexeme::Name(_)) {
+        return Ok(());
+    }
     let mut after = token.saturating_add(2);
     for _ in 0..4 {
         if matches!(draft.at(after), Lexeme::OpenParen | Lexeme::OpenBracket) {
@@ -206,15 +194,7 @@ fn around_bits(draft: &mut Draft<'_>, token: usize) -> Result<(), AllocError> {
     if !is_compared || !is_operand(&draft.at(first)) {
         return Ok(());
     }
-    draft.replace(
-        first,
-        last,
-        &[
-            Part::Words(b"("),
-            Part::Tokens(first, last),
-            Part::Words(b")"),
-        ],
-    )
+    draft.around(first, last, b"(", b")")
 }
 
 // The operand between two comparisons once more, where it is one token.

@@ -2,9 +2,9 @@
 ghost use Rattle.std.specs.List.{list_all};
 ghost use Rattle.std.specs.Prelude.{◌≡◌, ◌∷◌, [], IsTrue};
 ghost use Rattle.bcheck.specs.Checks.{is_on_line};
-ghost use Rattle.bcheck.specs.RuleWarnings.{warning_code};
+ghost use Rattle.bcheck.specs.RuleWarnings.{slip_code, warning_code};
 
-use blint::Warning;
+use blint::{Slip, Warning};
 
 /// By which code a warning is known, one sentence on it, and how to fix it.
 #[rattlefmt::skip]
@@ -229,5 +229,125 @@ pub(crate) fn advice_of(warning: Warning) -> (&'static str, &'static str, &'stat
              "@ = v[i]; keeps the word; or compare v[@], if the index is meant"),
         Warning::OwnResultDropped =>
             ("no", "@ only gives a value, and here it is thrown away", "return(@(..)); hands it on"),
+        Warning::Slip(slip) => advice_of_slip(slip),
+    }
+}
+
+#[rattlefmt::skip]
+fn advice_of_slip(slip: Slip) -> (&'static str, &'static str, &'static str)
+    ensures on_lines { IsTrue (list_all is_on_line (result.0.now ∷ result.1.now ∷ result.2.now ∷ [])) }
+    ensures code { result.0.now ≡ slip_code slip }
+{
+    match slip {
+        Slip::VectorAssigned =>
+            ("ix", "this loses the address of the vector @", "@[0] = x; stores in its first word, and a loop in all"),
+        Slip::VectorCopied =>
+            ("ix", "this copies an address, and no words", "a loop copies them: @[i] = v[i];"),
+        Slip::SameNow =>
+            ("us", "both are the same here: line % made them so",
+             "reckon first, and copy then: t = a - b; a = b; b = t;"),
+        Slip::CopiedLate =>
+            ("us", "@ has its new value here, since line %", "copy the old one first: a = b; b = c;"),
+        Slip::OtherExtreme =>
+            ("tr", "this puts the other extreme into @", "> finds the largest one, and < the smallest one"),
+        Slip::LeastFromZero =>
+            ("us", "@ begins with 0, and nothing is smaller", "@ = v[0]; begins with the first one"),
+        Slip::LargestFromZero =>
+            ("us", "@ begins with 0, and numbers below 0 are smaller", "@ = v[0]; begins with the first one"),
+        Slip::NotKept =>
+            ("us", "@ never changes: the assignment is turned round", "@ = x; keeps the new one in @"),
+        Slip::SameTwice =>
+            ("ix", "this index has the word of one loop twice", "v[4 * i + k] is the word k of row i, in rows of 4"),
+        Slip::NotSetBack =>
+            ("lp", "@ isn't set back in the loop of line %", "@ = 0; at the beginning of each turn"),
+        Slip::AfterLast =>
+            ("ix", "this begins with the '*e' after the last character",
+             "n characters have the indices 0 to n - 1: char(s, n - 1 - i)"),
+        Slip::NotEnded =>
+            ("st", "nothing stores the '*e' at the end of @", "lchar(@, i, '*e'); after the loop ends the string"),
+        Slip::ComparedAlone =>
+            ("st", "compare gives 0 for strings that are the same", "compare(s, t) == 0 asks for that, != 0 for others"),
+        Slip::NewlineNext =>
+            ("en", "the newline after this character is read next", "a second getchar(); right after it reads that away"),
+        Slip::PopsAbove =>
+            ("ix", "this word of @ is above the last stored one", "@[--n] goes with @[n++] = x;"),
+        Slip::WordForAddress =>
+            ("ar", "this hands over a word of @, and no address", "&@[i] is the address of @[i]"),
+        Slip::CharacterLost =>
+            ("en", "a second getchar() reads another character", "c = getchar(); once, and then c == 'a'"),
+        Slip::CharacterForString =>
+            ("st", "putstr writes strings, and this is a character", "putchar(c); or double quotes: \"a\""),
+        Slip::NumberForString =>
+            ("st", "putstr writes strings, and this is a number", "printn(n, 10); writes a number"),
+        Slip::FormKind =>
+            ("ar", "the form has an item of another kind for this",
+             "d is for a number, c for a character, s for a string"),
+        Slip::CallsAway =>
+            ("lp", "this call goes away from what ends the calls", "hand on what is nearer to the end: @ - 1"),
+        Slip::StepsPast =>
+            ("lp", "@ never has this value: its steps go past it", "< and > end the loop there, too: while(i < 10)"),
+        Slip::NeverAgain =>
+            ("lp", "this loop never turns once that of line % has ended", "i = 0; before it, where i counts"),
+        Slip::LastTurnOnly =>
+            ("lp", "the last turn of the loop of line % alone decides @",
+             "set it once before the loop, and take this else out"),
+        Slip::DividesByZero =>
+            ("di", "@ is 0 in the first turn: this divides by 0", "begin with 1, or ask before: if(@ != 0)"),
+        Slip::CountsFirst =>
+            ("lp", "@ is counted here before its turn uses it", "put this last into the loop, to begin with 1"),
+        Slip::ValueKept =>
+            ("ar", "this copies the value of @, and no address", "&@ is the address of @"),
+        Slip::VectorReckoned =>
+            ("ix", "@ is a vector, and here its address is reckoned with", "@[i] is its word of index i"),
+        Slip::CountsEnd =>
+            ("en", "@ has counted the '*e', too, in the loop of line %", "return(@ - 1); or count it in the loop's body"),
+        Slip::SameAsked =>
+            ("lp", "@ calls itself for ever: what is asked for is the same",
+             "hand on another value of that in its place"),
+        Slip::WordStored =>
+            ("st", "this stores a whole word: two characters", "lchar(s, i, 'x'); stores one"),
+        Slip::RemainderBelow =>
+            ("di", "this remainder is below 0 where the difference is", "add the divisor first: i - n + 26"),
+        Slip::RoomTooSmall =>
+            ("ix", "@ has fewer characters than this", "auto @ 40; has room for 81 characters and their '*e'"),
+        Slip::NotFirst =>
+            ("tr", "the ! belongs to the one operand right after it", "parentheses: !(flags & 4)"),
+        Slip::ProductOfZero =>
+            ("us", "@ begins with 0: the product of line % stays 0", "@ = 1; begins a product"),
+        Slip::BaseOfZero => ("us", "each product of @ with this is 0", "return(1); ends a product"),
+        Slip::ZeroDivisor =>
+            ("di", "@ is 0 here: nothing changes it after line %", "count it, as @++; does, or divide by another word"),
+        Slip::RemainderKept =>
+            ("lp", "the loop of line % never ends where this isn't 0", "n = n / 10; takes the last digit away"),
+        Slip::DividedByOne =>
+            ("di", "@ begins with 1, by which each number is divided", "@ = 2; is the first divisor that tells"),
+        Slip::SetLater =>
+            ("in", "@ is used here before line % sets it", "this comes after line %, which sets @"),
+        Slip::ZeroEnd => ("en", "a string ends with '*e', 4, and not with 0", "lchar(s, n, '*e'); ends it"),
+        Slip::CallsPast =>
+            ("lp", "this goes past the number at which the calls end", "if(@ < 2) ends them for all below 2"),
+        Slip::CharacterIndex =>
+            ("ix", "@ is a character here, past the last word", "@ - 'a' is 0 for 'a', 1 for 'b', and so on"),
+        Slip::HalfStays =>
+            ("lp", "the loop of line % may never end: @ stays",
+             "the middle was looked at: @ goes one past it, + 1"),
+        Slip::NextPast =>
+            ("ix", "the loop of line % goes one past the end of @",
+             "v[i + 1] is the last word where i is n - 2: while(i < n - 1)"),
+        Slip::EndTaken =>
+            ("en", "the '*e' at the end of the input comes here, too",
+             "while((@ = getchar()) != '*e') reads and asks at once"),
+        Slip::LeavesCountOut =>
+            ("lp", "this goto leaves out line %, which counts @", "put the label before it, to count in each turn"),
+        Slip::BeginsAgain =>
+            ("lp", "@ begins anew here after each goto, as in line %", "put the label after this"),
+        Slip::BothEvaluated =>
+            ("di", "& evaluates this even where @ is 0", "one if in another, or @ == 0 ? 0 : .."),
+        Slip::ZeroAfter =>
+            ("lp", "@ is 0 here: line % counts it down to that", "keep it before that loop: old = @;"),
+        Slip::SharedCounter =>
+            ("lp", "all calls share the @ that line % counts", "auto @; gives each call its own"),
+        Slip::MovesAddress =>
+            ("no", "the ++ or -- moves @, and no word there", "(*@)++; counts the word at @"),
     }
 }

@@ -1,17 +1,18 @@
 //! Calls that are probably mistakes.
 use crate::bounds::constant_of;
+use crate::copies::has_name;
 use crate::defined::{What, is_own_call};
 use crate::linting::Look;
-use crate::locals::NameRole;
+use crate::locals::{NameRole, relates};
 use crate::numbers::large;
 use crate::remarks::Remark;
 use crate::strings::{is_of_string, is_string};
-use crate::tree::Branch;
+use crate::tree::{Branch, Tree};
 use crate::vectors::last_of;
-use crate::warnings::Warning;
+use crate::warnings::{Slip, Warning};
 use blex::Lexeme;
 use btree::Node;
-use bword::Name;
+use bword::{BinOp, Name};
 
 /// The character constants `/n` and `/t`.
 const SLASH_N: u16 = 0x2F6E;
@@ -20,6 +21,15 @@ const SLASH_T: u16 = 0x2F74;
 
 /// How many arguments of a call are looked at for a vector and the number of its words.
 pub(crate) const MOST_ARGUMENTS: u64 = 8;
+
+/// How many parameters of a function that calls itself are looked at.
+const MOST_PARAMETERS: usize = 8;
+
+/// The longest condition that is looked at, in tokens.
+const MOST_TOKENS: usize = 64;
+
+/// The longest function in which conditions and comparisons are looked for, in branches.
+const MOST_BRANCHES: usize = 4000;
 
 /// What is found of a call.
 pub(crate) fn called(look: &Look<'_>, call: &Branch) -> Option<Remark> {
@@ -113,7 +123,10 @@ fn arguments(look: &Look<'_>, call: &Branch, name: &Name) -> Option<Remark> {
     match name.as_str() {
         "printn" => printed(look, &first, &second).or(large(look.tree, &first)),
         "putchar" => put(look, &first),
-        "char" => swapped(first.node == Node::Constant, &first),
+        "char" => swapped(
+            first.node == Node::Constant || is_address(look, &second) && !is_address(look, &first),
+            &first,
+        ),
         "lchar" => swapped(first.node == Node::Constant, &first).or(swapped(
             is_character(look, &second) && !is_character(look, &look.tree.argument(call, 2)),
             &second,
@@ -153,6 +166,15 @@ fn swapped(is_so: bool, argument: &Branch) -> Option<Remark> {
     }
 }
 
+// Whether a value is a string or a vector.
+fn is_address(look: &Look<'_>, branch: &Branch) -> bool {
+    let is_vector = match look.tree.name(branch) {
+        Some(name) => last_of(look, &name).is_some(),
+        None => false,
+    };
+    branch.node == Node::Text || is_vector || is_string(look, branch)
+}
+
 fn is_character(look: &Look<'_>, branch: &Branch) -> bool {
     matches!(look.tree.tokens.at(branch.first), Lexeme::Character(_))
         && branch.node == Node::Constant
@@ -179,7 +201,7 @@ fn put(look: &Look<'_>, argument: &Branch) -> Option<Remark> {
     Remark::new(argument.token, warning)
 }
 
-/// What is found of a call of a function in itself with what it was given, where all hangs on that.
+/// What is found of a call of a function in itself with what it was given, of all for which its conditions ask.
 pub(crate) fn same_arguments(look: &Look<'_>, call: &Branch) -> Option<Remark> {
     let tree = look.tree;
     let callee = tree.callee(call);
@@ -190,33 +212,214 @@ pub(crate) fn same_arguments(look: &Look<'_>, call: &Branch) -> Option<Remark> {
     if tree.arguments(call) != count as u64 {
         return None;
     }
+    let is_long = tree.branches.len() > MOST_BRANCHES;
+    let (mut asked, mut are_all_same): (u64, bool) = (0, true);
     for place in 0..count {
         let parameter = look.locals.parameter(place)?;
         let argument = tree.argument(call, place as u64);
-        if parameter.is_changed || tree.name(&argument) != Some(parameter.name) {
+        let is_same = !parameter.is_changed && tree.name(&argument) == Some(parameter.name);
+        let is_tested = is_long || is_in_condition(tree, &parameter.name);
+        if !is_same && (is_tested || look.locals.has_auto()) {
             return None;
         }
+        are_all_same = are_all_same && is_same;
+        if is_same && is_tested {
+            asked = asked.saturating_add(1);
+        }
     }
-    Remark::new(tree.branch(call.left).token, Warning::SameArguments)
+    let warning = match (are_all_same, asked) {
+        (true, _) => Warning::SameArguments,
+        (false, 0) => return None,
+        _ => Warning::Slip(Slip::SameAsked),
+    };
+    Remark::new(tree.branch(call.left).token, warning)
 }
 
-/// What is found of the first argument that is a word with constants alone; it hangs on whether the function takes it
-/// for an address.
-pub(crate) fn valued(look: &Look<'_>, call: &Branch) -> Option<Remark> {
-    let definition = look.defined.place(&look.tree.callee(call)?)?;
-    for place in 0..look.tree.arguments(call).min(MOST_ARGUMENTS) {
-        let argument = look.tree.argument(call, place);
-        if let Some(local) = look.locals.of(look.tree, &argument) {
-            if local.role == NameRole::Auto && local.is_constant() {
-                return Some(Remark {
-                    definition,
-                    given: place,
-                    ..Remark::new(argument.token, Warning::ValueForAddress)?
-                });
-            }
+// Whether a name is in the condition of an `if`, of a loop or of a `?`, or a switch looks at it.
+fn is_in_condition(tree: &Tree<'_>, name: &Name) -> bool {
+    for branch in &tree.branches {
+        let asked = match branch.node {
+            Node::Tested | Node::Switched | Node::Conditional => tree.branch(branch.left),
+            _ => continue,
+        };
+        if asked.last.saturating_sub(asked.first) > MOST_TOKENS || has_name(tree, &asked, name) {
+            return true;
+        }
+    }
+    false
+}
+
+/// What is found of a call of a function in itself with more than it was given, where it ends below a number.
+pub(crate) fn calls_away(look: &Look<'_>, call: &Branch) -> Option<Remark> {
+    let tree = look.tree;
+    if !is_own_call(tree, tree.callee(call)) || tree.branches.len() > MOST_BRANCHES {
+        return None;
+    }
+    for place in 0..look.locals.parameters().min(MOST_PARAMETERS) {
+        let parameter = look.locals.parameter(place)?;
+        let argument = tree.argument(call, place as u64);
+        let way = match argument.node {
+            Node::Binary(op) if is_one_off(tree, &argument, &parameter.name) => op,
+            _ => continue,
+        };
+        if way == BinOp::Add && !parameter.is_changed && ends_below(tree, &parameter.name) {
+            return Remark::about(
+                argument.first,
+                Warning::Slip(Slip::CallsAway),
+                argument.first,
+            );
         }
     }
     None
+}
+
+/// What is found of a call of a function in itself with less by two or more, beside one with less by one, where it ends
+/// at fewer numbers: `if(n == 0) return(1); return(f(n - 1) + f(n - 2));`.
+pub(crate) fn calls_past(look: &Look<'_>, call: &Branch) -> Option<Remark> {
+    let tree = look.tree;
+    if !is_own_call(tree, tree.callee(call)) || tree.branches.len() > MOST_BRANCHES {
+        return None;
+    }
+    for place in 0..look.locals.parameters().min(MOST_PARAMETERS) {
+        let parameter = look.locals.parameter(place)?;
+        let argument = tree.argument(call, place as u64);
+        let less = less_by(tree, &argument, &parameter.name).unwrap_or(0);
+        if less >= 2
+            && !parameter.is_changed
+            && calls_next(tree, place as u64, &parameter.name)
+            && matches!(ends_at(tree, &parameter.name), Some(ends) if ends < less)
+        {
+            return Remark::about(
+                argument.first,
+                Warning::Slip(Slip::CallsPast),
+                argument.first,
+            );
+        }
+    }
+    None
+}
+
+// By how much less than a name a difference is.
+fn less_by(tree: &Tree<'_>, difference: &Branch, name: &Name) -> Option<u64> {
+    match difference.node {
+        Node::Binary(BinOp::Sub) if is_one_off(tree, difference, name) => {
+            constant_of(tree, &tree.branch(difference.right))
+        }
+        _ => None,
+    }
+}
+
+// Whether a function calls itself with less by one in this place.
+fn calls_next(tree: &Tree<'_>, place: u64, name: &Name) -> bool {
+    for branch in &tree.branches {
+        if is_own_call(tree, tree.callee(branch))
+            && less_by(tree, &tree.argument(branch, place), name) == Some(1)
+        {
+            return true;
+        }
+    }
+    false
+}
+
+// How many numbers the conditions of a function ask for by `==`, where they ask for nothing else of a name.
+fn ends_at(tree: &Tree<'_>, name: &Name) -> Option<u64> {
+    let mut found: u64 = 0;
+    for branch in &tree.branches {
+        let asked = match branch.node {
+            Node::Tested | Node::Switched | Node::Conditional => tree.branch(branch.left),
+            _ => continue,
+        };
+        if asked.last.saturating_sub(asked.first) > MOST_TOKENS {
+            return None;
+        }
+        let is_equal = asked.node == Node::Binary(BinOp::Eq)
+            && tree.name(&tree.branch(asked.left)) == Some(*name)
+            && tree.branch(asked.right).node == Node::Constant;
+        if is_equal {
+            found = found.saturating_add(1);
+        } else if has_name(tree, &asked, name) {
+            return None;
+        }
+    }
+    if found > 0 { Some(found) } else { None }
+}
+
+// Whether it is a name and a constant.
+fn is_one_off(tree: &Tree<'_>, sum: &Branch, name: &Name) -> bool {
+    tree.name(&tree.branch(sum.left)) == Some(*name)
+        && tree.branch(sum.right).node == Node::Constant
+}
+
+// Whether a name is compared once, by the first condition of a function, which asks whether it is small.
+fn ends_below(tree: &Tree<'_>, name: &Name) -> bool {
+    let mut found = false;
+    for branch in &tree.branches {
+        let asked = match branch.node {
+            Node::Tested | Node::Conditional => tree.branch(branch.left),
+            _ => continue,
+        };
+        let is_named = tree.name(&tree.branch(asked.left)) == Some(*name);
+        let value = constant_of(tree, &tree.branch(asked.right));
+        let is_small = match (asked.node, value) {
+            (Node::Binary(BinOp::Lt | BinOp::Le), Some(_)) => true,
+            (Node::Binary(BinOp::Eq), Some(0 | 1)) => true,
+            _ => false,
+        };
+        if found || !is_named || !is_small {
+            return false;
+        }
+        found = true;
+    }
+    found
+}
+
+/// What is found of an argument that is a word with constants alone, or a word of a vector with numbers; it hangs on
+/// whether the function takes it for an address.
+pub(crate) fn valued(look: &Look<'_>, call: &Branch, place: u64) -> Option<Remark> {
+    let definition = look.defined.place(&look.tree.callee(call)?)?;
+    let argument = look.tree.argument(call, place);
+    let is_constant = match look.locals.of(look.tree, &argument) {
+        Some(local) => local.role == NameRole::Auto && local.is_constant(),
+        None => false,
+    };
+    let reads = look.tree.is_call_of(call, "getnum") && argument.node == Node::Indexed;
+    let warning = if is_constant {
+        Warning::ValueForAddress
+    } else if reads || has_number(look, &argument) {
+        Warning::Slip(Slip::WordForAddress)
+    } else {
+        return None;
+    };
+    Some(Remark {
+        definition,
+        given: place,
+        ..Remark::new(argument.first, warning)?
+    })
+}
+
+// Whether an argument is a word of a vector with numbers: one with values, or whose words are compared by their size.
+fn has_number(look: &Look<'_>, argument: &Branch) -> bool {
+    let tree = look.tree;
+    if argument.node != Node::Indexed || tree.branches.len() > MOST_BRANCHES {
+        return false;
+    }
+    let Some(name) = tree.name(&tree.branch(argument.left)) else {
+        return false;
+    };
+    if look.defined.has_numbers(&name) {
+        return true;
+    }
+    for branch in &tree.branches {
+        if let Node::Binary(op) = branch.node {
+            let left = tree.branch(branch.left);
+            let is_word = left.node == Node::Indexed
+                && tree.name(&tree.branch(left.left)) == Some(name);
+            if is_word && relates(op) {
+                return true;
+            }
+        }
+    }
+    false
 }
 
 /// What is found of a vector and the number of its words, which are passed on together.
@@ -255,6 +458,12 @@ fn put_by_value(look: &Look<'_>, argument: &Branch) -> Option<Warning> {
         }
         Node::Constant if matches!(value, Lexeme::Character(SLASH_N | SLASH_T)) => {
             Some(Warning::SlashEscape)
+        }
+        Node::Binary(BinOp::Rem) => {
+            match constant_of(look.tree, &look.tree.branch(argument.right)) {
+                Some(2..=10) => Some(Warning::NumberPut),
+                _ => None,
+            }
         }
         Node::Name => match look.locals.of(look.tree, argument) {
             Some(local) if local.is_small() => Some(Warning::NumberPut),

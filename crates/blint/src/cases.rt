@@ -1,4 +1,5 @@
 //! Cases of a `switch`, characters that are taken for digits, and a condition that assigns by `=!`.
+use crate::falls::prepares;
 use crate::linting::Look;
 use crate::locals::{compares, relates};
 use crate::remarks::Remark;
@@ -63,8 +64,9 @@ pub(crate) fn of_case(look: &Look<'_>, heading: &Statement) -> Option<Remark> {
         return Remark::new(value, Warning::DigitForCharacter);
     }
     if ending(tree, heading) == Some(false)
-        && is_like_next(tree, heading)
-        && falls_alone(look, heading, &block)
+        && (is_like_next(tree, heading) && all_fall(look, heading, &block)
+            || falls_alone(look, heading, &block)
+                && (is_like_next(tree, heading) || !prepares(tree, heading)))
     {
         return Remark::new(heading.first, Warning::FallsIntoCase);
     }
@@ -106,11 +108,74 @@ fn ending(tree: &Tree<'_>, heading: &Statement) -> Option<bool> {
 // assignments to one name.
 fn is_like_next(tree: &Tree<'_>, heading: &Statement) -> bool {
     let before = tree.statement(tree.around(heading.first.wrapping_sub(1)));
-    let next = heading.end;
+    let next = after_headings(tree, heading);
     before.construct == Construct::Plain
         && tree.tokens.name(before.first).is_some()
         && tree.tokens.at(before.first) == tree.tokens.at(next)
         && tree.tokens.after(before.first) == tree.tokens.after(next)
+}
+
+// The first token after a case and those that come right after it.
+fn after_headings(tree: &Tree<'_>, heading: &Statement) -> usize {
+    let mut end = heading.end;
+    for _ in 0..tree.statements.len() {
+        let next = tree.statement(tree.around(end));
+        if next.construct != Construct::Heading || next.first != end {
+            break;
+        }
+        end = next.end;
+    }
+    end
+}
+
+// Whether control goes on from each case into the next one, where each writes a text of its own or sets a word anew, and
+// the cases don't come from the largest to the smallest one.
+fn all_fall(look: &Look<'_>, heading: &Statement, block: &Statement) -> bool {
+    let tree = look.tree;
+    let (mut last, mut is_falling) = (None, true);
+    for token in block.first..block.end {
+        let other = tree.statement(tree.around(token));
+        let is_heading = other.first == token
+            && other.construct == Construct::Heading
+            && other.parent == heading.parent;
+        if is_heading {
+            if ending(tree, &other) == Some(true) {
+                return false;
+            }
+            let value = value_of(tree, &other);
+            is_falling = is_falling && is_below(value, last);
+            last = value;
+        }
+    }
+    !is_falling && is_own_text(tree, heading)
+}
+
+// The number of a case.
+fn value_of(tree: &Tree<'_>, heading: &Statement) -> Option<u16> {
+    match tree.tokens.after(heading.first) {
+        Lexeme::Number(value) | Lexeme::Character(value) => Some(value),
+        _ => None,
+    }
+}
+
+fn is_below(value: Option<u16>, last: Option<u16>) -> bool {
+    match (value, last) {
+        (Some(value), Some(last)) => value < last,
+        _ => true,
+    }
+}
+
+// Whether the statement before a case writes a text, or sets a word to a constant.
+fn is_own_text(tree: &Tree<'_>, heading: &Statement) -> bool {
+    let evaluated = tree.branch(tree.made_by(heading.first.wrapping_sub(1)).left);
+    match evaluated.node {
+        Node::Called => tree.argument(&evaluated, 0).node == Node::Text,
+        Node::Assigned(None) => matches!(
+            tree.branch(evaluated.right).node,
+            Node::Constant | Node::Text
+        ),
+        _ => false,
+    }
 }
 
 // Whether control goes on from one case alone into the next one, where two others at least leave the switch.
@@ -131,5 +196,11 @@ fn falls_alone(look: &Look<'_>, heading: &Statement, block: &Statement) -> bool 
             }
         }
     }
-    leaving > 1
+    leaving > 1 || leaving == 1 && is_like_next(tree, heading) && ends_leaving(tree, block)
+}
+
+// Whether the last statement of a block leaves it.
+fn ends_leaving(tree: &Tree<'_>, block: &Statement) -> bool {
+    let last = tree.statement(tree.around(block.end.wrapping_sub(2)));
+    tree.leaves(&last)
 }

@@ -107,8 +107,8 @@ pub(crate) fn body_of(tree: &Tree<'_>, statement: &Statement) -> Option<Statemen
     begun_at(tree, tree.made_by(statement.first).last.wrapping_add(1))
 }
 
-// The statement that begins with a token.
-fn begun_at(tree: &Tree<'_>, token: usize) -> Option<Statement> {
+/// The statement that begins with a token.
+pub(crate) fn begun_at(tree: &Tree<'_>, token: usize) -> Option<Statement> {
     let found = tree.statement(tree.around(token));
     if found.first == token && found.construct != Construct::Heading {
         Some(found)
@@ -196,8 +196,8 @@ fn are_same(one: Option<Name>, other: Option<Name>) -> bool {
     }
 }
 
-// The name to which a statement assigns a constant, and does nothing else.
-fn set_by(tree: &Tree<'_>, body: &Statement) -> Option<Name> {
+/// The name to which a statement assigns a constant, and does nothing else.
+pub(crate) fn set_by(tree: &Tree<'_>, body: &Statement) -> Option<Name> {
     let inner = if body.construct == Construct::Block {
         begun_at(tree, body.first.saturating_add(1))?
     } else {
@@ -231,7 +231,10 @@ pub(crate) fn some_return(look: &Look<'_>) -> Option<Remark> {
     if !is_last || last_of(tree, &last).1 || !returns_within(tree, &last) {
         return None;
     }
-    Remark::about(last.first, Warning::SomeReturn, 0)
+    Some(Remark {
+        definition: look.defined.place(&tree.tokens.name(0)?)?,
+        ..Remark::about(last.first, Warning::SomeReturn, 0)?
+    })
 }
 
 // Whether a function has a return with a value in a statement, and none elsewhere, and no value is a constant.

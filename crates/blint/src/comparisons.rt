@@ -2,11 +2,12 @@
 use crate::linting::Look;
 use crate::locals::compares;
 use crate::remarks::Remark;
-use crate::strings::is_word_of_string;
+use crate::strings::{is_word_of_string, is_word_of_text};
 use crate::tokens::Tokens;
 use crate::tree::Branch;
 use crate::warnings::Warning;
 use blex::Lexeme;
+use btree::Node;
 use bword::BinOp;
 
 /// What is found of an operator between two operands.
@@ -36,6 +37,9 @@ fn compared(look: &Look<'_>, branch: &Branch) -> Option<Remark> {
     }
     if is_word_of_string(look, &right, &left) {
         return Remark::new(right.first, Warning::WordOfString);
+    }
+    if is_word_of_text(look, &left) && right.node == Node::Name {
+        return Remark::new(left.first, Warning::WordOfString);
     }
     // A name to which a character of the input is assigned somewhere.
     let is_input = matches!(look.locals.of(look.tree, &left), Some(local) if local.inputs > 0);

@@ -18,38 +18,90 @@ const MOST_LEVELS: usize = 64;
 /// The longest loop that is looked at, in tokens.
 const MOST_TOKENS: usize = 600;
 
-/// What is found of an `if` after an `else` where one before it in the chain has taken all that it asks for.
+/// How many conditions that an operator joins are looked at.
+const MOST_JOINED: usize = 4;
+
+/// What is found of an `if` where one before it in the chain, or one right before it that leaves, has taken all that it
+/// asks for.
 pub(crate) fn tested_before(look: &Look<'_>, statement: &Statement) -> Option<Remark> {
     let tree = look.tree;
     let own = condition_of(tree, statement);
     let mut here = *statement;
     for _ in 0..MOST_LEVELS {
-        let before = tree.tokens.at(here.first.wrapping_sub(1));
-        let outer = tree.statement(here.parent);
-        if before != Lexeme::Keyword(Keyword::Else) || outer.construct != Construct::If {
-            return None;
-        }
-        let test = condition_of(tree, &outer);
+        let earlier = earlier_if(tree, &here)?;
+        let test = condition_of(tree, &earlier);
         if test.acts || own.acts {
             return None;
         }
         if covers(tree, &test, &own) {
             return Some(Remark {
-                other: outer.first,
+                other: earlier.first,
                 ..Remark::new(statement.first, Warning::TestedBefore)?
             });
         }
-        here = outer;
+        here = earlier;
     }
     None
 }
 
-fn condition_of(tree: &Tree<'_>, statement: &Statement) -> Branch {
+// The `if` to whose `else` one belongs, or the one right before it from whose body control never comes to it.
+fn earlier_if(tree: &Tree<'_>, statement: &Statement) -> Option<Statement> {
+    let outer = tree.statement(statement.parent);
+    if tree.tokens.at(statement.first.wrapping_sub(1)) == Lexeme::Keyword(Keyword::Else) {
+        return if outer.construct == Construct::If {
+            Some(outer)
+        } else {
+            None
+        };
+    }
+    let earlier = tree.before(statement)?;
+    let body = body_of(tree, &earlier)?;
+    if tree.leaves(&body) && body.end == earlier.end {
+        Some(earlier)
+    } else {
+        None
+    }
+}
+
+/// The condition of an `if` or of a loop, without parentheses of its own.
+pub(crate) fn condition_of(tree: &Tree<'_>, statement: &Statement) -> Branch {
     inner(tree, tree.branch(tree.made_by(statement.first).left))
 }
 
-// Whether one condition holds whenever another one does.
+// Whether one condition holds whenever another one does. Of conditions that `&` joins each holds, and of such that `|`
+// joins the whole holds by one of them.
 fn covers(tree: &Tree<'_>, one: &Branch, other: &Branch) -> bool {
+    let (mut part, mut whole) = (*other, *one);
+    for _ in 0..MOST_JOINED {
+        if covers_part(tree, &whole, &last_of(tree, &part, BinOp::And))
+            || covers_part(tree, &last_of(tree, &whole, BinOp::Or), &part)
+        {
+            return true;
+        }
+        part = rest_of(tree, &part, BinOp::And);
+        whole = rest_of(tree, &whole, BinOp::Or);
+    }
+    false
+}
+
+// The last one of conditions that an operator joins, and those before it; or a condition itself.
+fn last_of(tree: &Tree<'_>, condition: &Branch, op: BinOp) -> Branch {
+    if condition.node == Node::Binary(op) {
+        inner(tree, tree.branch(condition.right))
+    } else {
+        *condition
+    }
+}
+
+fn rest_of(tree: &Tree<'_>, condition: &Branch, op: BinOp) -> Branch {
+    if condition.node == Node::Binary(op) {
+        inner(tree, tree.branch(condition.left))
+    } else {
+        *condition
+    }
+}
+
+fn covers_part(tree: &Tree<'_>, one: &Branch, other: &Branch) -> bool {
     are_alike(tree, one, other) || bounds(tree, one, other) || divides(tree, one, other)
 }
 

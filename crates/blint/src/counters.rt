@@ -1,11 +1,12 @@
 //! Words that count the turns of a loop.
+use crate::bounds::{are_alike, constant_of};
 use crate::linting::Look;
 use crate::locals::{NameRole, relates};
-use crate::loops::{changes_name, leaves};
+use crate::loops::{changes, changes_name, has_own_words, leaves};
 use crate::remarks::Remark;
 use crate::tree::{Branch, Statement, Tree};
 use crate::vectors::last_of;
-use crate::warnings::Warning;
+use crate::warnings::{Slip, Warning};
 use blang::Keyword;
 use blex::Lexeme;
 use btree::{Construct, Node};
@@ -14,7 +15,13 @@ use bword::{BinOp, Name};
 /// The longest loop around another one, or around a sum, that is looked at, in tokens.
 const MOST_TOKENS: usize = 600;
 
-/// A loop whose condition compares a word of the function with a constant or another word.
+/// How many assignments one after another are looked at.
+const MOST_CHAINED: usize = 8;
+
+/// How many statements between two loops are looked at.
+const MOST_BETWEEN: usize = 4;
+
+/// A loop whose condition compares a word of the function with a constant or another word, by its size or by `!=`.
 #[derive(Clone, Copy)]
 pub(crate) struct Counter {
     pub name: Name,
@@ -37,7 +44,8 @@ pub(crate) fn counter_of(look: &Look<'_>, tested: &Branch) -> Option<Counter> {
     let name = tree.name(&tree.branch(condition.left))?;
     let local = look.locals.find(&name)?;
     let is_plain = matches!(limit.node, Node::Constant | Node::Name);
-    if !relates(op) || !is_plain || !local.is_own_word() || local.has_address {
+    let is_limited = relates(op) || op == BinOp::Ne;
+    if !is_limited || !is_plain || !local.is_own_word() || local.has_address {
         return None;
     }
     Some(Counter {
@@ -90,7 +98,8 @@ fn way_of_sum(tree: &Tree<'_>, sum: &Branch, name: &Name) -> Way {
 pub(crate) fn counts_away(look: &Look<'_>, counted: &Counter) -> Option<Remark> {
     let wrong = match counted.op {
         BinOp::Lt | BinOp::Le => Way::Down,
-        _ => Way::Up,
+        BinOp::Gt | BinOp::Ge => Way::Up,
+        _ => return None,
     };
     let mut found = None;
     for token in counted.first..counted.end {
@@ -150,8 +159,8 @@ pub(crate) fn inner_once(look: &Look<'_>, counted: &Counter) -> Option<Remark> {
     })
 }
 
-// The innermost loop around that of a keyword.
-fn loop_around(tree: &Tree<'_>, keyword: usize) -> Option<Statement> {
+/// The innermost loop around the statement of a keyword.
+pub(crate) fn loop_around(tree: &Tree<'_>, keyword: usize) -> Option<Statement> {
     let mut found = tree.statement(tree.statement(tree.around(keyword)).parent);
     for _ in 0..tree.statements.len() {
         match found.construct {
@@ -163,17 +172,49 @@ fn loop_around(tree: &Tree<'_>, keyword: usize) -> Option<Statement> {
     None
 }
 
-/// What is found of an index that a loop counts past the last word of a vector.
+/// The assignment that gives a name its value last before a token, if that is what changes it last there.
+pub(crate) fn begun_with(tree: &Tree<'_>, end: usize, name: &Name) -> Option<Branch> {
+    for back in 0..end.min(MOST_TOKENS) {
+        let token = end.wrapping_sub(back).wrapping_sub(1);
+        if changes_name(tree, token, name) {
+            let changed = tree.made_by(token);
+            return if changed.node == Node::Assigned(None) {
+                Some(changed)
+            } else {
+                None
+            };
+        }
+    }
+    None
+}
+
+/// What an assignment gives, where others come after it: `a = b = 0`.
+pub(crate) fn given_by(tree: &Tree<'_>, assigned: &Branch) -> Branch {
+    let mut given = tree.branch(assigned.right);
+    for _ in 0..MOST_CHAINED {
+        if given.node != Node::Assigned(None) {
+            break;
+        }
+        given = tree.branch(given.right);
+    }
+    given
+}
+
+/// What is found of an index that a loop counts past the last word of a vector, or from there down.
 pub(crate) fn past_vector(look: &Look<'_>, counted: &Counter) -> Option<Remark> {
     let tree = look.tree;
     let largest = match (counted.op, tree.tokens.at(counted.limit.token)) {
         (BinOp::Lt, Lexeme::Number(limit)) => u64::from(limit).checked_sub(1)?,
         (BinOp::Le, Lexeme::Number(limit)) => u64::from(limit),
+        (BinOp::Ge | BinOp::Gt, Lexeme::Number(0 | 1)) => {
+            let begun = begun_with(tree, counted.keyword, &counted.name)?;
+            constant_of(tree, &given_by(tree, &begun))?
+        }
         _ => return None,
     };
-    let indexed = first_index(look, counted)?;
+    let (indexed, more) = first_index(look, counted)?;
     let vector = tree.branch(indexed.left);
-    if last_of(look, &tree.name(&vector)?)? >= largest {
+    if last_of(look, &tree.name(&vector)?)? >= largest.saturating_add(more) {
         return None;
     }
     Some(Remark {
@@ -186,23 +227,130 @@ pub(crate) fn past_vector(look: &Look<'_>, counted: &Counter) -> Option<Remark> 
     })
 }
 
-// The first index of a name that is just the word which a loop counts, unless something changes that or asks for it
-// before.
-fn first_index(look: &Look<'_>, counted: &Counter) -> Option<Branch> {
+/// What is found of a loop up to one number that a word never has, as it counts by steps past it.
+pub(crate) fn steps_past(look: &Look<'_>, counted: &Counter) -> Option<Remark> {
     let tree = look.tree;
-    let name = counted.name;
+    if counted.op != BinOp::Ne {
+        return None;
+    }
+    let limit = constant_of(tree, &counted.limit)?;
+    let begun = begun_with(tree, counted.keyword, &counted.name)?;
+    let first = constant_of(tree, &given_by(tree, &begun))?;
+    let mut found = None;
     for token in counted.first..counted.end {
-        let branch = tree.made_by(token);
-        let is_index = branch.node == Node::Indexed
-            && tree.name(&tree.branch(branch.right)) == Some(name);
-        if is_index && tree.name(&tree.branch(branch.left)).is_some() {
-            return Some(branch);
-        }
-        if changes_name(tree, token, &name) || asks(tree, token, &name) {
+        if leaves(look, token) {
             return None;
+        }
+        if let Some(way) = way_of(tree, token, &counted.name) {
+            if found.is_some() {
+                return None;
+            }
+            found = Some((token, way));
+        }
+    }
+    let (token, way) = found?;
+    let step = step_of(tree, &tree.made_by(token))?;
+    let distance = match way {
+        Way::Up => limit.checked_sub(first)?,
+        Way::Down => first.checked_sub(limit)?,
+        Way::Other => return None,
+    };
+    if step < 2 || distance % step == 0 {
+        return None;
+    }
+    Remark::about(
+        tree.branch(tree.made_by(counted.keyword).left).token,
+        Warning::Slip(Slip::StepsPast),
+        counted.keyword.wrapping_add(2),
+    )
+}
+
+// The constant by which a word is changed.
+fn step_of(tree: &Tree<'_>, change: &Branch) -> Option<u64> {
+    let given = tree.branch(change.right);
+    match change.node {
+        Node::Assigned(Some(_)) => constant_of(tree, &given),
+        Node::Assigned(None) => constant_of(tree, &tree.branch(given.right)),
+        _ => Some(1),
+    }
+}
+
+/// What is found of a loop with the condition of one before it, which has made that 0.
+pub(crate) fn never_again(look: &Look<'_>, tested: &Branch) -> Option<Remark> {
+    let tree = look.tree;
+    let statement = tree.statement(tree.around(tested.token));
+    let condition = tree.branch(tested.left);
+    if !has_own_words(look, &condition) || condition.acts {
+        return None;
+    }
+    let mut here = statement;
+    for _ in 0..MOST_BETWEEN {
+        here = tree.before(&here)?;
+        if here.end.saturating_sub(here.first) > MOST_TOKENS {
+            return None;
+        }
+        let is_loop = here.construct == Construct::While
+            && are_alike(
+                tree,
+                &tree.branch(tree.made_by(here.first).left),
+                &condition,
+            );
+        for token in here.first..here.end {
+            let is_left = leaves(look, token);
+            if is_left || !is_loop && changes(tree, token, &condition) {
+                return None;
+            }
+        }
+        if is_loop {
+            return Some(Remark {
+                other: here.first,
+                ..Remark::new(tested.token, Warning::Slip(Slip::NeverAgain))?
+            });
         }
     }
     None
+}
+
+// The index of a name that is just the word which a loop counts, or most above it, unless something changes that or asks
+// for it before.
+fn first_index(look: &Look<'_>, counted: &Counter) -> Option<(Branch, u64)> {
+    let tree = look.tree;
+    let name = counted.name;
+    let mut found: Option<(Branch, u64)> = None;
+    for token in counted.first..counted.end {
+        let branch = tree.made_by(token);
+        if branch.node == Node::Indexed && tree.name(&tree.branch(branch.left)).is_some() {
+            if let Some(more) = more_than(tree, &tree.branch(branch.right), &name) {
+                found = Some(most_of(found, branch, more));
+            }
+        }
+        if changes_name(tree, token, &name) || asks(tree, token, &name) {
+            break;
+        }
+    }
+    found
+}
+
+// Of two indices the first one, unless the other one is more above a name.
+fn most_of(found: Option<(Branch, u64)>, branch: Branch, more: u64) -> (Branch, u64) {
+    match found {
+        Some((first, most)) if more <= most => (first, most),
+        _ => (branch, more),
+    }
+}
+
+// How much more than a name an index is: nothing, or a constant.
+fn more_than(tree: &Tree<'_>, index: &Branch, name: &Name) -> Option<u64> {
+    if tree.name(index) == Some(*name) {
+        return Some(0);
+    }
+    let is_sum = index.node == Node::Binary(BinOp::Add)
+        && tree.name(&tree.branch(index.left)) == Some(*name);
+    if is_sum {
+        constant_of(tree, &tree.branch(index.right))
+    } else {
+        None
+    }
 }
 
 // Whether a condition that begins with this token has a name in it.
@@ -213,13 +361,22 @@ fn asks(tree: &Tree<'_>, token: usize, name: &Name) -> bool {
         _ => return false,
     };
     for at in tested.first..tested.last {
-        let parent = tree.branch(tree.made_by(at).parent);
-        let is_index = parent.node == Node::Indexed && tree.branch(parent.right).token == at;
-        if tree.tokens.name(at) == Some(*name) && !is_index {
+        if tree.tokens.name(at) == Some(*name) && !is_in_index(tree, at) {
             return true;
         }
     }
     false
+}
+
+// Whether a name is an index, or one with something added.
+fn is_in_index(tree: &Tree<'_>, token: usize) -> bool {
+    let parent = tree.branch(tree.made_by(token).parent);
+    let index = match parent.node {
+        Node::Binary(BinOp::Add | BinOp::Sub) => parent,
+        _ => tree.made_by(token),
+    };
+    let indexed = tree.branch(index.parent);
+    indexed.node == Node::Indexed && tree.branch(indexed.right).token == index.token
 }
 
 /// A loop of a function over the words of a parameter, up to another parameter and with that.
@@ -229,6 +386,8 @@ pub(crate) struct PastLoop {
     pub vector: usize,
     pub count: usize,
     pub keyword: usize,
+    /// Whether it takes the word after the one that it counts, and ends below the other parameter.
+    pub takes_next: bool,
 }
 
 /// The first such loop.
@@ -247,16 +406,19 @@ pub(crate) fn passed(look: &Look<'_>) -> Option<PastLoop> {
 }
 
 fn passed_by(look: &Look<'_>, counted: &Counter) -> Option<PastLoop> {
-    if counted.op != BinOp::Le {
-        return None;
-    }
     let count = parameter_of(look, &counted.limit)?;
-    let indexed = first_index(look, counted)?;
+    let (indexed, more) = first_index(look, counted)?;
+    match (counted.op, more) {
+        (BinOp::Le, 0) => {}
+        (BinOp::Lt, 1) => {}
+        _ => return None,
+    }
     let vector = parameter_of(look, &look.tree.branch(indexed.left))?;
     Some(PastLoop {
         vector,
         count,
         keyword: counted.keyword,
+        takes_next: more == 1,
     })
 }
 

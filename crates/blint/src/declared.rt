@@ -1,4 +1,5 @@
 //! What is found of the names that a function declares.
+use crate::copied::is_copied;
 use crate::linting::Look;
 use crate::locals::{Local, NameRole};
 use crate::remarks::{Remark, Remarks};
@@ -29,7 +30,7 @@ fn declared(look: &Look<'_>, token: usize) -> Option<Remark> {
         return Remark::new(token, Warning::NeverUsed);
     }
     let is_vector = matches!(local.role, NameRole::Vector(_));
-    if is_vector && !local.is_indexed && local.is_word {
+    if is_vector && !local.is_indexed && local.is_word && !is_copied(look, &name) {
         return Remark::new(token, Warning::VectorForWord);
     }
     if let Some(definition) = look.defined.place(&name) {

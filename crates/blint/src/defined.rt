@@ -156,6 +156,74 @@ impl<'a> Defined<'a> {
         Some(what_of(definition))
     }
 
+    /// Whether a vector has a word below 0 from the beginning.
+    pub(crate) fn has_negative(&self, name: &Name) -> bool {
+        let Some(place) = self.place(name) else {
+            return false;
+        };
+        match self.definitions.get(place) {
+            Some(definition) => match definition.view() {
+                View::Vector { values, .. } => has_large(values),
+                _ => false,
+            },
+            None => false,
+        }
+    }
+
+    /// Whether a vector has numbers from the beginning.
+    pub(crate) fn has_numbers(&self, name: &Name) -> bool {
+        let Some(place) = self.place(name) else {
+            return false;
+        };
+        match self.definitions.get(place) {
+            Some(definition) => match definition.view() {
+                View::Vector { values, .. } => { matches!(values.first(), Some(Ival::Number(1..))) }
+                _ => false,
+            },
+            None => false,
+        }
+    }
+
+    /// Whether a vector has values from the beginning.
+    pub(crate) fn has_values(&self, name: &Name) -> bool {
+        let Some(place) = self.place(name) else {
+            return false;
+        };
+        match self.definitions.get(place) {
+            Some(definition) => match definition.view() {
+                View::Vector { values, .. } => !values.is_empty(),
+                _ => false,
+            },
+            None => false,
+        }
+    }
+
+    /// Of each definition whether the code of a function has its name.
+    pub(crate) fn mentioned(&self, alloc: Global) -> Result<Vec<bool>, AllocError> {
+        let mut mentioned = Vec::new(alloc);
+        for _ in self.definitions {
+            mentioned.push(false)?;
+        }
+        for definition in self.definitions {
+            if let View::Function { code, .. } = definition.view() {
+                self.mark_mentioned(code, &mut mentioned);
+            }
+        }
+        Ok(mentioned)
+    }
+
+    fn mark_mentioned(&self, code: &[Instr], mentioned: &mut Vec<bool>) {
+        for instr in code {
+            if let Instr::External(name) = instr {
+                if let Some(place) = self.place(name) {
+                    if let Some(is_mentioned) = mentioned.get_mut(place) {
+                        *is_mentioned = true;
+                    }
+                }
+            }
+        }
+    }
+
     /// How many arguments the function of the library of this name takes.
     pub(crate) fn library_arguments(&self, name: &Name) -> Option<u64> {
         for (word, count) in self.library {
@@ -191,6 +259,15 @@ fn puts_exit(code: &[Instr]) -> bool {
     false
 }
 
+fn has_large(values: &[Ival]) -> bool {
+    for value in values {
+        if let Ival::Number(32768..) = value {
+            return true;
+        }
+    }
+    false
+}
+
 fn has_exit(values: &[Ival]) -> bool {
     for value in values {
         if let Ival::Name(name) = value {
@@ -207,7 +284,7 @@ fn what_of(definition: &Definition) -> What {
         View::Function { parameters, .. } => What::Function(u64::from(parameters)),
         View::Vector { words, .. } => What::Vector(u64::from(words).saturating_sub(1)),
         View::Simple { values, .. } => match values.first() {
-            Some(Ival::Number(1..)) if values.len() == 1 => What::Number,
+            Some(Ival::Number(1..)) => What::Number,
             _ => What::Simple,
         },
     }
@@ -321,7 +398,11 @@ fn is_pure(tree: &Tree<'_>, locals: &Locals) -> bool {
         if !is_pure {
             return false;
         }
-        works = works || matches!(branch.node, Node::Assigned(_) | Node::Tested);
+        works = works
+            || matches!(
+                branch.node,
+                Node::Assigned(_) | Node::Tested | Node::Conditional
+            );
     }
     works
 }

@@ -1,13 +1,18 @@
 //! Automatics that are used before anything has set them.
+use crate::copies::has_name;
+use crate::defined::Defined;
 use crate::locals::{Local, Locals, sets};
 use crate::remarks::{Remark, Remarks};
 use crate::tree::{Branch, Tree};
-use crate::warnings::Warning;
+use crate::warnings::{Slip, Warning};
 use blang::Keyword;
 use blex::Lexeme;
-use btree::Node;
+use btree::{Construct, Node};
 use bword::Name;
 use std::alloc::AllocError;
+
+/// How many levels around a name are looked at.
+const MOST_LEVELS: usize = 32;
 
 /// How far the judgement of a function has come.
 #[derive(Clone, Copy)]
@@ -26,6 +31,7 @@ struct Flow {
 pub(crate) fn unset_in(
     tree: &Tree<'_>,
     locals: &mut Locals,
+    defined: &Defined<'_>,
     remarks: &mut Remarks,
 ) -> Result<(), AllocError> {
     let mut flow = Flow {
@@ -40,7 +46,11 @@ pub(crate) fn unset_in(
             return Ok(());
         }
         if let Some(name) = tree.tokens.name(token) {
-            remarks.say(flow.meets(tree, locals, token, &name))?;
+            let remark = flow.meets(tree, locals, token, &name);
+            // Of a word that hides an external that is told.
+            if defined.place(&name).is_none() {
+                remarks.say(remark)?;
+            }
         } else {
             flow.passes(tree, token);
         }
@@ -103,8 +113,12 @@ impl Flow {
 
     fn takes(&mut self, tree: &Tree<'_>, local: &mut Local, mention: &Branch) -> Option<Remark> {
         let parent = tree.branch(mention.parent);
-        if parent.node == Node::Address {
+        if parent.node == Node::Address && !is_read(tree, &parent) {
             self.is_over = true;
+            return None;
+        }
+        if parent.node == Node::Address {
+            local.set_from = parent.last.wrapping_add(1);
             return None;
         }
         if sets(tree, &parent) && tree.branch(parent.left).token == mention.token {
@@ -113,16 +127,85 @@ impl Flow {
         }
         local.set_from = 0;
         local.is_unset = true;
-        unset(&parent, mention)
+        unset(tree, &parent, mention)
     }
 }
 
-fn unset(parent: &Branch, mention: &Branch) -> Option<Remark> {
-    let is_vector = parent.node == Node::Indexed && parent.first == mention.token;
-    let warning = if is_vector {
-        Warning::UnsetVector
-    } else {
-        Warning::Unset
-    };
-    Remark::new(mention.token, warning)
+// Whether an address is that of the one word which `getnum` reads.
+fn is_read(tree: &Tree<'_>, address: &Branch) -> bool {
+    let argument = tree.branch(address.parent);
+    tree.is_call_of(&tree.branch(argument.parent), "getnum")
+}
+
+fn unset(tree: &Tree<'_>, parent: &Branch, mention: &Branch) -> Option<Remark> {
+    if parent.node == Node::Indexed && parent.first == mention.token {
+        return Remark::new(mention.token, Warning::UnsetVector);
+    }
+    match set_after(tree, mention) {
+        Some(token) => Some(Remark {
+            other: token,
+            ..Remark::new(mention.token, Warning::Slip(Slip::SetLater))?
+        }),
+        None => Remark::new(mention.token, Warning::Unset),
+    }
+}
+
+// Where a name is set after a mention that doesn't change it, and no loop comes from there to the mention again.
+fn set_after(tree: &Tree<'_>, mention: &Branch) -> Option<usize> {
+    let name = tree.name(mention)?;
+    if is_in_own_change(tree, mention, &name) {
+        return None;
+    }
+    for token in mention.token.saturating_add(1)..tree.tokens.len() {
+        let other = tree.made_by(token);
+        if tree.name(&other) == Some(name) {
+            if sets_anew(tree, &other, &name) {
+                let is_again = is_in_loop_with(tree, mention.token, token);
+                return if is_again { None } else { Some(token) };
+            }
+            if is_in_own_change(tree, &other, &name) {
+                return None;
+            }
+        }
+    }
+    None
+}
+
+// Whether a mention takes the address of a name, or assigns it what doesn't hang on it.
+fn sets_anew(tree: &Tree<'_>, mention: &Branch, name: &Name) -> bool {
+    let parent = tree.branch(mention.parent);
+    match parent.node {
+        Node::Address => true,
+        Node::Assigned(None) => {
+            tree.branch(parent.left).token == mention.token
+                && !has_name(tree, &tree.branch(parent.right), name)
+        }
+        _ => false,
+    }
+}
+
+// Whether a mention of a name is in a change of it that hangs on what it was.
+fn is_in_own_change(tree: &Tree<'_>, mention: &Branch, name: &Name) -> bool {
+    let mut here = tree.branch(mention.parent);
+    for _ in 0..MOST_LEVELS {
+        match here.node {
+            Node::PreIncrement | Node::PreDecrement | Node::PostIncrement | Node::PostDecrement =>
+                return true,
+            Node::Assigned(_) => return tree.name(&tree.branch(here.left)) == Some(*name),
+            _ => here = tree.branch(here.parent),
+        }
+    }
+    false
+}
+
+// Whether two tokens are in one loop.
+fn is_in_loop_with(tree: &Tree<'_>, token: usize, later: usize) -> bool {
+    let mut here = tree.statement(tree.around(token));
+    for _ in 0..MOST_LEVELS {
+        if here.construct == Construct::While && later < here.end {
+            return true;
+        }
+        here = tree.statement(here.parent);
+    }
+    false
 }

@@ -3,40 +3,33 @@ ghost use Rattle.std.specs.Prelude.{IfOk};
 ghost use Rattle.bsources.specs.Files.{files_shown};
 ghost use Rattle.blint.specs.Warns.{Warns};
 
-use crate::bounds::settled;
-use crate::calls::{MOST_ARGUMENTS, called, counted_past, same_arguments, valued};
-use crate::cases::{digit_compared, not_assigned, of_case};
+use crate::calls::MOST_ARGUMENTS;
 use crate::cautions::{Caution, Program};
-use crate::chains::{dangling, in_row, some_return};
-use crate::comparisons::operated;
-use crate::conditions::{index_kept, only_in_if, tested_before};
-use crate::counters::{
-    PastLoop, begins_anew, counter_of, counts_away, inner_once, passed, past_vector,
-};
+use crate::chains::some_return;
+use crate::counters::{PastLoop, passed};
 use crate::cutting::cut;
-use crate::declared::declared_in;
 use crate::defined::{Defined, Told, takes_address};
-use crate::ends::loop_end;
 use crate::flow::unset_in;
-use crate::functions::{calls_itself, changes_nothing, outside, without_main};
-use crate::layout::indented;
+use crate::functions::{calls_itself, outside, without_main};
 use crate::locals::Locals;
-use crate::loops::{input_endless, unchanged};
-use crate::numbers::{assigned, divided, multiplied, octal_in, too_large};
+use crate::looking::{look_at, look_further};
+use crate::numbers::octal_in;
+use crate::octals::padded_in;
 use crate::remarks::{Remark, Remarks};
 use crate::ruled::{Ruled, rules_of, starts_of};
-use crate::stores::{not_reached, overwritten, put_back, stored_back};
-use crate::strings::{added, character_counted, form_of, names_compared};
+use crate::stacks::pushed;
 use crate::telling::{MOST_CAUTIONS, told};
 use crate::tokens::{TokenPlace, Tokens};
-use crate::tree::{Branch, NONE, Tree};
-use crate::vectors::{addressed, indexed, indexed_twice, never_set, returned};
-use crate::warnings::Warning;
+use crate::tree::{NONE, Tree};
+use crate::warnings::{Slip, Warning};
+use crate::whole::Whole;
 use blex::Lexeme;
 use bsources::SourceFiles;
-use btree::{Construct, Node};
-use bword::BinOp;
+use bword::Name;
 use std::alloc::{AllocError, Global};
+
+/// How many vectors are noted in which an index counts up.
+const MOST_PUSHED: usize = 32;
 
 /// A function, and what is known of its names.
 #[derive(Clone, Copy)]
@@ -100,6 +93,9 @@ pub(crate) struct Linting<'a> {
     sure: usize,
     /// The first function, if `main` is missing.
     without_main: Option<usize>,
+    /// Vectors in which something is stored by an index that counts up after it.
+    pushed: Vec<Name>,
+    whole: Whole,
 }
 
 impl<'a> Linting<'a> {
@@ -117,6 +113,8 @@ impl<'a> Linting<'a> {
             found: Vec::new(alloc),
             sure: 0,
             without_main: None,
+            pushed: Vec::new(alloc),
+            whole: Whole::new(alloc),
         })
     }
 
@@ -142,8 +140,11 @@ impl<'a> Linting<'a> {
         let mut told = Told::new(&tree, &locals);
         remarks.say(outside(tokens, &self.defined, &told))?;
         octal_in(tokens, &mut further)?;
+        padded_in(tokens, &mut further)?;
         if tokens.at(1) == Lexeme::OpenParen {
-            unset_in(&tree, &mut locals, &mut further)?;
+            unset_in(&tree, &mut locals, &self.defined, &mut further)?;
+            self.take_pushed(&tree)?;
+            self.whole.take(&tree, &locals, &self.defined)?;
             let look = Look {
                 tree: &tree,
                 locals: &locals,
@@ -165,6 +166,33 @@ impl<'a> Linting<'a> {
             }
         }
         Ok(())
+    }
+
+    fn take_pushed(&mut self, tree: &Tree<'_>) -> Result<(), AllocError> {
+        for branch in &tree.branches {
+            if let Some(name) = pushed(tree, branch) {
+                if self.pushed.len() < MOST_PUSHED {
+                    self.pushed.push(name)?;
+                }
+            }
+        }
+        Ok(())
+    }
+
+    fn is_pushed(&self, vector: &Option<Name>) -> bool {
+        for name in &self.pushed {
+            if *vector == Some(*name) {
+                return true;
+            }
+        }
+        false
+    }
+
+    fn has_plain(&self, vector: Option<Name>) -> bool {
+        match vector {
+            Some(name) => self.whole.is_plain(&name),
+            None => true,
+        }
     }
 
     fn push(&mut self, tokens: &Tokens<'_>, remark: Option<Remark>) -> Result<(), AllocError> {
@@ -203,53 +231,73 @@ impl<'a> Linting<'a> {
         across: Option<TokenPlace>,
     ) -> Result<Vec<Caution>, AllocError> {
         let mut cautions = Vec::new(alloc);
+        let mentioned = self.mentioned(alloc)?;
         for supposed in &self.found {
-            push(&mut cautions, self.settled(supposed))?;
+            push(&mut cautions, self.settled(supposed, mentioned.as_slice()))?;
         }
         push(&mut cautions, across.map(going_on))?;
         Ok(cautions)
     }
 
-    fn settled(&self, supposed: &Supposed) -> Option<Caution> {
+    // Of each definition whether a function mentions it, if something hangs on that.
+    fn mentioned(&self, alloc: Global) -> Result<Vec<bool>, AllocError> {
+        for supposed in &self.found {
+            if let Warning::SomeReturn = supposed.caution.warning {
+                return self.defined.mentioned(alloc);
+            }
+        }
+        Ok(Vec::new(alloc))
+    }
+
+    // What is supposed of no function.
+    fn settled_alone(&self, caution: Caution) -> Option<Caution> {
+        match caution.warning {
+            Warning::Slip(Slip::PopsAbove) if !self.is_pushed(&caution.name) => None,
+            _ => Some(caution),
+        }
+    }
+
+    fn settled(&self, supposed: &Supposed, mentioned: &[bool]) -> Option<Caution> {
         let caution = supposed.caution;
         if supposed.definition == NONE {
-            return Some(caution);
+            return self.settled_alone(caution);
         }
         let told = *self.told.get(supposed.definition)?;
-        let is_unused = told.returns || !supposed.is_value;
-        let warning = match caution.warning {
-            Warning::ManyArguments if !told.spreads => Warning::ManyArguments,
-            Warning::FewArguments if !told.spreads && supposed.given < told.least => {
-                Warning::FewArguments
+        match caution.warning {
+            Warning::HidesExternal => Some(Caution {
+                related: Some(told.place),
+                ..caution
+            }),
+            Warning::CountPastVector => past_by(&told, supposed),
+            Warning::ChangesNothing if self.is_dropped(supposed) => Some(caution),
+            Warning::ManyArguments | Warning::FewArguments | Warning::ChangesNothing => {
+                of_call(&told, supposed)
             }
-            Warning::HidesExternal => {
-                return Some(Caution {
-                    related: Some(told.place),
-                    ..caution
-                });
+            _ if self.is_so(supposed, &told, mentioned) => Some(caution),
+            _ => None,
+        }
+    }
+
+    // Whether what is supposed is so, as far as it hangs on what all functions tell.
+    fn is_so(&self, supposed: &Supposed, told: &Told, mentioned: &[bool]) -> bool {
+        match supposed.caution.warning {
+            Warning::ValueForAddress | Warning::Slip(Slip::WordForAddress) => {
+                takes_address(told, supposed.given)
             }
-            Warning::CountPastVector if is_passed(&told, supposed.given) => {
-                return Some(Caution {
-                    related: Some(told.loop_place),
-                    ..caution
-                });
+            Warning::WordOfString => self.whole.has_string(supposed.definition, supposed.given),
+            Warning::TwoIndices => !self.has_plain(supposed.caution.name),
+            Warning::ResultDropped | Warning::OwnResultDropped => told.returns && told.is_pure,
+            // Where the program calls the function, it asks for the value somewhere.
+            Warning::SomeReturn => {
+                mentioned.get(supposed.definition) != Some(&true) || !self.is_dropped(supposed)
             }
-            Warning::CountPastVector => return None,
-            Warning::ValueForAddress if takes_address(&told, supposed.given) => {
-                Warning::ValueForAddress
-            }
-            Warning::ValueForAddress => return None,
-            Warning::ResultDropped if told.returns && told.is_pure => Warning::ResultDropped,
-            Warning::OwnResultDropped if told.returns && told.is_pure => Warning::OwnResultDropped,
-            Warning::ResultDropped | Warning::OwnResultDropped => return None,
-            // A value that is used is missing there.
-            Warning::ChangesNothing if self.used.get(supposed.definition) == Some(&false) => {
-                Warning::ChangesNothing
-            }
-            _ if is_unused => return None,
-            _ => Warning::NoReturn,
-        };
-        Some(Caution { warning, ..caution })
+            _ => !told.returns && supposed.is_value,
+        }
+    }
+
+    // Whether the program never uses the value of a function.
+    fn is_dropped(&self, supposed: &Supposed) -> bool {
+        self.used.get(supposed.definition) == Some(&false)
     }
 }
 
@@ -264,6 +312,40 @@ fn with_loop(look: &Look<'_>, passed: Option<PastLoop>) -> Told {
         loop_place: place,
         ..*look.told
     }
+}
+
+// What is told of a call with these arguments, if the loop of the function goes on past the last word with them.
+fn past_by(told: &Told, supposed: &Supposed) -> Option<Caution> {
+    if !is_passed(told, supposed.given) {
+        return None;
+    }
+    let warning = match told.passed {
+        Some(
+            PastLoop {
+                takes_next: true,
+                ..
+            },
+        ) => Warning::Slip(Slip::NextPast),
+        _ => Warning::CountPastVector,
+    };
+    Some(Caution {
+        warning,
+        related: Some(told.loop_place),
+        ..supposed.caution
+    })
+}
+
+// What is told of a call that has other arguments than the function has parameters, or uses a value that it doesn't give.
+fn of_call(told: &Told, supposed: &Supposed) -> Option<Caution> {
+    let caution = supposed.caution;
+    let is_few = !told.spreads && supposed.given < told.least;
+    let warning = match caution.warning {
+        Warning::ManyArguments if !told.spreads => Warning::ManyArguments,
+        Warning::FewArguments if is_few => Warning::FewArguments,
+        _ if told.returns || !supposed.is_value => return None,
+        _ => Warning::NoReturn,
+    };
+    Some(Caution { warning, ..caution })
 }
 
 // Whether the arguments of these places are those of a loop that goes on past the last word.
@@ -309,135 +391,4 @@ fn push(cautions: &mut Vec<Caution>, caution: Option<Caution>) -> Result<(), All
         })?;
     }
     Ok(())
-}
-
-// What is found of a function, by its branches and its statements.
-fn look_at(look: &Look<'_>, remarks: &mut Remarks) -> Result<(), AllocError> {
-    for branch in &look.tree.branches {
-        by_branch(look, branch, remarks)?;
-    }
-    for statement in &look.tree.statements {
-        remarks.say(indented(look, statement))?;
-        if statement.construct == Construct::Heading {
-            remarks.say(default_label(look, statement.first))?;
-        }
-    }
-    remarks.say(changes_nothing(look))?;
-    declared_in(look, remarks)
-}
-
-// What is found beside it.
-fn look_further(look: &Look<'_>, further: &mut Remarks) -> Result<(), AllocError> {
-    for branch in &look.tree.branches {
-        further_by_branch(look, branch, further)?;
-    }
-    for statement in &look.tree.statements {
-        further.say(not_reached(look, statement))?;
-        match statement.construct {
-            Construct::Heading => further.say(of_case(look, statement))?,
-            Construct::If => {
-                further.say(dangling(look, statement))?;
-                further.say(in_row(look, statement))?;
-                further.say(tested_before(look, statement))?;
-                further.say(index_kept(look, statement))?;
-            }
-            _ => {}
-        }
-    }
-    Ok(())
-}
-
-fn further_by_branch(
-    look: &Look<'_>,
-    branch: &Branch,
-    further: &mut Remarks,
-) -> Result<(), AllocError> {
-    match branch.node {
-        Node::Called => {
-            further.say(same_arguments(look, branch))?;
-            further.say(form_of(look, branch))?;
-            further.say(counted_past(look, branch))?;
-            further.say(valued(look, branch))
-        }
-        Node::Binary(op) => {
-            further.say(settled(look, branch, op))?;
-            further.say(digit_compared(look, branch, op))?;
-            further.say(names_compared(look, branch, op))?;
-            further.say(character_counted(look, branch, op))?;
-            further.say(by_operator(look, branch, op))
-        }
-        Node::Assigned(None) => further.say(assigned(look, branch)),
-        Node::Evaluated => {
-            further.say(stored_back(look, branch))?;
-            further.say(put_back(look, branch))?;
-            further.say(begins_anew(look, branch))
-        }
-        Node::Indexed => {
-            further.say(indexed_twice(look, branch))?;
-            further.say(never_set(look, branch))
-        }
-        Node::Tested => {
-            further.say(not_assigned(look, branch))?;
-            loop_further(look, branch, further)
-        }
-        _ => Ok(()),
-    }
-}
-
-fn by_operator(look: &Look<'_>, branch: &Branch, op: BinOp) -> Option<Remark> {
-    match op {
-        BinOp::Add => added(look, branch),
-        BinOp::Mul => multiplied(look, branch).or(too_large(look, branch)),
-        BinOp::Div => divided(look, branch),
-        _ => None,
-    }
-}
-
-fn loop_further(look: &Look<'_>, tested: &Branch, further: &mut Remarks) -> Result<(), AllocError> {
-    if !look.tree.is_loop(tested) {
-        return Ok(());
-    }
-    further.say(input_endless(look, tested))?;
-    further.say(only_in_if(look, tested))?;
-    if let Some(counted) = counter_of(look, tested) {
-        further.say(past_vector(look, &counted))?;
-        further.say(counts_away(look, &counted))?;
-        further.say(inner_once(look, &counted))?;
-    }
-    Ok(())
-}
-
-fn by_branch(look: &Look<'_>, branch: &Branch, remarks: &mut Remarks) -> Result<(), AllocError> {
-    match branch.node {
-        Node::Called => remarks.say(called(look, branch)),
-        Node::Indexed => remarks.say(indexed(look, branch)),
-        Node::Address => remarks.say(addressed(look, branch)),
-        Node::Returned => remarks.say(returned(look, branch)),
-        Node::Binary(op) => remarks.say(operated(look, branch, op)),
-        Node::Evaluated => remarks.say(overwritten(look, branch)),
-        Node::Tested if look.tree.is_loop(branch) => {
-            remarks.say(loop_end(look, &look.tree.branch(branch.left)))?;
-            remarks.say(unchanged(look, branch))
-        }
-        _ => Ok(()),
-    }
-}
-
-// A label `default` that nothing else names, where the other edition has a keyword.
-fn default_label(look: &Look<'_>, token: usize) -> Option<Remark> {
-    let tokens = look.tree.tokens;
-    if !tokens.is_word(token, "default") {
-        return None;
-    }
-    let mut mentions: u64 = 0;
-    for at in 0..tokens.len() {
-        if tokens.is_word(at, "default") {
-            mentions = mentions.saturating_add(1);
-        }
-    }
-    if mentions == 1 {
-        Remark::new(token, Warning::DefaultLabel)
-    } else {
-        None
-    }
 }

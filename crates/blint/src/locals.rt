@@ -1,4 +1,6 @@
 //! The names that a function declares, and what it does with them.
+use crate::calls::MOST_ARGUMENTS;
+use crate::counters::given_by;
 use crate::tree::{Branch, NONE, Tree};
 use blang::Keyword;
 use blex::Lexeme;
@@ -50,6 +52,8 @@ pub(crate) struct Local {
     pub inputs: u64,
     pub characters: u64,
     pub strings: u64,
+    /// How often a function takes it for a string: `char`, `putstr` and the like.
+    pub texts: u64,
     /// The first token before which something has set it.
     pub set_from: usize,
     /// Whether it is used before that.
@@ -81,6 +85,11 @@ impl Local {
             Node::Assigned(_) if is_left => self.count_given(tree, &parent),
             Node::Binary(op) if is_left => self.count_compared(tree, &parent, op),
             Node::Binary(op) => self.is_related = self.is_related || relates(op),
+            Node::Argument => {
+                if takes_string(tree, &parent) {
+                    self.texts = self.texts.saturating_add(1);
+                }
+            }
             Node::Not => self.is_asked = true,
             Node::Tested => self.is_asked = self.is_asked || !tree.is_loop(&parent),
             Node::Conditional if is_left => self.is_asked = true,
@@ -98,7 +107,7 @@ impl Local {
         if assigned.node != Node::Assigned(None) {
             return;
         }
-        let given = tree.branch(assigned.right);
+        let given = given_by(tree, assigned);
         if given.node == Node::Constant {
             self.constants = self.constants.saturating_add(1);
         }
@@ -154,6 +163,28 @@ impl Local {
     /// Whether it is a word of the function alone.
     pub(crate) fn is_own_word(&self) -> bool {
         matches!(self.role, NameRole::Parameter | NameRole::Auto)
+    }
+}
+
+// Whether an argument is the first one of a call of a function that takes a string.
+fn takes_string(tree: &Tree<'_>, argument: &Branch) -> bool {
+    let mut call = tree.branch(argument.parent);
+    for _ in 0..MOST_ARGUMENTS {
+        if call.node != Node::Argument {
+            break;
+        }
+        call = tree.branch(call.parent);
+    }
+    let is_first = tree.branch(argument.left).node == Node::NoArguments;
+    match tree.callee(&call) {
+        Some(name) => {
+            is_first
+                && matches!(
+                    name.as_str(),
+                    "char" | "lchar" | "length" | "putstr" | "getline" | "getstr" | "compare"
+                )
+        }
+        None => false,
     }
 }
 
@@ -256,6 +287,7 @@ impl Locals {
             inputs: 0,
             characters: 0,
             strings: 0,
+            texts: 0,
             set_from: if role == NameRole::Auto { NONE } else { 0 },
             is_unset: false,
         })?;
@@ -302,6 +334,16 @@ impl Locals {
             Some(local) if local.role == NameRole::Parameter => Some(*local),
             _ => None,
         }
+    }
+
+    /// Whether one of them is an automatic.
+    pub(crate) fn has_auto(&self) -> bool {
+        for local in &self.all {
+            if matches!(local.role, NameRole::Auto | NameRole::Vector(_)) {
+                return true;
+            }
+        }
+        false
     }
 
     /// Whether one of them is an external.

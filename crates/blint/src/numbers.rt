@@ -46,8 +46,8 @@ pub(crate) fn octal_in(tokens: &Tokens<'_>, remarks: &mut Remarks) -> Result<(),
     Ok(())
 }
 
-// Whether a number of two digits or more doesn't begin with 0, and is no base.
-fn is_decimal(tokens: &Tokens<'_>, token: usize) -> bool {
+/// Whether a number of two digits or more doesn't begin with 0, and is no base.
+pub(crate) fn is_decimal(tokens: &Tokens<'_>, token: usize) -> bool {
     let before = tokens.at(token.wrapping_sub(1));
     let is_base = before == Lexeme::Comma && tokens.after(token) == Lexeme::CloseParen;
     let bytes = tokens.bytes(token);
@@ -57,7 +57,8 @@ fn is_decimal(tokens: &Tokens<'_>, token: usize) -> bool {
         && !(is_base && tokens.at(token) == Lexeme::Number(10))
 }
 
-fn is_octal(tokens: &Tokens<'_>, token: usize) -> bool {
+/// Whether a number to the base 8 has two digits or more after its 0s.
+pub(crate) fn is_octal(tokens: &Tokens<'_>, token: usize) -> bool {
     matches!(tokens.at(token), Lexeme::Number(8..)) && tokens.bytes(token).first() == Some(&b'0')
 }
 

@@ -1,9 +1,10 @@
 //! Values and statements of which nothing comes.
 use crate::bounds::are_alike;
 use crate::linting::Look;
+use crate::locals::NameRole;
 use crate::remarks::Remark;
 use crate::tree::{Branch, Statement};
-use crate::warnings::Warning;
+use crate::warnings::{Slip, Warning};
 use blang::Keyword;
 use blex::Lexeme;
 use btree::{Construct, Node};
@@ -40,8 +41,8 @@ pub(crate) fn overwritten(look: &Look<'_>, evaluated: &Branch) -> Option<Remark>
     }
 }
 
-// What the plain statement right after another one evaluates.
-fn next_of(look: &Look<'_>, evaluated: &Branch) -> Option<Branch> {
+/// What the plain statement right after another one evaluates.
+pub(crate) fn next_of(look: &Look<'_>, evaluated: &Branch) -> Option<Branch> {
     let tree = look.tree;
     let (here, next) = (
         tree.statement(tree.around(evaluated.last)),
@@ -160,11 +161,41 @@ fn has_entry(look: &Look<'_>, statement: &Statement) -> bool {
     false
 }
 
-// The assignment that a statement is.
-fn stored(look: &Look<'_>, evaluated: &Branch) -> Option<Branch> {
+/// The assignment that a statement is.
+pub(crate) fn stored(look: &Look<'_>, evaluated: &Branch) -> Option<Branch> {
     let assigned = look.tree.branch(evaluated.left);
     match (evaluated.node, assigned.node) {
         (Node::Evaluated, Node::Assigned(None)) => Some(assigned),
         _ => None,
+    }
+}
+
+/// What is found of a value that a word gets before which a `*` stands, where an address is meant: `p = x; *p = 6;`.
+pub(crate) fn value_kept(look: &Look<'_>, assigned: &Branch) -> Option<Remark> {
+    let pointer = look.locals.of(look.tree, &look.tree.branch(assigned.left))?;
+    let given = look.tree.branch(assigned.right);
+    let value = look.locals.of(look.tree, &given)?;
+    let is_pointer = pointer.role == NameRole::Auto && pointer.pointed > 0 && pointer.sets == 1;
+    if is_pointer && value.role == NameRole::Auto && value.is_constant() && value.pointed == 0 {
+        Remark::new(given.token, Warning::Slip(Slip::ValueKept))
+    } else {
+        None
+    }
+}
+
+/// What is found of a statement that moves a parameter, which the function has nowhere else, and does nothing with the
+/// word there: `*p++;`.
+pub(crate) fn moves_address(look: &Look<'_>, evaluated: &Branch) -> Option<Remark> {
+    let tree = look.tree;
+    let word = tree.branch(evaluated.left);
+    let moved = tree.branch(word.left);
+    let is_moved = matches!(moved.node, Node::PostIncrement | Node::PostDecrement);
+    let name = tree.branch(moved.left);
+    let local = look.locals.of(tree, &name)?;
+    let is_alone = local.role == NameRole::Parameter && local.mentions == 1;
+    if word.node == Node::Indirection && is_moved && is_alone {
+        Remark::about(moved.token, Warning::Slip(Slip::MovesAddress), name.token)
+    } else {
+        None
     }
 }

@@ -1,0 +1,7 @@
+main() {
+    auto x;
+    x = getchar();
+    if(x == 'a') {
+        putchar('b');
+    )
+}

@@ -1,0 +1,301 @@
+//! Looking at a function with each finder.
+use crate::answers::newline_between;
+use crate::bounds::settled;
+use crate::calls::MOST_ARGUMENTS;
+use crate::calls::called;
+use crate::calls::calls_away;
+use crate::calls::calls_past;
+use crate::calls::counted_past;
+use crate::calls::same_arguments;
+use crate::calls::valued;
+use crate::cases::digit_compared;
+use crate::cases::not_assigned;
+use crate::cases::of_case;
+use crate::chains::dangling;
+use crate::chains::in_row;
+use crate::comparisons::operated;
+use crate::conditions::index_kept;
+use crate::conditions::only_in_if;
+use crate::conditions::tested_before;
+use crate::copies::copied_back;
+use crate::copies::copied_late;
+use crate::copies::same_now;
+use crate::counters::begins_anew;
+use crate::counters::counter_of;
+use crate::counters::counts_away;
+use crate::counters::inner_once;
+use crate::counters::never_again;
+use crate::counters::past_vector;
+use crate::counters::steps_past;
+use crate::declared::declared_in;
+use crate::divisors::both_evaluated;
+use crate::divisors::divided_by_one;
+use crate::divisors::remainder_kept;
+use crate::ends::loop_end;
+use crate::extremes::searched;
+use crate::functions::changes_nothing;
+use crate::jumps::begins_again;
+use crate::jumps::leaves_count_out;
+use crate::layout::indented;
+use crate::linting::Look;
+use crate::loops::input_endless;
+use crate::loops::unchanged;
+use crate::nested::not_set_back;
+use crate::nested::same_twice;
+use crate::nots::not_first;
+use crate::numbers::assigned;
+use crate::numbers::divided;
+use crate::numbers::multiplied;
+use crate::numbers::too_large;
+use crate::past_end::after_last;
+use crate::past_end::counts_end;
+use crate::reading::end_taken;
+use crate::reading::lost;
+use crate::remainders::below_zero;
+use crate::remarks::Remark;
+use crate::remarks::Remarks;
+use crate::rooms::too_small;
+use crate::stacks::popped;
+use crate::stores::moves_address;
+use crate::stores::not_reached;
+use crate::stores::overwritten;
+use crate::stores::put_back;
+use crate::stores::stored_back;
+use crate::stores::value_kept;
+use crate::strings::added;
+use crate::strings::character_counted;
+use crate::strings::character_for_number;
+use crate::strings::form_of;
+use crate::strings::names_compared;
+use crate::strings::word_stored;
+use crate::strings::word_taken;
+use crate::texts::compared_alone;
+use crate::texts::ended_by_zero;
+use crate::texts::newline_next;
+use crate::texts::not_ended;
+use crate::tree::Branch;
+use crate::turns::by_zero;
+use crate::turns::counts_first;
+use crate::turns::half_stays;
+use crate::turns::last_turn;
+use crate::turns::shared_counter;
+use crate::values::form_kinds;
+use crate::values::put_string;
+use crate::vectors::addressed;
+use crate::vectors::character_index;
+use crate::vectors::indexed;
+use crate::vectors::indexed_twice;
+use crate::vectors::never_set;
+use crate::vectors::reckoned;
+use crate::vectors::returned;
+use crate::vectors::vector_changed;
+use crate::warnings::Warning;
+use crate::whole::external_twice;
+use crate::whole::word_of_parameter;
+use crate::zeros::multiplied_zero;
+use crate::zeros::product_base;
+use crate::zeros::zero_after;
+use crate::zeros::zero_divisor;
+use btree::Construct;
+use btree::Node;
+use bword::BinOp;
+use std::alloc::AllocError;
+
+/// Says what is found of a function, by its branches and its statements.
+pub(crate) fn look_at(look: &Look<'_>, remarks: &mut Remarks) -> Result<(), AllocError> {
+    for branch in &look.tree.branches {
+        by_branch(look, branch, remarks)?;
+    }
+    for statement in &look.tree.statements {
+        remarks.say(indented(look, statement))?;
+        if statement.construct == Construct::Heading {
+            remarks.say(default_label(look, statement.first))?;
+        }
+    }
+    remarks.say(changes_nothing(look))?;
+    declared_in(look, remarks)
+}
+
+/// Says what is found beside it.
+pub(crate) fn look_further(look: &Look<'_>, further: &mut Remarks) -> Result<(), AllocError> {
+    for branch in &look.tree.branches {
+        further_by_branch(look, branch, further)?;
+    }
+    for statement in &look.tree.statements {
+        further.say(not_reached(look, statement))?;
+        match statement.construct {
+            Construct::Heading => {
+                further.say(of_case(look, statement))?;
+                further.say(begins_again(look, statement))?;
+            }
+            Construct::If => {
+                further.say(dangling(look, statement))?;
+                further.say(in_row(look, statement))?;
+                further.say(tested_before(look, statement))?;
+                further.say(index_kept(look, statement))?;
+                further.say(searched(look, statement))?;
+                further.say(last_turn(look, statement))?;
+            }
+            _ => {}
+        }
+    }
+    Ok(())
+}
+
+fn further_by_branch(
+    look: &Look<'_>,
+    branch: &Branch,
+    further: &mut Remarks,
+) -> Result<(), AllocError> {
+    match branch.node {
+        Node::Called => {
+            further.say(same_arguments(look, branch))?;
+            further.say(calls_away(look, branch))?;
+            further.say(calls_past(look, branch))?;
+            further.say(shared_counter(look, branch))?;
+            further.say(form_of(look, branch))?;
+            further.say(form_kinds(look, branch))?;
+            further.say(put_string(look, branch))?;
+            further.say(counted_past(look, branch))?;
+            values_of(look, branch, further)?;
+            further.say(after_last(look, branch))?;
+            further.say(not_ended(look, branch))?;
+            further.say(ended_by_zero(look, branch))?;
+            further.say(newline_next(look, branch))?;
+            further.say(too_small(look, branch))
+        }
+        Node::Binary(op) => {
+            further.say(settled(look, branch, op))?;
+            further.say(digit_compared(look, branch, op))?;
+            further.say(names_compared(look, branch, op))?;
+            further.say(character_counted(look, branch, op))?;
+            further.say(by_zero(look, branch, op))?;
+            further.say(reckoned(look, branch))?;
+            further.say(character_for_number(look, branch))?;
+            further.say(by_operator(look, branch, op))?;
+            further.say(below_zero(look, branch, op))?;
+            further.say(zero_divisor(look, branch, op))?;
+            further.say(zero_after(look, branch, op))?;
+            further.say(both_evaluated(look, branch, op))?;
+            further.say(not_first(look, branch, op))
+        }
+        Node::Assigned(None) => {
+            further.say(assigned(look, branch))?;
+            further.say(value_kept(look, branch))?;
+            further.say(half_stays(look, branch))?;
+            further.say(word_stored(look, branch))?;
+            further.say(word_taken(look, branch))?;
+            further.say(multiplied_zero(look, branch))?;
+            further.say(vector_changed(look, branch))
+        }
+        Node::Assigned(Some(_)) => {
+            further.say(reckoned(look, branch))?;
+            further.say(character_for_number(look, branch))?;
+            further.say(multiplied_zero(look, branch))?;
+            further.say(vector_changed(look, branch))
+        }
+        Node::PreIncrement | Node::PostIncrement | Node::PreDecrement | Node::PostDecrement =>
+            further.say(vector_changed(look, branch)),
+        Node::Returned => further.say(product_base(look, branch)),
+        Node::Evaluated => {
+            further.say(stored_back(look, branch))?;
+            further.say(put_back(look, branch))?;
+            further.say(copied_back(look, branch))?;
+            further.say(copied_late(look, branch))?;
+            further.say(same_now(look, branch))?;
+            further.say(moves_address(look, branch))?;
+            further.say(newline_between(look, branch))?;
+            further.say(begins_anew(look, branch))
+        }
+        Node::Indexed => {
+            further.say(indexed_twice(look, branch))?;
+            further.say(never_set(look, branch))?;
+            further.say(character_index(look, branch))?;
+            further.say(popped(look, branch))?;
+            further.say(same_twice(look, branch))?;
+            further.say(external_twice(look, branch))?;
+            further.say(word_of_parameter(look, branch))
+        }
+        Node::Tested => {
+            further.say(not_assigned(look, branch))?;
+            further.say(compared_alone(look, branch))?;
+            further.say(lost(look, branch))?;
+            further.say(end_taken(look, branch))?;
+            further.say(counts_end(look, branch))?;
+            loop_further(look, branch, further)
+        }
+        _ => Ok(()),
+    }
+}
+
+fn values_of(look: &Look<'_>, call: &Branch, further: &mut Remarks) -> Result<(), AllocError> {
+    for place in 0..look.tree.arguments(call).min(MOST_ARGUMENTS) {
+        further.say(valued(look, call, place))?;
+    }
+    Ok(())
+}
+
+fn by_operator(look: &Look<'_>, branch: &Branch, op: BinOp) -> Option<Remark> {
+    match op {
+        BinOp::Add => added(look, branch),
+        BinOp::Mul => multiplied(look, branch).or(too_large(look, branch)),
+        BinOp::Div => divided(look, branch),
+        _ => None,
+    }
+}
+
+fn loop_further(look: &Look<'_>, tested: &Branch, further: &mut Remarks) -> Result<(), AllocError> {
+    if !look.tree.is_loop(tested) {
+        return Ok(());
+    }
+    further.say(input_endless(look, tested))?;
+    further.say(only_in_if(look, tested))?;
+    further.say(not_set_back(look, tested))?;
+    further.say(never_again(look, tested))?;
+    further.say(counts_first(look, tested))?;
+    if let Some(counted) = counter_of(look, tested) {
+        further.say(past_vector(look, &counted))?;
+        further.say(counts_away(look, &counted))?;
+        further.say(steps_past(look, &counted))?;
+        further.say(inner_once(look, &counted))?;
+        further.say(remainder_kept(look, &counted))?;
+        further.say(leaves_count_out(look, &counted))?;
+        further.say(divided_by_one(look, &counted))?;
+    }
+    Ok(())
+}
+
+fn by_branch(look: &Look<'_>, branch: &Branch, remarks: &mut Remarks) -> Result<(), AllocError> {
+    match branch.node {
+        Node::Called => remarks.say(called(look, branch)),
+        Node::Indexed => remarks.say(indexed(look, branch)),
+        Node::Address => remarks.say(addressed(look, branch)),
+        Node::Returned => remarks.say(returned(look, branch)),
+        Node::Binary(op) => remarks.say(operated(look, branch, op)),
+        Node::Evaluated => remarks.say(overwritten(look, branch)),
+        Node::Tested if look.tree.is_loop(branch) => {
+            remarks.say(loop_end(look, &look.tree.branch(branch.left)))?;
+            remarks.say(unchanged(look, branch))
+        }
+        _ => Ok(()),
+    }
+}
+
+// A label `default` that nothing else names, where the other edition has a keyword.
+fn default_label(look: &Look<'_>, token: usize) -> Option<Remark> {
+    let tokens = look.tree.tokens;
+    if !tokens.is_word(token, "default") {
+        return None;
+    }
+    let mut mentions: u64 = 0;
+    for at in 0..tokens.len() {
+        if tokens.is_word(at, "default") {
+            mentions = mentions.saturating_add(1);
+        }
+    }
+    if mentions == 1 {
+        Remark::new(token, Warning::DefaultLabel)
+    } else {
+        None
+    }
+}
