@@ -1,0 +1,63 @@
+-- Closed facts: the machine into which words are stored.
+use Rattle.std.specs.Prelude.{◌≡◌, ℕ, List, [], ◌∷◌, map, Some, refl}
+use Rattle.blang.specs.Layout.{Exited, World}
+use Rattle.blang.specs.Machine.{Halted, Image, Loaded, Running, State, Stuck}
+use Rattle.blang.specs.declared.code.Instr.TheVariants as instr
+use Rattle.bsession.specs.SessionRuns.{StoredWord, WasClosed, WasFed, WasStored, all_stored, run_with, with_word_in}
+
+-- a program that puts word 3 of the store on its operands, in two steps, and then word 4
+abbrev main : Loaded
+main = record {
+  parameters = 0;
+  frame = 0;
+  targets = [];
+  code = instr.Constant 3 ∷ instr.Load ∷ instr.Constant 4 ∷ instr.Load ∷ instr.Return ∷ [];
+  strings = 8;
+  first_label = 1;
+}
+
+abbrev image : Image
+image = record {
+  functions = main ∷ [];
+  main = Some main;
+  words = 0 ∷ 1 ∷ 2 ∷ 3 ∷ 4 ∷ [];
+  data_end = 5;
+  addresses = [];
+}
+
+abbrev operands_of : State → List ℕ
+operands_of (Running call below w) = call.operands
+operands_of other = []
+
+abbrev stored : (after address word : ℕ) → StoredWord
+stored after address word = record { after = after; address = address; word = word }
+
+-- the operands after so many steps, with these words
+abbrev operands : List StoredWord → ℕ → List ℕ
+operands words n = operands_of (run_with image words [] n)
+
+-- A word is seen from the step on before which it was stored, and the last one of an address holds.
+none_stored : map (operands []) (0 ∷ 2 ∷ 4 ∷ []) ≡ ([] ∷ (3 ∷ []) ∷ (4 ∷ 3 ∷ []) ∷ [])
+none_stored = refl
+
+seen_later : map (λ after. operands (stored after 3 9 ∷ []) 4) (0 ∷ 1 ∷ 2 ∷ 4 ∷ [])
+    ≡ ((4 ∷ 9 ∷ []) ∷ (4 ∷ 9 ∷ []) ∷ (4 ∷ 3 ∷ []) ∷ (4 ∷ 3 ∷ []) ∷ [])
+seen_later = refl
+
+last_holds : operands (stored 1 3 9 ∷ stored 1 3 8 ∷ []) 2 ≡ 9 ∷ []
+last_holds = refl
+
+both_hold : operands (stored 3 4 9 ∷ stored 1 3 8 ∷ []) 4 ≡ 9 ∷ 8 ∷ []
+both_hold = refl
+
+last_first : all_stored (WasStored (stored 1 3 8) ∷ WasClosed ∷ WasFed (5 ∷ []) ∷ WasStored (stored 3 4 9) ∷ [])
+    ≡ stored 3 4 9 ∷ stored 1 3 8 ∷ []
+last_first = refl
+
+-- a run that is over stays so, with the word in its store
+abbrev world : (word : ℕ) → World
+world word = record { store = 0 ∷ word ∷ 2 ∷ []; input = 5 ∷ []; output = 6 ∷ [] }
+
+over_with_word : map (λ s. with_word_in s 1 9) (Halted (Exited 3) (world 1) ∷ Stuck (world 1) ∷ [])
+    ≡ (Halted (Exited 3) (world 9) ∷ Stuck (world 9) ∷ [])
+over_with_word = refl
