@@ -2,3 +2,4 @@ pub mod Hosting
 pub mod Refusing
 pub mod Boxes
 pub mod Loading
+pub mod Beginning

@@ -1,5 +1,5 @@
 -- Bytes that weren't fed for want of memory, as no bytes were fed: they were refused, or the input was closed.
-use Rattle.std.proofs.Common.{◌≡◌, ◌∙◌, ℕ, List, [], Option, Some, None, ap, refl}
+use Rattle.std.proofs.Common.{◌∙◌, ℕ, List, [], Option, Some, None, ap, refl}
 use Rattle.std.specs.Prelude.{⊤}
 use Rattle.std.proofs.lemmas.List.{append-nil}
 use Rattle.bsession.specs.Sessions.{SessionView}

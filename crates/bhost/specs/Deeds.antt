@@ -1,10 +1,12 @@
 -- Promise: what is done with a session that is held with its program.
 use Rattle.std.specs.Prelude.{◌≡◌, ◌⊎◌, ⊤, ℕ, List, [], ◌++◌, drop, take, false, true, IsSome, Option, Some, None}
-use Rattle.bsession.specs.Sessions.{BeginsSession, KeepsLimits, SessionContinues, SessionView, StartsNot, call_in, callers_in, stored_in, word_in}
+use Rattle.bsession.specs.Sessions.{BeginsSession, IsThere, KeepsLimits, SessionContinues, SessionView, StartsNot, call_in, callers_in, stored_in, word_in}
 use Rattle.bsession.specs.declared.session.SliceEnd.{SliceEnd}
 use Rattle.bmach.specs.declared.machine.Active.{Active}
 use Rattle.blang.specs.Machine.{Image}
 use Rattle.blang.specs.declared.run.Outcome.{Outcome}
+use Rattle.blang.specs.declared.run.Outcome.TheVariants as outcome
+use Rattle.blang.specs.declared.run.Trap.TheVariants as trap
 use Rattle.btools.specs.Functions.{Placed, function_with, functions_of, name_in}
 use Rattle.btools.specs.ProgramLines.{line_at, lined_functions}
 use Rattle.bhost.specs.Hosts.{LoadedValue}
@@ -19,10 +21,15 @@ Allows deed.Begin run = run ≡ None
 Allows (deed.Name strings) run = ⊤
 Allows other run = IsSome run
 
--- a run has begun, or hasn't, since there is no first step or memory was refused
+-- memory was refused, or the frame of the main function has no room
+abbrev pub LacksRoom : Outcome → Type 0
+LacksRoom why = (why ≡ outcome.Memory) ⊎ (why ≡ outcome.Trap trap.NoRoom)
+
+-- a run has begun, or hasn't, since its first frame has no room or memory was refused
 abbrev pub Begins : Image → (new : Option SessionView) → Answer → Type 0
 Begins image (Some h) told = BeginsSession image h × (told ≡ answer.Done)
-Begins image None told = (told ≡ answer.Refused) ⊎ ((why : Outcome) × (told ≡ answer.Unbegun why) × StartsNot image why)
+Begins image None told =
+    (told ≡ answer.Refused) ⊎ ((why : Outcome) × (told ≡ answer.Unbegun why) × StartsNot image why × LacksRoom why)
 
 -- the bytes come after those that were fed, or none where memory is refused; an input that was closed takes none
 abbrev pub IsFed : (old new : SessionView) → (bytes : List ℕ) → Answer → Type 0
@@ -40,7 +47,8 @@ IsTaken old new count taken other = ⊥
 
 -- a word is stored, unless memory is refused or the session is lost
 abbrev pub IsStored : (old new : SessionView) → (address word : ℕ) → Answer → Type 0
-IsStored old new address word answer.Done = new ≡ record old { state = stored_in old.state address word }
+IsStored old new address word answer.Done =
+    IsThere old.state × (new ≡ record old { state = stored_in old.state address word })
 IsStored old new address word answer.Refused = new ≡ old
 IsStored old new address word other = ⊥
 

@@ -1,8 +1,10 @@
 -- Closed facts: what is no answer of a session that is held with its program, and the statuses of all answers.
 use Rattle.std.specs.Prelude.{◌≡◌, ℕ, ◌+◌, [], ◌∷◌, map, false, true, None, Some, refl}
-use Rattle.std.proofs.Common.{ap, arith}
+use Rattle.std.proofs.Common.{ap, arith, inl, inr}
+use Rattle.blang.specs.Machine.{Image}
 use Rattle.blang.specs.declared.run.LoadFault.TheVariants as load
 use Rattle.blang.specs.declared.run.Outcome.TheVariants as outcome
+use Rattle.blang.specs.declared.run.Trap.{Trap}
 use Rattle.blang.specs.declared.run.Trap.TheVariants as trap
 use Rattle.blang.specs.declared.token.Diagnostic.{Diagnostic}
 use Rattle.bmach.specs.declared.machine.Active.{Active}
@@ -12,7 +14,7 @@ use Rattle.bsession.specs.declared.session.Held.TheVariants as held
 use Rattle.bsession.specs.declared.session.Limits.{Limits}
 use Rattle.bsession.specs.declared.session.SliceEnd.TheVariants as end
 use Rattle.btools.specs.declared.program.ProgramFault.TheVariants as fault
-use Rattle.bhost.specs.Deeds.{Acts, Does, IsFed, NamesFunction, IsTaken, stands_with, word_told}
+use Rattle.bhost.specs.Deeds.{Acts, Begins, Does, IsFed, IsStored, NamesFunction, IsTaken, stands_with, word_told}
 use Rattle.bhost.specs.Hosts.{LoadedValue}
 use Rattle.bhost.specs.Statuses.{answer_callers, answer_function, answer_line, answer_place, answer_status, answer_steps}
 use Rattle.bhost.specs.Statuses.{answer_value, answer_word, fault_status, name_status, trap_number}
@@ -33,6 +35,21 @@ not_begun begun = begun
 
 not_ended : Acts deed.End [] None (Some lost) None [] answer.Done → ⊥
 not_ended ended = ended
+
+-- a run that doesn't begin is over by no other trap than that its first frame has no room, and by no other end
+no_other_trap : (image : Image) (kind : Trap) → Begins image None (answer.Unbegun (outcome.Trap kind)) → kind ≡ trap.NoRoom
+no_other_trap image kind (inl refused) = cc
+no_other_trap image kind (inr (why, told, starts, inl memory)) = cc
+no_other_trap image kind (inr (why, told, starts, inr room)) = cc
+
+no_exit : (image : Image) (status : ℕ) → Begins image None (answer.Unbegun (outcome.Exit status)) → ⊥
+no_exit image status (inl refused) = cc
+no_exit image status (inr (why, told, starts, inl memory)) = cc
+no_exit image status (inr (why, told, starts, inr room)) = cc
+
+-- no word is stored in a session that is lost
+nothing_stored : IsStored lost lost 0 9 answer.Done → ⊥
+nothing_stored stored = stored.0
 
 -- an input that was closed takes no bytes
 closed_is_closed : IsFed lost lost (6 ∷ []) answer.Done → ⊥

@@ -1,9 +1,9 @@
 -- Two parts of a slice, one after the other, are one.
-use Rattle.std.proofs.Common.{◌≡◌, ◌∙◌, ℕ, ◌+◌, ◌<◌, ◌≤◌, true, false, None, List, [], ◌++◌, append-nil, append_assoc, ap, arith, length, refl, subst, sym}
+use Rattle.std.proofs.Common.{◌≡◌, ◌∙◌, ℕ, ◌+◌, ◌≤◌, true, false, None, List, [], ◌++◌, append-nil, append_assoc, ap, arith, length, refl, subst, sym}
 use Rattle.blang.specs.declared.run.Outcome.{Outcome}
 use Rattle.blang.specs.declared.run.Outcome.TheVariants as outcome
 use Rattle.blang.specs.Machine.{state_world, steps}
-use Rattle.bmach.specs.Slices.{after_pause, output_after}
+use Rattle.bmach.specs.Slices.{after_pause}
 use Rattle.bmach.specs.Stepping.{Paused, machine_at}
 use Rattle.bmach.proofs.Running.{steps_add}
 use Rattle.bsession.specs.Sessions.{EndsFor, Goes, HasImage, IsLostAfter, IsSessionOver, IsStateOf, KeepsLimits, MayCome, PassesAt, RunsAbove, SessionView, SliceComesTo, SliceMade, allowed, can_go_on, end_of, is_limit}
@@ -62,6 +62,13 @@ module _ (p q : Paused) (old mid new : SessionView) (n part : ℕ) (first : Slic
   lost_later : IsLostAfter q mid new part → IsLostAfter p old new n
   lost_later l = record {
     lost = l.lost;
+    same = l.same ∙ g.same;
+    limits = l.limits ∙ g.limits;
+    counted =
+        let more = l.counted in let few = more.1 in let after = more.2 in let first = g.counted in
+        (g.made + more.0, omega (arith, left, few), omega (arith, after, first));
+    taken = g.taken ++ l.taken;
+    read = g.read ∙ ap (λ u. g.taken ++ u) l.read ∙ sym (append_assoc g.taken l.taken new.unread);
     made = g.made + l.made;
     within = let within = l.within in omega (arith, left, within);
     last = g.made + l.last;

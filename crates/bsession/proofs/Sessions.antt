@@ -1,22 +1,21 @@
 -- What a slice of a run makes of a session.
-use Rattle.std.proofs.Common.{◌≡◌, ◌∙◌, ℕ, zero, suc, ◌+◌, ◌<◌, ◌≤◌, min, Bool, true, false, List, [], ◌∷◌, ◌++◌, Option, Some, None, append-nil, append_assoc, ap, arith, drop, length, refl, subst, sym, inl, inr, ⊎_elim}
+use Rattle.std.proofs.Common.{◌≡◌, ◌∙◌, ℕ, zero, suc, ◌+◌, ◌<◌, ◌≤◌, min, Bool, true, false, List, [], ◌∷◌, ◌++◌, Option, Some, None, append_assoc, ap, arith, drop, length, refl, sym, ⊎_elim}
 use Rattle.std.specs.Prelude.{if◌then◌else◌}
 use Rattle.std.proofs.lemmas.List.{length-append}
 use Rattle.std.specs.Io.KnownBytes.{Appends, Consumes, Keeps}
-use Rattle.bword.specs.ByteEnds.{Fails, Grew, Incoming, Kept, Took, most, outgoing_of}
+use Rattle.bword.specs.ByteEnds.{Incoming, Kept, outgoing_of}
 use Rattle.blang.specs.declared.run.Outcome.{Outcome}
 use Rattle.blang.specs.declared.run.Outcome.TheVariants as outcome
-use Rattle.blang.specs.Machine.{state_world, step, steps}
+use Rattle.blang.specs.Machine.{state_world, step}
 use Rattle.blang.specs.Reports.{Shows}
 use Rattle.bmach.specs.Slices.{BrokenAfter, IsOverWithin, SliceGives, WaitsAtRead, after_pause, output_after}
 use Rattle.bmach.specs.Stepping.{Paused, machine_at}
 use Rattle.bmach.specs.Steps.{world_with}
-use Rattle.bmach.specs.Stops.{RunsCall, active_of}
 use Rattle.bmach.specs.Turns.{MovesOn}
 use Rattle.bmach.specs.declared.machine.Stop.{Stop}
 use Rattle.bmach.proofs.Running.{one_more}
 use Rattle.bsession.specs.declared.session.Limits.{Limits}
-use Rattle.bsession.specs.Sessions.{Fed, SliceComesTo, Goes, SliceMade, SessionView, IsStateOf, IsSessionOver, IsLostAfter, Lost, Over, EndsFor, allowed, closed_mark, fed_incoming, end_of, state_after}
+use Rattle.bsession.specs.Sessions.{Fed, SliceComesTo, Goes, SliceMade, SessionView, IsSessionOver, IsLostAfter, Over, EndsFor, allowed, closed_mark, fed_incoming, end_of, state_after}
 
 read_before : (f g : Fed) (m : Option (List ℕ)) (taken : List ℕ) → Consumes (Some f.unread) m taken → Keeps m (Some g.unread)
     → f.unread ≡ taken ++ g.unread
@@ -189,10 +188,16 @@ module _ (p q : Paused) (f g : Fed) (o w : Kept) (taken made n : ℕ) (limits : 
   }
 
   -- memory was refused, and nothing of the output is lost
-  lost_gives : BrokenAfter p (allowed old n) (fed_incoming f) (fed_incoming g) (outgoing_of o) (outgoing_of w)
+  lost_gives : stop.steps ≤ allowed old n
+      → BrokenAfter p (allowed old n) (fed_incoming f) (fed_incoming g) (outgoing_of o) (outgoing_of w)
       → IsLostAfter p old (new outcome.Memory) n
-  lost_gives a = record {
+  lost_gives few a = record {
     lost = refl;
+    same = same;
+    limits = refl;
+    counted = (stop.steps, few, refl);
+    taken = a.taken;
+    read = a.took.bytes;
     made = a.made;
     within = a.within;
     last = a.last;
@@ -221,11 +226,11 @@ module _ (p q : Paused) (f g : Fed) (o w : Kept) (taken made n : ℕ) (limits : 
       can : (rest : List ℕ) → (f.is_closed ≡ true → rest ≡ []) → g.is_over ≡ true → g.unread ++ rest ≡ []
       can rest may = none_left g known rest (λ closed. may (sym same ∙ closed))
 
-  pub slice_gives : (r : Outcome) → stop.outcome ≡ r
+  pub slice_gives : (r : Outcome) → stop.outcome ≡ r → stop.steps ≤ allowed old n
       → SliceGives p q (allowed old n) (fed_incoming f) (fed_incoming g) (outgoing_of o) (outgoing_of w) stop r
       → SliceComesTo p old (new r) n (end_of r)
-  slice_gives outcome.Limit is h = limit_gives h
-  slice_gives outcome.Device is h = ⊎_elim wait_gives (λ failed. let grew = failed.0 in absurd (omega (arith, grew))) h
-  slice_gives (outcome.Exit status) is h = over_gives (outcome.Exit status) is refl h (over_by (outcome.Exit status) is refl h)
-  slice_gives (outcome.Trap kind) is h = over_gives (outcome.Trap kind) is refl h (over_by (outcome.Trap kind) is refl h)
-  slice_gives outcome.Memory is h = lost_gives h
+  slice_gives outcome.Limit is few h = limit_gives h
+  slice_gives outcome.Device is few h = ⊎_elim wait_gives (λ failed. let grew = failed.0 in absurd (omega (arith, grew))) h
+  slice_gives (outcome.Exit status) is few h = over_gives (outcome.Exit status) is refl h (over_by (outcome.Exit status) is refl h)
+  slice_gives (outcome.Trap kind) is few h = over_gives (outcome.Trap kind) is refl h (over_by (outcome.Trap kind) is refl h)
+  slice_gives outcome.Memory is few h = lost_gives few h

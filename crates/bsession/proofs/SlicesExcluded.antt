@@ -1,10 +1,9 @@
 -- What no slice of a program gives that halts with 0 in its second step, and reads nothing.
-use Rattle.std.proofs.Common.{◌≡◌, ◌∙◌, ℕ, zero, suc, ◌+◌, ◌<◌, ◌≤◌, false, List, [], ◌∷◌, ◌++◌, Some, ap, arith, refl, subst, sym}
+use Rattle.std.proofs.Common.{◌≡◌, ◌∙◌, ℕ, zero, suc, ◌+◌, false, List, [], ◌∷◌, ◌++◌, Some, ap, arith, refl, subst, sym}
 use Rattle.blang.specs.declared.code.Instr.TheVariants as instr
-use Rattle.blang.specs.declared.run.Outcome.{Outcome}
 use Rattle.blang.specs.declared.run.Outcome.TheVariants as outcome
 use Rattle.blang.specs.Layout.{Exited}
-use Rattle.blang.specs.Machine.{Call, Halted, Image, Loaded, Running, State, steps}
+use Rattle.blang.specs.Machine.{Halted, Image, Loaded, Running}
 use Rattle.blang.specs.Reports.{AsksForByte, Shows, state_outcome}
 use Rattle.bmach.specs.Slices.{after_pause}
 use Rattle.bmach.specs.Steps.{world_with}
@@ -12,7 +11,7 @@ use Rattle.bmach.specs.Stepping.{Paused, machine_at, operands_held}
 use Rattle.bmach.specs.Stops.{RunsCall}
 use Rattle.bmach.specs.declared.machine.Active.{Active}
 use Rattle.bmach.proofs.Running.{over_stays}
-use Rattle.bsession.specs.Sessions.{Goes, IsStateOf, KeepsLimits, SessionContinues, SessionView, SliceMade}
+use Rattle.bsession.specs.Sessions.{Goes, IsStateOf, KeepsLimits, SessionContinues, SessionView}
 use Rattle.bsession.specs.declared.session.Held.TheVariants as held
 use Rattle.bsession.specs.declared.session.SliceEnd.TheVariants as end
 

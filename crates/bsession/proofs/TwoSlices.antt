@@ -1,5 +1,5 @@
 -- Two slices and one of as many steps leave the same.
-use Rattle.std.proofs.Common.{◌≡◌, ◌∙◌, ℕ, ◌+◌, ◌≤◌, true, List, [], ◌++◌, append-nil, append_assoc, ap, arith, refl, subst, sym}
+use Rattle.std.proofs.Common.{◌≡◌, ◌∙◌, ℕ, ◌+◌, ◌≤◌, List, [], ◌++◌, append-nil, append_assoc, ap, arith, refl, subst, sym}
 use Rattle.bword.specs.ByteEnds.{most}
 use Rattle.blang.specs.Machine.{Halted, Running, State, Stuck, state_world, steps}
 use Rattle.bmach.specs.Slices.{after_pause}
@@ -7,8 +7,8 @@ use Rattle.bmach.specs.Steps.{world_with}
 use Rattle.bmach.specs.Stepping.{Paused, machine_at}
 use Rattle.bmach.specs.declared.advance.TheConstants.{MOST_STEPS}
 use Rattle.bmach.proofs.Running.{steps_add}
-use Rattle.bsession.specs.Sessions.{SessionContinues, Goes, SliceMade, SessionView, IsStateOf, HasImage, SessionState, allowed}
-use Rattle.bsession.specs.SessionRuns.{AreAlike, GoAlike, TwoAreOne}
+use Rattle.bsession.specs.Sessions.{SessionContinues, SliceMade, SessionView, IsStateOf, HasImage}
+use Rattle.bsession.specs.SessionRuns.{AreAlike, TwoAreOne}
 use Rattle.bsession.specs.declared.session.SliceEnd.TheVariants as end
 
 -- a state without its input and its output

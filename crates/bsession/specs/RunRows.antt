@@ -1,8 +1,9 @@
--- Closed facts: the machine into which words are stored.
+-- Closed facts: the machine into which words are stored, and what a session may hold at first.
 use Rattle.std.specs.Prelude.{◌≡◌, ℕ, List, [], ◌∷◌, map, Some, refl}
 use Rattle.blang.specs.Layout.{Exited, World}
 use Rattle.blang.specs.Machine.{Halted, Image, Loaded, Running, State, Stuck}
 use Rattle.blang.specs.declared.code.Instr.TheVariants as instr
+use Rattle.bsession.specs.Sessions.{no_limits}
 use Rattle.bsession.specs.SessionRuns.{StoredWord, WasClosed, WasFed, WasStored, all_stored, run_with, with_word_in}
 
 -- a program that puts word 3 of the store on its operands, in two steps, and then word 4
@@ -53,6 +54,10 @@ both_hold = refl
 last_first : all_stored (WasStored (stored 1 3 8) ∷ WasClosed ∷ WasFed (5 ∷ []) ∷ WasStored (stored 3 4 9) ∷ [])
     ≡ stored 3 4 9 ∷ stored 1 3 8 ∷ []
 last_first = refl
+
+-- a session may hold all at first
+may_hold_all : no_limits ≡ record { operands = 18446744073709551615; pages = 256; output = 18446744073709551615 }
+may_hold_all = refl
 
 -- a run that is over stays so, with the word in its store
 abbrev world : (word : ℕ) → World

@@ -79,7 +79,11 @@ session_view s f written taken steps limits = record {
   limits = limits;
 }
 
--- a session before the first step of a program, with no input yet
+-- a session may hold all that it can
+abbrev pub no_limits : Limits
+no_limits = record { operands = most; pages = 256; output = most }
+
+-- a session before the first step of a program, with no input yet, and without limits
 pub record BeginsSession (image : Image) (h : SessionView) : Type 0 where
   pub first : Paused
   pub stands : h.state ≡ Goes first
@@ -88,6 +92,7 @@ pub record BeginsSession (image : Image) (h : SessionView) : Type 0 where
   pub is_open : h.is_closed ≡ false
   pub output : h.output ≡ []
   pub steps : h.steps ≡ 0
+  pub limits : h.limits ≡ no_limits
 
 -- a program has no first step, or memory was refused
 abbrev pub StartsNot : Image → Outcome → Type 0
@@ -161,9 +166,14 @@ abbrev pub BeginsWith : (whole part : List ℕ) → Type 0
 BeginsWith whole part = (more : List ℕ) × (whole ≡ part ++ more)
 
 -- A session was lost in the step after so many. All of the output is there that the steps before it write, and of what it
--- writes itself a beginning at most.
+-- writes itself a beginning at most. Some of the input was read, and no more steps are counted than it may make.
 pub record IsLostAfter (p : Paused) (old new : SessionView) (n : ℕ) : Type 0 where
   pub lost : new.state ≡ Lost
+  pub same : new.is_closed ≡ old.is_closed
+  pub limits : new.limits ≡ old.limits
+  pub counted : (more : ℕ) × (more ≤ allowed old n) × (new.steps ≡ old.steps + more)
+  pub taken : List ℕ
+  pub read : old.unread ≡ taken ++ new.unread
   pub made : ℕ
   pub within : made ≤ allowed old n
   pub last : ℕ
@@ -267,6 +277,11 @@ abbrev pub word_in : SessionState → (address : ℕ) → Option ℕ
 word_in (Goes p) address = Some (slice_index p.store address)
 word_in (Over stop p) address = Some (slice_index p.store address)
 word_in Lost address = None
+
+-- a session that isn't lost
+abbrev pub IsThere : SessionState → Type 0
+IsThere Lost = ⊥
+IsThere other = ⊤
 
 -- a session with a word stored
 abbrev pub stored_in : SessionState → (address word : ℕ) → SessionState

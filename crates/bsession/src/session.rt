@@ -1,7 +1,7 @@
 //! A program that runs in slices.
 ghost use Rattle.std.specs.Prelude.{◌≡◌, ◌++◌, ◌-◌, ◌^◌, IfErr, MatchResult, OnErr, OnOk, drop, false, length, min, true};
 ghost use Rattle.bmach.specs.Stepping.{Paused};
-ghost use Rattle.bsession.specs.Sessions.{BeginsSession, Goes, IsGoing, KeepsLimits, PassesAt, SessionContinues, SliceComesTo, StartsNot, TellsClosed, call_in, callers_in, can_go_on, end_of, is_limit, state_after, state_of, stored_in, word_in};
+ghost use Rattle.bsession.specs.Sessions.{BeginsSession, Goes, IsGoing, IsThere, KeepsLimits, PassesAt, SessionContinues, SliceComesTo, StartsNot, TellsClosed, call_in, callers_in, can_go_on, end_of, is_limit, state_after, state_of, stored_in, word_in};
 ghost use Rattle.bsession.specs.declared.session.SliceEnd.TheVariants as end;
 
 use crate::feed::Feed;
@@ -312,6 +312,7 @@ impl<'a> Session<'a> {
 
     /// Puts a word at an address; nothing has changed where memory is refused, or if the session is lost.
     pub fn set_word(&mut self, address: u16, word: u16) -> Result<(), NoMemory>
+        ensures there { OnOk result (IsThere self.old.state) }
         ensures stored { OnOk result (self.new ≡ record self.old { state = stored_in self.old.state address word }) }
         ensures unchanged { OnErr result (self.new ≡ self.old) }
     {

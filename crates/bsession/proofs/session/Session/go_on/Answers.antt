@@ -1,6 +1,6 @@
-use Rattle.std.proofs.Common.{◌≡◌, ◌∙◌, ℕ, ◌+◌, ◌-◌, ◌≤◌, true, ap, arith, refl, subst, sym}
+use Rattle.std.proofs.Common.{◌≡◌, ◌∙◌, ◌+◌, ◌≤◌, ap, arith, subst, sym}
 use Rattle.blang.specs.declared.run.Outcome.TheVariants as outcome
-use Rattle.bsession.specs.Sessions.{SessionView, SliceComesTo, SliceMade, allowed, can_go_on, end_of, is_limit}
+use Rattle.bsession.specs.Sessions.{SessionView, SliceComesTo, SliceMade, allowed, end_of}
 use Rattle.bsession.specs.declared.session.Held.TheVariants as held
 use Rattle.bsession.specs.declared.session.SliceEnd.{SliceEnd}
 use Rattle.bsession.specs.declared.session.SliceEnd.TheVariants as end

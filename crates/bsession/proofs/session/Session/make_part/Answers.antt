@@ -1,5 +1,4 @@
-use Rattle.std.proofs.Common.{◌≡◌, ◌∙◌, ℕ, ◌+◌, ap, arith, drop, length, refl, subst, sym}
-use Rattle.std.specs.Prelude.{min}
+use Rattle.std.proofs.Common.{◌≡◌, ◌∙◌, ℕ, ◌+◌, ap, arith, drop, refl, subst, sym}
 use Rattle.bword.specs.ByteEnds.{outgoing_of}
 use Rattle.bmach.specs.Slices.{SliceGives}
 use Rattle.bmach.specs.Stepping.{Paused}
@@ -30,7 +29,7 @@ returns c p is =
     let first_is : first ≡ p = cc in
     let most : c.min-most.result ≡ allowed old n = let a = c.min.ensures in let b = c.min-most.ensures in omega (arith, a, b) in
     let gives = subst (λ (m : ℕ). SliceGives first q m (fed_incoming f) (fed_incoming g) (outgoing_of o) (outgoing_of w) stop stop.outcome) most c.slice-stop.ensures.gives in
-    let comes = slice_gives first q f g o w s.taken s.steps n s.limits stop c.self.invariant known (same_mark f g c.slice-stop.ensures.input) c.slice-stop.ensures.image stop.outcome refl gives in
+    let comes = slice_gives first q f g o w s.taken s.steps n s.limits stop c.self.invariant known (same_mark f g c.slice-stop.ensures.input) c.slice-stop.ensures.image stop.outcome refl (let few = c.slice-stop.ensures.within in omega (arith, few, most)) gives in
     subst (λ (h : SessionView). SliceComesTo p h
     (record { state = state_of c.end_part.new.stand; unread = g.unread; is_closed = g.is_closed; output = drop c.taken_of-self-inside.result w.bytes; steps = s.steps + stop.steps; limits = s.limits }) n (end_of stop.outcome)) old_is
     (subst (λ (p : Paused). SliceComesTo p old

@@ -1,5 +1,5 @@
-use Rattle.std.proofs.Common.{◌≡◌, ◌∙◌, ◌<◌, ◌≤◌, None, Some, ap, arith, drop, length, subst, sym}
-use Rattle.bsession.specs.Sessions.{HoldsNoMore, PassesAt, SessionView, session_view, state_of}
+use Rattle.std.proofs.Common.{◌≡◌, ◌∙◌, None, Some, ap, arith, drop, length, subst, sym}
+use Rattle.bsession.specs.Sessions.{PassesAt, SessionView, session_view, state_of}
 use Rattle.bsession.specs.declared.session.Held.TheVariants as held
 use Rattle.bsession.specs.declared.session.Stand.{Stand}
 use Rattle.bsession.proofs.session.Session.passed.Goals as goal
