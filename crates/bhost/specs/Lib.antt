@@ -4,3 +4,4 @@ pub mod Hosts
 pub mod Deeds
 pub mod Statuses
 mod HostRows
+mod NameRows
