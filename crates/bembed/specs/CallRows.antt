@@ -1,5 +1,5 @@
 -- Closed facts: the editions by their numbers, the streams over texts and rooms, and what is run over them.
-use Rattle.std.specs.Prelude.{◌≡◌, ℕ, List, [], ◌∷◌, map, Some, None, false, true, refl}
+use Rattle.std.specs.Prelude.{◌≡◌, ℕ, List, [], ◌∷◌, codes, map, Some, None, false, true, refl}
 use Rattle.std.proofs.Common.{◌∙◌, arith, sym}
 use Rattle.std.proofs.lemmas.Str.{is_utf8-from_IsUtf8}
 use Rattle.std.specs.Str.{chars, is_utf8}
@@ -29,6 +29,7 @@ use Rattle.bembed.specs.Calls.{CompilesIn, GoesIn, LocatesIn, MigratesIn, RunsIn
 use Rattle.bembed.specs.Looks.{CountsWhole, ListsWhole, MapsWhole, ShowsWhole, TracesWhole, rows_of, style_of}
 use Rattle.bembed.specs.Wholes.{Whole, alone, whole_of}
 use Rattle.bembed.specs.WithFiles.{AreNamed, AskedWith, ChecksWhole, CompilesWhole, GoesWhole, done, text_of, unread}
+use Rattle.bembed.specs.declared.asking.TheConstants.{VERSION}
 use Rattle.bembed.specs.declared.joined.NamedFile.{NamedFile}
 use Rattle.bembed.specs.Rooms.{Filled, FailsFull, Overflow, Room, Untouched, overflow_of, room_of, stream_of}
 
@@ -168,6 +169,10 @@ formatted f = f.formats
 format_given : Format.is_check
     (format_of editions.Two (97 ∷ []) (stream [] 0) (stream [] 0) (stream [] 0) (stream [] 0) 0) ≡ false
 format_given = refl
+
+-- the version of this library
+version : VERSION.now ≡ codes "1.0.0, proved with the Rattle logic dac8208d650f15bf"
+version = refl
 
 said : (s : SaysIn (97 ∷ []) (two 1) (record { before = []; after = []; count = 0 }) 0)
     → Reported (97 ∷ []) 0 (stream [] 0) (stream_of (two 1) s.out_over) 0

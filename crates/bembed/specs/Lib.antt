@@ -8,3 +8,4 @@ pub mod Sessions
 mod CallRows
 pub mod RoomsExcluded
 mod SessionRows
+mod ListRows
