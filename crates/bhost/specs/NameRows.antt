@@ -41,7 +41,8 @@ no_lines = refl
 nothing_named : frames_named (function 0 [] ∷ []) (line.Function (codes "f") ∷ []) ≡ names [] [] ∷ []
 nothing_named = refl
 
-not_its_own : frames_named (function 0 [] ∷ []) (line.Function (codes "f") ∷ line.Word (codes "a") ∷ []) ≡ names [] [] ∷ []
+not_its_own : frames_named (function 0 [] ∷ []) (line.Function (codes "f") ∷ line.Word (codes "a") ∷ [])
+    ≡ names [] [] ∷ []
 not_its_own = refl
 
 a_label_alone : frames_named (function 0 (3 ∷ []) ∷ []) (line.Function (codes "f") ∷ line.Label (codes "l") ∷ [])
