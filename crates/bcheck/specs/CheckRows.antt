@@ -111,18 +111,21 @@ warning_codes : map warning_code (
     warning.ValueForAddress ∷ warning.CharacterCounted ∷ warning.SlashEscape ∷ warning.WordCalled ∷
     warning.SomeReturn ∷ warning.QuotientCut ∷ warning.FirstTurnOnly ∷ warning.StringMoved ∷
     warning.TestedBefore ∷ warning.OnlyInIf ∷ warning.IndexKept ∷ warning.OwnResultDropped ∷
-    warning.Slip slip.VectorAssigned ∷ warning.Slip slip.VectorCopied ∷ warning.Slip slip.SameNow ∷ warning.Slip slip.CopiedLate ∷
-    warning.Slip slip.OtherExtreme ∷ warning.Slip slip.LeastFromZero ∷ warning.Slip slip.LargestFromZero ∷ warning.Slip slip.NotKept ∷
-    warning.Slip slip.SameTwice ∷ warning.Slip slip.NotSetBack ∷ warning.Slip slip.AfterLast ∷ warning.Slip slip.NotEnded ∷
-    warning.Slip slip.ComparedAlone ∷ warning.Slip slip.NewlineNext ∷ warning.Slip slip.PopsAbove ∷ warning.Slip slip.WordForAddress ∷
-    warning.Slip slip.CharacterLost ∷ warning.Slip slip.CharacterForString ∷ warning.Slip slip.NumberForString ∷ warning.Slip slip.FormKind ∷
-    warning.Slip slip.CallsAway ∷ warning.Slip slip.StepsPast ∷ warning.Slip slip.NeverAgain ∷ warning.Slip slip.LastTurnOnly ∷
+    warning.Slip slip.VectorAssigned ∷ warning.Slip slip.VectorCopied ∷ warning.Slip slip.SameNow ∷
+    warning.Slip slip.CopiedLate ∷ warning.Slip slip.OtherExtreme ∷ warning.Slip slip.LeastFromZero ∷
+    warning.Slip slip.LargestFromZero ∷ warning.Slip slip.NotKept ∷ warning.Slip slip.SameTwice ∷
+    warning.Slip slip.NotSetBack ∷ warning.Slip slip.AfterLast ∷ warning.Slip slip.NotEnded ∷
+    warning.Slip slip.ComparedAlone ∷ warning.Slip slip.NewlineNext ∷ warning.Slip slip.PopsAbove ∷
+    warning.Slip slip.WordForAddress ∷ warning.Slip slip.CharacterLost ∷ warning.Slip slip.CharacterForString ∷
+    warning.Slip slip.NumberForString ∷ warning.Slip slip.FormKind ∷ warning.Slip slip.CallsAway ∷
+    warning.Slip slip.StepsPast ∷ warning.Slip slip.NeverAgain ∷ warning.Slip slip.LastTurnOnly ∷
     warning.Slip slip.DividesByZero ∷ warning.Slip slip.CountsFirst ∷ warning.Slip slip.ValueKept ∷
-    warning.Slip slip.VectorReckoned ∷ warning.Slip slip.CountsEnd ∷ warning.Slip slip.SameAsked ∷ warning.Slip slip.WordStored ∷
-    warning.Slip slip.RemainderBelow ∷ warning.Slip slip.RoomTooSmall ∷ warning.Slip slip.NotFirst ∷
-    warning.Slip slip.ProductOfZero ∷ warning.Slip slip.BaseOfZero ∷ warning.Slip slip.ZeroDivisor ∷
-    warning.Slip slip.RemainderKept ∷ warning.Slip slip.DividedByOne ∷ warning.Slip slip.SetLater ∷ warning.Slip slip.ZeroEnd ∷
-    warning.Slip slip.CallsPast ∷ warning.Slip slip.CharacterIndex ∷ warning.Slip slip.HalfStays ∷ warning.Slip slip.NextPast ∷
+    warning.Slip slip.VectorReckoned ∷ warning.Slip slip.CountsEnd ∷ warning.Slip slip.SameAsked ∷
+    warning.Slip slip.WordStored ∷ warning.Slip slip.RemainderBelow ∷ warning.Slip slip.RoomTooSmall ∷
+    warning.Slip slip.NotFirst ∷ warning.Slip slip.ProductOfZero ∷ warning.Slip slip.BaseOfZero ∷
+    warning.Slip slip.ZeroDivisor ∷ warning.Slip slip.RemainderKept ∷ warning.Slip slip.DividedByOne ∷
+    warning.Slip slip.SetLater ∷ warning.Slip slip.ZeroEnd ∷ warning.Slip slip.CallsPast ∷
+    warning.Slip slip.CharacterIndex ∷ warning.Slip slip.HalfStays ∷ warning.Slip slip.NextPast ∷
     warning.Slip slip.EndTaken ∷ warning.Slip slip.LeavesCountOut ∷ warning.Slip slip.BeginsAgain ∷
     warning.Slip slip.BothEvaluated ∷ warning.Slip slip.ZeroAfter ∷ warning.Slip slip.SharedCounter ∷
     warning.Slip slip.MovesAddress ∷ []
