@@ -99,6 +99,9 @@ note_sentence kind.Bracket = codes "no bracket fits this one: port changes nothi
 note_sentence kind.Called = codes "(*f)() calls the function in the word at f: f() calls the one in f"
 note_sentence kind.Sign = codes "this sign is one of another form, and stays"
 note_sentence kind.Zero = codes "the input ends with '*e' here, and not with 0"
+note_sentence kind.Held = codes "this is the address of the function's word: (*f)() calls it, and f() doesn't"
+note_sentence kind.Sizes = codes "a vector has one index: write v[5] for v[2][3], and v[3 * i + k] for v[i][k]"
+note_sentence kind.Negated = codes "write while(!(x)) for until(x), and if(!(x)) for unless(x)"
 
 -- what is told of a note: the file, the line, and the sentence
 abbrev pub note_text : (file source : List ℕ) → Note → List ℕ

@@ -26,7 +26,6 @@ pub(crate) fn calls(
                 ended(source, draft, index, Row::InputEnd)?;
             }
             b"char" if has_strings => ended(source, draft, index, Row::StringEnd)?,
-            b"*" if is_called(source, index) => draft.note(source, index, NoteKind::Called)?,
             _ => {}
         }
     }
@@ -87,16 +86,6 @@ fn base(source: &Source<'_>, draft: &mut Draft, index: usize) -> Result<(), Allo
         return draft.insert(source.start(source.partner(open)), b", 10", Row::Base);
     }
     Ok(())
-}
-
-// Whether what a name points to is called.
-fn is_called(source: &Source<'_>, index: usize) -> bool {
-    let name = index.wrapping_add(1);
-    let close = name.wrapping_add(1);
-    source.is(index.wrapping_sub(1), b"(")
-        && source.is_name(name)
-        && source.is(close, b")")
-        && source.is(close.wrapping_add(1), b"(")
 }
 
 // Keeps the name that the value of a call is stored in.
@@ -177,7 +166,7 @@ fn is_truth(source: &Source<'_>, unit: Unit) -> bool {
 
 // Whether a parenthesis begins the condition of a statement.
 fn is_condition(source: &Source<'_>, open: usize) -> bool {
-    matches!(source.word(open.wrapping_sub(1)), b"if" | b"while")
+    matches!(source.head_word(open.wrapping_sub(1)), b"if" | b"while")
 }
 
 // Whether it is the test of a `for`: no statement is a character of a string.

@@ -1,7 +1,9 @@
 //! The definitions of an old source.
 use crate::edit::between;
+use crate::externals::{is_text, variables};
 use crate::headers::{knr, parameters};
 use crate::names::{Constants, is_type};
+use crate::pointers::pointed;
 use crate::row::{NoteKind, Row};
 use crate::source::{Draft, Source};
 use crate::table::{NONE, filled, put, slot};
@@ -17,6 +19,13 @@ pub(crate) struct Function {
     pub end: usize,
 }
 
+/// An external: its name, and the token after its sizes and its initial values.
+#[derive(Clone, Copy)]
+pub(crate) struct External {
+    pub name: usize,
+    pub end: usize,
+}
+
 /// What is known of the definitions of a source.
 #[derive(Drop)]
 pub(crate) struct Outline {
@@ -27,6 +36,8 @@ pub(crate) struct Outline {
     pub gone: Vec<usize>,
     /// The names of externals and functions.
     pub externals: Vec<usize>,
+    /// The externals that are no functions.
+    pub variables: Vec<External>,
 }
 
 impl Outline {
@@ -34,7 +45,14 @@ impl Outline {
         slot(&self.gone, index) != NONE
     }
 
-    fn take(&mut self, first: usize, last: usize) {
+    /// Adds an external, with the token after its values.
+    pub(crate) fn add(&mut self, name: usize, end: usize) -> Result<(), AllocError> {
+        self.variables.push(External { name, end })?;
+        Ok(())
+    }
+
+    /// Notes that tokens are taken out.
+    pub(crate) fn take(&mut self, first: usize, last: usize) {
         for index in first..last.saturating_add(1).min(self.gone.len()) {
             put(&mut self.gone, index, 0);
         }
@@ -54,6 +72,7 @@ pub(crate) fn outline_of(
         owners: filled(alloc, count)?,
         gone: filled(alloc, count)?,
         externals: Vec::new(alloc),
+        variables: Vec::new(alloc),
     };
     let mut next: usize = 0;
     for at in 0..count {
@@ -86,7 +105,7 @@ fn definition(
         _ => {}
     }
     let name = after_types(source, at);
-    if !source.is_name(name) {
+    if !source.is_name(name) || source.is(at, b"(") {
         return Ok(next);
     }
     let sign = name.wrapping_add(1);
@@ -104,7 +123,8 @@ fn is_manifest(source: &Source<'_>, index: usize) -> bool {
     source.is_open_brace(index) || source.is_name(index) && source.is(sign, b"=")
 }
 
-fn after(index: usize) -> usize {
+/// The token after one, if there is that one.
+pub(crate) fn after(index: usize) -> usize {
     if index == NONE {
         NONE
     } else {
@@ -112,11 +132,18 @@ fn after(index: usize) -> usize {
     }
 }
 
-/// The first token after types and stars.
+/// The first token after types and stars, or the name in `(*name)(..)` after these.
 pub(crate) fn after_types(source: &Source<'_>, at: usize) -> usize {
+    if source.is(at, b"(") && pointed(source, at) != NONE {
+        return pointed(source, at);
+    }
     for index in at..source.tokens.len() {
         let word = source.word(index);
-        let is_call = source.is(index.wrapping_add(1), b"(");
+        let next = index.wrapping_add(1);
+        let is_call = source.is(next, b"(");
+        if is_call && (matches!(word, b"*") || is_type(word)) && pointed(source, next) != NONE {
+            return pointed(source, next);
+        }
         if !matches!(word, b"*") && (!is_type(word) || is_call) {
             return index;
         }
@@ -289,132 +316,6 @@ fn headless(
 ) -> Result<usize, AllocError> {
     draft.insert(source.end(name), b"()", Row::Head)?;
     add_function(source, found, name, NONE, name.wrapping_add(1))
-}
-
-// Externals.
-fn variables(
-    source: &Source<'_>,
-    draft: &mut Draft,
-    found: &mut Outline,
-    at: usize,
-    name: usize,
-) -> Result<usize, AllocError> {
-    let last = source.semicolon(at);
-    if last == NONE {
-        return Ok(name.wrapping_add(1));
-    }
-    let is_typed = name != at;
-    if is_typed {
-        draft.remove(source, at, name, Row::Type)?;
-        types(source, draft, at, name)?;
-    }
-    found.externals.push(name)?;
-    text_name(source, draft, at, name)?;
-    let mut next = name;
-    let mut depth: usize = 0;
-    for index in name..last {
-        if index < next {
-            continue;
-        }
-        let word = source.word(index);
-        match word {
-            b"{" | b"$(" => depth = depth.saturating_add(1),
-            b"}" | b"$)" => depth = depth.saturating_sub(1),
-            b"," if is_typed && depth == 0 => {
-                let other = after_types(source, index.wrapping_add(1));
-                draft.replace(source, index, b";", Row::Type)?;
-                found.externals.push(other)?;
-                text_name(source, draft, at, other)?;
-            }
-            _ => {}
-        }
-        next = value_token(source, draft, found, index, last)?;
-    }
-    Ok(after(last))
-}
-
-// Takes the brackets out that a name of characters has before a string.
-fn text_name(
-    source: &Source<'_>,
-    draft: &mut Draft,
-    at: usize,
-    name: usize,
-) -> Result<(), AllocError> {
-    let open = name.wrapping_add(1);
-    if !source.is(at, b"char") || source.is(name.wrapping_sub(1), b"*") || !is_text(source, name) {
-        return Ok(());
-    }
-    let end = source.end(open.wrapping_add(1));
-    draft.put(source.start(open), end, b"", Row::Text)
-}
-
-// Whether a name has empty brackets and one string for its value.
-fn is_text(source: &Source<'_>, name: usize) -> bool {
-    let open = name.wrapping_add(1);
-    let close = open.wrapping_add(1);
-    let sign = close.wrapping_add(1);
-    let value = if source.is(sign, b"=") {
-        sign.wrapping_add(1)
-    } else {
-        sign
-    };
-    source.is(open, b"[")
-        && source.is(close, b"]")
-        && source.kind(value) == Some(TokenKind::String)
-        && matches!(source.word(value.wrapping_add(1)), b";" | b",")
-}
-
-// Edits a token of a definition of externals, and tells the next one.
-fn value_token(
-    source: &Source<'_>,
-    draft: &mut Draft,
-    found: &mut Outline,
-    index: usize,
-    last: usize,
-) -> Result<usize, AllocError> {
-    let next = index.wrapping_add(1);
-    match source.word(index) {
-        b"[" => return Ok(source.partner(index).min(last)),
-        b"=" | b"{" | b"}" | b"$(" | b"$)" => {
-            draft.remove(source, index, next, Row::Value)?;
-            found.take(index, index);
-        }
-        b"*" => {
-            draft.remove(source, index, next, Row::Type)?;
-            found.take(index, index);
-        }
-        b"-" if source.kind(next) == Some(TokenKind::Number) => {
-            negative(source, draft, found, index)?;
-        }
-        _ => {}
-    }
-    Ok(next)
-}
-
-// Writes a negative number as the word that it is.
-pub(crate) fn negative(
-    source: &Source<'_>,
-    draft: &mut Draft,
-    found: &mut Outline,
-    index: usize,
-) -> Result<(), AllocError> {
-    let next = index.wrapping_add(1);
-    let mut value: u64 = 0;
-    for byte in source.word(next) {
-        if !byte.is_ascii_digit() {
-            return draft.note(source, index, NoteKind::Number);
-        }
-        value = value
-            .saturating_mul(10)
-            .saturating_add((*byte - b'0') as u64);
-    }
-    if value == 0 || value > 32768 {
-        return draft.note(source, index, NoteKind::Large);
-    }
-    found.take(index, next);
-    let mut text = btools::Text::new(draft.alloc);
-    text.push_number(65536 - value)?;
-    draft.put_text(source.start(index), source.end(next), text, Row::Number)
 }
 
 /// Tells what types say that isn't so here.

@@ -1,6 +1,7 @@
 //! The parameters of functions.
 use crate::definitions::types;
 use crate::names::is_type;
+use crate::pointers::{is_typed, pointed, pointed_end};
 use crate::row::Row;
 use crate::source::{Draft, Source};
 use crate::table::NONE;
@@ -19,7 +20,12 @@ pub(crate) fn parameters(
     for index in open.saturating_add(1)..close.min(source.tokens.len()) {
         let next = index.wrapping_add(1);
         let word = source.word(index);
-        if matches!(word, b"[") {
+        if matches!(word, b"(") && pointed(source, index) != NONE {
+            draft.remove(source, index, next, Row::Parameters)?;
+        } else if matches!(word, b")") && pointed(source, source.partner(index)) != NONE {
+            let end = source.end(pointed_end(source, source.partner(index)));
+            draft.put(source.start(index), end, b"", Row::Parameters)?;
+        } else if matches!(word, b"[") {
             let end = source.partner(index).min(close);
             draft.put(source.start(index), source.end(end), b"", Row::Parameters)?;
         } else if matches!(word, b"*") || is_type(word) {
@@ -39,7 +45,7 @@ pub(crate) fn knr(
     let mut at = from;
     for _ in 0..MOST_DECLARATIONS {
         let last = source.semicolon(at);
-        if !is_type(source.word(at)) || source.is_call(at) || last == NONE {
+        if !is_type(source.word(at)) || !is_typed(source, at) || last == NONE {
             break;
         }
         types(source, draft, at, at.wrapping_add(1))?;

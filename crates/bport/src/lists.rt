@@ -62,8 +62,8 @@ fn list_of(source: &Source<'_>, name: usize, end: usize) -> Option<ValueList> {
     })
 }
 
-// How many values are between braces, if these are all alike: none is empty, and none has brackets.
-fn values_in(source: &Source<'_>, open: usize, close: usize) -> Option<u64> {
+/// How many values are between braces, if these are all alike: none is empty, and none has brackets.
+pub(crate) fn values_in(source: &Source<'_>, open: usize, close: usize) -> Option<u64> {
     let mut count: u64 = 0;
     let mut first = open.wrapping_add(1);
     for index in first..close.wrapping_add(1) {

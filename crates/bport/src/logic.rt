@@ -280,7 +280,8 @@ fn is_truth(source: &Source<'_>, first: usize, end: usize) -> bool {
         b"?" => true,
         b")" => {
             let open = before.wrapping_sub(1);
-            source.partner(end) == before && matches!(source.word(open), b"if" | b"while" | b"!")
+            source.partner(end) == before
+                && matches!(source.head_word(open), b"if" | b"while" | b"!")
         }
         _ => false,
     }

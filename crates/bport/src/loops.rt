@@ -83,7 +83,7 @@ fn leave(arounds: &mut Vec<Around>, index: usize) {
 }
 
 fn loop_at(source: &Source<'_>, found: &mut Loops, index: usize) -> Option<Around> {
-    match source.word(index) {
+    match source.head_word(index) {
         b"while" if found.is_tail(index) => None,
         b"while" | b"for" => Some(Around {
             label: index,

@@ -1,6 +1,7 @@
 //! Externals that a function has without saying so.
 use crate::definitions::{Function, Outline, after_types};
 use crate::names::{has_name, is_keyword, is_type};
+use crate::pointers::is_typed;
 use crate::row::{NoteKind, Row};
 use crate::source::{Draft, Source};
 use crate::statements::declarator_end;
@@ -101,7 +102,7 @@ fn declared(
 fn declarators(source: &Source<'_>, known: &mut Known, index: usize, number: usize, end: usize) {
     let word = source.word(index);
     let is_external = matches!(word, b"extrn" | b"extern");
-    let is_typed = is_type(word) && !source.is_call(index);
+    let is_typed = is_type(word) && is_typed(source, index);
     let last = source.semicolon(index);
     let begins = is_external || is_typed || matches!(word, b"auto");
     let is_after = source.begins_statement(index) || source.is(index.wrapping_sub(1), b")");

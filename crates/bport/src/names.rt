@@ -1,10 +1,13 @@
 //! Names and numbers that are written otherwise here.
 use crate::apply::apply;
+use crate::calls::defines;
+use crate::definitions::Outline;
 use crate::quotes::quoted;
 use crate::row::{NoteKind, Row};
 use crate::source::{Dialect, Draft, Source};
-use crate::table::{slot, word_of};
+use crate::table::{NONE, filled, put, slot, word_of};
 use crate::tokens::{Token, TokenKind, tokens_of};
+use crate::turned::Turned;
 use crate::within::places_of;
 use btools::Text;
 use bword::Edition;
@@ -110,6 +113,7 @@ impl Constants {
             firsts: &[],
             edition: Edition::One,
             dialect: Dialect::Either,
+            turned: Turned::none(),
         };
         let mut draft = Draft::new(self.alloc);
         for index in 0..tokens.len() {
@@ -232,22 +236,39 @@ pub(crate) fn name(
         b"EOF" => draft.replace(source, index, b"'*e'", Row::InputEnd),
         b"NULL" => draft.replace(source, index, b"0", Row::Constant),
         _ => match short.get(slot(source.firsts, index)) {
-            Some(Some(text)) => draft.replace(source, index, text.as_slice(), Row::Name),
+            Some(Some(text)) => {
+                let row = if is_short(word) {
+                    Row::Taken
+                } else {
+                    Row::Name
+                };
+                draft.replace(source, index, text.as_slice(), row)
+            }
             _ => Ok(()),
         },
     }
 }
 
-/// For each token that is the first one with a name of too many letters, or of letters that none has, another name.
+/// For each token that is the first one with a name of too many letters, of letters that none has, or of a function
+/// that the other files have, too, another name.
 pub(crate) fn short_names(
     alloc: Global,
     source: &Source<'_>,
     others: &Source<'_>,
+    outline: &Outline,
 ) -> Result<Vec<Option<Text>>, AllocError> {
+    let mut taken = filled(alloc, source.tokens.len())?;
+    for function in &outline.functions {
+        let word = source.word(function.name);
+        if !matches!(word, b"main") && defines(others, word) {
+            put(&mut taken, slot(source.firsts, function.name), 0);
+        }
+    }
     let mut short: Vec<Option<Text>> = Vec::new(alloc);
     for index in 0..source.tokens.len() {
         let mut found = None;
-        if slot(source.firsts, index) == index && !is_short(source.word(index)) {
+        let is_free = is_short(source.word(index)) && slot(&taken, index) == NONE;
+        if slot(source.firsts, index) == index && !is_free {
             found = short_name(alloc, source, others, &short, index)?;
         }
         short.push(found)?;
@@ -318,7 +339,12 @@ fn is_given(short: &[Option<Text>], name: &[u8]) -> bool {
 
 /// Whether a word is a keyword here, or a function of the library.
 fn is_reserved(word: &[u8]) -> bool {
-    word.is_empty() || is_keyword(word) || is_one_of(word, LIBRARY.as_slice())
+    word.is_empty() || is_keyword(word) || is_library(word)
+}
+
+/// Whether a word is the name of a function of the library.
+pub(crate) fn is_library(word: &[u8]) -> bool {
+    is_one_of(word, LIBRARY.as_slice())
 }
 
 /// Whether a word is a keyword here, or in another form of the language.

@@ -3,6 +3,7 @@ use crate::shape::{partners_of, semicolons_of};
 use crate::source::{Dialect, Source};
 use crate::table::{first_names, word_of};
 use crate::tokens::{Token, tokens_of};
+use crate::turned::Turned;
 use crate::within::{Within, places_of};
 use bword::Edition;
 use std::alloc::{AllocError, Global};
@@ -45,6 +46,7 @@ impl SourceParts {
             firsts: &self.firsts,
             edition,
             dialect: dialect_of(text, &self.tokens),
+            turned: Turned::of(text, &self.tokens, &self.partners),
         }
     }
 }

@@ -9,11 +9,14 @@ use crate::calls::{calls, without_base};
 use crate::definitions::{Outline, outline_of};
 use crate::edit::{Edit, are_sound, fits};
 use crate::expressions::{exclusive_assignment, exclusive_or, is_joined, may_wrap, sign};
+use crate::grids::edit_grids;
+use crate::holders::{edit_holders, tell_holders};
 use crate::logic::signs;
 use crate::loops::loops_of;
 use crate::mentions::{heap, mentions};
 use crate::names::{Constants, name, number, short_names};
 use crate::parts::SourceParts;
+use crate::pointers::pointer_calls;
 use crate::quotes::quoted;
 use crate::remarks::remarks;
 use crate::row::{Note, NoteKind};
@@ -24,6 +27,7 @@ use crate::staying::{has_refused, tell_old};
 use crate::streams::streams;
 use crate::table::NONE;
 use crate::tokens::TokenKind;
+use crate::turned::turned_head;
 use crate::within::{Within, places_of};
 use btools::{Origin, ProgramFault, Text, read_program};
 use bword::Edition;
@@ -64,7 +68,7 @@ pub fn port_text(
     match read_program(alloc, whole.as_slice(), Origin::Source(edition)) {
         Ok(_) => {
             let mut kept = unchanged(alloc, source, true)?;
-            kept.notes = plain_notes(alloc, source)?;
+            kept.notes = plain_notes(alloc, source, rest)?;
             Ok(kept)
         }
         Err(ProgramFault::Memory) => Err(AllocError),
@@ -89,7 +93,7 @@ fn unchanged(alloc: Global, source: &[u8], is_program: bool) -> Result<Ported, A
 }
 
 // What a source that stays as it is may not mean, each once.
-fn plain_notes(alloc: Global, source: &[u8]) -> Result<Vec<Note>, AllocError> {
+fn plain_notes(alloc: Global, source: &[u8], rest: &[u8]) -> Result<Vec<Note>, AllocError> {
     let mut draft = Draft::new(alloc);
     let places = places_of(alloc, source)?;
     let has_heap = has_word(source, b"givevec(");
@@ -99,7 +103,7 @@ fn plain_notes(alloc: Global, source: &[u8]) -> Result<Vec<Note>, AllocError> {
             draft.note_first(at, kind)?;
         }
     }
-    plain_tokens(alloc, source, &mut draft)?;
+    plain_tokens(alloc, source, rest, &mut draft)?;
     let Draft {
         alloc: _,
         edits: _,
@@ -109,9 +113,21 @@ fn plain_notes(alloc: Global, source: &[u8]) -> Result<Vec<Note>, AllocError> {
     Ok(notes)
 }
 
-fn plain_tokens(alloc: Global, text: &[u8], draft: &mut Draft) -> Result<(), AllocError> {
+fn plain_tokens(
+    alloc: Global,
+    text: &[u8],
+    rest: &[u8],
+    draft: &mut Draft,
+) -> Result<(), AllocError> {
     let parts = SourceParts::of(alloc, text)?;
+    let others = SourceParts::of(alloc, rest)?;
     let bare = parts.source(text, Edition::One);
+    let ends = ends_of(alloc, &bare)?;
+    let source = Source {
+        ends: &ends,
+        ..bare
+    };
+    tell_holders(alloc, &source, &others.source(rest, Edition::One), draft)?;
     if let Some(call) = without_base(&bare) {
         draft.note(&bare, call, NoteKind::Base)?;
     }
@@ -261,7 +277,8 @@ fn draft_words(
     constants: &Constants,
     outline: &Outline,
 ) -> Result<(), AllocError> {
-    let short = short_names(alloc, source, others)?;
+    let short = short_names(alloc, source, others, outline)?;
+    let held = edit_holders(alloc, source, others, draft, outline, &short)?;
     for index in 0..source.tokens.len() {
         if !outline.is_gone(index) {
             token(source, draft, constants, &short, index)?;
@@ -269,6 +286,8 @@ fn draft_words(
     }
     calls(alloc, source, others, draft)?;
     streams(source, others, draft)?;
+    pointer_calls(alloc, source, draft, outline, &held)?;
+    edit_grids(alloc, source, draft, outline)?;
     mentions(alloc, source, draft, outline, &short)?;
     heap(source, others, draft, outline)
 }
@@ -313,6 +332,7 @@ fn token(
     index: usize,
 ) -> Result<(), AllocError> {
     match source.kind(index) {
+        Some(TokenKind::Name) if source.is_turned(index) => turned_head(source, draft, index),
         Some(TokenKind::Name) => name(source, draft, constants, short, index),
         Some(TokenKind::Number) => number(source, draft, index),
         Some(TokenKind::Char | TokenKind::String) => quoted(source, draft, index),

@@ -99,7 +99,7 @@ pub(crate) fn ends_of(alloc: Global, source: &Source<'_>) -> Result<Vec<usize>, 
 
 fn end_of(source: &Source<'_>, ends: &[usize], index: usize) -> usize {
     let next = index.wrapping_add(1);
-    match source.word(index) {
+    match source.head_word(index) {
         b"{" | b"$(" => next_of(source.partner(index)),
         b"}" | b"$)" => index,
         b"if" => after_else(source, ends, after_head(source, ends, next)),

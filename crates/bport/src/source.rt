@@ -3,6 +3,7 @@ use crate::edit::{Edit, between, is_free};
 use crate::row::{Note, NoteKind, Row};
 use crate::table::{NONE, slot, word_of};
 use crate::tokens::{Token, TokenKind};
+use crate::turned::{Turned, has_body};
 use crate::within::Within;
 use btools::Text;
 use bword::Edition;
@@ -24,6 +25,7 @@ pub(crate) struct Source<'a> {
     pub firsts: &'a [usize],
     pub edition: Edition,
     pub dialect: Dialect,
+    pub turned: Turned,
 }
 
 /// Of which form of the language a source is.
@@ -39,6 +41,29 @@ impl<'a> Source<'a> {
     /// The bytes of a token, or none.
     pub(crate) fn word(&self, index: usize) -> &'a [u8] {
         word_of(self.text, self.tokens, index)
+    }
+
+    /// The same, where `until` and `unless` that begin statements are `while` and `if`.
+    pub(crate) fn head_word(&self, index: usize) -> &'a [u8] {
+        match self.word(index) {
+            b"until" if self.turned.until => b"while",
+            b"unless" if self.turned.unless => b"if",
+            word => word,
+        }
+    }
+
+    /// Whether a token is one of these two.
+    pub(crate) fn is_turned(&self, index: usize) -> bool {
+        match self.word(index) {
+            b"until" => self.turned.until,
+            b"unless" => self.turned.unless,
+            _ => false,
+        }
+    }
+
+    /// Whether parentheses come after a word, and then a statement.
+    pub(crate) fn has_body(&self, index: usize) -> bool {
+        has_body(self.text, self.tokens, self.partners, index)
     }
 
     pub(crate) fn is(&self, index: usize, word: &[u8]) -> bool {
@@ -118,7 +143,7 @@ impl<'a> Source<'a> {
     pub(crate) fn is_head(&self, close: usize) -> bool {
         let open = self.partner(close);
         matches!(
-            self.word(open.wrapping_sub(1)),
+            self.head_word(open.wrapping_sub(1)),
             b"if" | b"while" | b"for" | b"switch"
         )
     }
@@ -224,6 +249,11 @@ impl Draft {
             return self.note(source, first, NoteKind::Remark);
         }
         self.insert(source.start(first), b"/* ", row)?;
+        for index in first..last.saturating_add(1).min(source.tokens.len()) {
+            if is_other(source.word(index)) {
+                self.replace(source, index, source.word(index), row)?;
+            }
+        }
         self.insert(source.end(last), b" */", row)
     }
 
@@ -258,6 +288,14 @@ impl Draft {
         self.notes.push(Note { start, kind })?;
         Ok(())
     }
+}
+
+// Whether a sign is one of another form.
+fn is_other(word: &[u8]) -> bool {
+    matches!(
+        word,
+        b"$(" | b"$)" | b"&&" | b"||" | b"+=" | b"-=" | b"*=" | b"/=" | b"%="
+    )
 }
 
 /// Whether the end of a comment is among bytes.

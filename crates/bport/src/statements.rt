@@ -1,11 +1,14 @@
 //! Statements that are written otherwise here.
 use crate::apply::render;
-use crate::definitions::{Outline, after_types, negative, types};
+use crate::definitions::{Outline, after_types, types};
 use crate::edit::is_free;
+use crate::externals::negative;
+use crate::grids::is_grid;
 use crate::lists::listed;
 use crate::logic::after_part;
 use crate::loops::{Loops, do_loop, for_loop, repeat, turn, while_loop};
 use crate::names::is_type;
+use crate::pointers::{pointed, pointer};
 use crate::row::{NoteKind, Row};
 use crate::shape::case_colon;
 use crate::sizes::{external_size, local_size};
@@ -28,7 +31,7 @@ pub(crate) fn statement(
     index: usize,
 ) -> Result<(), AllocError> {
     let next = index.wrapping_add(1);
-    match source.word(index) {
+    match source.head_word(index) {
         b"return" => return_value(source, draft, index),
         b"for" => for_loop(source, draft, loops, index),
         b"do" => do_loop(source, draft, loops, index),
@@ -41,6 +44,9 @@ pub(crate) fn statement(
                 source.partner(next).wrapping_add(1),
             )
         }
+        b"until" | b"unless" if source.has_body(index) && is_owned(outline, index) => {
+            draft.note(source, index, NoteKind::Negated)
+        }
         b"repeat" => repeat(source, draft, loops, index),
         b"continue" | b"next" => turn(source, draft, loops, index),
         b"switch" => switch(source, draft, index),
@@ -48,13 +54,18 @@ pub(crate) fn statement(
         b"break" | b"default" => newer(source, draft, index),
         b"extern" | b"extrn" => external(source, draft, index),
         b"auto" => locals(source, draft, next, next),
-        b"[" if slot(&outline.owners, index) == NONE => external_size(source, draft, index),
+        b"[" if !is_owned(outline, index) => external_size(source, draft, index),
         b":" if source.is_close_brace(next) && ends_label(source, index) => {
             draft.insert(source.end(index), b" ;", Row::Empty)
         }
         word if is_type(word) => declaration(source, draft, outline, index),
         _ => Ok(()),
     }
+}
+
+// Whether a token stands in the statement of a function.
+fn is_owned(outline: &Outline, index: usize) -> bool {
+    slot(&outline.owners, index) != NONE
 }
 
 fn ends_label(source: &Source<'_>, colon: usize) -> bool {
@@ -108,6 +119,9 @@ fn case(
     let first = index.wrapping_add(1);
     let sign = first.wrapping_add(1);
     let last = sign.wrapping_add(1);
+    if matches!(source.word(first), b"<" | b"<=" | b">" | b">=") {
+        return draft.note(source, first, NoteKind::Range);
+    }
     if source.is(first, b"-") && source.kind(sign) == Some(TokenKind::Number) {
         return negative(source, draft, outline, first);
     }
@@ -195,7 +209,7 @@ fn declaration(
 ) -> Result<(), AllocError> {
     let name = after_types(source, index);
     let last = source.semicolon(index);
-    let is_inside = slot(&outline.owners, index) != NONE && !outline.is_gone(index);
+    let is_inside = is_owned(outline, index) && !outline.is_gone(index);
     let is_typed = name != index && source.is_name(name) && last != NONE;
     if !is_inside || !is_typed || !source.begins_statement(index) {
         return Ok(());
@@ -265,8 +279,12 @@ fn local(
     end: usize,
 ) -> Result<(), AllocError> {
     let name = after_types(source, from);
-    if name != from && source.is(from, b"*") {
+    let open = name.wrapping_sub(2);
+    if name != from && matches!(source.word(from), b"*" | b"(") {
         draft.remove(source, from, name, Row::Type)?;
+    }
+    if pointed(source, open) == name && name != NONE {
+        return pointer(source, draft, values, open, end);
     }
     let sign = name.wrapping_add(1);
     match source.word(sign) {
@@ -284,7 +302,7 @@ fn vector(
     name: usize,
     end: usize,
 ) -> Result<(), AllocError> {
-    if listed(source, draft, values, name, end)? {
+    if is_grid(source, name) || listed(source, draft, values, name, end)? {
         return Ok(());
     }
     let size = name.wrapping_add(2);

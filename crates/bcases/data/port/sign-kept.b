@@ -1,2 +1,2 @@
 EQ = 1 && 2;
-main() ;
+main() { auto a; a =*= 2; }

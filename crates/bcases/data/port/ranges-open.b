@@ -1,0 +1,6 @@
+main() {
+    switch(getchar()) {
+    case < 'a': putchar('l'); break;
+    case >= 'a': putchar('m');
+    }
+}

@@ -1,0 +1,218 @@
+//! Names of words that hold functions, declared as `(*name)(..)`.
+use crate::apply::render;
+use crate::definitions::{Function, Outline};
+use crate::names::is_type;
+use crate::row::{NoteKind, Row};
+use crate::shape::{is_closing, is_opening};
+use crate::sizes::told_size;
+use crate::source::{Draft, Source};
+use crate::table::{NONE, filled, put, slot};
+use btools::Text;
+use std::alloc::{AllocError, Global};
+
+/// The name in `(*name)(..)` or `(*name[..])(..)`, which begins with this token, or `NONE`.
+pub(crate) fn pointed(source: &Source<'_>, open: usize) -> usize {
+    let name = open.wrapping_add(2);
+    let close = source.partner(open);
+    let is_star = source.is_open_paren(open)
+        && source.is(open.wrapping_add(1), b"*")
+        && !source.is_head(close);
+    let is_whole = source.is_name(name) && after_index(source, name) == close;
+    if is_star && is_whole && source.is_open_paren(close.wrapping_add(1)) {
+        name
+    } else {
+        NONE
+    }
+}
+
+/// The token after a name, or after the brackets that come after it.
+pub(crate) fn after_index(source: &Source<'_>, name: usize) -> usize {
+    let next = name.wrapping_add(1);
+    if source.is(next, b"[") {
+        source.partner(next).wrapping_add(1)
+    } else {
+        next
+    }
+}
+
+/// The last token of `(*name)(..)`, which begins with this one.
+pub(crate) fn pointed_end(source: &Source<'_>, open: usize) -> usize {
+    source.partner(source.partner(open).wrapping_add(1))
+}
+
+/// Whether no call begins with a word that begins types.
+pub(crate) fn is_typed(source: &Source<'_>, index: usize) -> bool {
+    !source.is_call(index) || pointed(source, index.wrapping_add(1)) != NONE
+}
+
+/// Whether a token is one of the names of a declaration, or of an initial value there, within so many brackets.
+#[derive(Clone, Copy)]
+pub(crate) struct Declaring {
+    pub has_names: bool,
+    has_value: bool,
+    depth: usize,
+}
+
+impl Declaring {
+    pub(crate) fn none() -> Self {
+        Declaring {
+            has_names: false,
+            has_value: false,
+            depth: 0,
+        }
+    }
+
+    fn names() -> Self {
+        Declaring {
+            has_names: true,
+            ..Declaring::none()
+        }
+    }
+
+    fn value(depth: usize) -> Self {
+        Declaring {
+            has_names: false,
+            has_value: true,
+            depth,
+        }
+    }
+
+    /// The same for a token, from that of the token before it.
+    pub(crate) fn at(self, source: &Source<'_>, index: usize) -> Self {
+        let word = source.word(index);
+        match word {
+            b";" => Declaring::none(),
+            b"auto" => Declaring::names(),
+            b"=" if self.has_names => Declaring::value(0),
+            b"{" if self.has_names && !source.is(index.wrapping_sub(1), b")") => Declaring::value(
+                1,
+            ),
+            b"," if self.has_value && self.depth == 0 => Declaring::names(),
+            _ if self.has_value && is_opening(word) => {
+                Declaring::value(self.depth.saturating_add(1))
+            }
+            _ if self.has_value && is_closing(word) => {
+                Declaring::value(self.depth.saturating_sub(1))
+            }
+            b"{" | b"}" | b"$(" | b"$)" => Declaring::none(),
+            _ if is_type(word) && is_typed(source, index) => Declaring::names(),
+            _ => self,
+        }
+    }
+}
+
+/// A word of a function that is declared as `(*name)(..)`: the name alone, with its size, and its value as a statement.
+pub(crate) fn pointer(
+    source: &Source<'_>,
+    draft: &mut Draft,
+    values: &mut Text,
+    open: usize,
+    end: usize,
+) -> Result<(), AllocError> {
+    let name = open.wrapping_add(2);
+    let next = name.wrapping_add(1);
+    let sign = pointed_end(source, open).wrapping_add(1);
+    let last = end.wrapping_sub(1);
+    let mut text = Text::new(draft.alloc);
+    if source.is(next, b"[") {
+        let size = told_size(source, draft, next)?;
+        let Some(size) = size else {
+            return draft.note(source, name, NoteKind::Called);
+        };
+        text.push(b" ")?;
+        text.push_number(size)?;
+    }
+    if sign != end {
+        if source.is(next, b"[") || !source.is(sign, b"=") || !source.is_plain(sign, last) {
+            return draft.note(source, name, NoteKind::Called);
+        }
+        let own = rendered(source, draft, name, name)?;
+        let value = rendered(source, draft, sign, last)?;
+        values.push(b" ")?;
+        values.push(own.as_slice())?;
+        values.push(b" ")?;
+        values.push(value.as_slice())?;
+        values.push(b";")?;
+    }
+    draft.put_text(source.end(name), source.end(last), text, Row::Type)
+}
+
+// The text from a token to another one, with the edits so far.
+fn rendered(
+    source: &Source<'_>,
+    draft: &Draft,
+    first: usize,
+    last: usize,
+) -> Result<Text, AllocError> {
+    let (start, end) = (source.start(first), source.end(last));
+    render(draft.alloc, source.text, &draft.edits, start, end)
+}
+
+/// Names by their first tokens: externals declared so, those that hold addresses of functions' words, and for each
+/// name the last function that has declared it so.
+#[derive(Drop)]
+struct Known {
+    externals: Vec<usize>,
+    holders: Vec<usize>,
+    locals: Vec<usize>,
+}
+
+/// Edits calls of what such names hold, and tells those of others.
+pub(crate) fn pointer_calls(
+    alloc: Global,
+    source: &Source<'_>,
+    draft: &mut Draft,
+    outline: &Outline,
+    holders: &[usize],
+) -> Result<(), AllocError> {
+    let mut known = Known {
+        externals: filled(alloc, source.tokens.len())?,
+        holders: filled(alloc, source.tokens.len())?,
+        locals: filled(alloc, source.tokens.len())?,
+    };
+    for name in holders {
+        put(&mut known.holders, slot(source.firsts, *name), 0);
+    }
+    for external in &outline.variables {
+        let open = external.name.wrapping_sub(2);
+        if pointed(source, open) == external.name {
+            put(&mut known.externals, slot(source.firsts, external.name), 0);
+        }
+    }
+    for number in 0..outline.functions.len() {
+        calls_in(source, draft, &mut known, outline.functions[number], number)?;
+    }
+    Ok(())
+}
+
+// The calls in a function.
+fn calls_in(
+    source: &Source<'_>,
+    draft: &mut Draft,
+    known: &mut Known,
+    function: Function,
+    number: usize,
+) -> Result<(), AllocError> {
+    let mut declaring = Declaring::none();
+    for index in function.open.min(function.body)..function.end.min(source.tokens.len()) {
+        declaring = declaring.at(source, index);
+        let name = pointed(source, index);
+        let first = slot(source.firsts, name);
+        let star = index.wrapping_add(1);
+        if name == NONE || first == NONE {
+            continue;
+        }
+        if declaring.has_names {
+            put(&mut known.locals, first, number);
+        } else if slot(&known.locals, first) == number {
+            draft.remove(source, star, name, Row::Called)?;
+        } else if slot(&known.holders, first) != NONE {
+            continue;
+        } else if slot(&known.externals, first) != NONE {
+            draft.remove(source, star, name, Row::Called)?;
+        } else {
+            draft.note(source, star, NoteKind::Called)?;
+        }
+    }
+    Ok(())
+}
