@@ -279,7 +279,9 @@ fn function_head(
     parameters(source, draft, open, close)?;
     let body = knr(source, draft, next)?;
     found.take(next, body.wrapping_sub(1));
-    if source.is(name, b"main") && close != open.wrapping_add(1) {
+    let first = open.wrapping_add(1);
+    let is_void = source.is(first, b"void") && close == first.wrapping_add(1);
+    if source.is(name, b"main") && close != first && !is_void {
         draft.note(source, name, NoteKind::Arguments)?;
     }
     add_function(source, found, name, open, body)

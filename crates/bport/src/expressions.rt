@@ -1,6 +1,8 @@
 //! Operators that are written otherwise here.
 use crate::apply::render;
-use crate::names::is_keyword;
+use crate::definitions::{after_types, types};
+use crate::names::{is_keyword, is_type};
+use crate::pointers::ends_operand;
 use crate::row::{NoteKind, Row};
 use crate::shape::is_opening;
 use crate::source::{Dialect, Draft, Source};
@@ -15,6 +17,7 @@ pub(crate) fn sign(source: &Source<'_>, draft: &mut Draft, index: usize) -> Resu
         b"$(" => draft.replace(source, index, b"{", Row::Brackets),
         b"$)" => draft.replace(source, index, b"}", Row::Brackets),
         b"~" => complement(source, draft, index),
+        b"(" if is_cast(source, index) => cast(source, draft, index),
         b"->" => draft.note(source, index, NoteKind::Structure),
         b"+=" | b"-=" | b"*=" | b"/=" | b"%=" | b"&=" | b"|=" | b"<<=" | b">>=" => {
             assignment(source, draft, index)
@@ -28,6 +31,48 @@ pub(crate) fn sign(source: &Source<'_>, draft: &mut Draft, index: usize) -> Resu
 /// Whether a sign right after `=` may be that of an operand.
 pub(crate) fn is_joined(source: &Source<'_>, index: usize) -> bool {
     matches!(source.word(index), b"=-" | b"=*" | b"=&") && is_tight(source, index)
+}
+
+/// Whether a parenthesis begins a type of an operand, as `(int)`.
+pub(crate) fn is_cast(source: &Source<'_>, open: usize) -> bool {
+    let before = open.wrapping_sub(1);
+    let close = source.partner(open);
+    let first = open.wrapping_add(1);
+    let is_operand = ends_operand(source, before) || is_type(source.word(before));
+    source.is_open_paren(open)
+        && !is_operand
+        && is_type(source.word(first))
+        && after_types(source, first) == close
+        && begins_operand(source, close.wrapping_add(1))
+}
+
+fn begins_operand(source: &Source<'_>, index: usize) -> bool {
+    match source.kind(index) {
+        Some(TokenKind::Sign) => {
+            matches!(
+                source.word(index),
+                b"(" | b"-" | b"*" | b"&" | b"!" | b"~" | b"++" | b"--"
+            )
+        }
+        Some(_) => true,
+        None => false,
+    }
+}
+
+// Takes the type of an operand out. Without it a sign could be that of an assignment operator.
+fn cast(source: &Source<'_>, draft: &mut Draft, open: usize) -> Result<(), AllocError> {
+    let first = open.wrapping_add(1);
+    let close = source.partner(open);
+    let next = close.wrapping_add(1);
+    types(source, draft, first, close)?;
+    if !source.is_plain(open, next) {
+        return draft.note(source, open, NoteKind::Remark);
+    }
+    let words: &[u8] = match source.kind(next) {
+        Some(TokenKind::Sign) if !source.is(next, b"(") => b" ",
+        _ => b"",
+    };
+    draft.put(source.start(open), source.start(next), words, Row::Type)
 }
 
 // Whether a token comes right after this one.

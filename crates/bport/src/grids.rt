@@ -1,5 +1,5 @@
 //! Vectors of vectors, of which each becomes one vector.
-use crate::definitions::Outline;
+use crate::definitions::{Function, Outline};
 use crate::lists::values_in;
 use crate::logic::after_part;
 use crate::pointers::Declaring;
@@ -20,6 +20,8 @@ struct Grids {
     declared: Vec<usize>,
     /// For each one that stays any token with it.
     odd: Vec<usize>,
+    /// For each one the last function whose head declares it.
+    heads: Vec<usize>,
     /// For each token in a declaration of such a name, or among names of externals, what it is there.
     roles: Vec<usize>,
 }
@@ -54,12 +56,11 @@ pub(crate) fn edit_grids(
         widths: filled(alloc, count)?,
         declared: filled(alloc, count)?,
         odd: filled(alloc, count)?,
+        heads: filled(alloc, count)?,
         roles: filled(alloc, count)?,
     };
-    for function in &outline.functions {
-        for index in function.open.min(function.body)..function.body {
-            put(&mut found.roles, index, PARAMETER);
-        }
+    for number in 0..outline.functions.len() {
+        parameters(source, &mut found, outline.functions[number], number);
     }
     declarations(source, draft, outline, &mut found)?;
     for index in 0..count {
@@ -72,6 +73,23 @@ pub(crate) fn edit_grids(
         edited(source, draft, outline, &found, index)?;
     }
     Ok(())
+}
+
+// Notes the head of a function. A parameter that isn't declared so there stays, and all with its name.
+fn parameters(source: &Source<'_>, found: &mut Grids, function: Function, number: usize) {
+    let first = function.open.min(function.body);
+    for index in first..function.body {
+        put(&mut found.roles, index, PARAMETER);
+        if is_grid(source, index) {
+            put(&mut found.heads, slot(source.firsts, index), number);
+        }
+    }
+    for index in first..function.body {
+        let name = slot(source.firsts, index);
+        if slot(&found.heads, name) != number {
+            put(&mut found.odd, name, index);
+        }
+    }
 }
 
 // Finds the declarations of such names.

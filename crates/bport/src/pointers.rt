@@ -1,7 +1,8 @@
 //! Names of words that hold functions, declared as `(*name)(..)`.
 use crate::apply::render;
 use crate::definitions::{Function, Outline};
-use crate::names::is_type;
+use crate::expressions::is_cast;
+use crate::names::{is_keyword, is_type};
 use crate::row::{NoteKind, Row};
 use crate::shape::{is_closing, is_opening};
 use crate::sizes::told_size;
@@ -16,12 +17,22 @@ pub(crate) fn pointed(source: &Source<'_>, open: usize) -> usize {
     let close = source.partner(open);
     let is_star = source.is_open_paren(open)
         && source.is(open.wrapping_add(1), b"*")
-        && !source.is_head(close);
+        && !source.is_head(close)
+        && !ends_operand(source, open.wrapping_sub(1));
     let is_whole = source.is_name(name) && after_index(source, name) == close;
     if is_star && is_whole && source.is_open_paren(close.wrapping_add(1)) {
         name
     } else {
         NONE
+    }
+}
+
+/// Whether an operand ends with a token: what begins after it is no other one.
+pub(crate) fn ends_operand(source: &Source<'_>, index: usize) -> bool {
+    match source.word(index) {
+        b")" => !source.is_head(index),
+        b"]" => true,
+        word => source.is_name(index) && !is_keyword(word),
     }
 }
 
@@ -95,7 +106,13 @@ impl Declaring {
                 Declaring::value(self.depth.saturating_sub(1))
             }
             b"{" | b"}" | b"$(" | b"$)" => Declaring::none(),
-            _ if is_type(word) && is_typed(source, index) => Declaring::names(),
+            _ if is_type(word) && is_typed(source, index) => {
+                if is_cast(source, index.wrapping_sub(1)) {
+                    self
+                } else {
+                    Declaring::names()
+                }
+            }
             _ => self,
         }
     }
@@ -155,6 +172,8 @@ struct Known {
     externals: Vec<usize>,
     holders: Vec<usize>,
     locals: Vec<usize>,
+    /// Whether the address of a function's word is taken, which may be in such a name then.
+    has_addresses: bool,
 }
 
 /// Edits calls of what such names hold, and tells those of others.
@@ -169,6 +188,7 @@ pub(crate) fn pointer_calls(
         externals: filled(alloc, source.tokens.len())?,
         holders: filled(alloc, source.tokens.len())?,
         locals: filled(alloc, source.tokens.len())?,
+        has_addresses: takes_addresses(alloc, source, outline)?,
     };
     for name in holders {
         put(&mut known.holders, slot(source.firsts, *name), 0);
@@ -183,6 +203,27 @@ pub(crate) fn pointer_calls(
         calls_in(source, draft, &mut known, outline.functions[number], number)?;
     }
     Ok(())
+}
+
+// Whether `&` stands before the name of a function, and no operand before that.
+fn takes_addresses(
+    alloc: Global,
+    source: &Source<'_>,
+    outline: &Outline,
+) -> Result<bool, AllocError> {
+    let mut functions = filled(alloc, source.tokens.len())?;
+    for function in &outline.functions {
+        put(&mut functions, slot(source.firsts, function.name), 0);
+    }
+    for index in 0..source.tokens.len() {
+        let before = source.word(index.wrapping_sub(1));
+        let name = slot(source.firsts, index.wrapping_add(1));
+        let is_alone = matches!(before, b"(" | b"," | b"=" | b"?" | b":" | b"{");
+        if source.is(index, b"&") && is_alone && slot(&functions, name) != NONE {
+            return Ok(true);
+        }
+    }
+    Ok(false)
 }
 
 // The calls in a function.
@@ -202,15 +243,14 @@ fn calls_in(
         if name == NONE || first == NONE {
             continue;
         }
+        let is_local = slot(&known.locals, first) == number;
+        let is_held = slot(&known.holders, first) != NONE && !is_local;
+        let is_pointer = is_local || slot(&known.externals, first) != NONE;
         if declaring.has_names {
             put(&mut known.locals, first, number);
-        } else if slot(&known.locals, first) == number {
+        } else if is_pointer && !is_held && !known.has_addresses {
             draft.remove(source, star, name, Row::Called)?;
-        } else if slot(&known.holders, first) != NONE {
-            continue;
-        } else if slot(&known.externals, first) != NONE {
-            draft.remove(source, star, name, Row::Called)?;
-        } else {
+        } else if !is_held {
             draft.note(source, star, NoteKind::Called)?;
         }
     }
