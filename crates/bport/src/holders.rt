@@ -3,7 +3,7 @@ use crate::calls::defines;
 use crate::definitions::{External, Outline, outline_of};
 use crate::expressions::is_assignment;
 use crate::names::{Constants, is_library};
-use crate::pointers::{Declaring, after_index, pointed};
+use crate::pointers::{Declaring, after_index, pointed, takes_addresses};
 use crate::row::{NoteKind, Row};
 use crate::sizes::told_size;
 use crate::source::{Draft, Source};
@@ -25,6 +25,8 @@ struct Holders {
     odd: Vec<usize>,
     /// For each token that is such a use any number.
     uses: Vec<usize>,
+    /// For each name that is declared as `(*name)(..)` any number.
+    pointers: Vec<usize>,
 }
 
 /// Puts `*` before what they hold wherever it is used, or tells it. Gives the names of all.
@@ -37,7 +39,8 @@ pub(crate) fn edit_holders(
     short: &[Option<Text>],
 ) -> Result<Vec<usize>, AllocError> {
     let mut found = found_in(alloc, source, others, draft, outline)?;
-    let has_stars = find_uses(source, outline, &mut found);
+    let has_addresses = takes_addresses(alloc, source, outline)?;
+    let has_stars = find_uses(source, outline, &mut found) || has_addresses;
     let mut names = Vec::new(alloc);
     for index in 0..source.tokens.len() {
         let first = slot(source.firsts, index);
@@ -96,6 +99,7 @@ fn found_in(
         direct: filled(alloc, count)?,
         odd: filled(alloc, count)?,
         uses: filled(alloc, count)?,
+        pointers: filled(alloc, count)?,
     };
     for function in &outline.functions {
         put(&mut functions, slot(source.firsts, function.name), 0);
@@ -166,7 +170,7 @@ fn is_filled(
     Ok(matches!(size, Some(size) if size <= count))
 }
 
-// Finds the uses of these, and tells whether anything is called by `*`.
+// Finds the uses of these, and tells whether anything is called by `*` but what is declared so, and these.
 fn find_uses(source: &Source<'_>, outline: &Outline, found: &mut Holders) -> bool {
     let mut has_stars = false;
     let mut declaring = Declaring::none();
@@ -178,10 +182,15 @@ fn find_uses(source: &Source<'_>, outline: &Outline, found: &mut Holders) -> boo
             b";" => false,
             _ => is_listing,
         };
+        let pointer = slot(source.firsts, pointed(source, index));
+        if declaring.has_names {
+            put(&mut found.pointers, pointer, index);
+        }
         if outline.is_gone(index) || is_listing {
             continue;
         }
-        has_stars = has_stars || !declaring.has_names && is_star_call(source, index);
+        let is_star = !declaring.has_names && is_star_call(source, index);
+        has_stars = has_stars || is_star && !is_known(found, pointer);
         let first = slot(source.firsts, index);
         let name = slot(&found.names, first);
         let is_call = !declaring.has_names && pointed(source, index.wrapping_sub(2)) == index;
@@ -195,6 +204,11 @@ fn find_uses(source: &Source<'_>, outline: &Outline, found: &mut Holders) -> boo
         }
     }
     has_stars
+}
+
+// Whether a name is declared so, or is that of such an external.
+fn is_known(found: &Holders, first: usize) -> bool {
+    slot(&found.pointers, first) != NONE || slot(&found.names, first) != NONE
 }
 
 // Whether a call of what `*` gives begins with a parenthesis.

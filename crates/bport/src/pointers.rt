@@ -205,8 +205,8 @@ pub(crate) fn pointer_calls(
     Ok(())
 }
 
-// Whether `&` stands before the name of a function, and no operand before that.
-fn takes_addresses(
+/// Whether `&` stands before the name of a function, and no operand before that.
+pub(crate) fn takes_addresses(
     alloc: Global,
     source: &Source<'_>,
     outline: &Outline,
