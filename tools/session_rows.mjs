@@ -84,7 +84,7 @@ async function loads({sessions, expect}) {
   expect('lines of a code text', linesOf({}), [2, 3, 4, 5]);
   expect('lines of its author', linesOf({lines, names: 'F main\n'}), [8, 8, 9, 9]);
   expect('too few lines', await told(() => sessions.loadCode(code, {lines: '8\n'})),
-    [135, 'error: the file of lines needs 4 lines, a decimal number for each place of the code\n']);
+    [135, `error: line 2 of the file of lines has to be a number from 0 to ${2n ** 64n - 1n}, for place 1 of main\n`]);
   expect('a wrong name', (await told(() => sessions.loadCode(code, {names: 'F f\n'})))[0], 135);
   const calls = sessions.load('f(n) {\n  return(n);\n}\nmain() {\n  f(2);\n}');
   const seen = new Set([...calls].map(({name, line, callers}) => `${name} ${line} ${callers}`));

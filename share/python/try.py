@@ -169,7 +169,8 @@ def loads():
     yield b.Session(code=code, lines=lines, names="F main\n").go_on(), b.End("halted")
     status, line, _ = error_of(b.Session, code=code, lines=lines[2:])
     yield status, b.WRONG_EDITION
-    yield line, b"error: the file of lines needs 4 lines, a decimal number for each place of the code\n"
+    wanted = b"a number from 0 to 18446744073709551615, for place 3 of main"
+    yield line, b"error: line 4 of the file of lines has to be " + wanted + b"\n"
     status, line, _ = error_of(b.Session, code=code, names="F f\n")
     yield (status, line.startswith(b"error: line 1 of the file of names has to be 'F main'")), (b.WRONG_EDITION, True)
     with b.Session("f(n) {\n  return(n);\n}\nmain() {\n  f(2);\n}") as it:

@@ -1,2 +1,5 @@
+mod FileLaws
 mod NameLaws
+mod LineLaws
+mod Numbers
 mod Advancing

@@ -5,7 +5,6 @@ use Rattle.blang.specs.declared.code.Definition.TheVariants as definition
 use Rattle.bauthor.specs.NameFiles.{names_read, names_wanted}
 use Rattle.bauthor.specs.NameLines.{line_read, line_text, suits}
 use Rattle.bauthor.specs.declared.line.NameLine.TheVariants as line
-use Rattle.bauthor.specs.declared.fault.NameFault.TheVariants as fault
 use Rattle.bauthor.specs.declared.fault.Wanted.TheVariants as wanted
 
 texts : map line_text
@@ -55,21 +54,21 @@ read_whole = refl
 -- another function, a further word of a vector before its own, a word for a label, a label for a word
 wrong_lines : map (λ file. names_read file program)
     (codes "F g\n" ∷ codes "F f\n-\n" ∷ codes "F f\na i\na v\n-\na up\n" ∷ codes "F f\na i\nl up\n" ∷ [])
-    ≡ Err (fault.Line 1 (wanted.Function (codes "f"))) ∷ Err (fault.Line 2 (wanted.Word (codes "f") 0))
-    ∷ Err (fault.Line 5 (wanted.Label (codes "f") 0)) ∷ Err (fault.Line 3 (wanted.Word (codes "f") 1)) ∷ []
+    ≡ Err (1, wanted.Function (codes "f")) ∷ Err (2, wanted.Word (codes "f") 0)
+    ∷ Err (5, wanted.Label (codes "f") 0) ∷ Err (3, wanted.Word (codes "f") 1) ∷ []
 wrong_lines = refl
 
 -- nothing, too little, too much, and no newline at the end
 wrong_ends : map (λ file. names_read file program)
     ([] ∷ codes "F f\na i\n" ∷ codes "F f\na i\na v\n-\nl up\nl up\nF main\na i\n"
     ∷ codes "F f\na i\na v\n-\nl up\nl up\nF main\n\n" ∷ codes "F f\na i\na v\n-\nl up\nl up\nF main" ∷ [])
-    ≡ Err (fault.Line 1 (wanted.Function (codes "f"))) ∷ Err (fault.Line 3 (wanted.Word (codes "f") 1))
-    ∷ Err (fault.Line 8 wanted.End) ∷ Err (fault.Line 8 wanted.End) ∷ Err (fault.Line 8 wanted.End) ∷ []
+    ≡ Err (1, wanted.Function (codes "f")) ∷ Err (3, wanted.Word (codes "f") 1)
+    ∷ Err (8, wanted.End) ∷ Err (8, wanted.End) ∷ Err (8, wanted.End) ∷ []
 wrong_ends = refl
 
 -- no functions, no lines
 no_functions : map (λ file. names_read file []) ([] ∷ codes "F f\n" ∷ [])
-    ≡ Ok [] ∷ Err (fault.Line 1 wanted.End) ∷ []
+    ≡ Ok [] ∷ Err (1, wanted.End) ∷ []
 no_functions = refl
 
 -- each kind of line where each is wanted

@@ -1,39 +1,65 @@
--- Promise: a file of names is read just where it is written so.
-use Rattle.std.specs.Prelude.{◌≡◌, ℕ, ◌+◌, List, [], ◌∷◌, ◌++◌, length, map, true, Ok, Err}
+-- Promise: a file of an author is read just where it is written so.
+use Rattle.std.specs.Prelude.{◌≡◌, ℕ, ◌+◌, ◌≤◌, List, [], ◌∷◌, ◌++◌, Result, Ok, Err, decimal, length, map, true}
 use Rattle.blang.specs.declared.code.Definition.{Definition}
-use Rattle.bauthor.specs.NameFiles.{lines_of, names_read, names_wanted}
+use Rattle.bword.specs.ByteEnds.{most}
+use Rattle.bauthor.specs.AuthorFiles.{lines_of}
+use Rattle.bauthor.specs.LineFiles.{lines_read, lines_wanted}
+use Rattle.bauthor.specs.NameFiles.{names_read, names_wanted}
 use Rattle.bauthor.specs.NameLines.{has_name, line_text, suits}
 use Rattle.bauthor.specs.declared.line.NameLine.{NameLine}
-use Rattle.bauthor.specs.declared.fault.NameFault.TheVariants as fault
+use Rattle.bauthor.specs.declared.fault.LineWanted.{LineWanted}
+use Rattle.bauthor.specs.declared.fault.LineWanted.TheVariants as line_wanted
 use Rattle.bauthor.specs.declared.fault.Wanted.{Wanted}
 use Rattle.bauthor.specs.declared.fault.Wanted.TheVariants as wanted
 
--- Each line is what is wanted, with a name that is one, and there are no others.
-abbrev pub AreNames : List Wanted → List NameLine → Type 0
-AreNames [] [] = Unit {0}
-AreNames (w ∷ ws) (l ∷ ls) = (suits w l ≡ true) × (has_name l ≡ true) × AreNames ws ls
-AreNames ws ls = ⊥
+-- A file, in which a line suits what is wanted or not, and is written so.
+module _ {W L : Type 0} (Suits : W → L → Type 0) (text : L → List ℕ) (end : W) where
+  -- Each line is what is wanted, and there are no others.
+  abbrev pub AreSuiting : List W → List L → Type 0
+  AreSuiting [] [] = Unit {0}
+  AreSuiting (w ∷ ws) (l ∷ ls) = Suits w l × AreSuiting ws ls
+  AreSuiting ws ls = ⊥
 
--- The file has these lines, and nothing after its last newline.
-abbrev pub HasLines : (file : List ℕ) → List NameLine → Type 0
-HasLines file names = lines_of file ≡ map line_text names ++ [] ∷ []
+  -- The file has these lines, and nothing after its last newline.
+  abbrev pub HasLines : (file : List ℕ) → List L → Type 0
+  HasLines file ls = lines_of file ≡ map text ls ++ [] ∷ []
 
--- The lines before one of this number are what is wanted, and this is wanted next, or the end.
-pub record IsWantedAt (ds : List Definition) (file : List ℕ) (number : ℕ) (w : Wanted) : Type 0 where
-  pub before : List NameLine
-  pub number_is : number ≡ length before + 1
-  pub taken : List Wanted
-  pub suit : AreNames taken before
-  pub rest : List (List ℕ)
-  pub stand : lines_of file ≡ map line_text before ++ rest
-  pub later : List Wanted
-  pub next : names_wanted ds ++ wanted.End ∷ [] ≡ taken ++ w ∷ later
+  -- What stands there isn't what is wanted: no line that suits, and not the end where nothing else is wanted.
+  pub record StandsWrong (w : W) (later : List W) (rest : List (List ℕ)) : Type 0 where
+    pub line : (l : L) (lines : List (List ℕ)) → Suits w l → rest ≡ text l ∷ lines → ⊥
+    pub over : later ≡ [] → rest ≡ [] ∷ [] → ⊥
 
--- What is written is read, and what is read is written so. A fault is the first one.
-pub record WrittenNamesAreRead : Type 0 where
-  pub read : (ds : List Definition) (names : List NameLine) (file : List ℕ) → AreNames (names_wanted ds) names
-      → HasLines file names → names_read file ds ≡ Ok names
-  pub written : (ds : List Definition) (names : List NameLine) (file : List ℕ) → names_read file ds ≡ Ok names
-      → AreNames (names_wanted ds) names × HasLines file names
-  pub first : (ds : List Definition) (file : List ℕ) (number : ℕ) (w : Wanted)
-      → names_read file ds ≡ Err (fault.Line number w) → IsWantedAt ds file number w
+  -- The lines before one of this number are what is wanted. This is wanted next, or the end, and doesn't stand there.
+  pub record IsWrongAt (ws : List W) (file : List ℕ) (number : ℕ) (w : W) : Type 0 where
+    pub before : List L
+    pub number_is : number ≡ length before + 1
+    pub taken : List W
+    pub suit : AreSuiting taken before
+    pub rest : List (List ℕ)
+    pub stand : lines_of file ≡ map text before ++ rest
+    pub later : List W
+    pub next : ws ++ end ∷ [] ≡ taken ++ w ∷ later
+    pub wrong : StandsWrong w later rest
+
+  -- What is written is read, and what is read is written so. A fault is the first one.
+  pub record WrittenIsRead (ws : List W) (file : List ℕ) (result : Result (List L) (ℕ × W)) : Type 0 where
+    pub read : (ls : List L) → AreSuiting ws ls → HasLines file ls → result ≡ Ok ls
+    pub written : (ls : List L) → result ≡ Ok ls → AreSuiting ws ls × HasLines file ls
+    pub first : (number : ℕ) (w : W) → result ≡ Err (number, w) → IsWrongAt ws file number w
+
+-- A line is what is wanted, with a name that is one.
+abbrev pub SuitsName : Wanted → NameLine → Type 0
+SuitsName w l = (suits w l ≡ true) × (has_name l ≡ true)
+
+abbrev pub WrittenNamesAreRead : Type 0
+WrittenNamesAreRead = (ds : List Definition) (file : List ℕ)
+    → WrittenIsRead SuitsName line_text wanted.End (names_wanted ds) file (names_read file ds)
+
+-- A number is up to the last one, and of 64 bits. There is none where the end has to be.
+abbrev pub SuitsNumber : LineWanted → ℕ → Type 0
+SuitsNumber (line_wanted.Number last name place) n = (n ≤ last) × (n ≤ most)
+SuitsNumber line_wanted.End n = ⊥
+
+abbrev pub WrittenLinesAreRead : Type 0
+WrittenLinesAreRead = (last : ℕ) (ds : List Definition) (file : List ℕ)
+    → WrittenIsRead SuitsNumber decimal line_wanted.End (lines_wanted last ds) file (lines_read last file ds)

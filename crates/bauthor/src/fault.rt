@@ -1,8 +1,10 @@
-//! What the lines of a file of names have to be, and what is wrong in one.
+//! What the lines of a file of an author have to be, and what is wrong in one.
 ghost use Rattle.std.specs.Prelude.{◌≡◌};
+ghost use Rattle.bauthor.specs.LineFiles.{line_read};
 ghost use Rattle.bauthor.specs.NameLines.{suits};
 
 use crate::line::NameLine;
+use crate::number::number_upto;
 use bword::Name;
 
 /// What a line of a file of names has to be.
@@ -47,6 +49,36 @@ impl Wanted {
 pub enum NameFault {
     /// The first wrong line, from 1 on, and what it has to be.
     Line(u64, Wanted),
+    /// Memory ran out.
+    Memory,
+}
+
+/// What a line of a file of lines has to be.
+#[derive(Clone, Copy)]
+pub enum LineWanted {
+    /// A number up to this one, for a place of the definition of this name, from 0 on.
+    Number(u64, Name, usize),
+    /// There has to be none.
+    End,
+}
+
+impl LineWanted {
+    /// How a line is read, where this is wanted.
+    pub(crate) fn read(&self, line: &[u8]) -> Option<u64>
+        ensures { result ≡ line_read self.now line.now }
+    {
+        match self {
+            LineWanted::Number(last, _, _) => number_upto(*last, line),
+            LineWanted::End => None,
+        }
+    }
+}
+
+/// Why a file isn't one of the lines of a code text.
+#[derive(Clone, Copy)]
+pub enum LineFault {
+    /// The first wrong line, from 1 on, and what it has to be.
+    Line(u64, LineWanted),
     /// Memory ran out.
     Memory,
 }

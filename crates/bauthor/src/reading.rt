@@ -1,14 +1,17 @@
 //! Reading a file of names.
 ghost use Rattle.std.specs.Prelude.{◌≡◌, ◌∷◌, ◌++◌, [], IfErr, IfOk, Ok, length, map};
-ghost use Rattle.bauthor.specs.NameFiles.{Fails, function_wanted, labels_from, names_read, names_wanted, parts_wanted};
-ghost use Rattle.bauthor.specs.NameFiles.{is_over, lines_of, read_from, words_from};
+ghost use Rattle.bauthor.specs.AuthorFiles.{lines_of, read_from};
+ghost use Rattle.bauthor.specs.NameFiles.{Fails, function_wanted, labels_from, name_read, names_read, names_wanted};
+ghost use Rattle.bauthor.specs.NameFiles.{parts_wanted, words_from};
 ghost use Rattle.bauthor.specs.Readers.{Advances, read_by};
+ghost use Rattle.bauthor.specs.declared.fault.Wanted.TheVariants as wanted;
 
 use crate::fault::{NameFault, Wanted};
 use crate::line::{NameLine, read_line};
+use crate::splitting::{is_over, split_lines};
 use blang::{Definition, FunctionParts};
 use bword::Name;
-use std::alloc::{AllocError, Global};
+use std::alloc::Global;
 
 /// Reads the names of the words and labels of the functions of a code text of these definitions.
 pub fn read_names(
@@ -25,21 +28,16 @@ pub fn read_names(
     }
 }
 
-fn split_lines(alloc: Global, file: &[u8]) -> Result<Vec<&[u8]>, AllocError>
-    ensures { IfOk result (λ lines. map (λ line. line.now) lines.items ≡ lines_of file.now) }
-{
-    file.split(|byte| *byte == b'\n').collect(alloc)
-}
-
 fn read_lines(
     alloc: Global,
     lines: &[&[u8]],
     definitions: &[Definition],
 ) -> Result<Vec<NameLine>, NameFault>
     ensures ok { IfOk result (λ names.
-        read_from 1 (names_wanted definitions.now) (map (λ line. line.now) lines.now) ≡ Ok names.items) }
+        read_from name_read wanted.End 1 (names_wanted definitions.now) (map (λ line. line.now) lines.now)
+        ≡ Ok names.items) }
     ensures err { IfErr result (λ fault. Fails fault
-        (read_from 1 (names_wanted definitions.now) (map (λ line. line.now) lines.now))) }
+        (read_from name_read wanted.End 1 (names_wanted definitions.now) (map (λ line. line.now) lines.now))) }
 {
     let mut reader = Reader {
         names: Vec::new(alloc),
@@ -163,14 +161,5 @@ impl Reader<'_> {
         } else {
             Err(NameFault::Line(self.number, Wanted::End))
         }
-    }
-}
-
-fn is_over(lines: &[&[u8]]) -> bool
-    ensures { result ≡ is_over (map (λ l. l.now) lines.now) }
-{
-    match lines {
-        [last] => last.is_empty(),
-        _ => false,
     }
 }

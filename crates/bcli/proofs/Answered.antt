@@ -76,7 +76,7 @@ on_origin shelf edition text from_source it does ends status is answers =
 on_origin shelf edition text from_code it does ends status is answers =
     subst (λ (o : OriginTexts). does (origin_read o edition text) ends status) is answers
 on_origin shelf edition text (from_made made lined named) it does ends status h answers =
-    let made_of = λ (names : Option (List ℕ)). does (Code (record { code = h.0.code.items; lines = Some h.0.lines.items; names = names })) in
+    let made_of = λ (names : Option (List ℕ)). does (Code (record { code = h.0.code.items; lines = Some h.0.lines.items; source = Some text; names = names })) in
     inr (
       h.0.code.items,
       h.1.0,
@@ -119,7 +119,7 @@ origin_named shelf edition text (from_made made lined named) it does ends status
 origin_named shelf edition text (from_made made lined named) it does ends status (inr (code, held, inl lines)) told =
     inr (code, held, inl (named_as shelf lined it ends status lines told))
 origin_named shelf edition text (from_made made lined named) it does ends status (inr (code, held, inr (lines, kept, names))) told =
-    let made_of = λ (names : Option (List ℕ)). does (Code (record { code = code; lines = Some lines; names = names })) in
+    let made_of = λ (names : Option (List ℕ)). does (Code (record { code = code; lines = Some lines; source = Some text; names = names })) in
     inr (code, held, inr (lines, kept, names_named shelf named it made_of ends status names told))
 
 -- the code text, its lines or its names could not be read

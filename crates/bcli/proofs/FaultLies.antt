@@ -84,7 +84,7 @@ module _ (edition : Edition) (text : List ℕ) (d : Diagnostic) (faulty : HasFau
       let no : None ≡ Some d = sym (has.1 g.0 g.1).0 ∙ faulty g.0 g.1 in
       cc
   the_fault (why.Unread n) has some = absurd has
-  the_fault (why.Unlined n) has some = absurd has
+  the_fault (why.Unlined n w) has some = absurd has
   the_fault (why.Unnamed n w) has some = absurd has
   the_fault why.Memory has some = absurd (some refl)
 

@@ -288,14 +288,14 @@ module _ (shelf : Holdings) where
 
   -- the code text and the lines that were read are these
   of_these : (made code lined lines text : List ℕ) (named : Option (List ℕ)) (edition : Edition) (does : Origin → RunEnds → ℕ → Type 0) (ends : RunEnds) (status : ℕ) → HoldsOne shelf made code → HoldsOne shelf lined lines
-      → OnOrigin shelf edition text (from_made made lined named) does ends status → OnNames shelf named (λ names. does (Code (record { code = code; lines = Some lines; names = names }))) ends status ⊎ SaysNothing ends status 134
+      → OnOrigin shelf edition text (from_made made lined named) does ends status → OnNames shelf named (λ names. does (Code (record { code = code; lines = Some lines; source = Some text; names = names }))) ends status ⊎ SaysNothing ends status 134
   of_these made code lined lines text named edition does ends status first second (inl (inl told)) = absurd (first.there told.0)
   of_these made code lined lines text named edition does ends status first second (inl (inr memory)) = inr memory
   of_these made code lined lines text named edition does ends status first second (inr (read, held, inl (inl told))) = absurd (second.there told.0)
   of_these made code lined lines text named edition does ends status first second (inr (read, held, inl (inr memory))) = inr memory
   of_these made code lined lines text named edition does ends status first second (inr (read, held, inr (counted, kept, answers))) =
-      inl (subst (λ c. OnNames shelf named (λ names. does (Code (record { code = c; lines = Some lines; names = names }))) ends status) (first.alone read held)
-      (subst (λ l. OnNames shelf named (λ names. does (Code (record { code = read; lines = Some l; names = names }))) ends status) (second.alone counted kept) answers))
+      inl (subst (λ c. OnNames shelf named (λ names. does (Code (record { code = c; lines = Some lines; source = Some text; names = names }))) ends status) (first.alone read held)
+      (subst (λ l. OnNames shelf named (λ names. does (Code (record { code = read; lines = Some l; source = Some text; names = names }))) ends status) (second.alone counted kept) answers))
 
   -- so are the names
   of_those : (named names : List ℕ) (does : Option (List ℕ) → RunEnds → ℕ → Type 0) (ends : RunEnds) (status : ℕ) → HoldsOne shelf named names → OnNames shelf (Some named) does ends status ⊎ SaysNothing ends status 134
@@ -307,26 +307,26 @@ module _ (shelf : Holdings) where
 
   asked_of_made : (file a made code lined lines : List ℕ) (named : Option (List ℕ)) (edition : Edition) (question : Question) (ends : RunEnds) (status : ℕ) → HoldsOne shelf file a → HoldsOne shelf made code → HoldsOne shelf lined lines
       → origin_of question ≡ from_made made lined named → Does shelf (ask (in_file file edition) question) ends status
-      → OnNames shelf named (λ names. answered_of edition (record { first = file_of file a; rest = [] }) a question (Code (record { code = code; lines = Some lines; names = names }))) ends status ⊎ SaysNothing ends status 134
+      → OnNames shelf named (λ names. answered_of edition (record { first = file_of file a; rest = [] }) a question (Code (record { code = code; lines = Some lines; source = Some a; names = names }))) ends status ⊎ SaysNothing ends status 134
   asked_of_made file a made code lined lines named edition question ends status first second third is does = by (asked_of_one file a edition question ends status first does)
     where
       by : Answers shelf edition (record { first = file_of file a; rest = [] }) a question ends status ⊎ SaysNothing ends status 134
-          → OnNames shelf named (λ names. answered_of edition (record { first = file_of file a; rest = [] }) a question (Code (record { code = code; lines = Some lines; names = names }))) ends status ⊎ SaysNothing ends status 134
+          → OnNames shelf named (λ names. answered_of edition (record { first = file_of file a; rest = [] }) a question (Code (record { code = code; lines = Some lines; source = Some a; names = names }))) ends status ⊎ SaysNothing ends status 134
       by (inl answers) = of_these made code lined lines a named edition (answered_of edition (record { first = file_of file a; rest = [] }) a question) ends status second third
           (subst (λ (o : OriginAsked). OnOrigin shelf edition a o (answered_of edition (record { first = file_of file a; rest = [] }) a question) ends status) is answers)
       by (inr silent) = inr silent
 
   made_alone : (file a made code lined lines : List ℕ) (edition : Edition) (question : Question) (ends : RunEnds) (status : ℕ) → HoldsOne shelf file a → HoldsOne shelf made code → HoldsOne shelf lined lines
       → origin_of question ≡ from_made made lined None → Does shelf (ask (in_file file edition) question) ends status
-      → AnswersOf (Code (record { code = code; lines = Some lines; names = None })) edition (record { first = file_of file a; rest = [] }) a question ends status ⊎ SaysNothing ends status 134
+      → AnswersOf (Code (record { code = code; lines = Some lines; source = Some a; names = None })) edition (record { first = file_of file a; rest = [] }) a question ends status ⊎ SaysNothing ends status 134
   made_alone file a made code lined lines edition question ends status first second third is does =
       asked_of_made file a made code lined lines None edition question ends status first second third is does
 
   names_alone : (file a made code lined lines named names : List ℕ) (edition : Edition) (question : Question) (ends : RunEnds) (status : ℕ) → HoldsOne shelf file a → HoldsOne shelf made code → HoldsOne shelf lined lines
       → HoldsOne shelf named names → origin_of question ≡ from_made made lined (Some named) → Does shelf (ask (in_file file edition) question) ends status
-      → AnswersOf (Code (record { code = code; lines = Some lines; names = Some names })) edition (record { first = file_of file a; rest = [] }) a question ends status ⊎ SaysNothing ends status 134
+      → AnswersOf (Code (record { code = code; lines = Some lines; source = Some a; names = Some names })) edition (record { first = file_of file a; rest = [] }) a question ends status ⊎ SaysNothing ends status 134
   names_alone file a made code lined lines named names edition question ends status first second third fourth is does =
-      of_those named names (λ ns. answered_of edition (record { first = file_of file a; rest = [] }) a question (Code (record { code = code; lines = Some lines; names = ns }))) ends status fourth
+      of_those named names (λ ns. answered_of edition (record { first = file_of file a; rest = [] }) a question (Code (record { code = code; lines = Some lines; source = Some a; names = ns }))) ends status fourth
       (asked_of_made file a made code lined lines (Some named) edition question ends status first second third is does)
 
   named_first : (made lined text : List ℕ) (named : Option (List ℕ)) (edition : Edition) (does : Origin → RunEnds → ℕ → Type 0) (ends : RunEnds) (status : ℕ) → ((code : List ℕ) → shelf.holds made code → ⊥)
@@ -424,11 +424,11 @@ module _ (file : MemFile) where
   ask_alone edition question ends status does = asked_of_one (holding file) file.name.now file.text.now edition question ends status holds_one does
 
   code_alone : (edition : Edition) (question : Question) (ends : RunEnds) (status : ℕ) → origin_of question ≡ from_code → Does (holding file) (ask (alone file edition) question) ends status
-      → AnswersOf (Code (record { code = file.text.now; lines = None; names = None })) edition (files_alone file) file.text.now question ends status ⊎ SaysNothing ends status 134
+      → AnswersOf (Code (record { code = file.text.now; lines = None; source = None; names = None })) edition (files_alone file) file.text.now question ends status ⊎ SaysNothing ends status 134
   code_alone edition question ends status is does = by (ask_alone edition question ends status does)
     where
       by : Answers (holding file) edition (files_alone file) file.text.now question ends status ⊎ SaysNothing ends status 134
-          → answered_of edition (files_alone file) file.text.now question (Code (record { code = file.text.now; lines = None; names = None })) ends status ⊎ SaysNothing ends status 134
+          → answered_of edition (files_alone file) file.text.now question (Code (record { code = file.text.now; lines = None; source = None; names = None })) ends status ⊎ SaysNothing ends status 134
       by (inl answers) = inl (subst (λ (o : OriginAsked). OnOrigin (holding file) edition file.text.now o (answered_of edition (files_alone file) file.text.now question) ends status) is answers)
       by (inr silent) = inr silent
 

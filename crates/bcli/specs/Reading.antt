@@ -42,10 +42,11 @@ IsUnread shelf source (unread.Lib it) =
 -- the program that is read from these texts, of a source in this edition and of this text
 abbrev pub origin_read : OriginTexts → Edition → (text : List ℕ) → Origin
 origin_read texts.Source edition text = Source edition
-origin_read texts.Code edition text = Code (record { code = text; lines = None; names = None })
+origin_read texts.Code edition text = Code (record { code = text; lines = None; source = None; names = None })
 origin_read (texts.Made made) edition text = Code (record {
   code = made.code.items;
   lines = Some made.lines.items;
+  source = Some text;
   names = option_map (λ v. v.items) made.names;
 })
 

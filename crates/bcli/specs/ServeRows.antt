@@ -13,6 +13,7 @@ use Rattle.blang.specs.declared.run.LoadFault.TheVariants as load
 use Rattle.blang.specs.declared.token.About.TheVariants as about
 use Rattle.blang.specs.declared.token.Letters.{Letters}
 use Rattle.blang.specs.declared.token.Letters.TheVariants as letters
+use Rattle.bauthor.specs.declared.fault.LineWanted.TheVariants as line_wanted
 use Rattle.btools.specs.declared.program.ProgramFault.TheVariants as why
 use Rattle.bcareful.specs.Runs.{Runs}
 use Rattle.bcareful.specs.declared.care.Care.TheVariants as taken
@@ -114,9 +115,9 @@ unloaded_told : map (λ f. fault_explained (Source editions.Two) (why.Unloaded f
 unloaded_told = refl
 
 -- the same of a code text
-code_untold : map (fault_explained (Code (record { code = []; lines = None; names = None })))
+code_untold : map (fault_explained (Code (record { code = []; lines = None; source = None; names = None })))
     (why.Unread 3 ∷ why.Unloaded (load.Duplicate (codes "f")) ∷ why.Unloaded load.TooLarge
-    ∷ why.Unloaded (load.Undefined (codes "f")) ∷ why.Unloaded load.NoMain ∷ why.Unlined 4 ∷ [])
+    ∷ why.Unloaded (load.Undefined (codes "f")) ∷ why.Unloaded load.NoMain ∷ why.Unlined 4 line_wanted.End ∷ [])
     ≡ codes "  means: no code text goes on with this line\nnext: b run --where of the code text tells more\n"
     ∷ codes "  means: a name is defined twice\nnext: b run --where of the code text tells more\n"
     ∷ codes "  means: there are too many data or labels\nnext: b run --where of the code text tells more\n"
@@ -322,17 +323,17 @@ module _ (shelf : Holdings) (source : SourceAsked) (edition : Edition) (steps : 
     of_source d = d
 
     of_code : OnOrigin shelf edition text from_code does ends status
-        → does (Code (record { code = text; lines = None; names = None })) ends status
+        → does (Code (record { code = text; lines = None; source = None; names = None })) ends status
     of_code d = d
 
     of_made : (made lined : Text) (code lines : List ℕ) → shelf.holds made code → shelf.holds lined lines
-        → does (Code (record { code = code; lines = Some lines; names = None })) ends status
+        → does (Code (record { code = code; lines = Some lines; source = Some text; names = None })) ends status
         → OnOrigin shelf edition text (from_made made lined None) does ends status
     of_made made lined code lines held held_too d = inr (code, held, inr (lines, held_too, d))
 
     of_named : (made lined named : Text) (code lines names : List ℕ) → shelf.holds made code → shelf.holds lined lines
         → shelf.holds named names
-        → does (Code (record { code = code; lines = Some lines; names = Some names })) ends status
+        → does (Code (record { code = code; lines = Some lines; source = Some text; names = Some names })) ends status
         → OnOrigin shelf edition text (from_made made lined (Some named)) does ends status
     of_named made lined named code lines names held held_too held_last d =
         inr (code, held, inr (lines, held_too, inr (names, held_last, d)))

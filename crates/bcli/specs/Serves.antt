@@ -284,12 +284,13 @@ abbrev pub OnOrigin : Holdings → Edition → (text : List ℕ) → OriginAsked
     → RunEnds → ℕ → Type 0
 OnOrigin shelf edition text from_source does ends status = does (Source edition) ends status
 OnOrigin shelf edition text from_code does ends status =
-    does (Code (record { code = text; lines = None; names = None })) ends status
+    does (Code (record { code = text; lines = None; source = None; names = None })) ends status
 OnOrigin shelf edition text (from_made made lined named) does ends status =
     NamesFile (shelf.lacks made) made ends status
     ⊎ ((code : List ℕ) × shelf.holds made code × (NamesFile (shelf.lacks lined) lined ends status
     ⊎ ((lines : List ℕ) × shelf.holds lined lines
-    × OnNames shelf named (λ names. does (Code (record { code = code; lines = Some lines; names = names }))) ends
+    × OnNames shelf named
+    (λ names. does (Code (record { code = code; lines = Some lines; source = Some text; names = names }))) ends
     status)))
 
 -- what is asked of a source of these files and of this text is answered, or of a code text

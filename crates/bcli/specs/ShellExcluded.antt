@@ -129,14 +129,14 @@ pub record Excluded (shelf : Holdings) : Type 0 where
   pub made_alone : (file a made code lined lines : List ℕ) (edition : Edition) (question : Question) (ends : RunEnds)
       (status : ℕ) → HoldsOne shelf file a → HoldsOne shelf made code → HoldsOne shelf lined lines
       → origin_of question ≡ from_made made lined None → Does shelf (ask (in_file file edition) question) ends status
-      → AnswersOf (Code (record { code = code; lines = Some lines; names = None })) edition
+      → AnswersOf (Code (record { code = code; lines = Some lines; source = Some a; names = None })) edition
       (record { first = file_of file a; rest = [] }) a question ends status ⊎ SaysNothing ends status MEMORY
   -- the same with other names than those of its file
   pub names_alone : (file a made code lined lines named names : List ℕ) (edition : Edition) (question : Question)
       (ends : RunEnds) (status : ℕ) → HoldsOne shelf file a → HoldsOne shelf made code → HoldsOne shelf lined lines
       → HoldsOne shelf named names → origin_of question ≡ from_made made lined (Some named)
       → Does shelf (ask (in_file file edition) question) ends status
-      → AnswersOf (Code (record { code = code; lines = Some lines; names = Some names })) edition
+      → AnswersOf (Code (record { code = code; lines = Some lines; source = Some a; names = Some names })) edition
       (record { first = file_of file a; rest = [] }) a question ends status ⊎ SaysNothing ends status MEMORY
   pub lines_later : (made lined text : List ℕ) (named : Option Text) (edition : Edition) (files : Files)
       (question : Question) (ends : RunEnds) (status : ℕ) → ((code : List ℕ) → shelf.holds made code → ⊥)
@@ -215,8 +215,8 @@ pub record FileIsRead (file : MemFile) : Type 0 where
   -- of another code text than this one
   pub code_alone : (edition : Edition) (question : Question) (ends : RunEnds) (status : ℕ)
       → origin_of question ≡ from_code → Does (holding file) (ask (alone file edition) question) ends status
-      → AnswersOf (Code (record { code = file.text.now; lines = None; names = None })) edition (files_alone file)
-      file.text.now question ends status ⊎ SaysNothing ends status MEMORY
+      → AnswersOf (Code (record { code = file.text.now; lines = None; source = None; names = None })) edition
+      (files_alone file) file.text.now question ends status ⊎ SaysNothing ends status MEMORY
   -- another output than `a`, or another status than 0
   pub one_go : (input : Unread) (out line : Kept) (status : ℕ) → file.text.now ≡ codes "main(){putchar('a');}"
       → Does (holding file) (go (alone file editions.One) 100) (one_run_ends input out line) status

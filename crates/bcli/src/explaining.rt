@@ -92,7 +92,7 @@ fn fault_text(alloc: Global, origin: Origin<'_>, fault: &ProgramFault) -> Result
         ProgramFault::Unread(_) => {
             explained(alloc, b"no code text goes on with this line", CODE_ADVICE)
         }
-        ProgramFault::Unlined(_) | ProgramFault::Unnamed(..) | ProgramFault::Memory => {
+        ProgramFault::Unlined(..) | ProgramFault::Unnamed(..) | ProgramFault::Memory => {
             Ok(Text::new(alloc))
         }
     }

@@ -50,11 +50,13 @@ impl OriginTexts {
             OriginTexts::Code => Origin::Code(CodeText {
                 code: text,
                 lines: None,
+                source: None,
                 names: None,
             }),
             OriginTexts::Made(made) => Origin::Code(CodeText {
                 code: made.code.as_slice(),
                 lines: Some(made.lines.as_slice()),
+                source: Some(text),
                 names: text_of(&made.names),
             }),
         }

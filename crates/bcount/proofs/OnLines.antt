@@ -11,7 +11,8 @@ use Rattle.std.proofs.lemmas.Option.{slice_get-get_or, slice_get-map, slice_get_
 use Rattle.btools.specs.ProgramLines.{FunctionLines, lined_entry}
 use Rattle.btools.specs.declared.tables.FunctionEntry.{FunctionEntry}
 use Rattle.bcount.specs.Counts.{counted_at, counted_in, counted_of}
-use Rattle.bcount.specs.SourceLines.{IsOnLines, last_line, newlines_in}
+use Rattle.btools.specs.SourceLines.{last_line, newlines_in}
+use Rattle.bcount.specs.SourceLines.{IsOnLines}
 use Rattle.bcount.specs.declared.lines.Counted.{Counted}
 use Rattle.bcount.proofs.Splits.{ended}
 

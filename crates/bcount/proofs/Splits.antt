@@ -8,7 +8,7 @@ use Rattle.std.proofs.lemmas.List.Sums.{fails_before_first, position_or_len_is, 
 use Rattle.std.proofs.lemmas.List.Quantifiers.{position-Some}
 use Rattle.std.proofs.lemmas.Slice.Eq.{ends_is}
 use Rattle.btools.specs.SourceLines.{source_lines}
-use Rattle.bcount.specs.SourceLines.{newlines_in}
+use Rattle.btools.specs.SourceLines.{newlines_in}
 
 -- a text that ends with a newline has one
 pub ended : (s : List ℕ) → ends_with (λ a b. a == b) s (codes "\n") ≡ true → 0 < newlines_in s

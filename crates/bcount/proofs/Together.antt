@@ -25,7 +25,7 @@ use Rattle.bwatch.specs.Sights.{Sights, sight_of, sights_of}
 use Rattle.bwatch.specs.Watches.{EndsAfter}
 use Rattle.bcount.proofs.Counted.{counts_are, not_unread}
 use Rattle.bcount.specs.Counts.{counted_of, counts_by_line}
-use Rattle.bcount.specs.SourceLines.{last_line}
+use Rattle.btools.specs.SourceLines.{last_line}
 use Rattle.bcount.specs.Tallies.{counts_of}
 use Rattle.bcount.specs.Together.{AddUp, StepsAddUp, all_steps}
 use Rattle.bcount.specs.declared.lines.Counted.{Counted}

@@ -8,7 +8,7 @@ use Rattle.bword.specs.declared.edition.Edition.TheVariants as editions
 use Rattle.btools.specs.Origins.{Code, Origin, Source}
 use Rattle.btools.specs.PlaceLines.{CodeText, HasPlaceLines}
 use Rattle.btools.specs.ProgramLines.{FunctionLines, lined_functions}
-use Rattle.btools.specs.SourceLines.{source_lines}
+use Rattle.btools.specs.SourceLines.{last_line}
 use Rattle.bcount.specs.declared.lines.Counted.{Counted}
 use Rattle.bcount.specs.declared.lines.LineCount.{LineCount}
 use Rattle.bcount.specs.declared.table.CountStyle.{CountStyle}
@@ -16,7 +16,7 @@ use Rattle.bcount.specs.declared.table.CountStyle.TheVariants as styles
 use Rattle.bcount.specs.CountExcluded.{nothing}
 use Rattle.bcount.specs.Counts.{Asked, count_text, counted_of, line_counts, nearest_line, steps_on, times_on}
 use Rattle.bcount.specs.Marks.{is_marked, no_code}
-use Rattle.bcount.specs.SourceLines.{beside_text, last_line}
+use Rattle.bcount.specs.SourceLines.{beside_text}
 use Rattle.bcount.specs.Tables.{cells_text, file_row, hint_of, object_text, total_of}
 use Rattle.bcount.specs.Tallies.{bumped}
 use Rattle.bcount.specs.Together.{all_steps}
@@ -189,7 +189,7 @@ unfolding digits
 nothing_is_spelled_so = refl
 
 abbrev by_itself : CodeText
-by_itself = record { code = code_of_nothing; lines = None; names = None }
+by_itself = record { code = code_of_nothing; lines = None; source = None; names = None }
 
 lines_of_code : HasPlaceLines by_itself nothing (2 ∷ 3 ∷ [])
 lines_of_code = refl
@@ -206,9 +206,14 @@ unfolding digits
 counted_by_code = refl
 
 abbrev by_author : CodeText
-by_author = record { code = code_of_nothing; lines = Some (codes "2\n2\n"); names = None }
+by_author = record {
+  code = code_of_nothing;
+  lines = Some (codes "2\n2\n");
+  source = Some (codes "10 REM\n20 END\n");
+  names = None;
+}
 
-lines_of_author : source_lines (codes "2\n2\n") ≡ map decimal (2 ∷ 2 ∷ []) ++ [] ∷ []
+lines_of_author : HasPlaceLines by_author nothing (2 ∷ 2 ∷ [])
 unfolding digits
 lines_of_author = refl
 

@@ -20,7 +20,7 @@ use Rattle.btools.specs.ProgramLines.{FunctionLines, line_in, lined_functions}
 use Rattle.btools.specs.Programs.{TellsEnd, nothing_written}
 use Rattle.bwatch.specs.Sights.{Sights}
 use Rattle.bwatch.specs.Watches.{Watches}
-use Rattle.bcount.specs.SourceLines.{last_line}
+use Rattle.btools.specs.SourceLines.{last_line}
 use Rattle.bcount.specs.Tables.{table_text}
 use Rattle.bcount.specs.Tallies.{counts_of}
 use Rattle.bcount.specs.declared.counting.Counting.{Counting}

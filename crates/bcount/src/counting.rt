@@ -9,14 +9,13 @@ ghost use Rattle.bcount.specs.Tallies.{tallies_of};
 ghost use Rattle.bcount.specs.Together.{StepsAddUp};
 
 use crate::lines::{counted_of, lines_of};
-use crate::source::last_line;
 use crate::table::{CountStyle, Table, table_text};
 use crate::tallies::Tallies;
 use blang::Outcome;
 use blang::status::{self, Status};
 use brun::finish;
 use bsources::SourceFiles;
-use btools::{Origin, Tables, Text, read_program, tell, tell_placed};
+use btools::{Origin, Tables, Text, last_line, read_program, tell, tell_placed};
 use bwatch::{Watched, watch};
 use bword::{ByteIn, ByteOut};
 use std::alloc::{AllocError, Global};

@@ -1,28 +1,7 @@
 //! The lines of a source.
-ghost use Rattle.std.specs.Prelude.{◌≡◌, ◌<◌, ◌+◌, ◌-◌, ◌^◌, ◌==◌, IfSome, ℕ, suc, [], get_or, length};
+ghost use Rattle.std.specs.Prelude.{◌≡◌, ◌<◌, ◌==◌, IfSome, ℕ, suc, [], get_or, length};
 ghost use Rattle.std.specs.List.{position};
 ghost use Rattle.btools.specs.SourceLines.{source_lines};
-ghost use Rattle.bcount.specs.SourceLines.{last_line, newlines_in};
-
-/// The number of the last line.
-pub fn last_line(source: &[u8]) -> u64
-    ensures value { result ≡ last_line source.now }
-    ensures some { 0 < result }
-{
-    let newlines = newlines_in(source);
-    if source.ends_with(b"\n") {
-        newlines
-    } else {
-        newlines + 1
-    }
-}
-
-fn newlines_in(source: &[u8]) -> u64
-    ensures value { result ≡ newlines_in source.now }
-    ensures fits { result < 2 ^ 64 - 1 }
-{
-    source.iter().filter(|byte| **byte == b'\n').count() as u64
-}
 
 /// The bytes of the first line, and those after its newline.
 pub fn split_line(source: &[u8]) -> (&[u8], &[u8])

@@ -16,8 +16,9 @@ no_third : (h : Host) → LoadsSource (edition_of 3) [] h 0 → ⊥
 no_third h loaded = let status = loaded.1 in cc
 
 -- an empty file is none
-lines_given : text_given (7 ∷ []) (8 ∷ []) [] ≡ record { code = 7 ∷ []; lines = Some (8 ∷ []); names = None }
+lines_given : text_given (7 ∷ []) (8 ∷ []) []
+    ≡ record { code = 7 ∷ []; lines = Some (8 ∷ []); source = None; names = None }
 lines_given = refl
 
-names_given : text_given [] [] (9 ∷ []) ≡ record { code = []; lines = None; names = Some (9 ∷ []) }
+names_given : text_given [] [] (9 ∷ []) ≡ record { code = []; lines = None; source = None; names = Some (9 ∷ []) }
 names_given = refl

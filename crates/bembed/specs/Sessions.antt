@@ -23,7 +23,7 @@ LoadsSource None source h status = IsEmpty h × (status ≡ WRONG_COMMAND)
 
 -- the program of a code text, with its own lines
 abbrev pub LoadsCode : (code : List ℕ) → Host → (status : ℕ) → Type 0
-LoadsCode code h status = Loads (Code (record { code = code; lines = None; names = None })) [] h status
+LoadsCode code h status = Loads (Code (record { code = code; lines = None; source = None; names = None })) [] h status
 
 -- why there is no program is told into a room
 abbrev pub telling_in : (Diagnostic → List ℕ) → Room → Overflow → (status : ℕ) → LineTold
@@ -53,4 +53,4 @@ given_in [] = None
 given_in file = Some file
 
 abbrev pub text_given : (code lines names : List ℕ) → CodeText
-text_given code lines names = record { code = code; lines = given_in lines; names = given_in names }
+text_given code lines names = record { code = code; lines = given_in lines; source = None; names = given_in names }

@@ -70,6 +70,7 @@ pub extern "C" fn b_load_code_with(
     let text = CodeText {
         code,
         lines: given_in(lines),
+        source: None,
         names: given_in(names),
     };
     load_text(alloc, text, session, &mut line)

@@ -42,6 +42,7 @@ pub extern "C" fn b_load_code(alloc: Global, code: &[u8], session: &mut Host) ->
     let text = CodeText {
         code,
         lines: None,
+        source: None,
         names: None,
     };
     load(alloc, b"", Origin::Code(text), session)

@@ -8,6 +8,7 @@ use Rattle.blang.specs.declared.run.Trap.{Trap}
 use Rattle.blang.specs.declared.run.Trap.TheVariants as trap
 use Rattle.blang.specs.declared.token.Diagnostic.{Diagnostic}
 use Rattle.bmach.specs.declared.machine.Active.{Active}
+use Rattle.bauthor.specs.declared.fault.LineWanted.TheVariants as line_wanted
 use Rattle.bauthor.specs.declared.fault.Wanted.TheVariants as wanted
 use Rattle.bsession.specs.Sessions.{Lost, SessionView}
 use Rattle.bsession.specs.declared.session.Held.TheVariants as held
@@ -130,7 +131,7 @@ traps : map trap_number (trap.ZeroDivisor ∷ trap.NotAFunction ∷ trap.NotALab
 traps = refl
 
 -- the statuses of all reasons why there is no program
-faults : (d : Diagnostic) → map fault_status (fault.Faulty d ∷ fault.Unread 4 ∷ fault.Unlined 4
+faults : (d : Diagnostic) → map fault_status (fault.Faulty d ∷ fault.Unread 4 ∷ fault.Unlined 4 line_wanted.End
     ∷ fault.Unnamed 4 wanted.End ∷ fault.Unloaded load.NoMain ∷ fault.Unloaded load.TooLarge ∷ fault.Memory ∷ [])
     ≡ (1 ∷ 132 ∷ 135 ∷ 135 ∷ 132 ∷ 132 ∷ 134 ∷ [])
 faults d = refl

@@ -27,7 +27,7 @@ use Rattle.bhost.specs.declared.host.Host.{Host}
 abbrev pub fault_status : ProgramFault → ℕ
 fault_status (fault.Faulty d) = FAULT
 fault_status (fault.Unread line) = REFUSED
-fault_status (fault.Unlined count) = WRONG_COMMAND
+fault_status (fault.Unlined line wanted) = WRONG_COMMAND
 fault_status (fault.Unnamed line wanted) = WRONG_COMMAND
 fault_status (fault.Unloaded f) = REFUSED
 fault_status fault.Memory = MEMORY

@@ -141,7 +141,7 @@ fn fault_status(fault: &ProgramFault) -> Status
     match fault {
         ProgramFault::Faulty(_) => status::FAULT,
         ProgramFault::Unread(_) => status::REFUSED,
-        ProgramFault::Unlined(_) | ProgramFault::Unnamed(_, _) => status::WRONG_COMMAND,
+        ProgramFault::Unlined(_, _) | ProgramFault::Unnamed(_, _) => status::WRONG_COMMAND,
         ProgramFault::Unloaded(_) => status::REFUSED,
         ProgramFault::Memory => status::MEMORY,
     }

@@ -1,10 +1,7 @@
 -- What a code text decides of what is told of its program.
-use Rattle.std.proofs.Common.{◌≡◌, ◌∙◌, ℕ, ◌<◌, ◌≤◌, List, [], Option, Some, None, Result, Ok, Err, ap, arith, decimal, get_or, length, map, sym, subst, ◌⊎◌, inl, inr}
+use Rattle.std.proofs.Common.{◌≡◌, ◌∙◌, ℕ, List, [], Option, Some, None, Result, Ok, Err, ap, arith, map, sym, subst, ◌⊎◌, inl, inr}
 use Rattle.std.specs.Prelude.{MatchOption}
-use Rattle.std.specs.List.{All}
-use Rattle.std.proofs.lemmas.Fmt.{decimal_injective}
-use Rattle.std.proofs.lemmas.List.{get_or-map, length-map, same_from_push, same_lists}
-use Rattle.bword.specs.ByteEnds.{Outgoing, Writes, most}
+use Rattle.bword.specs.ByteEnds.{Outgoing, Writes}
 use Rattle.bword.specs.declared.ends.EndFault.{EndFault}
 use Rattle.bword.specs.declared.ends.EndFault.TheVariants as end_fault
 use Rattle.bcode.specs.Faults.{IsFaultLine}
@@ -18,10 +15,9 @@ use Rattle.blang.specs.Compiles.{status_of}
 use Rattle.blang.specs.Layout.{load_fault}
 use Rattle.blang.specs.Reports.{Reported, report_text}
 use Rattle.blang.specs.Text.{IsCodeText}
+use Rattle.bauthor.specs.LineFiles.{lines_read}
 use Rattle.bauthor.specs.NameFiles.{names_read}
-use Rattle.bauthor.specs.declared.line.NameLine.{NameLine}
-use Rattle.bauthor.specs.declared.fault.NameFault.{NameFault}
-use Rattle.bauthor.specs.declared.fault.NameFault.TheVariants as name_fault
+use Rattle.bauthor.specs.declared.fault.LineWanted.{LineWanted}
 use Rattle.bauthor.specs.declared.fault.Wanted.{Wanted}
 use Rattle.btools.specs.declared.names.Frame.{Frame}
 use Rattle.btools.specs.declared.program.ProgramFault.{ProgramFault}
@@ -29,44 +25,29 @@ use Rattle.btools.specs.declared.program.ProgramFault.TheVariants as why
 use Rattle.btools.specs.CodesExcluded.{ExcludedOfOther, ExcludedOfText, IsUnsuited, WrongCodes}
 use Rattle.btools.specs.NamedFrames.{HasFrames, HasNamesIn, HasWrongName, frames_named, function_names, unnamed_line}
 use Rattle.btools.specs.Origins.{HasNoCode}
-use Rattle.btools.specs.PlaceLines.{CodeText, HasPlaceLines, IsLinesFile, lines_before, place_lines, places_in}
-use Rattle.btools.specs.Programs.{TellsFault, load_line, unlined_line}
+use Rattle.btools.specs.PlaceLines.{CodeText, HasPlaceLines, HasWrongLine, last_in, lines_before, place_lines, unlined_line}
+use Rattle.btools.specs.Programs.{TellsFault, load_line}
 use Rattle.btools.proofs.ProgramsExcluded.{by_line, failed, other_answer, was_told}
 
--- what is written of numbers of 64 bits tells them
-same_numbers : (ns ms : List ℕ) → All (λ n. n ≤ most) ns → All (λ n. n ≤ most) ms → map decimal ns ≡ map decimal ms → ns ≡ ms
-same_numbers ns ms small little same =
-    let long : length ns ≡ length ms = sym (length-map ns decimal) ∙ ap length same ∙ length-map ms decimal in
-    same_lists ns ms long (λ k d lt.
-    let there : k < length ms = omega (arith, lt, long) in
-    let one = small k d lt in
-    let other = little k d there in
-    decimal_injective (get_or ns k d) (get_or ms k d) (omega (arith, one)) (omega (arith, other))
-    (sym (get_or-map decimal ns k d [] lt) ∙ ap (λ ts. get_or ts k []) same ∙ get_or-map decimal ms k d [] there))
-
--- a file has the lines of one list of numbers
-same_file : (file : List ℕ) (count : ℕ) (ls ms : List ℕ) → IsLinesFile file count ls → IsLinesFile file count ms → ls ≡ ms
-same_file file count ls ms f g = same_numbers ls ms f.within g.within (same_from_push (map decimal ls) (map decimal ms) [] [] (sym f.each ∙ g.each)).0
-
-abbrev read_as : List NameLine → Result (List NameLine) NameFault
+abbrev read_as : {W L : Type 0} → List L → Result (List L) (ℕ × W)
 read_as ls = Ok ls
 
-ok_same : (ls ms : List NameLine) → read_as ls ≡ Ok ms → ls ≡ ms
-ok_same ls ms e = cc
+ok_same : {W L : Type 0} (r : Result (List L) (ℕ × W)) (ls ms : List L) → r ≡ Ok ls → r ≡ Ok ms → ls ≡ ms
+ok_same {W = W} r ls ms e f = let same : read_as {W = W} ls ≡ Ok ms = sym e ∙ f in cc
 
-not_read : (ls : List NameLine) (n : ℕ) (w : Wanted) → read_as ls ≡ Err (name_fault.Line n w) → ⊥
-not_read ls n w e = cc
+not_read : {W L : Type 0} (r : Result (List L) (ℕ × W)) (ls : List L) (n : ℕ) (w : W) → r ≡ Ok ls → r ≡ Err (n, w) → ⊥
+not_read {W = W} r ls n w e f = let clash : read_as {W = W} ls ≡ Err (n, w) = sym e ∙ f in cc
 
-lined_so : (code : List ℕ) (o : Option (List ℕ)) (ds : List Definition) (ls ms : List ℕ)
-    → MatchOption o (ls ≡ place_lines (lines_before code) ds) (λ file. IsLinesFile file (places_in ds) ls)
-    → MatchOption o (ms ≡ place_lines (lines_before code) ds) (λ file. IsLinesFile file (places_in ds) ms) → ls ≡ ms
-lined_so code None ds ls ms h k = h ∙ sym k
-lined_so code (Some file) ds ls ms h k = same_file file (places_in ds) ls ms h k
+lined_so : (own : List ℕ) (o : Option (List ℕ)) (last : ℕ) (ds : List Definition) (ls ms : List ℕ)
+    → MatchOption o (ls ≡ own) (λ file. lines_read last file ds ≡ Ok ls)
+    → MatchOption o (ms ≡ own) (λ file. lines_read last file ds ≡ Ok ms) → ls ≡ ms
+lined_so own None last ds ls ms h k = h ∙ sym k
+lined_so own (Some file) last ds ls ms h k = ok_same (lines_read last file ds) ls ms h k
 
 -- a file of names that is read has the names of one list of lines
 same_read : (file : List ℕ) (ds : List Definition) (fs gs : List Frame) → HasNamesIn file ds fs → HasNamesIn file ds gs → map function_names fs ≡ map function_names gs
 same_read file ds fs gs h k =
-    h.2 ∙ ap (frames_named ds) (ok_same h.0 k.0 (sym h.1 ∙ k.1)) ∙ sym k.2
+    h.2 ∙ ap (frames_named ds) (ok_same (names_read file ds) h.0 k.0 h.1 k.1) ∙ sym k.2
 
 named_so : (o : Option (List ℕ)) (ds : List Definition) (fs gs : List Frame)
     → MatchOption o (fs ≡ []) (λ file. HasNamesIn file ds fs) → MatchOption o (gs ≡ []) (λ file. HasNamesIn file ds gs)
@@ -76,10 +57,16 @@ named_so (Some file) ds fs gs h k = same_read file ds fs gs h k
 
 -- it has no wrong line
 no_wrong_name : (o : Option (List ℕ)) (ds : List Definition) (n : ℕ) (w : Wanted) (fs : List Frame)
-    → MatchOption o ⊥ (λ file. names_read file ds ≡ Err (name_fault.Line n w))
+    → MatchOption o ⊥ (λ file. names_read file ds ≡ Err (n, w))
     → MatchOption o (fs ≡ []) (λ file. HasNamesIn file ds fs) → ⊥
 no_wrong_name None ds n w fs wrong names = wrong
-no_wrong_name (Some file) ds n w fs wrong names = not_read names.0 n w (sym names.1 ∙ wrong)
+no_wrong_name (Some file) ds n w fs wrong names = not_read (names_read file ds) names.0 n w names.1 wrong
+
+no_wrong_line : (own : List ℕ) (o : Option (List ℕ)) (last : ℕ) (ds : List Definition) (n : ℕ) (w : LineWanted)
+    (ls : List ℕ) → MatchOption o ⊥ (λ file. lines_read last file ds ≡ Err (n, w))
+    → MatchOption o (ls ≡ own) (λ file. lines_read last file ds ≡ Ok ls) → ⊥
+no_wrong_line own None last ds n w ls wrong lines = wrong
+no_wrong_line own (Some file) last ds n w ls wrong lines = not_read (lines_read last file ds) ls n w lines wrong
 
 -- a status of a reason is that of its line, or that of a refused write
 line_status : (text : List ℕ) (told : ℕ) (old new : Outgoing) (status : ℕ) → Reported text told old new status → (status ≡ told) ⊎ (status ≡ 133) ⊎ (status ≡ 134)
@@ -101,7 +88,7 @@ module _ (c : CodeText) (source : List ℕ) (lines : Diagnostic → List ℕ) (l
     status : (f : ProgramFault) (s : ℕ) → HasNoCode c f → TellsFault lines f line line_after s → (s ≡ 132) ⊎ (s ≡ 135) ⊎ (s ≡ 133) ⊎ (s ≡ 134)
     status (why.Faulty d) s why_not told = absurd why_not
     status (why.Unread n) s why_not told = absurd (why_not.1 ds is)
-    status (why.Unlined count) s why_not told = inr (line_status (unlined_line count) 135 line line_after s told)
+    status (why.Unlined n w) s why_not told = inr (line_status (unlined_line n w) 135 line line_after s told)
     status (why.Unnamed n w) s why_not told = inr (line_status (unnamed_line n w) 135 line line_after s told)
     status (why.Unloaded f) s why_not told =
         elim (by_line lines line line_after f s told) [
@@ -113,7 +100,7 @@ module _ (c : CodeText) (source : List ℕ) (lines : Diagnostic → List ℕ) (l
     unloaded : (f : ProgramFault) → HasNoCode c f → TellsFault lines f line line_after 132 → (l : LoadFault) × (text : List ℕ) × (load_fault ds ≡ Some l) × (load_line l ≡ Some text) × Writes line text line_after
     unloaded (why.Faulty d) why_not told = absurd why_not
     unloaded (why.Unread n) why_not told = absurd (why_not.1 ds is)
-    unloaded (why.Unlined count) why_not told = absurd (other_answer (unlined_line count) 135 line line_after 132 (λ e. omega (arith, e)) (λ e. omega (arith, e)) (λ e. omega (arith, e)) told)
+    unloaded (why.Unlined n w) why_not told = absurd (other_answer (unlined_line n w) 135 line line_after 132 (λ e. omega (arith, e)) (λ e. omega (arith, e)) (λ e. omega (arith, e)) told)
     unloaded (why.Unnamed n w) why_not told = absurd (other_answer (unnamed_line n w) 135 line line_after 132 (λ e. omega (arith, e)) (λ e. omega (arith, e)) (λ e. omega (arith, e)) told)
     unloaded (why.Unloaded f) why_not told =
         elim (by_line lines line line_after f 132 told) [
@@ -131,10 +118,11 @@ module _ (c : CodeText) (source : List ℕ) (lines : Diagnostic → List ℕ) (l
     unsuited : (f : ProgramFault) → HasNoCode c f → TellsFault lines f line line_after 135 → IsUnsuited c ds line line_after
     unsuited (why.Faulty d) why_not told = absurd why_not
     unsuited (why.Unread n) why_not told = absurd (why_not.1 ds is)
-    unsuited (why.Unlined count) why_not told = inl (
-      λ ls has. why_not.3 ls (subst (λ (x : List Definition). HasPlaceLines c x ls) (sym (same why_not.0 why_not.1)) has),
-      subst (λ (n : ℕ). Writes line (unlined_line n) line_after) (sym why_not.2 ∙ ap places_in (same why_not.0 why_not.1))
-          (was_told (unlined_line count) 135 line line_after (λ e. omega (arith, e)) (λ e. omega (arith, e)) told),
+    unsuited (why.Unlined n w) why_not told = inl (
+      n,
+      w,
+      subst (λ (x : List Definition). HasWrongLine c x n w) (same why_not.0 why_not.1) why_not.2,
+      was_told (unlined_line n w) 135 line line_after (λ e. omega (arith, e)) (λ e. omega (arith, e)) told,
     )
     unsuited (why.Unnamed n w) why_not told = inr (
       n,
@@ -149,8 +137,9 @@ module _ (c : CodeText) (source : List ℕ) (lines : Diagnostic → List ℕ) (l
     loads : (f : ProgramFault) (s : ℕ) → HasNoCode c f → TellsFault lines f line line_after s → load_fault ds ≡ None → (ls : List ℕ) → HasPlaceLines c ds ls → (fs : List Frame) → HasFrames c ds fs → s ≡ 134
     loads (why.Faulty d) s why_not told none ls has fs names = absurd why_not
     loads (why.Unread n) s why_not told none ls has fs names = absurd (why_not.1 ds is)
-    loads (why.Unlined count) s why_not told none ls has fs names =
-        absurd (why_not.3 ls (subst (λ (x : List Definition). HasPlaceLines c x ls) (sym (same why_not.0 why_not.1)) has))
+    loads (why.Unlined n w) s why_not told none ls has fs names =
+        absurd (no_wrong_line (place_lines (lines_before c.code) ds) c.lines (last_in c.source) ds n w ls
+        (subst (λ (x : List Definition). HasWrongLine c x n w) (same why_not.0 why_not.1) why_not.2) has)
     loads (why.Unnamed n w) s why_not told none ls has fs names =
         absurd (no_wrong_name c.names ds n w fs (subst (λ (x : List Definition). HasWrongName c x n w) (same why_not.0 why_not.1) why_not.2) names)
     loads (why.Unloaded f) s why_not told none ls has fs names = let bad : None ≡ Some f = sym none ∙ loads_so why_not.0 f why_not.1 why_not.2 in cc
@@ -159,7 +148,7 @@ module _ (c : CodeText) (source : List ℕ) (lines : Diagnostic → List ℕ) (l
     of_text : ExcludedOfText c source lines line line_after ds
     of_text = record {
       program = λ es image p. (same es p.text, subst (λ (x : List Definition). load_fault x ≡ None) (same es p.text) p.loads);
-      lined = λ ls ms h k. lined_so c.code c.lines ds ls ms (h ds is) (k ds is);
+      lined = λ ls ms h k. lined_so (place_lines (lines_before c.code) ds) c.lines (last_in c.source) ds ls ms (h ds is) (k ds is);
       named = λ fs gs h k. named_so c.names ds fs gs (h ds is) (k ds is);
       unread = λ n why_not. why_not.1 ds is;
       faulty = λ d why_not. why_not;
@@ -174,7 +163,7 @@ module _ (c : CodeText) (source : List ℕ) (lines : Diagnostic → List ℕ) (l
     other_status : (f : ProgramFault) (s : ℕ) → HasNoCode c f → TellsFault lines f line line_after s → (s ≡ 132) ⊎ (s ≡ 133) ⊎ (s ≡ 134)
     other_status (why.Faulty d) s why_not told = absurd why_not
     other_status (why.Unread m) s why_not told = line_status (report_text (report.Code m)) 132 line line_after s told
-    other_status (why.Unlined count) s why_not told = absurd (none why_not.0 why_not.1)
+    other_status (why.Unlined m w) s why_not told = absurd (none why_not.0 why_not.1)
     other_status (why.Unnamed m w) s why_not told = absurd (none why_not.0 why_not.1)
     other_status (why.Unloaded f) s why_not told = absurd (none why_not.0 why_not.1)
     other_status why.Memory s why_not told = inr (inr told.1)
@@ -184,7 +173,7 @@ module _ (c : CodeText) (source : List ℕ) (lines : Diagnostic → List ℕ) (l
     unread (why.Unread m) why_not told =
         subst (λ (k : ℕ). Writes line (report_text (report.Code k)) line_after) (same_line c.code m n why_not.0 first)
         (was_told (report_text (report.Code m)) 132 line line_after (λ e. omega (arith, e)) (λ e. omega (arith, e)) told)
-    unread (why.Unlined count) why_not told = absurd (none why_not.0 why_not.1)
+    unread (why.Unlined m w) why_not told = absurd (none why_not.0 why_not.1)
     unread (why.Unnamed m w) why_not told = absurd (none why_not.0 why_not.1)
     unread (why.Unloaded f) why_not told = absurd (none why_not.0 why_not.1)
     unread why.Memory why_not told = absurd (omega (arith, told.1))

@@ -12,7 +12,6 @@ pub mod ProgramLines
 pub mod FrameNames
 pub mod KeptNames
 pub mod PlaceLines
-mod FileRows
 pub mod CodesExcluded
 pub mod ReadingText
 pub mod Ranges

@@ -15,9 +15,10 @@ use Rattle.blang.specs.Machine.{Image}
 use Rattle.blang.specs.Reports.{Reported, report_text}
 use Rattle.blang.specs.declared.run.Report.TheVariants as report
 use Rattle.btools.specs.NamedFrames.{unnamed_line}
+use Rattle.btools.specs.PlaceLines.{unlined_line}
 use Rattle.btools.specs.declared.program.ProgramFault.{ProgramFault}
 use Rattle.btools.specs.declared.program.ProgramFault.TheVariants as why
-use Rattle.btools.specs.Programs.{HasNoProgram, HasProgram, TellsFault, load_line, unlined_line}
+use Rattle.btools.specs.Programs.{HasNoProgram, HasProgram, TellsFault, load_line}
 use Rattle.btools.specs.ProgramsExcluded.{WrongPrograms, code_in}
 
 -- a line with a status was told, and the answer is that of a failed device
@@ -74,7 +75,7 @@ module _ (lines : Diagnostic → List ℕ) (line line_after : Outgoing) where
   told_status : (edition : Edition) (source : List ℕ) (fault : ProgramFault) (status : ℕ) → HasNoProgram edition source fault → TellsFault lines fault line line_after status → (status ≡ 1) ⊎ (status ≡ 132) ⊎ (status ≡ 133) ⊎ (status ≡ 134)
   told_status edition source (why.Faulty d) status is told = some_status (lines d) 1 line line_after status (inl refl) told
   told_status edition source (why.Unread n) status is told = absurd is
-  told_status edition source (why.Unlined count) status is told = absurd is
+  told_status edition source (why.Unlined n w) status is told = absurd is
   told_status edition source (why.Unnamed n w) status is told = absurd is
   told_status edition source (why.Unloaded f) status is told =
       elim (by_line f status told) [ inl t ↦ some_status t.0 132 line line_after status (inr refl) t.2 | inr m ↦ inr (inr (inr m)) ]
@@ -83,7 +84,7 @@ module _ (lines : Diagnostic → List ℕ) (line line_after : Outgoing) where
   pub failed : (fault : ProgramFault) → TellsFault lines fault line line_after 133 → Grew line.failures line_after.failures
   failed (why.Faulty d) told = device_grew (lines d) 1 line line_after (λ e. omega (arith, e)) told
   failed (why.Unread n) told = device_grew (report_text (report.Code n)) 132 line line_after (λ e. omega (arith, e)) told
-  failed (why.Unlined count) told = device_grew (unlined_line count) 135 line line_after (λ e. omega (arith, e)) told
+  failed (why.Unlined n w) told = device_grew (unlined_line n w) 135 line line_after (λ e. omega (arith, e)) told
   failed (why.Unnamed n w) told = device_grew (unnamed_line n w) 135 line line_after (λ e. omega (arith, e)) told
   failed (why.Unloaded f) told =
       elim (by_line f 133 told) [ inl t ↦ device_grew t.0 132 line line_after (λ e. omega (arith, e)) t.2 | inr m ↦ absurd (omega (arith, m)) ]
@@ -100,7 +101,7 @@ module _ (lines : Diagnostic → List ℕ) (line line_after : Outgoing) where
     fault (why.Unloaded f) is told =
         absurd (elim (by_line f 1 told) [ inl t ↦ other_answer t.0 132 line line_after 1 (λ e. omega (arith, e)) (λ e. omega (arith, e)) (λ e. omega (arith, e)) t.2 | inr m ↦ omega (arith, m) ])
     fault (why.Unread n) is told = absurd is
-    fault (why.Unlined count) is told = absurd is
+    fault (why.Unlined n w) is told = absurd is
     fault (why.Unnamed n w) is told = absurd is
     fault why.Memory is told = absurd (omega (arith, told.1))
 
@@ -120,7 +121,7 @@ module _ (lines : Diagnostic → List ℕ) (line line_after : Outgoing) where
           | inr m ↦ absurd (omega (arith, m))
         ]
     unloaded (why.Unread n) is told = absurd is
-    unloaded (why.Unlined count) is told = absurd is
+    unloaded (why.Unlined n w) is told = absurd is
     unloaded (why.Unnamed n w) is told = absurd is
     unloaded why.Memory is told = absurd (omega (arith, told.1))
 
@@ -130,7 +131,7 @@ module _ (lines : Diagnostic → List ℕ) (line line_after : Outgoing) where
         let no : None ≡ Some f = sym none ∙ subst (λ (x : List Definition). load_fault x ≡ Some f) (sym (is.1 r g).1) is.2 in
         cc
     loads (why.Unread n) status is told clean none = absurd is
-    loads (why.Unlined count) status is told clean none = absurd is
+    loads (why.Unlined n w) status is told clean none = absurd is
     loads (why.Unnamed n w) status is told clean none = absurd is
     loads why.Memory status is told clean none = told.1
 

@@ -98,7 +98,7 @@ loaded edition source ds (Ok p) is gives = record {
 }
 loaded edition source ds (Err (why.Faulty d)) is gives = absurd gives
 loaded edition source ds (Err (why.Unread n)) is gives = absurd gives
-loaded edition source ds (Err (why.Unlined count)) is gives = absurd gives
+loaded edition source ds (Err (why.Unlined n w)) is gives = absurd gives
 loaded edition source ds (Err (why.Unnamed n w)) is gives = absurd gives
 loaded edition source ds (Err (why.Unloaded f)) is gives = (ds, is, gives)
 loaded edition source ds (Err why.Memory) is gives = tt

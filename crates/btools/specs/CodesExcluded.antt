@@ -1,5 +1,6 @@
 -- Promise: a code text decides what is told of its program, whatever its streams do: program, lines, line and status.
 use Rattle.std.specs.Prelude.{◌≡◌, ℕ, List, Some, None, ◌⊎◌, map}
+use Rattle.bauthor.specs.declared.fault.LineWanted.{LineWanted}
 use Rattle.bauthor.specs.declared.fault.Wanted.{Wanted}
 use Rattle.bword.specs.ByteEnds.{Grew, Outgoing, Writes}
 use Rattle.bcode.specs.Faults.{IsFaultLine}
@@ -16,13 +17,13 @@ use Rattle.btools.specs.declared.names.Frame.{Frame}
 use Rattle.btools.specs.declared.program.ProgramFault.TheVariants as why
 use Rattle.btools.specs.NamedFrames.{HasFrames, HasWrongName, function_names, unnamed_line}
 use Rattle.btools.specs.Origins.{Code, HasNoProgramOf, LinesOf, NamesOf, NoProgramOf, ProgramOf}
-use Rattle.btools.specs.PlaceLines.{CodeText, HasPlaceLines, places_in}
-use Rattle.btools.specs.Programs.{load_line, unlined_line}
+use Rattle.btools.specs.PlaceLines.{CodeText, HasPlaceLines, HasWrongLine, unlined_line}
+use Rattle.btools.specs.Programs.{load_line}
 
 -- The file of lines, or that of names, doesn't suit the code, and this is told.
 abbrev pub IsUnsuited : CodeText → List Definition → Outgoing → Outgoing → Type 0
 IsUnsuited c ds line line_after =
-    (((ls : List ℕ) → HasPlaceLines c ds ls → ⊥) × Writes line (unlined_line (places_in ds)) line_after)
+    ((number : ℕ) × (w : LineWanted) × HasWrongLine c ds number w × Writes line (unlined_line number w) line_after)
     ⊎ ((number : ℕ) × (w : Wanted) × HasWrongName c ds number w × Writes line (unnamed_line number w) line_after)
 
 module _ (c : CodeText) (source : List ℕ) (lines : Diagnostic → List ℕ) (line line_after : Outgoing) where

@@ -4,7 +4,6 @@ use Rattle.std.specs.Prelude.{Option, MatchOption, Some, None, Ok, Err, filter_m
 use Rattle.bauthor.specs.NameFiles.{names_read}
 use Rattle.bauthor.specs.declared.line.NameLine.{NameLine}
 use Rattle.bauthor.specs.declared.line.NameLine.TheVariants as line
-use Rattle.bauthor.specs.declared.fault.NameFault.TheVariants as name_fault
 use Rattle.bauthor.specs.declared.fault.Wanted.{Wanted}
 use Rattle.bauthor.specs.declared.fault.Wanted.TheVariants as wanted
 use Rattle.blang.specs.declared.code.Definition.{Definition}
@@ -67,7 +66,7 @@ HasFrames c ds frames = MatchOption c.names (frames ≡ []) (λ file. HasNamesIn
 -- This is the first wrong line of its file of names, and what it has to be.
 abbrev pub HasWrongName : CodeText → List Definition → (number : ℕ) → Wanted → Type 0
 HasWrongName c ds number w =
-    MatchOption c.names ⊥ (λ file. names_read file ds ≡ Err (name_fault.Line number w))
+    MatchOption c.names ⊥ (λ file. names_read file ds ≡ Err (number, w))
 
 abbrev pub word_form : (word : ℕ) → List ℕ
 word_form word = if nat_lt 0 word then codes "'a NAME' or '-', for word " else codes "'a NAME', for word "

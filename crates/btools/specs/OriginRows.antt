@@ -1,14 +1,14 @@
 -- Closed facts: the lines of the places of code texts, files of lines, and what stands beside the lines of a program.
-use Rattle.std.specs.Prelude.{◌≡◌, [], ◌∷◌, codes, map, refl, Some, None}
+use Rattle.std.specs.Prelude.{◌≡◌, ℕ, List, [], ◌∷◌, codes, map, refl, Option, Some, None}
 use Rattle.std.specs.Fmt.{digits}
 use Rattle.bword.specs.declared.edition.Edition.TheVariants as editions
 use Rattle.blang.specs.declared.code.Definition.{Definition}
 use Rattle.blang.specs.declared.code.Definition.TheVariants as definition
 use Rattle.blang.specs.declared.code.Instr.TheVariants as instr
 use Rattle.blang.specs.declared.code.Ival.TheVariants as ival
+use Rattle.bauthor.specs.declared.fault.LineWanted.TheVariants as wanted
 use Rattle.btools.specs.Origins.{Code, Source, beside}
-use Rattle.btools.specs.PlaceLines.{lines_before, place_lines, places_in}
-use Rattle.btools.specs.Programs.{unlined_line}
+use Rattle.btools.specs.PlaceLines.{CodeText, HasPlaceLines, HasWrongLine, last_in, lines_before, place_lines, unlined_line}
 
 -- X n 2 1, c 1, s 0, w 4
 abbrev an_external : Definition
@@ -46,24 +46,42 @@ lines_of_all = refl
 no_definitions : place_lines 1 [] ≡ []
 no_definitions = refl
 
-number_of_places : map places_in ([] ∷ (no_values ∷ []) ∷ (an_external ∷ a_function ∷ a_vector ∷ []) ∷ [])
-    ≡ 0 ∷ 0 ∷ 6 ∷ []
-number_of_places = refl
-
 -- a text of each edition, and texts whose first line isn't `B 2`
 editions_told : map lines_before
     (codes "B 2\nE\n" ∷ codes "E\n" ∷ codes "B 1\nE\n" ∷ codes "X n 0 0\nB 2\nE\n" ∷ [] ∷ [])
     ≡ 1 ∷ 0 ∷ 0 ∷ 0 ∷ 0 ∷ []
 editions_told = refl
 
-unlined_told : unlined_line 12
-    ≡ codes "error: the file of lines needs 12 lines, a decimal number for each place of the code\n"
+unlined_told : unlined_line 3 (wanted.Number 2 (codes "main") 12)
+    ≡ codes "error: line 3 of the file of lines has to be a number from 0 to 2, for place 12 of main\n"
 unfolding digits
 unlined_told = refl
 
+end_told : unlined_line 12 wanted.End ≡ codes "error: line 12 of the file of lines has to be its end\n"
+unfolding digits
+end_told = refl
+
+-- no source, an empty one, and one with and without a newline at its end
+last_lines : map last_in
+    (None ∷ Some [] ∷ Some (codes "a\nb") ∷ Some (codes "a\nb\n") ∷ Some (codes "\n") ∷ Some (codes "\n\n") ∷ [])
+    ≡ 18446744073709551615 ∷ 1 ∷ 2 ∷ 2 ∷ 1 ∷ 2 ∷ []
+last_lines = refl
+
+-- a file of lines, where the source isn't known, and where it has two lines
+abbrev text_of : (source : Option (List ℕ)) → CodeText
+text_of source = record { code = codes "V v 1 1 0\nc 3\nE\n"; lines = Some (codes "3\n"); source = source; names = None }
+
+lines_without : HasPlaceLines (text_of None) (a_vector ∷ []) (3 ∷ [])
+unfolding digits
+lines_without = refl
+
+lines_beyond : HasWrongLine (text_of (Some (codes "a\nb\n"))) (a_vector ∷ []) 1 (wanted.Number 2 (codes "v") 0)
+unfolding digits
+lines_beyond = refl
+
 -- a source, a code text by itself, and one with lines of a source
 what_stands_beside : map (λ o. beside o (codes "a"))
-    (Source editions.Two ∷ Code (record { code = codes "E\n"; lines = None; names = None })
-    ∷ Code (record { code = codes "E\n"; lines = Some []; names = None }) ∷ [])
+    (Source editions.Two ∷ Code (record { code = codes "E\n"; lines = None; source = None; names = None })
+    ∷ Code (record { code = codes "E\n"; lines = Some []; source = Some (codes "a"); names = None }) ∷ [])
     ≡ codes "a" ∷ [] ∷ codes "a" ∷ []
 what_stands_beside = refl

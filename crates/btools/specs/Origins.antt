@@ -11,7 +11,7 @@ use Rattle.blang.specs.Text.{IsCodeText}
 use Rattle.bmach.specs.Resolved.{IsLoadedFrom}
 use Rattle.btools.specs.FrameNames.{HasNames}
 use Rattle.btools.specs.NamedFrames.{HasFrames, HasWrongName}
-use Rattle.btools.specs.PlaceLines.{CodeText, HasPlaceLines, places_in}
+use Rattle.btools.specs.PlaceLines.{CodeText, HasPlaceLines, HasWrongLine}
 use Rattle.btools.specs.ProgramLines.{HasLines}
 use Rattle.btools.specs.Programs.{HasNoProgram, HasProgram, TellsFault}
 use Rattle.btools.specs.declared.names.Frame.{Frame}
@@ -30,6 +30,7 @@ abbrev pub code_text_shown : given.CodeText.CodeText → CodeText
 code_text_shown c = record {
   code = c.code.now;
   lines = option_map (λ file. file.now) c.lines;
+  source = option_map (λ file. file.now) c.source;
   names = option_map (λ file. file.now) c.names;
 }
 
@@ -77,14 +78,12 @@ IsLined c ds = (lines : List ℕ) × HasPlaceLines c ds lines
 abbrev pub IsNamed : CodeText → List Definition → Type 0
 IsNamed c ds = (frames : List Frame) × HasFrames c ds frames
 
--- why a code text has no program, in this order: its first wrong line, or that its lines aren't one for each of so many
--- places, or the first wrong line of its file of names, or why it doesn't load; or that memory was refused
+-- why a code text has no program, in this order: its first wrong line, or that of its file of lines, or that of its file
+-- of names, or why it doesn't load; or that memory was refused
 abbrev pub HasNoCode : CodeText → ProgramFault → Type 0
 HasNoCode c (why.Faulty d) = ⊥
 HasNoCode c (why.Unread n) = IsFaultLine c.code n × ((ds : List Definition) → IsCodeText c.code ds → ⊥)
-HasNoCode c (why.Unlined count) =
-    (ds : List Definition) × IsCodeText c.code ds × (places_in ds ≡ count)
-    × ((lines : List ℕ) → HasPlaceLines c ds lines → ⊥)
+HasNoCode c (why.Unlined n w) = (ds : List Definition) × IsCodeText c.code ds × HasWrongLine c ds n w
 HasNoCode c (why.Unnamed n w) =
     (ds : List Definition) × IsCodeText c.code ds × HasWrongName c ds n w × IsLined c ds
 HasNoCode c (why.Unloaded f) =

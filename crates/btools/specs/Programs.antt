@@ -1,5 +1,5 @@
 -- Promise: a source that is compiled and loaded, or why it can't be.
-use Rattle.std.specs.Prelude.{◌≡◌, ℕ, List, [], ◌++◌, codes, decimal, false, map, Option, Some, None, MatchOption}
+use Rattle.std.specs.Prelude.{◌≡◌, ℕ, List, [], codes, false, map, Option, Some, None, MatchOption}
 use Rattle.std.specs.Prelude.{Result, Ok, Err, ◌⊎◌, unwrap_or}
 use Rattle.bword.specs.declared.edition.Edition.{Edition}
 use Rattle.bword.specs.ByteEnds.{Unread, Outgoing, Kept, incoming_of, outgoing_of}
@@ -21,6 +21,7 @@ use Rattle.blang.specs.declared.run.LoadFault.TheVariants as fault
 use Rattle.blang.specs.declared.run.Outcome.TheVariants as outcome
 use Rattle.blang.specs.declared.run.Report.TheVariants as report
 use Rattle.btools.specs.NamedFrames.{unnamed_line}
+use Rattle.btools.specs.PlaceLines.{unlined_line}
 use Rattle.btools.specs.declared.program.Program.{Program}
 use Rattle.btools.specs.declared.program.ProgramFault.{ProgramFault}
 use Rattle.btools.specs.declared.program.ProgramFault.TheVariants as why
@@ -98,12 +99,6 @@ load_line (fault.Undefined name) = Some (codes "load 3\n")
 load_line fault.NoMain = Some (codes "load 4\n")
 load_line fault.Memory = None
 
--- the line of a code text whose file of lines isn't a number for each of so many places
-abbrev pub unlined_line : (count : ℕ) → List ℕ
-unlined_line count =
-    codes "error: the file of lines needs " ++ decimal count
-    ++ codes " lines, a decimal number for each place of the code\n"
-
 -- This is told of it, and `lines` of a fault of the source; or nothing where memory was refused.
 abbrev pub TellsFault : (lines : Diagnostic → List ℕ) → ProgramFault → Outgoing → Outgoing → (status : ℕ) → Type 0
 TellsFault lines (why.Faulty d) line line_after status = Reported (lines d) FAULT line line_after status
@@ -112,8 +107,8 @@ TellsFault lines (why.Unloaded f) line line_after status =
     (λ text. Reported text REFUSED line line_after status)
 TellsFault lines (why.Unread n) line line_after status =
     Reported (report_text (report.Code n)) REFUSED line line_after status
-TellsFault lines (why.Unlined count) line line_after status =
-    Reported (unlined_line count) WRONG_COMMAND line line_after status
+TellsFault lines (why.Unlined n w) line line_after status =
+    Reported (unlined_line n w) WRONG_COMMAND line line_after status
 TellsFault lines (why.Unnamed n w) line line_after status =
     Reported (unnamed_line n w) WRONG_COMMAND line line_after status
 TellsFault lines why.Memory line line_after status = (line_after ≡ line) × (status ≡ MEMORY)

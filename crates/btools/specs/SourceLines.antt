@@ -1,12 +1,20 @@
 -- Inner words: the lines of a source, as they are shown.
-use Rattle.std.specs.Prelude.{ℕ, ◌-◌, ◌==◌, List, [], get_or, length, map, take, if◌then◌else◌}
+use Rattle.std.specs.Prelude.{ℕ, ◌+◌, ◌-◌, ◌==◌, List, [], codes, count_by, get_or, length, map, take, if◌then◌else◌}
 use Rattle.std.specs.Char.{is_ascii_whitespace}
-use Rattle.std.specs.List.{slice_split, suffix_len}
+use Rattle.std.specs.List.{ends_with, slice_split, suffix_len}
 use Rattle.btools.specs.Characters.{is_printable}
 
 -- A newline ends a line, and the last one is what stands after them all.
 abbrev pub source_lines : List ℕ → List (List ℕ)
 source_lines source = slice_split (λ b. b == 10) source
+
+abbrev pub newlines_in : List ℕ → ℕ
+newlines_in source = count_by (λ b. b == 10) source
+
+-- the number of the last line; it is none where nothing stands after the last newline
+abbrev pub last_line : List ℕ → ℕ
+last_line source =
+    if ends_with (λ a b. a == b) source (codes "\n") then newlines_in source else newlines_in source + 1
 
 -- the line of a number, from 1 on; nothing where there is none
 abbrev pub line_at : (source : List ℕ) → (number : ℕ) → List ℕ

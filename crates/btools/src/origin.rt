@@ -19,6 +19,8 @@ pub struct CodeText<'a> {
     pub code: &'a [u8],
     /// A file with a number on a line of its own for each place. Without it the lines are those of the code text.
     pub lines: Option<&'a [u8]>,
+    /// The source that has these lines, if it is known. No number is above that of its last line.
+    pub source: Option<&'a [u8]>,
     /// A file of the names of the words and labels of its functions. Without it they have none.
     pub names: Option<&'a [u8]>,
 }

@@ -1,16 +1,15 @@
 //! The lines of the places of a code text.
-ghost use Rattle.std.specs.Prelude.{◌≡◌, ◌≤◌, ◌+◌, ◌++◌, All, IfOk, IfSome, List, MatchOption, MatchResult, OnOk, decimal, length, map, ℕ};
+ghost use Rattle.std.specs.Prelude.{◌≡◌, ◌≤◌, ◌+◌, ◌++◌, IfOk, MatchResult, OnOk, length, option_map};
 ghost use Rattle.std.specs.List.{range_with_len};
 ghost use Rattle.blang.specs.Text.{IsCodeText, lines_of};
-ghost use Rattle.bword.specs.ByteEnds.{most};
 ghost use Rattle.btools.specs.Origins.{HasNoCode, code_text_shown};
-ghost use Rattle.btools.specs.PlaceLines.{HasPlaceLines, IsLinesFile, lines_before, lines_before_places, place_lines, places_in};
+ghost use Rattle.btools.specs.PlaceLines.{HasPlaceLines, last_in, lines_before, lines_before_places, place_lines};
 
 use crate::origin::CodeText;
-use crate::program::{ProgramFault, places_of};
-use crate::source_lines::{line_at, split_source};
+use crate::program::ProgramFault;
+use crate::source_lines::{last_line, line_at};
+use bauthor::{LineFault, places_of, read_place_lines};
 use blang::Definition;
-use itoa::Buffer;
 use std::alloc::{AllocError, Global};
 
 /// The line of each place of a code text of these definitions.
@@ -29,25 +28,21 @@ pub(crate) fn lines_of_places(
             Err(_) => Err(ProgramFault::Memory),
         };
     };
-    let Some(count) = places_in(definitions) else {
-        return Err(ProgramFault::Memory);
-    };
-    match read_lines(alloc, file, count) {
-        Ok(Some(lines)) => Ok(lines),
-        Ok(None) => Err(ProgramFault::Unlined(count)),
-        Err(_) => Err(ProgramFault::Memory),
+    match read_place_lines(alloc, file, definitions, last_in(text.source)) {
+        Ok(lines) => Ok(lines),
+        Err(LineFault::Line(number, wanted)) => Err(ProgramFault::Unlined(number, wanted)),
+        Err(LineFault::Memory) => Err(ProgramFault::Memory),
     }
 }
 
-// How many places definitions have, if there is a number for it.
-fn places_in(definitions: &[Definition]) -> Option<usize>
-    ensures { IfSome result (λ count. count ≡ places_in definitions.now) }
+// The greatest number that a file of lines may have.
+fn last_in(source: Option<&[u8]>) -> u64
+    ensures { result ≡ last_in (option_map (λ s. s.now) source.entry) }
 {
-    let mut count = 0usize;
-    for definition in definitions {
-        count = count.checked_add(places_of(definition))?;
+    match source {
+        Some(source) => last_line(source),
+        None => u64::MAX,
     }
-    Some(count)
 }
 
 /// How many lines of a code text stand before its definitions.
@@ -130,53 +125,4 @@ pub fn lines_in(definition: &Definition) -> u64
         }
     };
     body as u64 + 1
-}
-
-// The numbers of a file of lines, if it has so many and nothing else.
-fn read_lines(alloc: Global, file: &[u8], count: usize) -> Result<Option<Vec<u64>>, AllocError>
-    ensures { IfOk result (λ found. MatchOption found ((lines : List ℕ) → IsLinesFile file.now count lines → ⊥)
-        (λ v. IsLinesFile file.now count v.items)) }
-{
-    let texts = split_source(alloc, file)?;
-    let Some((last, numbers)) = texts.split_last() else {
-        return Ok(None);
-    };
-    if !last.is_empty() || numbers.len() != count {
-        return Ok(None);
-    }
-    read_numbers(alloc, numbers)
-}
-
-// The numbers that lines are, if each is one.
-fn read_numbers(alloc: Global, lines: &[&[u8]]) -> Result<Option<Vec<u64>>, AllocError>
-    ensures { IfOk result (λ found. MatchOption found
-        ((ns : List ℕ) → All (λ n. n ≤ most) ns → map decimal ns ≡ map (λ l. l.now) lines.now → ⊥)
-        (λ v. All (λ n. n ≤ most) v.items × (map decimal v.items ≡ map (λ l. l.now) lines.now))) }
-{
-    let mut numbers = Vec::new(alloc);
-    for line in lines {
-        match read_number(line) {
-            Some(number) => numbers.push(number)?,
-            None => return Ok(None),
-        }
-    }
-    Ok(Some(numbers))
-}
-
-// The number that a line is in decimal digits, if it is one of 64 bits.
-fn read_number(line: &[u8]) -> Option<u64>
-    ensures { MatchOption result ((n : ℕ) → n ≤ most → decimal n ≡ line.now → ⊥)
-        (λ n. (n ≤ most) × (decimal n ≡ line.now)) }
-{
-    let Ok(text) = str::from_utf8(line) else {
-        return None;
-    };
-    let Ok(number) = text.parse::<u64>() else {
-        return None;
-    };
-    if Buffer::new().format(number).as_bytes() == line {
-        Some(number)
-    } else {
-        None
-    }
 }

@@ -12,7 +12,7 @@ use crate::named_frames::frames_of_text;
 use crate::names::{NameKeeper, Names};
 use crate::origin::{CodeText, Origin};
 use crate::place_lines::lines_of_places;
-use bauthor::Wanted;
+use bauthor::{LineWanted, Wanted, places_of};
 use bcode::{CodeFault, read_code};
 use blang::{Definition, Diagnostic, LoadFault};
 use bmach::{Image, load_slice};
@@ -45,8 +45,8 @@ pub enum ProgramFault {
     Faulty(Diagnostic),
     /// No code text goes on with this line. Lines count from 1.
     Unread(u64),
-    /// The file of lines isn't a number for each place of the code text, which has so many.
-    Unlined(usize),
+    /// The first wrong line of the file of lines of the code text, from 1 on, and what it has to be.
+    Unlined(u64, LineWanted),
     /// The first wrong line of the file of names of the code text, from 1 on, and what it has to be.
     Unnamed(u64, Wanted),
     /// The code doesn't load.
@@ -61,17 +61,6 @@ pub fn split_lines<'a>(lines: &'a [u64], definition: &Definition) -> (&'a [u64],
     ensures later { result.1.now ≡ drop (size_of definition.now) lines.now }
 {
     lines.split_at(lines.len().min(places_of(definition)))
-}
-
-/// How many instructions or initial values a definition has.
-pub(crate) fn places_of(definition: &Definition) -> usize
-    ensures { result ≡ size_of definition.now }
-{
-    match definition {
-        Definition::Function(function) => function.parts().code.len(),
-        Definition::Simple(simple) => simple.parts().values.len(),
-        Definition::Vector(vector) => vector.parts().values.len(),
-    }
 }
 
 /// Reads the program of a source, or of a code text.

@@ -1,5 +1,5 @@
 //! Why a source or a code text has no program, as it is told.
-ghost use Rattle.std.specs.Prelude.{◌≡◌, ◌≤◌, ◌++◌, IfOk, List, length, option_map, ℕ};
+ghost use Rattle.std.specs.Prelude.{◌≡◌, ◌≤◌, ◌+◌, ◌++◌, IfOk, List, codes, decimal, length, option_map, ℕ};
 ghost use Rattle.blang.specs.Compiles.{line_of};
 ghost use Rattle.blang.specs.Reports.{report_text};
 ghost use Rattle.blang.specs.declared.run.Report.TheVariants as report;
@@ -9,24 +9,26 @@ ghost use Rattle.btools.specs.ProgramsExcluded.{WrongPrograms};
 ghost use Rattle.btools.specs.FaultPlaces.{fault_lines, place_line};
 ghost use Rattle.btools.specs.NamedFrames.{unnamed_line, wanted_text, word_form};
 ghost use Rattle.btools.specs.Origins.{HasNoProgramOf, NoProgramOf, Origin};
-ghost use Rattle.btools.specs.Programs.{TellsFault, load_line, unlined_line};
+ghost use Rattle.btools.specs.PlaceLines as numbers;
+ghost use Rattle.btools.specs.PlaceLines.{unlined_line};
+ghost use Rattle.btools.specs.Programs.{TellsFault, load_line};
 
 use crate::program::ProgramFault;
 use crate::quoting::push_file;
 use crate::telling::tell;
 use crate::text::Text;
 use arrayvec::ArrayString;
-use bauthor::Wanted;
+use bauthor::{LineWanted, Wanted};
 use blang::status::{self, Status};
 use blang::{Diagnostic, LoadFault};
 use bparse::write_diagnostic;
 use bsources::{FileLine, SourceFiles};
-use bword::{ByteOut, EndFault, MemOut};
+use bword::{ByteOut, EndFault, MemOut, Name};
 use itoa::Buffer;
 use std::alloc::{AllocError, Global};
 
 /// Room for the longest line about a code text.
-const CODE_LINE_LEN: usize = 128;
+const CODE_LINE_LEN: usize = 160;
 
 /// Tells why there is no program, and gives the status of `go` or, for a code text, of `run`.
 pub fn tell_fault<D: ByteOut>(fault: &ProgramFault, diag: &mut D) -> Status
@@ -45,9 +47,9 @@ pub fn tell_fault<D: ByteOut>(fault: &ProgramFault, diag: &mut D) -> Status
                 diag,
             )
         }
-        ProgramFault::Unlined(count) => {
+        ProgramFault::Unlined(number, wanted) => {
             tell(
-                unlined_line(*count).as_str().as_bytes(),
+                unlined_line(*number, *wanted).as_str().as_bytes(),
                 status::WRONG_COMMAND,
                 diag,
             )
@@ -78,15 +80,44 @@ fn unread_line(number: u64) -> ArrayString<CODE_LINE_LEN>
     line
 }
 
-// The line of a file of lines that isn't a number for each of so many places.
-fn unlined_line(count: usize) -> ArrayString<CODE_LINE_LEN>
-    ensures { result.bytes ≡ unlined_line count }
+// The line of a file of lines whose first wrong line has this number.
+fn unlined_line(number: u64, wanted: LineWanted) -> ArrayString<CODE_LINE_LEN>
+    ensures { result.bytes ≡ unlined_line number wanted }
 {
     let mut line = ArrayString::new();
-    line.push_str("error: the file of lines needs ");
-    line.push_str(Buffer::new().format(count));
-    line.push_str(" lines, a decimal number for each place of the code\n");
+    line.push_str("error: line ");
+    line.push_str(Buffer::new().format(number));
+    line.push_str(" of the file of lines has to be ");
+    push_number_wanted(&mut line, wanted);
+    line.push_str("\n");
     line
+}
+
+fn push_number_wanted(line: &mut ArrayString<CODE_LINE_LEN>, wanted: LineWanted)
+    requires { length line.now.bytes ≤ 64 }
+    ensures added { line.new.bytes ≡ line.old.bytes ++ numbers.wanted_text wanted }
+    ensures few { length line.new.bytes ≤ 159 }
+{
+    match wanted {
+        LineWanted::Number(last, name, place) => {
+            line.push_str("a number from 0 to ");
+            line.push_str(Buffer::new().format(last));
+            push_place(line, name, place);
+        }
+        LineWanted::End => line.push_str("its end"),
+    }
+}
+
+fn push_place(line: &mut ArrayString<CODE_LINE_LEN>, name: Name, place: usize)
+    requires { length line.now.bytes ≤ 103 }
+    ensures added { line.new.bytes ≡ line.old.bytes
+        ++ codes ", for place " ++ decimal place ++ codes " of " ++ name }
+    ensures few { length line.new.bytes ≤ length line.old.bytes + 44 }
+{
+    line.push_str(", for place ");
+    line.push_str(Buffer::new().format(place));
+    line.push_str(" of ");
+    line.push_str(name.as_str());
 }
 
 // The line of a file of names whose first wrong line has this number.

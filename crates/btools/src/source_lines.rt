@@ -1,6 +1,6 @@
 //! Lines of a source, as they are shown.
-ghost use Rattle.std.specs.Prelude.{◌≡◌, ◌++◌, IfOk, OnOk, map};
-ghost use Rattle.btools.specs.SourceLines.{line_at, plain_byte, shown_line, source_lines};
+ghost use Rattle.std.specs.Prelude.{◌≡◌, ◌<◌, ◌-◌, ◌^◌, ◌++◌, IfOk, OnOk, map};
+ghost use Rattle.btools.specs.SourceLines.{last_line, line_at, newlines_in, plain_byte, shown_line, source_lines};
 
 use crate::text::Text;
 use std::alloc::{AllocError, Global};
@@ -10,6 +10,25 @@ pub fn split_source(alloc: Global, source: &[u8]) -> Result<Vec<&[u8]>, AllocErr
     ensures { IfOk result (λ lines. map (λ line. line.now) lines.items ≡ source_lines source.now) }
 {
     source.split(|byte| *byte == b'\n').collect(alloc)
+}
+
+/// The number of the last line of a source. It is none where nothing stands after the last newline.
+pub fn last_line(source: &[u8]) -> u64
+    ensures { result ≡ last_line source.now }
+{
+    let newlines = newlines_in(source);
+    if source.ends_with(b"\n") {
+        newlines
+    } else {
+        newlines + 1
+    }
+}
+
+fn newlines_in(source: &[u8]) -> u64
+    ensures value { result ≡ newlines_in source.now }
+    ensures fits { result < 2 ^ 64 - 1 }
+{
+    source.iter().filter(|byte| **byte == b'\n').count() as u64
 }
 
 /// The line of a source with this number, from 1 on; nothing if the source has fewer.

@@ -1,5 +1,5 @@
 -- Closed facts: the trace of small programs, and what is told of where their runs are over.
-use Rattle.std.specs.Prelude.{◌≡◌, ℕ, List, [], ◌∷◌, ◌++◌, Option, Some, None, codes, decimal, map, refl, replicate}
+use Rattle.std.specs.Prelude.{◌≡◌, ℕ, List, [], ◌∷◌, ◌++◌, Option, Some, None, codes, map, refl, replicate}
 use Rattle.std.specs.Fmt.{digits}
 use Rattle.bword.specs.declared.edition.Edition.TheVariants as editions
 use Rattle.blang.specs.declared.code.Definition.{Definition}
@@ -9,8 +9,7 @@ use Rattle.blang.specs.declared.run.Trap.TheVariants as trap
 use Rattle.blang.specs.Machine.{image_of, machine}
 use Rattle.blang.specs.Text.{code_lines, joined}
 use Rattle.bsources.specs.Files.{Files}
-use Rattle.btools.specs.PlaceLines.{HasPlaceLines}
-use Rattle.btools.specs.SourceLines.{source_lines}
+use Rattle.btools.specs.PlaceLines.{CodeText, HasPlaceLines}
 use Rattle.bwatch.specs.Sights.{Sights, end_sight, sights_of, stored_between}
 use Rattle.btrace.specs.RowTexts.{legend_in, margin}
 use Rattle.bwatch.specs.SmallPrograms.{calling, nothing, passing, reading, storing, trapping, writing}
@@ -80,7 +79,7 @@ nothing_is_spelled_so : code_of_nothing ≡ joined (code_lines editions.Two noth
 unfolding digits
 nothing_is_spelled_so = refl
 
-lines_of_code : HasPlaceLines (record { code = code_of_nothing; lines = None; names = None }) nothing (3 ∷ 4 ∷ [])
+lines_of_code : HasPlaceLines (record { code = code_of_nothing; lines = None; source = None; names = None }) nothing (3 ∷ 4 ∷ [])
 lines_of_code = refl
 
 told_by_code : under_heading nothing (3 ∷ 4 ∷ []) (asked (rows.From 1) None) 2 (outcome.Exit 0)
@@ -88,7 +87,16 @@ told_by_code : under_heading nothing (3 ∷ 4 ∷ []) (asked (rows.From 1) None)
 unfolding digits
 told_by_code = refl
 
-lines_of_author : source_lines (codes "7\n12\n") ≡ map decimal (7 ∷ 12 ∷ []) ++ [] ∷ []
+-- of a source of twelve lines
+abbrev by_author : CodeText
+by_author = record {
+  code = code_of_nothing;
+  lines = Some (codes "7\n12\n");
+  source = Some (codes "\n\n\n\n\n\n\n\n\n\n\n\n");
+  names = None;
+}
+
+lines_of_author : HasPlaceLines by_author nothing (7 ∷ 12 ∷ [])
 unfolding digits
 lines_of_author = refl
 

@@ -95,4 +95,5 @@ pub data Verifies (origin : Origin) (source : List ℕ) (ends : ToldEnds) (statu
 
 -- what is written for a code text
 abbrev pub VerifiesText : (code : List ℕ) → ToldEnds → (status : ℕ) → Type 0
-VerifiesText code ends status = Verifies (Code (record { code = code; lines = None; names = None })) code ends status
+VerifiesText code ends status =
+    Verifies (Code (record { code = code; lines = None; source = None; names = None })) code ends status

@@ -60,6 +60,7 @@ pub fn verify_text<O: ByteOut, D: ByteOut>(
     let text = CodeText {
         code,
         lines: None,
+        source: None,
         names: None,
     };
     verify(alloc, code, Origin::Code(text), out, diag)

@@ -1,0 +1,1 @@
+10 GOSUB TRAP
