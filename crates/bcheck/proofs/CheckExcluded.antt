@@ -54,6 +54,7 @@ use Rattle.bcheck.specs.Checks.{told_first, told_at}
 use Rattle.bcheck.specs.Sections.{at_fault, sections}
 use Rattle.bcheck.specs.declared.finding.TheConstants.{MOST_FINDINGS}
 use Rattle.bcheck.specs.CheckExcluded.{BeginsWith, ComesTo, Excluded, IsTold, Never, NeverOf, file_at, file_of}
+use Rattle.bcheck.proofs.NearerFault.{no_nearer}
 use Rattle.bcheck.specs.CheckExcluded.{HasLines, IsCount, IsCountOf, outcome_in, has_no_colon, is_printed, newlines}
 use Rattle.bcheck.specs.Tokens.{has_token_on, is_in_token}
 use Rattle.bcheck.specs.UndefinedNames.{Tells, told_subjects}
@@ -581,6 +582,7 @@ excluded = record {
   odd_lines = odd_lines;
   no_mend = no_mend;
   no_change = no_change;
+  no_nearer = no_nearer;
   is_definitions = is_definitions;
   no_warning = no_warning;
   other_bytes = other_bytes;

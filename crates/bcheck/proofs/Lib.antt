@@ -9,10 +9,12 @@ pub mod FindingTexts
 pub mod MendSteps
 pub mod MentionLoops
 pub mod MentionSteps
+pub mod NearerFault
 pub mod OnLine
 pub mod TokenPlaces
 pub mod ToldNames
 pub mod PlaceSteps
 pub mod FaultLines
 pub mod Reasons
+pub mod SameTokens
 pub mod SectionSteps

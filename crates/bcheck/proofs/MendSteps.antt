@@ -13,8 +13,8 @@ use Rattle.blang.specs.Layout.{load_fault}
 use Rattle.blang.specs.declared.run.LoadFault.{LoadFault}
 use Rattle.blang.specs.declared.status.TheConstants.{DONE, REFUSED}
 use Rattle.blang.specs.declared.token.Diagnostic.{Diagnostic}
-use Rattle.bcheck.specs.Checks.{GoesFarther, IsLater, Judged, StopsBy, StopsPast, status_told, told_first, verdict_line, with_newline}
-use Rattle.bcheck.specs.Findings.{FewerNames, Improves, IsCompiled, IsStopOf, StopsOn, Surpasses, definitions_in, definitions_of, is_better}
+use Rattle.bcheck.specs.Checks.{GoesFarther, IsLater, Judged, StopsBy, StopsPast, status_told, told_first, tokens_in, verdict_line, with_newline}
+use Rattle.bcheck.specs.Findings.{FewerNames, Improves, IsCompiled, IsStopOf, StopsApart, StopsOn, Surpasses, definitions_in, definitions_of, is_better}
 use Rattle.bcheck.specs.UndefinedNames.{told_subjects}
 use Rattle.bcheck.specs.declared.verdict.Judgement.{Judgement}
 use Rattle.blang.specs.declared.code.Definition.{Definition}
@@ -121,16 +121,18 @@ went_on edition source new v line d is j far =
 pub stops_on : (line : Kept) (d : Diagnostic) (edition : Edition) (before rest : List ℕ) → IsStopOf edition (with_newline before rest) (verdict.Faulty line d) → StopsOn edition before rest d.line
 stops_on line d edition before rest h = (d, h, refl)
 
--- a newline shows that a fault is farther on
+-- a newline that changes no token shows that a fault is farther on
 pub farther : (edition : Edition) (new old before changed rest : List ℕ) (a b : ℕ) → old ≡ before ++ rest → new ≡ changed ++ rest
-    → StopsOn edition before rest a → StopsOn edition changed rest b → a ≤ line_number_after 1 before → line_number_after 1 changed < b → GoesFarther edition new old
-farther edition new old before changed rest a b e f s t h k =
+    → StopsApart edition old before rest a → StopsApart edition new changed rest b → a ≤ line_number_after 1 before → line_number_after 1 changed < b → GoesFarther edition new old
+farther edition new old before changed rest a b e f (s, same) (t, also) h k =
     record {
       before = before;
       changed = changed;
       rest = rest;
       old_is = e;
       new_is = f;
+      old_apart = same ∙ ap (tokens_in edition) e;
+      new_apart = also ∙ ap (tokens_in edition) f;
       by = λ r g. subst (λ o. StopsBy (line_number_after 1 before) o) (sym (s.1 r g)) (subst (λ n. n ≤ line_number_after 1 before) (sym s.2) h);
       past = λ r g. subst (λ o. StopsPast (line_number_after 1 changed) o) (sym (t.1 r g)) (subst (λ n. line_number_after 1 changed < n) (sym t.2) k);
     }

@@ -16,7 +16,7 @@ use Rattle.blang.specs.Layout.{load_fault}
 use Rattle.blang.specs.declared.status.TheConstants.{DONE, DEVICE, MEMORY}
 use Rattle.bsources.specs.Files.{own_line}
 use Rattle.bcheck.specs.Checks.{Check, Checks, EditParts, FindingParts, IsOver, Mends, Outcome, finding_head, mended}
-use Rattle.bcheck.specs.Checks.{outcome_of}
+use Rattle.bcheck.specs.Checks.{GoesFarther, outcome_of}
 use Rattle.blang.specs.Trees.{Definition as Tree}
 use Rattle.blang.specs.WellFormed.{AllFormed}
 use Rattle.blint.specs.SourceTokens.{IsSource}
@@ -182,6 +182,8 @@ pub record Excluded : Type 0 where
       → ((count : ℕ) → IsCountOf to count → newlines text ≢ newlines line + count * 4) → Checks c → ⊥
   -- an edit that changes nothing
   pub no_change : (source : List ℕ) (e : EditParts source) → mended e ≡ source → ⊥
+  -- one that opens a string, and so makes a fault before the first one
+  pub no_nearer : GoesFarther editions.One (codes "f(){1 b\";=;}") (codes "f(){\"a b\";=;}") → ⊥
   -- a byte that can't be printed, where the line and the name of the file have none
   pub other_bytes : Never (λ c line status text.
       IsTrue (is_printed (shown_in_form c.form line))

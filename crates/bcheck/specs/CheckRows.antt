@@ -1,6 +1,6 @@
 -- Closed facts: what is told of a source, each at its limits and one past them.
 use Rattle.std.specs.Prelude.{◌≡◌, ◌<◌, ◌≤◌, ◌⊎◌, ℕ, List, [], ◌∷◌, ◌++◌, codes, length, map, Option, None, Some, refl}
-use Rattle.std.specs.Prelude.{false, true}
+use Rattle.std.specs.Prelude.{drop, false, take, true}
 use Rattle.std.specs.Fmt.{digits}
 use Rattle.bword.specs.declared.edition.Edition.TheVariants as editions
 use Rattle.blang.specs.declared.token.Diagnostic.{Diagnostic}
@@ -17,12 +17,13 @@ use Rattle.bcheck.specs.Checks.{FindingParts, IsWhole, Reason, finding_text, fin
 use Rattle.bcheck.specs.Checks.{second_text}
 use Rattle.bcheck.specs.Checks.{diagnostic_code, severity_of, severity_word, shown_byte}
 use Rattle.bcheck.specs.Checks.{shown_in_form, told_first}
-use Rattle.bcheck.specs.Checks.{GoesFarther, StopsBy, StopsPast, with_newline}
+use Rattle.bcheck.specs.Checks.{GoesFarther, StopsBy, StopsPast, tokens_in, with_newline}
 use Rattle.bcheck.specs.Checks.{change_line, cut_mark, goes_on, EditParts, IsBetter, IsLater, Outcome, edit_object}
 use Rattle.bcheck.specs.Checks.{edits_text, fault_in, mended, mended_line}
 use Rattle.bcheck.specs.CheckExcluded.{has_no_colon, is_printed, least_lines, most_lines, newlines}
 use Rattle.bcheck.specs.RuleWarnings.{warning_code}
 use Rattle.bcheck.specs.Tokens.{has_token_on, is_in_token, pieces_from}
+use Rattle.blang.specs.Cut.{cut, tokens_from}
 use Rattle.blang.specs.Cut.{fixed_of, greatest, keyword_of, line_number_after, longest, number_in, operator_of}
 use Rattle.blang.specs.Cut.{escape_of, other_of, whole, with_quoted_byte, word_token}
 use Rattle.bsources.specs.Files.{Files}
@@ -426,6 +427,41 @@ one_that_compiles_stops_by_no_line line h = h
 
 sources_with_newline : with_newline (codes "a b") (codes " c\n") ≡ codes "a b\n c\n"
 sources_with_newline = refl
+
+-- how many tokens a source has with a newline before this place: after a string and in it, where it ends at once
+abbrev with_string : List ℕ
+with_string = codes "f(){\"a b\";=;}"
+
+abbrev tokens_with : ℕ → ℕ
+tokens_with n = length (tokens_in editions.One (with_newline (take n with_string) (drop n with_string)))
+
+tokens_parted : length (tokens_in editions.One with_string) ∷ map tokens_with (4 ∷ 5 ∷ 6 ∷ 8 ∷ 9 ∷ 10 ∷ [])
+    ≡ 10 ∷ 10 ∷ 5 ∷ 5 ∷ 5 ∷ 10 ∷ 10 ∷ []
+unfolding tokens_from cut longest greatest whole word_token keyword_of number_in operator_of other_of fixed_of escape_of
+    with_quoted_byte
+tokens_parted = refl
+
+-- two sources alike but for a string that the new one opens: no newline in it leaves the tokens of the old one alone
+abbrev long_source : List ℕ
+long_source = codes "main() { auto x; putchar(\"ab cd\"); x = ; }"
+
+abbrev count_with : ℕ → ℕ
+count_with n = length (tokens_in editions.One (with_newline (take n long_source) (drop n long_source)))
+
+all_of_long : length (tokens_in editions.One long_source) ≡ 17
+unfolding tokens_from cut longest greatest whole word_token keyword_of number_in operator_of other_of fixed_of escape_of
+    with_quoted_byte
+all_of_long = refl
+
+first_of_long : map count_with (28 ∷ 29 ∷ []) ≡ 10 ∷ 10 ∷ []
+unfolding tokens_from cut longest greatest whole word_token keyword_of number_in operator_of other_of fixed_of escape_of
+    with_quoted_byte
+first_of_long = refl
+
+others_of_long : map count_with (30 ∷ 31 ∷ []) ≡ 10 ∷ 10 ∷ []
+unfolding tokens_from cut longest greatest whole word_token keyword_of number_in operator_of other_of fixed_of escape_of
+    with_quoted_byte
+others_of_long = refl
 
 -- what the theorems count and look for: newlines, bytes that can be printed, and colons
 newline_counts : map newlines ([] ∷ codes "a" ∷ codes "a\n" ∷ codes "\na\n" ∷ []) ≡ (0 ∷ 0 ∷ 1 ∷ 2 ∷ [])

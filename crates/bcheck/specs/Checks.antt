@@ -13,6 +13,7 @@ use Rattle.blang.specs.declared.token.About.TheVariants as about
 use Rattle.blang.specs.declared.token.Letters.{Letters}
 use Rattle.blang.specs.declared.token.Letters.TheVariants as letters
 use Rattle.blang.specs.declared.token.Placed.{Placed}
+use Rattle.blang.specs.declared.token.Token.{Token}
 use Rattle.blang.specs.declared.token.Token.TheVariants as token
 use Rattle.blang.specs.declared.token.Diagnostic.{Diagnostic}
 use Rattle.blang.specs.Code.{code_of}
@@ -360,6 +361,15 @@ outcome_status o = (told_first o.stop (fault_in o)).1
 abbrev pub with_newline : (before rest : List ℕ) → List ℕ
 with_newline before rest = before ++ 10 ∷ rest
 
+-- the tokens of a source, without their lines
+abbrev pub tokens_in : Edition → List ℕ → List Token
+tokens_in edition source = map (λ p. p.token) (tokens_from edition 1 source)
+
+-- a newline between both parts of a source changes no token: it stands within none but a comment
+abbrev pub ChangesNoToken : Edition → (before rest : List ℕ) → Type 0
+ChangesNoToken edition before rest =
+    tokens_in edition (with_newline before rest) ≡ tokens_in edition (before ++ rest)
+
 -- there is a fault, on this line or before it
 abbrev pub StopsBy : (line : ℕ) → Option Diagnostic → Type 0
 StopsBy line None = ⊥
@@ -370,14 +380,16 @@ abbrev pub StopsPast : (line : ℕ) → Option Diagnostic → Type 0
 StopsPast line None = Unit {0}
 StopsPast line (Some d) = line < d.line
 
--- Two sources end alike. A newline before that end shows that the first fault of the old one is before it, and that of
--- the new one after it.
+-- Two sources end alike. A newline before that end, which changes no token of either, shows that the first fault of the
+-- old one is before it, and that of the new one after it.
 pub record GoesFarther (edition : Edition) (new old : List ℕ) : Type 0 where
   pub before : List ℕ
   pub changed : List ℕ
   pub rest : List ℕ
   pub old_is : old ≡ before ++ rest
   pub new_is : new ≡ changed ++ rest
+  pub old_apart : ChangesNoToken edition before rest
+  pub new_apart : ChangesNoToken edition changed rest
   pub by : EachOutcome edition (with_newline before rest) (λ o. StopsBy (line_number_after 1 before) o.stop)
   pub past : EachOutcome edition (with_newline changed rest) (λ o. StopsPast (line_number_after 1 changed) o.stop)
 

@@ -8,9 +8,13 @@ use Rattle.bword.specs.ByteEnds.{most}
 use Rattle.blang.specs.Cut.{line_number_after}
 use Rattle.blang.specs.declared.status.TheConstants.{DONE}
 use Rattle.blang.specs.declared.token.Diagnostic.{Diagnostic}
+use Rattle.blang.specs.declared.token.Letters.{Letters}
+use Rattle.blex.specs.declared.lexeme.Lexeme.{Lexeme}
+use Rattle.blex.specs.declared.lexeme.Lexeme.TheVariants as lexeme
 use Rattle.bsources.specs.Files.{Files, line_shown, own_line}
 use Rattle.bcheck.specs.Checks.{EachOutcome, EditParts, FindingParts, IsAtToken, IsBetter, Mends, Outcome, Reason}
-use Rattle.bcheck.specs.Checks.{StandsOn, TellsAll, change_line, edit_object, mended, mended_line, with_newline}
+use Rattle.bcheck.specs.Checks.{StandsOn, TellsAll, change_line, edit_object, mended, mended_line, tokens_in}
+use Rattle.bcheck.specs.Checks.{with_newline}
 use Rattle.bcheck.specs.Pieces.{change_text, edit_text, line_text}
 use Rattle.bplaces.specs.Columns.{column_after}
 use Rattle.bcheck.specs.Checks.{diagnostic_code, fault_in, finding_text, is_in_line, is_of_several}
@@ -234,6 +238,15 @@ FewerNames new old definitions before = Unit {0}
 abbrev pub StopsOn : Edition → (before rest : List ℕ) → (line : ℕ) → Type 0
 StopsOn edition before rest line =
     (d : Diagnostic) × HasFault edition (with_newline before rest) d × (d.line ≡ line)
+
+-- it is so, and the newline changes no token of this source
+abbrev pub StopsApart : Edition → (source before rest : List ℕ) → (line : ℕ) → Type 0
+StopsApart edition source before rest line =
+    StopsOn edition before rest line × (tokens_in edition (with_newline before rest) ≡ tokens_in edition source)
+
+-- both are the same wrong token
+abbrev pub IsSameWrong : (one other : Option Lexeme) → Type 0
+IsSameWrong one other = (letters : Letters) × (one ≡ Some (lexeme.Bad letters)) × (other ≡ Some (lexeme.Bad letters))
 
 -- what was judged is better than what was judged before
 abbrev pub Surpasses : (new old : Judgement) → Type 0

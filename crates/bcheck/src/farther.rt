@@ -1,19 +1,20 @@
 //! Whether the first fault of a source comes later with an edit, though on the same line.
 ghost use Rattle.std.specs.Prelude.{◌≡◌, IfOk, IfSome, IsTrue, List, ℕ};
-ghost use Rattle.bcheck.specs.Checks.{GoesFarther, with_newline};
-ghost use Rattle.bcheck.specs.Findings.{IsStopOf, StopsOn};
+ghost use Rattle.bcheck.specs.Checks.{GoesFarther, tokens_in, with_newline};
+ghost use Rattle.bcheck.specs.Findings.{IsSameWrong, IsStopOf, StopsApart, StopsOn};
 
 use crate::finding::Finding;
 use crate::places::{line_after, parts};
 use crate::spans::{SourceText, SpanReader};
 use crate::verdict::{Judgement, Verdict, judge};
 use blang::{About, Letters};
+use blex::{Lexeme, Scanner};
 use btools::Text;
 use bword::Edition;
 use std::alloc::{AllocError, Global};
 
 /// Whether the first fault of a text comes later than that of a source with which it shares what is after a place: a
-/// newline put there is between both.
+/// newline put there, within no token, is between both.
 pub(crate) fn goes_farther(
     alloc: Global,
     source: SourceText<'_>,
@@ -28,11 +29,12 @@ pub(crate) fn goes_farther(
     if !is_equal(end, rest) {
         return Ok(false);
     }
-    let found = fault_line(alloc, edition, before, rest)?;
+    let found = fault_line(alloc, source, before, rest)?;
     let Some(old_line) = found else {
         return Ok(false);
     };
-    let found = fault_line(alloc, edition, changed, rest)?;
+    let text = SourceText { text: new, edition };
+    let found = fault_line(alloc, text, changed, rest)?;
     let Some(new_line) = found else {
         return Ok(false);
     };
@@ -47,22 +49,49 @@ fn is_equal(one: &[u8], other: &[u8]) -> bool
     one == other
 }
 
-// The line of the first fault of a source in two parts with a newline between them, if it has one.
+// The line of the first fault of a source in two parts with a newline between them, if it has one, and its tokens are
+// those of the source.
 fn fault_line(
     alloc: Global,
-    edition: Edition,
+    source: SourceText<'_>,
     before: &[u8],
     rest: &[u8],
 ) -> Result<Option<u64>, AllocError>
-    ensures { IfOk result (λ line. IfSome line (StopsOn edition before.now rest.now)) }
+    ensures { IfOk result (λ line. IfSome line
+        (StopsApart source.entry.edition source.entry.text.now before.now rest.now)) }
 {
     let text = with_newline(alloc, before, rest)?;
-    let source = SourceText {
+    let parted = SourceText {
         text: text.as_slice(),
-        edition,
+        edition: source.edition,
     };
-    let judgement = judge(alloc, source)?;
+    if !has_same_tokens(source.edition, parted.text, source.text) {
+        return Ok(None);
+    }
+    let judgement = judge(alloc, parted)?;
     Ok(line_in(&judgement.verdict))
+}
+
+// Whether the comments and tokens of two sources are the same, each to the byte, up to a wrong one of the same kind.
+fn has_same_tokens(edition: Edition, one: &[u8], other: &[u8]) -> bool
+    ensures { IsTrue result → tokens_in edition one.now ≡ tokens_in edition other.now }
+{
+    let mut scanner = Scanner::new(one, edition);
+    let mut others = Scanner::new(other, edition);
+    loop {
+        let piece = scanner.next();
+        let found = others.next();
+        if is_same_wrong(piece.lexeme, found.lexeme) {
+            return true;
+        }
+        let text = &one[piece.first..piece.end];
+        if text != &other[found.first..found.end] {
+            return false;
+        }
+        if text.is_empty() {
+            return true;
+        }
+    }
 }
 
 fn with_newline(alloc: Global, before: &[u8], rest: &[u8]) -> Result<Text, AllocError>
@@ -73,6 +102,16 @@ fn with_newline(alloc: Global, before: &[u8], rest: &[u8]) -> Result<Text, Alloc
     text.push(b"\n")?;
     text.push(rest)?;
     Ok(text)
+}
+
+// Whether both are wrong in the same way.
+fn is_same_wrong(one: Option<Lexeme>, other: Option<Lexeme>) -> bool
+    ensures { IsTrue result → IsSameWrong one other }
+{
+    match (one, other) {
+        (Some(Lexeme::Bad(letters)), Some(Lexeme::Bad(others))) => letters == others,
+        _ => false,
+    }
 }
 
 fn line_in(verdict: &Verdict) -> Option<u64>

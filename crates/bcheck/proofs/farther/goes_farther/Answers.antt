@@ -1,5 +1,5 @@
 use Rattle.std.proofs.Common.{◌∙◌, ◌<◌, ◌≤◌, IfSome, ap, rules, subst, sym}
-use Rattle.bcheck.specs.Findings.{StopsOn}
+use Rattle.bcheck.specs.Findings.{StopsApart}
 use Rattle.bcheck.proofs.MendSteps.{farther, less, parted}
 use Rattle.bcheck.proofs.farther.goes_farther.Goals as goal
 
@@ -18,7 +18,7 @@ returns-then-is_by c =
     farther edition new old before changed rest old_line new_line
     (parted _ old before rest c.parts.ensures.before c.parts.ensures.rest)
     (parted _ new changed rest c.parts-2.ensures.before (sym same ∙ c.parts-2.ensures.rest))
-    (subst (λ o. IfSome o (StopsOn edition before rest)) c.in-Some.is c.in_ok-found.ensures)
-    (subst (λ o. IfSome o (StopsOn edition changed rest)) c.in-Some-found.is c.in_ok-found-2.ensures)
+    (subst (λ o. IfSome o (StopsApart edition old before rest)) c.in-Some.is c.in_ok-found.ensures)
+    (subst (λ o. IfSome o (StopsApart edition new changed rest)) c.in-Some-found.is c.in_ok-found-2.ensures)
     (subst (λ n. old_line ≤ n) c.line_after.ensures c.if-is_by.true)
     (subst (λ n. n < new_line) c.line_after-2.ensures (less c.line_after-2.result new_line is))
