@@ -27,7 +27,7 @@ of_stars = refl
 of_line : own (codes "//b\nc") ≡ f ∷ f ∷ t ∷ t ∷ f ∷ []
 of_line = refl
 
-of_hash : own (codes " #b\n#\na#b") ≡ f ∷ f ∷ t ∷ t ∷ f ∷ t ∷ f ∷ f ∷ f ∷ []
+of_hash : own (codes " #b\n#\na#b") ≡ f ∷ f ∷ t ∷ t ∷ f ∷ t ∷ f ∷ f ∷ t ∷ []
 of_hash = refl
 
 -- a quote within, in both forms of escapes

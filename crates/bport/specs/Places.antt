@@ -3,12 +3,13 @@ use Rattle.std.specs.Prelude.{ℕ, ◌==◌, Bool, true, false, List, [], ◌∷
 use Rattle.bport.specs.declared.within.Within.{Within}
 use Rattle.bport.specs.declared.within.Within.TheVariants as within
 
--- after a byte of code: a newline, `/`, a quote of a string or of a character, or another one
+-- after a byte of code: a newline, `/`, `#`, a quote of a string or of a character, or another one
 abbrev pub after_code : ℕ → Within
 after_code b =
     if b == 10 then within.Start
     else (if b == 47 then within.Slash
-    else (if b == 34 then within.String else (if b == 39 then within.Char else within.Code)))
+    else (if b == 35 then within.Line
+    else (if b == 34 then within.String else (if b == 39 then within.Char else within.Code))))
 
 -- after a byte in quotes: a newline, the closing quote, a mark of an escape, or another one
 abbrev pub after_quoted : (quote : ℕ) → (escape otherwise : Within) → ℕ → Within
@@ -17,7 +18,7 @@ after_quoted quote escape otherwise b =
     else (if b == quote then within.Code
     else (if b == 42 then escape else (if b == 92 then escape else otherwise)))
 
--- In what the byte after this one stands. A `#` that is the first on its line begins a comment, as `//` does.
+-- In what the byte after this one stands. A `#` among code begins a comment up to the end of its line, as `//` does.
 abbrev pub after : Within → ℕ → Within
 after within.Comment b = if b == 42 then within.Star else within.Comment
 after within.Star b = if b == 47 then within.Code else (if b == 42 then within.Star else within.Comment)
@@ -30,8 +31,7 @@ after within.CharEscape b =
 after within.CharQuote b = if b == 39 then within.Code else after_code b
 after within.Slash b = if b == 42 then within.Comment else (if b == 47 then within.Line else after_code b)
 after within.Start b =
-    if b == 32 then within.Start
-    else (if b == 9 then within.Start else (if b == 35 then within.Line else after_code b))
+    if b == 32 then within.Start else (if b == 9 then within.Start else after_code b)
 after within.Code b = after_code b
 
 -- in what each byte stands, where the first one stands in this

@@ -18,6 +18,9 @@ pub(crate) fn remarks(
         let next = places.get(at.saturating_add(1));
         match (places.get(at), source[at], next) {
             (Some(Within::Start), b'#', _) => line(draft, constants, source, at)?,
+            (Some(Within::Code | Within::Slash | Within::CharQuote), b'#', _) => {
+                remark(draft, source, at, 1)?;
+            }
             (Some(Within::Slash), b'/', Some(Within::Line) | None) => {
                 remark(draft, source, at.saturating_sub(1), 2)?;
             }

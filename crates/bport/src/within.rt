@@ -49,7 +49,6 @@ impl Within {
             Within::Slash if byte == b'*' => Within::Comment,
             Within::Slash if byte == b'/' => Within::Line,
             Within::Start if byte == b' ' || byte == b'\t' => Within::Start,
-            Within::Start if byte == b'#' => Within::Line,
             Within::Start | Within::Code | Within::Slash | Within::CharQuote => in_code(byte),
         }
     }
@@ -82,6 +81,7 @@ fn in_code(byte: u8) -> Within
     match byte {
         b'\n' => Within::Start,
         b'/' => Within::Slash,
+        b'#' => Within::Line,
         b'"' => Within::String,
         b'\'' => Within::Char,
         _ => Within::Code,
