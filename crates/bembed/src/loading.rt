@@ -51,11 +51,11 @@ pub extern "C" fn b_load_with(
 
 /// Reads a code text with what its author gives beside it, and puts its program in memory.
 #[unsafe(no_mangle)]
-pub extern "C" fn b_load_code_with(
+pub extern "C" fn b_load_code_with<'a>(
     alloc: Global,
-    code: &[u8],
-    lines: &[u8],
-    names: &[u8],
+    code: &'a [u8],
+    lines: &'a [u8],
+    names: &'a [u8],
     line: &mut [u8],
     written: &mut Written,
     session: &mut Host,
