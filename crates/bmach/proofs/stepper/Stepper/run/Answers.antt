@@ -3,7 +3,7 @@ use Rattle.blang.specs.Machine.{steps}
 use Rattle.blang.specs.Reports.{RunGives}
 use Rattle.bmach.specs.Images.{loaded_of}
 use Rattle.bmach.specs.Stepping.{Paused, machine_at}
-use Rattle.bmach.specs.Stops.{IsOverAt}
+use Rattle.bmach.specs.Stops.{IsLastAt, IsOverAt}
 use Rattle.bmach.proofs.stepper.Stepper.run.Goals as goal
 
 pub returns-clause-gives : goal.returns-clause-gives
@@ -22,3 +22,12 @@ returns-clause-stops g c =
     let stop = c.run_steps.result.stop in
     subst (λ (p : Paused). IsOverAt (λ left n. steps p.image n (machine_at p left [])) c.args.steps (g.I.ByteIn.incoming c.args.input.now) (g.I.ByteIn.incoming c.run_steps.new.input) stop.outcome stop.call stop.steps) c.self.view_is
     (c.run_steps.ensures.stops image functions)
+
+pub returns-clause-last : goal.returns-clause-last
+returns-clause-last g c =
+    let image = c.self.inside.image.now in
+    let functions : image.functions ≡ map loaded_of c.deref.result.now =
+    sym (ap (λ i. i.functions) c.image.view_is) ∙ ap (map loaded_of) (sym c.deref.ensures.value) in
+    let stop = c.run_steps.result.stop in
+    subst (λ (p : Paused). IsLastAt (λ left n. steps p.image n (machine_at p left [])) c.args.steps (g.I.ByteIn.incoming c.args.input.now) (g.I.ByteIn.incoming c.run_steps.new.input) stop.outcome stop.call stop.steps) c.self.view_is
+    (c.run_steps.ensures.last image functions)
