@@ -249,8 +249,10 @@ fn is_in_condition(tree: &Tree<'_>, name: &Name) -> bool {
     false
 }
 
-/// What is found of a call of a function in itself with more than it was given, where it ends below a number.
-pub(crate) fn calls_away(look: &Look<'_>, call: &Branch) -> Option<Remark> {
+/// What is found of a call of a function in itself: one with more than its parameter, where it ends below a number, as
+/// `f(n + 1)` after `if(n < 1)`; or one with less by two or more, beside one with less by one, where it ends at fewer
+/// numbers: `if(n == 0) return(1); return(f(n - 1) + f(n - 2));`.
+pub(crate) fn calls_astray(look: &Look<'_>, call: &Branch) -> Option<Remark> {
     let tree = look.tree;
     if !is_own_call(tree, tree.callee(call)) || tree.branches.len() > MOST_BRANCHES {
         return None;
@@ -258,45 +260,35 @@ pub(crate) fn calls_away(look: &Look<'_>, call: &Branch) -> Option<Remark> {
     for place in 0..look.locals.parameters().min(MOST_PARAMETERS) {
         let parameter = look.locals.parameter(place)?;
         let argument = tree.argument(call, place as u64);
-        let way = match argument.node {
-            Node::Binary(op) if is_one_off(tree, &argument, &parameter.name) => op,
-            _ => continue,
-        };
-        if way == BinOp::Add && !parameter.is_changed && ends_below(tree, &parameter.name) {
-            return Remark::about(
-                argument.first,
-                Warning::Slip(Slip::CallsAway),
-                argument.first,
-            );
+        if parameter.is_changed {
+            continue;
         }
+        let slip = if is_away(tree, &argument, &parameter.name) {
+            Slip::CallsAway
+        } else if is_past(tree, &argument, place as u64, &parameter.name) {
+            Slip::CallsPast
+        } else {
+            continue;
+        };
+        return Remark::about(argument.first, Warning::Slip(slip), argument.first);
     }
     None
 }
 
-/// What is found of a call of a function in itself with less by two or more, beside one with less by one, where it ends
-/// at fewer numbers: `if(n == 0) return(1); return(f(n - 1) + f(n - 2));`.
-pub(crate) fn calls_past(look: &Look<'_>, call: &Branch) -> Option<Remark> {
-    let tree = look.tree;
-    if !is_own_call(tree, tree.callee(call)) || tree.branches.len() > MOST_BRANCHES {
-        return None;
-    }
-    for place in 0..look.locals.parameters().min(MOST_PARAMETERS) {
-        let parameter = look.locals.parameter(place)?;
-        let argument = tree.argument(call, place as u64);
-        let less = less_by(tree, &argument, &parameter.name).unwrap_or(0);
-        if less >= 2
-            && !parameter.is_changed
-            && calls_next(tree, place as u64, &parameter.name)
-            && matches!(ends_at(tree, &parameter.name), Some(ends) if ends < less)
-        {
-            return Remark::about(
-                argument.first,
-                Warning::Slip(Slip::CallsPast),
-                argument.first,
-            );
-        }
-    }
-    None
+// Whether an argument is more than a parameter, where the function ends below a number.
+fn is_away(tree: &Tree<'_>, argument: &Branch, name: &Name) -> bool {
+    argument.node == Node::Binary(BinOp::Add)
+        && is_one_off(tree, argument, name)
+        && ends_below(tree, name)
+}
+
+// Whether an argument is less by two or more, beside one in the same place with less by one, and goes past all numbers at
+// which the function ends.
+fn is_past(tree: &Tree<'_>, argument: &Branch, place: u64, name: &Name) -> bool {
+    let less = less_by(tree, argument, name).unwrap_or(0);
+    less >= 2
+        && calls_next(tree, place, name)
+        && matches!(ends_at(tree, name), Some(ends) if ends < less)
 }
 
 // By how much less than a name a difference is.

@@ -1,103 +1,50 @@
 //! Looking at a function with each finder.
 use crate::answers::newline_between;
 use crate::bounds::settled;
-use crate::calls::MOST_ARGUMENTS;
-use crate::calls::called;
-use crate::calls::calls_away;
-use crate::calls::calls_past;
-use crate::calls::counted_past;
-use crate::calls::same_arguments;
-use crate::calls::valued;
-use crate::cases::digit_compared;
-use crate::cases::not_assigned;
-use crate::cases::of_case;
-use crate::chains::dangling;
-use crate::chains::in_row;
+use crate::calls::{MOST_ARGUMENTS, called, calls_astray, counted_past, same_arguments, valued};
+use crate::cases::{digit_compared, not_assigned, of_case};
+use crate::chains::{dangling, in_row};
 use crate::comparisons::operated;
-use crate::conditions::index_kept;
-use crate::conditions::only_in_if;
-use crate::conditions::tested_before;
-use crate::copies::copied_back;
-use crate::copies::copied_late;
-use crate::copies::same_now;
-use crate::counters::begins_anew;
-use crate::counters::counter_of;
-use crate::counters::counts_away;
-use crate::counters::inner_once;
-use crate::counters::never_again;
-use crate::counters::past_vector;
-use crate::counters::steps_past;
+use crate::conditions::{index_kept, only_in_if, tested_before};
+use crate::copies::{copied_back, copied_late, same_now};
+use crate::counters::{
+    begins_anew, counter_of, counts_away, inner_once, never_again, past_vector, steps_past,
+};
 use crate::declared::declared_in;
-use crate::divisors::both_evaluated;
-use crate::divisors::divided_by_one;
-use crate::divisors::remainder_kept;
+use crate::divisors::{both_evaluated, divided_by_one, remainder_kept};
 use crate::ends::loop_end;
 use crate::extremes::searched;
 use crate::functions::changes_nothing;
-use crate::jumps::begins_again;
-use crate::jumps::leaves_count_out;
+use crate::jumps::{begins_again, leaves_count_out};
 use crate::layout::indented;
 use crate::linting::Look;
-use crate::loops::input_endless;
-use crate::loops::unchanged;
-use crate::nested::not_set_back;
-use crate::nested::same_twice;
+use crate::loops::{input_endless, unchanged};
+use crate::nested::{not_set_back, same_twice};
 use crate::nots::not_first;
-use crate::numbers::assigned;
-use crate::numbers::divided;
-use crate::numbers::multiplied;
-use crate::numbers::too_large;
-use crate::past_end::after_last;
-use crate::past_end::counts_end;
-use crate::reading::end_taken;
-use crate::reading::lost;
+use crate::numbers::{assigned, divided, multiplied, too_large};
+use crate::past_end::{after_last, counts_end};
+use crate::reading::{end_taken, lost};
 use crate::remainders::below_zero;
-use crate::remarks::Remark;
-use crate::remarks::Remarks;
+use crate::remarks::{Remark, Remarks};
 use crate::rooms::too_small;
 use crate::stacks::popped;
-use crate::stores::moves_address;
-use crate::stores::not_reached;
-use crate::stores::overwritten;
-use crate::stores::put_back;
-use crate::stores::stored_back;
-use crate::stores::value_kept;
-use crate::strings::added;
-use crate::strings::character_counted;
-use crate::strings::character_for_number;
-use crate::strings::form_of;
-use crate::strings::names_compared;
-use crate::strings::word_stored;
-use crate::strings::word_taken;
-use crate::texts::compared_alone;
-use crate::texts::ended_by_zero;
-use crate::texts::newline_next;
-use crate::texts::not_ended;
+use crate::stores::{moves_address, not_reached, overwritten, put_back, stored_back, value_kept};
+use crate::strings::{
+    added, character_counted, character_for_number, form_of, names_compared, word_stored,
+    word_taken,
+};
+use crate::texts::{compared_alone, ended_by_zero, newline_next, not_ended};
 use crate::tree::Branch;
-use crate::turns::by_zero;
-use crate::turns::counts_first;
-use crate::turns::half_stays;
-use crate::turns::last_turn;
-use crate::turns::shared_counter;
-use crate::values::form_kinds;
-use crate::values::put_string;
-use crate::vectors::addressed;
-use crate::vectors::character_index;
-use crate::vectors::indexed;
-use crate::vectors::indexed_twice;
-use crate::vectors::never_set;
-use crate::vectors::reckoned;
-use crate::vectors::returned;
-use crate::vectors::vector_changed;
+use crate::turns::{by_zero, counts_first, half_stays, last_turn, shared_counter};
+use crate::values::{form_kinds, put_string};
+use crate::vectors::{
+    addressed, character_index, indexed, indexed_twice, never_set, reckoned, returned,
+    vector_changed,
+};
 use crate::warnings::Warning;
-use crate::whole::external_twice;
-use crate::whole::word_of_parameter;
-use crate::zeros::multiplied_zero;
-use crate::zeros::product_base;
-use crate::zeros::zero_after;
-use crate::zeros::zero_divisor;
-use btree::Construct;
-use btree::Node;
+use crate::whole::{external_twice, word_of_parameter};
+use crate::zeros::{multiplied_zero, product_base, zero_after, zero_divisor};
+use btree::{Construct, Node};
 use bword::BinOp;
 use std::alloc::AllocError;
 
@@ -148,46 +95,9 @@ fn further_by_branch(
     further: &mut Remarks,
 ) -> Result<(), AllocError> {
     match branch.node {
-        Node::Called => {
-            further.say(same_arguments(look, branch))?;
-            further.say(calls_away(look, branch))?;
-            further.say(calls_past(look, branch))?;
-            further.say(shared_counter(look, branch))?;
-            further.say(form_of(look, branch))?;
-            further.say(form_kinds(look, branch))?;
-            further.say(put_string(look, branch))?;
-            further.say(counted_past(look, branch))?;
-            values_of(look, branch, further)?;
-            further.say(after_last(look, branch))?;
-            further.say(not_ended(look, branch))?;
-            further.say(ended_by_zero(look, branch))?;
-            further.say(newline_next(look, branch))?;
-            further.say(too_small(look, branch))
-        }
-        Node::Binary(op) => {
-            further.say(settled(look, branch, op))?;
-            further.say(digit_compared(look, branch, op))?;
-            further.say(names_compared(look, branch, op))?;
-            further.say(character_counted(look, branch, op))?;
-            further.say(by_zero(look, branch, op))?;
-            further.say(reckoned(look, branch))?;
-            further.say(character_for_number(look, branch))?;
-            further.say(by_operator(look, branch, op))?;
-            further.say(below_zero(look, branch, op))?;
-            further.say(zero_divisor(look, branch, op))?;
-            further.say(zero_after(look, branch, op))?;
-            further.say(both_evaluated(look, branch, op))?;
-            further.say(not_first(look, branch, op))
-        }
-        Node::Assigned(None) => {
-            further.say(assigned(look, branch))?;
-            further.say(value_kept(look, branch))?;
-            further.say(half_stays(look, branch))?;
-            further.say(word_stored(look, branch))?;
-            further.say(word_taken(look, branch))?;
-            further.say(multiplied_zero(look, branch))?;
-            further.say(vector_changed(look, branch))
-        }
+        Node::Called => of_call(look, branch, further),
+        Node::Binary(op) => of_operation(look, branch, op, further),
+        Node::Assigned(None) => of_assignment(look, branch, further),
         Node::Assigned(Some(_)) => {
             further.say(reckoned(look, branch))?;
             further.say(character_for_number(look, branch))?;
@@ -197,35 +107,92 @@ fn further_by_branch(
         Node::PreIncrement | Node::PostIncrement | Node::PreDecrement | Node::PostDecrement =>
             further.say(vector_changed(look, branch)),
         Node::Returned => further.say(product_base(look, branch)),
-        Node::Evaluated => {
-            further.say(stored_back(look, branch))?;
-            further.say(put_back(look, branch))?;
-            further.say(copied_back(look, branch))?;
-            further.say(copied_late(look, branch))?;
-            further.say(same_now(look, branch))?;
-            further.say(moves_address(look, branch))?;
-            further.say(newline_between(look, branch))?;
-            further.say(begins_anew(look, branch))
-        }
-        Node::Indexed => {
-            further.say(indexed_twice(look, branch))?;
-            further.say(never_set(look, branch))?;
-            further.say(character_index(look, branch))?;
-            further.say(popped(look, branch))?;
-            further.say(same_twice(look, branch))?;
-            further.say(external_twice(look, branch))?;
-            further.say(word_of_parameter(look, branch))
-        }
-        Node::Tested => {
-            further.say(not_assigned(look, branch))?;
-            further.say(compared_alone(look, branch))?;
-            further.say(lost(look, branch))?;
-            further.say(end_taken(look, branch))?;
-            further.say(counts_end(look, branch))?;
-            loop_further(look, branch, further)
-        }
+        Node::Evaluated => of_statement(look, branch, further),
+        Node::Indexed => of_index(look, branch, further),
+        Node::Tested => of_test(look, branch, further),
         _ => Ok(()),
     }
+}
+
+fn of_call(look: &Look<'_>, branch: &Branch, further: &mut Remarks) -> Result<(), AllocError> {
+    further.say(same_arguments(look, branch))?;
+    further.say(calls_astray(look, branch))?;
+    further.say(shared_counter(look, branch))?;
+    further.say(form_of(look, branch))?;
+    further.say(form_kinds(look, branch))?;
+    further.say(put_string(look, branch))?;
+    further.say(counted_past(look, branch))?;
+    values_of(look, branch, further)?;
+    further.say(after_last(look, branch))?;
+    further.say(not_ended(look, branch))?;
+    further.say(ended_by_zero(look, branch))?;
+    further.say(newline_next(look, branch))?;
+    further.say(too_small(look, branch))
+}
+
+fn of_operation(
+    look: &Look<'_>,
+    branch: &Branch,
+    op: BinOp,
+    further: &mut Remarks,
+) -> Result<(), AllocError> {
+    further.say(settled(look, branch, op))?;
+    further.say(digit_compared(look, branch, op))?;
+    further.say(names_compared(look, branch, op))?;
+    further.say(character_counted(look, branch, op))?;
+    further.say(by_zero(look, branch, op))?;
+    further.say(reckoned(look, branch))?;
+    further.say(character_for_number(look, branch))?;
+    further.say(by_operator(look, branch, op))?;
+    further.say(below_zero(look, branch, op))?;
+    further.say(zero_divisor(look, branch, op))?;
+    further.say(zero_after(look, branch, op))?;
+    further.say(both_evaluated(look, branch, op))?;
+    further.say(not_first(look, branch, op))
+}
+
+fn of_assignment(
+    look: &Look<'_>,
+    branch: &Branch,
+    further: &mut Remarks,
+) -> Result<(), AllocError> {
+    further.say(assigned(look, branch))?;
+    further.say(value_kept(look, branch))?;
+    further.say(half_stays(look, branch))?;
+    further.say(word_stored(look, branch))?;
+    further.say(word_taken(look, branch))?;
+    further.say(multiplied_zero(look, branch))?;
+    further.say(vector_changed(look, branch))
+}
+
+fn of_statement(look: &Look<'_>, branch: &Branch, further: &mut Remarks) -> Result<(), AllocError> {
+    further.say(stored_back(look, branch))?;
+    further.say(put_back(look, branch))?;
+    further.say(copied_back(look, branch))?;
+    further.say(copied_late(look, branch))?;
+    further.say(same_now(look, branch))?;
+    further.say(moves_address(look, branch))?;
+    further.say(newline_between(look, branch))?;
+    further.say(begins_anew(look, branch))
+}
+
+fn of_index(look: &Look<'_>, branch: &Branch, further: &mut Remarks) -> Result<(), AllocError> {
+    further.say(indexed_twice(look, branch))?;
+    further.say(never_set(look, branch))?;
+    further.say(character_index(look, branch))?;
+    further.say(popped(look, branch))?;
+    further.say(same_twice(look, branch))?;
+    further.say(external_twice(look, branch))?;
+    further.say(word_of_parameter(look, branch))
+}
+
+fn of_test(look: &Look<'_>, branch: &Branch, further: &mut Remarks) -> Result<(), AllocError> {
+    further.say(not_assigned(look, branch))?;
+    further.say(compared_alone(look, branch))?;
+    further.say(lost(look, branch))?;
+    further.say(end_taken(look, branch))?;
+    further.say(counts_end(look, branch))?;
+    loop_further(look, branch, further)
 }
 
 fn values_of(look: &Look<'_>, call: &Branch, further: &mut Remarks) -> Result<(), AllocError> {
