@@ -1,12 +1,14 @@
 -- Promise: a file of an author is read just where it is written so.
-use Rattle.std.specs.Prelude.{◌≡◌, ℕ, ◌+◌, ◌≤◌, List, [], ◌∷◌, ◌++◌, Result, Ok, Err, decimal, length, map, true}
+use Rattle.std.specs.Prelude.{◌≡◌, ℕ, ◌+◌, ◌<◌, ◌≤◌, List, [], ◌∷◌, ◌++◌, Result, Ok, Err, decimal, length, map, true}
+use Rattle.std.specs.Prelude.{Option, None, Some, MatchOption, option_map}
 use Rattle.blang.specs.declared.code.Definition.{Definition}
 use Rattle.bword.specs.ByteEnds.{most}
 use Rattle.bauthor.specs.AuthorFiles.{lines_of}
-use Rattle.bauthor.specs.LineFiles.{lines_read, lines_wanted}
+use Rattle.bauthor.specs.LineFiles.{columns_in, lines_read, lines_wanted}
 use Rattle.bauthor.specs.NameFiles.{names_read, names_wanted}
 use Rattle.bauthor.specs.NameLines.{has_name, line_text, suits}
 use Rattle.bauthor.specs.declared.line.NameLine.{NameLine}
+use Rattle.bauthor.specs.declared.place_line.PlaceLine.{PlaceLine}
 use Rattle.bauthor.specs.declared.fault.LineWanted.{LineWanted}
 use Rattle.bauthor.specs.declared.fault.LineWanted.TheVariants as line_wanted
 use Rattle.bauthor.specs.declared.fault.Wanted.{Wanted}
@@ -55,11 +57,26 @@ abbrev pub WrittenNamesAreRead : Type 0
 WrittenNamesAreRead = (ds : List Definition) (file : List ℕ)
     → WrittenIsRead SuitsName line_text wanted.End (names_wanted ds) file (names_read file ds)
 
--- A number is up to the last one, and of 64 bits. There is none where the end has to be.
-abbrev pub SuitsNumber : LineWanted → ℕ → Type 0
-SuitsNumber (line_wanted.Number last name place) n = (n ≤ last) × (n ≤ most)
-SuitsNumber line_wanted.End n = ⊥
+-- how a line is written, with its column after a blank, if it has one
+abbrev pub column_text : Option ℕ → List ℕ
+column_text None = []
+column_text (Some column) = 32 ∷ decimal column
+
+abbrev pub place_text : PlaceLine → List ℕ
+place_text p = decimal p.line ++ column_text p.column
+
+-- It is one of the columns of a line, which is not 0.
+abbrev pub IsColumn : (source : Option (List ℕ)) → (line column : ℕ) → Type 0
+IsColumn source line column = (0 < line) × (0 < column) × (column ≤ columns_in (option_map lines_of source) line)
+    × (column ≤ most)
+
+-- A line is up to the last one, and of 64 bits, with a column of it or none. There is none where the end has to be.
+abbrev pub SuitsPlace : (source : Option (List ℕ)) → LineWanted → PlaceLine → Type 0
+SuitsPlace source (line_wanted.Number last name place) p =
+    (p.line ≤ last) × (p.line ≤ most) × MatchOption p.column (Unit {0}) (IsColumn source p.line)
+SuitsPlace source line_wanted.End p = ⊥
 
 abbrev pub WrittenLinesAreRead : Type 0
-WrittenLinesAreRead = (last : ℕ) (ds : List Definition) (file : List ℕ)
-    → WrittenIsRead SuitsNumber decimal line_wanted.End (lines_wanted last ds) file (lines_read last file ds)
+WrittenLinesAreRead = (last : ℕ) (source : Option (List ℕ)) (ds : List Definition) (file : List ℕ)
+    → WrittenIsRead (SuitsPlace source) place_text line_wanted.End (lines_wanted last ds) file
+    (lines_read last source file ds)

@@ -2,9 +2,10 @@
 ghost use Rattle.std.specs.Prelude.{◌≡◌};
 ghost use Rattle.bauthor.specs.LineFiles.{line_read};
 ghost use Rattle.bauthor.specs.NameLines.{suits};
+ghost use Rattle.bauthor.specs.Readers.{lines_shown};
 
 use crate::line::NameLine;
-use crate::number::number_upto;
+use crate::place_line::{PlaceLine, place_read};
 use bword::Name;
 
 /// What a line of a file of names has to be.
@@ -56,7 +57,8 @@ pub enum NameFault {
 /// What a line of a file of lines has to be.
 #[derive(Clone, Copy)]
 pub enum LineWanted {
-    /// A number up to this one, for a place of the definition of this name, from 0 on.
+    /// A number up to this one, alone or with a column of it, for a place of the definition of this name, from
+    /// 0 on.
     Number(u64, Name, usize),
     /// There has to be none.
     End,
@@ -64,11 +66,11 @@ pub enum LineWanted {
 
 impl LineWanted {
     /// How a line is read, where this is wanted.
-    pub(crate) fn read(&self, line: &[u8]) -> Option<u64>
-        ensures { result ≡ line_read self.now line.now }
+    pub(crate) fn read(&self, source: Option<&[&[u8]]>, text: &[u8]) -> Option<PlaceLine>
+        ensures { result ≡ line_read (lines_shown source.entry) self.now text.now }
     {
         match self {
-            LineWanted::Number(last, _, _) => number_upto(*last, line),
+            LineWanted::Number(last, _, _) => place_read(*last, source, text),
             LineWanted::End => None,
         }
     }

@@ -4,6 +4,7 @@
 mod fault;
 mod line;
 mod number;
+mod place_line;
 mod place_lines;
 mod reading;
 mod splitting;
@@ -12,6 +13,7 @@ ghost use Rattle.bauthor.specs.Written.{WrittenLinesAreRead, WrittenNamesAreRead
 
 pub use fault::{LineFault, LineWanted, NameFault, Wanted};
 pub use line::NameLine;
+pub use place_line::PlaceLine;
 pub use place_lines::{places_of, read_place_lines};
 pub use reading::read_names;
 

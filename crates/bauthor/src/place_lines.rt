@@ -1,47 +1,66 @@
 //! Reading a file of lines.
-ghost use Rattle.std.specs.Prelude.{◌≡◌, ◌∷◌, ◌++◌, [], IfErr, IfOk, Ok, length, map};
+ghost use Rattle.std.specs.Prelude.{◌≡◌, ◌∷◌, ◌++◌, [], IfErr, IfOk, Ok, map, option_map};
 ghost use Rattle.blang.specs.Layout.{shape_of};
 ghost use Rattle.blang.specs.Lines.{size_of};
 ghost use Rattle.bauthor.specs.AuthorFiles.{lines_of, read_from};
 ghost use Rattle.bauthor.specs.LineFiles.{Fails, line_read, lines_read, lines_wanted, places_from, places_wanted};
-ghost use Rattle.bauthor.specs.Readers.{LinesAdvance, lines_by};
+ghost use Rattle.bauthor.specs.Readers.{LinesAdvance, lines_by, lines_shown};
 ghost use Rattle.bauthor.specs.declared.fault.LineWanted.TheVariants as wanted;
 
 use crate::fault::{LineFault, LineWanted};
+use crate::place_line::PlaceLine;
 use crate::splitting::{is_over, split_lines};
 use blang::Definition;
 use bword::Name;
 use std::alloc::Global;
 
-/// Reads the lines of the places of a code text of these definitions, none of them above the last one.
+/// Reads the lines of the places of a code text of these definitions, none of them above the last one. Their columns
+/// are those of the lines of the source, if that is known.
 pub fn read_place_lines(
     alloc: Global,
     file: &[u8],
     definitions: &[Definition],
     last: u64,
-) -> Result<Vec<u64>, LineFault>
-    ensures ok { IfOk result (λ lines. lines_read last file.now definitions.now ≡ Ok lines.items) }
-    ensures err { IfErr result (λ fault. Fails fault (lines_read last file.now definitions.now)) }
+    source: Option<&[u8]>,
+) -> Result<Vec<PlaceLine>, LineFault>
+    ensures ok { IfOk result (λ places. lines_read last (option_map (λ s. s.now) source.entry) file.now definitions.now
+        ≡ Ok places.items) }
+    ensures err { IfErr result (λ fault. Fails fault
+        (lines_read last (option_map (λ s. s.now) source.entry) file.now definitions.now)) }
 {
-    match split_lines(alloc, file) {
-        Ok(lines) => read_numbers(alloc, lines.as_slice(), definitions, last),
+    let Ok(lines) = split_lines(alloc, file) else {
+        return Err(LineFault::Memory);
+    };
+    let Some(source) = source else {
+        return read_places(alloc, lines.as_slice(), definitions, last, None);
+    };
+    match split_lines(alloc, source) {
+        Ok(own) => read_places(
+            alloc,
+            lines.as_slice(),
+            definitions,
+            last,
+            Some(own.as_slice()),
+        ),
         Err(_) => Err(LineFault::Memory),
     }
 }
 
-fn read_numbers(
+fn read_places(
     alloc: Global,
     lines: &[&[u8]],
     definitions: &[Definition],
     last: u64,
-) -> Result<Vec<u64>, LineFault>
-    ensures ok { IfOk result (λ numbers. read_from line_read wanted.End 1 (lines_wanted last definitions.now)
-        (map (λ line. line.now) lines.now) ≡ Ok numbers.items) }
-    ensures err { IfErr result (λ fault. Fails fault (read_from line_read wanted.End 1
+    source: Option<&[&[u8]]>,
+) -> Result<Vec<PlaceLine>, LineFault>
+    ensures ok { IfOk result (λ places. read_from (line_read (lines_shown source.entry)) wanted.End 1
+        (lines_wanted last definitions.now) (map (λ line. line.now) lines.now) ≡ Ok places.items) }
+    ensures err { IfErr result (λ fault. Fails fault (read_from (line_read (lines_shown source.entry)) wanted.End 1
         (lines_wanted last definitions.now) (map (λ line. line.now) lines.now))) }
 {
     let mut reader = LineReader {
-        numbers: Vec::new(alloc),
+        places: Vec::new(alloc),
+        source,
         lines,
         at: 0,
         number: 1,
@@ -73,10 +92,11 @@ fn name_of(definition: &Definition) -> Name
     }
 }
 
-// The numbers of lines that were read, how many of the lines, and the number of the next one.
+// What was read of lines, how many of them, and the number of the next one; and the lines of the source.
 #[derive(Drop)]
 struct LineReader<'a> {
-    numbers: Vec<u64>,
+    places: Vec<PlaceLine>,
+    source: Option<&'a [&'a [u8]]>,
     lines: &'a [&'a [u8]],
     at: usize,
     number: u64,
@@ -120,13 +140,13 @@ impl LineReader<'_> {
         let Some(line) = self.lines.get(self.at) else {
             return Err(LineFault::Line(self.number, wanted));
         };
-        let Some(found) = wanted.read(line) else {
+        let Some(found) = wanted.read(self.source, line) else {
             return Err(LineFault::Line(self.number, wanted));
         };
         let Some(next) = self.number.checked_add(1) else {
             return Err(LineFault::Memory);
         };
-        if self.numbers.push(found).is_err() {
+        if self.places.push(found).is_err() {
             return Err(LineFault::Memory);
         }
         self.number = next;
@@ -134,13 +154,13 @@ impl LineReader<'_> {
         Ok(())
     }
 
-    // The numbers, if nothing comes after the last newline.
-    fn finish(self) -> Result<Vec<u64>, LineFault>
-        ensures ok { IfOk result (λ numbers. lines_by self.entry [] ≡ Ok numbers.items) }
+    // What was read, if nothing comes after the last newline.
+    fn finish(self) -> Result<Vec<PlaceLine>, LineFault>
+        ensures ok { IfOk result (λ places. lines_by self.entry [] ≡ Ok places.items) }
         ensures err { IfErr result (λ fault. Fails fault (lines_by self.entry [])) }
     {
         if is_over(self.lines.get(self.at..).unwrap_or(&[])) {
-            Ok(self.numbers)
+            Ok(self.places)
         } else {
             Err(LineFault::Line(self.number, LineWanted::End))
         }

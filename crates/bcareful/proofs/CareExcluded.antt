@@ -299,12 +299,12 @@ module _ (asked : CarefulAsked) (source : List ℕ) (ends : RunEnds) (bytes : Li
     at_place line status less gives over (tellings.placed first answer finishes located site) =
         let ended = ends_placed stop.outcome answer located in (
           ended,
-          locates.located first p.ds p.image p.frames p.lines stop.outcome answer stop.call stop.steps again p.program p.named p.lined
+          locates.located first p.ds p.image p.frames p.places stop.outcome answer stop.call stop.steps again p.program p.named p.lined
               (gives ended) finishes located over back site,
         )
     at_place line status less gives over (tellings.unplaced finishes none_is) =
         let ended = ends_told stop.outcome ends.line line status less finishes in
-        (ended, locates.unlocated p.ds p.image stop.outcome p.program ((p.lines, p.lined), (p.frames, p.named)) (gives ended) finishes none_is)
+        (ended, locates.unlocated p.ds p.image stop.outcome p.program ((p.places.lines, p.lined.0), (p.frames, p.named)) (gives ended) finishes none_is)
 
     -- a run without a finding
     clean_told : IsClean own (image_of p.ds).functions (machine p.ds) asked.steps ends.input ends.input_after ends.out ends.out_after stop
@@ -340,11 +340,11 @@ module _ (asked : CarefulAsked) (source : List ℕ) (ends : RunEnds) (bytes : Li
         }
 
   staying : stays asked.care ≡ true → (status : ℕ) → status < 132 → Runs asked source ends status → IsToldFound asked source ends bytes status ⊎ IsToldClean asked source ends bytes status
-  staying is status less (runs.found ds image frames lines found text has named lined still there told) =
-      inl (found_told (record { ds = ds; image = image; frames = frames; lines = lines; program = has; named = named; lined = lined }) found text status less there told)
-  staying is status less (runs.unfound ds image frames lines stop again has named lined still clean back told) =
-      inr (clean_told (record { ds = ds; image = image; frames = frames; lines = lines; program = has; named = named; lined = lined }) stop again back clean status less told)
-  staying is status less (runs.warned ds image frames lines stop again text line answer has named lined going gives back told reported) =
+  staying is status less (runs.found ds image frames places found text has named lined still there told) =
+      inl (found_told (record { ds = ds; image = image; frames = frames; places = places; program = has; named = named; lined = lined }) found text status less there told)
+  staying is status less (runs.unfound ds image frames places stop again has named lined still clean back told) =
+      inr (clean_told (record { ds = ds; image = image; frames = frames; places = places; program = has; named = named; lined = lined }) stop again back clean status less told)
+  staying is status less (runs.warned ds image frames places stop again text line answer has named lined going gives back told reported) =
       absurd (both_ways _ going is)
   staying is status less (runs.not_begun ds image result has suits never finishes quiet) =
       inr (record {
@@ -360,10 +360,10 @@ module _ (asked : CarefulAsked) (source : List ℕ) (ends : RunEnds) (bytes : Li
       record { line = ends.line_after; locates = it; text = []; written = Writes-none ends.line_after; told = inl (quiet, refl) }
 
   going_on : stays asked.care ≡ false → (status : ℕ) → status < 132 → Runs asked source ends status → IsToldOn asked source ends bytes status
-  going_on is status less (runs.found ds image frames lines found text has named lined still there told) = absurd (both_ways _ is still)
-  going_on is status less (runs.unfound ds image frames lines stop again has named lined still clean back told) = absurd (both_ways _ is still)
-  going_on is status less (runs.warned ds image frames lines stop again text line answer has named lined going gives back told reported) =
-      warned_told (record { ds = ds; image = image; frames = frames; lines = lines; program = has; named = named; lined = lined }) stop again back text line answer status less gives told
+  going_on is status less (runs.found ds image frames places found text has named lined still there told) = absurd (both_ways _ is still)
+  going_on is status less (runs.unfound ds image frames places stop again has named lined still clean back told) = absurd (both_ways _ is still)
+  going_on is status less (runs.warned ds image frames places stop again text line answer has named lined going gives back told reported) =
+      warned_told (record { ds = ds; image = image; frames = frames; places = places; program = has; named = named; lined = lined }) stop again back text line answer status less gives told
       (told_whole (told_after answer text) answer line ends.line_after status less reported)
   going_on is status less (runs.not_begun ds image result has suits never finishes quiet) =
       nothing_more status (locates.not_begun ds image result has suits never finishes quiet) (inr (ds, image, result, has, never, finishes))
@@ -376,13 +376,13 @@ module _ (asked : CarefulAsked) (source : List ℕ) (ends : RunEnds) where
   -- the machine of a program has left what was read of it, if that of each program does of which the origin is
   left_in : (origin : Origin) (ds : List Definition) → ((other : List Definition) (image : Image) → ProgramOf origin source other image → Left other → Left ds)
       → (ends.input_after ≡ ends.input → Left ds) → (status : ℕ) → Runs (record asked { origin = origin }) source ends status → Left ds
-  left_in origin ds same none status (runs.found other image frames lines found text has named lined staying_too there told) =
+  left_in origin ds same none status (runs.found other image frames places found text has named lined staying_too there told) =
       same other image has (left_by (machine other) asked.steps ends.input ends.input_after there.is.read)
-  left_in origin ds same none status (runs.unfound other image frames lines stop again has named lined staying_too clean back told) =
+  left_in origin ds same none status (runs.unfound other image frames places stop again has named lined staying_too clean back told) =
       same other image has
       (careful_left (atlas_in other frames (finds_wraps asked.care)) (image_of other).functions (machine other) asked.steps
       ends.input ends.input_after ends.out ends.out_after stop.outcome clean.gives)
-  left_in origin ds same none status (runs.warned other image frames lines stop again text line answer has named lined going gives back told reported) =
+  left_in origin ds same none status (runs.warned other image frames places stop again text line answer has named lined going gives back told reported) =
       same other image has
       (run_left (machine other) asked.steps ends.input ends.input_after ends.out ends.out_after stop.outcome gives.gives)
   left_in origin ds same none status (runs.not_begun other image result has suits never finishes quiet) = none quiet.unread

@@ -11,7 +11,7 @@ use Rattle.bmach.specs.declared.machine.Stop.{Stop}
 use Rattle.bendless.specs.Repeats.{IsEndless}
 use Rattle.bendless.specs.declared.endless.Endless.{Endless}
 use Rattle.btools.specs.Functions.{functions_of}
-use Rattle.btools.specs.Origins.{LinesOf, NamesOf, ProgramOf}
+use Rattle.btools.specs.Origins.{NamesOf, PlacesOf, ProgramOf, SourcePlaces}
 use Rattle.btools.specs.Programs.{steps_from}
 use Rattle.btools.specs.declared.names.Frame.{Frame}
 use Rattle.btrace.specs.RowTexts.{Legend, legend_in}
@@ -32,8 +32,8 @@ counted a functions states n i j p f fits is =
     let lt : f.made < n = (is.stays [] (λ over. refl)).within in
     omega (arith, lt, fits)
 
-module _ (asked : CarefulAsked) (source : List ℕ) (ends : RunEnds) (status : ℕ) (ds : List Definition) (image : Image) (frames : List Frame) (lines : List ℕ) (p now : Paused) (is : ProgramOf asked.origin source ds image) (named : NamesOf asked.origin source frames)
-    (lined : LinesOf asked.origin source lines) (begins : IsUnstarted image p) (a : Atlas) (whole : a ≡ atlas_in ds frames (finds_wraps asked.care)) (legend : Legend) (same : legend ≡ legend_in ds lines asked.files) where
+module _ (asked : CarefulAsked) (source : List ℕ) (ends : RunEnds) (status : ℕ) (ds : List Definition) (image : Image) (frames : List Frame) (places : SourcePlaces) (p now : Paused) (is : ProgramOf asked.origin source ds image) (named : NamesOf asked.origin source frames)
+    (lined : PlacesOf asked.origin source places) (begins : IsUnstarted image p) (a : Atlas) (whole : a ≡ atlas_in ds frames (finds_wraps asked.care)) (legend : Legend) (same : legend ≡ legend_in ds places asked.files) where
   abbrev n : ℕ
   n = asked.steps
 
@@ -41,7 +41,7 @@ module _ (asked : CarefulAsked) (source : List ℕ) (ends : RunEnds) (status : �
   b = atlas_in ds frames (finds_wraps asked.care)
 
   abbrev l : Legend
-  l = legend_in ds lines asked.files
+  l = legend_in ds places asked.files
 
   -- that a run never ends
   abbrev Again : Option Endless → Type 0
@@ -53,7 +53,7 @@ module _ (asked : CarefulAsked) (source : List ℕ) (ends : RunEnds) (status : �
   unfound_whole stop again staying clean comes told =
       let g : IsClean b p.image.functions (steps_from p) n ends.input ends.input_after ends.out ends.out_after stop =
       subst (λ (x : Atlas). IsClean x p.image.functions (steps_from p) n ends.input ends.input_after ends.out ends.out_after stop) whole clean in
-      unfound ds image frames lines stop again is named lined staying (clean_alike ds image p (loaded_in asked.origin source ds image is) begins b n ends.input ends.input_after ends.out ends.out_after stop g) comes
+      unfound ds image frames places stop again is named lined staying (clean_alike ds image p (loaded_in asked.origin source ds image is) begins b n ends.input ends.input_after ends.out ends.out_after stop g) comes
       (subst (λ (x : Legend). TellsOver x source stop again ends.line ends.line_after status) same told)
 
   -- one that stays at a finding
@@ -63,7 +63,7 @@ module _ (asked : CarefulAsked) (source : List ℕ) (ends : RunEnds) (status : �
       let g : CarefulGives b p.image.functions (steps_from p) n ends.input ends.input_after ends.out ends.out_after now (ended.Found f) =
       subst (λ (x : Atlas). CarefulGives x p.image.functions (steps_from p) n ends.input ends.input_after ends.out ends.out_after now (ended.Found f)) whole gives in
       let here = found_alike ds image p (loaded_in asked.origin source ds image is) begins b n ends.input ends.input_after now f g.1 in
-      found ds image frames lines f (careful_text a legend source (sight_at now []) f) is named lined staying
+      found ds image frames places f (careful_text a legend source (sight_at now []) f) is named lined staying
       (record {
         now = now;
         gives = gives_alike ds image p (loaded_in asked.origin source ds image is) begins b n ends.input ends.input_after ends.out ends.out_after outcome.Limit g.0;
@@ -81,5 +81,5 @@ module _ (asked : CarefulAsked) (source : List ℕ) (ends : RunEnds) (status : �
       let g : WarnGives b l source p.image.functions (steps_from p) n ends.input ends.input_after ends.out ends.out_after stop text =
       subst (λ (x : Legend). WarnGives b x source p.image.functions (steps_from p) n ends.input ends.input_after ends.out ends.out_after stop text) same
       (subst (λ (x : Atlas). WarnGives x legend source p.image.functions (steps_from p) n ends.input ends.input_after ends.out ends.out_after stop text) whole gives) in
-      warned ds image frames lines stop again text told answer is named lined going (warned_alike ds image p (loaded_in asked.origin source ds image is) begins b l source n ends.input ends.input_after ends.out ends.out_after stop text g) comes
+      warned ds image frames places stop again text told answer is named lined going (warned_alike ds image p (loaded_in asked.origin source ds image is) begins b l source n ends.input ends.input_after ends.out ends.out_after stop text g) comes
       (subst (λ (x : Legend). TellsOver x source stop again ends.line told answer) same over) reported

@@ -17,7 +17,7 @@ use Rattle.bmach.specs.declared.machine.Stop.{Stop}
 use Rattle.bendless.specs.Recordings.{Records, is_whole}
 use Rattle.bendless.specs.declared.recorder.Record.{Record}
 use Rattle.btools.specs.FaultPlaces.{fault_lines}
-use Rattle.btools.specs.Origins.{Code, LinesOf, NamesOf, NoProgramOf, ProgramOf, Source}
+use Rattle.btools.specs.Origins.{Code, NamesOf, NoProgramOf, PlacesOf, ProgramOf, Source, SourcePlaces}
 use Rattle.btools.specs.PlaceLines.{CodeText}
 use Rattle.btools.specs.ProgramsExcluded.{code_in}
 use Rattle.btools.specs.declared.names.Frame.{Frame}
@@ -34,21 +34,21 @@ use Rattle.bcareful.specs.declared.finding.Finding.{Finding}
 use Rattle.bcareful.specs.declared.watching.Found.{Found}
 
 module _ (asked : CarefulAsked) (source : List ℕ) (ends : RunEnds) where
-  -- The program, with the words of its frames and the lines of its instructions.
+  -- The program, with the words of its frames, and the lines and columns of its instructions.
   pub record OfOrigin : Type 0 where
     pub ds : List Definition
     pub image : Image
     pub frames : List Frame
-    pub lines : List ℕ
+    pub places : SourcePlaces
     pub program : ProgramOf asked.origin source ds image
     pub named : NamesOf asked.origin source frames
-    pub lined : LinesOf asked.origin source lines
+    pub lined : PlacesOf asked.origin source places
 
   abbrev pub own_atlas : OfOrigin → Atlas
   own_atlas p = atlas_in p.ds p.frames (finds_wraps asked.care)
 
   abbrev pub own_legend : OfOrigin → Legend
-  own_legend p = legend_in p.ds p.lines asked.files
+  own_legend p = legend_in p.ds p.places asked.files
 
   -- its run on these bytes, as it is seen, and what is found at the step after so many
   abbrev pub own_sights : OfOrigin → (bytes : List ℕ) → Sights

@@ -13,7 +13,8 @@ use Rattle.bendless.specs.declared.endless.Endless.{Endless}
 use Rattle.bsources.specs.Files.{Files, files_shown}
 use Rattle.btools.specs.FaultPlaces.{fault_lines}
 use Rattle.btools.specs.Functions.{functions_of}
-use Rattle.btools.specs.Origins.{IsSuited, LinesOf, NamesOf, NoProgramOf, Origin, ProgramOf, origin_shown}
+use Rattle.btools.specs.Origins.{IsSuited, NamesOf, NoProgramOf, Origin, PlacesOf, ProgramOf, SourcePlaces}
+use Rattle.btools.specs.Origins.{origin_shown}
 use Rattle.btools.specs.declared.names.Frame.{Frame}
 use Rattle.btrace.specs.RowTexts.{Legend, legend_in}
 use Rattle.bwatch.specs.Sights.{sights_of}
@@ -70,28 +71,29 @@ finds_wraps care = false
 -- never ends, if a state of its image comes again. Or it did not begin, or there is none, and why was told; or memory
 -- was refused.
 pub data Runs (asked : CarefulAsked) (source : List ℕ) (ends : RunEnds) (status : ℕ) : Type 0 where
-  found : (ds : List Definition) (image : Image) (frames : List Frame) (lines : List ℕ) (found : Found) (text : List ℕ)
+  found : (ds : List Definition) (image : Image) (frames : List Frame) (places : SourcePlaces) (found : Found)
+      (text : List ℕ)
       → ProgramOf asked.origin source ds image → NamesOf asked.origin source frames
-      → LinesOf asked.origin source lines → stays asked.care ≡ true
-      → StaysThere ds frames (finds_wraps asked.care) (legend_in ds lines asked.files) source asked.steps ends found
+      → PlacesOf asked.origin source places → stays asked.care ≡ true
+      → StaysThere ds frames (finds_wraps asked.care) (legend_in ds places asked.files) source asked.steps ends found
       text
       → Tells text ends.line ends.line_after status → Runs asked source ends status
-  unfound : (ds : List Definition) (image : Image) (frames : List Frame) (lines : List ℕ) (stop : Stop)
+  unfound : (ds : List Definition) (image : Image) (frames : List Frame) (places : SourcePlaces) (stop : Stop)
       (again : Option Endless) → ProgramOf asked.origin source ds image → NamesOf asked.origin source frames
-      → LinesOf asked.origin source lines → stays asked.care ≡ true
+      → PlacesOf asked.origin source places → stays asked.care ≡ true
       → IsClean (atlas_in ds frames (finds_wraps asked.care)) (image_of ds).functions (machine ds) asked.steps
       ends.input ends.input_after ends.out ends.out_after stop
       → IfSome again (IsEndless ds image (functions_of ds) frames ends.input ends.input_after)
-      → TellsOver (legend_in ds lines asked.files) source stop again ends.line ends.line_after status
+      → TellsOver (legend_in ds places asked.files) source stop again ends.line ends.line_after status
       → Runs asked source ends status
-  warned : (ds : List Definition) (image : Image) (frames : List Frame) (lines : List ℕ) (stop : Stop)
+  warned : (ds : List Definition) (image : Image) (frames : List Frame) (places : SourcePlaces) (stop : Stop)
       (again : Option Endless) (text : List ℕ) (told : Outgoing) (answer : ℕ)
       → ProgramOf asked.origin source ds image → NamesOf asked.origin source frames
-      → LinesOf asked.origin source lines → stays asked.care ≡ false
-      → WarnGives (atlas_in ds frames (finds_wraps asked.care)) (legend_in ds lines asked.files) source
+      → PlacesOf asked.origin source places → stays asked.care ≡ false
+      → WarnGives (atlas_in ds frames (finds_wraps asked.care)) (legend_in ds places asked.files) source
       (image_of ds).functions (machine ds) asked.steps ends.input ends.input_after ends.out ends.out_after stop text
       → IfSome again (IsEndless ds image (functions_of ds) frames ends.input ends.input_after)
-      → TellsOver (legend_in ds lines asked.files) source stop again ends.line told answer
+      → TellsOver (legend_in ds places asked.files) source stop again ends.line told answer
       → Reported (told_after answer text) answer told ends.line_after status
       → Runs asked source ends status
   not_begun : (ds : List Definition) (image : Image) (result : Outcome)

@@ -16,9 +16,8 @@ use Rattle.bmach.specs.declared.machine.Stop.{Stop}
 use Rattle.bparse.specs.Locals.{NamedWord}
 use Rattle.btools.specs.Characters.{signed_text}
 use Rattle.btools.specs.Programs.{located_status}
-use Rattle.btools.specs.SourceLines.{line_at, shown_line}
 use Rattle.btrace.specs.Locates.{TellsSite, site_line}
-use Rattle.btrace.specs.RowTexts.{Legend, place_line}
+use Rattle.btrace.specs.RowTexts.{Legend, source_text}
 use Rattle.bwatch.specs.Sights.{Sight}
 use Rattle.bendless.specs.declared.endless.Endless.{Endless}
 use Rattle.bcareful.specs.Things.{Atlas, Site, located}
@@ -216,8 +215,7 @@ careful_line (Wraps operator left right) = codes "careful wraps\n"
 -- the place of the step after so many, and its line of the source
 abbrev pub found_place : Legend → (source : List ℕ) → Found → List ℕ
 found_place legend source found =
-    site_line legend found.call (found.made + 1) ++ codes "    "
-    ++ shown_line (line_at source (place_line legend found.call)) ++ codes "\n  means: "
+    site_line legend found.call (found.made + 1) ++ source_text legend source found.call ++ codes "  means: "
 
 -- what is told of a run that stays at a finding
 abbrev pub careful_text : Atlas → Legend → (source : List ℕ) → Sight → Found → List ℕ

@@ -3,7 +3,7 @@ ghost use Rattle.std.specs.Prelude.{◌≡◌};
 ghost use Rattle.blang.specs.Reports.{run_ends};
 ghost use Rattle.bsources.specs.Files.{files_shown};
 ghost use Rattle.btools.specs.Functions.{entries_of, functions_of};
-ghost use Rattle.btools.specs.Origins.{IsProgramOf, LinesOf, NamesOf, origin_shown};
+ghost use Rattle.btools.specs.Origins.{IsProgramOf, NamesOf, PlacesOf, origin_shown, places_kept};
 ghost use Rattle.btrace.specs.RowTexts.{legend_in, legend_of};
 ghost use Rattle.bcareful.specs.CareExcluded.{NoCarefulRuns};
 ghost use Rattle.bcareful.specs.Runs.{Runs, careful_asked, finds_wraps};
@@ -89,11 +89,11 @@ fn run_asked<I: ByteIn, O: ByteOut, D: ByteOut>(
     requires atlas { atlas_of teller.now.atlas ≡ atlas_in teller.now.atlas.program.now.definitions.items
         teller.now.atlas.program.now.names.frames.items (finds_wraps wanted.care) }
     requires legend { legend_of teller.now.legend ≡ legend_in teller.now.atlas.program.now.definitions.items
-        teller.now.atlas.program.now.names.lines.items (files_shown wanted.files) }
+        (places_kept teller.now.atlas.program.now) (files_shown wanted.files) }
     ensures runs { NamesOf (origin_shown wanted.entry.origin) teller.now.source.now
         teller.now.atlas.program.now.names.frames.items
-        → LinesOf (origin_shown wanted.entry.origin) teller.now.source.now
-        teller.now.atlas.program.now.names.lines.items
+        → PlacesOf (origin_shown wanted.entry.origin) teller.now.source.now
+        (places_kept teller.now.atlas.program.now)
         → Runs (careful_asked wanted.entry) teller.now.source.now (run_ends
         (I.incoming input.old) (I.incoming input.new) (O.outgoing out.old) (O.outgoing out.new)
         (D.outgoing diag.old) (D.outgoing diag.new)) result }

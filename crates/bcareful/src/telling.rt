@@ -17,8 +17,8 @@ use bendless::Endless;
 use blang::status::{self, Status};
 use bmach::{Stepper, Stop};
 use brun::finish;
-use btools::{Text, line_at, located_status, push_signed, push_source_line, tell};
-use btrace::{Legend, line_of, push_site, tell_site};
+use btools::{Text, located_status, push_signed, tell};
+use btrace::{Legend, push_site, push_source, tell_site};
 use bword::{BinOp, ByteOut, Store};
 use std::alloc::{AllocError, Global};
 
@@ -91,10 +91,8 @@ fn push_found_place(
     text.push(b"  step ")?;
     text.push_number(found.made + 1)?;
     text.push(b"\n")?;
-    text.push(b"    ")?;
-    push_source_line(text, line_at(source, line_of(legend, found.call)))?;
-    text.push(b"\n  means: ")?;
-    Ok(())
+    push_source(text, legend, source, found.call)?;
+    text.push(b"  means: ")
 }
 
 /// Adds what is wrong with the next step.

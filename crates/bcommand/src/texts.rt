@@ -238,9 +238,9 @@ from the first one of FILE on.
 
 With --code, FILE is a code text of any compiler, and its own lines are shown.
 With --made CODE and --lines LINES, another compiler made CODE of FILE. LINES
-has a line with a number for each place of CODE: the line of FILE that it comes
-from. NAMES has the names of the words and labels of its functions. With --code
-there is no LIB, and no edition is needed.
+has a line for each place of CODE: the line of FILE that it comes from, alone or
+with its column. NAMES has the names of the words and labels of its functions.
+With --code there is no LIB, and no edition is needed.
 
 Examples:
   b list hello.b
@@ -263,9 +263,9 @@ active calls. The program then reads standard input, and its output is dropped.
 
 With --code, FILE is a code text of any compiler, and its own lines are shown.
 With --made CODE and --lines LINES, another compiler made CODE of FILE. LINES
-has a line with a number for each place of CODE: the line of FILE that it comes
-from. NAMES has the names of the words and labels of its functions. With --code
-there is no LIB, and no edition is needed.
+has a line for each place of CODE: the line of FILE that it comes from, alone or
+with its column. NAMES has the names of the words and labels of its functions.
+With --code there is no LIB, and no edition is needed.
 A picture has the frames of a code text with NAMES alone.
 
 Examples:
@@ -293,9 +293,9 @@ its own number and the name of LIB.
 
 With --code, FILE is a code text of any compiler, and its own lines are shown.
 With --made CODE and --lines LINES, another compiler made CODE of FILE. LINES
-has a line with a number for each place of CODE: the line of FILE that it comes
-from. NAMES has the names of the words and labels of its functions. With --code
-there is no LIB, and no edition is needed.
+has a line for each place of CODE: the line of FILE that it comes from, alone or
+with its column. NAMES has the names of the words and labels of its functions.
+With --code there is no LIB, and no edition is needed.
 
 The program reads standard input. Its output is in the trace alone. The trace is
 kept in memory, and written when the run is over.
@@ -401,10 +401,11 @@ that is below -32768 or above 32767.
 
 With --where or --careful the program may be a code text of any compiler. With
 --code, FILE is that text. With --made CODE and --lines LINES, another compiler
-made CODE of FILE, and LINES has a line with a number for each place of CODE:
-the line of FILE that it comes from. NAMES has the names of the words and labels
-of its functions, by which --careful knows them: a careful run needs it. With
---code there is no LIB, and no edition is needed.
+made CODE of FILE, and LINES has a line for each place of CODE: the line of FILE
+that it comes from, alone or with its column, which is then told and marked.
+NAMES has the names of the words and labels of its functions, by which --careful
+knows them: a careful run needs it. With --code there is no LIB, and no edition
+is needed.
 
 Examples:
   b go --steps 1000 hello.b
@@ -444,9 +445,9 @@ each line.
 
 With --code, FILE is a code text of any compiler, and its own lines are shown.
 With --made CODE and --lines LINES, another compiler made CODE of FILE. LINES
-has a line with a number for each place of CODE: the line of FILE that it comes
-from. NAMES has the names of the words and labels of its functions. With --code
-there is no LIB, and no edition is needed.
+has a line for each place of CODE: the line of FILE that it comes from, alone or
+with its column. NAMES has the names of the words and labels of its functions.
+With --code there is no LIB, and no edition is needed.
 
 The program reads standard input, and its output is dropped. After a trap or at
 the limit of steps the counts are those of the steps before it.
@@ -481,9 +482,9 @@ finding is shown as without --careful, up to its end or the limit.
 
 With --code, FILE is a code text of any compiler, and its own lines are shown.
 With --made CODE and --lines LINES, another compiler made CODE of FILE. LINES
-has a line with a number for each place of CODE: the line of FILE that it comes
-from. NAMES has the names of the words and labels of its functions. With --code
-there is no LIB, and no edition is needed.
+has a line for each place of CODE: the line of FILE that it comes from, alone or
+with its column. NAMES has the names of the words and labels of its functions.
+With --code there is no LIB, and no edition is needed.
 --careful knows the words of a code text by NAMES, and needs it.
 
 Examples:

@@ -15,7 +15,7 @@ use Rattle.blang.specs.Compiles.{status_of}
 use Rattle.blang.specs.Layout.{load_fault}
 use Rattle.blang.specs.Reports.{Reported, report_text}
 use Rattle.blang.specs.Text.{IsCodeText}
-use Rattle.bauthor.specs.LineFiles.{lines_read}
+use Rattle.bauthor.specs.declared.place_line.PlaceLine.{PlaceLine}
 use Rattle.bauthor.specs.NameFiles.{names_read}
 use Rattle.bauthor.specs.declared.fault.LineWanted.{LineWanted}
 use Rattle.bauthor.specs.declared.fault.Wanted.{Wanted}
@@ -25,7 +25,7 @@ use Rattle.btools.specs.declared.program.ProgramFault.TheVariants as why
 use Rattle.btools.specs.CodesExcluded.{ExcludedOfOther, ExcludedOfText, IsUnsuited, WrongCodes}
 use Rattle.btools.specs.NamedFrames.{HasFrames, HasNamesIn, HasWrongName, frames_named, function_names, unnamed_line}
 use Rattle.btools.specs.Origins.{HasNoCode}
-use Rattle.btools.specs.PlaceLines.{CodeText, HasPlaceLines, HasWrongLine, last_in, lines_before, place_lines, unlined_line}
+use Rattle.btools.specs.PlaceLines.{CodeText, HasPlaceLines, HasWrongLine, lines_before, place_lines, places_read, unlined_line}
 use Rattle.btools.specs.Programs.{TellsFault, load_line}
 use Rattle.btools.proofs.ProgramsExcluded.{by_line, failed, other_answer, was_told}
 
@@ -38,11 +38,17 @@ ok_same {W = W} r ls ms e f = let same : read_as {W = W} ls ≡ Ok ms = sym e �
 not_read : {W L : Type 0} (r : Result (List L) (ℕ × W)) (ls : List L) (n : ℕ) (w : W) → r ≡ Ok ls → r ≡ Err (n, w) → ⊥
 not_read {W = W} r ls n w e f = let clash : read_as {W = W} ls ≡ Err (n, w) = sym e ∙ f in cc
 
-lined_so : (own : List ℕ) (o : Option (List ℕ)) (last : ℕ) (ds : List Definition) (ls ms : List ℕ)
-    → MatchOption o (ls ≡ own) (λ file. lines_read last file ds ≡ Ok ls)
-    → MatchOption o (ms ≡ own) (λ file. lines_read last file ds ≡ Ok ms) → ls ≡ ms
-lined_so own None last ds ls ms h k = h ∙ sym k
-lined_so own (Some file) last ds ls ms h k = ok_same (lines_read last file ds) ls ms h k
+-- what a file says of its lines
+abbrev SaysLines : (source : Option (List ℕ)) → (file : List ℕ) → List Definition → List ℕ → Type 0
+SaysLines source file ds ls =
+    (places : List PlaceLine) × (places_read source file ds ≡ Ok places) × (ls ≡ map (λ p. p.line) places)
+
+lined_so : (own : List ℕ) (o source : Option (List ℕ)) (ds : List Definition) (ls ms : List ℕ)
+    → MatchOption o (ls ≡ own) (λ file. SaysLines source file ds ls)
+    → MatchOption o (ms ≡ own) (λ file. SaysLines source file ds ms) → ls ≡ ms
+lined_so own None source ds ls ms h k = h ∙ sym k
+lined_so own (Some file) source ds ls ms h k =
+    h.2 ∙ ap (map (λ (p : PlaceLine). p.line)) (ok_same (places_read source file ds) h.0 k.0 h.1 k.1) ∙ sym k.2
 
 -- a file of names that is read has the names of one list of lines
 same_read : (file : List ℕ) (ds : List Definition) (fs gs : List Frame) → HasNamesIn file ds fs → HasNamesIn file ds gs → map function_names fs ≡ map function_names gs
@@ -62,11 +68,12 @@ no_wrong_name : (o : Option (List ℕ)) (ds : List Definition) (n : ℕ) (w : Wa
 no_wrong_name None ds n w fs wrong names = wrong
 no_wrong_name (Some file) ds n w fs wrong names = not_read (names_read file ds) names.0 n w names.1 wrong
 
-no_wrong_line : (own : List ℕ) (o : Option (List ℕ)) (last : ℕ) (ds : List Definition) (n : ℕ) (w : LineWanted)
-    (ls : List ℕ) → MatchOption o ⊥ (λ file. lines_read last file ds ≡ Err (n, w))
-    → MatchOption o (ls ≡ own) (λ file. lines_read last file ds ≡ Ok ls) → ⊥
-no_wrong_line own None last ds n w ls wrong lines = wrong
-no_wrong_line own (Some file) last ds n w ls wrong lines = not_read (lines_read last file ds) ls n w lines wrong
+no_wrong_line : (own : List ℕ) (o source : Option (List ℕ)) (ds : List Definition) (n : ℕ) (w : LineWanted)
+    (ls : List ℕ) → MatchOption o ⊥ (λ file. places_read source file ds ≡ Err (n, w))
+    → MatchOption o (ls ≡ own) (λ file. SaysLines source file ds ls) → ⊥
+no_wrong_line own None source ds n w ls wrong lines = wrong
+no_wrong_line own (Some file) source ds n w ls wrong lines =
+    not_read (places_read source file ds) lines.0 n w lines.1 wrong
 
 -- a status of a reason is that of its line, or that of a refused write
 line_status : (text : List ℕ) (told : ℕ) (old new : Outgoing) (status : ℕ) → Reported text told old new status → (status ≡ told) ⊎ (status ≡ 133) ⊎ (status ≡ 134)
@@ -138,7 +145,7 @@ module _ (c : CodeText) (source : List ℕ) (lines : Diagnostic → List ℕ) (l
     loads (why.Faulty d) s why_not told none ls has fs names = absurd why_not
     loads (why.Unread n) s why_not told none ls has fs names = absurd (why_not.1 ds is)
     loads (why.Unlined n w) s why_not told none ls has fs names =
-        absurd (no_wrong_line (place_lines (lines_before c.code) ds) c.lines (last_in c.source) ds n w ls
+        absurd (no_wrong_line (place_lines (lines_before c.code) ds) c.lines c.source ds n w ls
         (subst (λ (x : List Definition). HasWrongLine c x n w) (same why_not.0 why_not.1) why_not.2) has)
     loads (why.Unnamed n w) s why_not told none ls has fs names =
         absurd (no_wrong_name c.names ds n w fs (subst (λ (x : List Definition). HasWrongName c x n w) (same why_not.0 why_not.1) why_not.2) names)
@@ -148,7 +155,7 @@ module _ (c : CodeText) (source : List ℕ) (lines : Diagnostic → List ℕ) (l
     of_text : ExcludedOfText c source lines line line_after ds
     of_text = record {
       program = λ es image p. (same es p.text, subst (λ (x : List Definition). load_fault x ≡ None) (same es p.text) p.loads);
-      lined = λ ls ms h k. lined_so (place_lines (lines_before c.code) ds) c.lines (last_in c.source) ds ls ms (h ds is) (k ds is);
+      lined = λ ls ms h k. lined_so (place_lines (lines_before c.code) ds) c.lines c.source ds ls ms (h ds is) (k ds is);
       named = λ fs gs h k. named_so c.names ds fs gs (h ds is) (k ds is);
       unread = λ n why_not. why_not.1 ds is;
       faulty = λ d why_not. why_not;

@@ -1,5 +1,5 @@
 -- How a code text comes to be a program.
-use Rattle.std.proofs.Common.{◌≡◌, List, None, Result, Ok, Err, IfOk, sym, subst}
+use Rattle.std.proofs.Common.{◌≡◌, ℕ, List, None, Result, Ok, Err, IfOk, ap, sym, subst}
 use Rattle.std.specs.Prelude.{MatchResult}
 use Rattle.bcode.proofs.FaultLaws.{unique_code}
 use Rattle.blang.specs.declared.code.Definition.{Definition}
@@ -7,9 +7,10 @@ use Rattle.blang.specs.Layout.{load_fault}
 use Rattle.blang.specs.Text.{IsCodeText}
 use Rattle.bmach.specs.Resolved.{IsLoadedFrom}
 use Rattle.btools.specs.NamedFrames.{HasFrames}
-use Rattle.btools.specs.Origins.{HasCode, HasNoCode, HasTextLines, HasTextNames, IsLined, IsNamed}
-use Rattle.btools.specs.PlaceLines.{CodeText, HasPlaceLines}
+use Rattle.btools.specs.Origins.{HasCode, HasNoCode, HasTextColumns, HasTextLines, HasTextNames, IsLined, IsNamed}
+use Rattle.btools.specs.PlaceLines.{CodeText, HasPlaceColumns, HasPlaceLines}
 use Rattle.btools.specs.Programs.{LoadGives}
+use Rattle.std.specs.Global.{Vec}
 use Rattle.btools.specs.declared.names.Names.{Names}
 use Rattle.btools.specs.declared.program.Program.{Program}
 use Rattle.btools.specs.declared.program.ProgramFault.{ProgramFault}
@@ -40,3 +41,10 @@ module _ (c : CodeText) (ds : List Definition) (is : IsCodeText c.code ds) where
       subst (λ (x : List Definition). HasFrames c x p.names.frames.items) (unique_code c.code ds es is text)
       (subst (λ (n : Names). HasFrames c ds n.frames.items) (sym same) frames)
   has_frames (Err e) names frames same = tt
+
+  -- its columns, whatever definitions it is said to have
+  pub has_columns : (r : Result Program ProgramFault) (columns : Vec ℕ) → HasPlaceColumns c ds columns.items → IfOk r (λ p. p.columns ≡ columns) → IfOk r (λ p. HasTextColumns c p.columns.items)
+  has_columns (Ok p) columns told same = λ es text.
+      subst (λ (x : List Definition). HasPlaceColumns c x p.columns.items) (unique_code c.code ds es is text)
+      (subst (λ (v : Vec ℕ). HasPlaceColumns c ds v.items) (sym same) told)
+  has_columns (Err e) columns told same = tt

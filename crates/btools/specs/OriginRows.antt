@@ -1,5 +1,5 @@
 -- Closed facts: the lines of the places of code texts, files of lines, and what stands beside the lines of a program.
-use Rattle.std.specs.Prelude.{◌≡◌, ℕ, List, [], ◌∷◌, codes, map, refl, Option, Some, None}
+use Rattle.std.specs.Prelude.{◌≡◌, ℕ, List, [], ◌∷◌, ◌++◌, codes, map, refl, Option, Some, None}
 use Rattle.std.specs.Fmt.{digits}
 use Rattle.bword.specs.declared.edition.Edition.TheVariants as editions
 use Rattle.blang.specs.declared.code.Definition.{Definition}
@@ -8,7 +8,8 @@ use Rattle.blang.specs.declared.code.Instr.TheVariants as instr
 use Rattle.blang.specs.declared.code.Ival.TheVariants as ival
 use Rattle.bauthor.specs.declared.fault.LineWanted.TheVariants as wanted
 use Rattle.btools.specs.Origins.{Code, Source, beside}
-use Rattle.btools.specs.PlaceLines.{CodeText, HasPlaceLines, HasWrongLine, last_in, lines_before, place_lines, unlined_line}
+use Rattle.btools.specs.PlaceLines.{CodeText, HasPlaceColumns, HasPlaceLines, HasWrongLine, last_in, lines_before}
+use Rattle.btools.specs.PlaceLines.{place_lines, unlined_line}
 
 -- X n 2 1, c 1, s 0, w 4
 abbrev an_external : Definition
@@ -53,7 +54,8 @@ editions_told : map lines_before
 editions_told = refl
 
 unlined_told : unlined_line 3 (wanted.Number 2 (codes "main") 12)
-    ≡ codes "error: line 3 of the file of lines has to be a number from 0 to 2, for place 12 of main\n"
+    ≡ codes "error: line 3 of the file of lines has to be a number from 0 to 2, alone or with a column of it"
+    ++ codes ", for place 12 of main\n"
 unfolding digits
 unlined_told = refl
 
@@ -73,7 +75,16 @@ text_of source = record { code = codes "V v 1 1 0\nc 3\nE\n"; lines = Some (code
 
 lines_without : HasPlaceLines (text_of None) (a_vector ∷ []) (3 ∷ [])
 unfolding digits
-lines_without = refl
+lines_without = (record { line = 3; column = None } ∷ [], refl, refl)
+
+-- a column that is told, and one that isn't
+abbrev told_columns : CodeText
+told_columns =
+    record { code = []; lines = Some (codes "2 3\n1\n"); source = Some (codes "a\nbc"); names = None }
+
+columns_told : HasPlaceColumns told_columns (a_vector ∷ a_vector ∷ []) (3 ∷ 0 ∷ [])
+unfolding digits
+columns_told = (record { line = 2; column = Some 3 } ∷ record { line = 1; column = None } ∷ [], refl, refl)
 
 lines_beyond : HasWrongLine (text_of (Some (codes "a\nb\n"))) (a_vector ∷ []) 1 (wanted.Number 2 (codes "v") 0)
 unfolding digits

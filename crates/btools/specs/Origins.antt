@@ -11,7 +11,7 @@ use Rattle.blang.specs.Text.{IsCodeText}
 use Rattle.bmach.specs.Resolved.{IsLoadedFrom}
 use Rattle.btools.specs.FrameNames.{HasNames}
 use Rattle.btools.specs.NamedFrames.{HasFrames, HasWrongName}
-use Rattle.btools.specs.PlaceLines.{CodeText, HasPlaceLines, HasWrongLine}
+use Rattle.btools.specs.PlaceLines.{CodeText, HasPlaceColumns, HasPlaceLines, HasWrongLine}
 use Rattle.btools.specs.ProgramLines.{HasLines}
 use Rattle.btools.specs.Programs.{HasNoProgram, HasProgram, TellsFault}
 use Rattle.btools.specs.declared.names.Frame.{Frame}
@@ -65,6 +65,27 @@ HasTextNames c frames = (ds : List Definition) → IsCodeText c.code ds → HasF
 abbrev pub NamesOf : Origin → (source : List ℕ) → List Frame → Type 0
 NamesOf (Source edition) source frames = HasNames edition source frames
 NamesOf (Code c) source frames = HasTextNames c frames
+
+-- These are the columns of the places of a code text.
+abbrev pub HasTextColumns : CodeText → (columns : List ℕ) → Type 0
+HasTextColumns c columns = (ds : List Definition) → IsCodeText c.code ds → HasPlaceColumns c ds columns
+
+-- These are the columns of the instructions and initial values of the program. A source of B has none.
+abbrev pub ColumnsOf : Origin → (columns : List ℕ) → Type 0
+ColumnsOf (Source edition) columns = columns ≡ []
+ColumnsOf (Code c) columns = HasTextColumns c columns
+
+-- where the places of a program come from in its source: their lines, and their columns, if these are told
+pub record SourcePlaces : Type 0 where
+  pub lines : List ℕ
+  pub columns : List ℕ
+
+abbrev pub PlacesOf : Origin → (source : List ℕ) → SourcePlaces → Type 0
+PlacesOf origin source places = LinesOf origin source places.lines × ColumnsOf origin places.columns
+
+-- what a program keeps of them
+abbrev pub places_kept : Program → SourcePlaces
+places_kept p = record { lines = p.names.lines.items; columns = p.columns.items }
 
 -- It has lines and names: what stands beside a code text suits it.
 abbrev pub IsSuited : Origin → (source : List ℕ) → Type 0

@@ -67,3 +67,10 @@ lined_entry e = record { strings = e.strings; lines = e.lines.now }
 -- the lines that a table has
 abbrev pub lines_shown : Tables → List FunctionLines
 lines_shown t = map lined_entry t.entries.items
+
+-- the columns that it has, in the place of lines
+abbrev pub columned_entry : FunctionEntry → FunctionLines
+columned_entry e = record { strings = e.strings; lines = e.columns.now }
+
+abbrev pub columns_shown : Tables → List FunctionLines
+columns_shown t = map columned_entry t.entries.items

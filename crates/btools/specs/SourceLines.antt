@@ -1,5 +1,6 @@
 -- Inner words: the lines of a source, as they are shown.
-use Rattle.std.specs.Prelude.{ℕ, ◌+◌, ◌-◌, ◌==◌, List, [], codes, count_by, get_or, length, map, take, if◌then◌else◌}
+use Rattle.std.specs.Prelude.{ℕ, ◌+◌, ◌-◌, ◌==◌, List, [], ◌++◌, codes, count_by, get_or, length, map, replicate}
+use Rattle.std.specs.Prelude.{take, if◌then◌else◌}
 use Rattle.std.specs.Char.{is_ascii_whitespace}
 use Rattle.std.specs.List.{ends_with, slice_split, suffix_len}
 use Rattle.btools.specs.Characters.{is_printable}
@@ -27,6 +28,11 @@ trimmed line = take (length line - suffix_len is_ascii_whitespace line) line
 -- a character; a blank for a tab, and `?` for what can't be printed
 abbrev pub plain_byte : ℕ → ℕ
 plain_byte b = if b == 9 then 32 else (if is_printable b then b else 63)
+
+-- a mark under a byte of a line that is shown after four blanks, with the newline before it; nothing where no column is
+-- told
+abbrev pub mark_under : (column : ℕ) → List ℕ
+mark_under column = if column == 0 then [] else codes "\n    " ++ replicate (column - 1) 32 ++ codes "^"
 
 -- a line as it is shown
 abbrev pub shown_line : List ℕ → List ℕ

@@ -6,7 +6,7 @@ use Rattle.blang.specs.Machine.{Image}
 use Rattle.btools.specs.Characters.{is_printable, shown_byte, shown_word}
 use Rattle.btools.specs.Columns.{left, right, without_newline}
 use Rattle.btools.specs.Programs.{image_address, load_line}
-use Rattle.btools.specs.SourceLines.{line_at, shown_line, source_lines}
+use Rattle.btools.specs.SourceLines.{line_at, mark_under, shown_line, source_lines}
 
 printable_limits : map is_printable (10 ∷ 31 ∷ 32 ∷ 126 ∷ 127 ∷ 255 ∷ [])
     ≡ false ∷ false ∷ true ∷ true ∷ false ∷ false ∷ []
@@ -66,3 +66,8 @@ line_shown = refl
 
 blank_line_shown : shown_line (codes "  ") ≡ []
 blank_line_shown = refl
+
+-- nothing where no column is told, and a mark under the first byte, the second, and one far on
+marks_under : map mark_under (0 ∷ 1 ∷ 2 ∷ 9 ∷ [])
+    ≡ [] ∷ codes "\n    ^" ∷ codes "\n     ^" ∷ codes "\n            ^" ∷ []
+marks_under = refl

@@ -26,7 +26,7 @@ pub use refusal::{
     diagnostic_line, load_line, tell_fault, tell_placed, wrong_codes_are_excluded,
     wrong_programs_are_excluded,
 };
-pub use source_lines::{last_line, line_at, push_source_line, split_source};
+pub use source_lines::{last_line, line_at, push_mark, push_source_line, split_source};
 pub use tables::{FunctionEntry, Tables};
 pub use telling::{located_status, tell};
 pub use text::Text;

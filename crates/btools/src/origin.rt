@@ -17,7 +17,8 @@ pub enum Origin<'a> {
 #[derive(Clone, Copy)]
 pub struct CodeText<'a> {
     pub code: &'a [u8],
-    /// A file with a number on a line of its own for each place. Without it the lines are those of the code text.
+    /// A file with the line of each place on a line of its own, and its column after a blank, if that is told. Without
+    /// it the lines are those of the code text.
     pub lines: Option<&'a [u8]>,
     /// The source that has these lines, if it is known. No number is above that of its last line.
     pub source: Option<&'a [u8]>,

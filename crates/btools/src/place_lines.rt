@@ -1,38 +1,85 @@
 //! The lines of the places of a code text.
-ghost use Rattle.std.specs.Prelude.{◌≡◌, ◌≤◌, ◌+◌, ◌++◌, IfOk, MatchResult, OnOk, length, option_map};
+ghost use Rattle.std.specs.Prelude.{◌≡◌, ◌≤◌, ◌+◌, ◌++◌, IfErr, IfOk, MatchResult, Ok, OnOk, length, map};
+ghost use Rattle.std.specs.Prelude.{option_map, unwrap_or};
 ghost use Rattle.std.specs.List.{range_with_len};
 ghost use Rattle.blang.specs.Text.{IsCodeText, lines_of};
 ghost use Rattle.btools.specs.Origins.{HasNoCode, code_text_shown};
-ghost use Rattle.btools.specs.PlaceLines.{HasPlaceLines, last_in, lines_before, lines_before_places, place_lines};
+ghost use Rattle.btools.specs.PlaceLines.{HasPlaceColumns, HasPlaceLines, last_in, lines_before, lines_before_places};
+ghost use Rattle.btools.specs.PlaceLines.{place_lines, places_read};
+ghost use Rattle.bauthor.specs.LineFiles.{Fails};
 
 use crate::origin::CodeText;
 use crate::program::ProgramFault;
 use crate::source_lines::{last_line, line_at};
-use bauthor::{LineFault, places_of, read_place_lines};
+use bauthor::{LineFault, PlaceLine, places_of, read_place_lines};
 use blang::Definition;
 use std::alloc::{AllocError, Global};
 
-/// The line of each place of a code text of these definitions.
-pub(crate) fn lines_of_places(
+/// Where the places of a code text come from in the source of their author.
+#[derive(Drop)]
+pub(crate) struct SourcePlaces {
+    /// The line of each.
+    pub(crate) lines: Vec<u64>,
+    /// The column of each, 0 where none is told; none at all without a file of lines.
+    pub(crate) columns: Vec<u64>,
+}
+
+/// The lines and columns of the places of a code text of these definitions.
+pub(crate) fn source_places(
     alloc: Global,
     text: CodeText<'_>,
     definitions: &[Definition],
-) -> Result<Vec<u64>, ProgramFault>
+) -> Result<SourcePlaces, ProgramFault>
     requires { IsCodeText text.code.now definitions.now }
-    ensures { MatchResult result (λ v. HasPlaceLines (code_text_shown text.entry) definitions.now v.items)
+    ensures lines { MatchResult result (λ p. HasPlaceLines (code_text_shown text.entry) definitions.now p.lines.items)
         (HasNoCode (code_text_shown text.entry)) }
+    ensures columns { IfOk result (λ p. HasPlaceColumns (code_text_shown text.entry) definitions.now p.columns.items) }
 {
     let Some(file) = text.lines else {
         return match place_lines(alloc, definitions, lines_before(text.code)) {
-            Ok(lines) => Ok(lines),
+            Ok(lines) => Ok(SourcePlaces {
+                lines,
+                columns: Vec::new(alloc),
+            }),
             Err(_) => Err(ProgramFault::Memory),
         };
     };
-    match read_place_lines(alloc, file, definitions, last_in(text.source)) {
-        Ok(lines) => Ok(lines),
+    match read_places(alloc, file, text.source, definitions) {
+        Ok(places) => match split_places(alloc, &places) {
+            Ok(places) => Ok(places),
+            Err(_) => Err(ProgramFault::Memory),
+        },
         Err(LineFault::Line(number, wanted)) => Err(ProgramFault::Unlined(number, wanted)),
         Err(LineFault::Memory) => Err(ProgramFault::Memory),
     }
+}
+
+fn read_places(
+    alloc: Global,
+    file: &[u8],
+    source: Option<&[u8]>,
+    definitions: &[Definition],
+) -> Result<Vec<PlaceLine>, LineFault>
+    ensures ok { IfOk result (λ places.
+        places_read (option_map (λ s. s.now) source.entry) file.now definitions.now ≡ Ok places.items) }
+    ensures err { IfErr result (λ fault.
+        Fails fault (places_read (option_map (λ s. s.now) source.entry) file.now definitions.now)) }
+{
+    read_place_lines(alloc, file, definitions, last_in(source), source)
+}
+
+// The lines of places apart from their columns.
+fn split_places(alloc: Global, places: &[PlaceLine]) -> Result<SourcePlaces, AllocError>
+    ensures lines { IfOk result (λ s. s.lines.items ≡ map (λ p. p.line) places.now) }
+    ensures columns { IfOk result (λ s. s.columns.items ≡ map (λ p. unwrap_or p.column 0) places.now) }
+{
+    Ok(SourcePlaces {
+        lines: places.iter().map(|place| place.line).collect(alloc)?,
+        columns: places
+            .iter()
+            .map(|place| place.column.unwrap_or(0))
+            .collect(alloc)?,
+    })
 }
 
 // The greatest number that a file of lines may have.

@@ -1,17 +1,17 @@
 //! A source that is compiled and loaded, or a code text that is loaded.
-ghost use Rattle.std.specs.Prelude.{◌≡◌, IfOk, MatchResult, Some, drop, take};
+ghost use Rattle.std.specs.Prelude.{◌≡◌, [], IfOk, MatchResult, Some, drop, take};
 ghost use Rattle.blang.specs.Lines.{size_of};
 ghost use Rattle.btools.specs.FrameNames.{HasNames};
 ghost use Rattle.btools.specs.KeptNames.{notes_in, notes_kept};
-ghost use Rattle.btools.specs.Origins.{HasCode, HasNoCode, HasNoProgramOf, HasTextLines, HasTextNames, IsProgramOf};
-ghost use Rattle.btools.specs.Origins.{LinesOf, NamesOf, code_text_shown, origin_shown};
+ghost use Rattle.btools.specs.Origins.{ColumnsOf, HasCode, HasNoCode, HasNoProgramOf, HasTextColumns, HasTextLines};
+ghost use Rattle.btools.specs.Origins.{HasTextNames, IsProgramOf, LinesOf, NamesOf, code_text_shown, origin_shown};
 ghost use Rattle.btools.specs.ProgramLines.{HasLines, KeepsNotesOf};
 ghost use Rattle.btools.specs.Programs.{HasFault, HasNoProgram, IsCodeOf, IsThisProgram, LoadGives};
 
 use crate::named_frames::frames_of_text;
 use crate::names::{NameKeeper, Names};
 use crate::origin::{CodeText, Origin};
-use crate::place_lines::lines_of_places;
+use crate::place_lines::{SourcePlaces, source_places};
 use bauthor::{LineWanted, Wanted, places_of};
 use bcode::{CodeFault, read_code};
 use blang::{Definition, Diagnostic, LoadFault};
@@ -25,6 +25,9 @@ pub struct Program {
     pub definitions: Vec<Definition>,
     pub image: Image,
     pub names: Names,
+    /// The column of the source of each place, beside its line in the names: from 1 on, in bytes, or 0 where none is
+    /// told. There is none at all but for a code text with a file of lines.
+    pub columns: Vec<u64>,
 }
 
 // Not derived: a derived drop is compiled and proved once more in each crate that drops a program.
@@ -34,6 +37,7 @@ impl Drop for Program {
             definitions: _,
             image: _,
             names: _,
+            columns: _,
         } = self;
     }
 }
@@ -75,6 +79,7 @@ pub fn read_program(
         (HasNoProgramOf (origin_shown origin.entry) source.now) }
     ensures lines { IfOk result (λ p. LinesOf (origin_shown origin.entry) source.now p.names.lines.items) }
     ensures names { IfOk result (λ p. NamesOf (origin_shown origin.entry) source.now p.names.frames.items) }
+    ensures columns { IfOk result (λ p. ColumnsOf (origin_shown origin.entry) p.columns.items) }
 {
     match origin {
         Origin::Source(edition) => read_source(alloc, source, edition),
@@ -87,6 +92,7 @@ fn read_source(alloc: Global, source: &[u8], edition: Edition) -> Result<Program
     ensures program { MatchResult result (IsThisProgram edition source.now) (HasNoProgram edition source.now) }
     ensures lines { IfOk result (λ p. HasLines edition source.now p.names.lines.items) }
     ensures names { IfOk result (λ p. HasNames edition source.now p.names.frames.items) }
+    ensures columns { IfOk result (λ p. p.columns.items ≡ []) }
 {
     let mut keeper = NameKeeper::new(alloc);
     match compile_source(alloc, source, edition, &mut keeper) {
@@ -104,27 +110,31 @@ fn load(
 ) -> Result<Program, ProgramFault>
     ensures gives { LoadGives definitions.items result }
     ensures notes { IfOk result (λ p. notes_kept keeper ≡ Some (notes_in p.names)) }
+    ensures columns { IfOk result (λ p. p.columns.items ≡ []) }
 {
     match keeper.into_names() {
-        Some(names) => load_named(alloc, definitions, names),
+        Some(names) => load_named(alloc, definitions, names, Vec::new(alloc)),
         None => Err(ProgramFault::Memory),
     }
 }
 
-// Loads definitions, with these names.
+// Loads definitions, with these names and columns.
 fn load_named(
     alloc: Global,
     definitions: Vec<Definition>,
     names: Names,
+    columns: Vec<u64>,
 ) -> Result<Program, ProgramFault>
     ensures gives { LoadGives definitions.items result }
     ensures same { IfOk result (λ p. p.names ≡ names) }
+    ensures columns { IfOk result (λ p. p.columns ≡ columns) }
 {
     match load_slice(alloc, &definitions) {
         Ok(image) => Ok(Program {
             definitions,
             image,
             names,
+            columns,
         }),
         Err(LoadFault::Memory) => Err(ProgramFault::Memory),
         Err(fault) => Err(ProgramFault::Unloaded(fault)),
@@ -137,21 +147,22 @@ fn read_text(alloc: Global, text: CodeText<'_>) -> Result<Program, ProgramFault>
         (HasNoCode (code_text_shown text.entry)) }
     ensures lines { IfOk result (λ p. HasTextLines (code_text_shown text.entry) p.names.lines.items) }
     ensures names { IfOk result (λ p. HasTextNames (code_text_shown text.entry) p.names.frames.items) }
+    ensures columns { IfOk result (λ p. HasTextColumns (code_text_shown text.entry) p.columns.items) }
 {
     let definitions = match read_code(alloc, text.code) {
         Ok(definitions) => definitions,
         Err(CodeFault::Line(line)) => return Err(ProgramFault::Unread(line)),
         Err(CodeFault::Memory) => return Err(ProgramFault::Memory),
     };
-    let lines = match lines_of_places(alloc, text, &definitions) {
-        Ok(lines) => lines,
+    let SourcePlaces { lines, columns } = match source_places(alloc, text, &definitions) {
+        Ok(places) => places,
         Err(fault) => return Err(fault),
     };
     let frames = match frames_of_text(alloc, text, &definitions) {
         Ok(frames) => frames,
         Err(fault) => return Err(fault),
     };
-    load_named(alloc, definitions, Names { frames, lines })
+    load_named(alloc, definitions, Names { frames, lines }, columns)
 }
 
 /// Compiles a source to the definitions of its code, or to its fault. The watcher looks at the compiler after each one.

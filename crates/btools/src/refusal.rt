@@ -28,7 +28,7 @@ use itoa::Buffer;
 use std::alloc::{AllocError, Global};
 
 /// Room for the longest line about a code text.
-const CODE_LINE_LEN: usize = 160;
+const CODE_LINE_LEN: usize = 178;
 
 /// Tells why there is no program, and gives the status of `go` or, for a code text, of `run`.
 pub fn tell_fault<D: ByteOut>(fault: &ProgramFault, diag: &mut D) -> Status
@@ -96,12 +96,13 @@ fn unlined_line(number: u64, wanted: LineWanted) -> ArrayString<CODE_LINE_LEN>
 fn push_number_wanted(line: &mut ArrayString<CODE_LINE_LEN>, wanted: LineWanted)
     requires { length line.now.bytes ≤ 64 }
     ensures added { line.new.bytes ≡ line.old.bytes ++ numbers.wanted_text wanted }
-    ensures few { length line.new.bytes ≤ 159 }
+    ensures few { length line.new.bytes ≤ 177 }
 {
     match wanted {
         LineWanted::Number(last, name, place) => {
             line.push_str("a number from 0 to ");
             line.push_str(Buffer::new().format(last));
+            line.push_str(", alone or with a column of it");
             push_place(line, name, place);
         }
         LineWanted::End => line.push_str("its end"),
@@ -109,7 +110,7 @@ fn push_number_wanted(line: &mut ArrayString<CODE_LINE_LEN>, wanted: LineWanted)
 }
 
 fn push_place(line: &mut ArrayString<CODE_LINE_LEN>, name: Name, place: usize)
-    requires { length line.now.bytes ≤ 103 }
+    requires { length line.now.bytes ≤ 133 }
     ensures added { line.new.bytes ≡ line.old.bytes
         ++ codes ", for place " ++ decimal place ++ codes " of " ++ name }
     ensures few { length line.new.bytes ≤ length line.old.bytes + 44 }

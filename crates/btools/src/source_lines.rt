@@ -1,6 +1,7 @@
 //! Lines of a source, as they are shown.
 ghost use Rattle.std.specs.Prelude.{◌≡◌, ◌<◌, ◌-◌, ◌^◌, ◌++◌, IfOk, OnOk, map};
-ghost use Rattle.btools.specs.SourceLines.{last_line, line_at, newlines_in, plain_byte, shown_line, source_lines};
+ghost use Rattle.btools.specs.SourceLines.{last_line, line_at, mark_under, newlines_in, plain_byte, shown_line};
+ghost use Rattle.btools.specs.SourceLines.{source_lines};
 
 use crate::text::Text;
 use std::alloc::{AllocError, Global};
@@ -48,6 +49,18 @@ pub fn push_source_line(text: &mut Text, line: &[u8]) -> Result<(), AllocError>
         text.push(&[plain_byte(*byte)])?;
     }
     Ok(())
+}
+
+/// Adds a mark under a byte of the line before, which has four blanks before it; nothing where its column is 0.
+pub fn push_mark(text: &mut Text, column: u64) -> Result<(), AllocError>
+    ensures { OnOk result (text.new ≡ text.old ++ mark_under column) }
+{
+    if column == 0 {
+        return Ok(());
+    }
+    text.push(b"\n    ")?;
+    text.push_blanks((column - 1) as usize)?;
+    text.push(b"^")
 }
 
 // A byte as it is shown.

@@ -15,6 +15,8 @@ pub struct FunctionEntry<'a> {
     pub parts: &'a FunctionParts,
     /// The lines of its instructions.
     lines: &'a [u64],
+    /// Their columns; none at all where none are told.
+    columns: &'a [u64],
 }
 
 /// The functions of a program, in order.
@@ -33,19 +35,24 @@ impl Drop for Tables<'_> {
 impl<'a> Tables<'a> {
     ghost use Rattle.std.specs.Prelude.{◌≡◌, ◌≤◌, IfOk, map, option_map};
     ghost use Rattle.blang.specs.Layout.{data_end, shape_of};
-    ghost use Rattle.btools.specs.ProgramLines.{line_in, lined_entry, lined_functions, lines_shown, lines_with};
+    ghost use Rattle.btools.specs.ProgramLines.{columned_entry, columns_shown, line_in, lined_entry, lined_functions};
+    ghost use Rattle.btools.specs.ProgramLines.{lines_shown, lines_with};
     ghost use Rattle.btools.specs.Functions.{LiesAt, entries_of, function_with, function_named, functions_of, placed_entry};
 
     pub fn new(alloc: Global, program: &'a Program) -> Result<Self, AllocError>
         requires { data_end (map shape_of program.now.definitions.items) ≤ 65536 }
         ensures functions { IfOk result (λ t. entries_of t ≡ functions_of program.now.definitions.items) }
         ensures lines { IfOk result (λ t. lines_shown t ≡ lined_functions program.now.definitions.items program.now.names.lines.items) }
+        ensures columns { IfOk result (λ t.
+            columns_shown t ≡ lined_functions program.now.definitions.items program.now.columns.items) }
     {
         let mut entries = Vec::new(alloc);
         let mut address = u32::from(FIRST_ADDRESS);
         let mut lines = program.names.lines.as_slice();
+        let mut columns = program.columns.as_slice();
         for definition in &program.definitions {
             let (own, later) = split_lines(lines, definition);
+            let (own_columns, later_columns) = split_lines(columns, definition);
             if let Definition::Function(function) = definition {
                 let parts = function.parts();
                 let strings = address + 1;
@@ -53,10 +60,12 @@ impl<'a> Tables<'a> {
                     strings,
                     parts,
                     lines: own,
+                    columns: own_columns,
                 })?;
             }
             address += u32::from(size_of(definition));
             lines = later;
+            columns = later_columns;
         }
         Ok(Tables { entries })
     }
@@ -95,6 +104,7 @@ impl<'a> Tables<'a> {
     pub fn entry(&self, strings: u32) -> Option<FunctionEntry<'a>>
         ensures function { option_map placed_entry result ≡ function_with (entries_of self.now) strings }
         ensures lines { option_map lined_entry result ≡ lines_with (lines_shown self.now) strings }
+        ensures columns { option_map columned_entry result ≡ lines_with (columns_shown self.now) strings }
     {
         match self.position(strings) {
             Some(place) => Some(self.entries[place]),
@@ -120,6 +130,16 @@ impl<'a> Tables<'a> {
     {
         match entry {
             Some(entry) => entry.lines.get(place).copied().unwrap_or(0),
+            None => 0,
+        }
+    }
+
+    /// The column of an instruction of a function, from 1 on, or 0 where none is known.
+    pub fn column(&self, entry: Option<FunctionEntry<'a>>, place: usize) -> u64
+        ensures { result ≡ line_in (option_map columned_entry entry.entry) place }
+    {
+        match entry {
+            Some(entry) => entry.columns.get(place).copied().unwrap_or(0),
             None => 0,
         }
     }

@@ -86,5 +86,5 @@ site_parts in_text at_text line_text old t1 t2 t3 t4 t5 t6 shown name place line
     piece old t5 t6 (in_text ++ left 8 name ++ at_text ++ place ++ line_text) line p5 e6
 
 -- a place with the line of the source after it, and what the outcome means
-pub told_parts : (a n i s k m e : List ℕ) → ((((a ++ (n ++ i)) ++ s) ++ k) ++ m) ++ e ≡ (a ++ n) ++ ((((i ++ s) ++ k) ++ m) ++ e)
-told_parts a n i s k m e = simp append_assoc
+pub told_parts : (l s k m e : List ℕ) → (((l ++ s) ++ k) ++ m) ++ e ≡ l ++ (((s ++ k) ++ m) ++ e)
+told_parts l s k m e = simp append_assoc

@@ -71,9 +71,9 @@ module _ (origin : Origin) (source : List ℕ) (files : Files) (ds : List Defini
       let same = one_call (machine ds s.input n) s.active call e.0 (runs s.input) in (
         s.again,
         (
-          s.lines,
+          s.places,
           s.lined,
-          s.text_is ∙ (λ i. line_in files (limit i) ++ told_site (legend_in ds s.lines files) source (limit i) (same i) (e.1 i) s.again),
+          s.text_is ∙ (λ i. line_in files (limit i) ++ told_site (legend_in ds s.places files) source (limit i) (same i) (e.1 i) s.again),
         ),
       )
 
@@ -84,9 +84,9 @@ module _ (origin : Origin) (source : List ℕ) (files : Files) (ds : List Defini
         s.active,
         s.again,
         (
-          s.lines,
+          s.places,
           s.lined,
-          s.text_is ∙ (λ i. line_in files (limit i) ++ told_site (legend_in ds s.lines files) source (limit i) s.active (e.1 i) s.again),
+          s.text_is ∙ (λ i. line_in files (limit i) ++ told_site (legend_in ds s.places files) source (limit i) s.active (e.1 i) s.again),
         ),
         s.endless,
       )
@@ -109,9 +109,9 @@ module _ (origin : Origin) (source : List ℕ) (files : Files) (ds : List Defini
       let result : s.result ≡ outcome.Trap kind = t.1 ∙ sym (subst (λ m. state_outcome (machine ds s.input (m + 1)) ≡ outcome.Trap t.0) here e.3) ∙ over s.input in
       let made : s.made ≡ last + 1 = e.4 ∙ ap (λ m. m + 1) here in
       let none = none_again s.again (last + 1) kind over s.endless in (
-        s.lines,
+        s.places,
         s.lined,
-        s.text_is ∙ (λ i. line_in files (result i) ++ told_site (legend_in ds s.lines files) source (result i) (same i) (made i) (none i)),
+        s.text_is ∙ (λ i. line_in files (result i) ++ told_site (legend_in ds s.places files) source (result i) (same i) (made i) (none i)),
       )
 
 pub places_told : PlacesTold

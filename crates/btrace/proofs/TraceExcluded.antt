@@ -33,7 +33,7 @@ use Rattle.bmach.specs.declared.machine.Active.{Active}
 use Rattle.bmach.proofs.Running.{memory_unfailed}
 use Rattle.bmach.proofs.LoadedRuns.{shows_loaded}
 use Rattle.bsources.specs.Files.{Files}
-use Rattle.btools.specs.Origins.{Code, IsSuited, LinesOf, NoProgramOf, Origin, ProgramOf, Source}
+use Rattle.btools.specs.Origins.{Code, IsSuited, NoProgramOf, Origin, PlacesOf, ProgramOf, Source, SourcePlaces}
 use Rattle.btools.specs.FaultPlaces.{fault_lines}
 use Rattle.btools.specs.Functions.{functions_of}
 use Rattle.btools.specs.declared.names.Frame.{Frame}
@@ -147,7 +147,7 @@ module _ (files : Files) where
     finished text answer result reported (inr t) = let same : status ≡ answer = t.2 in absurd (t.0 ((told text DONE ends.out ends.out_after answer (omega arith) reported).1))
 
     status_told : (result : Outcome) → ComesAlways ds steps result → Traces origin source steps shown files name ends status → status ≡ status_of result
-    status_told result comes (traces.traced other image lines frames which r made again text answer program lined known named back w reported tells) =
+    status_told result comes (traces.traced other image places frames which r made again text answer program lined known named back w reported tells) =
         let f = finished text answer r reported tells in
         let c = came other steps ends.input ends.input_after nothing_written (outgoing_of w.output) ends.line ends.line_after status less r w.gives f.1 in
         let at_end = subst (λ x. state_outcome (machine x c.1.0 steps) ≡ r) (only_in origin source ds is other image program) c.1.1 in
@@ -160,8 +160,8 @@ module _ (files : Files) where
 
     -- a run that begins has its trace written
     written_so : Traces origin source steps shown files name ends status → (more : List ℕ) × Writes ends.out (HEADING.now ++ more) ends.out_after
-    written_so (traces.traced other image lines frames which r made again text answer program lined known named back w reported tells) =
-        let legend = legend_in other lines files in
+    written_so (traces.traced other image places frames which r made again text answer program lined known named back w reported tells) =
+        let legend = legend_in other places files in
         let sights = sights_of (image_of other).functions (machine other) (w.taken ++ []) in
         let rows = rows_text legend which sights made in
         let ending = ending_text legend which sights made r in
@@ -196,7 +196,7 @@ module _ (files : Files) where
       by_kind end_fault.Memory h e = refused h.counted.0
 
   read_told : (origin : Origin) (source : List ℕ) (steps : ℕ) (shown : TraceRows) (name : Option (List ℕ)) (ends : RunEnds) → (ends.input_after.failures ≡ ends.input.failures → ⊥) → (Grew ends.out.refusals ends.out_after.refusals → ⊥) → Traces origin source steps shown files name ends MEMORY → ⊥
-  read_told origin source steps shown name ends failed refused (traces.traced ds image lines frames which result made again text answer program lined known named back w reported tells) =
+  read_told origin source steps shown name ends failed refused (traces.traced ds image places frames which result made again text answer program lined known named back w reported tells) =
       elim tells [
         | inl d ↦ read_whole ds steps ends.input ends.input_after nothing_written (outgoing_of w.output) ends.line ends.line_after result failed w.gives d.1
         | inr d ↦ cut_off text ends.out ends.out_after refused (subst (λ n. Reported text DONE ends.out ends.out_after n) (sym d.2) reported)
@@ -212,14 +212,14 @@ module _ (files : Files) where
     Tells = NoProgramOf origin source (fault_lines files) ends.line ends.line_after status × HasNotRun ends
 
     trace_unsuited : (shown : TraceRows) (name : Option (List ℕ)) → Traces origin source steps shown files name ends status → Tells
-    trace_unsuited shown name (traces.traced ds image lines frames which r made again text answer program lined known named back w reported tells) = absurd (no ((lines, lined), (frames, known)))
+    trace_unsuited shown name (traces.traced ds image places frames which r made again text answer program lined known named back w reported tells) = absurd (no ((places.lines, lined.0), (frames, known)))
     trace_unsuited shown name (traces.not_begun ds image which r program suits named never f quiet) = absurd (no suits)
     trace_unsuited shown name (traces.unnamed ds image program suits unknown r quiet) = absurd (no suits)
     trace_unsuited shown name (traces.stopped none quiet) = (none, quiet)
     trace_unsuited shown name (traces.no_memory ds image program suits still same read e) = absurd (no suits)
 
     place_unsuited : Locates origin source files steps ends status → Tells
-    place_unsuited (locates.located out ds image frames lines result answer active made again program named lined gives f located stops comes tells) = absurd (no ((lines, lined), (frames, named)))
+    place_unsuited (locates.located out ds image frames places result answer active made again program named lined gives f located stops comes tells) = absurd (no ((places.lines, lined.0), (frames, named)))
     place_unsuited (locates.unlocated ds image result program suits gives f unplaced) = absurd (no suits)
     place_unsuited (locates.not_begun ds image result program suits never f quiet) = absurd (no suits)
     place_unsuited (locates.stopped none quiet) = (none, quiet)
@@ -250,11 +250,11 @@ module _ (files : Files) where
     pub made : ℕ
     pub input : List ℕ
     pub stops : EndsAt (machine ds input) steps result active made
-    pub lines : List ℕ
-    pub lined : LinesOf origin source lines
+    pub places : SourcePlaces
+    pub lined : PlacesOf origin source places
     pub again : Option Endless
     pub endless : IfSome again (λ e. RunsForEver (machine ds) ends.input ends.input_after)
-    pub text_is : text ≡ line_in result ++ told_site (legend_in ds lines files) source result active made again
+    pub text_is : text ≡ line_in result ++ told_site (legend_in ds places files) source result active made again
 
   line_told : (result : Outcome) (answer : ℕ) (mid following : Outgoing) → located_status result ≡ Some answer → Finishes result mid following answer → Writes mid (line_in result) following
   line_told (outcome.Exit n) answer mid following e f = cc
@@ -282,9 +282,9 @@ module _ (files : Files) where
 
     -- the place is told
     pub stops_so : (text : List ℕ) → ends.line.written ≡ Some [] → ends.line_after.written ≡ Some text → (text ≡ [] → ⊥) → Locates origin source files steps ends status → Stops origin source ds steps ends text status
-    stops_so text before following some (locates.located out other image frames lines result answer active made again program named lined gives f located stops comes tells) =
+    stops_so text before following some (locates.located out other image frames places result answer active made again program named lined gives f located stops comes tells) =
         let same = only_in origin source ds is other image program in
-        let site = site_told (legend_in other lines files) source result active made again answer out ends.line_after status less tells in
+        let site = site_told (legend_in other places files) source result active made again answer out ends.line_after status less tells in
         let whole = Writes-append (line_told result answer ends.line out located f) site.0 in
         let here : Stops origin source other steps ends text status = record {
           result = result;
@@ -293,7 +293,7 @@ module _ (files : Files) where
           made = made;
           input = stops.taken ++ [];
           stops = stops.ends [] (λ e. refl);
-          lines = lines;
+          places = places;
           lined = lined;
           again = again;
           endless = endless_so other image (loaded_in origin source other image program) ends.input ends.input_after frames again comes;
@@ -307,9 +307,9 @@ module _ (files : Files) where
 
     -- the status is that of the machine's outcome
     came_to : (result : Outcome) → ComesAlways ds steps result → Locates origin source files steps ends status → status ≡ status_of result
-    came_to result comes (locates.located out other image frames lines r answer active made again program named lined gives f located stops back tells) =
+    came_to result comes (locates.located out other image frames places r answer active made again program named lined gives f located stops back tells) =
         let same = only_in origin source ds is other image program in
-        let site = site_told (legend_in other lines files) source r active made again answer out ends.line_after status less tells in
+        let site = site_told (legend_in other places files) source r active made again answer out ends.line_after status less tells in
         let c = came other steps ends.input ends.input_after ends.out ends.out_after ends.line out answer (omega (arith, site.1)) r gives f in
         let at_end = subst (λ x. state_outcome (machine x c.1.0 steps) ≡ r) same c.1.1 in
         site.1 ∙ c.0 ∙ ap status_of (sym at_end ∙ comes c.1.0)
@@ -361,7 +361,7 @@ module _ (files : Files) where
   located_read ds steps i j o p outcome.Memory answer e h = cc
 
   place_read : (origin : Origin) (source : List ℕ) (steps : ℕ) (ends : RunEnds) → (ends.input_after.failures ≡ ends.input.failures → ⊥) → Locates origin source files steps ends MEMORY → ⊥
-  place_read origin source steps ends failed (locates.located out ds image frames lines result answer active made again program named lined gives f located stops comes tells) =
+  place_read origin source steps ends failed (locates.located out ds image frames places result answer active made again program named lined gives f located stops comes tells) =
       failed (located_read ds steps ends.input ends.input_after ends.out ends.out_after result answer located gives)
   place_read origin source steps ends failed (locates.unlocated ds image result program suits gives f unplaced) =
       read_whole ds steps ends.input ends.input_after ends.out ends.out_after ends.line ends.line_after result failed gives f
@@ -372,12 +372,12 @@ module _ (files : Files) where
   places_excluded = record {
     limit_alone = λ ds steps starts origin source ends is before following h.
         let s = stops_so origin source ds is steps ends LIMIT (omega arith) starts (codes "limit\n") before following (λ e. cc) h in
-        let limit = s.text_is ∙ ap (λ x. line_in x ++ told_site (legend_in ds s.lines files) source x s.active s.made s.again) (limit_is s.result s.located) in
+        let limit = s.text_is ∙ ap (λ x. line_in x ++ told_site (legend_in ds s.places files) source x s.active s.made s.again) (limit_is s.result s.located) in
         let bad : 0 ≡ 97 = ap (at 6) limit in
         omega (arith, bad);
     trap_alone = λ ds steps kind starts origin source ends is before following h.
         let s = stops_so origin source ds is steps ends TRAP (omega arith) starts (report_text (report.Trap kind)) before following (λ e. cc) h in
-        trap_alone s.result kind (legend_in ds s.lines files) source s.active s.made s.again s.located s.text_is;
+        trap_alone s.result kind (legend_in ds s.places files) source s.active s.made s.again s.located s.text_is;
     other_status = λ ds steps result status starts comes wrong less origin source ends is h.
         wrong (came_to origin source ds is steps ends status less starts result comes h);
     read_failed = λ origin source steps ends failed h. place_read origin source steps ends failed h;

@@ -24,7 +24,7 @@ use Rattle.bwatch.specs.declared.trail.TraceRows.{TraceRows}
 
 module _ (edition : Edition) (source : List ℕ) (r : Compilation) (g : CompilesTo [] (tokens_from edition 1 source) r) (steps : ℕ) (files : Files) (ends : RunEnds) (status : ℕ) where
   pub by_trace : (shown : TraceRows) (name : Option (List ℕ)) → Traces (Source edition) source steps shown files name ends status → LeftBySteps (machine (code_in edition source r g)) steps ends.input ends.input_after
-  by_trace shown name (traces.traced ds image lines frames which result made again text told has lined known named back w reported tells) =
+  by_trace shown name (traces.traced ds image places frames which result made again text told has lined known named back w reported tells) =
       program_left edition source r g steps ends.input ends.input_after ds image has
       (run_left (machine ds) steps ends.input ends.input_after nothing_written (outgoing_of w.output) result w.gives)
   by_trace shown name (traces.not_begun ds image which result has suits named never finishes quiet) = untaken edition source r g steps ends.input ends.input_after quiet.unread
@@ -34,7 +34,7 @@ module _ (edition : Edition) (source : List ℕ) (r : Compilation) (g : Compiles
       program_left edition source r g steps ends.input ends.input_after ds image has (left_by (machine ds) steps ends.input ends.input_after read)
 
   pub by_place : Locates (Source edition) source files steps ends status → LeftBySteps (machine (code_in edition source r g)) steps ends.input ends.input_after
-  by_place (locates.located told ds image frames lines result answer active made again has named lined gives finishes at over comes tells) =
+  by_place (locates.located told ds image frames places result answer active made again has named lined gives finishes at over comes tells) =
       program_left edition source r g steps ends.input ends.input_after ds image has
       (run_left (machine ds) steps ends.input ends.input_after ends.out ends.out_after result gives)
   by_place (locates.unlocated ds image result has suits gives finishes unplaced) =
@@ -46,7 +46,7 @@ module _ (edition : Edition) (source : List ℕ) (r : Compilation) (g : Compiles
 module _ (c : CodeText) (ds : List Definition) (is : IsCodeText c.code ds) (source : List ℕ) (steps : ℕ) (files : Files) (ends : RunEnds) (status : ℕ) where
   -- the same of the machine of a code text
   pub by_code : (shown : TraceRows) (name : Option (List ℕ)) → Traces (Code c) source steps shown files name ends status → LeftBySteps (machine ds) steps ends.input ends.input_after
-  by_code shown name (traces.traced other image lines frames which result made again text told has lined known named back w reported tells) =
+  by_code shown name (traces.traced other image places frames which result made again text told has lined known named back w reported tells) =
       left_by_code c.code ds is steps ends.input ends.input_after other has.text (run_left (machine other) steps ends.input ends.input_after nothing_written (outgoing_of w.output) result w.gives)
   by_code shown name (traces.not_begun other image which result has suits named never finishes quiet) = untaken_by_code c.code ds is steps ends.input ends.input_after quiet.unread
   by_code shown name (traces.unnamed other image has suits unknown reported quiet) = untaken_by_code c.code ds is steps ends.input ends.input_after quiet.unread
@@ -54,7 +54,7 @@ module _ (c : CodeText) (ds : List Definition) (is : IsCodeText c.code ds) (sour
   by_code shown name (traces.no_memory other image has suits still same read e) = left_by_code c.code ds is steps ends.input ends.input_after other has.text (left_by (machine other) steps ends.input ends.input_after read)
 
   pub place_by_code : Locates (Code c) source files steps ends status → LeftBySteps (machine ds) steps ends.input ends.input_after
-  place_by_code (locates.located told other image frames lines result answer active made again has named lined gives finishes at over comes tells) =
+  place_by_code (locates.located told other image frames places result answer active made again has named lined gives finishes at over comes tells) =
       left_by_code c.code ds is steps ends.input ends.input_after other has.text (run_left (machine other) steps ends.input ends.input_after ends.out ends.out_after result gives)
   place_by_code (locates.unlocated other image result has suits gives finishes unplaced) =
       left_by_code c.code ds is steps ends.input ends.input_after other has.text (run_left (machine other) steps ends.input ends.input_after ends.out ends.out_after result gives)

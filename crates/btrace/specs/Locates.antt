@@ -16,13 +16,12 @@ use Rattle.bmach.specs.Stops.{IsOverAt}
 use Rattle.bmach.specs.declared.machine.Active.{Active}
 use Rattle.btools.specs.FaultPlaces.{fault_lines}
 use Rattle.btools.specs.Functions.{functions_of}
-use Rattle.btools.specs.Origins.{IsSuited, LinesOf, NamesOf, NoProgramOf, Origin, ProgramOf}
+use Rattle.btools.specs.Origins.{IsSuited, NamesOf, NoProgramOf, Origin, PlacesOf, ProgramOf, SourcePlaces}
 use Rattle.btools.specs.Programs.{located_status}
-use Rattle.btools.specs.SourceLines.{line_at, shown_line}
 use Rattle.bsources.specs.Files.{Files}
 use Rattle.btools.specs.declared.names.Frame.{Frame}
 use Rattle.btrace.specs.Loops.{loop_text}
-use Rattle.btrace.specs.RowTexts.{Legend, legend_in, place_line, site_text}
+use Rattle.btrace.specs.RowTexts.{Legend, legend_in, site_text, source_text}
 
 -- the place of a call, and the number of the step with which the run came there
 abbrev pub site_line : Legend → Active → (number : ℕ) → List ℕ
@@ -46,14 +45,13 @@ meaning_text result None = meaning result
 meaning_text result (Some e) = repeat_text e.repeat
 
 -- the line of the source, and what the outcome means
-abbrev pub explanation : (source : List ℕ) → Outcome → Option Endless → (line : ℕ) → List ℕ
-explanation source result again line =
-    codes "    " ++ shown_line (line_at source line) ++ codes "\n  means: " ++ meaning_text result again ++ codes "\n"
+abbrev pub explanation : Legend → (source : List ℕ) → Outcome → Option Endless → Active → List ℕ
+explanation legend source result again call =
+    source_text legend source call ++ codes "  means: " ++ meaning_text result again ++ codes "\n"
 
 abbrev pub told_site : Legend → (source : List ℕ) → Outcome → Active → (number : ℕ) → Option Endless → List ℕ
 told_site legend source result call number again =
-    site_line legend call number ++ explanation source result again (place_line legend call)
-    ++ loop_text legend source again
+    site_line legend call number ++ explanation legend source result again call ++ loop_text legend source again
 
 -- A line with this place and this step, the line there and the meaning were written, and the place of the loop; or memory
 -- was refused for it.
@@ -70,14 +68,14 @@ TellsSite legend source result call number again answer old new status =
 -- it.
 pub data Locates (origin : Origin) (source : List ℕ) (files : Files) (steps : ℕ) (ends : RunEnds) (status : ℕ)
     : Type 0 where
-  located : (told : Outgoing) (ds : List Definition) (image : Image) (frames : List Frame) (lines : List ℕ)
+  located : (told : Outgoing) (ds : List Definition) (image : Image) (frames : List Frame) (places : SourcePlaces)
       (result : Outcome) (answer : ℕ) (active : Active) (made : ℕ) (again : Option Endless)
-      → ProgramOf origin source ds image → NamesOf origin source frames → LinesOf origin source lines
+      → ProgramOf origin source ds image → NamesOf origin source frames → PlacesOf origin source places
       → RunGives (machine ds) steps ends.input ends.input_after ends.out ends.out_after result
       → Finishes result ends.line told answer → located_status result ≡ Some answer
       → IsOverAt (machine ds) steps ends.input ends.input_after result active made
       → IfSome again (IsEndless ds image (functions_of ds) frames ends.input ends.input_after)
-      → TellsSite (legend_in ds lines files) source result active made again answer told ends.line_after status
+      → TellsSite (legend_in ds places files) source result active made again answer told ends.line_after status
       → Locates origin source files steps ends status
   unlocated : (ds : List Definition) (image : Image) (result : Outcome)
       → ProgramOf origin source ds image → IsSuited origin source

@@ -4,8 +4,7 @@ use Rattle.bendless.specs.Tellings.{repeat_text}
 use Rattle.bendless.specs.declared.endless.Endless.{Endless}
 use Rattle.bendless.specs.declared.search.Repeat.{Repeat}
 use Rattle.bmach.specs.declared.machine.Active.{Active}
-use Rattle.btools.specs.SourceLines.{line_at, shown_line}
-use Rattle.btrace.specs.RowTexts.{Legend, place_line, site_text}
+use Rattle.btrace.specs.RowTexts.{Legend, site_text, source_text}
 
 -- what comes after a trace: that a state comes again, and the place of the call in which it does
 abbrev pub again_rows : Legend → Repeat → List ℕ
@@ -19,8 +18,7 @@ again_text legend (Some r) = again_rows legend r
 -- the place of the call in which a state comes again, and the line of the source
 abbrev pub loop_site : Legend → (source : List ℕ) → Active → List ℕ
 loop_site legend source call =
-    codes "loop   " ++ site_text legend call ++ codes "\n    "
-    ++ shown_line (line_at source (place_line legend call)) ++ codes "\n"
+    codes "loop   " ++ site_text legend call ++ codes "\n" ++ source_text legend source call
 
 -- the call in the loop that asks for input, where the input has ended
 abbrev pub asks_text : Legend → Option Active → List ℕ

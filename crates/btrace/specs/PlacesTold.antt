@@ -13,7 +13,7 @@ use Rattle.blang.specs.Reports.{RunEnds, report_text, state_outcome}
 use Rattle.bmach.specs.Stops.{RunsCall}
 use Rattle.bmach.specs.declared.machine.Active.{Active}
 use Rattle.bsources.specs.Files.{Files}
-use Rattle.btools.specs.Origins.{LinesOf, Origin}
+use Rattle.btools.specs.Origins.{Origin, PlacesOf, SourcePlaces}
 use Rattle.btrace.specs.Locates.{Locates, told_site}
 use Rattle.btrace.specs.RowTexts.{legend_in}
 use Rattle.btrace.specs.TraceExcluded.{ComesAlways, IsCodeIn}
@@ -32,8 +32,8 @@ module _ (origin : Origin) (source : List ℕ) (files : Files) (ds : List Defini
   -- It is this line, and then the place of this call, with the line of the source, after so many steps.
   abbrev pub TellsPlaceOf : (line : List ℕ) → Outcome → Active → (number : ℕ) → Option Endless → Type 0
   TellsPlaceOf line result call number again =
-      (lines : List ℕ) × LinesOf origin source lines
-      × (text ≡ line ++ told_site (legend_in ds lines files) source result call number again)
+      (places : SourcePlaces) × PlacesOf origin source places
+      × (text ≡ line ++ told_site (legend_in ds places files) source result call number again)
 
   -- At the limit the call that runs after all steps is told, and after a trap the one that ran before its step. Where it is
   -- told that a state comes again, the machine has not halted after any number of steps.

@@ -7,14 +7,14 @@ use Rattle.blang.specs.declared.run.Trap.TheVariants as trap
 use Rattle.btools.specs.Programs.{located_status}
 use Rattle.bendless.specs.declared.search.Repeat.{Repeat}
 use Rattle.btrace.specs.Locates.{explanation, meaning, site_line, told_site}
-use Rattle.btrace.specs.Loops.{again_text, loop_text}
+use Rattle.btrace.specs.Loops.{again_text, loop_site, loop_text}
 use Rattle.bmach.specs.declared.machine.Active.{Active}
 use Rattle.btools.specs.Columns.{instr_text}
 use Rattle.btools.specs.Characters.{signed_text}
 use Rattle.btrace.specs.RowTexts.{caller_text, callers_text, first_words, has_more, is_same_place, margin}
 use Rattle.btrace.specs.RowTexts.{operands_text, stored_text, word_row, words_text, written_byte, written_row}
 use Rattle.bsources.specs.Files.{Files}
-use Rattle.btrace.specs.RowTexts.{Legend, line_text}
+use Rattle.btrace.specs.RowTexts.{Legend, column_told, line_text, place_column, source_text}
 use Rattle.btrace.specs.Traces.{is_wanted, which_of}
 use Rattle.bwatch.specs.Trails.{chosen}
 use Rattle.bwatch.specs.declared.trail.TraceRows.TheVariants as rows
@@ -184,8 +184,13 @@ abbrev lined : ℕ → Legend
 lined line = record {
   functions = [];
   lines = record { strings = 9; lines = replicate 16 line } ∷ [];
+  columns = [];
   files = two_files;
 }
+
+-- the same with these columns for the first ones
+abbrev marked : (line : ℕ) → (columns : List ℕ) → Legend
+marked line columns = record (lined line) { columns = record { strings = 9; lines = columns } ∷ [] }
 
 abbrev a_place : ℕ → Active
 a_place place = record (a_call 0 0) { place = place }
@@ -255,7 +260,7 @@ told_trap : told_site (lined 2) (codes "main()\n  f(1 / 0); \n") (outcome.Trap t
 unfolding digits
 told_trap = refl
 
-told_limit : explanation (codes "main() f();") outcome.Limit None 1
+told_limit : explanation (lined 1) (codes "main() f();") outcome.Limit None (a_place 0)
     ≡ codes "    main() f();\n  means: no end within so many steps; --steps N or --no-limit gives more\n"
 told_limit = refl
 
@@ -308,3 +313,45 @@ meanings_told : map meaning
     ∷ codes "no end within so many steps; --steps N or --no-limit gives more"
     ∷ [] ∷ [] ∷ [] ∷ []
 meanings_told = refl
+
+-- Each place has its own column. One that isn't told, and one of a place past the last, has none.
+columns_told : map (λ place. place_column (marked 2 (5 ∷ 0 ∷ 65535 ∷ [])) (a_place place)) (0 ∷ 1 ∷ 2 ∷ 3 ∷ [])
+    ≡ 5 ∷ 0 ∷ 65535 ∷ 0 ∷ []
+columns_told = refl
+
+other_function : place_column (marked 2 (5 ∷ [])) (record (a_place 0) { strings = 10 }) ≡ 0
+other_function = refl
+
+column_texts : map column_told (0 ∷ 1 ∷ 10 ∷ 65536 ∷ [])
+    ≡ [] ∷ codes "  column 1" ∷ codes "  column 10" ∷ codes "  column 65536" ∷ []
+unfolding digits
+column_texts = refl
+
+-- The column is told with the line, in the second file as well, and the mark stands under its byte.
+site_with_column : site_line (marked 7 (12 ∷ [])) (a_place 0) 3
+    ≡ codes "at     in          place    0  line    5 of l.b  column 12  step 3\n"
+unfolding digits
+site_with_column = refl
+
+told_column : told_site (marked 2 (0 ∷ 5 ∷ [])) (codes "main()\n  f(1 / 0); \n") (outcome.Trap trap.ZeroDivisor)
+    (a_place 1) 7 None
+    ≡ codes "at     in          place    1  line    2  column 5  step 7\n      f(1 / 0);\n        ^\n"
+    ++ codes "  means: a division by 0\n"
+unfolding digits
+told_column = refl
+
+-- the first byte, one before which a tab stands, and one after the last
+marks : map (λ column. source_text (marked 1 (column ∷ [])) (codes "\ta") (a_place 0)) (0 ∷ 1 ∷ 2 ∷ 3 ∷ [])
+    ≡ codes "     a\n" ∷ codes "     a\n    ^\n" ∷ codes "     a\n     ^\n" ∷ codes "     a\n      ^\n" ∷ []
+marks = refl
+
+-- Line 0 is none, so nothing of the source is shown.
+no_line : told_site (lined 0) (codes "main() f();") (outcome.Trap trap.ZeroDivisor) (a_place 3) 7 None
+    ≡ codes "at     in          place    3  line    0  step 7\n  means: a division by 0\n"
+unfolding digits
+no_line = refl
+
+loop_marked : loop_site (marked 1 (7 ∷ [])) (codes "main() L: goto L;") (a_place 0)
+    ≡ codes "loop   in          place    0  line    1  column 7\n    main() L: goto L;\n          ^\n"
+unfolding digits
+loop_marked = refl

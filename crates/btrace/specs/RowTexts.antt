@@ -11,25 +11,38 @@ use Rattle.btools.specs.Characters.{is_printable, shown_byte, signed_text}
 use Rattle.btools.specs.Columns.{instr_text, left, right}
 use Rattle.bsources.specs.Files.{Files, Line, beyond_first, files_shown}
 use Rattle.btools.specs.Functions.{Placed, entries_of, function_with, functions_of, instr_in, name_in}
-use Rattle.btools.specs.ProgramLines.{FunctionLines, line_at, lined_functions, lines_shown}
+use Rattle.btools.specs.Origins.{SourcePlaces}
+use Rattle.btools.specs.ProgramLines.{FunctionLines, columns_shown, line_at, lined_functions, lines_shown}
 use Rattle.btools.specs.Quoting.{file_text}
+use Rattle.btools.specs.SourceLines as source_lines
+use Rattle.btools.specs.SourceLines.{mark_under, shown_line}
 use Rattle.btrace.specs.declared.legend as told
 use Rattle.btrace.specs.declared.places.TheConstants.{SHOWN_CALLS, SHOWN_PARAMETERS}
 use Rattle.btrace.specs.declared.rows.TheConstants.{MARGIN, SHOWN_OPERANDS}
 
--- what is told of a program: its functions, the lines of their instructions, and the files of its source
+-- what is told of a program: its functions, the lines and columns of their instructions, and the files of its source
 pub record Legend : Type 0 where
   pub functions : List Placed
   pub lines : List FunctionLines
+  pub columns : List FunctionLines
   pub files : Files
 
 abbrev pub legend_of : told.Legend.Legend → Legend
-legend_of l =
-    record { functions = entries_of l.tables.now; lines = lines_shown l.tables.now; files = files_shown l.files }
+legend_of l = record {
+  functions = entries_of l.tables.now;
+  lines = lines_shown l.tables.now;
+  columns = columns_shown l.tables.now;
+  files = files_shown l.files;
+}
 
--- that of definitions, whose code has these lines
-abbrev pub legend_in : List Definition → (lines : List ℕ) → Files → Legend
-legend_in ds lines files = record { functions = functions_of ds; lines = lined_functions ds lines; files = files }
+-- that of definitions, whose places come from these
+abbrev pub legend_in : List Definition → SourcePlaces → Files → Legend
+legend_in ds places files = record {
+  functions = functions_of ds;
+  lines = lined_functions ds places.lines;
+  columns = lined_functions ds places.columns;
+  files = files;
+}
 
 -- the number of a line, at the right of a column; after the first file it is its number in its own one
 abbrev pub line_of : (width line : ℕ) → Option Line → List ℕ
@@ -48,6 +61,20 @@ code_of l call = instr_text (instr_in (function_with l.functions call.strings) c
 
 abbrev pub place_line : Legend → Active → ℕ
 place_line l call = line_at l.lines call.strings call.place
+
+-- its column, from 1 on; 0 where none is told
+abbrev pub place_column : Legend → Active → ℕ
+place_column l call = line_at l.columns call.strings call.place
+
+-- a line of the source, with a mark under a column; nothing of line 0, which is none
+abbrev pub source_row : (source : List ℕ) → (line column : ℕ) → List ℕ
+source_row source line column =
+    if line == 0 then []
+    else codes "    " ++ shown_line (source_lines.line_at source line) ++ mark_under column ++ codes "\n"
+
+-- that at which a call is
+abbrev pub source_text : Legend → (source : List ℕ) → Active → List ℕ
+source_text l source call = source_row source (place_line l call) (place_column l call)
 
 operands_shown : SHOWN_OPERANDS ≡ 5
 operands_shown = refl
@@ -117,11 +144,15 @@ words_text words are_more =
     (if nat_lt 0 (length words) then codes "  with" else []) ++ flat_map (λ w. codes " " ++ signed_text w) words
     ++ (if are_more then codes " .." else [])
 
--- the function of a call, the place in it, and the line of the source
+-- the column of the source, if it is told
+abbrev pub column_told : (column : ℕ) → List ℕ
+column_told column = if column == 0 then [] else codes "  column " ++ decimal column
+
+-- the function of a call, the place in it, and the line of the source, with its column
 abbrev pub site_text : Legend → Active → List ℕ
 site_text l call =
     codes "in " ++ left 8 (name_of l call) ++ codes " place " ++ right 4 (decimal call.place) ++ codes "  line "
-    ++ line_text 4 l.files (place_line l call)
+    ++ line_text 4 l.files (place_line l call) ++ column_told (place_column l call)
 
 abbrev pub place_text : Legend → (store : List ℕ) → Active → List ℕ
 place_text l store call = site_text l call ++ words_text (first_words store call) (has_more call) ++ codes "\n"

@@ -11,7 +11,7 @@ use Rattle.blang.specs.Text.{code_lines, joined}
 use Rattle.bsources.specs.Files.{Files}
 use Rattle.btools.specs.PlaceLines.{CodeText, HasPlaceLines}
 use Rattle.bwatch.specs.Sights.{Sights, end_sight, sights_of, stored_between}
-use Rattle.btrace.specs.RowTexts.{legend_in, margin}
+use Rattle.btrace.specs.RowTexts.{Legend, legend_in, margin}
 use Rattle.bwatch.specs.SmallPrograms.{calling, nothing, passing, reading, storing, trapping, writing}
 use Rattle.btrace.specs.Traces.{ending_text, rows_text}
 use Rattle.btrace.specs.declared.tracer.Which.{Which}
@@ -32,11 +32,14 @@ sights ds = sights_of (image_of ds).functions (machine ds) []
 abbrev asked : TraceRows → (function : Option ℕ) → Which
 asked rows function = record { rows = rows; function = function }
 
+-- the legend of code that has these lines, without columns
+abbrev lined : List Definition → (lines : List ℕ) → Legend
+lined ds lines = legend_in ds (record { lines = lines; columns = [] }) some_files
+
 -- what stands under the heading
 abbrev under_heading : List Definition → (lines : List ℕ) → Which → (made : ℕ) → Outcome → List ℕ
 under_heading ds lines which made result =
-    rows_text (legend_in ds lines some_files) which (sights ds) made
-    ++ ending_text (legend_in ds lines some_files) which (sights ds) made result
+    rows_text (lined ds lines) which (sights ds) made ++ ending_text (lined ds lines) which (sights ds) made result
 
 -- each row has the line of its own step, in the file where it lies; the limit has that of the next one
 all_rows : under_heading calling (7 ∷ 8 ∷ 9 ∷ 0 ∷ 0 ∷ 0 ∷ 13 ∷ 14 ∷ []) (asked (rows.From 1) None) 4 outcome.Limit
@@ -60,8 +63,7 @@ none_before : under_heading nothing (1 ∷ 2 ∷ []) (asked (rows.From 2) None) 
 unfolding digits
 none_before = refl
 
-rows_of_function : rows_text (legend_in calling (7 ∷ 7 ∷ 7 ∷ 7 ∷ 7 ∷ 7 ∷ 8 ∷ 8 ∷ []) some_files)
-    (asked (rows.From 1) (Some 9)) (sights calling) 4 ≡ codes "       4  f            0     8  x f         \n"
+rows_of_function : rows_text (lined calling (7 ∷ 7 ∷ 7 ∷ 7 ∷ 7 ∷ 7 ∷ 8 ∷ 8 ∷ [])) (asked (rows.From 1) (Some 9)) (sights calling) 4 ≡ codes "       4  f            0     8  x f         \n"
 unfolding digits
 rows_of_function = refl
 
@@ -98,7 +100,7 @@ by_author = record {
 
 lines_of_author : HasPlaceLines by_author nothing (7 ∷ 12 ∷ [])
 unfolding digits
-lines_of_author = refl
+lines_of_author = (record { line = 7; column = None } ∷ record { line = 12; column = None } ∷ [], refl, refl)
 
 told_by_author : under_heading nothing (7 ∷ 12 ∷ []) (asked (rows.From 1) None) 2 (outcome.Exit 0)
     ≡ codes "       1  main         0     7  c 0         \n"
@@ -107,13 +109,13 @@ unfolding digits
 told_by_author = refl
 
 -- a byte that was written, and a word that was stored
-byte_written : rows_text (legend_in writing (1 ∷ 1 ∷ 2 ∷ 3 ∷ []) some_files) (asked (rows.From 4) None) (sights writing) 4
+byte_written : rows_text (lined writing (1 ∷ 1 ∷ 2 ∷ 3 ∷ [])) (asked (rows.From 4) None) (sights writing) 4
     ≡ codes "       4  main         3     3  k 1          4 97\n"
     ++ codes "                                           writes 'a'\n"
 unfolding digits margin
 byte_written = refl
 
-word_stored : rows_text (legend_in storing (1 ∷ 2 ∷ 3 ∷ []) some_files) (asked (rows.From 3) None) (sights storing) 3
+word_stored : rows_text (lined storing (1 ∷ 2 ∷ 3 ∷ [])) (asked (rows.From 3) None) (sights storing) 3
     ≡ codes "       3  main         2     3  w            3 5\n"
     ++ codes "                                           @3 = 5\n"
 unfolding digits margin

@@ -14,7 +14,7 @@ use Rattle.blang.specs.declared.run.Outcome.TheVariants as outcome
 use Rattle.bmach.specs.declared.machine.Active.{Active}
 use Rattle.btools.specs.FaultPlaces.{fault_lines}
 use Rattle.btools.specs.Functions.{Placed, function_named, functions_of}
-use Rattle.btools.specs.Origins.{IsSuited, LinesOf, NamesOf, NoProgramOf, Origin, ProgramOf}
+use Rattle.btools.specs.Origins.{IsSuited, NamesOf, NoProgramOf, Origin, PlacesOf, ProgramOf, SourcePlaces}
 use Rattle.btools.specs.declared.names.Frame.{Frame}
 use Rattle.btools.specs.Programs.{TellsEnd}
 use Rattle.bsources.specs.Files.{Files}
@@ -111,13 +111,13 @@ IsTrace legend which again text sights made result =
 -- beside its code text suits it.
 pub data Traces (origin : Origin) (source : List ℕ) (steps : ℕ) (shown : TraceRows) (files : Files)
     (name : Option (List ℕ)) (ends : RunEnds) (status : ℕ) : Type 0 where
-  traced : (ds : List Definition) (image : Image) (lines : List ℕ) (frames : List Frame) (which : Which)
+  traced : (ds : List Definition) (image : Image) (places : SourcePlaces) (frames : List Frame) (which : Which)
       (result : Outcome) (made : ℕ) (again : Option Repeat) (text : List ℕ) (told : ℕ)
-      → ProgramOf origin source ds image → LinesOf origin source lines → NamesOf origin source frames
+      → ProgramOf origin source ds image → PlacesOf origin source places → NamesOf origin source frames
       → which_of (functions_of ds) shown name ≡ Some which
       → IfSome again (ComesBack (run image) ends.input ends.input_after)
       → Watches (image_of ds).functions (machine ds) steps ends.input ends.input_after result made
-      (IsTrace (legend_in ds lines files) which again text)
+      (IsTrace (legend_in ds places files) which again text)
       → Reported text DONE ends.out ends.out_after told → TellsEnd told result ends.line ends.line_after status
       → Traces origin source steps shown files name ends status
   not_begun : (ds : List Definition) (image : Image) (which : Which) (result : Outcome)

@@ -11,5 +11,5 @@ mod tracing;
 
 pub use legend::Legend;
 pub use locating::{locate, tell_site, the_place_is_told, wrong_places_are_excluded};
-pub use places::{line_of, push_site};
+pub use places::{push_site, push_source};
 pub use tracing::{TraceRequest, trace, wrong_traces_are_excluded};

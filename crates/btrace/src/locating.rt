@@ -10,7 +10,7 @@ ghost use Rattle.btrace.specs.Locates.{Locates, TellsSite, meaning, meaning_text
 
 use crate::legend::Legend;
 use crate::looping::push_loop;
-use crate::places::{line_of, push_site};
+use crate::places::{push_site, push_source};
 use bendless::{Endless, endless_of, push_repeat, run_recorded};
 use blang::status::{self, Status};
 use blang::{Outcome, Trap};
@@ -18,10 +18,7 @@ use bmach::{Stepper, Stop};
 use bpages::PagedStore;
 use brun::finish;
 use bsources::SourceFiles;
-use btools::{
-    Origin, Tables, Text, line_at, located_status, push_source_line, read_program, tell,
-    tell_placed,
-};
+use btools::{Origin, Tables, Text, located_status, read_program, tell, tell_placed};
 use bword::{ByteIn, ByteOut};
 use std::alloc::{AllocError, Global};
 
@@ -132,9 +129,9 @@ fn told_site(
     push_site(&mut text, legend, stop.call)?;
     text.push(b"  step ")?;
     text.push_number(stop.steps)?;
-    text.push(b"\n    ")?;
-    push_source_line(&mut text, line_at(source, line_of(legend, stop.call)))?;
-    text.push(b"\n  means: ")?;
+    text.push(b"\n")?;
+    push_source(&mut text, legend, source, stop.call)?;
+    text.push(b"  means: ")?;
     push_meaning(&mut text, stop.outcome, again)?;
     text.push(b"\n")?;
     push_loop(&mut text, legend, source, again)?;

@@ -5,10 +5,10 @@ ghost use Rattle.btrace.specs.RowTexts.{legend_of};
 ghost use Rattle.btrace.specs.Loops.{again_rows, again_text, asks_text, loop_site, loop_text, names_text};
 
 use crate::legend::Legend;
-use crate::places::{line_of, push_site};
+use crate::places::{push_site, push_source};
 use bendless::{Endless, Repeat, push_repeat};
 use bmach::Active;
-use btools::{Text, line_at, push_source_line};
+use btools::Text;
 use bwatch::Trail;
 use std::alloc::AllocError;
 
@@ -70,9 +70,8 @@ fn push_loop_site(
 {
     text.push(b"loop   ")?;
     push_site(text, legend, call)?;
-    text.push(b"\n    ")?;
-    push_source_line(text, line_at(source, line_of(legend, call)))?;
-    text.push(b"\n")
+    text.push(b"\n")?;
+    push_source(text, legend, source, call)
 }
 
 // The call that asks for input. All that was there was read before, since as much is left when the state comes again.

@@ -1,13 +1,15 @@
 //! The places where a run was.
 ghost use Rattle.std.specs.Prelude.{◌≡◌, [], ◌++◌, IfOk, OnOk, map, if◌then◌else◌};
 ghost use Rattle.bmach.specs.Stops.{active_of};
-ghost use Rattle.btrace.specs.RowTexts.{caller_text, count_before, ended_text, first_words, has_more, legend_of, more_text};
-ghost use Rattle.btrace.specs.RowTexts.{place_line, place_text, places_text, site_text, waiting, words_text};
+ghost use Rattle.btrace.specs.RowTexts.{caller_text, count_before, ended_text, first_words, has_more, legend_of};
+ghost use Rattle.btrace.specs.RowTexts.{more_text};
+ghost use Rattle.btrace.specs.RowTexts.{place_column, place_line, place_text, places_text, site_text, source_text};
+ghost use Rattle.btrace.specs.RowTexts.{column_told, source_row, waiting, words_text};
 
 use crate::legend::{Legend, push_line};
 use crate::rows::frame_address;
 use bmach::{Active, Stepper};
-use btools::{Text, name_of, push_signed};
+use btools::{Text, line_at, name_of, push_mark, push_signed, push_source_line};
 use bword::Store;
 use std::alloc::AllocError;
 
@@ -114,8 +116,8 @@ fn push_place<S: Store + Drop>(
     text.push(b"\n")
 }
 
-/// The line of the source of the instruction at which a call is.
-pub fn line_of(legend: &Legend<'_, '_, '_>, call: Active) -> u64
+// The line of the source of the instruction at which a call is.
+fn line_of(legend: &Legend<'_, '_, '_>, call: Active) -> u64
     ensures { result ≡ place_line (legend_of legend.now) call }
 {
     legend
@@ -123,7 +125,41 @@ pub fn line_of(legend: &Legend<'_, '_, '_>, call: Active) -> u64
         .line(legend.tables.entry(call.strings), call.place)
 }
 
-/// Adds the function of a call, the place in it, and the line of the source.
+// The column of the same instruction, from 1 on, or 0 where none is told.
+fn column_of(legend: &Legend<'_, '_, '_>, call: Active) -> u64
+    ensures { result ≡ place_column (legend_of legend.now) call }
+{
+    legend
+        .tables
+        .column(legend.tables.entry(call.strings), call.place)
+}
+
+/// Adds the line of the source at which a call is, after four blanks, with a mark under its column, if that is told;
+/// nothing, where the place comes from no line.
+pub fn push_source(
+    text: &mut Text,
+    legend: &Legend<'_, '_, '_>,
+    source: &[u8],
+    call: Active,
+) -> Result<(), AllocError>
+    ensures { OnOk result (text.new ≡ text.old ++ source_text (legend_of legend.now) source.now call) }
+{
+    push_source_row(text, source, line_of(legend, call), column_of(legend, call))
+}
+
+fn push_source_row(text: &mut Text, source: &[u8], line: u64, column: u64) -> Result<(), AllocError>
+    ensures { OnOk result (text.new ≡ text.old ++ source_row source.now line column) }
+{
+    if line == 0 {
+        return Ok(());
+    }
+    text.push(b"    ")?;
+    push_source_line(text, line_at(source, line))?;
+    push_mark(text, column)?;
+    text.push(b"\n")
+}
+
+/// Adds the function of a call, the place in it, and the line of the source, with its column, if that is told.
 pub fn push_site(
     text: &mut Text,
     legend: &Legend<'_, '_, '_>,
@@ -137,7 +173,18 @@ pub fn push_site(
     text.push(b" place ")?;
     text.push_right_number(4, call.place as u64)?;
     text.push(b"  line ")?;
-    push_line(text, 4, legend, line_of(legend, call))
+    push_line(text, 4, legend, line_of(legend, call))?;
+    push_column(text, column_of(legend, call))
+}
+
+fn push_column(text: &mut Text, column: u64) -> Result<(), AllocError>
+    ensures { OnOk result (text.new ≡ text.old ++ column_told column) }
+{
+    if column == 0 {
+        return Ok(());
+    }
+    text.push(b"  column ")?;
+    text.push_number(column)
 }
 
 // The words of the first parameters of a call.

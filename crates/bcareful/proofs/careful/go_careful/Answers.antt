@@ -25,7 +25,7 @@ pub returns-in_default-extents_of-clause-runs : goal.returns-in_default-extents_
 returns-in_default-extents_of-clause-runs g c = stopped (Memory, no_memory (origin_shown c.args.wanted.origin) c.args.source.now, (refl, refl)) (record { unread = refl; silent = refl })
 
 pub returns-clause-runs : goal.returns-clause-runs
-returns-clause-runs g c = c.run_asked.ensures.runs c.in-Ok.ensures.names c.in-Ok.ensures.lines
+returns-clause-runs g c = c.run_asked.ensures.runs c.in-Ok.ensures.names (c.in-Ok.ensures.lines, c.in-Ok.ensures.columns)
 
 pub run_asked-requires-clause-atlas : goal.run_asked-requires-clause-atlas
 run_asked-requires-clause-atlas g c =
@@ -42,4 +42,4 @@ run_asked-requires-clause-atlas g c =
 
 pub run_asked-requires-clause-legend : goal.run_asked-requires-clause-legend
 run_asked-requires-clause-legend g c =
-    λ k. record { functions = c.in-Ok-new.ensures.functions k; lines = c.in-Ok-new.ensures.lines k; files = files_shown c.args.wanted.files }
+    λ k. record { functions = c.in-Ok-new.ensures.functions k; lines = c.in-Ok-new.ensures.lines k; columns = c.in-Ok-new.ensures.columns k; files = files_shown c.args.wanted.files }

@@ -2,7 +2,7 @@ use Rattle.std.proofs.Common.{◌∙◌, List, ℕ, ap, refl, subst, sym}
 use Rattle.std.specs.Prelude.{IfSome}
 use Rattle.blang.specs.Reports.{Reported}
 use Rattle.btools.specs.Functions.{Placed}
-use Rattle.btools.specs.Origins.{origin_shown}
+use Rattle.btools.specs.Origins.{origin_shown, places_kept}
 use Rattle.btools.proofs.Refused.{no_memory}
 use Rattle.bwatch.proofs.Origins.{loaded_in, loads_in}
 use Rattle.btools.specs.Programs.{steps_from}
@@ -22,7 +22,7 @@ returns-in_default-clause-runs g c named lined = stopped (Memory, no_memory (ori
 pub returns-in-Err-clause-runs : goal.returns-in-Err-clause-runs
 returns-in-Err-clause-runs g c named lined =
     let program = c.args.teller.now.atlas.program.now in
-    not_begun program.definitions.items program.image c.in-Err.outcome c.requires.program ((program.names.lines.items, lined), (program.names.frames.items, named)) c.in-Err.ensures c.finish.ensures.gives
+    not_begun program.definitions.items program.image c.in-Err.outcome c.requires.program ((program.names.lines.items, lined.0), (program.names.frames.items, named)) c.in-Err.ensures c.finish.ensures.gives
     (record { unread = refl; silent = refl })
 
 pub endless_of-again-requires-clause-loads : goal.endless_of-again-requires-clause-loads
@@ -54,7 +54,7 @@ returns-then-not-stays-clause-runs g c named lined =
     let i = g.I.ByteIn.incoming c.args.input.now in
     let j = g.I.ByteIn.incoming ran.new.input in
     let again = c.endless_of-again in
-    warned_whole (careful_asked c.args.wanted) t.source.now _ c.tell.result program.definitions.items program.image program.names.frames.items program.names.lines.items
+    warned_whole (careful_asked c.args.wanted) t.source.now _ c.tell.result program.definitions.items program.image program.names.frames.items (places_kept program)
     c.in-Ok-begin.stepper ran.new.stepper c.requires.program named lined c.in-Ok-begin.ensures (atlas_of t.atlas) c.requires.atlas (legend_of t.legend) c.requires.legend
     w.stop again.result w.text (g.D.ByteOut.outgoing c.tell_over-told.new.diag) c.tell_over-told.result (sym c.stays.ensures ∙ c.if-not-stays.true) ran.ensures.gives
     (subst (λ (fs : List Placed). IfSome again.result (IsEndless program.definitions.items program.image fs program.names.frames.items i j)) c.requires.functions (again.ensures i j ran.ensures.records))
@@ -69,7 +69,7 @@ returns-in-Over-clause-runs g c named lined =
     let i = g.I.ByteIn.incoming c.args.input.now in
     let j = g.I.ByteIn.incoming ran.new.input in
     let again = c.endless_of-again-in-Over in
-    unfound_whole (careful_asked c.args.wanted) t.source.now _ c.tell_over.result program.definitions.items program.image program.names.frames.items program.names.lines.items
+    unfound_whole (careful_asked c.args.wanted) t.source.now _ c.tell_over.result program.definitions.items program.image program.names.frames.items (places_kept program)
     c.in-Ok-begin.stepper ran.new.stepper c.requires.program named lined c.in-Ok-begin.ensures (atlas_of t.atlas) c.requires.atlas (legend_of t.legend) c.requires.legend
     c.in-Over.stop again.result (sym c.stays.ensures ∙ c.if-not-stays.false) (subst (λ e. CarefulGives (atlas_of c.args.teller.now.atlas) c.in-Ok-begin.stepper.image.functions (steps_from c.in-Ok-begin.stepper) c.args.wanted.steps (g.I.ByteIn.incoming c.args.input.now) (g.I.ByteIn.incoming c.careful_recorded-ran.new.input) (g.O.ByteOut.outgoing c.args.out.now) (g.O.ByteOut.outgoing c.careful_recorded-ran.new.out) c.careful_recorded-ran.new.stepper e) c.in-Over.is c.careful_recorded-ran.ensures.gives)
     (subst (λ (fs : List Placed). IfSome again.result (IsEndless program.definitions.items program.image fs program.names.frames.items i j)) c.requires.functions (again.ensures i j ran.ensures.records))
@@ -82,6 +82,6 @@ pub returns-clause-runs : goal.returns-clause-runs
 returns-clause-runs g c named lined =
     let t = c.args.teller.now in
     let program = t.atlas.program.now in
-    found_whole (careful_asked c.args.wanted) t.source.now _ c.tell_found.result program.definitions.items program.image program.names.frames.items program.names.lines.items
+    found_whole (careful_asked c.args.wanted) t.source.now _ c.tell_found.result program.definitions.items program.image program.names.frames.items (places_kept program)
     c.in-Ok-begin.stepper c.careful_recorded-ran.new.stepper c.requires.program named lined c.in-Ok-begin.ensures (atlas_of t.atlas) c.requires.atlas (legend_of t.legend) c.requires.legend
     c.in-Found.found (sym c.stays.ensures ∙ c.if-not-stays.false) (subst (λ e. CarefulGives (atlas_of c.args.teller.now.atlas) c.in-Ok-begin.stepper.image.functions (steps_from c.in-Ok-begin.stepper) c.args.wanted.steps (g.I.ByteIn.incoming c.args.input.now) (g.I.ByteIn.incoming c.careful_recorded-ran.new.input) (g.O.ByteOut.outgoing c.args.out.now) (g.O.ByteOut.outgoing c.careful_recorded-ran.new.out) c.careful_recorded-ran.new.stepper e) c.in-Found.is c.careful_recorded-ran.ensures.gives) c.tell_found.ensures.told

@@ -18,9 +18,11 @@ returns-in-Number-clause-added c =
     let last = decimal c.in-Number.last in
     let place = decimal c.in-Number.place in
     let name = c.in-Number.name in
-    let before = piece old t1 t2 range last c.push_str.ensures.bytes
+    let column = codes ", alone or with a column of it" in
+    let lined = piece old t1 t2 range last c.push_str.ensures.bytes
     (c.push_str-in-Number.ensures.bytes ∙ ap (λ t. t1 ++ t) c.format.ensures.text) in
+    let before = piece old t2 c.push_str-in-Number-2.new.self.bytes (range ++ last) column lined c.push_str-in-Number-2.ensures.bytes in
     subst (λ (w : LineWanted). new ≡ old ++ wanted_text w) (sym c.in-Number.is)
     (c.push_place.ensures.added
     ∙ ap (λ t. t ++ codes ", for place " ++ place ++ codes " of " ++ name) before
-    ∙ joined old range last (codes ", for place ") place (codes " of ") name)
+    ∙ joined old (range ++ last) column (codes ", for place ") place (codes " of ") name)

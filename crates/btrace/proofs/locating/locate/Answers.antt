@@ -2,10 +2,10 @@ use Rattle.std.proofs.Common.{◌∙◌, List, Some, ap, refl, subst, sym}
 use Rattle.std.specs.Prelude.{IfSome}
 use Rattle.bsources.specs.Files.{files_shown}
 use Rattle.btools.specs.Functions.{Placed, entries_of}
-use Rattle.btools.specs.ProgramLines.{lines_shown}
+use Rattle.btools.specs.ProgramLines.{columns_shown, lines_shown}
 use Rattle.btrace.specs.Locates.{not_begun, stopped}
 use Rattle.btools.specs.declared.program.ProgramFault.TheVariants.{Memory}
-use Rattle.btools.specs.Origins.{origin_shown}
+use Rattle.btools.specs.Origins.{origin_shown, places_kept}
 use Rattle.btools.proofs.Functions.{data_fit}
 use Rattle.btools.proofs.Refused.{no_memory}
 use Rattle.btools.proofs.Stopped.{no_other, not_none}
@@ -68,8 +68,8 @@ returns-in-Some-clause-locates g c =
     let again = c.endless_of-again.result in
     let found = c.endless_of-again.ensures (g.I.ByteIn.incoming c.args.input.now) (g.I.ByteIn.incoming ran.new.input) ran.ensures.records in
     located_whole (origin_shown c.args.origin) c.args.source.now files c.args.steps _ c.tell_site.result ds image c.in-Ok-begin.stepper stop.outcome
-    (g.D.ByteOut.outgoing c.finish-told.new.diag) (record { functions = entries_of tables; lines = lines_shown tables; files = files }) frames c.in-Ok.program.names.lines.items c.finish-told.result stop.call stop.steps again
-    c.in-Ok.ensures.program c.in-Ok.ensures.names c.in-Ok.ensures.lines (λ i. record { functions = c.in-Ok-new.ensures.functions i; lines = c.in-Ok-new.ensures.lines i; files = files }) c.in-Ok-begin.ensures ran.ensures.gives c.finish-told.ensures.gives
+    (g.D.ByteOut.outgoing c.finish-told.new.diag) (record { functions = entries_of tables; lines = lines_shown tables; columns = columns_shown tables; files = files }) frames (places_kept c.in-Ok.program) c.finish-told.result stop.call stop.steps again
+    c.in-Ok.ensures.program c.in-Ok.ensures.names (c.in-Ok.ensures.lines, c.in-Ok.ensures.columns) (λ i. record { functions = c.in-Ok-new.ensures.functions i; lines = c.in-Ok-new.ensures.lines i; columns = c.in-Ok-new.ensures.columns i; files = files }) c.in-Ok-begin.ensures ran.ensures.gives c.finish-told.ensures.gives
     (sym c.located_status.ensures ∙ c.in-Some.is ∙ ap Some c.if-status-told.true) ran.ensures.stops
     (subst (λ (fs : List Placed). IfSome again (IsEndless ds image fs frames (g.I.ByteIn.incoming c.args.input.now) (g.I.ByteIn.incoming ran.new.input))) c.in-Ok-new.ensures.functions found)
     c.tell_site.ensures.tells

@@ -4,7 +4,7 @@ use Rattle.blang.specs.declared.run.Outcome.TheVariants as outcome
 use Rattle.blang.specs.Machine.{image_of, machine, run}
 use Rattle.bsources.specs.Files.{files_shown}
 use Rattle.btools.specs.Functions.{Placed}
-use Rattle.btools.specs.Origins.{origin_shown}
+use Rattle.btools.specs.Origins.{origin_shown, places_kept}
 use Rattle.btools.proofs.Functions.{data_fit}
 use Rattle.btrace.specs.RowTexts.{legend_in, legend_of}
 use Rattle.btrace.specs.Traces.{IsTrace, no_memory, not_begun, stopped, traced, unnamed, which_of}
@@ -80,7 +80,7 @@ returns-then-told-ne-DONE-clause-traces g c =
     let w = rw c.in-Ended.is at c.in-Ok-watch_recorded.ensures.gives in
     let ds = c.in-Ok.program.definitions.items in
     let image = c.in-Ok.program.image in
-    let lines = c.in-Ok.program.names.lines.items in
+    let places = places_kept c.in-Ok.program in
     let stop = c.in-Ended.stop in
     let files = files_shown c.args.wanted.files in
     let which = c.in-Some.which in
@@ -88,21 +88,21 @@ returns-then-told-ne-DONE-clause-traces g c =
     let last = c.watch_recorded.new.onlooker in
     let text = trail_text c.push_again.new.self.trail in
     let again = c.repeat_of-again in
-    let told = (ap legend_of c.in-Ok-new-2.ensures.legend) ∙ (λ i. record { functions = c.in-Ok-new.ensures.functions i; lines = c.in-Ok-new.ensures.lines i; files = files }) in
-    let added : text ≡ trail_text last.trail ++ again_text (legend_in ds lines files) again.result =
-    c.in-Ok-push_again.ensures.told ∙ (λ i. trail_text last.trail ++ again_text (record { functions = c.in-Ok-new.ensures.functions i; lines = c.in-Ok-new.ensures.lines i; files = files }) again.result) in
+    let told = (ap legend_of c.in-Ok-new-2.ensures.legend) ∙ (λ i. record { functions = c.in-Ok-new.ensures.functions i; lines = c.in-Ok-new.ensures.lines i; columns = c.in-Ok-new.ensures.columns i; files = files }) in
+    let added : text ≡ trail_text last.trail ++ again_text (legend_in ds places files) again.result =
+    c.in-Ok-push_again.ensures.told ∙ (λ i. trail_text last.trail ++ again_text (record { functions = c.in-Ok-new.ensures.functions i; lines = c.in-Ok-new.ensures.lines i; columns = c.in-Ok-new.ensures.columns i; files = files }) again.result) in
     let named = subst (λ (fs : List Placed). which_of fs c.args.wanted.rows (option_map (λ n. n.now) c.args.wanted.function) ≡ Some which) c.in-Ok-new.ensures.functions (sym c.which_of.ensures ∙ c.in-Some.is) in
     let back = comes_back (run image) _ _ c.in-Ok-watch_recorded.ran.record again.result c.in-Ok-watch_recorded.ensures.records again.ensures.whole again.ensures.repeats in
-    let watched = told_so (image_of ds).functions (machine ds) c.args.wanted.steps _ _ stop.outcome stop.steps _ (IsTrace (legend_in ds lines files) which again.result text)
-    (traced_so first last (legend_in ds lines files) which again.result text told c.in-Ok-new-2.ensures.which c.in-Ok-new-2.ensures.text added stop.outcome stop.steps) w in
-    traced ds image lines c.in-Ok.program.names.frames.items which stop.outcome stop.steps again.result text c.tell-told.result c.in-Ok.ensures.program c.in-Ok.ensures.lines c.in-Ok.ensures.names named back watched c.tell-told.ensures.told (inr (c.if-told-ne-DONE.true, refl, refl))
+    let watched = told_so (image_of ds).functions (machine ds) c.args.wanted.steps _ _ stop.outcome stop.steps _ (IsTrace (legend_in ds places files) which again.result text)
+    (traced_so first last (legend_in ds places files) which again.result text told c.in-Ok-new-2.ensures.which c.in-Ok-new-2.ensures.text added stop.outcome stop.steps) w in
+    traced ds image places c.in-Ok.program.names.frames.items which stop.outcome stop.steps again.result text c.tell-told.result c.in-Ok.ensures.program (c.in-Ok.ensures.lines, c.in-Ok.ensures.columns) c.in-Ok.ensures.names named back watched c.tell-told.ensures.told (inr (c.if-told-ne-DONE.true, refl, refl))
 
 pub returns-clause-traces : goal.returns-clause-traces
 returns-clause-traces g c =
     let w = rw c.in-Ended.is at c.in-Ok-watch_recorded.ensures.gives in
     let ds = c.in-Ok.program.definitions.items in
     let image = c.in-Ok.program.image in
-    let lines = c.in-Ok.program.names.lines.items in
+    let places = places_kept c.in-Ok.program in
     let stop = c.in-Ended.stop in
     let files = files_shown c.args.wanted.files in
     let which = c.in-Some.which in
@@ -110,11 +110,11 @@ returns-clause-traces g c =
     let last = c.watch_recorded.new.onlooker in
     let text = trail_text c.push_again.new.self.trail in
     let again = c.repeat_of-again in
-    let told = (ap legend_of c.in-Ok-new-2.ensures.legend) ∙ (λ i. record { functions = c.in-Ok-new.ensures.functions i; lines = c.in-Ok-new.ensures.lines i; files = files }) in
-    let added : text ≡ trail_text last.trail ++ again_text (legend_in ds lines files) again.result =
-    c.in-Ok-push_again.ensures.told ∙ (λ i. trail_text last.trail ++ again_text (record { functions = c.in-Ok-new.ensures.functions i; lines = c.in-Ok-new.ensures.lines i; files = files }) again.result) in
+    let told = (ap legend_of c.in-Ok-new-2.ensures.legend) ∙ (λ i. record { functions = c.in-Ok-new.ensures.functions i; lines = c.in-Ok-new.ensures.lines i; columns = c.in-Ok-new.ensures.columns i; files = files }) in
+    let added : text ≡ trail_text last.trail ++ again_text (legend_in ds places files) again.result =
+    c.in-Ok-push_again.ensures.told ∙ (λ i. trail_text last.trail ++ again_text (record { functions = c.in-Ok-new.ensures.functions i; lines = c.in-Ok-new.ensures.lines i; columns = c.in-Ok-new.ensures.columns i; files = files }) again.result) in
     let named = subst (λ (fs : List Placed). which_of fs c.args.wanted.rows (option_map (λ n. n.now) c.args.wanted.function) ≡ Some which) c.in-Ok-new.ensures.functions (sym c.which_of.ensures ∙ c.in-Some.is) in
     let back = comes_back (run image) _ _ c.in-Ok-watch_recorded.ran.record again.result c.in-Ok-watch_recorded.ensures.records again.ensures.whole again.ensures.repeats in
-    let watched = told_so (image_of ds).functions (machine ds) c.args.wanted.steps _ _ stop.outcome stop.steps _ (IsTrace (legend_in ds lines files) which again.result text)
-    (traced_so first last (legend_in ds lines files) which again.result text told c.in-Ok-new-2.ensures.which c.in-Ok-new-2.ensures.text added stop.outcome stop.steps) w in
-    traced ds image lines c.in-Ok.program.names.frames.items which stop.outcome stop.steps again.result text c.tell-told.result c.in-Ok.ensures.program c.in-Ok.ensures.lines c.in-Ok.ensures.names named back watched c.tell-told.ensures.told (inl (c.if-told-ne-DONE.false, c.finish-2.ensures.gives))
+    let watched = told_so (image_of ds).functions (machine ds) c.args.wanted.steps _ _ stop.outcome stop.steps _ (IsTrace (legend_in ds places files) which again.result text)
+    (traced_so first last (legend_in ds places files) which again.result text told c.in-Ok-new-2.ensures.which c.in-Ok-new-2.ensures.text added stop.outcome stop.steps) w in
+    traced ds image places c.in-Ok.program.names.frames.items which stop.outcome stop.steps again.result text c.tell-told.result c.in-Ok.ensures.program (c.in-Ok.ensures.lines, c.in-Ok.ensures.columns) c.in-Ok.ensures.names named back watched c.tell-told.ensures.told (inl (c.if-told-ne-DONE.false, c.finish-2.ensures.gives))

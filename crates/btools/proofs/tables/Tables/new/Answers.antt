@@ -5,7 +5,7 @@ use Rattle.blang.specs.declared.code.Definition.{Definition}
 use Rattle.btools.specs.Functions.{placed_entry}
 use Rattle.btools.proofs.Searching.{Ascend, further, one_more, some_word}
 use Rattle.btools.proofs.Functions.{ends_within, next_end, with_function, with_other}
-use Rattle.btools.specs.ProgramLines.{lined_entry}
+use Rattle.btools.specs.ProgramLines.{columned_entry, lined_entry}
 use Rattle.btools.proofs.ProgramLines.{left_next, lined_function_more, lined_other}
 use Rattle.btools.proofs.tables.Tables.new.Goals.{in-Function+in_ok-push, in_default}
 use Rattle.btools.proofs.tables.Tables.new.Goals as goal
@@ -31,6 +31,7 @@ loop-definition-preserved c =
     let before = c.loop-definition.invariant in
     let more = c.from-address-in-loop-definition.ensures ∙ c.size_of.ensures.value in
     let all = c.args.program.now.names.lines.items in
+    let columns = c.args.program.now.columns.items in
     let some : 0 < c.from-address-in-loop-definition.result = omega (arith, more, some_word d) in
     record {
       address = next_end ds i d c.loop-definition-test.true c.definition-item.is c.loop-definition.address c.from-address-in-loop-definition.result before.address more;
@@ -45,6 +46,12 @@ loop-definition-preserved c =
         | in_default w ↦ ap (λ v. map lined_entry v.items) w.entries-is ∙ lined_other ds all i d c.loop-definition-test.true c.definition-item.is (map lined_entry c.loop-definition.entries.items) w.in_default.not-Function before.lines
       ];
       left = left_next ds all i d c.loop-definition-test.true c.definition-item.is c.loop-definition.lines.now c.split_lines.result.1.now before.left c.split_lines.ensures.later;
+      columns = elim c.match-definition.branch [
+        | in-Function+in_ok-push w ↦ lined_function_more ds columns i d c.loop-definition-test.true c.definition-item.is w.in-Function.function (map columned_entry c.loop-definition.entries.items) (map columned_entry c.match-definition.entries.items) c.loop-definition.address c.loop-definition.columns.now w.in-Function.is before.address before.columns_left before.columns
+            (ap (λ v. map columned_entry v.items) w.entries-is ∙ ap (map columned_entry) w.in_ok-push.ensures.items ∙ map-append columned_entry c.loop-definition.entries.items _ ∙ (λ j. map columned_entry c.loop-definition.entries.items ++ record { strings = c.loop-definition.address + 1; lines = c.split_lines-in-loop-definition.ensures.own j } ∷ []))
+        | in_default w ↦ ap (λ v. map columned_entry v.items) w.entries-is ∙ lined_other ds columns i d c.loop-definition-test.true c.definition-item.is (map columned_entry c.loop-definition.entries.items) w.in_default.not-Function before.columns
+      ];
+      columns_left = left_next ds columns i d c.loop-definition-test.true c.definition-item.is c.loop-definition.columns.now c.split_lines-in-loop-definition.result.1.now before.columns_left c.split_lines-in-loop-definition.ensures.later;
       ascend = elim c.match-definition.branch [
         | in-Function+in_ok-push w ↦ (one_more c.loop-definition.entries.items c.match-definition.entries.items c.loop-definition.address c.from-address-in-loop-definition.result before.below _ (ap (λ v. v.items) w.entries-is ∙ w.in_ok-push.ensures.items) refl some before.ascend).0
         | in_default w ↦ subst Ascend (ap (λ v. v.items) (sym w.entries-is)) before.ascend

@@ -1,0 +1,2 @@
+DEF F: 1 / 0
+CALL F

@@ -1,0 +1,2 @@
+10 LET A = 7
+20 PRINT A / 0
