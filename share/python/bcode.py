@@ -7,9 +7,10 @@
   >>> code.text()
   b'F main 0 0 0 0 8\\nx printn\\nv\\nc 42\\nc 10\\nk 2\\np\\nc 0\\nr\\nE\\n'
 
-`Code.line` is the line of your source to which all belongs that is added from then on; `lines()` has these lines, as
-`b trace --made` takes them, and `names()` the names of the words of frames and of labels that were told. A number or a
-name that no code text may have is a CodeError at once, and what is still open at the end is one at `text()`.
+`Code.line` is the line of your source to which all belongs that is added from then on, and `Code.column` its column
+there, in bytes from 1 on; a new line has none until one is set. `lines()` has both, as `b trace --made` takes them, and
+`names()` the names of the words of frames and of labels that were told. A number or a name that no code text may have
+is a CodeError at once, and what is still open at the end is one at `text()`.
 docs/CODE.md tells what each instruction does."""
 import operator
 import re
@@ -17,7 +18,7 @@ import re
 WORDS, VALUES, STRINGS, PARAMETERS, LABELS, INSTRUCTIONS = 32767, 1024, 1024, 128, 128, 4096
 LIBRARY = ("char", "lchar", "getchar", "putchar", "printn", "exit")
 OPERATORS = ("|", "&", "==", "!=", "<", "<=", ">", ">=", "<<", ">>", "-", "+", "%", "*", "/")
-END_OF_STRING = 4
+END_OF_STRING, LAST = 4, 2 ** 64 - 1
 NAME = re.compile(r"[A-Za-z_][A-Za-z0-9_]{0,7}", re.ASCII)
 BEFORE_INC, BEFORE_DEC, AFTER_INC, AFTER_DEC = range(4)
 
@@ -61,15 +62,19 @@ def packed(text):
 
 
 class Place:
-    """A place to which instructions lead before it is known, or after: `Function.put` sets it."""
+    """A place of a function to which instructions lead before it is known, or after: `Function.put` sets it."""
 
     at = None
+
+    def __init__(self, function):
+        self.function, self.line = function, function.code.line
 
 
 class Label(Place):
     """A place whose value a program can keep, and to which `goto` leads."""
 
-    def __init__(self, index):
+    def __init__(self, function, index):
+        super().__init__(function)
         self.index = index
 
 
@@ -80,8 +85,10 @@ class Definition:
         self.code, self.name, self.strings, self.kept, self.lines = code, name_of(name), [], {}, []
         self.names, self.label_names = [], []
 
-    def fail(self, text):
-        raise CodeError(f"{self.name}: {text}")
+    def fail(self, text, line=None):
+        fault = CodeError(f"{self.name}: {text}")
+        fault.line = line
+        raise fault
 
     def string(self, text):
         """The offset of a string, of bytes or of a text in UTF-8. The same string stands once."""
@@ -109,7 +116,7 @@ class Data(Definition):
         if self.words == len(self.values):
             self.fail(f"it has more values than its {self.words} words")
         self.values.append(line)
-        self.lines.append(self.code.line)
+        self.lines.append(self.code.origin)
 
     def constant(self, given):
         self.add(f"c {word(given)}")
@@ -160,12 +167,14 @@ class Function(Definition):
     def label(self, name="_"):
         if len(self.labels) == LABELS:
             self.fail(f"it has more than {LABELS} labels")
-        self.labels.append(Label(len(self.labels)))
+        self.labels.append(Label(self, len(self.labels)))
         self.label_names.append(f"l {shown(name)}")
         return self.labels[-1]
 
     def put(self, place):
         """Sets a place, which is the next instruction from now on."""
+        if place.function is not self:
+            self.fail(f"a place of {place.function.name} is set")
         if place.at is not None:
             self.fail("a place is set twice")
         place.at = self.here
@@ -174,13 +183,15 @@ class Function(Definition):
         if self.here == INSTRUCTIONS:
             self.fail(f"it has more than {INSTRUCTIONS} instructions")
         self.instructions.append((letter, *parts))
-        self.lines.append(self.code.line)
+        self.lines.append(self.code.origin)
 
     def to(self, letter, place, *parts):
         """An instruction that leads to a place, to a new one where none is given, which it answers."""
-        place = Place() if place is None else place
+        place = Place(self) if place is None else place
         if not isinstance(place, Place):
             number(f"a place of {self.name}", place, 0, self.here)
+        elif place.function is not self:
+            self.fail(f"an instruction leads to a place of {place.function.name}")
         self.add(letter, *parts, place)
         return place
 
@@ -191,6 +202,8 @@ class Function(Definition):
         self.add("x", self.code.use(name))
 
     def automatic(self, index):
+        if not self.frame:
+            self.fail("its frame has no words")
         self.add("a", number(f"a word of the frame of {self.name}", index, 0, self.frame - 1))
 
     def text(self, text):
@@ -274,14 +287,15 @@ class Function(Definition):
     def part(self, given):
         if isinstance(given, Place):
             if given.at is None:
-                self.fail("an instruction leads to a place that isn't set")
+                self.fail("an instruction leads to a place that isn't set", given.line)
             return str(given.at)
         return str(given)
 
     def written(self):
         self.end()
-        if any(it.at is None for it in self.labels):
-            self.fail("a label isn't set")
+        for it in self.labels:
+            if it.at is None:
+                self.fail("a label isn't set", it.line)
         sizes = (self.parameters, self.frame, len(self.labels), len(self.strings), self.here)
         return [
             f"F {self.name} {' '.join(map(str, sizes))}", *(f"t {it.at}" for it in self.labels),
@@ -294,18 +308,40 @@ class Taken(Definition):
 
     def __init__(self, code, name, text, places):
         super().__init__(code, name)
-        self.written, self.lines = lambda: text, [0] * places
+        self.written, self.lines = lambda: text, ["0"] * places
         kind, _, *sizes = text[0].split(" ")
         if kind == "F":
             self.names = [f"F {name}", *["a _"] * int(sizes[1]), *["l _"] * int(sizes[2])]
 
 
 class Code:
-    """A whole code text of an edition, and the line of your source to which what is added next belongs."""
+    """A whole code text of an edition, and the place in your source to which what is added next belongs."""
 
     def __init__(self, edition=1):
-        self.edition, self.line = number("the edition", edition, 1, 2), 0
+        self.edition, self.at = number("the edition", edition, 1, 2), (0, 0)
         self.definitions, self.used = {}, {}
+
+    @property
+    def line(self):
+        return self.at[0]
+
+    @line.setter
+    def line(self, given):
+        self.at = number("a line", given, 0, LAST), 0
+
+    @property
+    def column(self):
+        """0 where none is told."""
+        return self.at[1]
+
+    @column.setter
+    def column(self, given):
+        self.at = self.line, number("a column", given, 0, LAST)
+
+    @property
+    def origin(self):
+        """The line of a file of lines for what is added next. Line 0 is none, and has no columns."""
+        return f"{self.line} {self.column}" if self.line and self.column else str(self.line)
 
     def define(self, definition):
         if definition.name in self.definitions:
@@ -329,7 +365,7 @@ class Code:
 
     def take(self, text):
         """Takes in the definitions of a whole code text, as `b compile` writes it of a file of B's library."""
-        lines = text.decode("ascii").split("\n")
+        lines = (text if isinstance(text, str) else bytes(text).decode("ascii")).split("\n")
         if lines[-2:] != ["E", ""]:
             raise CodeError("that is no whole code text: its last line isn't E")
         lines = lines[lines[0] == "B 2":-2]
@@ -355,7 +391,7 @@ class Code:
         return "".join(f"{it}\n" for it in [*head, *lines, "E"]).encode("ascii")
 
     def lines(self):
-        """The file of the lines, of which the places are those of `text()`, after a call of that."""
+        """The file of lines, of which the places are those of `text()`, after a call of that."""
         return "".join(f"{line}\n" for it in self.definitions.values() for line in it.lines).encode("ascii")
 
     def names(self):

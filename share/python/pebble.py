@@ -14,26 +14,30 @@ RANKS = [("==", "!=", "<", "<=", ">", ">="), ("+", "-"), ("*", "/", "%")]
 
 
 class Line:
-    """The tokens of a line, from the left."""
+    """The tokens of a line, from the left, each with its column in bytes."""
 
     def __init__(self, text):
-        self.left = []
+        self.left, at = [], 0
         text = text.split("#")[0].rstrip()
-        while text:
-            found = TOKEN.match(text)
+        while at < len(text):
+            found = TOKEN.match(text, at)
             if not found:
-                raise CodeError(f"no token begins with {text.strip()[0]!r}")
-            self.left.append(found[1])
-            text = text[found.end():]
+                raise CodeError(f"no token begins with {text[at:].strip()[0]!r}")
+            self.left.append((found[1], len(text[:found.start(1)].encode()) + 1))
+            at = found.end()
 
     @property
     def next(self):
-        return self.left[0] if self.left else "the end of the line"
+        return self.left[0][0] if self.left else "the end of the line"
+
+    @property
+    def column(self):
+        return self.left[0][1] if self.left else 0
 
     def take(self, wanted=None):
         if not self.left or wanted and self.next != wanted:
             raise CodeError(f"{wanted or 'an expression'} is wanted before {self.next}")
-        return self.left.pop(0)
+        return self.left.pop(0)[0]
 
 
 class Compiler:
@@ -79,6 +83,7 @@ class Compiler:
         self.open.append(("def", self.end_def))
 
     def end_def(self):
+        self.function.end()
         self.function = None
 
     def take_let(self, line):
@@ -142,11 +147,13 @@ class Compiler:
             return self.operand(line)
         self.expression(line, rank + 1)
         while line.next in RANKS[rank]:
-            sign = line.take()
+            column, sign = line.column, line.take()
             self.expression(line, rank + 1)
+            self.code.column = column
             self.inside.binary(sign)
 
     def operand(self, line):
+        self.code.column = line.column
         token = line.take()
         if token.isdigit():
             self.inside.constant(int(token))
@@ -165,14 +172,15 @@ class Compiler:
 
     def call(self, name, line):
         self.inside.variable(name)
+        column, count = self.code.column, 0
         line.take("(")
-        count = 0
         while line.next != ")":
             self.expression(line)
             count += 1
             if line.next != ")":
                 line.take(",")
         line.take(")")
+        self.code.column = column
         self.inside.call_with(count)
 
 

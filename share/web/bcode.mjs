@@ -6,15 +6,16 @@
 //   main.drop();
 //   b.run(code.text()).text              // 42, with the b of b.mjs
 //
-// `code.line` is the line of your source to which all belongs that is added from then on; `code.lines()` has these
-// lines, as `b trace --made` takes them, and `code.names()` the names of the words of frames and of labels that were
-// told. What no code text may have is a CodeError at once, and what is still open at the end is one at `text()`.
+// `code.line` is the line of your source to which all belongs that is added from then on, and `code.column` its column
+// there, in bytes from 1 on; a new line has none until one is set. `code.lines()` has both, as `b trace --made` takes
+// them, and `code.names()` the names of the words of frames and of labels that were told. What no code text may have is
+// a CodeError at once, and what is still open at the end is one at `text()`.
 // docs/CODE.md tells what each instruction does, and docs/AUTHORS.md makes a language, in Python, with the same builder.
 
 const WORDS = 32767, VALUES = 1024, STRINGS = 1024, PARAMETERS = 128, LABELS = 128, INSTRUCTIONS = 4096;
 const LIBRARY = ['char', 'lchar', 'getchar', 'putchar', 'printn', 'exit'];
 const OPERATORS = ['|', '&', '==', '!=', '<', '<=', '>', '>=', '<<', '>>', '-', '+', '%', '*', '/'];
-const END_OF_STRING = 4;
+const END_OF_STRING = 4, LAST = Number.MAX_SAFE_INTEGER;
 const NAME = /^[A-Za-z_][A-Za-z0-9_]{0,7}$/;
 
 /** The four kinds of `increment`: ++x, --x, x++ and x--. */
@@ -59,15 +60,20 @@ function packed(bytes) {
   return all.flatMap((low, at) => (at % 2 ? [] : [low + 256 * (all[at + 1] ?? 0)]));
 }
 
-/** A place to which instructions lead before it is known, or after: `put` sets it. */
+/** A place of a function to which instructions lead before it is known, or after: `put` sets it. */
 class Place {
   at = null;
+
+  constructor(owner) {
+    this.owner = owner;
+    this.line = owner.code.line;
+  }
 }
 
 /** A place whose value a program can keep, and to which `goto` leads. */
 class Label extends Place {
-  constructor(index) {
-    super();
+  constructor(owner, index) {
+    super(owner);
     this.index = index;
   }
 }
@@ -85,8 +91,8 @@ class Definition {
     this.name = nameOf(name);
   }
 
-  fail(text) {
-    fail(`${this.name}: ${text}`);
+  fail(text, line = null) {
+    fail(`${this.name}: ${text}`, line);
   }
 
   /** The offset of a string, of bytes or of a text in UTF-8. The same string stands once. */
@@ -119,7 +125,7 @@ class Data extends Definition {
     if (this.values.length === VALUES) this.fail(`it has more than ${VALUES} values`);
     if (this.words === this.values.length) this.fail(`it has more values than its ${this.words} words`);
     this.values.push(line);
-    this.lines.push(this.code.line);
+    this.lines.push(this.code.origin);
   }
 
   constant(given) {
@@ -177,13 +183,14 @@ class FunctionDefinition extends Definition {
 
   label(name = '_') {
     if (this.labels.length === LABELS) this.fail(`it has more than ${LABELS} labels`);
-    this.labels.push(new Label(this.labels.length));
+    this.labels.push(new Label(this, this.labels.length));
     this.labelNames.push(`l ${shown(name)}`);
     return this.labels.at(-1);
   }
 
   /** Sets a place, which is the next instruction from now on. */
   put(place) {
+    if (place.owner !== this) this.fail(`a place of ${place.owner.name} is set`);
     if (place.at !== null) this.fail('a place is set twice');
     place.at = this.here;
   }
@@ -191,13 +198,14 @@ class FunctionDefinition extends Definition {
   add(...parts) {
     if (this.here === INSTRUCTIONS) this.fail(`it has more than ${INSTRUCTIONS} instructions`);
     this.instructions.push(parts);
-    this.lines.push(this.code.line);
+    this.lines.push(this.code.origin);
   }
 
   /** An instruction that leads to a place, to a new one where none is given, which it answers. */
   to(letter, place, ...parts) {
-    const target = place ?? new Place();
+    const target = place ?? new Place(this);
     if (!(target instanceof Place)) number(`a place of ${this.name}`, target, 0, this.here);
+    else if (target.owner !== this) this.fail(`an instruction leads to a place of ${target.owner.name}`);
     this.add(letter, ...parts, target);
     return target;
   }
@@ -209,7 +217,10 @@ class FunctionDefinition extends Definition {
 
   constant(given) { this.add('c', word(given)); }
   external(name) { this.add('x', this.code.use(name)); }
-  automatic(index) { this.add('a', number(`a word of the frame of ${this.name}`, index, 0, this.frame - 1)); }
+  automatic(index) {
+    if (!this.frame) this.fail('its frame has no words');
+    this.add('a', number(`a word of the frame of ${this.name}`, index, 0, this.frame - 1));
+  }
   text(text) { this.add('s', this.string(text)); }
   labelValue(label) {
     if (!this.labels.includes(label)) this.fail('this label is none of the function');
@@ -257,13 +268,14 @@ class FunctionDefinition extends Definition {
 
   part(given) {
     if (!(given instanceof Place)) return given;
-    if (given.at === null) this.fail("an instruction leads to a place that isn't set");
+    if (given.at === null) this.fail("an instruction leads to a place that isn't set", given.line);
     return given.at;
   }
 
   written() {
     this.end();
-    if (this.labels.some(it => it.at === null)) this.fail("a label isn't set");
+    const open = this.labels.find(it => it.at === null);
+    if (open) this.fail("a label isn't set", open.line);
     const sizes = [this.parameters, this.frame, this.labels.length, this.strings.length, this.here];
     return [`F ${this.name} ${sizes.join(' ')}`, ...this.labels.map(it => `t ${it.at}`), ...this.stringLines(),
       ...this.instructions.map(it => it.map(part => this.part(part)).join(' '))];
@@ -284,14 +296,26 @@ class Taken extends Definition {
   }
 }
 
-/** A whole code text of an edition, and the line of your source to which what is added next belongs. */
+/** A whole code text of an edition, and the place in your source to which what is added next belongs. */
 export class Code {
-  line = 0;
+  at = [0, 0];
   definitions = new Map();
   used = new Map();
 
   constructor(edition = 1) {
     this.edition = number('the edition', edition, 1, 2);
+  }
+
+  get line() { return this.at[0]; }
+  set line(given) { this.at = [number('a line', given, 0, LAST), 0]; }
+
+  /** 0 where none is told. */
+  get column() { return this.at[1]; }
+  set column(given) { this.at = [this.line, number('a column', given, 0, LAST)]; }
+
+  /** The line of a file of lines for what is added next. Line 0 is none, and has no columns. */
+  get origin() {
+    return this.line && this.column ? `${this.line} ${this.column}` : `${this.line}`;
   }
 
   define(definition) {
@@ -343,7 +367,7 @@ export class Code {
     return [...(this.edition === 2 ? ['B 2'] : []), ...lines, 'E'].map(it => `${it}\n`).join('');
   }
 
-  /** The file of the lines, of which the places are those of `text()`, after a call of that. */
+  /** The file of lines, of which the places are those of `text()`, after a call of that. */
   lines() {
     return [...this.definitions.values()].flatMap(it => it.lines).map(it => `${it}\n`).join('');
   }
