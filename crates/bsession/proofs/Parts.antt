@@ -1,13 +1,16 @@
 -- Two parts of a slice, one after the other, are one.
-use Rattle.std.proofs.Common.{◌≡◌, ◌∙◌, ℕ, ◌+◌, ◌≤◌, true, false, None, List, [], ◌++◌, append-nil, append_assoc, ap, arith, length, refl, subst, sym}
+use Rattle.std.proofs.Common.{◌≡◌, ◌∙◌, ◌⊎◌, ℕ, ◌+◌, ◌*◌, ◌<◌, ◌≤◌, true, false, None, List, [], ◌++◌, append-nil, append_assoc, ap, arith, inl, inr, length, min, refl, subst, sym}
+use Rattle.std.proofs.lemmas.Bool.{cases_lt}
 use Rattle.blang.specs.declared.run.Outcome.{Outcome}
 use Rattle.blang.specs.declared.run.Outcome.TheVariants as outcome
 use Rattle.blang.specs.Machine.{state_world, steps}
 use Rattle.bmach.specs.Slices.{after_pause}
 use Rattle.bmach.specs.Stepping.{Paused, machine_at}
 use Rattle.bmach.proofs.Running.{steps_add}
-use Rattle.bsession.specs.Sessions.{EndsFor, Goes, HasImage, IsLostAfter, IsSessionOver, IsStateOf, KeepsLimits, MayCome, PassesAt, RunsAbove, SessionView, SliceComesTo, SliceMade, allowed, can_go_on, end_of, is_limit}
+use Rattle.bsession.specs.Sessions.{EndsFor, Goes, GoesOnWithin, HasImage, HoldsNoMore, IsLostAfter, IsSessionOver, IsStateOf, KeepsLimits, KeepsWithin, LooksAfter, Lost, MayCome, Over, PassesAt, RunsAbove, SessionState, SessionView, SliceComesTo, SliceMade, allowed, can_go_on, end_of, is_limit}
+use Rattle.bsession.specs.declared.session.TheConstants.{PART_STEPS}
 use Rattle.bsession.specs.declared.session.Held.{Held}
+use Rattle.bsession.specs.declared.session.Held.TheVariants as held
 use Rattle.bsession.specs.declared.session.SliceEnd.{SliceEnd}
 use Rattle.bsession.specs.declared.session.SliceEnd.TheVariants as end
 
@@ -90,14 +93,24 @@ module _ (p q : Paused) (old mid new : SessionView) (n part : ℕ) (first : Slic
   pub all_made : (h : SliceMade q mid new part end.Limit) → h.made ≡ part
   all_made h = let made = h.ends.0 in let counted = g.counted in omega (arith, made, counted, left, within)
 
+  -- the second part is a whole one after whole ones, or the rest
+  abbrev pub IsWhole : Type 0
+  IsWhole = ((parts : ℕ) × (g.made + part ≡ parts * PART_STEPS)) ⊎ (g.made + part ≡ allowed old n)
+
+  looks_after : (there : Paused) (made : ℕ) → made ≡ part → IsWhole → LooksAfter old new there n (g.made + made)
+  looks_after there made same (inl whole) = inl (whole.0, ap (λ m. g.made + m) same ∙ whole.1)
+  looks_after there made same (inr all) = inr (inl (ap (λ m. g.made + m) same ∙ all))
+
   -- the session can go on after the second part
-  pub goes_later : (what : Held) (r : Outcome) → can_go_on r ≡ true → SliceComesTo q mid new part (end_of r)
+  pub goes_later : (what : Held) (r : Outcome) → IsWhole → can_go_on r ≡ true → SliceComesTo q mid new part (end_of r)
       → SliceMade p old new n (end.Holds what)
-  goes_later what outcome.Limit can h = joined end.Limit (end.Holds what) h h.ends.1
-  goes_later what outcome.Device can h = joined end.WantsInput (end.Holds what) h (h.ends.3.0, h.ends.3.1)
-  goes_later what (outcome.Exit status) can h = cc
-  goes_later what (outcome.Trap kind) can h = cc
-  goes_later what outcome.Memory can h = cc
+  goes_later what outcome.Limit whole can h =
+      joined end.Limit (end.Holds what) h (h.ends.1.0, h.ends.1.1, looks_after h.ends.1.0 h.made (all_made h) whole)
+  goes_later what outcome.Device whole can h =
+      joined end.WantsInput (end.Holds what) h (h.ends.1.0, h.ends.1.1, inr (inr h.ends.1.2))
+  goes_later what (outcome.Exit status) whole can h = cc
+  goes_later what (outcome.Trap kind) whole can h = cc
+  goes_later what outcome.Memory whole can h = cc
 
   -- what the second part ends for, the whole does, if no steps are left to be made
   pub part_gives : (r : Outcome) → (r ≡ outcome.Limit → g.made + part ≡ allowed old n) → SliceComesTo q mid new part (end_of r)
@@ -106,7 +119,7 @@ module _ (p q : Paused) (old mid new : SessionView) (n part : ℕ) (first : Slic
       joined end.Limit end.Limit h (let whole = all refl in let made = all_made h in omega (arith, whole, made), h.ends.1)
   part_gives outcome.Device all h =
       joined end.WantsInput end.WantsInput h
-      (let few = h.ends.0 in omega (arith, few, left), h.ends.1, h.ends.2, (h.ends.3.0, h.ends.3.1, h.ends.3.2))
+      (let few = h.ends.0 in omega (arith, few, left), h.ends.1)
   part_gives (outcome.Exit status) all h = joined (end.Halted status) (end.Halted status) h (over_later (outcome.Exit status) h.made h.ends)
   part_gives (outcome.Trap kind) all h = joined (end.Trapped kind) (end.Trapped kind) h (over_later (outcome.Trap kind) h.made h.ends)
   part_gives outcome.Memory all h = lost_later h
@@ -140,8 +153,79 @@ nothing_made p h n what is = record {
   comes = λ rest before may.
       subst (λ t. IsStateOf t (h.unread ++ rest) (before ++ []) (machine_at p (h.unread ++ rest) before)) (sym is)
       (ap (machine_at p (h.unread ++ rest)) (sym (append-nil before)));
-  ends = (p, is);
+  ends = (p, is, inl (0, omega arith));
 }
+
+-- what the machine held at each look, up to so many steps
+abbrev pub KeptUpTo : Paused → SessionView → (steps : ℕ) → Type 0
+KeptUpTo p old steps = (parts : ℕ) → old.steps + parts * PART_STEPS ≤ steps → (rest : List ℕ) → MayCome old rest
+    → KeepsWithin old.limits (after_pause p (parts * PART_STEPS) (old.unread ++ rest) old.output)
+
+-- what a session holds that can go on is what the machine holds there
+pub kept_there : (p q : Paused) (old mid : SessionView) (n : ℕ) (why : SliceEnd) (g : SliceMade p old mid n why)
+    → mid.state ≡ Goes q → PassesAt mid.state mid None → (rest : List ℕ) → MayCome old rest
+    → KeepsWithin old.limits (after_pause p g.made (old.unread ++ rest) old.output)
+kept_there p q old mid n why g stands none rest may =
+    let holds : HoldsNoMore q mid = subst (λ t. PassesAt t mid None) stands none in
+    let there : after_pause p g.made (old.unread ++ rest) old.output ≡ machine_at q (mid.unread ++ rest) (old.output ++ g.written) =
+    subst (λ t. IsStateOf t (mid.unread ++ rest) (old.output ++ g.written) (after_pause p g.made (old.unread ++ rest) old.output)) stands (g.comes rest old.output may) in
+    subst (KeepsWithin old.limits) (sym there)
+    (subst (λ l. KeepsWithin l (machine_at q (mid.unread ++ rest) (old.output ++ g.written))) g.limits
+    (holds.operands, subst (λ o. length o ≤ mid.limits.output) g.output holds.output))
+
+-- and the same after a part more
+pub kept_further : (p q : Paused) (old mid : SessionView) (n : ℕ) (why : SliceEnd) (g : SliceMade p old mid n why)
+    → mid.state ≡ Goes q → PassesAt mid.state mid None → (parts before : ℕ) → g.made ≡ parts * PART_STEPS
+    → before + PART_STEPS ≡ old.steps + parts * PART_STEPS → KeptUpTo p old before → KeptUpTo p old mid.steps
+kept_further p q old mid n why g stands none parts before made is kept k le rest may =
+    let counted = g.counted in
+    elim (cases_lt before (old.steps + k * PART_STEPS)) [
+      | inr few ↦ kept k few rest may
+      | inl more ↦
+          let last : k * PART_STEPS ≡ g.made = omega (arith, le, more, made, is, counted) in
+          subst (λ m. KeepsWithin old.limits (after_pause p m (old.unread ++ rest) old.output)) (sym last)
+          (kept_there p q old mid n why g stands none rest may)
+    ]
+
+-- before the first part
+pub kept_first : (p : Paused) (h : SessionView) → PassesAt h.state h None → h.state ≡ Goes p → KeptUpTo p h h.steps
+unfolding nothing_made
+kept_first p h none is k le rest may =
+    let g = nothing_made p h 0 held.Output is in
+    let first : k * PART_STEPS ≡ 0 = omega (arith, le) in
+    subst (λ m. KeepsWithin h.limits (after_pause p m (h.unread ++ rest) h.output)) (sym first)
+    (kept_there p p h h 0 (end.Holds held.Output) g is none rest may)
+
+-- a part is a whole one, or the rest
+pub whole_or_rest : (old mid : SessionView) (n part left made : ℕ) → (parts : (k : ℕ) × (mid.steps ≡ old.steps + k * PART_STEPS))
+    → mid.steps ≡ old.steps + made → mid.steps + left ≡ old.steps + allowed old n → part ≡ min left PART_STEPS
+    → ((k : ℕ) × (made + part ≡ k * PART_STEPS)) ⊎ (made + part ≡ allowed old n)
+whole_or_rest old mid n part left made (k, before) counted all least = elim (cases_lt left PART_STEPS) [
+  | inl rest ↦ inr (omega (arith, rest, before, counted, all, least))
+  | inr whole ↦ inl (k + 1, omega (arith, whole, before, counted, least))
+]
+
+-- how many steps a part makes at most
+pub few_made : (q : Paused) (mid new : SessionView) (part : ℕ) (r : Outcome) → SliceComesTo q mid new part (end_of r)
+    → new.steps ≤ mid.steps + part
+few_made q mid new part outcome.Limit h = let counted = h.counted in let few = h.within in omega (arith, counted, few)
+few_made q mid new part outcome.Device h = let counted = h.counted in let few = h.within in omega (arith, counted, few)
+few_made q mid new part (outcome.Exit status) h = let counted = h.counted in let few = h.within in omega (arith, counted, few)
+few_made q mid new part (outcome.Trap kind) h = let counted = h.counted in let few = h.within in omega (arith, counted, few)
+few_made q mid new part outcome.Memory h =
+    let few = h.counted.1 in let counted = h.counted.2 in omega (arith, counted, few)
+
+pub goes_on_within : (t : SessionState) (old new : SessionView) (parts steps : ℕ) → steps ≡ old.steps + parts * PART_STEPS
+    → new.steps ≤ steps + PART_STEPS → ((p : Paused) → t ≡ Goes p → KeptUpTo p old steps) → GoesOnWithin t old new
+goes_on_within (Goes p) old new parts steps is few kept = λ k less rest may. kept p refl k (omega (arith, is, few, less)) rest may
+goes_on_within (Over stop p) old new parts steps is few kept = tt
+goes_on_within Lost old new parts steps is few kept = tt
+
+-- where no step was made
+pub none_within : (t : SessionState) (old : SessionView) → GoesOnWithin t old old
+none_within (Goes p) old = λ k less rest may. absurd (omega (arith, less))
+none_within (Over stop p) old = tt
+none_within Lost old = tt
 
 -- a slice ends for no limit where the session can't go on
 pub over_keeps : (h : SessionView) (r : Outcome) → can_go_on r ≡ false → KeepsLimits h (end_of r)

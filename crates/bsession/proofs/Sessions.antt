@@ -126,7 +126,7 @@ module _ (p q : Paused) (f g : Fed) (o w : Kept) (taken made n : ℕ) (limits : 
     limits = refl;
     image = image;
     comes = λ rest before may. went p q stop.steps f g o w a.pauses.goes read (sym a.fails.over) known same rest before may;
-    ends = (let less = a.within in omega (arith, less), none.0, none.1, (q, refl, a.asks));
+    ends = (let less = a.within in omega (arith, less), (q, refl, (none.0, none.1, a.asks)));
   }
     where
       read : f.unread ≡ a.pauses.goes.taken ++ g.unread

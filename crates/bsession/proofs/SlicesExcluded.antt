@@ -1,5 +1,7 @@
 -- What no slice of a program gives that halts with 0 in its second step, and reads nothing.
-use Rattle.std.proofs.Common.{◌≡◌, ◌∙◌, ℕ, zero, suc, ◌+◌, false, List, [], ◌∷◌, ◌++◌, Some, ap, arith, refl, subst, sym}
+use Rattle.std.proofs.Common.{◌≡◌, ◌∙◌, ℕ, zero, suc, ◌+◌, ◌*◌, ◌/◌, ◌<◌, ◌≤◌, false, None, List, [], ◌∷◌, ◌++◌, Some, ap, arith, refl, subst, sym, ⊎_elim}
+use Rattle.std.specs.FinSet as set
+use Rattle.std.specs.Prelude.{slice_index}
 use Rattle.blang.specs.declared.code.Instr.TheVariants as instr
 use Rattle.blang.specs.declared.run.Outcome.TheVariants as outcome
 use Rattle.blang.specs.Layout.{Exited}
@@ -11,9 +13,15 @@ use Rattle.bmach.specs.Stepping.{Paused, machine_at, operands_held}
 use Rattle.bmach.specs.Stops.{RunsCall}
 use Rattle.bmach.specs.declared.machine.Active.{Active}
 use Rattle.bmach.proofs.Running.{over_stays}
-use Rattle.bsession.specs.Sessions.{Goes, IsStateOf, KeepsLimits, SessionContinues, SessionView}
+use Rattle.bpages.specs.Pages.{get_or-words_below}
+use Rattle.bpages.specs.PagedStores.{paged_words, pages_of}
+use Rattle.bpages.specs.declared.paged_store.PagedStore.{PagedStore}
+use Rattle.bpages.proofs.PageLemmas.{len-made_below, word_at-none}
+use Rattle.bsession.specs.Sessions.{Goes, GoesOnWithin, HoldsMore, HoldsNoMore, IsStateOf, KeepsLimits, PassesAt, SessionContinues, SessionView, WaitsAt, allowed}
+use Rattle.bsession.specs.declared.session.Held.{Held}
 use Rattle.bsession.specs.declared.session.Held.TheVariants as held
 use Rattle.bsession.specs.declared.session.SliceEnd.TheVariants as end
+use Rattle.bsession.specs.declared.session.TheConstants.{PART_STEPS}
 
 abbrev main : Loaded
 main = record {
@@ -49,10 +57,10 @@ asks_never (suc (suc n)) left written asks =
 -- it wants no input
 pub no_input_wanted : (old new : SessionView) (n : ℕ) → SessionContinues (Goes first) old new n end.WantsInput → ⊥
 no_input_wanted old new n g =
-    let there = g.ends.3.0 in
+    let there = g.ends.1.0 in
     let at : IsStateOf (Goes there) (new.unread ++ []) ([] ++ g.written) (after_pause first g.made (old.unread ++ []) []) =
-    subst (λ t. IsStateOf t (new.unread ++ []) ([] ++ g.written) (after_pause first g.made (old.unread ++ []) [])) g.ends.3.1 (g.comes [] [] (λ closed. refl)) in
-    asks_never g.made (old.unread ++ []) [] (subst AsksForByte (sym at) (g.ends.3.2 (new.unread ++ []) ([] ++ g.written)))
+    subst (λ t. IsStateOf t (new.unread ++ []) ([] ++ g.written) (after_pause first g.made (old.unread ++ []) [])) g.ends.1.1 (g.comes [] [] (λ closed. refl)) in
+    asks_never g.made (old.unread ++ []) [] (subst AsksForByte (sym at) (g.ends.1.2.2 (new.unread ++ []) ([] ++ g.written)))
 
 -- it doesn't go on after its end
 pub no_steps_past_the_end : (old new : SessionView) → old.steps ≡ 0 → SessionContinues (Goes first) old new 2 end.Limit → ⊥
@@ -89,9 +97,27 @@ no_other_status old new n status g =
     shown g.made (old.unread ++ []) [] over.stop.call over.last status (new.unread ++ []) ([] ++ g.written) over.made_is (over.ran [] [] (λ closed. refl)).0
     (subst (λ r. Shows r (new.unread ++ []) ([] ++ g.written) (after_pause first g.made (old.unread ++ []) [])) over.outcome_is at.0)
 
+-- it doesn't end between two looks at what it holds
+pub no_end_between_looks : (old new : SessionView) (what : Held) → old.steps ≡ 0 → new.steps ≡ 1
+    → SessionContinues (Goes first) old new 10 (end.Holds what) → ⊥
+no_end_between_looks old new what none one g =
+    let there = g.ends.0 in
+    let at : after_pause first g.made (old.unread ++ []) [] ≡ machine_at there (new.unread ++ []) ([] ++ g.written) =
+    subst (λ t. IsStateOf t (new.unread ++ []) ([] ++ g.written) (after_pause first g.made (old.unread ++ []) [])) g.ends.1 (g.comes [] [] (λ closed. refl)) in
+    let counted = g.counted in
+    let made : g.made ≡ 1 = omega (arith, counted, none, one) in
+    ⊎_elim (λ (parts : (k : ℕ) × (g.made ≡ k * PART_STEPS)). let whole = parts.1 in omega (arith, whole, made))
+    (⊎_elim (λ (all : g.made ≡ allowed old 10). omega (arith, all, made, none))
+    (λ (waits : WaitsAt new there). asks_never g.made (old.unread ++ []) [] (subst AsksForByte (sym at) (waits.2 (new.unread ++ []) ([] ++ g.written)))))
+    g.ends.2
+
 -- a pause with three operands, two of the running call and one of the call below
 abbrev three : Paused
 three = record first { call = record { function = main; start = 8; place = 0; operands = 1 ∷ 2 ∷ [] }; below = record { function = main; start = 8; place = 0; operands = 3 ∷ [] } ∷ [] }
+
+none_of : (n : ℕ) → (0 < n → ⊥) → n ≡ 0
+none_of zero none = refl
+none_of (suc n) none = absurd (none (omega arith))
 
 abbrev holds : (operands output : ℕ) → SessionView
 holds operands output = record {
@@ -113,8 +139,45 @@ operands_within keeps = let few = keeps.operands in omega (arith, few)
 pub output_within : KeepsLimits (holds 3 1) end.WantsInput → ⊥
 output_within keeps = let few = keeps.output in omega (arith, few)
 
+-- and makes no step where it holds more of it
+pub no_step_over_operands : (new : SessionView) → GoesOnWithin (Goes three) (holds 2 2) new → new.steps ≡ 0
+no_step_over_operands new within = none_of new.steps (λ some. let few = (within 0 some [] (λ closed. refl)).0 in omega (arith, few))
+
+pub no_step_over_output : (new : SessionView) → GoesOnWithin (Goes three) (holds 3 1) new → new.steps ≡ 0
+no_step_over_output new within = none_of new.steps (λ some. let few = (within 0 some [] (λ closed. refl)).1 in omega (arith, few))
+
 pub no_stop_for_operands : KeepsLimits (holds 3 0) (end.Holds held.Operands) → ⊥
 no_stop_for_operands more = omega (arith, more)
 
 pub no_stop_for_output : KeepsLimits (holds 0 2) (end.Holds held.Output) → ⊥
 no_stop_for_output more = omega (arith, more)
+
+-- without a page all words are 0
+no_word : (store : PagedStore) (address : ℕ) → address < 65536 → set.len (pages_of store) ≡ 0
+    → slice_index (paged_words store) address ≡ 0
+no_word store address below none =
+    let size = store.paged.size in
+    let within = store.paged.within (address / 256) in
+    let start : slice_index store.starts (address / 256) ≡ 0 = omega (arith, size, within, none) in
+    get_or-words_below store.starts store.list.items 65536 address below
+    ∙ word_at-none store.starts store.list.items address store.paged start
+
+-- a session with another word than 0 has a page
+pub pages_within : (p : Paused) (h : SessionView) (address : ℕ) → h.state ≡ Goes p → address < 65536
+    → (slice_index p.store address ≡ 0 → ⊥) → h.limits.pages ≡ 0 → KeepsLimits h end.Limit → ⊥
+pages_within p h address stands below some none keeps =
+    let holds : HoldsNoMore p h = subst (λ t. PassesAt t h None) stands keeps in
+    let has = holds.pages.1 in
+    let count = has.2 in
+    let few = holds.pages.2 in
+    some (ap (λ ws. slice_index ws address) (sym has.1) ∙ no_word has.0 address below (omega (arith, count, few, none)))
+
+-- and none has more than 256
+pub no_stop_for_pages : (p : Paused) (h : SessionView) → h.state ≡ Goes p → 256 ≤ h.limits.pages
+    → KeepsLimits h (end.Holds held.Pages) → ⊥
+no_stop_for_pages p h stands all stops =
+    let more : HoldsMore p h held.Pages = subst (λ t. PassesAt t h (Some held.Pages)) stands stops in
+    let count = more.1.2 in
+    let few = len-made_below more.1.0.starts 256 in
+    let over = more.2 in
+    omega (arith, few, count, over, all)

@@ -1,15 +1,15 @@
 -- Promise: a program that runs in slices, between which its input is fed and its output is taken.
-use Rattle.std.specs.Prelude.{◌≡◌, ◌⊎◌, ℕ, ◌+◌, ◌-◌, ◌<◌, ◌≤◌, min, Bool, true, false, List, [], ◌∷◌, ◌++◌, drop, if◌then◌else◌, length, Option, Some, None}
+use Rattle.std.specs.Prelude.{◌≡◌, ◌⊎◌, ℕ, ◌+◌, ◌-◌, ◌*◌, ◌<◌, ◌≤◌, min, Bool, true, false, List, [], ◌∷◌, ◌++◌, drop, if◌then◌else◌, length, Option, Some, None}
 use Rattle.std.specs.Prelude.{slice_index, ⊤}
 use Rattle.std.specs.FinSet as set
 use Rattle.std.proofs.Common.{arith}
 use Rattle.bword.specs.ByteEnds.{Incoming, most}
 use Rattle.blang.specs.declared.run.Outcome.{Outcome}
 use Rattle.blang.specs.declared.run.Outcome.TheVariants as outcome
-use Rattle.blang.specs.Machine.{Image, State, state_world, steps}
+use Rattle.blang.specs.Machine.{Image, Running, State, state_world, steps}
 use Rattle.blang.specs.Reports.{AsksForByte, Shows}
 use Rattle.bmach.specs.Slices.{after_pause, output_after, with_word_at}
-use Rattle.bmach.specs.Stepping.{BeginsNot, IsUnstarted, Paused, machine_at, operands_held}
+use Rattle.bmach.specs.Stepping.{BeginsNot, IsUnstarted, Paused, machine_at, operand_sum, operands_held}
 use Rattle.bmach.specs.Stops.{RunsCall, active_of}
 use Rattle.bmach.specs.declared.advance.TheConstants.{MOST_STEPS}
 use Rattle.bmach.specs.declared.machine.Active.{Active}
@@ -24,6 +24,7 @@ use Rattle.bsession.specs.declared.session.Limits.{Limits}
 use Rattle.bsession.specs.declared.session.SliceEnd.{SliceEnd}
 use Rattle.bsession.specs.declared.session.SliceEnd.TheVariants as end
 use Rattle.bsession.specs.declared.session.Stand.{Stand}
+use Rattle.bsession.specs.declared.session.TheConstants.{PART_STEPS}
 use Rattle.bsession.specs.declared.session.Stand.TheVariants as stand
 
 -- An input that is fed: the bytes that it hasn't given, whether more can come, whether its end was answered, and how many
@@ -133,15 +134,25 @@ pub record IsSessionOver (p : Paused) (old new : SessionView) (made : ℕ) (resu
   pub ran : (rest before : List ℕ) → MayCome old rest
       → RunsAbove (after_pause p last (old.unread ++ rest) before) stop.call (length there.below)
 
+-- The session waits for a byte before this step.
+abbrev pub WaitsAt : SessionView → Paused → Type 0
+WaitsAt h there = (h.unread ≡ []) × (h.is_closed ≡ false)
+    × ((left written : List ℕ) → AsksForByte (machine_at there left written))
+
+-- A slice looks at what is held there: after whole parts of it, or after all steps, or where it waits for a byte.
+abbrev pub LooksAfter : (old new : SessionView) → (there : Paused) → (n made : ℕ) → Type 0
+LooksAfter old new there n made =
+    ((parts : ℕ) × (made ≡ parts * PART_STEPS)) ⊎ (made ≡ allowed old n) ⊎ WaitsAt new there
+
 -- why a slice ends after so many steps from a pause
 abbrev pub EndsFor : Paused → (old new : SessionView) → (n made : ℕ) → SliceEnd → Type 0
 EndsFor p old new n made end.Limit = (made ≡ allowed old n) × ((there : Paused) × (new.state ≡ Goes there))
 EndsFor p old new n made end.WantsInput =
-    (made < n) × (new.unread ≡ []) × (new.is_closed ≡ false)
-    × ((there : Paused) × (new.state ≡ Goes there) × ((left written : List ℕ) → AsksForByte (machine_at there left written)))
+    (made < n) × ((there : Paused) × (new.state ≡ Goes there) × WaitsAt new there)
 EndsFor p old new n made (end.Halted status) = IsSessionOver p old new made (outcome.Exit status)
 EndsFor p old new n made (end.Trapped kind) = IsSessionOver p old new made (outcome.Trap kind)
-EndsFor p old new n made (end.Holds what) = (there : Paused) × (new.state ≡ Goes there)
+EndsFor p old new n made (end.Holds what) =
+    (there : Paused) × (new.state ≡ Goes there) × LooksAfter old new there n made
 EndsFor p old new n made end.Memory = ⊥
 
 -- A session makes so many steps from a pause, which read and write what the machine reads and writes, whatever comes after
@@ -260,6 +271,22 @@ KeepsLimits h end.Limit = PassesAt h.state h None
 KeepsLimits h end.WantsInput = PassesAt h.state h None
 KeepsLimits h (end.Holds what) = PassesAt h.state h (Some what)
 KeepsLimits h other = ⊤
+
+-- how many operands all calls of the machine have
+abbrev pub operands_in : State → ℕ
+operands_in (Running call below w) = operand_sum (call ∷ below)
+operands_in other = 0
+
+-- The machine has no more operands there, and no more output, than it may.
+abbrev pub KeepsWithin : Limits → State → Type 0
+KeepsWithin limits s = (operands_in s ≤ limits.operands) × (length (state_world s).output ≤ limits.output)
+
+-- A slice goes on, before its first step and after each part, only where the machine has no more than it may.
+abbrev pub GoesOnWithin : SessionState → (old new : SessionView) → Type 0
+GoesOnWithin (Goes p) old new =
+    (parts : ℕ) → old.steps + parts * PART_STEPS < new.steps → (rest : List ℕ) → MayCome old rest
+    → KeepsWithin old.limits (after_pause p (parts * PART_STEPS) (old.unread ++ rest) old.output)
+GoesOnWithin other old new = ⊤
 
 -- the call that runs, or that ran before the step that ended the run
 abbrev pub call_in : SessionState → Option Active

@@ -1,7 +1,7 @@
 //! A program that runs in slices.
 ghost use Rattle.std.specs.Prelude.{◌≡◌, ◌++◌, ◌-◌, ◌^◌, IfErr, MatchResult, OnErr, OnOk, drop, false, length, min, true};
 ghost use Rattle.bmach.specs.Stepping.{Paused};
-ghost use Rattle.bsession.specs.Sessions.{BeginsSession, Goes, IsGoing, IsThere, KeepsLimits, PassesAt, SessionContinues, SliceComesTo, StartsNot, TellsClosed, call_in, callers_in, can_go_on, end_of, is_limit, state_after, state_of, stored_in, word_in};
+ghost use Rattle.bsession.specs.Sessions.{BeginsSession, Goes, GoesOnWithin, IsGoing, IsThere, KeepsLimits, PassesAt, SessionContinues, SliceComesTo, StartsNot, TellsClosed, call_in, callers_in, can_go_on, end_of, is_limit, state_after, state_of, stored_in, word_in};
 ghost use Rattle.bsession.specs.declared.session.SliceEnd.TheVariants as end;
 
 use crate::feed::Feed;
@@ -141,6 +141,7 @@ impl<'a> Session<'a> {
     pub fn continue_for(&mut self, steps: u64) -> SliceEnd
         ensures goes { SessionContinues self.old.state self.old self.new steps result }
         ensures limits { KeepsLimits self.new result }
+        ensures within { GoesOnWithin self.old.state self.old self.new }
     {
         match &self.stand {
             Stand::Goes(_) => self.go_on(steps),
@@ -154,6 +155,7 @@ impl<'a> Session<'a> {
         requires { IsGoing self.old.state }
         ensures goes { (p : Paused) → self.old.state ≡ Goes p → SliceComesTo p self.old self.new steps result }
         ensures limits { KeepsLimits self.new result }
+        ensures within { GoesOnWithin self.old.state self.old self.new }
     {
         if let Some(held) = self.passed() {
             return SliceEnd::Holds(held);
