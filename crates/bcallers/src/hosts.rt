@@ -1,10 +1,10 @@
 use bhost::Host;
 use bhost::calls::{
-    Whereabouts, begin, close, end, feed, go_on, limit, load, look, name_of, read, store, take,
-    unload,
+    Whereabouts, begin, close, column, end, feed, go_on, limit, load, look, name_of, read, store,
+    take, unload,
 };
 use bsession::Limits;
-use btools::Origin;
+use btools::{CodeText, Origin};
 use bword::Edition;
 use std::test::Fail;
 
@@ -89,6 +89,31 @@ fn a_host_tells_its_place(rt: HostRuntime) -> Result<(), Fail> {
         0
     );
     assert!(rt; count == 4 && name == *b"main");
+    assert_eq!(rt; end(alloc, &mut host), 0);
+    unload(alloc, &mut host);
+    host.forget();
+    Ok(())
+}
+
+#[test]
+fn a_host_tells_its_column(rt: HostRuntime) -> Result<(), Fail> {
+    let alloc = rt.alloc();
+    let mut host = Host::none();
+    let text = CodeText {
+        code: b"F main 0 0 0 0 2\nc 0\nr\nE\n",
+        lines: Some(b"4\n7 12\n"),
+        source: None,
+        names: None,
+    };
+    assert_eq!(rt; load(alloc, b"", Origin::Code(text), &mut host), 0);
+    assert_eq!(rt; begin(alloc, &mut host), 0);
+    let mut told = 3;
+    assert_eq!(rt; column(alloc, &mut host, &mut told), 0);
+    assert_eq!(rt; told, 0);
+    let mut value = 7;
+    assert_eq!(rt; go_on(alloc, &mut host, 1, &mut value), 131);
+    assert_eq!(rt; column(alloc, &mut host, &mut told), 0);
+    assert_eq!(rt; told, 12);
     assert_eq!(rt; end(alloc, &mut host), 0);
     unload(alloc, &mut host);
     host.forget();

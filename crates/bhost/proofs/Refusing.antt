@@ -14,14 +14,15 @@ pub refused : (program : Option LoadedValue) (old new : Option SessionView) (byt
     → Acts deed.Feed [] program old new after told
     → Answers deed.Feed bytes program old new (unfed_status told) (λ _ _. ⊤)
 refused (Some loaded) (Some h) (Some k) bytes after answer.Done fed =
-    (after, answer.Refused, (fed.0, fed.1 ∙ ap (λ (u : List ℕ). record h { unread = u }) (append-nil h.unread)), refl, tt)
-refused (Some loaded) (Some h) (Some k) bytes after answer.Closed fed = (after, answer.Closed, fed, refl, tt)
-refused (Some loaded) (Some h) (Some k) bytes after answer.Refused fed = (after, answer.Refused, fed, refl, tt)
-refused (Some loaded) (Some h) (Some k) bytes after (answer.Ended why) fed = absurd fed
-refused (Some loaded) (Some h) (Some k) bytes after (answer.Unbegun why) fed = absurd fed
-refused (Some loaded) (Some h) (Some k) bytes after answer.Missing fed = absurd fed
-refused (Some loaded) (Some h) (Some k) bytes after (answer.Stands there) fed = absurd fed
-refused (Some loaded) (Some h) (Some k) bytes after (answer.Word word) fed = absurd fed
+    let same = fed.1.1 ∙ ap (λ (u : List ℕ). record h { unread = u }) (append-nil h.unread) in
+    (bytes, answer.Refused, (refl, (fed.1.0, same)), refl, tt)
+refused (Some loaded) (Some h) (Some k) bytes after answer.Closed fed = (bytes, answer.Closed, (refl, fed.1), refl, tt)
+refused (Some loaded) (Some h) (Some k) bytes after answer.Refused fed = (bytes, answer.Refused, (refl, fed.1), refl, tt)
+refused (Some loaded) (Some h) (Some k) bytes after (answer.Ended why) fed = absurd fed.1
+refused (Some loaded) (Some h) (Some k) bytes after (answer.Unbegun why) fed = absurd fed.1
+refused (Some loaded) (Some h) (Some k) bytes after answer.Missing fed = absurd fed.1
+refused (Some loaded) (Some h) (Some k) bytes after (answer.Stands there) fed = absurd fed.1
+refused (Some loaded) (Some h) (Some k) bytes after (answer.Word word) fed = absurd fed.1
 refused (Some loaded) (Some h) None bytes after told fed = absurd fed
 refused (Some loaded) None new bytes after told fed = absurd fed
 refused None old new bytes after told fed = absurd fed

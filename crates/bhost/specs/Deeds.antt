@@ -1,6 +1,7 @@
 -- Promise: what is done with a session that is held with its program.
 use Rattle.std.specs.Prelude.{◌≡◌, ◌⊎◌, ⊤, ℕ, List, [], ◌++◌, drop, take, false, true, IsSome, Option, Some, None}
-use Rattle.bsession.specs.Sessions.{BeginsSession, IsThere, KeepsLimits, SessionContinues, SessionView, StartsNot, call_in, callers_in, stored_in, word_in}
+use Rattle.bsession.specs.Sessions.{BeginsSession, GoesOnWithin, IsThere, KeepsLimits, SessionContinues, SessionView}
+use Rattle.bsession.specs.Sessions.{StartsNot, call_in, callers_in, stored_in, word_in}
 use Rattle.bsession.specs.declared.session.SliceEnd.{SliceEnd}
 use Rattle.bmach.specs.declared.machine.Active.{Active}
 use Rattle.blang.specs.Machine.{Image}
@@ -52,23 +53,26 @@ IsStored old new address word answer.Done =
 IsStored old new address word answer.Refused = new ≡ old
 IsStored old new address word other = ⊥
 
--- where a run stands, with the line of the next instruction; a lost one stands nowhere
-abbrev pub stands_with : (line_of : Active → ℕ) → Option Active → (callers steps : ℕ) → Answer
-stands_with line_of (Some call) callers steps = answer.Stands (record {
+-- where a run stands, with the line of the next instruction and its column; a lost one stands nowhere
+abbrev pub stands_with : (line_of column_of : Active → ℕ) → Option Active → (callers steps : ℕ) → Answer
+stands_with line_of column_of (Some call) callers steps = answer.Stands (record {
   strings = call.strings;
   place = call.place;
   callers = callers;
   steps = steps;
   line = line_of call;
+  column = column_of call;
 })
-stands_with line_of None callers steps = answer.Refused
+stands_with line_of column_of None callers steps = answer.Refused
 
-abbrev pub call_line : LoadedValue → Active → ℕ
-call_line loaded call =
-    line_at (lined_functions loaded.program.definitions.items loaded.program.names.lines.items) call.strings call.place
+-- what is kept of each instruction for the next one of a call: its line, or its column
+abbrev pub kept_at : LoadedValue → List ℕ → Active → ℕ
+kept_at loaded kept call = line_at (lined_functions loaded.program.definitions.items kept) call.strings call.place
 
 abbrev pub stands_at : LoadedValue → SessionView → Answer
-stands_at loaded h = stands_with (call_line loaded) (call_in h.state) (callers_in h.state) h.steps
+stands_at loaded h =
+    stands_with (kept_at loaded loaded.program.names.lines.items) (kept_at loaded loaded.program.columns.items)
+    (call_in h.state) (callers_in h.state) h.steps
 
 -- that is told, unless memory is refused
 abbrev pub TellsPlace : LoadedValue → SessionView → Answer → Type 0
@@ -89,19 +93,23 @@ abbrev pub word_told : Option ℕ → Answer
 word_told (Some word) = answer.Word word
 word_told None = answer.Refused
 
--- what a deed does between or in two slices of a program that is in memory
-abbrev pub Does : Deed → LoadedValue → (old new : SessionView) → (bytes bytes_after : List ℕ) → Answer → Type 0
-Does (deed.Continue steps) loaded old new bytes after told =
+-- what a deed that puts no bytes on the desk does between or in two slices of a program that is in memory
+abbrev pub DoesTo : Deed → LoadedValue → (old new : SessionView) → (bytes : List ℕ) → Answer → Type 0
+DoesTo (deed.Continue steps) loaded old new bytes told =
     (why : SliceEnd) × (told ≡ answer.Ended why) × SessionContinues old.state old new steps why × KeepsLimits new why
-Does (deed.Limit limits) loaded old new bytes after told = (new ≡ record old { limits = limits }) × (told ≡ answer.Done)
-Does deed.Feed loaded old new bytes after told = IsFed old new bytes told
-Does deed.Close loaded old new bytes after told = (new ≡ record old { is_closed = true }) × (told ≡ answer.Done)
+    × GoesOnWithin old.state old new
+DoesTo (deed.Limit limits) loaded old new bytes told = (new ≡ record old { limits = limits }) × (told ≡ answer.Done)
+DoesTo deed.Feed loaded old new bytes told = IsFed old new bytes told
+DoesTo deed.Close loaded old new bytes told = (new ≡ record old { is_closed = true }) × (told ≡ answer.Done)
+DoesTo deed.Look loaded old new bytes told = (new ≡ old) × TellsPlace loaded old told
+DoesTo (deed.Read address) loaded old new bytes told = (new ≡ old) × (told ≡ word_told (word_in old.state address))
+DoesTo (deed.Store address word) loaded old new bytes told = IsStored old new address word told
+DoesTo other loaded old new bytes told = new ≡ old
+
+-- the bytes on the desk stay, unless these are taken
+abbrev pub Does : Deed → LoadedValue → (old new : SessionView) → (bytes bytes_after : List ℕ) → Answer → Type 0
 Does (deed.Take count) loaded old new bytes after told = IsTaken old new count after told
-Does deed.Look loaded old new bytes after told = (new ≡ old) × TellsPlace loaded old told
-Does (deed.Read address) loaded old new bytes after told =
-    (new ≡ old) × (told ≡ word_told (word_in old.state address))
-Does (deed.Store address word) loaded old new bytes after told = IsStored old new address word told
-Does other loaded old new bytes after told = new ≡ old
+Does it loaded old new bytes after told = (after ≡ bytes) × DoesTo it loaded old new bytes told
 
 -- the session before and after
 abbrev pub DoesBoth : Deed → LoadedValue → (old new : Option SessionView) → (bytes bytes_after : List ℕ) → Answer
@@ -113,8 +121,8 @@ DoesBoth it loaded other another bytes after told = ⊥
 -- tells.
 abbrev pub Acts : Deed → (bytes : List ℕ) → Option LoadedValue → (old new : Option SessionView) → (after : List ℕ)
     → Answer → Type 0
-Acts deed.Begin bytes (Some loaded) old new after told = Begins loaded.program.image new told
-Acts deed.End bytes (Some loaded) old new after told = (new ≡ None) × (told ≡ answer.Done)
+Acts deed.Begin bytes (Some loaded) old new after told = (after ≡ bytes) × Begins loaded.program.image new told
+Acts deed.End bytes (Some loaded) old new after told = (after ≡ bytes) × (new ≡ None) × (told ≡ answer.Done)
 Acts (deed.Name strings) bytes (Some loaded) old new after told =
     (new ≡ old) × NamesFunction (placed_at loaded strings) after told
 Acts other bytes (Some loaded) old new after told = DoesBoth other loaded old new bytes after told

@@ -17,8 +17,9 @@ use Rattle.bsession.specs.declared.session.SliceEnd.TheVariants as end
 use Rattle.btools.specs.declared.program.ProgramFault.TheVariants as fault
 use Rattle.bhost.specs.Deeds.{Acts, Begins, Does, IsFed, IsStored, NamesFunction, IsTaken, stands_with, word_told}
 use Rattle.bhost.specs.Hosts.{LoadedValue}
-use Rattle.bhost.specs.Statuses.{answer_callers, answer_function, answer_line, answer_place, answer_status, answer_steps}
-use Rattle.bhost.specs.Statuses.{answer_value, answer_word, fault_status, name_status, trap_number}
+use Rattle.bhost.specs.Statuses.{answer_callers, answer_column, answer_function, answer_line, answer_place}
+use Rattle.bhost.specs.Statuses.{answer_status, answer_steps, answer_value, answer_word, fault_status, name_status}
+use Rattle.bhost.specs.Statuses.{trap_number}
 use Rattle.bhost.specs.declared.desk.Answer.{Answer}
 use Rattle.bhost.specs.declared.desk.Answer.TheVariants as answer
 use Rattle.bhost.specs.declared.desk.Deed.TheVariants as deed
@@ -72,11 +73,21 @@ nothing_is_taken taken = let none = taken.0 in cc
 
 -- a look changes nothing, and tells of no other place
 looked_only : (loaded : LoadedValue) → Does deed.Look loaded lost (record lost { steps = 4 }) [] [] answer.Refused → ⊥
-looked_only loaded looked = let same : 4 ≡ 3 = ap (λ (h : SessionView). h.steps) looked.0 in omega (arith, same)
+looked_only loaded looked = let same : 4 ≡ 3 = ap (λ (h : SessionView). h.steps) looked.1.0 in omega (arith, same)
+
+-- what isn't taken stays on the desk
+bytes_stay : (loaded : LoadedValue) → Does deed.Feed loaded lost lost (6 ∷ []) [] answer.Closed → ⊥
+bytes_stay loaded fed = let stay = fed.0 in cc
+
+nothing_comes : (loaded : LoadedValue) → Does (deed.Read 0) loaded lost lost [] (6 ∷ []) answer.Refused → ⊥
+nothing_comes loaded read = let stay = read.0 in cc
+
+none_at_the_end : (loaded : LoadedValue) → Acts deed.End [] (Some loaded) (Some lost) None (6 ∷ []) answer.Done → ⊥
+none_at_the_end loaded gone = let stay = gone.0 in cc
 
 -- no session is left after the end
 ended : (loaded : LoadedValue) → Acts deed.End [] (Some loaded) (Some lost) (Some lost) [] answer.Done → ⊥
-ended loaded gone = let none = gone.0 in cc
+ended loaded gone = let none = gone.1 in cc
 
 -- a name that is told is that of a function, and none is told where there is none, or memory is refused
 no_name : NamesFunction None (7 ∷ []) answer.Missing → ⊥
@@ -93,18 +104,20 @@ abbrev call : Active
 call = record { strings = 5; parameters = 1; place = 6; start = 90 }
 
 abbrev told : Answer
-told = answer.Stands (record { strings = 5; place = 6; callers = 7; steps = 8; line = 11 })
+told = answer.Stands (record { strings = 5; place = 6; callers = 7; steps = 8; line = 11; column = 95 })
 
-places : map (λ it. stands_with (λ c. c.strings + c.place) it 7 8) (Some call ∷ None ∷ [])
+places : map (λ it. stands_with (λ c. c.strings + c.place) (λ c. c.strings + c.start) it 7 8) (Some call ∷ None ∷ [])
     ≡ (told ∷ answer.Refused ∷ [])
 places = refl
 
 parts : map (λ (f : Answer → ℕ). f told) (answer_function ∷ answer_place ∷ answer_callers ∷ answer_steps ∷ answer_line
-    ∷ answer_word ∷ answer_value ∷ answer_status ∷ []) ≡ (5 ∷ 6 ∷ 7 ∷ 8 ∷ 11 ∷ 0 ∷ 0 ∷ 0 ∷ [])
+    ∷ answer_column ∷ answer_word ∷ answer_value ∷ answer_status ∷ [])
+    ≡ (5 ∷ 6 ∷ 7 ∷ 8 ∷ 11 ∷ 95 ∷ 0 ∷ 0 ∷ 0 ∷ [])
 parts = refl
 
 no_parts : map (λ (f : Answer → ℕ). f (answer.Word 3)) (answer_function ∷ answer_place ∷ answer_callers ∷ answer_steps
-    ∷ answer_line ∷ answer_word ∷ answer_value ∷ answer_status ∷ []) ≡ (0 ∷ 0 ∷ 0 ∷ 0 ∷ 0 ∷ 3 ∷ 0 ∷ 0 ∷ [])
+    ∷ answer_line ∷ answer_column ∷ answer_word ∷ answer_value ∷ answer_status ∷ [])
+    ≡ (0 ∷ 0 ∷ 0 ∷ 0 ∷ 0 ∷ 0 ∷ 3 ∷ 0 ∷ 0 ∷ [])
 no_parts = refl
 
 words : map word_told (None ∷ Some 0 ∷ Some 65535 ∷ []) ≡ (answer.Refused ∷ answer.Word 0 ∷ answer.Word 65535 ∷ [])

@@ -12,7 +12,7 @@ use Rattle.bsession.specs.declared.session.SliceEnd.{SliceEnd}
 use Rattle.bsession.specs.declared.session.SliceEnd.TheVariants as end
 use Rattle.bword.specs.ByteEnds.{Outgoing}
 use Rattle.blang.specs.declared.token.Diagnostic.{Diagnostic}
-use Rattle.btools.specs.Origins.{HasNoProgramOf, IsProgramOf, LinesOf, NamesOf, NoProgramOf, Origin}
+use Rattle.btools.specs.Origins.{ColumnsOf, HasNoProgramOf, IsProgramOf, LinesOf, NamesOf, NoProgramOf, Origin}
 use Rattle.btools.specs.declared.program.ProgramFault.{ProgramFault}
 use Rattle.btools.specs.declared.program.ProgramFault.TheVariants as fault
 use Rattle.bhost.specs.Deeds.{Acts}
@@ -32,10 +32,11 @@ fault_status (fault.Unnamed line wanted) = WRONG_COMMAND
 fault_status (fault.Unloaded f) = REFUSED
 fault_status fault.Memory = MEMORY
 
--- A program was read from there, with its lines and names.
+-- A program was read from there, with its lines, columns and names.
 pub record HoldsProgramOf (origin : Origin) (source : List ℕ) (loaded : LoadedValue) : Type 0 where
   pub program : IsProgramOf origin source loaded.program
   pub lines : LinesOf origin source loaded.program.names.lines.items
+  pub columns : ColumnsOf origin loaded.program.columns.items
   pub names : NamesOf origin source loaded.program.names.frames.items
 
 -- A program is in memory now, or none, and the status tells why.
@@ -137,6 +138,10 @@ answer_steps other = 0
 abbrev pub answer_line : Answer → ℕ
 answer_line (answer.Stands there) = there.line
 answer_line other = 0
+
+abbrev pub answer_column : Answer → ℕ
+answer_column (answer.Stands there) = there.column
+answer_column other = 0
 
 -- the status where a name is told in a room of this size
 abbrev pub name_status : (size : ℕ) → (name : List ℕ) → Answer → ℕ

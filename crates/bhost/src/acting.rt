@@ -124,12 +124,14 @@ fn look(session: &Session<'_>, loaded: &LoadedProgram, alloc: Global) -> Answer
     let Ok(tables) = Tables::new(alloc, &loaded.program) else {
         return Answer::Refused;
     };
+    let entry = tables.entry(call.strings);
     Answer::Stands(Standing {
         strings: call.strings,
         place: call.place,
         callers: session.callers(),
         steps: session.steps(),
-        line: tables.line(tables.entry(call.strings), call.place),
+        line: tables.line(entry, call.place),
+        column: tables.column(entry, call.place),
     })
 }
 

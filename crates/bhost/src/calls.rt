@@ -1,7 +1,7 @@
 //! Calls for a session with its program, which tell a status.
 ghost use Rattle.std.specs.Prelude.{◌≡◌, ◌≤◌, ⊤, ℕ, IsSome, List, MatchResult, None, [], drop, length, take};
 ghost use Rattle.bhost.specs.Deeds.{Acts};
-ghost use Rattle.bhost.specs.Statuses.{Answers, HoldsProgramOf, Loads, LoadsTelling, answer_callers, answer_function, answer_line, answer_place, answer_status, answer_steps, answer_value, answer_word, end_status, end_value, fault_status, held_number, name_status, trap_number, unfed_status};
+ghost use Rattle.bhost.specs.Statuses.{Answers, HoldsProgramOf, Loads, LoadsTelling, answer_callers, answer_column, answer_function, answer_line, answer_place, answer_status, answer_steps, answer_value, answer_word, end_status, end_value, fault_status, held_number, name_status, trap_number, unfed_status};
 ghost use Rattle.bhost.specs.declared.desk.Answer.{Answer};
 ghost use Rattle.bhost.specs.declared.desk.Deed.TheVariants as deed;
 ghost use Rattle.blang.specs.Compiles.{line_of};
@@ -313,6 +313,22 @@ pub fn look(alloc: Global, host: &mut Host, there: &mut Whereabouts) -> Status
             steps: 0,
             line: 0,
         },
+    };
+    status_of(desk.answer)
+}
+
+/// Tells the column of the place where the run stands, or 0 where none is known.
+pub fn column(alloc: Global, host: &mut Host, column: &mut u64) -> Status
+    requires program { IsSome host.old.read }
+    requires run { IsSome host.old.run }
+    ensures program { host.new.read ≡ host.old.read }
+    ensures looks { Answers deed.Look [] host.old.read host.old.run host.new.run result
+        (λ _ told. column.new ≡ answer_column told) }
+{
+    let desk = host.ask(alloc, Deed::Look, Vec::new(alloc));
+    *column = match desk.answer {
+        Answer::Stands(standing) => standing.column,
+        _ => 0,
     };
     status_of(desk.answer)
 }

@@ -43,6 +43,8 @@ pub struct Standing {
     pub steps: u64,
     /// The line of the next instruction, or 0 where none is known.
     pub line: u64,
+    /// Its column, from 1 on, or 0 where none is known.
+    pub column: u64,
 }
 
 /// What a session answers.
