@@ -83,8 +83,14 @@ async function loads({sessions, expect}) {
   const linesOf = options => [...sessions.loadCode(code, options)].map(place => place.line);
   expect('lines of a code text', linesOf({}), [2, 3, 4, 5]);
   expect('lines of its author', linesOf({lines, names: 'F main\n'}), [8, 8, 9, 9]);
+  const columnsOf = lines => [...sessions.loadCode(code, {lines})].map(({line, column}) => [line, column]);
+  expect('columns of its author', columnsOf('8 1\n8\n9 300\n9 2\n'), [[8, 1], [8, 0], [9, 300], [9, 2]]);
+  expect('no columns', columnsOf(lines), [[8, 0], [8, 0], [9, 0], [9, 0]]);
+  expect('a column of 0', (await told(() => sessions.loadCode(code, {lines: lines.replace('9', '9 0')})))[0], 135);
+  expect('none in a source of B', it.place().column, 0);
   expect('too few lines', await told(() => sessions.loadCode(code, {lines: '8\n'})),
-    [135, `error: line 2 of the file of lines has to be a number from 0 to ${2n ** 64n - 1n}, for place 1 of main\n`]);
+    [135, `error: line 2 of the file of lines has to be a number from 0 to ${2n ** 64n - 1n}, ` +
+      'alone or with a column of it, for place 1 of main\n']);
   expect('a wrong name', (await told(() => sessions.loadCode(code, {names: 'F f\n'})))[0], 135);
   const calls = sessions.load('f(n) {\n  return(n);\n}\nmain() {\n  f(2);\n}');
   const seen = new Set([...calls].map(({name, line, callers}) => `${name} ${line} ${callers}`));

@@ -101,6 +101,10 @@ uint8_t b_output(struct b_session *session, uint8_t *room, size_t room_size, siz
 /* Tells where the run stands; B_NO_MEMORY where it is lost, or memory is refused. */
 uint8_t b_place(struct b_session *session, struct b_place *place);
 
+/* Tells the column of that place in its line, in bytes from 1 on, or 0 where none is told: only an author's file of
+ * lines tells columns. B_NO_MEMORY as for b_place. */
+uint8_t b_column(struct b_session *session, uint64_t *column);
+
 /* Tells the word at an address, or stores one; B_NO_MEMORY where the run is lost, or memory is refused. */
 uint8_t b_word(struct b_session *session, uint16_t address, uint16_t *word);
 uint8_t b_set_word(struct b_session *session, uint16_t address, uint16_t word);

@@ -34,6 +34,7 @@ static void try_run(size_t size) {
     struct b_place place;
     uint8_t value, room[8], all[8];
     uint16_t word;
+    uint64_t column = 7;
     size_t count, taken = 0;
     expect("a program", load(next, &session), B_DONE);
     expect("a run", b_start(&session, (const uint8_t *)"", 0), B_DONE);
@@ -63,6 +64,8 @@ static void try_run(size_t size) {
     expect("a place", b_place(&session, &place), B_DONE);
     expect("calls below", place.callers, 0);
     expect("its line", place.line, 1);
+    expect("a column", b_column(&session, &column), B_DONE);
+    expect("none in a source of B", column, 0);
     expect("the end of the input", b_close_input(&session), B_DONE);
     expect("bytes after it", b_feed(&session, (const uint8_t *)"x", 1), B_WRONG_EDITION);
     expect("the end", b_continue(&session, 1000, &value), B_DONE);
@@ -149,26 +152,31 @@ static void try_authors(void) {
     static const struct {
         const char *code, *lines, *names, *line;
         uint8_t status;
-        uint64_t at;
+        uint64_t at, column;
     } rows[] = {
-        {"F main 0 0 0 0 3\nc 1\nc 0\nb /\nE\n", "", "", "", B_DONE, 4},
-        {"F main 0 0 0 0 3\nc 1\nc 0\nb /\nE\n", "70\n80\n90\n", "F main\n", "", B_DONE, 90},
+        {"F main 0 0 0 0 3\nc 1\nc 0\nb /\nE\n", "", "", "", B_DONE, 4, 0},
+        {"F main 0 0 0 0 3\nc 1\nc 0\nb /\nE\n", "70\n80\n90\n", "F main\n", "", B_DONE, 90, 0},
+        {"F main 0 0 0 0 3\nc 1\nc 0\nb /\nE\n", "70\n80\n90 5\n", "", "", B_DONE, 90, 5},
+        {"F main 0 0 0 0 3\nc 1\nc 0\nb /\nE\n", "70 1\n80 2\n90\n", "", "", B_DONE, 90, 0},
+        {"F main 0 0 0 0 3\nc 1\nc 0\nb /\nE\n", "1\n1\n1 18446744073709551615\n", "", "", B_DONE, 1, UINT64_MAX},
         {"F main 0 0 0 0 3\nc 1\nc 0\nb /\nE\n", "70\n80\n", "",
-         "error: line 3 of the file of lines has to be a number from 0 to 18446744073709551615, for place 2 of main\n",
-         B_WRONG_EDITION, 0},
-        {"F main 0 0 0 0 3\nc 1\nc 0\nb /\nE\n", "1\n1\n18446744073709551615\n", "", "", B_DONE, UINT64_MAX},
+         "error: line 3 of the file of lines has to be a number from 0 to 18446744073709551615, alone or with a column "
+         "of it, for place 2 of main\n",
+         B_WRONG_EDITION, 0, 0},
+        {"F main 0 0 0 0 3\nc 1\nc 0\nb /\nE\n", "1\n1\n18446744073709551615\n", "", "", B_DONE, UINT64_MAX, 0},
         {"F main 0 0 0 0 3\nc 1\nc 0\nb /\nE\n", "1\n1\n1\n1\n", "",
-         "error: line 4 of the file of lines has to be its end\n", B_WRONG_EDITION, 0},
+         "error: line 4 of the file of lines has to be its end\n", B_WRONG_EDITION, 0, 0},
         {"F main 0 0 0 0 3\nc 1\nc 0\nb /\nE\n", "", "F f\n",
-         "error: line 1 of the file of names has to be 'F main'\n", B_WRONG_EDITION, 0},
-        {"F main 0 0 0 0 3\nc 1\nc 0\nE\n", "", "", "code 4\n", B_REFUSED, 0},
-        {"X n 0 0\nE\n", "", "", "load 4\n", B_REFUSED, 0},
+         "error: line 1 of the file of names has to be 'F main'\n", B_WRONG_EDITION, 0, 0},
+        {"F main 0 0 0 0 3\nc 1\nc 0\nE\n", "", "", "code 4\n", B_REFUSED, 0, 0},
+        {"X n 0 0\nE\n", "", "", "load 4\n", B_REFUSED, 0, 0},
     };
     for (size_t i = 0; i < sizeof rows / sizeof *rows; i++) {
         struct b_session session = B_NO_SESSION;
         struct b_written written;
         struct b_place place;
         uint8_t line[128], value;
+        uint64_t column = 7;
         size_t lines = strlen(rows[i].lines), names = strlen(rows[i].names);
         expect("a code text",
                b_load_code_with((const uint8_t *)rows[i].code, strlen(rows[i].code),
@@ -182,6 +190,8 @@ static void try_authors(void) {
             expect("its trap", b_continue(&session, 9, &value), B_TRAP);
             expect("its place", b_place(&session, &place), B_DONE);
             expect("an author's line", place.line, rows[i].at);
+            expect("a call for its column", b_column(&session, &column), B_DONE);
+            expect("its column", column, rows[i].column);
         }
         b_free(&session);
     }
@@ -282,6 +292,7 @@ static int try_all(void) {
     uint8_t value, room[8], line[64];
     size_t count;
     uint16_t word;
+    uint64_t column;
     uint8_t status = b_load_with((const uint8_t *)source, strlen(source), &file, 1, 2, line, sizeof line, &written,
                                  &session);
     if (status == B_DONE)
@@ -292,6 +303,8 @@ static int try_all(void) {
         status = b_continue(&session, 1000, &value);
     if (status == B_DONE)
         status = b_place(&session, &place);
+    if (status == B_DONE)
+        status = b_column(&session, &column);
     if (status == B_DONE)
         status = b_name_of(&session, place.function, room, sizeof room, &count);
     if (status == B_DONE)

@@ -284,7 +284,8 @@ class _Place(ctypes.Structure):
 
 class Place(NamedTuple):
     """Where a run stands: its function, by the address of its first string word, the place of its next instruction, how
-    many calls are below, and how many steps were made; the line of that instruction, or 0, and the function's name."""
+    many calls are below, and how many steps were made; the line of that instruction, or 0, and the function's name; and
+    the column in that line, in bytes from 1 on, or 0 where no file of lines tells it."""
 
     function: int
     place: int
@@ -292,6 +293,7 @@ class Place(NamedTuple):
     steps: int
     line: int = 0
     name: str = ""
+    column: int = 0
 
 
 class End(NamedTuple):
@@ -329,6 +331,7 @@ def _sessions(library):
         "close_input": [held],
         "output": [held] + room + [ctypes.POINTER(ctypes.c_size_t)],
         "place": [held, ctypes.POINTER(_Place)],
+        "column": [held, ctypes.POINTER(ctypes.c_uint64)],
         "word": [held, ctypes.c_uint16, ctypes.POINTER(ctypes.c_uint16)],
         "set_word": [held, ctypes.c_uint16, ctypes.c_uint16],
         "end": [held],
@@ -520,10 +523,11 @@ class Session:
     def place(self) -> Place:
         """Where the run stands; after its end the call that ran before the last step."""
         self._look_for_run()
-        place = _Place()
+        place, column = _Place(), ctypes.c_uint64()
         _expect(_library.b_place(self._held, place))
+        _expect(_library.b_column(self._held, column))
         name = self.name_of(place.function)
-        return Place(place.function, place.place, place.callers, place.steps, place.line, name)
+        return Place(place.function, place.place, place.callers, place.steps, place.line, name, column.value)
 
     def name_of(self, function: int) -> str:
         """The name of the function whose first string word has this address; nothing where none lies there."""

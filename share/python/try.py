@@ -166,10 +166,15 @@ def loads():
     code, lines = "F main 0 0 0 0 4\nc 7\np\nc 0\nr\nE\n", "8\n8\n9\n9\n"
     yield [place.line for place in b.Session(code=code)], [2, 3, 4, 5]
     yield [place.line for place in b.Session(code=code, lines=lines)], [8, 8, 9, 9]
+    yield [place.column for place in b.Session(code=code, lines=lines)], [0, 0, 0, 0]
+    columns = "8 1\n8\n9 300\n9 2\n"
+    yield [(it.line, it.column) for it in b.Session(code=code, lines=columns)], [(8, 1), (8, 0), (9, 300), (9, 2)]
+    yield error_of(b.Session, code=code, lines=columns.replace("300", "0"))[0], b.WRONG_EDITION
+    yield {place.column for place in b.Session("main() { putchar(7); }")}, {0}
     yield b.Session(code=code, lines=lines, names="F main\n").go_on(), b.End("halted")
     status, line, _ = error_of(b.Session, code=code, lines=lines[2:])
     yield status, b.WRONG_EDITION
-    wanted = b"a number from 0 to 18446744073709551615, for place 3 of main"
+    wanted = b"a number from 0 to 18446744073709551615, alone or with a column of it, for place 3 of main"
     yield line, b"error: line 4 of the file of lines has to be " + wanted + b"\n"
     status, line, _ = error_of(b.Session, code=code, names="F f\n")
     yield (status, line.startswith(b"error: line 1 of the file of names has to be 'F main'")), (b.WRONG_EDITION, True)

@@ -144,12 +144,14 @@ export interface End {
 }
 
 /** Where a run stands: its function, by the address of its first string word, and by its name; the place of its next
-    instruction, and the line of that, or 0; how many calls are below, and how many steps were made. */
+    instruction, and the line of that, or 0; the column in it, in bytes from 1 on, or 0 where no file of lines tells it;
+    how many calls are below, and how many steps were made. */
 export interface Place {
   function: number;
   name: string;
   place: number;
   line: number;
+  column: number;
   callers: number;
   steps: number;
 }

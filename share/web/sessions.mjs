@@ -339,7 +339,12 @@ class Session {
   place() {
     const steps = Number(this.#made()), {told} = this.#sessions, at = place => Number(told.getBigUint64(place, true));
     const is = {function: told.getUint32(0, true), place: at(8), callers: at(16), steps, line: at(32)};
-    return {...is, name: this.nameOf(is.function)};
+    return {...is, name: this.nameOf(is.function), column: this.#column()};
+  }
+
+  #column() {
+    this.#sessions.expect(this.#call('column', BigInt(this.#sessions.own)));
+    return Number(this.#sessions.told.getBigUint64(0, true));
   }
 
   nameOf(address) {

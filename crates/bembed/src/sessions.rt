@@ -1,7 +1,7 @@
 //! Sessions: programs that stay in memory, and their runs, in slices.
 ghost use Rattle.std.specs.Prelude.{◌≡◌, ◌≤◌, ⊤, ℕ, IsSome, List, None, [], drop, length, take};
 ghost use Rattle.bhost.specs.Deeds.{Acts};
-ghost use Rattle.bhost.specs.Statuses.{Answers, answer_callers, answer_function, answer_line, answer_place, answer_steps, answer_value, answer_word, name_status};
+ghost use Rattle.bhost.specs.Statuses.{Answers, answer_callers, answer_column, answer_function, answer_line, answer_place, answer_steps, answer_value, answer_word, name_status};
 ghost use Rattle.bhost.specs.declared.desk.Answer.{Answer};
 ghost use Rattle.bhost.specs.declared.desk.Deed.TheVariants as deed;
 ghost use Rattle.bembed.specs.Calls.{edition_of};
@@ -10,8 +10,8 @@ ghost use Rattle.bembed.specs.Sessions.{LoadsCode, LoadsSource};
 use crate::calls::edition_of;
 use bhost::Host;
 use bhost::calls::{
-    Whereabouts, begin, close, end, feed, go_on, limit, load, look, name_of, read, store, take,
-    unload,
+    Whereabouts, begin, close, column, end, feed, go_on, limit, load, look, name_of, read, store,
+    take, unload,
 };
 use blang::status;
 use bsession::Limits;
@@ -147,6 +147,18 @@ pub extern "C" fn b_place(alloc: Global, session: &mut Host, there: &mut Whereab
         × (there.new.line ≡ answer_line told)) }
 {
     look(alloc, session, there)
+}
+
+/// Tells the column of the place where the run stands.
+#[unsafe(no_mangle)]
+pub extern "C" fn b_column(alloc: Global, session: &mut Host, told: &mut u64) -> u8
+    requires program { IsSome session.old.read }
+    requires run { IsSome session.old.run }
+    ensures program { session.new.read ≡ session.old.read }
+    ensures looks { Answers deed.Look [] session.old.read session.old.run session.new.run result
+        (λ _ answered. told.new ≡ answer_column answered) }
+{
+    column(alloc, session, told)
 }
 
 /// Tells the name of a function, by the address of its first string word.
