@@ -215,7 +215,7 @@ by_author = record {
 
 lines_of_author : HasPlaceLines by_author nothing (2 ∷ 2 ∷ [])
 unfolding digits
-lines_of_author = refl
+lines_of_author = (record { line = 2; column = None } ∷ record { line = 2; column = None } ∷ [], refl, refl)
 
 counted_by_author : count_text (asks_of (Code by_author) styles.Table) (codes "10 REM\n20 END\n") (lined_functions nothing (2 ∷ 2 ∷ []))
     ((1 ∷ 1 ∷ []) ∷ []) 2
