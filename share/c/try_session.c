@@ -175,7 +175,7 @@ static void try_authors(void) {
         struct b_session session = B_NO_SESSION;
         struct b_written written;
         struct b_place place;
-        uint8_t line[128], value;
+        uint8_t line[256], value;
         uint64_t column = 7;
         size_t lines = strlen(rows[i].lines), names = strlen(rows[i].names);
         expect("a code text",
