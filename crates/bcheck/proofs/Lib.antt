@@ -18,3 +18,4 @@ pub mod FaultLines
 pub mod Reasons
 pub mod SameTokens
 pub mod SectionSteps
+pub mod TallySteps

@@ -1,6 +1,6 @@
 -- Promise: what the contract of a check excludes, whatever its source, its file and its output are.
 use Rattle.std.specs.Prelude.{◌≡◌, ◌≢◌, ℕ, ◌+◌, ◌*◌, ◌<◌, ◌≤◌, ◌==◌, Bool, ◌||◌, false, true, not, IsTrue}
-use Rattle.std.specs.Prelude.{List, [], ◌∷◌, ◌++◌, ◌-◌, None, Some, codes, decimal, length, map, take, Option}
+use Rattle.std.specs.Prelude.{List, [], ◌∷◌, ◌++◌, None, Some, codes, decimal, length, map, Option}
 use Rattle.std.specs.Int.{is_in_range}
 use Rattle.std.specs.Io.{StartsWith}
 use Rattle.std.specs.List.{count_by, list_all}
@@ -30,8 +30,7 @@ use Rattle.bcheck.specs.declared.mention.Subject.{Subject}
 use Rattle.btools.specs.Quoting.{file_text}
 use Rattle.bcheck.specs.Checks.{finding_start}
 use Rattle.bcheck.specs.Checks.{fault_in, findings_text}
-use Rattle.bcheck.specs.Sections.{StopsEach, at_fault, sections}
-use Rattle.bcheck.specs.declared.finding.TheConstants.{MOST_FINDINGS}
+use Rattle.bcheck.specs.Counts.{IsCountFrom}
 use Rattle.bcheck.specs.Checks.{severity_of, shown_in_form, told_first}
 use Rattle.bcheck.specs.declared.finding.Severity.{Severity}
 use Rattle.bcheck.specs.declared.form.FindingForm.{FindingForm}
@@ -85,9 +84,7 @@ newlines text = count_by (λ b. b == 10) text
 -- So many findings are told of a diagnostic: one, and one for each section that is at fault alone, up to so many. Of a
 -- fault of loading it is one, and of names that nothing defines one for each.
 abbrev pub IsCount : Outcome → Option Diagnostic → Option LoadFault → (count : ℕ) → Type 0
-IsCount o (Some d) f count =
-    (stops : List (Option Diagnostic)) × StopsEach o.edition (sections o.edition d.line o.source) stops
-    × (count ≡ 1 + length (take (MOST_FINDINGS - 1) (at_fault (sections o.edition d.line o.source) stops)))
+IsCount o (Some d) f count = IsCountFrom o.edition d.line o.source count
 IsCount o None (Some (fault.Undefined name)) count = count ≡ length (told_subjects o.definitions)
 IsCount o None f count = count ≡ 1
 

@@ -2,6 +2,7 @@ pub mod Tokens
 pub mod CheckRows
 pub mod Checks
 pub mod CheckExcluded
+pub mod Counts
 pub mod Findings
 pub mod Mentions
 pub mod Pieces

@@ -15,7 +15,7 @@ use crate::mends::{proposals, token_at, tokens_of};
 use crate::pieces::push_change;
 use crate::places::milestones;
 use crate::spans::{SourceText, Spans, lexeme_at};
-use crate::verdict::{Verdict, judge};
+use crate::verdict::judge;
 use blex::Lexeme;
 use blint::Warning;
 use bsources::SourceFiles;
@@ -32,17 +32,6 @@ pub struct Change {
     pub text: Text,
     /// The line that tells of it.
     pub line: Text,
-}
-
-/// What the compiler and the loader say of a source.
-pub fn verdict_on(alloc: Global, source: &[u8], edition: Edition) -> Result<Verdict, AllocError>
-    ensures { IfOk result (Judged edition source.now) }
-{
-    let text = SourceText {
-        text: source,
-        edition,
-    };
-    Ok(judge(alloc, text)?.verdict)
 }
 
 /// The next edit of a source of these files that mends it and needs no choice, within so many of its first bytes, if

@@ -38,6 +38,7 @@ mod slip_mends;
 mod spans;
 mod syntax;
 mod syntax_mends;
+mod tally;
 mod text;
 mod told;
 mod undefined;
@@ -47,7 +48,8 @@ mod warning_mends;
 mod warnings;
 mod words;
 
-pub use change::{Change, next_change, verdict_on};
+pub use change::{Change, next_change};
 pub use checking::{check, wrong_checks_are_excluded};
 pub use form::{FindingForm, Request};
+pub use tally::{Tally, tally_on};
 pub use verdict::Verdict;

@@ -1,5 +1,5 @@
 -- What the contract of a fix excludes.
-use Rattle.std.proofs.Common.{◌≡◌, ◌∙◌, ◌<◌, ℕ, zero, suc, Bool, true, false, IsTrue, List, [], ◌∷◌, ◌++◌, ap, arith}
+use Rattle.std.proofs.Common.{◌≡◌, ◌∙◌, ◌<◌, ℕ, zero, suc, Bool, true, false, IsTrue, List, [], ◌∷◌, ◌++◌, ap, arith, map}
 use Rattle.std.proofs.Common.{inl, inr, refl, subst, sym}
 use Rattle.std.specs.Prelude.{if◌then◌else◌}
 use Rattle.std.specs.Str.{bytes_eq}
@@ -8,12 +8,14 @@ use Rattle.bword.specs.ByteEnds.{Outgoing, Writes}
 use Rattle.bword.specs.declared.edition.Edition.{Edition}
 use Rattle.bword.specs.declared.ends.EndFault.{EndFault}
 use Rattle.bword.specs.declared.ends.EndFault.TheVariants as end_fault
+use Rattle.blang.specs.Code.{code_of}
 use Rattle.blang.specs.Compiles.{status_of}
 use Rattle.blang.specs.Reports.{Reported}
 use Rattle.blang.specs.declared.status.TheConstants.{DEVICE, DONE}
 use Rattle.bgrammar.proofs.GoesLaws.{each_source_comes}
 use Rattle.bsources.specs.Files.{Files}
-use Rattle.bcheck.specs.Checks.{EachOutcome, EditParts, Mends}
+use Rattle.bcheck.specs.Checks.{EachOutcome, EditParts, Mends, outcome_of}
+use Rattle.bfix.proofs.LeftSteps.{told_left}
 use Rattle.bfix.specs.Fixes as fixes
 use Rattle.bfix.specs.Fixes.{Changes, Fixed, Fixes, Lead, all_lines}
 use Rattle.bfix.specs.OwnText.{TellsAfter, own_in, rest_in}
@@ -101,19 +103,19 @@ refused_status : (fault : EndFault) (result : ℕ) → result ≡ status_of faul
 refused_status end_fault.Device result e = let is : result ≡ 133 = e in omega (arith, is)
 refused_status end_fault.Memory result e = let is : result ≡ 134 = e in omega (arith, is)
 
-told_status : (told : List ℕ) (status : ℕ) (line after : Outgoing) (result : ℕ) → result < DEVICE
-    → Reported told status line after result → result ≡ status
-told_status told status line after result less (inl w) = w.1
-told_status told status line after result less (inr r) =
+told_whole : (told : List ℕ) (status : ℕ) (line after : Outgoing) (result : ℕ) → result < DEVICE
+    → Reported told status line after result → Writes line told after × (result ≡ status)
+told_whole told status line after result less (inl w) = w
+told_whole told status line after result less (inr r) =
     let more = refused_status r.fault result r.status in
     let below : result < 133 = less in absurd (omega (arith, more, below))
 
 text_written : (text : List ℕ) (out after : Outgoing) (written : ℕ) (told : List ℕ) (status : ℕ)
     → (line line_after : Outgoing) (result : ℕ) → result < DEVICE → Reported text DONE out after written
     → TellsAfter written told status line line_after result
-    → Writes out text after × (result ≡ status)
+    → Writes out text after × Writes line told line_after × (result ≡ status)
 text_written text out after zero told status line line_after result less (inl w) t =
-    (w.0, told_status told status line line_after result less t)
+    let whole = told_whole told status line line_after result less t in (w.0, whole.0, whole.1)
 text_written text out after zero told status line line_after result less (inr r) t =
     let more = refused_status r.fault 0 r.status in absurd (omega (arith, more))
 text_written text out after (suc n) told status line line_after result less (inl w) t =
@@ -127,13 +129,19 @@ pub wrong_fixes : WrongFixes
 wrong_fixes f (fixes.fixed text t written w tells) less =
     let some = each_source_comes [] f.edition 1 (text ++ rest_in f) in (
       text,
-      (text_written text f.out f.out_after written _ _ f.line f.line_after f.status less w (tells some.0 some.1)).0,
+      (text_written text f.out f.out_after written _ _ f.line f.line_after f.status less w (tells some.0 some.1).2).0,
       record {
         kept = kept_by f.edition f.files (rest_in f) (own_in f) t.lines text t.lead;
         small = t.small;
         unmended = λ none. stays_by f.edition f.files (rest_in f) (own_in f) t.lines text t.lead none;
         status =
-            λ r g. (text_written text f.out f.out_after written _ _ f.line f.line_after f.status less w (tells r g)).1;
+            λ r g. (text_written text f.out f.out_after written _ _ f.line f.line_after f.status less w (tells r g).2).2;
+        left = λ r g.
+            let it = tells r g in
+            let whole = text_written text f.out f.out_after written _ _ f.line f.line_after f.status less w it.2 in
+            let left = told_left t.lines (outcome_of f.edition (text ++ rest_in f) r.stop (map code_of g.definitions)) it.0 f.line
+            f.line_after whole.1 in
+            (it.0, it.1, left.0, left.1);
       },
     )
 wrong_fixes f (fixes.no_memory same quiet is) less =

@@ -16,10 +16,9 @@ use Rattle.bcheck.specs.Checks.{change_line}
 use Rattle.bcheck.specs.Findings.{IsChange}
 use Rattle.bcheck.specs.declared.change.Change.{Change}
 use Rattle.blang.specs.Code.{code_of}
-use Rattle.blang.specs.Layout.{load_fault}
-use Rattle.bcheck.specs.Checks.{told_first}
+use Rattle.bcheck.specs.Checks.{outcome_of}
 use Rattle.bfix.specs.Fixes as fixes
-use Rattle.bfix.specs.Fixes.{Changes, Fixes, IsFixed, IsMade, Lead, all_lines}
+use Rattle.bfix.specs.Fixes.{Changes, Fixes, IsFixed, IsMade, Lead, all_lines, all_told}
 use Rattle.bfix.specs.OwnText.{Replacing, TellsAfter, TellsBoth, ends_lines, lines_after, own_in, own_length, rest_in}
 use Rattle.bfix.specs.declared.fixing.FixedText.{FixedText}
 use Rattle.bfix.specs.Keeping.{Passes, are_among, kept_of}
@@ -268,7 +267,10 @@ fixes_of f own rest x e g h t =
     subst (λ o. IsFixed f.edition f.files o (rest_in f) x) e (subst (λ r. IsFixed f.edition f.files own r x) g h) in
     fixes.fixed x.text i.fixed t.0 t.1
     (λ r k.
-    let left = told_first r.stop (load_fault (map code_of k.definitions)) in
-    let told = i.told r k in
-    subst (λ s. TellsAfter t.0 (all_lines i.fixed.lines ++ left.0) s f.line f.line_after f.status) told.1
-    (subst (λ d. TellsAfter t.0 d x.status f.line f.line_after f.status) told.0 t.2))
+    let o = outcome_of f.edition (x.text ++ rest_in f) r.stop (map code_of k.definitions) in
+    let told = i.told r k in (
+      told.0,
+      told.1,
+      subst (λ s. TellsAfter t.0 (all_told i.fixed.lines o told.0) s f.line f.line_after f.status) told.3
+          (subst (λ d. TellsAfter t.0 d x.status f.line f.line_after f.status) told.2 t.2),
+    ))

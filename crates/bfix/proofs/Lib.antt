@@ -1,4 +1,5 @@
 mod FixExcluded
 mod FixSteps
 mod Kept
+mod LeftSteps
 mod PortSteps

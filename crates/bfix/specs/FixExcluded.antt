@@ -3,8 +3,10 @@ use Rattle.std.specs.Prelude.{◌≡◌, ℕ, ◌*◌, ◌<◌, ◌≤◌, IsTru
 use Rattle.bword.specs.ByteEnds.{Writes}
 use Rattle.blang.specs.declared.status.TheConstants.{DEVICE}
 use Rattle.bcheck.specs.Checks.{EachOutcome, EditParts, Mends, outcome_status}
+use Rattle.bcheck.specs.Counts.{IsTally}
 use Rattle.bfix.specs.Fixes.{Fixes}
 use Rattle.bfix.specs.Keeping.{are_among, kept_of}
+use Rattle.bfix.specs.LeftText.{left_text}
 use Rattle.bfix.specs.OwnText.{Replacing, own_in, rest_in}
 
 -- the source, and the source with a text in the place of its first file
@@ -25,6 +27,9 @@ pub record IsSound (f : Replacing) (text : List ℕ) : Type 0 where
       → text ≡ own_in f
   -- another status than that of what was written
   pub status : EachOutcome f.edition (with_text f text) (λ o. f.status ≡ outcome_status o)
+  -- beside it nothing last of what a check tells of that, or another number
+  pub left : EachOutcome f.edition (with_text f text) (λ o. (count : ℕ) × IsTally o f.files count
+      × (told : List ℕ) × Writes f.line (told ++ left_text (outcome_status o) count) f.line_after)
 
 abbrev pub WrongFixes : Type 0
 WrongFixes =

@@ -1,5 +1,6 @@
 -- Closed facts: which comments and strings a source has, and what is written of one that is fixed or ported.
-use Rattle.std.specs.Prelude.{◌≡◌, ℕ, true, false, List, [], ◌∷◌, Some, None, codes, map, refl}
+use Rattle.std.specs.Fmt.{digits}
+use Rattle.std.specs.Prelude.{◌≡◌, ℕ, true, false, List, [], ◌∷◌, ◌++◌, Some, None, codes, map, refl}
 use Rattle.bword.specs.declared.edition.Edition.{Edition}
 use Rattle.bword.specs.declared.edition.Edition.TheVariants as editions
 use Rattle.bsources.specs.Files.{Files}
@@ -11,6 +12,7 @@ use Rattle.blang.specs.Reports.{Reported}
 use Rattle.blang.specs.declared.run.LoadFault.TheVariants as faults
 use Rattle.btools.specs.declared.program.ProgramFault.TheVariants as why
 use Rattle.bfix.specs.Fixes.{Lead, all_lines}
+use Rattle.bfix.specs.LeftText.{left_text}
 use Rattle.bfix.specs.OwnText.{TellsAfter, own_length}
 use Rattle.bfix.specs.Ports.{verdict_status, verdict_text}
 use Rattle.bfix.specs.Keeping.{are_among, is_kept, is_over, kept_from, kept_of}
@@ -65,6 +67,21 @@ after_text told status line line_after result h = h
 after_failure : (told : List ℕ) (status : ℕ) (line line_after : Outgoing) (result : ℕ)
     → TellsAfter 133 told status line line_after result → (line_after ≡ line) × (result ≡ 133)
 after_failure told status line line_after result h = h
+
+-- the line of what is left: nothing, one and more, of a source that compiles and loads, and of any other one
+left_lines : map (left_text 0) (0 ∷ 1 ∷ 2 ∷ []) ++ map (left_text 1) (0 ∷ 1 ∷ 2 ∷ []) ++ map (left_text 132) (1 ∷ [])
+    ≡ [] ∷ codes "left: 1 warning, which b check tells\n" ∷ codes "left: 2 warnings, which b check tells\n" ∷ []
+    ∷ codes "left: 1 fault, which b check tells\n" ∷ codes "left: 2 faults, which b check tells\n"
+    ∷ codes "left: 1 fault, which b check tells\n" ∷ []
+unfolding digits
+left_lines = refl
+
+-- of as many as are told at most
+left_of_most : left_text 0 100 ∷ left_text 1 99 ∷ left_text 132 100 ∷ []
+    ≡ codes "left: 100 warnings, which b check tells\n" ∷ codes "left: 99 faults, which b check tells\n"
+    ∷ codes "left: 100 faults, which b check tells\n" ∷ []
+unfolding digits
+left_of_most = refl
 
 -- the line and the status of what was ported and doesn't load
 load_faults : map verdict_text (why.Unloaded faults.TooLarge ∷ why.Unloaded faults.NoMain ∷ [])

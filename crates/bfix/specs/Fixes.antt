@@ -5,8 +5,11 @@ use Rattle.bword.specs.declared.edition.Edition.{Edition}
 use Rattle.blang.specs.Reports.{Reported}
 use Rattle.blang.specs.declared.status.TheConstants.{DONE, MEMORY}
 use Rattle.bsources.specs.Files.{Files, files_shown}
-use Rattle.bcheck.specs.Checks.{EachOutcome, EditParts, Mends, change_line, fault_in, mended, told_first}
+use Rattle.bcheck.specs.Checks.{EachOutcome, EditParts, Mends, Outcome, change_line, fault_in, mended, outcome_status}
+use Rattle.bcheck.specs.Checks.{told_first}
+use Rattle.bcheck.specs.Counts.{IsTally}
 use Rattle.bfix.specs.Keeping.{are_among, kept_of}
+use Rattle.bfix.specs.LeftText.{left_text}
 use Rattle.bfix.specs.OwnText.{Replacing, TellsAfter, own_in, rest_in}
 use Rattle.bfix.specs.declared.fixing.FixedText.{FixedText}
 use Rattle.bfix.specs.declared.fixing.Frame.{Frame}
@@ -39,13 +42,19 @@ pub record Fixed (edition : Edition) (files : Files) (rest old new : List ℕ) :
 abbrev pub all_lines : List (List ℕ) → List ℕ
 all_lines lines = flat_map (λ line. line) lines
 
--- The text was written, and then the changes were told, and the line and the status of what is left; or memory was
--- refused, and nothing was written.
+-- what is told of changes after which a source comes to this, of which so much is left: a line for each change, the
+-- line of the compiler, and one that tells how much
+abbrev pub all_told : (lines : List (List ℕ)) → Outcome → (count : ℕ) → List ℕ
+all_told lines o count =
+    (all_lines lines ++ (told_first o.stop (fault_in o)).0) ++ left_text (outcome_status o) count
+
+-- The text was written, and then the changes were told, and what is left, with the status of it; or memory was refused,
+-- and nothing was written. It is left what a check of the text tells.
 pub data Fixes (f : Replacing) : Type 0 where
   fixed : (text : List ℕ) (t : Fixed f.edition f.files (rest_in f) (own_in f) text) (written : ℕ)
       → Reported text DONE f.out f.out_after written
-      → EachOutcome f.edition (text ++ rest_in f) (λ o. let left = told_first o.stop (fault_in o) in
-      TellsAfter written (all_lines t.lines ++ left.0) left.1 f.line f.line_after f.status)
+      → EachOutcome f.edition (text ++ rest_in f) (λ o. (count : ℕ) × IsTally o f.files count
+      × TellsAfter written (all_told t.lines o count) (outcome_status o) f.line f.line_after f.status)
       → Fixes f
   no_memory : f.out_after ≡ f.out → f.line_after ≡ f.line → f.status ≡ MEMORY → Fixes f
 
@@ -54,8 +63,8 @@ pub data Fixes (f : Replacing) : Type 0 where
 -- what was fixed, and what is told of it
 pub record IsFixed (edition : Edition) (files : Files) (own rest : List ℕ) (f : FixedText) : Type 0 where
   pub fixed : Fixed edition files rest own f.text
-  pub told : EachOutcome edition (f.text ++ rest) (λ o. let left = told_first o.stop (fault_in o) in
-      (f.told ≡ all_lines fixed.lines ++ left.0) × (f.status ≡ left.1))
+  pub told : EachOutcome edition (f.text ++ rest) (λ o. (count : ℕ) × IsTally o files count
+      × (f.told ≡ all_told fixed.lines o count) × (f.status ≡ outcome_status o))
 
 -- changes led to a text, which has at most so many bytes
 pub record IsLed (frame : Frame) (own : List ℕ) (l : Led) : Type 0 where

@@ -1,14 +1,16 @@
 //! The changes of a source, one after another.
-ghost use Rattle.std.specs.Prelude.{◌≡◌, ◌≤◌, IfOk, IfSome};
+ghost use Rattle.std.specs.Prelude.{◌≡◌, ◌≤◌, ◌++◌, IfOk, IfSome, OnOk};
+ghost use Rattle.bcheck.specs.Checks.{status_told};
 ghost use Rattle.bsources.specs.Files.{files_shown};
 ghost use Rattle.bfix.specs.FixExcluded.{WrongFixes};
 ghost use Rattle.bfix.specs.declared.fixing.TheConstants.{MOST_CHANGES};
 ghost use Rattle.bfix.specs.Fixes.{Fixes, IsFixed, IsLed, IsMade};
+ghost use Rattle.bfix.specs.LeftText.{left_text, left_words};
 ghost use Rattle.bfix.specs.OwnText.{TellsBoth};
 
 use crate::edits::{edited, own_length};
 use crate::keeping::keeps;
-use bcheck::{Change, next_change, verdict_on};
+use bcheck::{Change, Tally, next_change, tally_on};
 use blang::status::{self, Status};
 use bport::joined;
 use bsources::SourceFiles;
@@ -26,7 +28,7 @@ const LOOKED_BYTES: usize = 16777216;
 #[derive(Drop)]
 pub struct FixedText {
     pub text: Text,
-    /// A line for each change, and the line of the first fault that is left.
+    /// A line for each change, the line of the first fault that is left, and a line that tells how many are.
     pub told: Text,
     /// The status of a check of it.
     pub status: Status,
@@ -49,7 +51,7 @@ pub(crate) struct Frame<'a> {
 }
 
 /// Mends the first file of a source wherever that needs no choice, and writes it. The changes are told beside it, and
-/// after them the first fault that is left.
+/// after them the first fault that is left, and how many faults or warnings are.
 ///
 /// The status is that of a check of what was written. If memory runs out nothing is written.
 pub fn fix<O: ByteOut, D: ByteOut>(
@@ -116,13 +118,39 @@ pub fn fixed(
     };
     let Led { text, lines } = follow(alloc, &frame, own)?;
     let whole = joined(alloc, text.as_slice(), rest)?;
-    let verdict = verdict_on(alloc, whole.as_slice(), edition)?;
-    let told = joined(alloc, lines.as_slice(), verdict.first())?;
+    let tally = tally_on(alloc, whole.as_slice(), edition, files)?;
+    let mut told = joined(alloc, lines.as_slice(), tally.verdict.first())?;
+    push_left(&mut told, &tally)?;
     Ok(FixedText {
         text,
         told,
-        status: verdict.status(),
+        status: tally.verdict.status(),
     })
+}
+
+// Adds the line that tells how many faults or warnings are left, if any are.
+fn push_left(told: &mut Text, tally: &Tally) -> Result<(), AllocError>
+    ensures { OnOk result (told.new ≡ told.old ++ left_text (status_told tally.now.verdict) tally.now.count) }
+{
+    if tally.count == 0 {
+        return Ok(());
+    }
+    told.push(b"left: ")?;
+    told.push_number(tally.count as u64)?;
+    told.push(left_words(tally.verdict.status(), tally.count))?;
+    told.push(b", which b check tells\n")
+}
+
+// What so many are, of a source of this status.
+fn left_words(status: Status, count: usize) -> &'static [u8]
+    ensures { result.now ≡ left_words status count }
+{
+    match (status, count) {
+        (status::DONE, 1) => b" warning",
+        (status::DONE, _) => b" warnings",
+        (_, 1) => b" fault",
+        _ => b" faults",
+    }
 }
 
 /// Makes the changes of a text in turn.
@@ -186,7 +214,8 @@ fn made(alloc: Global, frame: &Frame<'_>, old: &[u8]) -> Result<Option<Led>, All
 }
 
 /// What no fix writes: a text that has lost a comment or a string, that is more than twice as long, or that is another
-/// one than the source where no edit mends it; and no fix ends with another status than that of what it wrote.
+/// one than the source where no edit mends it. And no fix ends with another status than that of what it wrote, or is
+/// silent of what is left.
 pub fn wrong_fixes_are_excluded()
     ensures { WrongFixes }
 {}

@@ -1,0 +1,5 @@
+main() {
+    first();
+    second();
+    third();
+}
