@@ -14,6 +14,7 @@ use crate::mending::{Bench, TRIED_BYTES, only_edit};
 use crate::mends::{proposals, token_at, tokens_of};
 use crate::pieces::push_change;
 use crate::places::milestones;
+use crate::semicolon_mends::{is_of_assignment, semicolons};
 use crate::spans::{SourceText, Spans, lexeme_at};
 use crate::verdict::judge;
 use blex::Lexeme;
@@ -37,8 +38,8 @@ pub struct Change {
 /// The next edit of a source of these files that mends it and needs no choice, within so many of its first bytes, if
 /// there is one.
 ///
-/// What is found has just one edit that mends it, of all that may do so. A warning is mended where what the code says
-/// can't be meant.
+/// What is found has just one edit that mends it, of all that may do so; but a `;` that is all that lacks is put in any
+/// case. A warning is mended where what the code says can't be meant.
 pub fn next_change(
     alloc: Global,
     source: &[u8],
@@ -68,8 +69,60 @@ pub fn next_change(
         if !is_certain(&tokens, finding) {
             continue;
         }
-        let proposals = proposals(alloc, &bench, &tokens, finding)?;
-        let change = only_change(alloc, &bench, proposals.as_slice(), within)?;
+        let change = change_for(alloc, &bench, &tokens, finding, within)?;
+        if change.is_some() {
+            return Ok(change);
+        }
+    }
+    Ok(None)
+}
+
+// The change that mends what was found, within so many bytes: the one edit that does, or a `;` that is all that lacks.
+fn change_for(
+    alloc: Global,
+    bench: &Bench<'_>,
+    tokens: &Spans,
+    finding: &Finding,
+    within: usize,
+) -> Result<Option<Change>, AllocError>
+    requires milestones { All (IsMilestone bench.now.source.text.now) bench.now.milestones.now }
+    requires judged { Judged bench.now.source.edition bench.now.source.text.now bench.now.judgement.now.verdict }
+    requires stop { IsStopOf bench.now.source.edition bench.now.source.text.now bench.now.judgement.now.verdict }
+    requires compiled { IsCompiled bench.now.source.edition bench.now.source.text.now bench.now.judgement.now.compiled }
+    ensures { IfOk result (λ found. IfSome found (IsChange bench.now.source.edition (files_shown bench.now.files)
+        bench.now.source.text.now)) }
+{
+    let semicolons = semicolons(alloc, bench, tokens, finding)?;
+    if is_of_assignment(finding) {
+        let change = first_change(alloc, bench, semicolons.as_slice(), within)?;
+        if change.is_some() {
+            return Ok(change);
+        }
+    }
+    let proposals = proposals(alloc, bench, tokens, finding)?;
+    let change = only_change(alloc, bench, proposals.as_slice(), within)?;
+    if change.is_some() {
+        return Ok(change);
+    }
+    first_change(alloc, bench, semicolons.as_slice(), within)
+}
+
+// The change that the first of these proposals is which mends what was found, within so many bytes.
+fn first_change(
+    alloc: Global,
+    bench: &Bench<'_>,
+    proposals: &[Proposal],
+    within: usize,
+) -> Result<Option<Change>, AllocError>
+    requires milestones { All (IsMilestone bench.now.source.text.now) bench.now.milestones.now }
+    requires judged { Judged bench.now.source.edition bench.now.source.text.now bench.now.judgement.now.verdict }
+    requires stop { IsStopOf bench.now.source.edition bench.now.source.text.now bench.now.judgement.now.verdict }
+    requires compiled { IsCompiled bench.now.source.edition bench.now.source.text.now bench.now.judgement.now.compiled }
+    ensures { IfOk result (λ found. IfSome found (IsChange bench.now.source.edition (files_shown bench.now.files)
+        bench.now.source.text.now)) }
+{
+    for index in 0..proposals.len() {
+        let change = only_change(alloc, bench, &proposals[index..index + 1], within)?;
         if change.is_some() {
             return Ok(change);
         }

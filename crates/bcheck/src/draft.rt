@@ -25,6 +25,7 @@ pub(crate) struct Draft<'a> {
     /// What is so of what is proposed from now on.
     pub is_choice: bool,
     pub is_guess: bool,
+    pub is_sure: bool,
     pub all: Vec<Proposal>,
 }
 
@@ -43,6 +44,7 @@ impl<'a> Draft<'a> {
             name,
             is_choice: false,
             is_guess: false,
+            is_sure: false,
             all: Vec::new(alloc),
         }
     }
@@ -121,6 +123,7 @@ impl<'a> Draft<'a> {
             name: self.name,
             is_choice: self.is_choice,
             is_guess: self.is_guess,
+            is_sure: self.is_sure,
         })?;
         Ok(())
     }

@@ -31,6 +31,8 @@ pub(crate) struct Proposal {
     pub is_choice: bool,
     /// Whether it mends nothing if something else on its line is wrong.
     pub is_guess: bool,
+    /// Whether it mends a fault whatever else its line has.
+    pub is_sure: bool,
 }
 
 /// An edit within a line of a source, and the bytes that are shown before its text and after it.

@@ -34,6 +34,7 @@ mod number_mends;
 mod own_parts;
 mod pieces;
 mod places;
+mod semicolon_mends;
 mod slip_mends;
 mod spans;
 mod syntax;

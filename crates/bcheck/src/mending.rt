@@ -163,6 +163,7 @@ fn tried<'a>(
         line: edit.at.line,
         end: proposal.start.saturating_add(proposal.len),
         is_guess: proposal.is_guess,
+        is_sure: proposal.is_sure,
         name: proposal.name,
     };
     if improves(alloc, bench, new.as_slice(), spot)? {
@@ -186,17 +187,18 @@ fn mended(alloc: Global, source: &[u8], proposal: &Proposal) -> Result<Text, All
     Ok(new)
 }
 
-/// The line of an edit, where what it takes out ends, whether it mends nothing if something else there is wrong, and
-/// the name that was found fault with.
+/// The line of an edit, where what it takes out ends, whether it mends nothing if something else there is wrong,
+/// whether it does so whatever else is, and the name that was found fault with.
 #[derive(Clone, Copy)]
 struct Spot {
     line: u64,
     end: usize,
     is_guess: bool,
+    is_sure: bool,
     name: Option<Name>,
 }
 
-// Whether what was found is gone in a text that an edit made, and nothing new is found.
+// Whether what was found is gone in a text that an edit made, and nothing new is found, or that doesn't matter.
 fn improves(alloc: Global, bench: &Bench<'_>, new: &[u8], spot: Spot) -> Result<bool, AllocError>
     requires judged { Judged bench.now.source.edition bench.now.source.text.now bench.now.judgement.now.verdict }
     requires stop { IsStopOf bench.now.source.edition bench.now.source.text.now bench.now.judgement.now.verdict }
@@ -210,6 +212,9 @@ fn improves(alloc: Global, bench: &Bench<'_>, new: &[u8], spot: Spot) -> Result<
     let judgement = judge(alloc, source)?;
     if !surpasses(alloc, &judgement, bench.judgement)? {
         return comes_farther(alloc, bench, new, spot);
+    }
+    if spot.is_sure {
+        return Ok(true);
     }
     is_quiet(alloc, bench, source, &judgement, spot)
 }

@@ -12,6 +12,7 @@ use crate::mends::{Site, token_at};
 use crate::name_mends::body_of;
 use crate::near::near_keyword;
 use crate::own_parts::body_end;
+use crate::semicolon_mends::may_begin;
 use crate::syntax::Syntax;
 use crate::warning_mends::as_character;
 use blang::Keyword;
@@ -219,10 +220,8 @@ fn of_expression(draft: &mut Draft<'_>, site: Site, syntax: Syntax) -> Result<()
         }
         Syntax::AssignLeft => assigned_left(draft, token),
         Syntax::Unopened => draft.remove(token, token),
-        Syntax::TwoOperands => {
-            let is_inside = opener_before(draft, token).is_some();
-            draft.after(before, if is_inside { b"," } else { b";" })
-        }
+        Syntax::TwoOperands if opener_before(draft, token).is_some() => draft.after(before, b","),
+        Syntax::TwoOperands if may_begin(draft, token) => draft.after(before, b";"),
         _ => Ok(()),
     }
 }

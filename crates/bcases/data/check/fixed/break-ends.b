@@ -1,0 +1,9 @@
+main() {
+    switch(getchar()) {
+    case 'a':
+        putchar('b')
+        break
+    case 'c':
+        return
+    }
+}

@@ -1,0 +1,5 @@
+main() {
+    auto a;
+    a == 3
+    putchar(a + '0');
+}

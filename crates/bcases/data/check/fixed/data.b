@@ -1,0 +1,6 @@
+n
+main() {
+    extrn n;
+    n = 65;
+    putchar(n);
+}

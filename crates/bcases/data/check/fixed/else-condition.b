@@ -1,0 +1,8 @@
+main() {
+    auto c;
+    c = getchar();
+    if(c == 'a')
+        putchar('b');
+    else(c == 'c')
+        putchar('d');
+}

@@ -1,0 +1,5 @@
+main() {
+    extrn n;
+    putchar(n);
+}
+n 65

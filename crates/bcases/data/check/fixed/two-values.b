@@ -1,0 +1,6 @@
+main() {
+    auto a, b;
+    a = b = 2;
+    a = a b;
+    putchar(a)
+}
