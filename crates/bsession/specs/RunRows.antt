@@ -5,6 +5,7 @@ use Rattle.blang.specs.Machine.{Halted, Image, Loaded, Running, State, Stuck}
 use Rattle.blang.specs.declared.code.Instr.TheVariants as instr
 use Rattle.bsession.specs.Sessions.{no_limits}
 use Rattle.bsession.specs.SessionRuns.{StoredWord, WasClosed, WasFed, WasStored, all_stored, run_with, with_word_in}
+use Rattle.bsession.specs.declared.session.TheConstants.{PART_STEPS}
 
 -- a program that puts word 3 of the store on its operands, in two steps, and then word 4
 abbrev main : Loaded
@@ -66,3 +67,7 @@ world word = record { store = 0 ∷ word ∷ 2 ∷ []; input = 5 ∷ []; output 
 over_with_word : map (λ s. with_word_in s 1 9) (Halted (Exited 3) (world 1) ∷ Stuck (world 1) ∷ [])
     ≡ (Halted (Exited 3) (world 9) ∷ Stuck (world 9) ∷ [])
 over_with_word = refl
+
+-- how many steps a session makes at most between two looks at what it holds
+steps_of_a_part : PART_STEPS ≡ 65536
+steps_of_a_part = refl
