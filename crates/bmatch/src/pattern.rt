@@ -1,0 +1,55 @@
+//! Patterns of B with holes, and rules of them.
+use crate::conditions::Condition;
+use crate::tree::Kind;
+use bword::Name;
+
+/// How many holes a rule may have, with the one for what the whole pattern stands for.
+pub const MOST_HOLES: u8 = 16;
+
+/// The hole that stands for what the whole pattern fits.
+pub const ROOT: u8 = 15;
+
+/// A row of patterns, which fits a row of branches. The last pattern comes first, and each but `Done` and `Either` has
+/// after it the patterns before it. A `true` marks the pattern whose token is told.
+#[derive(Drop)]
+pub enum Pattern {
+    /// No branches.
+    Done,
+    /// A branch of this kind, whose parts fit these.
+    Tree(Kind, bool, Box<Pattern>, Box<Pattern>),
+    /// This name.
+    Name(Name, bool, Box<Pattern>),
+    /// A number or a character of this value.
+    Value(u16, bool, Box<Pattern>),
+    /// Any branch of a sort. What a hole stands for is the same wherever it comes.
+    Hole(u8, Sort, bool, Box<Pattern>),
+    /// Any branches.
+    Dots(Box<Pattern>),
+    /// One of two rows.
+    Either(Box<Pattern>, Box<Pattern>),
+}
+
+/// What a hole may stand for.
+#[derive(Clone, Copy)]
+pub enum Sort {
+    Any,
+    Name,
+    Number,
+    Character,
+    /// A number or a character.
+    Constant,
+    Text,
+}
+
+/// A rule: where one of its patterns fits, and its condition holds.
+#[derive(Drop)]
+pub struct Rule {
+    /// Its number in its file, from 0.
+    pub number: usize,
+    pub patterns: Vec<Pattern>,
+    pub condition: Condition,
+    /// Whether a part in parentheses is no other than one without: else parentheses fit parentheses alone.
+    pub is_loose: bool,
+    /// Whether its condition looks at more than what was found, so that it isn't asked in a very long function.
+    pub looks_around: bool,
+}
