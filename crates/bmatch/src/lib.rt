@@ -1,12 +1,17 @@
 //! Rules over the tree of a source: patterns of B with holes, and at which tokens they fit.
 #![tactic(auto)]
 
+mod binds;
 mod conditions;
+mod fits;
 mod growing;
 mod pattern;
+mod same;
 mod tree;
 
+pub use binds::Binds;
 pub use conditions::{Condition, Relation, Scope, Test};
+pub use fits::{Sight, Span};
 pub use growing::grown;
-pub use pattern::{MOST_HOLES, Pattern, ROOT, Rule, Sort};
+pub use pattern::{Leaf, MOST_HOLES, Pattern, ROOT, Rule, Sort};
 pub use tree::{Branch, Kind, TokenPlace, Tree, branch_at, lexeme_at};

@@ -17,16 +17,23 @@ pub enum Pattern {
     Done,
     /// A branch of this kind, whose parts fit these.
     Tree(Kind, bool, Box<Pattern>, Box<Pattern>),
-    /// This name.
-    Name(Name, bool, Box<Pattern>),
-    /// A number or a character of this value.
-    Value(u16, bool, Box<Pattern>),
-    /// Any branch of a sort. What a hole stands for is the same wherever it comes.
-    Hole(u8, Sort, bool, Box<Pattern>),
+    /// A branch that is this.
+    Leaf(Leaf, bool, Box<Pattern>),
     /// Any branches.
     Dots(Box<Pattern>),
     /// One of two rows.
     Either(Box<Pattern>, Box<Pattern>),
+}
+
+/// A pattern without parts.
+#[derive(Clone, Copy)]
+pub enum Leaf {
+    /// This name.
+    Name(Name),
+    /// A number or a character of this value.
+    Value(u16),
+    /// Any branch of a sort. What a hole stands for is the same wherever it comes.
+    Hole(u8, Sort),
 }
 
 /// What a hole may stand for.

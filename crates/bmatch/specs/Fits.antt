@@ -1,0 +1,131 @@
+-- Promise: how a row of patterns fits a row of branches, and what holes stand for then.
+use Rattle.std.specs.Prelude.{ℕ, zero, suc, ◌+◌, ◌-◌, ◌==◌, ◌&&◌, Bool, true, false, not, if◌then◌else◌, nat_lt, List}
+use Rattle.std.specs.Prelude.{[], ◌∷◌, ◌++◌, Option, None, Some}
+use Rattle.std.specs.List.{flat_map}
+use Rattle.blex.specs.declared.lexeme.Lexeme.{Lexeme}
+use Rattle.blex.specs.declared.lexeme.Lexeme.TheVariants as lexeme
+use Rattle.btree.specs.declared.nodes.Node.TheVariants as node
+use Rattle.bmatch.specs.declared.binds.Binds.{Binds}
+use Rattle.bmatch.specs.declared.fits.Left.{Left}
+use Rattle.bmatch.specs.declared.fits.Left.TheVariants as left_is
+use Rattle.bmatch.specs.declared.fits.Sight.{Sight}
+use Rattle.bmatch.specs.declared.fits.Span.{Span}
+use Rattle.bmatch.specs.declared.fits.TheConstants.{MOST_PASSED}
+use Rattle.bmatch.specs.declared.pattern.Leaf.{Leaf}
+use Rattle.bmatch.specs.declared.pattern.Leaf.TheVariants as leaf
+use Rattle.bmatch.specs.declared.pattern.Pattern.{Pattern}
+use Rattle.bmatch.specs.declared.pattern.Pattern.TheVariants as pattern
+use Rattle.bmatch.specs.declared.pattern.Sort.{Sort}
+use Rattle.bmatch.specs.declared.pattern.Sort.TheVariants as sort
+use Rattle.bmatch.specs.declared.tree.Branch.{Branch}
+use Rattle.bmatch.specs.declared.tree.Kind.{Kind}
+use Rattle.bmatch.specs.declared.tree.Kind.TheVariants as kind
+use Rattle.bmatch.specs.declared.tree.Tree.{Tree}
+use Rattle.bmatch.specs.Binds.{hole_of, with_hole, with_told}
+use Rattle.bmatch.specs.Same.{is_same, is_same_lexeme}
+use Rattle.bmatch.specs.Trees.{branch_at, kind_number, lexeme_at}
+
+-- where the branch begins that is right before this one
+abbrev pub start_of : List Branch → (end : ℕ) → ℕ
+start_of rows end = (branch_at rows (end - 1)).begin
+
+-- the last branch of a row that ends here, or what stands in its parentheses
+abbrev pub seen_at : Sight → (is_grouped : Bool) → (end : ℕ) → ℕ
+seen_at s is_grouped end =
+    if s.is_loose && not is_grouped then (branch_at s.tree.rows.now (end - 1)).core else end - 1
+
+abbrev pub is_grouped : Kind → Bool
+is_grouped (kind.Node node.Grouped) = true
+is_grouped _ = false
+
+abbrev pub is_name : Kind → Bool
+is_name (kind.Node node.Name) = true
+is_name _ = false
+
+abbrev pub is_constant : Kind → Bool
+is_constant (kind.Node node.Constant) = true
+is_constant _ = false
+
+abbrev pub is_text : Kind → Bool
+is_text (kind.Node node.Text) = true
+is_text _ = false
+
+abbrev pub is_number : Lexeme → Bool
+is_number (lexeme.Number n) = true
+is_number _ = false
+
+abbrev pub is_name_of : Tree → Branch → (name : List ℕ) → Bool
+is_name_of tree b name =
+    if is_name b.kind then is_same_lexeme (lexeme_at tree.lexemes.now b.token) (lexeme.Name name) else false
+
+abbrev pub is_value_of : Tree → Branch → (value : ℕ) → Bool
+is_value_of tree b value =
+    if is_constant b.kind then is_same_lexeme (lexeme_at tree.lexemes.now b.token) (lexeme.Number value) else false
+
+abbrev pub is_sort : Tree → Branch → Sort → Bool
+is_sort tree b sort.Any = true
+is_sort tree b sort.Name = is_name b.kind
+is_sort tree b sort.Text = is_text b.kind
+is_sort tree b sort.Constant = is_constant b.kind
+is_sort tree b sort.Number = is_constant b.kind && is_number (lexeme_at tree.lexemes.now b.token)
+is_sort tree b sort.Character = is_constant b.kind && not (is_number (lexeme_at tree.lexemes.now b.token))
+
+abbrev pub with_same_as : (bound : Option ℕ) → Tree → Binds → (hole index : ℕ) → Option Binds
+with_same_as None tree b hole index = Some (with_hole b hole index)
+with_same_as (Some other) tree b hole index = if is_same tree other index then Some b else None
+
+-- A hole stands for one branch, and where it comes again for one that is the same tree.
+abbrev pub with_same : Tree → Binds → (hole index : ℕ) → Option Binds
+with_same tree b hole index = with_same_as (hole_of b hole) tree b hole index
+
+-- where a row may end, if its last branches are left out, up to so many
+abbrev pub ends_of : List Branch → (most : ℕ) → (begin end : ℕ) → List ℕ
+ends_of rows zero begin end = []
+ends_of rows (suc n) begin end = end ∷ (if nat_lt begin end then ends_of rows n begin (start_of rows end) else [])
+
+abbrev pub span_of : (begin end : ℕ) → Span
+span_of begin end = record { begin = begin; end = end }
+
+-- the branches in the last one of a row, if it is of this kind
+abbrev pub inner_of : Sight → Kind → (begin end : ℕ) → Option Span
+inner_of s k begin end =
+    let index = seen_at s (is_grouped k) end in
+    let branch = branch_at s.tree.rows.now index in
+    if nat_lt begin end && kind_number k == kind_number branch.kind then Some (span_of branch.begin index) else None
+
+abbrev pub leaf_binds : Tree → Leaf → (index : ℕ) → Binds → Option Binds
+leaf_binds tree (leaf.Name x) index b = if is_name_of tree (branch_at tree.rows.now index) x then Some b else None
+leaf_binds tree (leaf.Value n) index b = if is_value_of tree (branch_at tree.rows.now index) n then Some b else None
+leaf_binds tree (leaf.Hole hole sort) index b =
+    if is_sort tree (branch_at tree.rows.now index) sort then with_same tree b hole index else None
+
+-- what holes stand for where the last branch of a row is this
+abbrev pub with_leaf : Sight → Leaf → (told : Bool) → (begin end : ℕ) → Binds → Option Binds
+with_leaf s l told begin end b =
+    let index = seen_at s false end in
+    if nat_lt begin end
+    then leaf_binds s.tree l index (with_told b told (branch_at s.tree.rows.now index).first) else None
+
+abbrev pub go_in : {A : Type 0} → Option A → (A → List Binds) → List Binds
+go_in None go = []
+go_in (Some x) go = go x
+
+-- What holes stand for, in each way in which a row of patterns fits the branches from one number up to another, and
+-- what has to fit then goes on.
+abbrev pub fits_in : Sight → Pattern → (begin end : ℕ) → (Binds → List Binds) → Binds → List Binds
+fits_in s pattern.Done begin end go b = if nat_lt begin end then [] else go b
+fits_in s (pattern.Tree' k told p parts q rest) begin end go b =
+    go_in (inner_of s k begin end) (λ inner.
+    fits_in s parts inner.begin inner.end (fits_in s rest begin (start_of s.tree.rows.now end) go)
+    (with_told b told (branch_at s.tree.rows.now inner.end).token))
+fits_in s (pattern.Leaf' l told p rest) begin end go b =
+    go_in (with_leaf s l told begin end b) (fits_in s rest begin (start_of s.tree.rows.now end) go)
+fits_in s (pattern.Dots' p rest) begin end go b =
+    flat_map (λ e. fits_in s rest begin e go b) (ends_of s.tree.rows.now MOST_PASSED begin end)
+fits_in s (pattern.Either' p one q other) begin end go b =
+    fits_in s one begin end go b ++ fits_in s other begin end go b
+
+-- what has to fit after a row; where nothing has to, there is a way
+abbrev pub left_of : Sight → Left → Binds → List Binds
+left_of s left_is.Nothing b = b ∷ []
+left_of s (left_is.Row' wanted span p after) b = fits_in s wanted.now span.begin span.end (left_of s after) b

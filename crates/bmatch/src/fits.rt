@@ -1,0 +1,276 @@
+//! Whether a row of patterns fits a row of branches.
+ghost use Rattle.std.specs.List.{flat_map};
+ghost use Rattle.std.specs.Prelude.{◌≡◌, ◌++◌, IfOk};
+ghost use Rattle.bmatch.specs.Fits.{ends_of, fits_in, inner_of, is_grouped, is_name_of, is_number, is_sort};
+ghost use Rattle.bmatch.specs.Fits.{is_value_of, leaf_binds, left_of, seen_at, start_of, with_leaf, with_same};
+ghost use Rattle.bmatch.specs.Trees.{branch_at};
+
+use crate::binds::Binds;
+use crate::pattern::{Leaf, Pattern, Sort};
+use crate::same::{is_same, is_same_lexeme};
+use crate::tree::{Branch, Kind, Tree, branch_at, kind_number, lexeme_at};
+use blex::Lexeme;
+use btree::Node;
+use bword::Name;
+use std::alloc::{AllocError, Global};
+
+/// The branches from one number up to another.
+#[derive(Clone, Copy)]
+pub struct Span {
+    pub begin: usize,
+    pub end: usize,
+}
+
+/// What has to fit after a row.
+#[derive(Clone, Copy)]
+pub(crate) enum Left<'a> {
+    Nothing,
+    Row(&'a Pattern, Span, &'a Left<'a>),
+}
+
+/// A tree, and whether a part in parentheses is no other than one without.
+#[derive(Clone, Copy)]
+pub struct Sight<'a> {
+    pub tree: Tree<'a>,
+    pub is_loose: bool,
+}
+
+/// Over how many branches of a row `...` goes, at most.
+pub(crate) const MOST_PASSED: usize = 1_000;
+
+/// Adds to those found what holes stand for in each way in which a row of patterns fits a row of branches, with what is
+/// left after it.
+#[cycle(fits)]
+pub(crate) fn fits<'a>(
+    sight: &Sight<'_>,
+    pattern: &'a Pattern,
+    span: Span,
+    left: &Left<'a>,
+    binds: Binds,
+    found: &mut Vec<Binds>,
+) -> Result<(), AllocError>
+    ensures { IfOk result (λ done. found.new.items
+        ≡ found.old.items ++ fits_in sight.now pattern.now span.begin span.end (left_of sight.now left.now) binds) }
+{
+    match pattern {
+        Pattern::Done => {
+            if span.begin < span.end {
+                return Ok(());
+            }
+            match left {
+                Left::Nothing => {
+                    found.push(binds)?;
+                    Ok(())
+                }
+                Left::Row(next, next_span, after) => {
+                    fits(sight, &**next, *next_span, &**after, binds, found)
+                }
+            }
+        }
+        Pattern::Tree(kind, is_told, parts, rest) => match inner(sight, *kind, span) {
+            Some(inner) => {
+                let row = Left::Row(&**rest, before(sight, span), &*left);
+                let binds = binds.telling(*is_told, token_at(sight, inner.end));
+                fits(sight, &**parts, inner, &row, binds, found)
+            }
+            None => Ok(()),
+        },
+        Pattern::Leaf(leaf, is_told, rest) => match with_leaf(sight, *leaf, *is_told, span, binds) {
+            Some(binds) => fits(sight, &**rest, before(sight, span), &*left, binds, found),
+            None => Ok(()),
+        },
+        Pattern::Dots(rest) => passes(sight, &**rest, span, &*left, binds, found),
+        Pattern::Either(one, other) => {
+            fits(sight, &**one, span, &*left, binds, found)?;
+            fits(sight, &**other, span, &*left, binds, found)
+        }
+    }
+}
+
+// The branches in the last one of a row, if it is of this kind.
+fn inner(sight: &Sight<'_>, kind: Kind, span: Span) -> Option<Span>
+    ensures { result ≡ inner_of sight.now kind span.begin span.end }
+{
+    let index = seen_at(sight, is_grouped(kind), span.end);
+    let branch = branch_at(sight.tree.rows, index);
+    if span.begin < span.end && kind_number(kind) == kind_number(branch.kind) {
+        Some(Span {
+            begin: branch.begin,
+            end: index,
+        })
+    } else {
+        None
+    }
+}
+
+fn token_at(sight: &Sight<'_>, index: usize) -> usize
+    ensures { result ≡ (branch_at sight.now.tree.rows.now index).token }
+{
+    branch_at(sight.tree.rows, index).token
+}
+
+// What holes stand for where the last branch of a row is this.
+fn with_leaf(
+    sight: &Sight<'_>,
+    leaf: Leaf,
+    is_told: bool,
+    span: Span,
+    binds: Binds,
+) -> Option<Binds>
+    ensures { result ≡ with_leaf sight.now leaf is_told span.begin span.end binds }
+{
+    let index = seen_at(sight, false, span.end);
+    if span.begin < span.end {
+        leaf_binds(
+            &sight.tree,
+            leaf,
+            index,
+            binds.telling(is_told, branch_at(sight.tree.rows, index).first),
+        )
+    } else {
+        None
+    }
+}
+
+fn leaf_binds(tree: &Tree<'_>, leaf: Leaf, index: usize, binds: Binds) -> Option<Binds>
+    ensures { result ≡ leaf_binds tree.now leaf index binds }
+{
+    let branch = branch_at(tree.rows, index);
+    match leaf {
+        Leaf::Name(name) if is_name_of(tree, branch, name) => Some(binds),
+        Leaf::Value(value) if is_value_of(tree, branch, value) => Some(binds),
+        Leaf::Hole(hole, sort) if is_sort(tree, branch, sort) => with_same(
+            tree, binds, hole, index,
+        ),
+        _ => None,
+    }
+}
+
+// The same for a row before any branches.
+#[cycle(fits)]
+fn passes<'a>(
+    sight: &Sight<'_>,
+    rest: &'a Pattern,
+    span: Span,
+    left: &Left<'a>,
+    binds: Binds,
+    found: &mut Vec<Binds>,
+) -> Result<(), AllocError>
+    ensures { IfOk result (λ done. found.new.items
+        ≡ found.old.items ++ flat_map (λ end. fits_in sight.now rest.now span.begin end (left_of sight.now left.now) binds)
+        (ends_of sight.now.tree.rows.now MOST_PASSED span.begin span.end)) }
+{
+    let mut end = span.end;
+    for _ in 0..MOST_PASSED {
+        let here = Span {
+            begin: span.begin,
+            end,
+        };
+        fits(sight, rest, here, &*left, binds, found)?;
+        if end <= span.begin {
+            return Ok(());
+        }
+        end = start_of(sight.tree.rows, end);
+    }
+    Ok(())
+}
+
+// Where the branch begins that is right before this one.
+fn start_of(rows: &[Branch], end: usize) -> usize
+    ensures { result ≡ start_of rows.now end }
+{
+    branch_at(rows, end.saturating_sub(1)).begin
+}
+
+// What is left of a row before its last branch.
+fn before(sight: &Sight<'_>, span: Span) -> Span
+    ensures begin { result.begin ≡ span.begin }
+    ensures end { result.end ≡ start_of sight.now.tree.rows.now span.end }
+{
+    Span {
+        begin: span.begin,
+        end: start_of(sight.tree.rows, span.end),
+    }
+}
+
+// The last branch of a row that ends here, or what stands in its parentheses.
+fn seen_at(sight: &Sight<'_>, is_grouped: bool, end: usize) -> usize
+    ensures { result ≡ seen_at sight.now is_grouped end }
+{
+    let index = end.saturating_sub(1);
+    if sight.is_loose && !is_grouped {
+        branch_at(sight.tree.rows, index).core
+    } else {
+        index
+    }
+}
+
+fn is_grouped(kind: Kind) -> bool
+    ensures { result ≡ is_grouped kind }
+{
+    matches!(kind, Kind::Node(Node::Grouped))
+}
+
+fn is_name_of(tree: &Tree<'_>, branch: Branch, name: Name) -> bool
+    ensures { result ≡ is_name_of tree.now branch name }
+{
+    match branch.kind {
+        Kind::Node(Node::Name) => {
+            is_same_lexeme(&lexeme_at(tree.lexemes, branch.token), &Lexeme::Name(name))
+        }
+        _ => false,
+    }
+}
+
+fn is_value_of(tree: &Tree<'_>, branch: Branch, value: u16) -> bool
+    ensures { result ≡ is_value_of tree.now branch value }
+{
+    match branch.kind {
+        Kind::Node(Node::Constant) => is_same_lexeme(
+            &lexeme_at(tree.lexemes, branch.token),
+            &Lexeme::Number(value),
+        ),
+        _ => false,
+    }
+}
+
+fn is_sort(tree: &Tree<'_>, branch: Branch, sort: Sort) -> bool
+    ensures { result ≡ is_sort tree.now branch sort }
+{
+    match sort {
+        Sort::Any => true,
+        Sort::Name => matches!(branch.kind, Kind::Node(Node::Name)),
+        Sort::Text => matches!(branch.kind, Kind::Node(Node::Text)),
+        Sort::Constant => matches!(branch.kind, Kind::Node(Node::Constant)),
+        Sort::Number => {
+            matches!(branch.kind, Kind::Node(Node::Constant))
+                && is_number(&lexeme_at(tree.lexemes, branch.token))
+        }
+        Sort::Character => {
+            matches!(branch.kind, Kind::Node(Node::Constant))
+                && !is_number(&lexeme_at(tree.lexemes, branch.token))
+        }
+    }
+}
+
+fn is_number(lexeme: &Lexeme) -> bool
+    ensures { result ≡ is_number lexeme.now }
+{
+    matches!(*lexeme, Lexeme::Number(_))
+}
+
+// A hole stands for one branch, and where it comes again for one that is the same tree.
+fn with_same(tree: &Tree<'_>, binds: Binds, hole: u8, index: usize) -> Option<Binds>
+    ensures { result ≡ with_same tree.now binds hole index }
+{
+    match binds.of(hole) {
+        None => Some(binds.with(hole, index)),
+        Some(other) => {
+            if is_same(tree, other, index) {
+                Some(binds)
+            } else {
+                None
+            }
+        }
+    }
+}
