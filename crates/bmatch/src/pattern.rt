@@ -1,6 +1,7 @@
 //! Patterns of B with holes, and rules of them.
 use crate::conditions::Condition;
 use crate::tree::Kind;
+use blex::Lexeme;
 use bword::Name;
 
 /// How many holes a rule may have, with the one for what the whole pattern stands for.
@@ -19,6 +20,8 @@ pub enum Pattern {
     Tree(Kind, bool, Box<Pattern>, Box<Pattern>),
     /// This name.
     Name(Name, bool, Box<Pattern>),
+    /// A statement of one word: this token and a `;`, or this `;`.
+    Word(Lexeme, bool, Box<Pattern>),
     /// A number or a character of this value.
     Value(u16, bool, Box<Pattern>),
     /// Any branch of a sort. What a hole stands for is the same wherever it comes.
