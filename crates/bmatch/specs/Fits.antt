@@ -4,7 +4,9 @@ use Rattle.std.specs.Prelude.{[], ◌∷◌, ◌++◌, Option, None, Some}
 use Rattle.std.specs.List.{flat_map}
 use Rattle.blex.specs.declared.lexeme.Lexeme.{Lexeme}
 use Rattle.blex.specs.declared.lexeme.Lexeme.TheVariants as lexeme
+use Rattle.blang.specs.declared.token.Keyword.TheVariants as keyword
 use Rattle.btree.specs.declared.nodes.Node.TheVariants as node
+use Rattle.btree.specs.declared.tags.Construct.TheVariants as construct
 use Rattle.bmatch.specs.declared.binds.Binds.{Binds}
 use Rattle.bmatch.specs.declared.fits.Left.{Left}
 use Rattle.bmatch.specs.declared.fits.Left.TheVariants as left_is
@@ -17,6 +19,8 @@ use Rattle.bmatch.specs.declared.pattern.Pattern.{Pattern}
 use Rattle.bmatch.specs.declared.pattern.Pattern.TheVariants as pattern
 use Rattle.bmatch.specs.declared.pattern.Sort.{Sort}
 use Rattle.bmatch.specs.declared.pattern.Sort.TheVariants as sort
+use Rattle.bmatch.specs.declared.pattern.Word.{Word}
+use Rattle.bmatch.specs.declared.pattern.Word.TheVariants as word
 use Rattle.bmatch.specs.declared.tree.Branch.{Branch}
 use Rattle.bmatch.specs.declared.tree.Kind.{Kind}
 use Rattle.bmatch.specs.declared.tree.Kind.TheVariants as kind
@@ -79,7 +83,7 @@ abbrev pub with_same : Tree → Binds → (hole index : ℕ) → Option Binds
 with_same tree b hole index = with_same_as (hole_of b hole) tree b hole index
 
 -- where a row may end, if its last branches are left out, up to so many
-abbrev pub ends_of : List Branch → (most : ℕ) → (begin end : ℕ) → List ℕ
+unfoldable pub ends_of : List Branch → (most : ℕ) → (begin end : ℕ) → List ℕ
 ends_of rows zero begin end = []
 ends_of rows (suc n) begin end = end ∷ (if nat_lt begin end then ends_of rows n begin (start_of rows end) else [])
 
@@ -93,9 +97,26 @@ inner_of s k begin end =
     let branch = branch_at s.tree.rows.now index in
     if nat_lt begin end && kind_number k == kind_number branch.kind then Some (span_of branch.begin index) else None
 
+abbrev pub is_plain : Kind → Bool
+is_plain (kind.Construct construct.Plain) = true
+is_plain _ = false
+
+abbrev pub is_word : Word → Lexeme → Bool
+is_word word.Nothing lexeme.Semicolon = true
+is_word word.Return (lexeme.Keyword keyword.Return) = true
+is_word word.Break (lexeme.Keyword keyword.Break) = true
+is_word w l = false
+
+-- the branch is a statement that is this word and a ;
+abbrev pub is_word_alone : Tree → (index : ℕ) → Word → Bool
+is_word_alone tree index w =
+    let b = branch_at tree.rows.now index in
+    is_plain b.kind && (b.begin == index && is_word w (lexeme_at tree.lexemes.now b.token))
+
 abbrev pub leaf_binds : Tree → Leaf → (index : ℕ) → Binds → Option Binds
 leaf_binds tree (leaf.Name x) index b = if is_name_of tree (branch_at tree.rows.now index) x then Some b else None
 leaf_binds tree (leaf.Value n) index b = if is_value_of tree (branch_at tree.rows.now index) n then Some b else None
+leaf_binds tree (leaf.Word w) index b = if is_word_alone tree index w then Some b else None
 leaf_binds tree (leaf.Hole hole sort) index b =
     if is_sort tree (branch_at tree.rows.now index) sort then with_same tree b hole index else None
 

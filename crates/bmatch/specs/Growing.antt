@@ -40,14 +40,40 @@ growth_of it =
 abbrev pub with_row : Branch → Growth → Growth
 with_row b g = record g { rows = g.rows ++ b ∷ [] }
 
+-- in how many loops and switches what comes now is
+abbrev pub loops_in : List Open → ℕ
+loops_in [] = 0
+loops_in (o ∷ opens) = o.loops
+
+abbrev pub loops_with : Construct → (around : ℕ) → ℕ
+loops_with construct.While around = if nat_lt around 65535 then around + 1 else around
+loops_with construct.Switch around = if nat_lt around 65535 then around + 1 else around
+loops_with _ around = around
+
 abbrev pub with_open : Construct → (token : ℕ) → Growth → Growth
 with_open c token g =
-    record g { opens = record { construct = c; token = token; begin = length g.rows } ∷ g.opens }
+    record g {
+      opens = record {
+        construct = c;
+        token = token;
+        begin = length g.rows;
+        loops = loops_with c (loops_in g.opens);
+      } ∷ g.opens;
+    }
 
 -- a branch that is one token, after so many branches
-abbrev pub leaf : Node → (token index : ℕ) → Branch
-leaf n token index =
-    record { kind = kind.Node n; token = token; first = token; last = token; begin = index; core = index; acts = false }
+abbrev pub leaf : Node → (token index loops : ℕ) → Branch
+leaf n token index loops =
+    record {
+      kind = kind.Node n;
+      token = token;
+      first = token;
+      last = token;
+      begin = index;
+      core = index;
+      acts = false;
+      loops = loops;
+    }
 
 abbrev pub parts_of : Node → Parts
 parts_of node.Name = parts.None
@@ -87,8 +113,8 @@ acts_by node.PreIncrement = true
 acts_by node.PreDecrement = true
 acts_by _ = false
 
-abbrev pub one_part : Node → (last index : ℕ) → (right : Branch) → Branch
-one_part n last index right =
+abbrev pub one_part : Node → (last index loops : ℕ) → (right : Branch) → Branch
+one_part n last index loops right =
     record {
       kind = kind.Node n;
       token = token_of n right.first last;
@@ -97,10 +123,11 @@ one_part n last index right =
       begin = right.begin;
       core = core_of n right.core index;
       acts = acts_by n || right.acts;
+      loops = loops;
     }
 
-abbrev pub two_parts : Node → (last index : ℕ) → (left right : Branch) → Branch
-two_parts n last index left right =
+abbrev pub two_parts : Node → (last index loops : ℕ) → (left right : Branch) → Branch
+two_parts n last index loops left right =
     record {
       kind = kind.Node n;
       token = right.first - 1;
@@ -109,10 +136,11 @@ two_parts n last index left right =
       begin = left.begin;
       core = index;
       acts = acts_by n || (left.acts || right.acts);
+      loops = loops;
     }
 
-abbrev pub three_parts : Node → (last index : ℕ) → (left middle right : Branch) → Branch
-three_parts n last index left middle right =
+abbrev pub three_parts : Node → (last index loops : ℕ) → (left middle right : Branch) → Branch
+three_parts n last index loops left middle right =
     record {
       kind = kind.Node n;
       token = middle.first - 1;
@@ -121,23 +149,24 @@ three_parts n last index left middle right =
       begin = left.begin;
       core = index;
       acts = left.acts || (middle.acts || right.acts);
+      loops = loops;
     }
 
-abbrev pub by_parts : Parts → Node → (last index : ℕ) → (left middle right : Branch) → Branch
-by_parts parts.None n last index left middle right = leaf n last index
-by_parts parts.One n last index left middle right = one_part n last index right
-by_parts parts.Two n last index left middle right = two_parts n last index middle right
-by_parts parts.Three n last index left middle right = three_parts n last index left middle right
+abbrev pub by_parts : Parts → Node → (last index loops : ℕ) → (left middle right : Branch) → Branch
+by_parts parts.None n last index loops left middle right = leaf n last index loops
+by_parts parts.One n last index loops left middle right = one_part n last index loops right
+by_parts parts.Two n last index loops left middle right = two_parts n last index loops middle right
+by_parts parts.Three n last index loops left middle right = three_parts n last index loops left middle right
 
 -- a node whose parts are the last of these branches, after so many tokens
-abbrev pub branch_of : Node → (place : ℕ) → List Branch → Branch
-branch_of n place rows =
+abbrev pub branch_of : Node → (place : ℕ) → List Branch → (loops : ℕ) → Branch
+branch_of n place rows loops =
     let right = branch_at rows (length rows - 1) in
     let middle = branch_at rows (right.begin - 1) in
-    by_parts (parts_of n) n (place - 1) (length rows) (branch_at rows (middle.begin - 1)) middle right
+    by_parts (parts_of n) n (place - 1) (length rows) loops (branch_at rows (middle.begin - 1)) middle right
 
-abbrev pub call_branch : Open → (place : ℕ) → List Branch → Branch
-call_branch o place rows =
+abbrev pub call_branch : Open → (place loops : ℕ) → List Branch → Branch
+call_branch o place loops rows =
     let callee = branch_at rows (o.begin - 1) in
     record {
       kind = kind.Node node.Called;
@@ -147,12 +176,13 @@ call_branch o place rows =
       begin = callee.begin;
       core = length rows;
       acts = true;
+      loops = loops;
     }
 
 -- The arguments of a call stand after what is called, and after those of which there are none yet.
 abbrev pub called_by : List Open → Growth → Growth
 called_by [] g = g
-called_by (o ∷ opens) g = with_row (call_branch o g.place g.rows) (record g { opens = opens })
+called_by (o ∷ opens) g = with_row (call_branch o g.place (loops_in opens) g.rows) (record g { opens = opens })
 
 abbrev pub called : Growth → Growth
 called g = called_by g.opens g
@@ -160,12 +190,13 @@ called g = called_by g.opens g
 abbrev pub made : Node → Growth → Growth
 made node.Argument g = g
 made node.NoArguments g =
-    with_row (leaf node.NoArguments (g.place - 1) (length g.rows)) (with_open construct.Parens (g.place - 1) g)
+    with_row (leaf node.NoArguments (g.place - 1) (length g.rows) (loops_in g.opens))
+    (with_open construct.Parens (g.place - 1) g)
 made node.Called g = called g
-made n g = with_row (branch_of n g.place g.rows) g
+made n g = with_row (branch_of n g.place g.rows (loops_in g.opens)) g
 
-abbrev pub construct_branch : Open → (place index : ℕ) → Branch
-construct_branch o place index =
+abbrev pub construct_branch : Open → (place index loops : ℕ) → Branch
+construct_branch o place index loops =
     record {
       kind = kind.Construct o.construct;
       token = o.token;
@@ -174,11 +205,12 @@ construct_branch o place index =
       begin = o.begin;
       core = index;
       acts = false;
+      loops = loops;
     }
 
 abbrev pub closed_by : List Open → Growth → Growth
 closed_by [] g = g
-closed_by (o ∷ opens) g = with_row (construct_branch o g.place (length g.rows)) (record g { opens = opens })
+closed_by (o ∷ opens) g = with_row (construct_branch o g.place (length g.rows) (loops_in opens)) (record g { opens = opens })
 
 -- the innermost construct is over
 abbrev pub closed : Growth → Growth
@@ -204,7 +236,7 @@ leaf_node _ = None
 
 abbrev pub with_leaf : Option Node → (token : ℕ) → Growth → Growth
 with_leaf None token g = g
-with_leaf (Some n) token g = with_row (leaf n token (length g.rows)) g
+with_leaf (Some n) token g = with_row (leaf n token (length g.rows) (loops_in g.opens)) g
 
 -- A token was passed. A name or a constant of a heading is a branch.
 abbrev pub passed : List Lexeme → Growth → Growth

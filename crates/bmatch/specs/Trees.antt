@@ -15,7 +15,16 @@ lexeme_at lexemes token = unwrap_or (slice_get lexemes token) lexeme.End
 
 abbrev pub no_branch : Branch
 no_branch =
-    record { kind = kind.Node node.NoArguments; token = 0; first = 0; last = 0; begin = 0; core = 0; acts = false }
+    record {
+      kind = kind.Node node.NoArguments;
+      token = 0;
+      first = 0;
+      last = 0;
+      begin = 0;
+      core = 0;
+      acts = false;
+      loops = 0;
+    }
 
 abbrev pub branch_at : List Branch → (index : ℕ) → Branch
 branch_at rows index = unwrap_or (slice_get rows index) no_branch

@@ -35,6 +35,8 @@ pub enum Scope {
     Loop,
     /// In what a hole stands for.
     Hole(u8),
+    /// In what a hole stands for, but not in a loop or a `switch` that is in it.
+    Own(u8),
 }
 
 #[derive(Clone, Copy)]

@@ -2,8 +2,8 @@
 ghost use Rattle.std.specs.Prelude.{◌≡◌, ◌+◌, ◌<◌, ◌≤◌, ◌^◌, ◌∷◌, [], IfOk, MatchOption, map};
 ghost use Rattle.btree.specs.Machine.{sort_of_lexeme};
 ghost use Rattle.bmatch.specs.Growing.{AreRows, acts_by, branch_of, called, closed, core_of, growth_of, is_in_heading, leaf};
-ghost use Rattle.bmatch.specs.Growing.{leaf_node, made, parts_of, passed, rows_by, step, token_of};
-ghost use Rattle.bmatch.specs.Growing.{tokens_before, with_row};
+ghost use Rattle.bmatch.specs.Growing.{leaf_node, loops_in, loops_with, made, parts_of, passed, rows_by, step, token_of};
+ghost use Rattle.bmatch.specs.Growing.{tokens_before, with_open, with_row};
 
 use crate::tree::{Branch, Kind, branch_at, lexeme_at};
 use blex::Lexeme;
@@ -90,11 +90,7 @@ impl Growing {
         };
         self.tagged += 1;
         match *tag {
-            Tag::Begins(construct) => self.opens.push(Open {
-                construct,
-                token: self.place,
-                begin: self.rows.len(),
-            }),
+            Tag::Begins(construct) => self.open(construct, self.place),
             Tag::Ends => self.close(),
             Tag::Token => {
                 if self.made < nodes.len() {
@@ -112,17 +108,15 @@ impl Growing {
         match node {
             Node::Argument => Ok(()),
             Node::NoArguments => {
-                let (token, begin) = (self.place.saturating_sub(1), self.rows.len());
-                self.opens.push(Open {
-                    construct: Construct::Parens,
-                    token,
-                    begin,
-                })?;
-                self.push(leaf(node, token, begin))
+                let (token, index) = (self.place.saturating_sub(1), self.rows.len());
+                self.open(Construct::Parens, token)?;
+                let loops = self.opens.loops();
+                self.push(leaf(node, token, index, loops))
             }
             Node::Called => self.call(),
             _ => {
-                let branch = branch_of(node, self.place, self.rows.as_slice());
+                let loops = self.opens.loops();
+                let branch = branch_of(node, self.place, self.rows.as_slice(), loops);
                 self.push(branch)
             }
         }
@@ -137,7 +131,7 @@ impl Growing {
             return Ok(());
         };
         let callee = branch_at(self.rows.as_slice(), open.begin.saturating_sub(1));
-        let core = self.rows.len();
+        let (core, loops) = (self.rows.len(), self.opens.loops());
         self.push(Branch {
             kind: Kind::Node(Node::Called),
             token: open.token,
@@ -146,6 +140,21 @@ impl Growing {
             begin: callee.begin,
             core,
             acts: true,
+            loops,
+        })
+    }
+
+    // A construct begins, or the parentheses of a call.
+    fn open(&mut self, construct: Construct, token: usize) -> Result<(), AllocError>
+        ensures grown { IfOk result (λ done. growth_of self.new ≡ with_open construct token (growth_of self.old)) }
+        ensures place { self.new.place ≡ self.old.place }
+    {
+        let (begin, around) = (self.rows.len(), self.opens.loops());
+        self.opens.push(Open {
+            construct,
+            token,
+            begin,
+            loops: loops_with(construct, around),
         })
     }
 
@@ -157,7 +166,7 @@ impl Growing {
         let Some(open) = self.opens.pop() else {
             return Ok(());
         };
-        let core = self.rows.len();
+        let (core, loops) = (self.rows.len(), self.opens.loops());
         self.push(Branch {
             kind: Kind::Construct(open.construct),
             token: open.token,
@@ -166,6 +175,7 @@ impl Growing {
             begin: open.begin,
             core,
             acts: false,
+            loops,
         })
     }
 
@@ -180,9 +190,9 @@ impl Growing {
         if !self.opens.is_in_heading() {
             return Ok(());
         }
-        let index = self.rows.len();
+        let (index, loops) = (self.rows.len(), self.opens.loops());
         match leaf_node(lexeme_at(lexemes, token)) {
-            Some(node) => self.push(leaf(node, token, index)),
+            Some(node) => self.push(leaf(node, token, index, loops)),
             None => Ok(()),
         }
     }
@@ -209,8 +219,8 @@ fn leaf_node(lexeme: Lexeme) -> Option<Node>
 }
 
 // A branch that is one token, after so many branches.
-fn leaf(node: Node, token: usize, index: usize) -> Branch
-    ensures { result ≡ leaf node token index }
+fn leaf(node: Node, token: usize, index: usize, loops: usize) -> Branch
+    ensures { result ≡ leaf node token index loops }
 {
     Branch {
         kind: Kind::Node(node),
@@ -220,12 +230,13 @@ fn leaf(node: Node, token: usize, index: usize) -> Branch
         begin: index,
         core: index,
         acts: false,
+        loops,
     }
 }
 
 // The branch of a node whose parts are the last of these, after so many tokens.
-fn branch_of(node: Node, place: usize, rows: &[Branch]) -> Branch
-    ensures { result ≡ branch_of node place rows.now }
+fn branch_of(node: Node, place: usize, rows: &[Branch], loops: usize) -> Branch
+    ensures { result ≡ branch_of node place rows.now loops }
 {
     let index = rows.len();
     let last = place.saturating_sub(1);
@@ -233,7 +244,7 @@ fn branch_of(node: Node, place: usize, rows: &[Branch]) -> Branch
     let middle = branch_at(rows, right.begin.saturating_sub(1));
     let left = branch_at(rows, middle.begin.saturating_sub(1));
     match parts_of(node) {
-        Parts::None => leaf(node, last, index),
+        Parts::None => leaf(node, last, index, loops),
         Parts::One => Branch {
             kind: Kind::Node(node),
             token: token_of(node, right.first, last),
@@ -242,6 +253,7 @@ fn branch_of(node: Node, place: usize, rows: &[Branch]) -> Branch
             begin: right.begin,
             core: core_of(node, right.core, index),
             acts: acts_by(node) || right.acts,
+            loops,
         },
         Parts::Two => Branch {
             kind: Kind::Node(node),
@@ -251,6 +263,7 @@ fn branch_of(node: Node, place: usize, rows: &[Branch]) -> Branch
             begin: middle.begin,
             core: index,
             acts: acts_by(node) || (middle.acts || right.acts),
+            loops,
         },
         Parts::Three => Branch {
             kind: Kind::Node(node),
@@ -260,6 +273,7 @@ fn branch_of(node: Node, place: usize, rows: &[Branch]) -> Branch
             begin: left.begin,
             core: index,
             acts: left.acts || (middle.acts || right.acts),
+            loops,
         },
     }
 }
@@ -327,6 +341,16 @@ fn acts_by(node: Node) -> bool
     )
 }
 
+// In how many loops and switches what stands in a construct is.
+fn loops_with(construct: Construct, around: usize) -> usize
+    ensures { result ≡ loops_with construct around }
+{
+    match construct {
+        Construct::While | Construct::Switch if around < 65_535 => around + 1,
+        _ => around,
+    }
+}
+
 /// A construct that isn't over yet, or the parentheses of a call.
 #[derive(Clone, Copy)]
 pub(crate) struct Open {
@@ -335,6 +359,8 @@ pub(crate) struct Open {
     pub token: usize,
     /// How many branches there were.
     pub begin: usize,
+    /// How many loops and switches what stands in it is in.
+    pub loops: usize,
 }
 
 /// What isn't over yet, the innermost on top.
@@ -374,12 +400,22 @@ impl Opens {
         self.all.pop()
     }
 
+    // In how many loops and switches what comes now is.
+    fn loops(&self) -> usize
+        ensures { result ≡ loops_in self.now }
+    {
+        match self.all.as_slice() {
+            [.., opened] => opened.loops,
+            [] => 0,
+        }
+    }
+
     // Whether the innermost is a heading, or a definition whose statements haven't begun.
     fn is_in_heading(&self) -> bool
         ensures { result ≡ is_in_heading self.now }
     {
         match self.all.as_slice() {
-            [.., open] => matches!(open.construct, Construct::Heading | Construct::Definition),
+            [.., opened] => matches!(opened.construct, Construct::Heading | Construct::Definition),
             [] => false,
         }
     }

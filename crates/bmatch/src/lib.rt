@@ -13,5 +13,5 @@ pub use binds::Binds;
 pub use conditions::{Condition, Relation, Scope, Test};
 pub use fits::{Sight, Span};
 pub use growing::grown;
-pub use pattern::{Leaf, MOST_HOLES, Pattern, ROOT, Rule, Sort};
+pub use pattern::{Leaf, MOST_HOLES, Pattern, ROOT, Rule, Sort, Word};
 pub use tree::{Branch, Kind, TokenPlace, Tree, branch_at, lexeme_at};

@@ -32,8 +32,19 @@ pub enum Leaf {
     Name(Name),
     /// A number or a character of this value.
     Value(u16),
+    /// A statement that is one word and a `;`.
+    Word(Word),
     /// Any branch of a sort. What a hole stands for is the same wherever it comes.
     Hole(u8, Sort),
+}
+
+/// The word of a statement that is no more.
+#[derive(Clone, Copy)]
+pub enum Word {
+    /// `;` alone.
+    Nothing,
+    Return,
+    Break,
 }
 
 /// What a hole may stand for.

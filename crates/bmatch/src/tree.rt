@@ -30,6 +30,8 @@ pub struct Branch {
     pub core: usize,
     /// Whether something is called or changed in it.
     pub acts: bool,
+    /// How many loops and switches are around it.
+    pub loops: usize,
 }
 
 /// Where a token or a comment stands.
@@ -72,6 +74,7 @@ pub fn branch_at(rows: &[Branch], index: usize) -> Branch
             begin: 0,
             core: 0,
             acts: false,
+            loops: 0,
         },
     }
 }

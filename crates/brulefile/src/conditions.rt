@@ -1,0 +1,260 @@
+//! Reading a condition.
+use crate::classes::part;
+use crate::cleaning::hole_number;
+use crate::cutting::cut;
+use crate::faults::{FaultReason, Stop};
+use crate::holes::Holes;
+use crate::patterns::read_pattern;
+use crate::text::{after_blanks, after_word, first_word, place_of};
+use bmatch::{Condition, Relation, Scope, Test};
+use std::alloc::Global;
+
+/// What reads conditions of a rule.
+#[derive(Drop)]
+pub(crate) struct Conditions<'a> {
+    pub alloc: Global,
+    pub holes: &'a mut Holes,
+    pub is_loose: bool,
+}
+
+impl<'a> Conditions<'a> {
+    /// The condition that a text is. It has so many words at most that join others.
+    pub(crate) fn read(&mut self, text: &[u8], fuel: usize) -> Result<Condition, Stop> {
+        if fuel == 0 {
+            return Err(Stop::Fault(FaultReason::TooDeep, text.len()));
+        }
+        if let Some((one, other)) = parted(text, b" or ") {
+            let one = self
+                .read(one, fuel - 1)
+                .map_err(|stop| moved(stop, other.len() + 4))?;
+            let other = self.read(other, fuel - 1)?;
+            return Ok(Condition::Either(Box::new(self.alloc, one)?, Box::new(self.alloc, other)?));
+        }
+        match first_word(text) {
+            b"not" => self.negated(after_word(text), fuel - 1),
+            b"some" => self.sought(after_word(text), fuel - 1),
+            b"no" => {
+                let sought = self.sought(after_word(text), fuel - 1)?;
+                Ok(Condition::Not(Box::new(self.alloc, sought)?))
+            }
+            [b'$', ..] => self.of_hole(text),
+            _ => Ok(Condition::Test(self.test(text)?)),
+        }
+    }
+
+    fn negated(&mut self, text: &[u8], fuel: usize) -> Result<Condition, Stop> {
+        let inner = self.read(text, fuel)?;
+        Ok(Condition::Not(Box::new(self.alloc, inner)?))
+    }
+
+    // A pattern, where it is sought, and what else holds there.
+    fn sought(&mut self, text: &[u8], fuel: usize) -> Result<Condition, Stop> {
+        match parted(text, b" but ") {
+            None => self.in_scope(text),
+            Some((head, tail)) => {
+                let found = self
+                    .in_scope(head)
+                    .map_err(|stop| moved(stop, tail.len() + 5))?;
+                let holds = self.all_of(tail, fuel)?;
+                Ok(Condition::Both(Box::new(self.alloc, found)?, Box::new(self.alloc, holds)?))
+            }
+        }
+    }
+
+    // Conditions with `but` between them, which all hold.
+    fn all_of(&mut self, text: &[u8], fuel: usize) -> Result<Condition, Stop> {
+        if fuel == 0 {
+            return Err(Stop::Fault(FaultReason::TooDeep, text.len()));
+        }
+        match parted(text, b" but ") {
+            None => self.read(text, fuel - 1),
+            Some((head, tail)) => {
+                let one = self
+                    .read(head, fuel - 1)
+                    .map_err(|stop| moved(stop, tail.len() + 5))?;
+                let other = self.all_of(tail, fuel - 1)?;
+                Ok(Condition::Both(Box::new(self.alloc, one)?, Box::new(self.alloc, other)?))
+            }
+        }
+    }
+
+    fn in_scope(&mut self, text: &[u8]) -> Result<Condition, Stop> {
+        let (pattern, scope) = self.scope(text)?;
+        let more = text.len() - pattern.len();
+        let pattern = read_pattern(self.alloc, pattern, self.is_loose, &mut *self.holes).map_err(
+            |stop| moved(stop, more),
+        )?;
+        Ok(Condition::Some(scope, pattern))
+    }
+
+    // A pattern without the scope after it, and that.
+    fn scope<'t>(&mut self, text: &'t [u8]) -> Result<(&'t [u8], Scope), Stop> {
+        if let Some((pattern, scope)) = named_scope(text) {
+            return Ok((pattern, scope));
+        }
+        if let Some((pattern, name)) = parted(text, b" in own $") {
+            return Ok((pattern, Scope::Own(self.only_hole(name)?)));
+        }
+        match parted(text, b" in $") {
+            Some((pattern, name)) => Ok((pattern, Scope::Hole(self.only_hole(name)?))),
+            None => Err(Stop::Fault(FaultReason::Scope, text.len())),
+        }
+    }
+
+    // The hole of this name, after which nothing stands.
+    fn only_hole(&mut self, text: &[u8]) -> Result<u8, Stop> {
+        let (number, len) = hole_number(text, &mut *self.holes)?;
+        if len == text.len() {
+            Ok(number)
+        } else {
+            Err(Stop::Fault(FaultReason::UnknownHole, text.len()))
+        }
+    }
+
+    // A condition that begins with a hole: `$x is PATTERN`, or `$x == 0`.
+    fn of_hole(&mut self, text: &[u8]) -> Result<Condition, Stop> {
+        let (hole, rest) = self.hole_and_rest(text)?;
+        if first_word(rest) == b"is".as_slice() {
+            let pattern = after_word(rest);
+            let pattern = read_pattern(self.alloc, pattern, self.is_loose, &mut *self.holes)?;
+            return Ok(Condition::Is(hole, pattern));
+        }
+        let relation = relation_of(rest)?;
+        let value = number_of(after_word(rest))?;
+        Ok(Condition::Test(Test::Value(hole, relation, value)))
+    }
+
+    // The hole that a text begins with, and what stands after it.
+    fn hole_and_rest<'t>(&mut self, text: &'t [u8]) -> Result<(u8, &'t [u8]), Stop> {
+        let [b'$', name @ ..] = text else {
+            return Err(Stop::Fault(FaultReason::UnknownHole, text.len()));
+        };
+        let (number, len) = hole_number(name, &mut *self.holes)?;
+        Ok((number, after_blanks(part(name, len, name.len()))))
+    }
+
+    fn test(&mut self, text: &[u8]) -> Result<Test, Stop> {
+        let rest = after_word(text);
+        match first_word(text) {
+            b"quiet" => Ok(Test::Quiet(self.last_hole(rest)?)),
+            b"backslash" => Ok(Test::Backslash(self.last_hole(rest)?)),
+            b"parameter" => Ok(Test::Parameter(self.last_hole(rest)?)),
+            b"own" if first_word(rest) == b"name".as_slice() => {
+                Ok(Test::OwnName(self.last_hole(after_word(rest))?))
+            }
+            b"bytes" => {
+                let (hole, rest) = self.hole_and_rest(rest)?;
+                let relation = relation_of(rest)?;
+                let value = number_of(after_word(rest))?;
+                Ok(Test::Bytes(hole, relation, usize::from(value)))
+            }
+            b"joined" if rest.is_empty() => Ok(Test::Joined),
+            b"after" if rest == b"operator".as_slice() => Ok(Test::AfterOperator),
+            b"followed" => self.followed(rest),
+            _ => Err(Stop::Fault(FaultReason::ConditionWord, text.len())),
+        }
+    }
+
+    // The only hole of a text.
+    fn last_hole(&mut self, text: &[u8]) -> Result<u8, Stop> {
+        let (hole, rest) = self.hole_and_rest(text)?;
+        if rest.is_empty() {
+            Ok(hole)
+        } else {
+            Err(Stop::Fault(FaultReason::ConditionWord, rest.len()))
+        }
+    }
+
+    fn followed(&self, text: &[u8]) -> Result<Test, Stop> {
+        let cut = cut(self.alloc, text)?;
+        match cut.lexemes.as_slice() {
+            [lexeme] if cut.is_whole => Ok(Test::Followed(*lexeme)),
+            _ => Err(Stop::Fault(FaultReason::Token, text.len())),
+        }
+    }
+}
+
+/// Whether a condition looks at more than what was found.
+pub(crate) fn looks_around(condition: &Condition) -> bool {
+    match condition {
+        Condition::Both(one, other) | Condition::Either(one, other) => {
+            looks_around(one) || looks_around(other)
+        }
+        Condition::Not(inner) => looks_around(inner),
+        Condition::Some(_, _) => true,
+        Condition::Always | Condition::Is(_, _) | Condition::Test(_) => false,
+    }
+}
+
+// What stands before the first of these words, and after it.
+fn parted<'t>(text: &'t [u8], words: &[u8]) -> Option<(&'t [u8], &'t [u8])> {
+    match place_of(text, words) {
+        Some(at) => Some((
+            part(text, 0, at),
+            after_blanks(part(text, at.saturating_add(words.len()), text.len())),
+        )),
+        None => None,
+    }
+}
+
+// The same, where more of the line is left.
+fn moved(stop: Stop, more: usize) -> Stop {
+    match stop {
+        Stop::Fault(reason, left) => Stop::Fault(reason, left.saturating_add(more)),
+        _ => stop,
+    }
+}
+
+// A pattern without the word for a scope after it, and that scope.
+fn named_scope(text: &[u8]) -> Option<(&[u8], Scope)> {
+    if let Some(pattern) = text.strip_suffix(b" in function") {
+        return Some((pattern, Scope::Function));
+    }
+    if let Some(pattern) = text.strip_suffix(b" in loop") {
+        return Some((pattern, Scope::Loop));
+    }
+    if let Some(pattern) = text.strip_suffix(b" before") {
+        return Some((pattern, Scope::Before));
+    }
+    if let Some(pattern) = text.strip_suffix(b" after") {
+        return Some((pattern, Scope::After));
+    }
+    match text.strip_suffix(b" around") {
+        Some(pattern) => Some((pattern, Scope::Around)),
+        None => None,
+    }
+}
+
+fn relation_of(text: &[u8]) -> Result<Relation, Stop> {
+    match first_word(text) {
+        b"==" => Ok(Relation::Equal),
+        b"!=" => Ok(Relation::Unequal),
+        b"<" => Ok(Relation::Less),
+        b"<=" => Ok(Relation::AtMost),
+        b">" => Ok(Relation::Greater),
+        b">=" => Ok(Relation::AtLeast),
+        _ => Err(Stop::Fault(FaultReason::Relation, text.len())),
+    }
+}
+
+// The number that a text is.
+fn number_of(text: &[u8]) -> Result<u16, Stop> {
+    let mut number: u16 = 0;
+    for byte in text {
+        match with_digit(number, *byte) {
+            Some(more) => number = more,
+            None => return Err(Stop::Fault(FaultReason::Number, text.len())),
+        }
+    }
+    if text.is_empty() {
+        return Err(Stop::Fault(FaultReason::Number, 0));
+    }
+    Ok(number)
+}
+
+fn with_digit(number: u16, byte: u8) -> Option<u16> {
+    if !byte.is_ascii_digit() {
+        return None;
+    }
+    number.checked_mul(10)?.checked_add(u16::from(byte - b'0'))
+}

@@ -1,0 +1,74 @@
+//! Words of a line.
+
+/// Whether it is a blank.
+pub(crate) fn is_blank(byte: u8) -> bool {
+    matches!(byte, b' ' | b'\t' | b'\r')
+}
+
+// The place of the first blank.
+fn blank_place(text: &[u8]) -> Option<usize> {
+    text.iter().position(|byte| is_blank(*byte))
+}
+
+fn word_len(text: &[u8]) -> usize {
+    blank_place(text).unwrap_or(text.len())
+}
+
+/// What stands before the first blank.
+pub(crate) fn first_word(text: &[u8]) -> &[u8] {
+    &text[..word_len(text)]
+}
+
+/// What stands after the first word and the blanks after it.
+pub(crate) fn after_word(text: &[u8]) -> &[u8] {
+    after_blanks(&text[word_len(text)..])
+}
+
+fn other_place(text: &[u8]) -> Option<usize> {
+    text.iter().position(|byte| !is_blank(*byte))
+}
+
+fn blanks(text: &[u8]) -> usize {
+    other_place(text).unwrap_or(text.len())
+}
+
+/// What stands after the blanks.
+pub(crate) fn after_blanks(text: &[u8]) -> &[u8] {
+    &text[blanks(text)..]
+}
+
+/// The place of the first of these words in a text.
+pub(crate) fn place_of(text: &[u8], words: &[u8]) -> Option<usize> {
+    (0..text.len()).find(|at| text[*at..].starts_with(words))
+}
+
+/// How many words a text has, up to a limit.
+pub(crate) fn count_words(text: &[u8], most: usize) -> usize {
+    let mut rest = after_blanks(text);
+    let mut count = 0;
+    for _ in 0..most {
+        if !rest.is_empty() {
+            count += 1;
+            rest = after_word(rest);
+        }
+    }
+    count
+}
+
+/// The word of a text before which so many words stand.
+pub(crate) fn word_at(text: &[u8], number: usize) -> &[u8] {
+    let mut rest = after_blanks(text);
+    for _ in 0..number {
+        rest = after_word(rest);
+    }
+    first_word(rest)
+}
+
+/// How many letters and digits a text begins with.
+pub(crate) fn letters(text: &[u8]) -> usize {
+    other_letter(text).unwrap_or(text.len())
+}
+
+fn other_letter(text: &[u8]) -> Option<usize> {
+    text.iter().position(|byte| !byte.is_ascii_alphanumeric())
+}
