@@ -1,6 +1,9 @@
+pub mod Asking
 pub mod Binds
 pub mod Fits
 pub mod Growing
+pub mod Holds
+pub mod Notices
 pub mod Same
 pub mod Sizes
 pub mod Trees

@@ -1,5 +1,5 @@
 -- Promise: when two branches are the same tree.
-use Rattle.std.specs.Prelude.{ℕ, ◌+◌, ◌-◌, ◌==◌, ◌&&◌, ◌||◌, Bool, true, false, nat_lt, Option, None, Some}
+use Rattle.std.specs.Prelude.{ℕ, ◌-◌, ◌==◌, ◌&&◌, ◌||◌, Bool, false, nat_lt, Option, None, Some}
 use Rattle.std.specs.List.{list_all, range_with_len}
 use Rattle.bword.specs.Words.{same_name}
 use Rattle.blex.specs.declared.lexeme.Lexeme.{Lexeme}

@@ -1,5 +1,7 @@
 -- Inner words: how large what is still to be fitted is.
 use Rattle.std.specs.Prelude.{ℕ, ◌+◌}
+use Rattle.bmatch.specs.declared.conditions.Condition.{Condition}
+use Rattle.bmatch.specs.declared.conditions.Condition.TheVariants as condition
 use Rattle.bmatch.specs.declared.fits.Left.{Left}
 use Rattle.bmatch.specs.declared.fits.Left.TheVariants as left_is
 use Rattle.bmatch.specs.declared.pattern.Pattern.{Pattern}
@@ -15,3 +17,9 @@ pattern_size (pattern.Either' p one q other) = pattern_size one + pattern_size o
 abbrev pub left_size : Left → ℕ
 left_size left_is.Nothing = 0
 left_size (left_is.Row' wanted span p after) = pattern_size wanted.now + left_size after + 1
+
+abbrev pub condition_size : Condition → ℕ
+condition_size (condition.Both' p one q other) = condition_size one + condition_size other + 2
+condition_size (condition.Either' p one q other) = condition_size one + condition_size other + 2
+condition_size (condition.Not' p inner) = condition_size inner + 1
+condition_size _ = 0

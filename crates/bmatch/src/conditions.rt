@@ -31,8 +31,6 @@ pub enum Scope {
     After,
     /// Around what was found.
     Around,
-    /// In the innermost loop around.
-    Loop,
     /// In what a hole stands for.
     Hole(u8),
     /// In what a hole stands for, but not in a loop or a `switch` that is in it.

@@ -131,7 +131,8 @@ fn node_number(node: Node) -> u16
     }
 }
 
-fn operator_number(op: BinOp) -> u16
+/// A number for each binary operator.
+pub(crate) fn operator_number(op: BinOp) -> u16
     ensures { result ≡ operator_number op }
 {
     match op {

@@ -1,0 +1,67 @@
+-- Promise: what rules tell of a source: each place where a rule fits and its condition holds, in the order of the rules.
+use Rattle.std.specs.Prelude.{ℕ, ◌+◌, ◌-◌, ◌&&◌, Bool, true, false, if◌then◌else◌, nat_lt, List, [], ◌∷◌, length, map}
+use Rattle.std.specs.List.{flat_map, range_with_len}
+use Rattle.btree.specs.declared.tags.Construct.TheVariants as construct
+use Rattle.bmatch.specs.declared.binds.Binds.{Binds}
+use Rattle.bmatch.specs.declared.fits.Sight.{Sight}
+use Rattle.bmatch.specs.declared.fits.Span.{Span}
+use Rattle.bmatch.specs.declared.holds.Site.{Site}
+use Rattle.bmatch.specs.declared.noticing.Notice.{Notice}
+use Rattle.bmatch.specs.declared.noticing.TheConstants.{MOST_BRANCHES}
+use Rattle.bmatch.specs.declared.pattern.Pattern.{Pattern}
+use Rattle.bmatch.specs.declared.pattern.Rule.{Rule}
+use Rattle.bmatch.specs.declared.pattern.TheConstants.{ROOT}
+use Rattle.bmatch.specs.declared.tree.Kind.{Kind}
+use Rattle.bmatch.specs.declared.tree.Kind.TheVariants as kind
+use Rattle.bmatch.specs.declared.tree.Tree.{Tree}
+use Rattle.bmatch.specs.Asking.{told_token}
+use Rattle.bmatch.specs.Binds.{nothing_bound, with_hole}
+use Rattle.bmatch.specs.Fits.{span_of}
+use Rattle.bmatch.specs.Holds.{fits_at, holds_in}
+use Rattle.bmatch.specs.Trees.{branch_at}
+
+abbrev pub is_definition : Kind → Bool
+is_definition (kind.Construct construct.Definition) = true
+is_definition _ = false
+
+abbrev pub functions_at : Tree → (index : ℕ) → List Span
+functions_at tree index =
+    if is_definition (branch_at tree.rows.now index).kind
+    then span_of (branch_at tree.rows.now index).begin (index + 1) ∷ [] else []
+
+-- the definitions of a tree
+abbrev pub functions_in : Tree → List Span
+functions_in tree = flat_map (functions_at tree) (range_with_len 0 (length tree.rows.now))
+
+abbrev pub notice_of : Tree → (rule : ℕ) → Binds → Notice
+notice_of tree rule b = record { rule = rule; token = told_token tree b }
+
+abbrev pub sight_of : Tree → Rule → Sight
+sight_of tree r = record { tree = tree; is_loose = r.is_loose }
+
+abbrev pub site_of : Tree → Rule → Span → Site
+site_of tree r function = record { sight = sight_of tree r; function = function }
+
+-- a pattern fits this branch of a function, and the condition of its rule holds
+abbrev pub root_notices : Tree → Rule → Pattern → (function : Span) → (root : ℕ) → List Notice
+root_notices tree r p function root =
+    map (notice_of tree r.number) (flat_map (holds_in (site_of tree r function) r.condition)
+    (fits_at (sight_of tree r) p root (with_hole nothing_bound ROOT root)))
+
+-- A rule that looks around isn't asked in a very long function.
+abbrev pub is_passed_over : Rule → Span → Bool
+is_passed_over r function = r.looks_around && nat_lt MOST_BRANCHES (function.end - function.begin)
+
+abbrev pub function_notices : Tree → Rule → Pattern → (function : Span) → List Notice
+function_notices tree r p function =
+    if is_passed_over r function then []
+    else flat_map (root_notices tree r p function) (range_with_len function.begin (function.end - function.begin))
+
+abbrev pub pattern_notices : Tree → (functions : List Span) → Rule → Pattern → List Notice
+pattern_notices tree functions r p = flat_map (function_notices tree r p) functions
+
+abbrev pub rule_notices : Tree → (functions : List Span) → Rule → List Notice
+rule_notices tree functions r = flat_map (pattern_notices tree functions r) r.patterns.items
+
+abbrev pub notices_by : Tree → List Rule → List Notice
+notices_by tree rules = flat_map (rule_notices tree (functions_in tree)) rules

@@ -1,0 +1,205 @@
+//! Whether what else is asked holds.
+ghost use Rattle.std.specs.List.{flat_map, range_with_len};
+ghost use Rattle.std.specs.Prelude.{◌≡◌, ◌-◌, ◌++◌, IfOk};
+ghost use Rattle.bmatch.specs.Holds.{fits_at, fits_hole, hole_span, holds_in, is_within, scope_span, some_at};
+
+use crate::asking::passes_test;
+use crate::binds::Binds;
+use crate::conditions::{Condition, Scope};
+use crate::fits::{Left, Sight, Span, fits};
+use crate::pattern::{Pattern, ROOT};
+use crate::tree::branch_at;
+use std::alloc::{AllocError, Global};
+
+/// Where rules look: a tree, and the function in it.
+#[derive(Clone, Copy)]
+pub struct Site<'a> {
+    pub sight: Sight<'a>,
+    pub function: Span,
+}
+
+/// Adds to those found what holes stand for in each way in which a condition holds.
+#[cycle(holds)]
+pub(crate) fn holds(
+    alloc: Global,
+    site: &Site<'_>,
+    condition: &Condition,
+    binds: Binds,
+    found: &mut Vec<Binds>,
+) -> Result<(), AllocError>
+    ensures { IfOk result (λ done. found.new.items ≡ found.old.items ++ holds_in site.now condition.now binds) }
+{
+    match condition {
+        Condition::Always => {
+            found.push(binds)?;
+            Ok(())
+        }
+        Condition::Both(one, other) => {
+            let mut ways = Vec::new(alloc);
+            holds(alloc, site, &**one, binds, &mut ways)?;
+            all_hold(alloc, site, &**other, ways.as_slice(), found)
+        }
+        Condition::Either(one, other) => {
+            holds(alloc, site, &**one, binds, found)?;
+            holds(alloc, site, &**other, binds, found)
+        }
+        Condition::Not(inner) => {
+            let mut ways = Vec::new(alloc);
+            holds(alloc, site, &**inner, binds, &mut ways)?;
+            if ways.is_empty() {
+                found.push(binds)?;
+            }
+            Ok(())
+        }
+        Condition::Is(hole, pattern) => fits_hole(site, *hole, pattern, binds, found),
+        Condition::Some(scope, pattern) => fits_some(site, *scope, pattern, binds, found),
+        Condition::Test(test) => {
+            if passes_test(site, *test, &binds) {
+                found.push(binds)?;
+            }
+            Ok(())
+        }
+    }
+}
+
+/// The same with each of these.
+#[cycle(holds)]
+pub(crate) fn all_hold(
+    alloc: Global,
+    site: &Site<'_>,
+    condition: &Condition,
+    ways: &[Binds],
+    found: &mut Vec<Binds>,
+) -> Result<(), AllocError>
+    ensures { IfOk result (λ done.
+        found.new.items ≡ found.old.items ++ flat_map (holds_in site.now condition.now) ways.now) }
+{
+    for way in ways {
+        holds(alloc, site, condition, *way, found)?;
+    }
+    Ok(())
+}
+
+// Whether what a hole stands for fits a pattern.
+fn fits_hole(
+    site: &Site<'_>,
+    hole: u8,
+    pattern: &Pattern,
+    binds: Binds,
+    found: &mut Vec<Binds>,
+) -> Result<(), AllocError>
+    ensures { IfOk result (λ done.
+        found.new.items ≡ found.old.items ++ fits_hole site.now pattern.now hole binds) }
+{
+    match binds.of(hole) {
+        Some(index) => fits_at(&site.sight, pattern, index, binds, found),
+        None => Ok(()),
+    }
+}
+
+/// Adds to those found what holes stand for in each way in which a pattern fits one branch.
+pub(crate) fn fits_at(
+    sight: &Sight<'_>,
+    pattern: &Pattern,
+    index: usize,
+    binds: Binds,
+    found: &mut Vec<Binds>,
+) -> Result<(), AllocError>
+    ensures { IfOk result (λ done. found.new.items ≡ found.old.items ++ fits_at sight.now pattern.now index binds) }
+{
+    if index >= sight.tree.rows.len() {
+        return Ok(());
+    }
+    let span = Span {
+        begin: branch_at(sight.tree.rows, index).begin,
+        end: index + 1,
+    };
+    fits(sight, pattern, span, &Left::Nothing, binds, found)
+}
+
+// Whether some branch of a scope fits a pattern.
+fn fits_some(
+    site: &Site<'_>,
+    scope: Scope,
+    pattern: &Pattern,
+    binds: Binds,
+    found: &mut Vec<Binds>,
+) -> Result<(), AllocError>
+    ensures { IfOk result (λ done. found.new.items ≡ found.old.items
+        ++ flat_map (some_at site.now scope pattern.now binds)
+        (range_with_len (scope_span site.now scope binds).begin
+        ((scope_span site.now scope binds).end - (scope_span site.now scope binds).begin))) }
+{
+    let span = scope_span(site, scope, &binds);
+    for index in span.begin..span.end {
+        some_at(site, scope, pattern, binds, index, found)?;
+    }
+    Ok(())
+}
+
+fn some_at(
+    site: &Site<'_>,
+    scope: Scope,
+    pattern: &Pattern,
+    binds: Binds,
+    index: usize,
+    found: &mut Vec<Binds>,
+) -> Result<(), AllocError>
+    ensures { IfOk result (λ done.
+        found.new.items ≡ found.old.items ++ some_at site.now scope pattern.now binds index) }
+{
+    if is_within(site, scope, &binds, index) {
+        fits_at(&site.sight, pattern, index, binds, found)
+    } else {
+        Ok(())
+    }
+}
+
+// From which branch up to which a scope goes.
+fn scope_span(site: &Site<'_>, scope: Scope, binds: &Binds) -> Span
+    ensures { result ≡ scope_span site.now scope binds.now }
+{
+    let root = binds.of(ROOT).unwrap_or(0);
+    match scope {
+        Scope::Function => site.function,
+        Scope::Before => Span {
+            begin: site.function.begin,
+            end: branch_at(site.sight.tree.rows, root).begin,
+        },
+        Scope::After | Scope::Around => Span {
+            begin: root,
+            end: site.function.end,
+        },
+        Scope::Hole(hole) | Scope::Own(hole) => hole_span(site, binds.of(hole)),
+    }
+}
+
+// The branches in what a hole stands for, with itself.
+fn hole_span(site: &Site<'_>, index: Option<usize>) -> Span
+    ensures { result ≡ hole_span site.now index }
+{
+    match index {
+        Some(index) if index < site.sight.tree.rows.len() => Span {
+            begin: branch_at(site.sight.tree.rows, index).begin,
+            end: index + 1,
+        },
+        _ => Span { begin: 0, end: 0 },
+    }
+}
+
+// Which branches of these are in the scope.
+fn is_within(site: &Site<'_>, scope: Scope, binds: &Binds, index: usize) -> bool
+    ensures { result ≡ is_within site.now scope binds.now index }
+{
+    let root = binds.of(ROOT).unwrap_or(0);
+    let branch = branch_at(site.sight.tree.rows, index);
+    match scope {
+        Scope::Function | Scope::Before | Scope::Hole(_) => true,
+        Scope::After => root < branch.begin,
+        Scope::Around => root < index && branch.begin <= root,
+        Scope::Own(hole) => {
+            let around = branch_at(site.sight.tree.rows, binds.of(hole).unwrap_or(0));
+            branch.loops == around.loops
+        }
+    }
+}

@@ -1,0 +1,173 @@
+//! What rules tell of a source.
+ghost use Rattle.std.specs.Prelude.{◌≡◌, ◌+◌, ◌++◌, ◌<◌, ◌^◌, IfOk, map};
+ghost use Rattle.bmatch.specs.Notices.{function_notices, functions_at, functions_in, is_passed_over, notice_of};
+ghost use Rattle.bmatch.specs.Notices.{notices_by, pattern_notices, root_notices, rule_notices};
+
+use crate::asking::told_token;
+use crate::binds::Binds;
+use crate::fits::{Sight, Span};
+use crate::holds::{Site, all_hold, fits_at};
+use crate::pattern::{Pattern, ROOT, Rule};
+use crate::tree::{Kind, Tree, branch_at};
+use btree::Construct;
+use std::alloc::{AllocError, Global};
+
+/// The most branches of a function in which a rule looks around, so that no source makes that long.
+pub const MOST_BRANCHES: usize = 32_768;
+
+/// A rule that fits, by its number, and the token that is told.
+#[derive(Clone, Copy)]
+pub struct Notice {
+    pub rule: usize,
+    pub token: usize,
+}
+
+/// Each place where a rule fits and its condition holds, in the order of the rules.
+///
+/// # Errors
+///
+/// If memory was refused.
+pub fn notices_of(alloc: Global, tree: &Tree<'_>, rules: &[Rule]) -> Result<Vec<Notice>, AllocError>
+    ensures { IfOk result (λ found. found.items ≡ notices_by tree.now rules.now) }
+{
+    let functions = functions_in(alloc, tree)?;
+    let mut found = Vec::new(alloc);
+    for rule in rules {
+        rule_notices(alloc, tree, functions.as_slice(), rule, &mut found)?;
+    }
+    Ok(found)
+}
+
+// The definitions of a tree.
+fn functions_in(alloc: Global, tree: &Tree<'_>) -> Result<Vec<Span>, AllocError>
+    ensures { IfOk result (λ spans. spans.items ≡ functions_in tree.now) }
+{
+    let mut spans = Vec::new(alloc);
+    for index in 0..tree.rows.len() {
+        take_function(tree, index, &mut spans)?;
+    }
+    Ok(spans)
+}
+
+fn take_function(tree: &Tree<'_>, index: usize, spans: &mut Vec<Span>) -> Result<(), AllocError>
+    requires { index + 1 < 2 ^ 64 }
+    ensures { IfOk result (λ done. spans.new.items ≡ spans.old.items ++ functions_at tree.now index) }
+{
+    let branch = branch_at(tree.rows, index);
+    if let Kind::Construct(Construct::Definition) = branch.kind {
+        spans.push(Span {
+            begin: branch.begin,
+            end: index + 1,
+        })?;
+    }
+    Ok(())
+}
+
+fn rule_notices(
+    alloc: Global,
+    tree: &Tree<'_>,
+    functions: &[Span],
+    rule: &Rule,
+    found: &mut Vec<Notice>,
+) -> Result<(), AllocError>
+    ensures { IfOk result (λ done. found.new.items ≡ found.old.items ++ rule_notices tree.now functions.now rule.now) }
+{
+    for pattern in rule.patterns.as_slice() {
+        pattern_notices(alloc, tree, functions, rule, pattern, found)?;
+    }
+    Ok(())
+}
+
+fn pattern_notices(
+    alloc: Global,
+    tree: &Tree<'_>,
+    functions: &[Span],
+    rule: &Rule,
+    pattern: &Pattern,
+    found: &mut Vec<Notice>,
+) -> Result<(), AllocError>
+    ensures { IfOk result (λ done.
+        found.new.items ≡ found.old.items ++ pattern_notices tree.now functions.now rule.now pattern.now) }
+{
+    for function in functions {
+        function_notices(alloc, tree, *function, rule, pattern, found)?;
+    }
+    Ok(())
+}
+
+fn function_notices(
+    alloc: Global,
+    tree: &Tree<'_>,
+    function: Span,
+    rule: &Rule,
+    pattern: &Pattern,
+    found: &mut Vec<Notice>,
+) -> Result<(), AllocError>
+    ensures { IfOk result (λ done.
+        found.new.items ≡ found.old.items ++ function_notices tree.now rule.now pattern.now function) }
+{
+    if is_passed_over(rule, function) {
+        return Ok(());
+    }
+    for root in function.begin..function.end {
+        root_notices(alloc, tree, function, rule, pattern, root, found)?;
+    }
+    Ok(())
+}
+
+// Whether a function is too long for a rule.
+fn is_passed_over(rule: &Rule, function: Span) -> bool
+    ensures { result ≡ is_passed_over rule.now function }
+{
+    rule.looks_around && function.end.saturating_sub(function.begin) > MOST_BRANCHES
+}
+
+fn root_notices(
+    alloc: Global,
+    tree: &Tree<'_>,
+    function: Span,
+    rule: &Rule,
+    pattern: &Pattern,
+    root: usize,
+    found: &mut Vec<Notice>,
+) -> Result<(), AllocError>
+    ensures { IfOk result (λ done.
+        found.new.items ≡ found.old.items ++ root_notices tree.now rule.now pattern.now function root) }
+{
+    let sight = Sight {
+        tree: *tree,
+        is_loose: rule.is_loose,
+    };
+    let mut ways = Vec::new(alloc);
+    fits_at(
+        &sight,
+        pattern,
+        root,
+        Binds::nothing().with(ROOT, root),
+        &mut ways,
+    )?;
+    if ways.is_empty() {
+        return Ok(());
+    }
+    let site = Site { sight, function };
+    let mut held = Vec::new(alloc);
+    all_hold(alloc, &site, &rule.condition, ways.as_slice(), &mut held)?;
+    tell(tree, rule.number, held.as_slice(), found)
+}
+
+fn tell(
+    tree: &Tree<'_>,
+    rule: usize,
+    held: &[Binds],
+    found: &mut Vec<Notice>,
+) -> Result<(), AllocError>
+    ensures { IfOk result (λ done. found.new.items ≡ found.old.items ++ map (notice_of tree.now rule) held.now) }
+{
+    for binds in held {
+        found.push(Notice {
+            rule,
+            token: told_token(tree, binds),
+        })?;
+    }
+    Ok(())
+}
