@@ -3,6 +3,7 @@ pub mod Binds
 pub mod Fits
 pub mod Growing
 pub mod Holds
+pub mod MatchRows
 pub mod Notices
 pub mod Same
 pub mod Sizes

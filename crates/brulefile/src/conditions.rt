@@ -210,9 +210,6 @@ fn named_scope(text: &[u8]) -> Option<(&[u8], Scope)> {
     if let Some(pattern) = text.strip_suffix(b" in function") {
         return Some((pattern, Scope::Function));
     }
-    if let Some(pattern) = text.strip_suffix(b" in loop") {
-        return Some((pattern, Scope::Loop));
-    }
     if let Some(pattern) = text.strip_suffix(b" before") {
         return Some((pattern, Scope::Before));
     }

@@ -1,7 +1,7 @@
 //! The pattern that the branches of a text are, where signs stand for some of them.
 use crate::cleaning::{Mark, Sign};
-use blex::Lexeme;
 use blang::Keyword;
+use blex::Lexeme;
 use bmatch::{Branch, Kind, Leaf, Pattern, Word, branch_at, lexeme_at};
 use btree::{Construct, Node};
 use bword::BinOp;
@@ -71,7 +71,11 @@ impl<'a> Sheet<'a> {
             return self.hole(sign, is_told, rest);
         }
         match self.leaf(index, first) {
-            Some(Lexeme::Name(name)) => Ok(Pattern::Leaf(Leaf::Name(name), is_told, self.boxed(rest)?)),
+            Some(Lexeme::Name(name)) => Ok(Pattern::Leaf(
+                Leaf::Name(name),
+                is_told,
+                self.boxed(rest)?,
+            )),
             Some(Lexeme::Number(value) | Lexeme::Character(value)) => {
                 Ok(Pattern::Leaf(Leaf::Value(value), is_told, self.boxed(rest)?))
             }
@@ -96,7 +100,11 @@ impl<'a> Sheet<'a> {
         let rest = self.boxed(rest)?;
         match sign {
             Sign::Hole(number, sort) => Ok(Pattern::Leaf(Leaf::Hole(number, sort), is_told, rest)),
-            Sign::Statement(number) => Ok(Pattern::Leaf(Leaf::Hole(number, bmatch::Sort::Any), is_told, rest)),
+            Sign::Statement(number) => Ok(Pattern::Leaf(
+                Leaf::Hole(number, bmatch::Sort::Any),
+                is_told,
+                rest,
+            )),
             Sign::Dots => Ok(Pattern::Dots(rest)),
         }
     }

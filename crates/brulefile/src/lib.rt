@@ -7,6 +7,8 @@ mod cleaning;
 mod conditions;
 mod cutting;
 mod drawing;
+#[cfg(test)]
+mod examples;
 mod faults;
 mod holes;
 mod patterns;

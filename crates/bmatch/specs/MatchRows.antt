@@ -1,0 +1,273 @@
+-- Closed facts: kinds, the branches of a small program, and what fits there.
+use Rattle.std.specs.Prelude.{◌≡◌, ℕ, ◌-◌, codes, true, false, Bool, List, [], ◌∷◌, ◌++◌, None, Option, Some, map, refl}
+use Rattle.std.specs.Prelude.{Box, length, replicate}
+use Rattle.std.specs.declared.alloc.Global.{Global}
+use Rattle.std.specs.List.{flat_map, range_with_len}
+use Rattle.bword.specs.declared.operators.BinOp.{BinOp}
+use Rattle.bword.specs.declared.operators.BinOp.TheVariants as op
+use Rattle.blang.specs.declared.token.Keyword.TheVariants as keyword
+use Rattle.blang.specs.Trees.{Another, Arguments, Assigned, Binary, Called, Compound, Definition, Evaluate, Expr}
+use Rattle.blang.specs.Trees.{Function, Grouped, Identifier, Literal, More, Named, No_arguments, Nothing, Number, Stmt}
+use Rattle.blang.specs.Trees.{While}
+use Rattle.blex.specs.declared.lexeme.Lexeme.TheVariants as lexeme
+use Rattle.btree.specs.declared.nodes.Node.{Node}
+use Rattle.btree.specs.declared.nodes.Node.TheVariants as node
+use Rattle.btree.specs.declared.tags.Construct.{Construct}
+use Rattle.btree.specs.declared.tags.Construct.TheVariants as construct
+use Rattle.bmatch.specs.declared.binds.Binds.{Binds}
+use Rattle.bmatch.specs.declared.conditions.Relation.TheVariants as relation
+use Rattle.bmatch.specs.declared.conditions.Scope.{Scope}
+use Rattle.bmatch.specs.declared.conditions.Scope.TheVariants as scope
+use Rattle.bmatch.specs.declared.conditions.Test.{Test}
+use Rattle.bmatch.specs.declared.conditions.Test.TheVariants as test
+use Rattle.bmatch.specs.declared.fits.Sight.{Sight}
+use Rattle.bmatch.specs.declared.fits.TheConstants.{MOST_PASSED}
+use Rattle.bmatch.specs.declared.holds.Site.{Site}
+use Rattle.bmatch.specs.declared.noticing.TheConstants.{MOST_BRANCHES}
+use Rattle.bmatch.specs.declared.pattern.Leaf.TheVariants as leaf
+use Rattle.bmatch.specs.declared.pattern.Pattern.{Pattern}
+use Rattle.bmatch.specs.declared.pattern.Pattern.TheVariants as pattern
+use Rattle.bmatch.specs.declared.pattern.Sort.{Sort}
+use Rattle.bmatch.specs.declared.pattern.Sort.TheVariants as sort
+use Rattle.bmatch.specs.declared.pattern.TheConstants.{MOST_HOLES, ROOT}
+use Rattle.bmatch.specs.declared.pattern.Word.TheVariants as word
+use Rattle.bmatch.specs.declared.tree.Branch.{Branch}
+use Rattle.bmatch.specs.declared.tree.Kind.{Kind}
+use Rattle.bmatch.specs.declared.tree.Kind.TheVariants as kind
+use Rattle.bmatch.specs.declared.tree.TokenPlace.{TokenPlace}
+use Rattle.bmatch.specs.declared.tree.Tree.{Tree}
+use Rattle.bmatch.specs.Asking.{are_joined, compares, follows, has_c_escape, passes_test}
+use Rattle.bmatch.specs.Binds.{hole_of, nothing_bound, with_hole, with_told}
+use Rattle.bmatch.specs.Fits.{ends_of, is_word, span_of}
+use Rattle.bmatch.specs.Growing.{lexemes_of, program_rows}
+use Rattle.bmatch.specs.Holds.{fits_at, is_within, scope_span, some_in}
+use Rattle.bmatch.specs.Same.{is_same}
+use Rattle.bmatch.specs.Trees.{kind_number}
+
+abbrev operators : List BinOp
+operators =
+    op.Or ∷ op.And ∷ op.Eq ∷ op.Ne ∷ op.Lt ∷ op.Le ∷ op.Gt ∷ op.Ge ∷ op.Shl ∷ op.Shr ∷ op.Sub ∷ op.Add ∷ op.Rem ∷ op.Mul
+    ∷ op.Div ∷ []
+
+abbrev plain_nodes : List Node
+plain_nodes =
+    node.Name ∷ node.Constant ∷ node.Text ∷ node.Grouped ∷ node.Indexed ∷ node.NoArguments ∷ node.Argument ∷ node.Called
+    ∷ node.PostIncrement ∷ node.PostDecrement ∷ node.Negate ∷ node.Not ∷ node.Indirection ∷ node.Address
+    ∷ node.PreIncrement ∷ node.PreDecrement ∷ node.Conditional ∷ node.Evaluated ∷ node.Tested ∷ node.Switched
+    ∷ node.Returned ∷ node.Target ∷ node.Assigned None ∷ []
+
+abbrev constructs : List Construct
+constructs =
+    construct.Definition ∷ construct.Block ∷ construct.If ∷ construct.IfElse ∷ construct.While ∷ construct.Switch
+    ∷ construct.Heading ∷ construct.Plain ∷ construct.Parens ∷ []
+
+-- no two kinds have one number
+numbers_of_kinds :
+    map (λ n. kind_number (kind.Node n)) (plain_nodes ++ map node.Binary operators
+    ++ map (λ o. node.Assigned (Some o)) operators) ++ map (λ c. kind_number (kind.Construct c)) constructs
+    ≡ range_with_len 0 23 ++ range_with_len 25 30 ++ range_with_len 60 9
+numbers_of_kinds = refl
+
+abbrev name : List ℕ → Identifier
+name text = record { text = text; line = 1 }
+
+abbrev x : Expr
+x = Named (name (codes "x"))
+
+abbrev one : Expr
+one = Literal (Number 1)
+
+-- f(x){while(x)f((x),1);x=x+1;}
+abbrev small : List Definition
+small =
+    Function (name (codes "f")) (name (codes "x") ∷ []) (Compound (More (More Nothing
+    (While x (Evaluate (Called (Named (name (codes "f"))) (Another (Another No_arguments (Grouped x)) one)))))
+    (Evaluate (Assigned None 1 x (Binary op.Add 1 x one))))) ∷ []
+
+abbrev rows : List Branch
+rows = program_rows small
+
+abbrev Numbers : Type 0
+Numbers = ℕ × ℕ × ℕ × ℕ × ℕ × ℕ × Bool × ℕ
+
+abbrev shown : Branch → Numbers
+shown b = (kind_number b.kind, b.token, b.first, b.last, b.begin, b.core, b.acts, b.loops)
+
+-- f x, the condition x of the loop, f and ( with (x) and 1, the call and its statement, and so on up to the definition
+branches_of_small : map shown rows
+    ≡ (0, 0, 0, 0, 0, 0, false, 0) ∷ (0, 2, 2, 2, 1, 1, false, 0) ∷ (0, 7, 7, 7, 2, 2, false, 1)
+    ∷ (18, 5, 5, 8, 2, 3, false, 1) ∷ (0, 9, 9, 9, 4, 4, false, 1) ∷ (5, 10, 10, 10, 5, 5, false, 1)
+    ∷ (0, 12, 12, 12, 6, 6, false, 1) ∷ (3, 11, 11, 13, 6, 6, false, 1) ∷ (1, 15, 15, 15, 8, 8, false, 1)
+    ∷ (7, 10, 9, 16, 4, 9, true, 1) ∷ (17, 17, 9, 17, 4, 10, true, 1) ∷ (67, 9, 9, 17, 4, 11, false, 1)
+    ∷ (64, 5, 5, 17, 2, 12, false, 0) ∷ (0, 18, 18, 18, 13, 13, false, 0) ∷ (0, 20, 20, 20, 14, 14, false, 0)
+    ∷ (1, 22, 22, 22, 15, 15, false, 0) ∷ (36, 21, 20, 22, 14, 16, false, 0) ∷ (22, 19, 18, 22, 13, 17, true, 0)
+    ∷ (17, 23, 18, 23, 13, 18, true, 0) ∷ (67, 18, 18, 23, 13, 19, false, 0) ∷ (61, 4, 4, 24, 2, 20, false, 0)
+    ∷ (60, 0, 0, 24, 0, 21, false, 0) ∷ []
+branches_of_small = refl
+
+abbrev tree : Tree
+tree =
+    record {
+      text = record { ref_ptr = (0, 0); now = [] };
+      lexemes = record { ref_ptr = (0, 0); now = lexemes_of small };
+      places = record { ref_ptr = (0, 0); now = [] };
+      rows = record { ref_ptr = (0, 0); now = rows };
+    }
+
+abbrev sight : (loose : Bool) → Sight
+sight loose = record { tree = tree; is_loose = loose }
+
+abbrev site : Site
+site = record { sight = sight true; function = span_of 0 22 }
+
+abbrev Link : Type 0
+Link = Box (Unit {0}) Global
+
+abbrev hole : ℕ → Sort → (told : Bool) → Link → (before : Pattern) → Pattern
+hole h s told p before = pattern.Leaf' (leaf.Hole h s) told p before
+
+-- what two holes stand for, and what is told, of each way
+abbrev ways : List Binds → List (Option ℕ × Option ℕ × Option ℕ)
+ways bs = map (λ b. (hole_of b 0, hole_of b 1, b.told)) bs
+
+abbrev at : Sight → Pattern → (index : ℕ) → List (Option ℕ × Option ℕ × Option ℕ)
+at s p index = ways (fits_at s p index nothing_bound)
+
+-- $0 + $1, with the operator told, at each branch: at x + 1 alone
+sum_fits : (p : Link) → flat_map (at (sight true) (pattern.Tree' (kind.Node (node.Binary op.Add)) true p
+    (hole 1 sort.Any false p (hole 0 sort.Any false p pattern.Done)) p pattern.Done)) (range_with_len 0 22)
+    ≡ (Some 14, Some 15, Some 21) ∷ []
+sum_fits p = refl
+
+-- $0 + $0 and $0 - $1 fit nothing; $0 + 1 and $0 + 2
+same_fits : (p : Link) → map (λ (q : Pattern). at (sight true) q 16)
+    (pattern.Tree' (kind.Node (node.Binary op.Add)) false p
+    (hole 0 sort.Any false p (hole 0 sort.Any false p pattern.Done)) p pattern.Done
+    ∷ pattern.Tree' (kind.Node (node.Binary op.Sub)) false p
+    (hole 1 sort.Any false p (hole 0 sort.Any false p pattern.Done)) p pattern.Done
+    ∷ pattern.Tree' (kind.Node (node.Binary op.Add)) false p
+    (pattern.Leaf' (leaf.Value 1) true p (hole 0 sort.Name false p pattern.Done)) p pattern.Done
+    ∷ pattern.Tree' (kind.Node (node.Binary op.Add)) false p
+    (pattern.Leaf' (leaf.Value 2) true p (hole 0 sort.Name false p pattern.Done)) p pattern.Done ∷ [])
+    ≡ [] ∷ [] ∷ ((Some 14, None, Some 22) ∷ []) ∷ [] ∷ []
+same_fits p = refl
+
+-- $0 = $0 + .., where what stands left and right is the same name
+assigned_fits : (p : Link) → at (sight true) (pattern.Tree' (kind.Node (node.Assigned None)) false p
+    (pattern.Tree' (kind.Node (node.Binary op.Add)) false p (hole 1 sort.Constant false p
+    (hole 0 sort.Any false p pattern.Done)) p (hole 0 sort.Any true p pattern.Done)) p pattern.Done) 17
+    ≡ (Some 14, Some 15, Some 18) ∷ []
+assigned_fits p = refl
+
+-- a name in parentheses is a name for a rule that is loose, and for no other
+parentheses : (p : Link) → map (λ (loose : Bool). at (sight loose) (hole 0 sort.Name true p pattern.Done) 7)
+    (true ∷ false ∷ []) ≡ ((Some 6, None, Some 12) ∷ []) ∷ [] ∷ []
+parentheses p = refl
+
+own_parentheses : (p : Link) → map (λ (loose : Bool). at (sight loose) (pattern.Tree' (kind.Node node.Grouped) true p
+    (hole 0 sort.Any false p pattern.Done) p pattern.Done) 7) (true ∷ false ∷ [])
+    ≡ replicate 2 ((Some 6, None, Some 11) ∷ [])
+own_parentheses p = refl
+
+-- which sorts x, 1 and the call are
+sorts_of_some : (p : Link) → map (λ (s : Sort). map (λ index. length (at (sight true) (hole 0 s false p pattern.Done) index))
+    (14 ∷ 15 ∷ 9 ∷ [])) (sort.Any ∷ sort.Name ∷ sort.Number ∷ sort.Character ∷ sort.Constant ∷ sort.Text ∷ [])
+    ≡ (1 ∷ 1 ∷ 1 ∷ []) ∷ (1 ∷ 0 ∷ 0 ∷ []) ∷ (0 ∷ 1 ∷ 0 ∷ []) ∷ (0 ∷ 0 ∷ 0 ∷ []) ∷ (0 ∷ 1 ∷ 0 ∷ []) ∷ (0 ∷ 0 ∷ 0 ∷ []) ∷ []
+sorts_of_some p = refl
+
+-- where a row of two arguments may end, in as many steps: after both, after one, before them
+ends : map (λ most. ends_of rows most 5 9) (0 ∷ 1 ∷ 2 ∷ 4 ∷ 9 ∷ [])
+    ≡ [] ∷ (9 ∷ []) ∷ (9 ∷ 8 ∷ []) ∷ (9 ∷ 8 ∷ 6 ∷ 5 ∷ []) ∷ (9 ∷ 8 ∷ 6 ∷ 5 ∷ []) ∷ []
+unfolding ends_of
+ends = refl
+
+-- one of two rows, the first way first
+either_fits : (p : Link) → at (sight true) (pattern.Either' p (hole 0 sort.Name true p pattern.Done) p
+    (pattern.Either' p (hole 1 sort.Text false p pattern.Done) p (hole 1 sort.Any false p pattern.Done))) 14
+    ≡ (Some 14, None, Some 20) ∷ (None, Some 14, None) ∷ []
+either_fits p = refl
+
+-- the branches that are the same tree as x in x + 1: each x, but not in parentheses, and no other
+same_as_x : map (is_same tree 14) (range_with_len 0 22)
+    ≡ false ∷ true ∷ true ∷ false ∷ false ∷ false ∷ true ∷ false ∷ false ∷ replicate 4 false ++ true ∷ true ∷ replicate 7 false
+same_as_x = refl
+
+abbrev rooted : (index : ℕ) → Binds
+rooted index = with_hole (with_hole nothing_bound ROOT index) 0 index
+
+abbrev in_scope : Scope → List ℕ
+in_scope c =
+    let span = scope_span site c (rooted 12) in
+    flat_map (λ i. if_within (is_within site c (rooted 12) i) i) (range_with_len span.begin (length_of span.begin span.end))
+  where
+    if_within : Bool → ℕ → List ℕ
+    if_within true i = i ∷ []
+    if_within false i = []
+
+    length_of : ℕ → ℕ → ℕ
+    length_of begin end = end - begin
+
+-- the scopes of the loop: the function, what is before and after it, around it, in it, and in no other loop in it
+scopes : map in_scope (scope.Before ∷ scope.After ∷ scope.Around ∷ scope.Hole 0 ∷ scope.Own 0 ∷ scope.Hole 1 ∷ [])
+    ≡ (0 ∷ 1 ∷ []) ∷ range_with_len 13 7 ∷ (20 ∷ 21 ∷ []) ∷ range_with_len 2 11 ∷ (12 ∷ []) ∷ [] ∷ []
+scopes = refl
+
+whole_function : in_scope scope.Function ≡ range_with_len 0 22
+whole_function = refl
+
+-- each relation, below, at and above a number, and at the edges of a word
+relations : map (λ r. map (λ n. compares r n 4) (0 ∷ 3 ∷ 4 ∷ 5 ∷ 65535 ∷ []))
+    (relation.Equal ∷ relation.Unequal ∷ relation.Less ∷ relation.AtMost ∷ relation.Greater ∷ relation.AtLeast ∷ [])
+    ≡ (false ∷ false ∷ true ∷ false ∷ false ∷ []) ∷ (true ∷ true ∷ false ∷ true ∷ true ∷ [])
+    ∷ (true ∷ true ∷ false ∷ false ∷ false ∷ []) ∷ (true ∷ true ∷ true ∷ false ∷ false ∷ [])
+    ∷ (false ∷ false ∷ false ∷ true ∷ true ∷ []) ∷ (false ∷ false ∷ true ∷ true ∷ true ∷ []) ∷ []
+relations = refl
+
+abbrev passed : Test → (index : ℕ) → Bool
+passed t index = passes_test site t (with_told (rooted index) true 15)
+
+-- of x + 1, 1, the call and the name f: nothing acts; a constant; the function's own name; a parameter
+tested : map (λ t. map (passed t) (16 ∷ 15 ∷ 9 ∷ 4 ∷ 14 ∷ []))
+    (test.Quiet 0 ∷ test.Value 0 relation.Equal 1 ∷ test.Value 0 relation.Less 1 ∷ test.OwnName 0 ∷ test.Parameter 0
+    ∷ test.Quiet 3 ∷ test.Parameter 3 ∷ [])
+    ≡ (true ∷ true ∷ false ∷ true ∷ true ∷ []) ∷ (false ∷ true ∷ false ∷ false ∷ false ∷ []) ∷ replicate 5 false
+    ∷ (false ∷ false ∷ false ∷ true ∷ false ∷ []) ∷ (false ∷ false ∷ false ∷ false ∷ true ∷ []) ∷ replicate 5 false
+    ∷ replicate 5 false ∷ []
+tested = refl
+
+-- after the token 15, which is 1, comes )
+next_token : map (λ l. passed (test.Followed l) 16) (lexeme.CloseParen ∷ lexeme.OpenParen ∷ lexeme.Semicolon
+    ∷ lexeme.Operator op.Add ∷ lexeme.Question ∷ []) ≡ true ∷ replicate 4 false
+next_token = refl
+
+signs : map (λ l. map (follows l) (lexeme.OpenBrace ∷ lexeme.CloseBrace ∷ lexeme.OpenParen ∷ lexeme.CloseParen
+    ∷ lexeme.OpenBracket ∷ lexeme.CloseBracket ∷ lexeme.Semicolon ∷ lexeme.Comma ∷ lexeme.Operator op.Or
+    ∷ lexeme.Operator op.Div ∷ lexeme.Colon ∷ [])) (lexeme.OpenBrace ∷ lexeme.Operator op.Or ∷ lexeme.Colon ∷ [])
+    ≡ (true ∷ replicate 10 false) ∷ (replicate 8 false ++ true ∷ replicate 2 false) ∷ replicate 11 false ∷ []
+signs = refl
+
+words : map (λ w. map (is_word w) (lexeme.Semicolon ∷ lexeme.Keyword keyword.Return ∷ lexeme.Keyword keyword.Break
+    ∷ lexeme.Keyword keyword.Goto ∷ lexeme.End ∷ [])) (word.Nothing ∷ word.Return ∷ word.Break ∷ [])
+    ≡ (true ∷ replicate 4 false) ∷ (false ∷ true ∷ replicate 3 false) ∷ (false ∷ false ∷ true ∷ replicate 2 false) ∷ []
+words = refl
+
+abbrev place : (start len : ℕ) → TokenPlace
+place start len = record { line = 1; start = start; len = len }
+
+-- side by side, with a byte between, one over the other, and the last one
+joined_places : are_joined (Some (place 3 2)) (Some (place 5 1)) ∷ are_joined (Some (place 3 2)) (Some (place 6 1))
+    ∷ are_joined (Some (place 3 2)) (Some (place 4 1)) ∷ are_joined (Some (place 3 2)) None ∷ are_joined None None ∷ []
+    ≡ true ∷ replicate 4 false
+joined_places = refl
+
+escapes : map (has_c_escape 0) (codes "\"\\n\"" ∷ codes "\"\\t" ∷ codes "a\\r" ∷ codes "\\0" ∷ codes "\\\\"
+    ∷ codes "\\" ∷ codes "n\\" ∷ codes "\\e" ∷ codes "*n" ∷ codes "\\ n" ∷ [])
+    ≡ replicate 5 true ++ replicate 5 false
+escapes = refl
+
+-- the last hole that there is, and one past it
+holes : map (hole_of (with_hole (with_hole nothing_bound 15 7) 16 8)) (0 ∷ 14 ∷ 15 ∷ 16 ∷ []) ≡ None ∷ None ∷ Some 7 ∷ None ∷ []
+holes = refl
+
+limits : MOST_HOLES ∷ ROOT ∷ MOST_PASSED ∷ MOST_BRANCHES ∷ [] ≡ 16 ∷ 15 ∷ 1000 ∷ 32768 ∷ []
+limits = refl
