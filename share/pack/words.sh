@@ -83,6 +83,30 @@ b_differ() {
     exit "$b_status"
 }
 
+# Removes what killed calls left beside FILE: the number of each is in the names of its files.
+b_clear() {
+    for b_left in "${b_file%/*}"/.b-format.*; do
+        [ -f "$b_left" ] || continue
+        b_by=${b_left##*/.b-format.}
+        b_by=${b_by%%.*}
+        case $b_by in '' | *[!0-9]*) continue ;; esac
+        case $(b_about "$b_left") in *" $(id -u) "*) ;; *) continue ;; esac
+        kill -0 "$b_by" 2>/dev/null || rm -f "$b_left"
+    done
+}
+
+# Gives the name of FILE to the new file, if FILE has its old bytes. A second name keeps the old file until then, so that
+# it comes back if an editor wrote into it meanwhile.
+b_take() {
+    ln "$b_file" "$b_new.was" 2>/dev/null || :
+    cmp -s "$b_file" "$b_new.old" || b_fail 'FILE has changed meanwhile, so nothing is written'
+    mv -f "$b_new" "$b_file" || b_fail 'FILE stays as it is'
+    if [ -e "$b_new.was" ] && ! cmp -s "$b_new.was" "$b_new.old"; then
+        mv -f "$b_new.was" "$b_file" || b_fail 'FILE has changed meanwhile, and what was written then is lost'
+        b_fail 'FILE has changed meanwhile, so nothing is written'
+    fi
+}
+
 # Puts what the program makes of FILE in its place. A new file beside it gets its mode and its owner and then the
 # new bytes, is written to the disk, and takes the name. Until then FILE has its old bytes, and a FILE that has others
 # by then keeps them.
@@ -90,9 +114,10 @@ b_replace() {
     case $b_file in /* | ./* | ../*) ;; *) b_file=./$b_file ;; esac
     # A file that isn't there the program tells itself.
     [ -e "$b_file" ] || [ -h "$b_file" ] || exec "$program" "$@" >/dev/null
+    b_clear
     b_stop
-    b_new=$(mktemp "${b_file%/*}/.b-format.XXXXXX") || b_fail 'no file can be made beside FILE, so nothing is written'
-    trap 'rm -f "$b_new" "$b_new.old"' EXIT
+    b_new=$(mktemp "${b_file%/*}/.b-format.$$.XXXXXX") || b_fail 'no file can be made beside FILE, so nothing is written'
+    trap 'rm -f "$b_new" "$b_new.old" "$b_new.was"' EXIT
     trap 'exit 129' HUP
     trap 'exit 130' INT
     trap 'exit 143' TERM
@@ -103,7 +128,7 @@ b_replace() {
     if cmp -s "$b_file" "$b_new"; then exit "$b_status"; fi
     [ "$b_was" = "$(b_about "$b_new")" ] || b_fail "the mode and the owner of FILE can't be kept, so nothing is written"
     sync "$b_new" || b_fail 'FILE stays as it is'
-    mv -f "$b_new" "$b_file" || b_fail 'FILE stays as it is'
+    b_take
     exit "$b_status"
 }
 

@@ -1,5 +1,6 @@
 pub mod AddedFindings
 pub mod ChangeSteps
+pub mod ChangesExcluded
 pub mod CheckSteps
 pub mod CheckExcluded
 pub mod CodesTold
@@ -16,6 +17,8 @@ pub mod ToldNames
 pub mod PlaceSteps
 pub mod FaultLines
 pub mod Reasons
+pub mod RightPieces
+pub mod SpareSteps
 pub mod SameTokens
 pub mod SectionSteps
 pub mod TallySteps

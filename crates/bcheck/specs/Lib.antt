@@ -1,6 +1,7 @@
 pub mod Tokens
 pub mod CheckRows
 pub mod Checks
+pub mod ChangesExcluded
 pub mod CheckExcluded
 pub mod Counts
 pub mod Findings
@@ -9,5 +10,6 @@ pub mod Pieces
 pub mod RuleWarnings
 pub mod SectionRows
 pub mod Sections
+pub mod Spares
 pub mod UndefinedNames
 pub mod UndefinedRows

@@ -4,6 +4,9 @@ use crate::draft::{Draft, Part};
 use btools::Text;
 use std::alloc::AllocError;
 
+/// How many bytes of values are looked at, at most, after a string whose quote is missing.
+const LONGEST_VALUES: usize = 255;
+
 /// What may stand in the place of a byte that begins no token.
 pub(crate) fn character(draft: &mut Draft<'_>, byte: Byte, start: usize) -> Result<(), AllocError> {
     match byte {
@@ -15,9 +18,25 @@ pub(crate) fn character(draft: &mut Draft<'_>, byte: Byte, start: usize) -> Resu
         Byte::CurlyQuote => straight_quotes(draft, start),
         Byte::HashRemark => remark(draft, start, 1),
         Byte::Hash => definition(draft, start),
-        Byte::Backslash | Byte::Other => take_out(draft, start, 1),
+        Byte::Backslash | Byte::Other if !has_quote(draft.source, start) => {
+            take_out(draft, start, 1)
+        }
         _ => Ok(()),
     }
+}
+
+// Whether a quote stands on the line of a place, and more comes after the place: that may be read wrongly.
+fn has_quote(source: &[u8], place: usize) -> bool {
+    let end = line_end(source, place);
+    let rest = source.get(place.saturating_add(1)..end).unwrap_or(&[]);
+    for back in 0..end {
+        match source.get(end.saturating_sub(back).saturating_sub(1)) {
+            Some(b'\n') => return false,
+            Some(b'"' | b'\'') => return !trimmed(rest).is_empty(),
+            _ => {}
+        }
+    }
+    false
 }
 
 fn take_out(draft: &mut Draft<'_>, start: usize, count: usize) -> Result<(), AllocError> {
@@ -139,6 +158,25 @@ pub(crate) fn constant(
     }
 }
 
+/// `*/` in the place of a `*n/` of a comment without an end, which begins at a place.
+pub(crate) fn comment(draft: &mut Draft<'_>, start: usize) -> Result<(), AllocError> {
+    match newline_end(draft.source, start) {
+        Some(place) => draft.put(place, place.saturating_add(3), &[Part::Words(b"*/")]),
+        None => Ok(()),
+    }
+}
+
+/// Where a `*n/` stands, from a place on.
+pub(crate) fn newline_end(source: &[u8], start: usize) -> Option<usize> {
+    let rest = source.get(start..).unwrap_or(&[]);
+    for index in 0..rest.len() {
+        if rest.get(index..).unwrap_or(&[]).starts_with(b"*n/") {
+            return Some(start.saturating_add(index));
+        }
+    }
+    None
+}
+
 // A number without the zeros before it.
 fn digits(draft: &mut Draft<'_>, line: &[u8], start: usize) -> Result<(), AllocError> {
     let mut zeros: usize = 0;
@@ -168,20 +206,89 @@ fn as_string(draft: &mut Draft<'_>, line: &[u8], start: usize) -> Result<(), All
     Ok(())
 }
 
-// A quote before what ends a line, as `);` does.
+// A quote before what ends a line, as `);` does, or before a comma after which values come: as many as the form before it
+// asks for, where `printf` gets it.
 fn closed(draft: &mut Draft<'_>, line: &[u8], start: usize) -> Result<(), AllocError> {
     let quote = line.get(..1).unwrap_or(&[]);
+    let end = closing_place(line, open_at(draft.source, start));
+    let is_form = line.starts_with(b"\"") && is_after_printf(draft.source, start);
+    let (mut values, mut depth): (usize, usize) = (0, 0);
+    for back in 0..end.min(LONGEST_VALUES) {
+        let place = end.saturating_sub(back);
+        match line.get(place) {
+            Some(b')' | b']') if back > 0 => depth = depth.saturating_add(1),
+            Some(b'(' | b'[') if depth == 0 => break,
+            Some(b'(' | b'[') => depth = depth.saturating_sub(1),
+            Some(b',') if depth == 0 && back > 0 => values = values.saturating_add(1),
+            _ if back > 0 => continue,
+            _ => {}
+        }
+        let is_place = back == 0 || depth == 0 && line.get(place) == Some(&b',');
+        if is_place && (!is_form || items_in(line.get(..place).unwrap_or(&[])) == values) {
+            let at = start.saturating_add(place.max(1));
+            draft.put(at, at, &[Part::Words(quote)])?;
+        }
+    }
+    Ok(())
+}
+
+// Where what ends a line begins, as `);` does, with as many parentheses as are open before. Blanks before it are not
+// part of it.
+fn closing_place(line: &[u8], open: usize) -> usize {
     let whole = line.get(..ended(line)).unwrap_or(&[]);
-    let mut count = whole.len();
+    let mut last = whole.len();
+    let mut left = open.max(1);
     for index in 0..whole.len() {
         let at = whole.len().saturating_sub(index).saturating_sub(1);
-        if !matches!(whole.get(at), Some(b')' | b';' | b' ' | b'}')) {
-            break;
+        match whole.get(at) {
+            Some(b';' | b'}') => last = at,
+            Some(b')') if left > 0 => {
+                last = at;
+                left = left.saturating_sub(1);
+            }
+            Some(b' ') => {}
+            _ => break,
         }
-        count = at;
     }
-    let place = start.saturating_add(count.max(1));
-    draft.put(place, place, &[Part::Words(quote)])
+    last
+}
+
+// How many parentheses are open on the line of a place, before it.
+fn open_at(source: &[u8], place: usize) -> usize {
+    let (mut open, mut depth): (usize, usize) = (0, 0);
+    for back in 0..place {
+        match source.get(place.saturating_sub(back).saturating_sub(1)) {
+            Some(b'\n') => break,
+            Some(b')') => depth = depth.saturating_add(1),
+            Some(b'(') if depth > 0 => depth = depth.saturating_sub(1),
+            Some(b'(') => open = open.saturating_add(1),
+            _ => {}
+        }
+    }
+    open
+}
+
+// Whether the beginning of a call of `printf` is before a place.
+fn is_after_printf(source: &[u8], place: usize) -> bool {
+    source.get(..place).unwrap_or(&[]).ends_with(b"printf(")
+}
+
+// How many values a form asks for.
+fn items_in(form: &[u8]) -> usize {
+    let mut count: usize = 0;
+    let mut is_begun = false;
+    for byte in form {
+        is_begun = match *byte {
+            b'%' => !is_begun,
+            b'-' | b'0'..=b'9' => is_begun,
+            b'd' | b'o' | b'c' | b's' | b'u' | b'x' if is_begun => {
+                count = count.saturating_add(1);
+                false
+            }
+            _ => false,
+        };
+    }
+    count
 }
 
 // Two stars in the place of the first one that begins no escape.

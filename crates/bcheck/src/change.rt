@@ -4,6 +4,7 @@ ghost use Rattle.std.specs.Prelude.{◌≡◌, IfOk, IfSome};
 ghost use Rattle.bsources.specs.Files.{files_shown};
 ghost use Rattle.bcheck.specs.Checks.{Judged};
 ghost use Rattle.bcheck.specs.Findings.{IsChange, IsChanged, IsCompiled, IsMilestone, IsStopOf};
+ghost use Rattle.bcheck.specs.Spares.{IsSpared, spares_at};
 
 use crate::advice::Matter;
 use crate::bytes::Constant;
@@ -13,9 +14,10 @@ use crate::finding::Finding;
 use crate::mending::{Bench, TRIED_BYTES, only_edit};
 use crate::mends::{proposals, token_at, tokens_of};
 use crate::pieces::push_change;
-use crate::places::milestones;
+use crate::places::{milestones, parts};
 use crate::semicolon_mends::{is_of_assignment, semicolons};
 use crate::spans::{SourceText, Spans, lexeme_at};
+use crate::spares::spares;
 use crate::verdict::judge;
 use blex::Lexeme;
 use blint::Warning;
@@ -23,6 +25,9 @@ use bsources::SourceFiles;
 use btools::Text;
 use bword::Edition;
 use std::alloc::{AllocError, Global};
+
+/// How many bytes of sources are looked at for one change, at most: the source once for each finding.
+const LOOKED_BYTES: usize = 8388608;
 
 /// An edit of a source: the bytes that it takes out, and the text for them.
 #[derive(Drop)]
@@ -47,7 +52,8 @@ pub fn next_change(
     files: &SourceFiles<'_>,
     within: usize,
 ) -> Result<Option<Change>, AllocError>
-    ensures { IfOk result (λ found. IfSome found (IsChange edition (files_shown files.now) source.now)) }
+    ensures change { IfOk result (λ found. IfSome found (IsChange edition (files_shown files.now) source.now)) }
+    ensures spared { IfOk result (λ found. IfSome found (IsSpared edition source.now)) }
 {
     let text = SourceText {
         text: source,
@@ -65,14 +71,16 @@ pub fn next_change(
         budget: TRIED_BYTES,
     };
     let tokens = tokens_of(alloc, &bench)?;
+    let mut left = LOOKED_BYTES;
     for finding in findings.as_slice() {
-        if !is_certain(&tokens, finding) {
+        if left == 0 || !is_certain(&tokens, finding) {
             continue;
         }
         let change = change_for(alloc, &bench, &tokens, finding, within)?;
         if change.is_some() {
             return Ok(change);
         }
+        left = left.saturating_sub(source.len());
     }
     Ok(None)
 }
@@ -89,8 +97,9 @@ fn change_for(
     requires judged { Judged bench.now.source.edition bench.now.source.text.now bench.now.judgement.now.verdict }
     requires stop { IsStopOf bench.now.source.edition bench.now.source.text.now bench.now.judgement.now.verdict }
     requires compiled { IsCompiled bench.now.source.edition bench.now.source.text.now bench.now.judgement.now.compiled }
-    ensures { IfOk result (λ found. IfSome found (IsChange bench.now.source.edition (files_shown bench.now.files)
+    ensures change { IfOk result (λ found. IfSome found (IsChange bench.now.source.edition (files_shown bench.now.files)
         bench.now.source.text.now)) }
+    ensures spared { IfOk result (λ found. IfSome found (IsSpared bench.now.source.edition bench.now.source.text.now)) }
 {
     let semicolons = semicolons(alloc, bench, tokens, finding)?;
     if is_of_assignment(finding) {
@@ -118,8 +127,9 @@ fn first_change(
     requires judged { Judged bench.now.source.edition bench.now.source.text.now bench.now.judgement.now.verdict }
     requires stop { IsStopOf bench.now.source.edition bench.now.source.text.now bench.now.judgement.now.verdict }
     requires compiled { IsCompiled bench.now.source.edition bench.now.source.text.now bench.now.judgement.now.compiled }
-    ensures { IfOk result (λ found. IfSome found (IsChange bench.now.source.edition (files_shown bench.now.files)
+    ensures change { IfOk result (λ found. IfSome found (IsChange bench.now.source.edition (files_shown bench.now.files)
         bench.now.source.text.now)) }
+    ensures spared { IfOk result (λ found. IfSome found (IsSpared bench.now.source.edition bench.now.source.text.now)) }
 {
     for index in 0..proposals.len() {
         let change = only_change(alloc, bench, &proposals[index..index + 1], within)?;
@@ -178,8 +188,9 @@ fn only_change(
     requires judged { Judged bench.now.source.edition bench.now.source.text.now bench.now.judgement.now.verdict }
     requires stop { IsStopOf bench.now.source.edition bench.now.source.text.now bench.now.judgement.now.verdict }
     requires compiled { IsCompiled bench.now.source.edition bench.now.source.text.now bench.now.judgement.now.compiled }
-    ensures { IfOk result (λ found. IfSome found (IsChange bench.now.source.edition (files_shown bench.now.files)
+    ensures change { IfOk result (λ found. IfSome found (IsChange bench.now.source.edition (files_shown bench.now.files)
         bench.now.source.text.now)) }
+    ensures spared { IfOk result (λ found. IfSome found (IsSpared bench.now.source.edition bench.now.source.text.now)) }
 {
     let found = only_edit(alloc, bench, proposals)?;
     let Some(edit) = found else {
@@ -188,8 +199,26 @@ fn only_change(
     if edit.start.saturating_add(edit.len) > within {
         return Ok(None);
     }
+    if !is_spared(alloc, bench, &edit)? {
+        return Ok(None);
+    }
     let change = change_of(alloc, &edit)?;
     Ok(Some(change))
+}
+
+// Whether an edit of a source needs no choice.
+fn is_spared(alloc: Global, bench: &Bench<'_>, edit: &Edit<'_>) -> Result<bool, AllocError>
+    ensures { IfOk result (λ is. is ≡ spares_at bench.now.source.edition bench.now.source.text.now edit.now.start
+        edit.now.len edit.now.text.now) }
+{
+    let source = bench.source.text;
+    let (before, rest) = parts(source, edit.start);
+    let (taken, after) = parts(rest, edit.len);
+    let mut new = Text::new(alloc);
+    new.push(before)?;
+    new.push(edit.text)?;
+    new.push(after)?;
+    spares(alloc, bench.source.edition, source, new.as_slice(), taken)
 }
 
 fn change_of(alloc: Global, edit: &Edit<'_>) -> Result<Change, AllocError>

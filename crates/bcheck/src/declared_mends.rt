@@ -1,7 +1,7 @@
 //! Declarations of other languages in the words of this one.
 use crate::draft::Draft;
 use crate::foreign::heading_word;
-use crate::kinds::is_type_name;
+use crate::kinds::{is_ended, is_type_name};
 use blang::Keyword;
 use blex::Lexeme;
 use btools::Text;
@@ -27,6 +27,10 @@ pub(crate) fn local(draft: &mut Draft<'_>, first: usize) -> Result<(), AllocErro
     let Some(end) = end_of(draft, first) else {
         return Ok(());
     };
+    if let Some(callee) = called_in(draft, first, end) {
+        draft.is_sure = true;
+        return draft.after(callee.wrapping_sub(1), b";");
+    }
     let mut text = draft.text();
     text.push(b"auto ")?;
     push_names(&mut text, draft, first, end, true)?;
@@ -35,11 +39,30 @@ pub(crate) fn local(draft: &mut Draft<'_>, first: usize) -> Result<(), AllocErro
     draft.put_text(draft.start(first), draft.end(end), text)
 }
 
+// The name that is called right after another name or a number of a declaration, between two tokens: it begins a
+// statement.
+fn called_in(draft: &Draft<'_>, first: usize, end: usize) -> Option<usize> {
+    for token in first.saturating_add(2)..end {
+        let before = draft.at(token.wrapping_sub(1));
+        let is_apart = is_ended(&before) && !is_left_out(&before);
+        let is_called = matches!(draft.at(token), Lexeme::Name(_))
+            && draft.at(token.saturating_add(1)) == Lexeme::OpenParen;
+        if is_apart && is_called {
+            return Some(token);
+        }
+    }
+    None
+}
+
 /// A declaration of externals in a function, which has names alone. One with values says more.
 pub(crate) fn names_alone(draft: &mut Draft<'_>, first: usize) -> Result<(), AllocError> {
     let Some(end) = end_of(draft, first) else {
         return Ok(());
     };
+    if let Some(callee) = called_in(draft, first, end) {
+        draft.is_sure = true;
+        return draft.after(callee.wrapping_sub(1), b";");
+    }
     for token in first..end {
         if let Lexeme::Number(_) | Lexeme::Character(_) | Lexeme::Assign(_) = draft.at(token) {
             return Ok(());

@@ -238,7 +238,8 @@ fn is_in_head(lexeme: Option<Lexeme>) -> bool
     )
 }
 
-fn is_end(lexeme: Option<Lexeme>) -> bool
+/// Whether the source is over.
+pub(crate) fn is_end(lexeme: Option<Lexeme>) -> bool
     ensures { result ≡ is_end lexeme }
 {
     matches!(lexeme, Some(Lexeme::End))

@@ -5,6 +5,7 @@ use crate::mends::Site;
 use crate::name_mends::declared_at;
 use crate::number_mends::after_operand;
 use crate::syntax_mends::{opener_before, statement_of};
+use crate::warning_mends::compares;
 use blex::Lexeme;
 use std::alloc::AllocError;
 
@@ -14,7 +15,10 @@ pub(crate) fn assigned_left(draft: &mut Draft<'_>, token: usize) -> Result<(), A
     let first = statement_of(draft, token);
     let target = token.wrapping_add(1);
     if opener_before(draft, token).is_some() || assigns(draft, first, token) {
-        return draft.rename(token, b"==");
+        return compares(draft, token);
+    }
+    if draft.at(token) != Lexeme::Assign(None) {
+        return compares(draft, token);
     }
     let end = after_operand(draft, target);
     let last = end.wrapping_sub(1);

@@ -110,7 +110,8 @@ pub(crate) fn is_type_name(name: &Name) -> bool
     is_among(name, &TYPES)
 }
 
-fn is_among(name: &Name, words: &[&str]) -> bool
+/// Whether a name is one of these words.
+pub(crate) fn is_among(name: &Name, words: &[&str]) -> bool
     ensures { result ≡ list_any (λ word. same_name name.now word.now) words.now }
 {
     for word in words {

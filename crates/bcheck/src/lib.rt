@@ -3,6 +3,7 @@
 
 mod advice;
 mod around;
+mod brace_mends;
 mod byte_mends;
 mod bytes;
 mod change;
@@ -37,6 +38,7 @@ mod places;
 mod semicolon_mends;
 mod slip_mends;
 mod spans;
+mod spares;
 mod syntax;
 mod syntax_mends;
 mod tally;
@@ -52,5 +54,6 @@ mod words;
 pub use change::{Change, next_change};
 pub use checking::{check, wrong_checks_are_excluded};
 pub use form::{FindingForm, Request};
+pub use spares::wrong_changes_are_excluded;
 pub use tally::{Tally, tally_on};
 pub use verdict::Verdict;

@@ -49,6 +49,7 @@ pub(crate) fn proposals(
     };
     match finding.matter {
         Matter::Character(byte) => byte_mends::character(&mut draft, byte, finding.place.start)?,
+        Matter::OpenComment => byte_mends::comment(&mut draft, finding.place.start)?,
         Matter::Constant(constant) => byte_mends::constant(&mut draft, constant, token)?,
         Matter::Syntax(syntax) => syntax_mends::of_syntax(&mut draft, site, syntax, finding)?,
         Matter::PrototypeBefore => name_mends::prototype(&mut draft, finding)?,

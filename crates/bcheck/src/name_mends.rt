@@ -5,7 +5,7 @@ use crate::draft::{Draft, Part};
 use crate::finding::Finding;
 use crate::kinds::is_word;
 use crate::mends::{Site, token_at};
-use crate::syntax_mends::{after_brackets, statement_of, word_here};
+use crate::syntax_mends::{after_brackets, opener_before, statement_of, word_here};
 use crate::undefined::UndefinedName;
 use crate::unknown::{Lvalue, Unknown};
 use crate::warning_mends::{and_and, bracketed, compares, takes_arguments};
@@ -13,6 +13,9 @@ use blang::Keyword;
 use blex::Lexeme;
 use bword::Name;
 use std::alloc::AllocError;
+
+/// So often a name stands in a function that another one like it, which stands there once, is mistyped.
+const MANY: u64 = 5;
 
 /// What may mend a definition of a name that a prototype has, which is the second place.
 pub(crate) fn prototype(draft: &mut Draft<'_>, finding: &Finding) -> Result<(), AllocError> {
@@ -40,10 +43,7 @@ pub(crate) fn of_lvalue(
         (Lvalue::Call, _) => call_assigned(draft, site),
         (Lvalue::External, Some(name)) => declare(draft, site, Keyword::Extrn, &name),
         (Lvalue::Label, Some(name)) => declare_either(draft, site, &name),
-        (Lvalue::Near, Some(name)) => {
-            near(draft, site.token, &finding.other)?;
-            declare_either(draft, site, &name)
-        }
+        (Lvalue::Near, Some(name)) => near_or_declared(draft, site, &finding.other, &name),
         (Lvalue::Typed, _) => match finding.related {
             Some(place) => local(draft, token_at(draft.spans, place.start)),
             None => Ok(()),
@@ -75,10 +75,7 @@ pub(crate) fn of_unknown(
             draft.is_guess = true;
             word_here(draft, site.token, word)
         }
-        Unknown::Near => {
-            near(draft, site.token, &finding.other)?;
-            declare_either(draft, site, &name)
-        }
+        Unknown::Near => near_or_declared(draft, site, &finding.other, &name),
         Unknown::NoLabel => label(draft, site, &name),
         Unknown::Letter => draft.replace(
             site.token,
@@ -132,6 +129,45 @@ fn near(draft: &mut Draft<'_>, token: usize, other: &Option<Name>) -> Result<(),
     }
 }
 
+// The name that is declared perhaps, in the place of one use of another one; where nothing else names it in its function
+// it is rather its declaration that is mistyped. Where both are named more than once, it is a choice. What stands once
+// beside many of the other name is mistyped, and no word of its own.
+fn near_or_declared(
+    draft: &mut Draft<'_>,
+    site: Site,
+    other: &Option<Name>,
+    name: &Name,
+) -> Result<(), AllocError> {
+    let Some(known) = other else {
+        return declare_either(draft, site, name);
+    };
+    let (uses, others) = (mentions(draft, site, name), mentions(draft, site, known));
+    draft.is_choice = uses > 1 && others > 1;
+    match declared_in(draft, site, known) {
+        Some(declared) if uses > 1 && others == 1 => draft.rename(declared, name.as_bytes())?,
+        _ => draft.rename(site.token, known.as_bytes())?,
+    }
+    if uses == 1 && others >= MANY {
+        return Ok(());
+    }
+    declare_either(draft, site, name)
+}
+
+// How often a name stands in the function of a token.
+fn mentions(draft: &Draft<'_>, site: Site, name: &Name) -> u64 {
+    let end = match body_of(draft, site) {
+        Some(brace) => after_brackets(draft, brace),
+        None => site.token.saturating_add(1),
+    };
+    let mut count: u64 = 0;
+    for token in site.first.saturating_add(1)..end {
+        if draft.at(token) == Lexeme::Name(*name) {
+            count = count.saturating_add(1);
+        }
+    }
+    count
+}
+
 // A word of a vector in the place of a call of it before an assignment, or a comparison in the place of that.
 fn call_assigned(draft: &mut Draft<'_>, site: Site) -> Result<(), AllocError> {
     let Some(opener) = opener_of(draft.spans, site.token.wrapping_sub(1)) else {
@@ -147,11 +183,20 @@ fn call_assigned(draft: &mut Draft<'_>, site: Site) -> Result<(), AllocError> {
     compares(draft, site.token)
 }
 
-// A call of `lchar` in the place of an assignment to a call of `char`, whose `=` this token is.
+// A call of `lchar` in the place of an assignment to a call of `char`, whose `=` this token is. Where its value is used
+// a comparison is as likely.
 fn stored(draft: &mut Draft<'_>, token: usize) -> Result<(), AllocError> {
     let Some(end) = draft.on_line(token, Lexeme::Semicolon) else {
         return Ok(());
     };
+    if let Some(opener) = opener_before(draft, token) {
+        let is_condition = matches!(
+            draft.at(opener.wrapping_sub(1)),
+            Lexeme::Keyword(Keyword::If | Keyword::While)
+        );
+        draft.is_choice = !is_condition;
+        return draft.rename(token, b"==");
+    }
     for back in 1..token {
         let callee = token.saturating_sub(back);
         let opener = callee.saturating_add(1);
@@ -290,8 +335,17 @@ pub(crate) fn body_of(draft: &Draft<'_>, site: Site) -> Option<usize> {
     None
 }
 
-/// Where a name stands in the declaration of this kind of a function, before a token.
+/// Where a name stands in an `auto` of a function, before a token.
 pub(crate) fn declared_at(draft: &Draft<'_>, site: Site, name: &Name) -> Option<usize> {
+    declared_by(draft, site, name, false)
+}
+
+// The same of an `extrn`, too.
+fn declared_in(draft: &Draft<'_>, site: Site, name: &Name) -> Option<usize> {
+    declared_by(draft, site, name, true)
+}
+
+fn declared_by(draft: &Draft<'_>, site: Site, name: &Name, is_any: bool) -> Option<usize> {
     let mut is_declared = false;
     for token in site.first..site.token {
         let lexeme = draft.at(token);
@@ -300,6 +354,7 @@ pub(crate) fn declared_at(draft: &Draft<'_>, site: Site, name: &Name) -> Option<
         }
         match lexeme {
             Lexeme::Keyword(Keyword::Auto) => is_declared = true,
+            Lexeme::Keyword(Keyword::Extrn) => is_declared = is_any,
             Lexeme::Semicolon => is_declared = false,
             _ => {}
         }

@@ -1,5 +1,6 @@
 //! Fixes that are put together of what stands in the source.
 use crate::advice::Matter;
+use crate::byte_mends::newline_end;
 use crate::finding::{Finding, Place, SecondPlace};
 use crate::kinds::is_type_name;
 use crate::syntax::Syntax;
@@ -19,6 +20,7 @@ pub(crate) fn own_fix(
 ) -> Result<Option<Text>, AllocError> {
     let rest = source.get(finding.place.start..).unwrap_or(&[]);
     match (finding.matter, &finding.related, second) {
+        (Matter::OpenComment, _, _) => comment_end(alloc, source, finding.place.start),
         (Matter::Syntax(Syntax::For), _, _) => loop_of_header(alloc, rest),
         (Matter::Syntax(Syntax::ForEach), _, _) => loop_of_range(alloc, rest),
         (Matter::Warning(Warning::Unset), _, _) => product(alloc, rest, finding.place.len),
@@ -33,6 +35,16 @@ pub(crate) fn own_fix(
             after_line(alloc, source, brace, file, second),
         _ => Ok(None),
     }
+}
+
+// What is no end of a comment.
+fn comment_end(alloc: Global, source: &[u8], start: usize) -> Result<Option<Text>, AllocError> {
+    if newline_end(source, start).is_none() {
+        return Ok(None);
+    }
+    let mut text = Text::new(alloc);
+    text.push(b"*n/ is no end of it: write */ there")?;
+    Ok(Some(text))
 }
 
 // What a product begins with, where a name of so many bytes is multiplied.
@@ -445,6 +457,11 @@ fn next_line(source: &[u8], place: usize) -> usize {
         }
     }
     source.len()
+}
+
+/// How far in the line of a place stands.
+pub(crate) fn indent_at(source: &[u8], place: usize) -> usize {
+    blanks_at(source, line_start(source, place))
 }
 
 // How far in the line that begins here stands, where a tab goes on to the next eighth column.

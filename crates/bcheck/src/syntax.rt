@@ -737,8 +737,8 @@ fn is_unopened(spans: &Spans, token: usize) -> bool {
     false
 }
 
-/// Whether a comment ends before a place on its line that has the beginning of another one in it, and the end of one
-/// comes after the place.
+/// Whether the last comment before a place has the beginning of another one in it, and the end of one comes after the
+/// place.
 pub(crate) fn is_after_comments(source: &[u8], place: usize) -> bool {
     is_before_end(source, place) && is_after_two(source, place)
 }
@@ -763,7 +763,6 @@ fn is_after_two(source: &[u8], place: usize) -> bool {
             (Some(b'*'), Some(b'/'), None) => end = Some(at),
             (Some(b'*'), Some(b'/'), Some(_)) => return false,
             (Some(b'/'), Some(b'*'), Some(_)) => return has_another(source, at),
-            (Some(b'\n'), _, None) => return false,
             _ => {}
         }
     }

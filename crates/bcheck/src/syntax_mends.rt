@@ -1,12 +1,13 @@
 //! Edits for a token with which no program goes on.
 use crate::around::opener_of;
+use crate::brace_mends::{brace_by_lines, indent_of, is_outdented};
 use crate::byte_mends::remark;
 use crate::declared_mends::{definition, head, local, names_alone, push_each};
 use crate::draft::{Draft, Part};
 use crate::finding::Finding;
 use crate::foreign::Foreign;
 use crate::further_mends::assigned_left;
-use crate::kinds::{closes_bracket, is_comparison, is_operand, is_word, opens_bracket};
+use crate::kinds::{closes_bracket, is_comparison, is_ended, is_operand, is_word, opens_bracket};
 use crate::logic_mends::{Logic, mend_logic};
 use crate::mends::{Site, token_at};
 use crate::name_mends::body_of;
@@ -14,7 +15,7 @@ use crate::near::near_keyword;
 use crate::own_parts::body_end;
 use crate::semicolon_mends::may_begin;
 use crate::syntax::Syntax;
-use crate::warning_mends::as_character;
+use crate::warning_mends::{as_character, is_function};
 use blang::Keyword;
 use blex::Lexeme;
 use bword::BinOp;
@@ -51,6 +52,9 @@ fn is_guess(syntax: Syntax) -> bool {
 // What stands outside of functions, and in the heads of functions.
 fn of_definition(draft: &mut Draft<'_>, site: Site, syntax: Syntax) -> Result<(), AllocError> {
     let (token, first) = (site.token, site.first);
+    if is_outside(syntax) && (brace_by_lines(draft, site)? || indent_of(draft, first) > 0) {
+        return Ok(());
+    }
     match syntax {
         Syntax::Slashes => remark(draft, draft.start(token), 2),
         Syntax::BraceSemicolon | Syntax::BraceCloses => draft.remove(token, token),
@@ -65,13 +69,28 @@ fn of_definition(draft: &mut Draft<'_>, site: Site, syntax: Syntax) -> Result<()
             draft, first,
         ),
         Syntax::Prototype => prototype_out(draft, site),
-        Syntax::CallOutside | Syntax::StatementOutside => brace_before(draft, site),
         Syntax::NameMissing if draft.at(token) == Lexeme::OpenBrace => {
             let before = token.wrapping_sub(1);
             draft.put(draft.start(before), draft.end(before), &[])
         }
         _ => Ok(()),
     }
+}
+
+// Whether it is on what stands outside of functions, though a statement of one may be meant.
+fn is_outside(syntax: Syntax) -> bool {
+    matches!(
+        syntax,
+        Syntax::BraceCloses
+            | Syntax::BracesOutside
+            | Syntax::CallOutside
+            | Syntax::EqualsOutside
+            | Syntax::HeadParens
+            | Syntax::LabelOutside
+            | Syntax::SignOutside
+            | Syntax::StatementOutside
+            | Syntax::TypeFirst
+    )
 }
 
 // A prototype taken out, from its name on where a type of its parameters was found fault with.
@@ -134,19 +153,6 @@ fn of_words(
     foreign(draft, site.first, token, word)
 }
 
-// A brace after the head of the function before, which has none.
-fn brace_before(draft: &mut Draft<'_>, site: Site) -> Result<(), AllocError> {
-    let opener = site.before.saturating_add(1);
-    let body = after_brackets(draft, opener);
-    if site.before == site.first
-        || draft.at(opener) != Lexeme::OpenParen
-        || draft.at(body) == Lexeme::OpenBrace
-    {
-        return Ok(());
-    }
-    draft.after(body.wrapping_sub(1), b" {")
-}
-
 // What begins and ends statements, and what stands between them.
 fn of_statement(draft: &mut Draft<'_>, site: Site, syntax: Syntax) -> Result<(), AllocError> {
     let token = site.token;
@@ -174,6 +180,9 @@ fn of_statement(draft: &mut Draft<'_>, site: Site, syntax: Syntax) -> Result<(),
         Syntax::Condition => condition(draft, token),
         Syntax::ReturnValue => parenthesized(draft, token, Lexeme::Semicolon, b"("),
         Syntax::CallParens if has_keyword(draft, token) => keyword(draft, token),
+        Syntax::CallParens if is_outdented(draft, site, token) => {
+            draft.before(statement_of(draft, token), b"} ")
+        }
         Syntax::CallParens => call_parens(draft, token),
         Syntax::ElseAlone => else_alone(draft, before),
         Syntax::HeadColon => draft.remove(token, token),
@@ -219,11 +228,28 @@ fn of_expression(draft: &mut Draft<'_>, site: Site, syntax: Syntax) -> Result<()
             draft.replace(before, token, &[])
         }
         Syntax::AssignLeft => assigned_left(draft, token),
-        Syntax::Unopened => draft.remove(token, token),
+        Syntax::Unopened => {
+            opened(draft, token)?;
+            draft.remove(token, token)
+        }
         Syntax::TwoOperands if opener_before(draft, token).is_some() => draft.after(before, b","),
         Syntax::TwoOperands if may_begin(draft, token) => draft.after(before, b";"),
         _ => Ok(()),
     }
+}
+
+// A parenthesis that is missing after the name of a function, where a `)` comes right after it, and another one.
+fn opened(draft: &mut Draft<'_>, token: usize) -> Result<(), AllocError> {
+    let name = token.wrapping_sub(2);
+    let is_called = is_closing(draft, token) && is_closing(draft, token.wrapping_sub(1));
+    if is_called && is_function(draft, name) {
+        draft.after(name, b"(")?;
+    }
+    Ok(())
+}
+
+fn is_closing(draft: &Draft<'_>, token: usize) -> bool {
+    draft.at(token) == Lexeme::CloseParen
 }
 
 // The bracket that closes the one which is open before a token, in the place of another one.
@@ -330,33 +356,53 @@ pub(crate) fn statement_of(draft: &Draft<'_>, token: usize) -> usize {
     0
 }
 
-// A closing bracket for the one that is open: after a call whose value is assigned and compared, before an assignment,
-// right before the token, or before a comma.
+// A closing bracket for the one that is open: after a call whose value is assigned and compared, before an assignment
+// or a comparison, right before the token, or before a comma. An index is no comparison. Where an operator stands
+// between, and what is open is no heading and no statement, it is a choice.
 fn closing(draft: &mut Draft<'_>, token: usize) -> Result<(), AllocError> {
     let Some(opener) = opener_before(draft, token) else {
         return Ok(());
     };
-    let closer: &[u8] = if draft.at(opener) == Lexeme::OpenBracket {
-        b"]"
-    } else {
-        b")"
-    };
-    let mut is_assigned = false;
+    let is_index = draft.at(opener) == Lexeme::OpenBracket;
+    let closer: &[u8] = if is_index { b"]" } else { b")" };
+    let (mut is_assigned, mut is_joined) = (false, false);
+    let mut depth: u64 = 0;
     for at in opener.saturating_add(1)..token {
-        match draft.at(at) {
-            Lexeme::Assign(None) if draft.at(opener) == Lexeme::OpenBracket => {
+        let lexeme = draft.at(at);
+        match lexeme {
+            Lexeme::Assign(None) if is_index => {
                 draft.after(at.wrapping_sub(1), closer)?;
             }
             Lexeme::Assign(None) => is_assigned = true,
-            Lexeme::Operator(BinOp::Eq | BinOp::Ne | BinOp::Lt | BinOp::Le | BinOp::Gt | BinOp::Ge)
-                if is_assigned => {
+            _ if is_comparison(&lexeme) && (is_assigned || is_index && depth == 0) => {
                 return draft.after(at.wrapping_sub(1), closer);
             }
+            Lexeme::Operator(_) if depth == 0 && is_ended(&draft.at(at.wrapping_sub(1))) => {
+                is_joined = true;
+            }
+            _ if opens_bracket(&lexeme) => depth = depth.saturating_add(1),
+            _ if closes_bracket(&lexeme) => depth = depth.saturating_sub(1),
             _ => {}
         }
     }
+    draft.is_choice = is_joined && !is_whole_statement(draft, opener);
     draft.after(token.wrapping_sub(1), closer)?;
     before_commas(draft, opener, token, closer)
+}
+
+// Whether an open bracket is that of a heading, of a return or of a call that is a statement.
+fn is_whole_statement(draft: &Draft<'_>, opener: usize) -> bool {
+    let head = opener.wrapping_sub(1);
+    let before = draft.at(head.wrapping_sub(1));
+    let begins = matches!(
+        before,
+        Lexeme::Semicolon | Lexeme::OpenBrace | Lexeme::CloseBrace | Lexeme::CloseParen
+    );
+    match draft.at(head) {
+        Lexeme::Keyword(_) => true,
+        Lexeme::Name(_) => begins || before == Lexeme::Keyword(Keyword::Else),
+        _ => false,
+    }
 }
 
 // A closing bracket before a comma, from the last one back.

@@ -135,10 +135,13 @@ fn apart(draft: &mut Draft<'_>, token: usize) -> Result<(), AllocError> {
     draft.put(place, place, &[Part::Words(b" ")])
 }
 
-/// `==` in the place of an assignment.
+/// `==` in the place of an assignment, or the comparison that one looks like.
 pub(crate) fn compares(draft: &mut Draft<'_>, token: usize) -> Result<(), AllocError> {
     match draft.at(token) {
-        Lexeme::Assign(None | Some(BinOp::Eq)) => draft.rename(token, b"=="),
+        Lexeme::Assign(None) => draft.rename(token, b"=="),
+        Lexeme::Assign(
+            Some(BinOp::Eq | BinOp::Ne | BinOp::Lt | BinOp::Le | BinOp::Gt | BinOp::Ge),
+        ) => draft.rename(token, turned(draft.bytes(token, token))),
         Lexeme::Assign(Some(BinOp::Sub)) => draft.rename(token, b"== -"),
         _ => Ok(()),
     }
@@ -445,8 +448,8 @@ fn unsized_word(draft: &mut Draft<'_>, token: usize) -> Result<(), AllocError> {
     }
 }
 
-// Whether the name of a token is a function of the library, or one that the source defines.
-fn is_function(draft: &Draft<'_>, token: usize) -> bool {
+/// Whether the name of a token is a function of the library, or one that the source defines.
+pub(crate) fn is_function(draft: &Draft<'_>, token: usize) -> bool {
     let Lexeme::Name(name) = draft.at(token) else {
         return false;
     };

@@ -14,6 +14,7 @@ use Rattle.bsources.specs.Files.{Files, files_shown}
 use Rattle.bcheck.specs.Checks.{EditParts, mended}
 use Rattle.bcheck.specs.Checks.{change_line}
 use Rattle.bcheck.specs.Findings.{IsChange}
+use Rattle.bcheck.specs.Spares.{IsSpared, spares, spares_at}
 use Rattle.bcheck.specs.declared.change.Change.{Change}
 use Rattle.blang.specs.Code.{code_of}
 use Rattle.bcheck.specs.Checks.{outcome_of}
@@ -53,17 +54,54 @@ module _ (old rest words : List ℕ) (start len : ℕ) (e : EditParts (old ++ re
       ∙ ap (λ x. take start old ++ x) (sym (append_assoc words (drop (start + len) old) rest))
       ∙ sym (append_assoc (take start old) (words ++ drop (start + len) old) rest)
 
+  begins_all : take start (old ++ rest) ≡ here
+  begins_all =
+      ap (take start) e.split ∙ ap (λ n. take n (here ++ (e.old ++ after))) starts
+      ∙ take-append_seam here (e.old ++ after)
+
+  goes_on : drop start (old ++ rest) ≡ e.old ++ after
+  goes_on =
+      ap (drop start) e.split ∙ ap (λ n. drop n (here ++ (e.old ++ after))) starts
+      ∙ drop-append_seam here (e.old ++ after)
+
+  taken_all : take len (drop start (old ++ rest)) ≡ e.old
+  taken_all =
+      ap (take len) goes_on ∙ ap (λ n. take n (e.old ++ after)) long ∙ take-append_seam e.old after
+
+  ends_all : drop len (drop start (old ++ rest)) ≡ after
+  ends_all =
+      ap (drop len) goes_on ∙ ap (λ n. drop n (e.old ++ after)) long ∙ drop-append_seam e.old after
+
+  -- the change needs no choice, as an edit
+  pub spared_by : (edition : Edition) → spares_at edition (old ++ rest) start len words ≡ true
+      → spares edition (old ++ rest) (mended e) e.old ≡ true
+  spared_by edition h =
+      let whole = old ++ rest in
+      let taken = take len (drop start whole) in
+      let left = drop len (drop start whole) in
+      sym (ap (λ x. spares edition whole (x ++ (words ++ left)) taken) begins_all
+      ∙ ap (λ x. spares edition whole (here ++ (x ++ left)) taken) is
+      ∙ ap (λ x. spares edition whole (here ++ (e.text ++ x)) taken) ends_all
+      ∙ ap (λ x. spares edition whole (mended e) x) taken_all)
+      ∙ h
+
 -- what one change makes
 pub made_by : (frame : Frame) (old whole new : List ℕ) (change : Change) (words line : List ℕ) (start len : ℕ)
     → (led : Led) → whole ≡ old ++ frame.rest.now → IsChange frame.edition (files_shown frame.files) whole change
+    → IsSpared frame.edition whole change
     → start ≡ change.start → len ≡ change.len → words ≡ change.text → line ≡ change.line → start + len ≤ length old
     → led.text ≡ take start old ++ (words ++ drop (start + len) old) → led.lines ≡ line
     → new ≡ led.text ++ frame.rest.now
     → length led.text ≤ frame.most → IsTrue (are_among (kept_of frame.edition whole) (kept_of frame.edition new))
     → IsMade frame old led
-made_by frame old whole new change words line start len led is h es el ew en within text lines joined small keeps =
+made_by frame old whole new change words line start len led is h spared es el ew en within text lines joined small keeps =
     let c : IsChange frame.edition (files_shown frame.files) (old ++ frame.rest.now) change =
     subst (λ w. IsChange frame.edition (files_shown frame.files) w change) is h in
+    let one : spares_at frame.edition (old ++ frame.rest.now) start len words ≡ true =
+    ap (λ n. spares_at frame.edition (old ++ frame.rest.now) n len words) es
+    ∙ ap (λ n. spares_at frame.edition (old ++ frame.rest.now) change.start n words) el
+    ∙ ap (λ w. spares_at frame.edition (old ++ frame.rest.now) change.start change.len w) ew
+    ∙ subst (λ w. IsSpared frame.edition w change) is spared in
     let makes : mended c.edit ≡ led.text ++ frame.rest.now =
     makes_of old frame.rest.now words start len c.edit (es ∙ c.start) (el ∙ c.len) (ew ∙ c.text) within
     ∙ ap (λ t. t ++ frame.rest.now) (sym text) in
@@ -76,6 +114,10 @@ made_by frame old whole new change words line start len led is h es el ew en wit
             subst
             (λ n. IsTrue (are_among (kept_of frame.edition (old ++ frame.rest.now)) (kept_of frame.edition n))) joined
             (subst (λ w. IsTrue (are_among (kept_of frame.edition w) (kept_of frame.edition new))) is keeps);
+        spared =
+            subst (λ n. spares frame.edition (old ++ frame.rest.now) n c.edit.old ≡ true) makes
+            (spared_by old frame.rest.now words start len c.edit (es ∙ c.start) (el ∙ c.len) (ew ∙ c.text) within
+            frame.edition one);
       };
       line = lines ∙ en ∙ c.line;
       small = small;

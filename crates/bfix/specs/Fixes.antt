@@ -1,5 +1,5 @@
 -- Promise: what is written of a source that is fixed: what edits that mend it make of it, one after another.
-use Rattle.std.specs.Prelude.{◌≡◌, ℕ, ◌*◌, ◌≤◌, IsTrue, List, [], ◌∷◌, ◌++◌, length}
+use Rattle.std.specs.Prelude.{◌≡◌, ℕ, ◌*◌, ◌≤◌, IsTrue, List, [], ◌∷◌, ◌++◌, length, true}
 use Rattle.std.specs.List.{flat_map}
 use Rattle.bword.specs.declared.edition.Edition.{Edition}
 use Rattle.blang.specs.Reports.{Reported}
@@ -8,6 +8,7 @@ use Rattle.bsources.specs.Files.{Files, files_shown}
 use Rattle.bcheck.specs.Checks.{EachOutcome, EditParts, Mends, Outcome, change_line, fault_in, mended, outcome_status}
 use Rattle.bcheck.specs.Checks.{told_first}
 use Rattle.bcheck.specs.Counts.{IsTally}
+use Rattle.bcheck.specs.Spares.{spares}
 use Rattle.bfix.specs.Keeping.{are_among, kept_of}
 use Rattle.bfix.specs.LeftText.{left_text}
 use Rattle.bfix.specs.OwnText.{Replacing, TellsAfter, own_in, rest_in}
@@ -16,13 +17,14 @@ use Rattle.bfix.specs.declared.fixing.Frame.{Frame}
 use Rattle.bfix.specs.declared.fixing.Led.{Led}
 use Rattle.bfix.specs.declared.fixing.TheConstants.{MOST_CHANGES}
 
--- A change of a text, which these bytes follow: an edit of both that mends them. The bytes that follow stay, and no
--- comment and no string is lost.
+-- A change of a text, which these bytes follow: an edit of both that mends them and needs no choice. The bytes that
+-- follow stay, and no comment and no string is lost.
 pub record Changes (edition : Edition) (rest old new : List ℕ) : Type 0 where
   pub edit : EditParts (old ++ rest)
   pub makes : mended edit ≡ new ++ rest
   pub mends : EachOutcome edition (old ++ rest) (λ o. Mends o edit)
   pub keeps : IsTrue (are_among (kept_of edition (old ++ rest)) (kept_of edition (new ++ rest)))
+  pub spared : spares edition (old ++ rest) (new ++ rest) edit.old ≡ true
 
 -- The changes that these lines tell lead from a text to another one.
 abbrev pub Lead : Edition → Files → (rest old : List ℕ) → (lines : List (List ℕ)) → (new : List ℕ) → Type 0

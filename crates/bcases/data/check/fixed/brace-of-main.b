@@ -1,0 +1,6 @@
+main() {
+    extrn n;
+
+    printn(n, 10);
+
+n 60;

@@ -1,0 +1,4 @@
+main() {
+    putchar('a'); /* one *n/
+    putchar('b');
+}

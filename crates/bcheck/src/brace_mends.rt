@@ -1,0 +1,106 @@
+//! A `{` or a `}` that is missing, where the layout of the lines shows its place.
+use crate::draft::Draft;
+use crate::mends::Site;
+use crate::own_parts::indent_at;
+use crate::syntax_mends::{after_brackets, statement_of};
+use blang::Keyword;
+use blex::Lexeme;
+use std::alloc::AllocError;
+
+/// A `{` after the head of the function before, or after a heading in it, whose lines stand farther in and end with a
+/// `}`. Whether there is such a place.
+pub(crate) fn brace_by_lines(draft: &mut Draft<'_>, site: Site) -> Result<bool, AllocError> {
+    if site.before == site.first {
+        return Ok(false);
+    }
+    let place = if is_loose(draft, site) {
+        Some(head_end(draft, site))
+    } else {
+        heading_end(draft, site)
+    };
+    match place {
+        Some(closer) => {
+            draft.after(closer, b" {")?;
+            Ok(true)
+        }
+        None => Ok(false),
+    }
+}
+
+/// How far in the line of a token stands.
+pub(crate) fn indent_of(draft: &Draft<'_>, token: usize) -> usize {
+    indent_at(draft.source, draft.start(token))
+}
+
+/// Whether a statement that no function has around it stands at the beginning of a line, where those of the function
+/// stand farther in.
+pub(crate) fn is_outdented(draft: &Draft<'_>, site: Site, token: usize) -> bool {
+    let first = statement_of(draft, token);
+    let begins = begins_line(draft, first) && indent_of(draft, first) == 0;
+    let is_plain = first.wrapping_add(1) == token;
+    begins && is_plain && first > site.first && indent_of(draft, first.wrapping_sub(1)) > 0
+}
+
+// The `)` of the head of the function before.
+fn head_end(draft: &Draft<'_>, site: Site) -> usize {
+    after_brackets(draft, site.before.saturating_add(1)).wrapping_sub(1)
+}
+
+// Whether the function before has no `{`, and a statement on a line after its head, farther in, as what comes after it
+// does, or a `}`.
+fn is_loose(draft: &Draft<'_>, site: Site) -> bool {
+    if draft.at(site.before.saturating_add(1)) != Lexeme::OpenParen {
+        return false;
+    }
+    let closer = head_end(draft, site);
+    let body = closer.wrapping_add(1);
+    let own = indent_of(draft, site.before);
+    let goes_on = draft.at(site.first) == Lexeme::CloseBrace || indent_of(draft, site.first) > own;
+    draft.at(body) != Lexeme::OpenBrace
+        && begins_line(draft, body)
+        && begins_line(draft, site.first)
+        && indent_of(draft, body) > own
+        && goes_on
+}
+
+// The last token of the one heading of the function before whose lines show that its `{` is missing.
+fn heading_end(draft: &Draft<'_>, site: Site) -> Option<usize> {
+    let mut found = None;
+    for token in site.before..site.first {
+        let closer = match draft.at(token) {
+            Lexeme::Keyword(Keyword::If | Keyword::While) => {
+                after_brackets(draft, token.saturating_add(1)).wrapping_sub(1)
+            }
+            Lexeme::Keyword(Keyword::Else) => token,
+            _ => continue,
+        };
+        if lacks_brace(draft, token, closer, site.first) {
+            if found.is_some() {
+                return None;
+            }
+            found = Some(closer);
+        }
+    }
+    found
+}
+
+// Whether the lines after a heading stand farther in than it, up to a `}` below it.
+fn lacks_brace(draft: &Draft<'_>, heading: usize, closer: usize, end: usize) -> bool {
+    let first = closer.saturating_add(1);
+    let own = indent_of(draft, heading);
+    if draft.at(first) == Lexeme::OpenBrace || !begins_line(draft, first) {
+        return false;
+    }
+    for token in first..end.saturating_add(1) {
+        if begins_line(draft, token) && indent_of(draft, token) <= own {
+            let is_below = indent_of(draft, token) == own;
+            return token > first && is_below && draft.at(token) == Lexeme::CloseBrace;
+        }
+    }
+    false
+}
+
+// Whether a token is the first one of its line.
+fn begins_line(draft: &Draft<'_>, token: usize) -> bool {
+    token == 0 || draft.line(token.wrapping_sub(1)) != draft.line(token)
+}
