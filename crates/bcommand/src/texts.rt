@@ -500,7 +500,7 @@ line, or LINES or NAMES that don't fit. b --help explains the letters.";
 
 pub(crate) const PORT_HELP: &str = "\
 FILE is of an old or a later form of B, or early C. It is written to standard
-output in this language. A source that compiles and loads is written as it is.
+output in this language. One that loads alone, in edition 1, stays as it is.
 Each change is told on standard error, with its line in FILE and a sentence;
 after left: comes what stays as it is, or may mean something else. What comes
 out is then mended as by b check --fix: that comes after mended:. The last is

@@ -1,12 +1,13 @@
 -- What led on from a ported text, and what is told of it, of the source.
-use Rattle.std.proofs.Common.{◌≡◌, ◌∙◌, ◌≤◌, ◌++◌, ℕ, Bool, true, false, List, [], arith, inl, inr, length, refl, subst}
+use Rattle.std.proofs.Common.{◌≡◌, ◌∙◌, ◌≤◌, ◌++◌, ◌||◌, ℕ, Bool, true, false, List, [], arith, inl, inr, length, refl, subst}
 use Rattle.std.proofs.Common.{sym}
 use Rattle.bword.specs.declared.edition.Edition.{Edition}
 use Rattle.bport.specs.Edits.{EditsIfFaulty}
 use Rattle.bport.specs.declared.edit.Edit.{Edit}
 use Rattle.bport.specs.declared.porting.Ported.{Ported}
 use Rattle.bport.specs.declared.row.Note.{Note}
-use Rattle.bport.specs.Staying.{IsLeft}
+use Rattle.bport.specs.Staying.{IsLeft, refuses}
+use Rattle.std.specs.List.{list_any}
 use Rattle.bfix.specs.Fixes.{IsLed}
 use Rattle.bfix.specs.OwnText.{Replacing, TellsBoth, own_in, rest_in}
 use Rattle.bfix.specs.Ports as ports
@@ -28,18 +29,28 @@ pub stays_led : (frame : Frame) (ported : Ported) (led : Led) → led.text ≡ p
     → IsLedOn frame ported led
 stays_led frame ported led is none =
     let small = λ (h : length ported.text ≤ frame.most). subst (λ t. length t ≤ frame.most) (sym is) h in
-    (record { lines = []; lead = is; few = omega arith; told = none; small = small }, λ e. refl)
+    (record { lines = []; lead = is; few = omega arith; told = none; small = small }, λ e. refl, λ e. refl)
 
 -- what comes of anything else
-pub goes_led : (frame : Frame) (ported : Ported) (led : Led) → ported.is_program ≡ false → IsLed frame ported.text led
+pub goes_led : (frame : Frame) (ported : Ported) (led : Led)
+    → (ported.is_program || list_any refuses ported.notes.items) ≡ false → IsLed frame ported.text led
     → IsLedOn frame ported led
-goes_led frame ported led e led_by = (led_by, λ f. let no : true ≡ false = sym f ∙ e in cc)
+goes_led frame ported led e led_by =
+    (led_by, no_led ported.is_program (list_any refuses ported.notes.items) led e,
+    no_refused ported.is_program (list_any refuses ported.notes.items) led e)
+
+no_led : (p r : Bool) (led : Led) → (p || r) ≡ false → p ≡ true → led.lines ≡ []
+no_led true r led e f = let no : true ≡ false = e in cc
+no_led false r led e f = let no : true ≡ false = sym f in cc
+
+no_refused : (p r : Bool) (led : Led) → (p || r) ≡ false → r ≡ true → led.lines ≡ []
+no_refused true r led e f = let no : true ≡ false = e in cc
+no_refused false r led e f = let no : true ≡ false = sym f ∙ e in cc
 
 -- a program has no edit and no change
 pub stays_if_it_runs : (edition : Edition) (own rest : List ℕ) (is_program : Bool) (edits : List Edit)
-    → (notes : List Note) (lines : List (List ℕ)) → EditsIfFaulty edition (own ++ rest) is_program edits
+    → (notes : List Note) (lines : List (List ℕ)) → EditsIfFaulty edition own rest is_program edits
     → (is_program ≡ false → IsLeft own edits notes)
     → (is_program ≡ true → lines ≡ []) → StaysIfItRuns edition own rest edits notes lines
 stays_if_it_runs edition own rest true edits notes lines loads left quiet = inl (loads.0, loads.1, quiet refl)
-stays_if_it_runs edition own rest false edits notes lines faulty left quiet =
-    inr (faulty.0, faulty.1, faulty.2, left refl)
+stays_if_it_runs edition own rest false edits notes lines faulty left quiet = inr (faulty, left refl)

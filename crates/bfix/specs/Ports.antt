@@ -1,5 +1,6 @@
 -- Promise: what is written of an old source that is ported, and what is told of it.
 use Rattle.std.specs.Prelude.{◌≡◌, ◌⊎◌, ℕ, List, [], ◌++◌, true, unwrap_or}
+use Rattle.std.specs.List.{list_any}
 use Rattle.bword.specs.declared.edition.Edition.{Edition}
 use Rattle.blang.specs.declared.status.TheConstants.{DONE, FAULT, MEMORY, REFUSED}
 use Rattle.blang.specs.Compiles.{line_of}
@@ -8,11 +9,11 @@ use Rattle.btools.specs.Programs.{HasNoProgram, load_line}
 use Rattle.btools.specs.declared.program.ProgramFault.{ProgramFault}
 use Rattle.btools.specs.declared.program.ProgramFault.TheVariants as why
 use Rattle.bport.specs.Changes.{listed}
-use Rattle.bport.specs.Edits.{HasSomeProgram, are_edits_of, edited, is_reason}
+use Rattle.bport.specs.Edits.{HasSomeProgram, IsFaulty, IsFaultyAlone, are_edits_of, edited, is_reason}
 use Rattle.bport.specs.declared.edit.Edit.{Edit}
 use Rattle.bport.specs.declared.porting.Ported.{Ported}
 use Rattle.bport.specs.declared.row.Note.{Note}
-use Rattle.bport.specs.Staying.{IsLeft, notes_text}
+use Rattle.bport.specs.Staying.{IsLeft, notes_text, refuses}
 use Rattle.bfix.specs.Fixes.{Fixed, IsLed, all_lines}
 use Rattle.bfix.specs.OwnText.{Replacing, TellsTexts, own_in, rest_in}
 use Rattle.bfix.specs.declared.fixing.FixedText.{FixedText}
@@ -36,13 +37,12 @@ HasVerdict edition whole line status =
     ⊎ ((fault : ProgramFault) × HasNoProgram edition whole fault × (is_reason fault ≡ true)
     × (line ≡ verdict_text fault) × (status ≡ verdict_status fault))
 
--- A source that compiles and loads, with what comes after it, has no edit and no change. Of any other one each sign of
--- another form that stays is told.
+-- A source has no edit and no change, and compiles and loads with what comes after it. Or it doesn't, or not alone and
+-- in edition 1: then each sign of another form that stays is told.
 abbrev pub StaysIfItRuns : Edition → (own rest : List ℕ) → List Edit → List Note → (lines : List (List ℕ)) → Type 0
 StaysIfItRuns edition own rest es notes lines =
     (HasSomeProgram edition (own ++ rest) × (es ≡ []) × (lines ≡ []))
-    ⊎ ((fault : ProgramFault) × HasNoProgram edition (own ++ rest) fault × (is_reason fault ≡ true)
-    × IsLeft own es notes)
+    ⊎ ((IsFaulty edition (own ++ rest) ⊎ IsFaultyAlone own) × IsLeft own es notes)
 
 -- what is told of edits and notes
 abbrev pub edits_told : (file own : List ℕ) → List Edit → List Note → List ℕ
@@ -56,6 +56,7 @@ pub record Edited (edition : Edition) (files : Files) (own rest new told : List 
   pub mended : Fixed edition files rest (edited own 0 edits) new
   pub notes : List Note
   pub stays : StaysIfItRuns edition own rest edits notes mended.lines
+  pub quiet : list_any refuses notes ≡ true → mended.lines ≡ []
   pub line : List ℕ
   pub list : told ≡ (edits_told files.first.name own edits notes ++ all_lines mended.lines) ++ line
   pub verdict : HasVerdict edition (new ++ rest) line status
@@ -74,6 +75,8 @@ pub data Ports (p : Replacing) : Type 0 where
 abbrev pub IsTold : Edition → Files → (own rest : List ℕ) → FixedText → Type 0
 IsTold edition files own rest made = Edited edition files own rest made.text made.told made.status
 
--- changes led on from a ported text, and none from a program
+-- changes led on from a ported text, and none from a program, or from what can't be read
 abbrev pub IsLedOn : Frame → Ported → Led → Type 0
-IsLedOn frame p led = (l : IsLed frame p.text led) × (p.is_program ≡ true → l.lines ≡ [])
+IsLedOn frame p led =
+    (l : IsLed frame p.text led) × (p.is_program ≡ true → l.lines ≡ [])
+    × (list_any refuses p.notes.items ≡ true → l.lines ≡ [])

@@ -1,13 +1,15 @@
 //! Porting a source, and mending what comes of it.
-ghost use Rattle.std.specs.Prelude.{◌≡◌, ◌++◌, [], IfOk, true};
+ghost use Rattle.std.specs.Prelude.{◌≡◌, ◌++◌, ◌||◌, [], IfOk, true};
+ghost use Rattle.std.specs.List.{list_any};
 ghost use Rattle.bsources.specs.Files.{files_shown};
 ghost use Rattle.bport.specs.Edits.{is_reason};
+ghost use Rattle.bport.specs.Staying.{refuses};
 ghost use Rattle.bfix.specs.Ports.{HasVerdict, IsLedOn, IsTold, Ports, edits_told, verdict_status, verdict_text};
 
 use crate::edits::own_length;
 use crate::fixing::{FixedText, Frame, Led, follow, tell_both};
 use blang::status::{self, Status};
-use bport::{Ported, joined, port_text, push_changes, push_notes};
+use bport::{Ported, has_refused, joined, port_text, push_changes, push_notes};
 use bsources::SourceFiles;
 use btools::{Origin, ProgramFault, Text, diagnostic_line, load_line, read_program};
 use bword::{ByteOut, Edition};
@@ -81,16 +83,24 @@ fn edits_told(alloc: Global, file: &str, own: &[u8], ported: &Ported) -> Result<
     Ok(told)
 }
 
-// Makes the changes of what is no program.
+// Makes the changes of what is no program, unless it can't be read.
 fn led_on(alloc: Global, frame: &Frame<'_>, ported: &Ported) -> Result<Led, AllocError>
     ensures { IfOk result (IsLedOn frame.now ported.now) }
 {
-    if ported.is_program {
+    let stays = stays(ported);
+    if stays {
         let led = unchanged(alloc, ported.text.as_slice())?;
         return Ok(led);
     }
     let led = follow(alloc, frame, ported.text.as_slice())?;
     Ok(led)
+}
+
+// Whether nothing leads on from a ported text.
+fn stays(ported: &Ported) -> bool
+    ensures { result ≡ (ported.now.is_program || list_any refuses ported.now.notes.items) }
+{
+    ported.is_program || has_refused(ported.notes.as_slice())
 }
 
 // A text to which nothing led but itself.

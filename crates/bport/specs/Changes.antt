@@ -54,6 +54,8 @@ sentence row.Continue = codes "the next turn is a goto to the end of the body"
 sentence row.Range = codes "each case has one constant"
 sentence row.Switch = codes "the cases of a switch are in braces"
 sentence row.Empty = codes "a statement comes after a label"
+sentence row.Packed = codes "a word has two characters of eight bits"
+sentence row.Scope = codes "a name in inner braces isn't that of an outer auto"
 
 -- how many lines end among bytes
 abbrev pub newlines : List ℕ → ℕ

@@ -1,9 +1,10 @@
 -- Promise: what is edited in an old source, and what stays.
-use Rattle.std.specs.Prelude.{ℕ, nat_le, Bool, true, false, List, [], ◌∷◌, ◌++◌, ◌≡◌, ◌&&◌, ◌||◌, Option, Some}
+use Rattle.std.specs.Prelude.{ℕ, nat_le, Bool, true, false, List, [], ◌∷◌, ◌++◌, ◌≡◌, ◌⊎◌, ◌&&◌, ◌||◌, Option, Some}
 use Rattle.std.specs.Prelude.{codes, drop, if◌then◌else◌, length, not, slice_get, take}
 use Rattle.std.specs.List.{list_all}
 use Rattle.std.specs.Str.{bytes_eq}
 use Rattle.bword.specs.declared.edition.Edition.{Edition}
+use Rattle.bword.specs.declared.edition.Edition.TheVariants as edition
 use Rattle.blang.specs.declared.code.Definition.{Definition}
 use Rattle.blang.specs.Machine.{Image}
 use Rattle.btools.specs.Programs.{HasNoProgram, HasProgram}
@@ -75,8 +76,15 @@ is_reason _ = true
 abbrev pub HasSomeProgram : Edition → (whole : List ℕ) → Type 0
 HasSomeProgram edition whole = (ds : List Definition) × (image : Image) × HasProgram edition whole ds image
 
--- A source that compiles and loads, with what comes after it, has no edit. Any other one doesn't compile or load.
-abbrev pub EditsIfFaulty : Edition → (whole : List ℕ) → (is_program : Bool) → List Edit → Type 0
-EditsIfFaulty edition whole true es = HasSomeProgram edition whole × (es ≡ [])
-EditsIfFaulty edition whole false es =
-    (fault : ProgramFault) × HasNoProgram edition whole fault × (is_reason fault ≡ true)
+-- a source doesn't compile or load
+abbrev pub IsFaulty : Edition → (whole : List ℕ) → Type 0
+IsFaulty edition whole = (fault : ProgramFault) × HasNoProgram edition whole fault × (is_reason fault ≡ true)
+
+-- a source doesn't compile in edition 1, or doesn't load without what comes after it
+abbrev pub IsFaultyAlone : (own : List ℕ) → Type 0
+IsFaultyAlone own = IsFaulty edition.One own
+
+-- A program has no edit, and compiles and loads with what comes after it. Anything else doesn't, or not alone.
+abbrev pub EditsIfFaulty : Edition → (own rest : List ℕ) → (is_program : Bool) → List Edit → Type 0
+EditsIfFaulty edition own rest true es = HasSomeProgram edition (own ++ rest) × (es ≡ [])
+EditsIfFaulty edition own rest false es = IsFaulty edition (own ++ rest) ⊎ IsFaultyAlone own

@@ -45,12 +45,25 @@ numbered_or None otherwise = otherwise
 abbrev pub backslash_escape : List ℕ → List ℕ
 backslash_escape escape = numbered_or (octal_value escape) (letter_escape escape)
 
--- The escape that stands here for these bytes in quotes. A `*` that begins none stands for itself by another one.
+-- the escape for one in capitals, `*N`, `*T` or `*E`, and what stands for two stars that are two characters
+abbrev pub capital_escape : ℕ → List ℕ
+capital_escape b =
+    if b == 78 then 42 ∷ 110 ∷ []
+    else (if b == 84 then 42 ∷ 116 ∷ []
+    else (if b == 69 then 42 ∷ 101 ∷ [] else (if b == 42 then 42 ∷ 42 ∷ 42 ∷ 42 ∷ [] else [])))
+
+-- What stands here for a `*` and these bytes: one that begins no escape stands for itself by another one, and so does
+-- each of two.
+abbrev pub star_escape : List ℕ → List ℕ
+star_escape [] = 42 ∷ 42 ∷ []
+star_escape (b ∷ []) = capital_escape b
+star_escape _ = []
+
+-- the escape that stands here for these bytes in quotes
 abbrev pub escape_for : List ℕ → List ℕ
 escape_for [] = []
 escape_for (mark ∷ escape) =
-    if mark == 92 then backslash_escape escape
-    else (if (mark == 42) && (length escape == 0) then 42 ∷ 42 ∷ [] else [])
+    if mark == 92 then backslash_escape escape else (if mark == 42 then star_escape escape else [])
 
 -- the byte after these is one more digit of their number
 abbrev pub is_cut_short : (old : List ℕ) → (next : Option ℕ) → Bool

@@ -54,6 +54,11 @@ octal_escapes : map escape_for (codes "\\012" ∷ codes "\\11" ∷ codes "\\000"
     ≡ codes "*n" ∷ codes "*t" ∷ codes "*0" ∷ codes "*n" ∷ []
 octal_escapes = refl
 
+-- in capitals, and two stars that are two characters
+star_escapes : map escape_for (codes "*N" ∷ codes "*T" ∷ codes "*E" ∷ codes "**" ∷ codes "*S" ∷ codes "*NN" ∷ [])
+    ≡ codes "*n" ∷ codes "*t" ∷ codes "*e" ∷ codes "****" ∷ [] ∷ [] ∷ []
+star_escapes = refl
+
 -- other bytes, four digits, and a digit that is none
 no_octal_escapes : map escape_for (codes "\\101" ∷ codes "\\0012" ∷ codes "\\018" ∷ codes "\\8" ∷ [])
     ≡ [] ∷ [] ∷ [] ∷ [] ∷ []

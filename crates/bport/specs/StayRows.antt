@@ -2,7 +2,7 @@
 use Rattle.std.specs.Fmt.{digits}
 use Rattle.std.specs.Prelude.{◌≡◌, ℕ, true, false, Bool, List, [], ◌∷◌, codes, map, refl}
 use Rattle.bport.specs.Places.{places_of}
-use Rattle.bport.specs.Staying.{is_old_at, is_told_at, notes_text}
+use Rattle.bport.specs.Staying.{is_old_at, is_told_at, notes_text, refuses_kind}
 use Rattle.bport.specs.declared.edit.Edit.{Edit}
 use Rattle.bport.specs.declared.row.Note.{Note}
 use Rattle.bport.specs.declared.row.NoteKind.TheVariants as kind
@@ -21,6 +21,15 @@ others : old_in (codes "$(a&&b||c$)&d|e") (0 ∷ 3 ∷ 4 ∷ 6 ∷ 9 ∷ 11 ∷ 
     ≡ true ∷ true ∷ false ∷ true ∷ true ∷ false ∷ false ∷ []
 others = refl
 
+-- bits, and what only looks like an operator of them
+bits : old_in (codes "a<<=b>>=c^=~d|=e&=f;g=<<h;i<=j") (1 ∷ 2 ∷ 5 ∷ 9 ∷ 11 ∷ 13 ∷ 16 ∷ 21 ∷ 22 ∷ 26 ∷ [])
+    ≡ true ∷ false ∷ true ∷ true ∷ true ∷ true ∷ true ∷ false ∷ false ∷ false ∷ []
+bits = refl
+
+-- a newline in quotes, and a backslash with an n after it
+newlines : old_in (codes "\"\\n\\\\n\"'\\n'") (1 ∷ 3 ∷ 4 ∷ 8 ∷ []) ≡ true ∷ false ∷ false ∷ true ∷ []
+newlines = refl
+
 -- in comments, strings and character constants there are none
 not_in_code : old_in (codes "/*&&*/\"+=\"'$('") (2 ∷ 7 ∷ 11 ∷ []) ≡ false ∷ false ∷ false ∷ []
 not_in_code = refl
@@ -35,6 +44,11 @@ edit = record { start = 4; end = 6; text = []; row = row.And }
 told_at : map (λ at. is_told_at at (edit ∷ []) (note ∷ [])) (2 ∷ 3 ∷ 4 ∷ 5 ∷ 6 ∷ [])
     ≡ true ∷ false ∷ true ∷ true ∷ false ∷ []
 told_at = refl
+
+refusing : map refuses_kind
+    (kind.Bracket ∷ kind.Growth ∷ kind.Fraction ∷ kind.Numbered ∷ kind.Accent ∷ kind.Star ∷ kind.Escape ∷ [])
+    ≡ true ∷ true ∷ true ∷ true ∷ true ∷ false ∷ false ∷ []
+refusing = refl
 
 note_line : notes_text (codes "f") (codes "a\nb") (note ∷ [])
     ≡ codes "f:2: left: this sign is one of another form, and stays\n"

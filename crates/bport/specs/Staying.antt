@@ -13,12 +13,17 @@ use Rattle.bport.specs.declared.row.NoteKind.TheVariants as kind
 use Rattle.bport.specs.declared.within.Within.{Within}
 use Rattle.bport.specs.declared.within.Within.TheVariants as within
 
--- Two bytes are an assignment operator with `=` last, `&&`, `||`, `$(` or `$)`. Before a further `=` the first of the
--- three belongs to what stands before.
+-- Two bytes are an assignment operator with `=` last, `&&`, `||`, `$(` or `$)`, or the first one is `~`. Before a further
+-- `=` the first of the three belongs to what stands before, but for `<<=` and `>>=`.
 abbrev pub is_old_sign : (first second : ℕ) → (is_longer : Bool) → Bool
 is_old_sign a b is_longer =
-    if b == 61 then (not is_longer && list_any (λ c. a == c) (codes "+-*/%"))
-    else (if a == 36 then b == 40 || b == 41 else ((a == b) && (a == 38 || a == 124)))
+    if b == 61 then (not is_longer && list_any (λ c. a == c) (codes "+-*/%&|^~"))
+    else (if a == 36 then b == 40 || b == 41
+    else (((a == b) && ((a == 38 || a == 124) || (is_longer && (a == 60 || a == 62)))) || (a == 126)))
+
+-- two bytes in quotes are a newline of another form
+abbrev pub is_old_newline : (first second : ℕ) → Bool
+is_old_newline a b = (a == 92) && (b == 110)
 
 abbrev pub is_equals : Option ℕ → Bool
 is_equals (Some b) = b == 61
@@ -28,6 +33,8 @@ is_equals None = false
 abbrev pub is_old : Option Within → (first second third : Option ℕ) → Bool
 is_old (Some within.Code) (Some a) (Some b) c = is_old_sign a b (is_equals c)
 is_old (Some within.Start) (Some a) (Some b) c = is_old_sign a b (is_equals c)
+is_old (Some within.Char) (Some a) (Some b) c = is_old_newline a b
+is_old (Some within.String) (Some a) (Some b) c = is_old_newline a b
 is_old _ _ _ _ = false
 
 abbrev pub is_old_at : List ℕ → List Within → ℕ → Bool
@@ -57,6 +64,9 @@ TellsOld source edits notes =
 abbrev pub refuses_kind : NoteKind → Bool
 refuses_kind kind.Growth = true
 refuses_kind kind.Bracket = true
+refuses_kind kind.Fraction = true
+refuses_kind kind.Numbered = true
+refuses_kind kind.Accent = true
 refuses_kind _ = false
 
 abbrev pub refuses : Note → Bool
@@ -98,10 +108,17 @@ note_sentence kind.Base = codes "printn has the base after the number: printn(n,
 note_sentence kind.Bracket = codes "no bracket fits this one: port changes nothing until one does"
 note_sentence kind.Called = codes "(*f)() calls the function in the word at f: f() calls the one in f"
 note_sentence kind.Sign = codes "this sign is one of another form, and stays"
-note_sentence kind.Zero = codes "the input ends with '*e' here, and not with 0"
+note_sentence kind.Zero = codes "the input ends with '*e' here, and not with 0 or -1"
 note_sentence kind.Held = codes "this is the address of the function's word: (*f)() calls it, and f() doesn't"
 note_sentence kind.Sizes = codes "a vector has one index: write v[5] for v[2][3], and v[3 * i + k] for v[i][k]"
 note_sentence kind.Negated = codes "write while(!(x)) for until(x), and if(!(x)) for unless(x)"
+note_sentence kind.Ends = codes "a string ends with '*e', which is 4: a test for 0 doesn't see it"
+note_sentence kind.Fewer = codes "the words of this vector that have no value aren't 0"
+note_sentence kind.Shift = codes ">> puts zeros in: a word below 0 becomes a large one"
+note_sentence kind.Fraction = codes "# is an operator of fractions, which aren't here: port changes nothing"
+note_sentence kind.Numbered = codes "lines have no numbers before them: port changes nothing until these go"
+note_sentence kind.Accent = codes "there are no constants between accents: port changes nothing until these go"
+note_sentence kind.Star = codes "*\" doesn't end a string: write **\" where it does"
 
 -- what is told of a note: the file, the line, and the sentence
 abbrev pub note_text : (file source : List ℕ) → Note → List ℕ

@@ -3,6 +3,7 @@ ghost use Rattle.std.specs.Prelude.{◌≡◌, ◌++◌, IfOk};
 ghost use Rattle.bport.specs.Edits.{edited};
 
 use crate::edit::{Edit, between};
+use crate::source::Draft;
 use btools::Text;
 use std::alloc::{AllocError, Global};
 
@@ -33,15 +34,17 @@ pub fn joined(alloc: Global, own: &[u8], rest: &[u8]) -> Result<Text, AllocError
 
 /// The bytes between two places, with those of the edits that are among them.
 pub(crate) fn render(
-    alloc: Global,
+    draft: &Draft,
     source: &[u8],
-    edits: &[Edit],
     start: usize,
     end: usize,
 ) -> Result<Text, AllocError> {
-    let mut text = Text::new(alloc);
+    let mut text = Text::new(draft.alloc);
     let mut at = start;
-    for edit in edits {
+    for edit in draft.edits_from(start) {
+        if draft.ordered > 0 && edit.start > end {
+            break;
+        }
         if edit.start >= at && edit.end <= end {
             text.push(between(source, at, edit.start))?;
             text.push(edit.text.as_slice())?;

@@ -1,7 +1,9 @@
 //! Calls of the library that mean something else here.
+use crate::definitions::Outline;
+use crate::inputs::inputs;
 use crate::row::{NoteKind, Row};
 use crate::source::{Draft, Source};
-use crate::table::{NONE, filled, put, slot};
+use crate::table::NONE;
 use std::alloc::{AllocError, Global};
 
 /// How many parentheses after a call are looked past.
@@ -13,28 +15,52 @@ pub(crate) fn calls(
     source: &Source<'_>,
     others: &Source<'_>,
     draft: &mut Draft,
+    outline: &Outline,
 ) -> Result<(), AllocError> {
-    let has_base = !defines(source, b"printn") && !defines(others, b"printn");
-    let has_input = !defines(source, b"getchar") && !defines(others, b"getchar");
-    let has_strings = !defines(source, b"char") && !defines(others, b"char");
-    let mut inputs = filled(alloc, source.tokens.len())?;
+    let has_base = !is_defined(source, others, b"printn");
+    let has_input = !is_defined(source, others, b"getchar");
+    let has_strings = !is_defined(source, others, b"char");
+    let has_stores = !is_defined(source, others, b"lchar");
     for index in 0..source.tokens.len() {
         match source.word(index) {
             b"printn" if has_base => base(source, draft, index)?,
-            b"getchar" if has_input => {
-                keep_input(source, &mut inputs, index);
-                ended(source, draft, index, Row::InputEnd)?;
-            }
+            b"getchar" if has_input => ended(source, draft, index, Row::InputEnd)?,
             b"char" if has_strings => ended(source, draft, index, Row::StringEnd)?,
+            b"lchar" if has_stores => stored(source, draft, index)?,
             _ => {}
         }
     }
-    for index in 0..source.tokens.len() {
-        if slot(&inputs, slot(source.firsts, index)) != NONE {
-            compared(source, draft, index, Row::InputEnd, false)?;
-        }
+    if has_input {
+        inputs(alloc, source, draft, outline)?;
     }
     Ok(())
+}
+
+fn is_defined(source: &Source<'_>, others: &Source<'_>, name: &[u8]) -> bool {
+    defines(source, name) || defines(others, name)
+}
+
+/// Whether a call of `lchar` stores 0: the token of this 0.
+pub(crate) fn stored_end(source: &Source<'_>, index: usize) -> usize {
+    let open = index.wrapping_add(1);
+    let value = source.partner(open).wrapping_sub(1);
+    if source.is_open_paren(open)
+        && source.is(value, b"0")
+        && source.is(value.wrapping_sub(1), b",")
+    {
+        value
+    } else {
+        NONE
+    }
+}
+
+// A 0 at the end of a string is `'*e'`.
+fn stored(source: &Source<'_>, draft: &mut Draft, index: usize) -> Result<(), AllocError> {
+    let value = stored_end(source, index);
+    if value == NONE {
+        return Ok(());
+    }
+    draft.replace(source, value, b"'*e'", Row::StringEnd)
 }
 
 /// Whether a source defines a function.
@@ -86,14 +112,6 @@ fn base(source: &Source<'_>, draft: &mut Draft, index: usize) -> Result<(), Allo
         return draft.insert(source.start(source.partner(open)), b", 10", Row::Base);
     }
     Ok(())
-}
-
-// Keeps the name that the value of a call is stored in.
-fn keep_input(source: &Source<'_>, inputs: &mut Vec<usize>, index: usize) {
-    let name = index.wrapping_sub(2);
-    if source.is(index.wrapping_sub(1), b"=") && source.is_call(index) {
-        put(inputs, slot(source.firsts, name), index);
-    }
 }
 
 // A call, or what stores its value, with the parentheses around it: its first and its last token, and whether these are
@@ -190,8 +208,8 @@ fn alone(source: &Source<'_>, draft: &mut Draft, unit: Unit, row: Row) -> Result
     draft.insert(source.end(unit.last), words, row)
 }
 
-// Edits a comparison with -1, or with 0, that comes after a token.
-fn compared(
+/// Edits a comparison with -1, or with 0, that comes after a token.
+pub(crate) fn compared(
     source: &Source<'_>,
     draft: &mut Draft,
     last: usize,

@@ -4,6 +4,7 @@ use crate::externals::{is_text, variables};
 use crate::headers::{knr, parameters};
 use crate::names::{Constants, is_type};
 use crate::pointers::pointed;
+use crate::quotes::quoted;
 use crate::row::{NoteKind, Row};
 use crate::source::{Draft, Source};
 use crate::table::{NONE, filled, put, slot};
@@ -225,6 +226,14 @@ fn constant(
     let end = if is_longer { after_last } else { last };
     found.take(at, end);
     draft.comment(source, at, end, Row::Constant)?;
+    for index in at..end.min(source.tokens.len()) {
+        if matches!(
+            source.kind(index),
+            Some(TokenKind::Char | TokenKind::String)
+        ) {
+            quoted(source, draft, index)?;
+        }
+    }
     Ok(after(end))
 }
 

@@ -5,6 +5,7 @@ ghost use Rattle.std.specs.List.{list_all};
 ghost use Rattle.bport.specs.Places.{is_own_text};
 ghost use Rattle.bport.specs.Edits.{are_sound, fits, is_escape, is_in_quotes, opens_comment, stands_apart};
 ghost use Rattle.bport.specs.Escapes.{backslash_escape, byte_escape, escape_for, escape_of, is_cut_short, letter_escape};
+ghost use Rattle.bport.specs.Escapes.{star_escape};
 ghost use Rattle.bport.specs.Escapes.{octal_number, octal_value};
 
 use crate::row::Row;
@@ -145,8 +146,22 @@ pub(crate) fn escape_for(old: &[u8]) -> &'static [u8]
     ensures { result.now ≡ escape_for old.now }
 {
     match old {
-        [b'*'] => b"**",
         [b'\\', escape @ ..] => backslash_escape(escape),
+        [b'*', escape @ ..] => star_escape(escape),
+        _ => b"",
+    }
+}
+
+// The same for what comes after a `*`.
+fn star_escape(escape: &[u8]) -> &'static [u8]
+    ensures { result.now ≡ star_escape escape.now }
+{
+    match escape {
+        [] => b"**",
+        [b'N'] => b"*n",
+        [b'T'] => b"*t",
+        [b'E'] => b"*e",
+        [b'*'] => b"****",
         _ => b"",
     }
 }

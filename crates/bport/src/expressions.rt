@@ -19,10 +19,17 @@ pub(crate) fn sign(source: &Source<'_>, draft: &mut Draft, index: usize) -> Resu
         b"~" => complement(source, draft, index),
         b"(" if is_cast(source, index) => cast(source, draft, index),
         b"->" => draft.note(source, index, NoteKind::Structure),
-        b"+=" | b"-=" | b"*=" | b"/=" | b"%=" | b"&=" | b"|=" | b"<<=" | b">>=" => {
+        b"+=" | b"-=" | b"*=" | b"/=" | b"%=" | b"&=" | b"|=" | b"<<=" => {
+            assignment(source, draft, index)
+        }
+        b">>=" => {
+            draft.note_once(source, index, NoteKind::Shift)?;
             assignment(source, draft, index)
         }
         _ if may_wrap(source, index) => draft.note_once(source, index, NoteKind::Wraps),
+        b">>" if source.dialect == Dialect::Later => {
+            draft.note_once(source, index, NoteKind::Shift)
+        }
         _ if is_joined(source, index) => apart(source, draft, index),
         _ => Ok(()),
     }
@@ -198,8 +205,8 @@ pub(crate) fn exclusive_or(
         source.end(found.sign.wrapping_sub(1)),
         source.start(found.sign.wrapping_add(1)),
     );
-    let left = render(draft.alloc, source.text, &draft.edits, start, before)?;
-    let right = render(draft.alloc, source.text, &draft.edits, after, end)?;
+    let left = render(draft, source.text, start, before)?;
+    let right = render(draft, source.text, after, end)?;
     let mut text = Text::new(draft.alloc);
     text.push(b") - (")?;
     text.push(left.as_slice())?;
@@ -224,16 +231,9 @@ pub(crate) fn exclusive_assignment(
     if !is_whole || !is_quiet(source, first, end) || !source.is_plain(sign, end) {
         return draft.note(source, sign, NoteKind::Exclusive);
     }
-    let edits = &draft.edits;
     let last = source.end(end.wrapping_sub(1));
-    let value = render(draft.alloc, source.text, edits, source.start(first), last)?;
-    let word = render(
-        draft.alloc,
-        source.text,
-        edits,
-        source.start(name),
-        source.end(name),
-    )?;
+    let value = render(draft, source.text, source.start(first), last)?;
+    let word = render(draft, source.text, source.start(name), source.end(name))?;
     let mut head = Text::new(draft.alloc);
     head.push(b"= ((")?;
     head.push(word.as_slice())?;

@@ -1,6 +1,7 @@
 //! Externals of an old source that are no functions.
 use crate::calls::defines;
 use crate::definitions::{Outline, after, after_types, types};
+use crate::names::value_of_number;
 use crate::pointers::{pointed, pointed_end};
 use crate::row::{NoteKind, Row};
 use crate::source::{Draft, Source};
@@ -172,15 +173,9 @@ pub(crate) fn negative(
     index: usize,
 ) -> Result<(), AllocError> {
     let next = index.wrapping_add(1);
-    let mut value: u64 = 0;
-    for byte in source.word(next) {
-        if !byte.is_ascii_digit() {
-            return draft.note(source, index, NoteKind::Number);
-        }
-        value = value
-            .saturating_mul(10)
-            .saturating_add((*byte - b'0') as u64);
-    }
+    let Some(value) = value_of_number(source.word(next)) else {
+        return draft.note(source, index, NoteKind::Number);
+    };
     if value == 0 || value > 32768 {
         return draft.note(source, index, NoteKind::Large);
     }

@@ -1,11 +1,14 @@
 //! Vectors of functions that have lists of values.
 use crate::apply::render;
-use crate::row::Row;
+use crate::row::{NoteKind, Row};
 use crate::sizes::told_size;
 use crate::source::{Draft, Source};
 use crate::table::NONE;
 use btools::Text;
 use std::alloc::AllocError;
+
+/// How many words without values get 0.
+const MOST_ZEROS: u64 = 16;
 
 /// A list of values between braces: the name of its vector, the braces, and how many values there are.
 #[derive(Clone, Copy)]
@@ -17,7 +20,7 @@ struct ValueList {
 }
 
 /// The size of a vector in the place of its brackets and its list, and a statement for each value, where the list is
-/// all that comes before the end of its declaration, and has all values. Tells whether it is so.
+/// all that comes before the end of its declaration, and lacks few values. Tells whether it is so.
 pub(crate) fn listed(
     source: &Source<'_>,
     draft: &mut Draft,
@@ -30,15 +33,32 @@ pub(crate) fn listed(
     };
     let told = told_size(source, draft, name.wrapping_add(1))?;
     let size = told.unwrap_or(list.count.saturating_sub(1));
-    if size > list.count {
+    if size > list.count.saturating_add(MOST_ZEROS) {
+        draft.note(source, name, NoteKind::Fewer)?;
         return Ok(false);
     }
     push_values(source, draft, values, list)?;
+    push_zeros(source, draft, values, list, size)?;
     let mut text = Text::new(draft.alloc);
     text.push(b" ")?;
     text.push_number(size)?;
     draft.put_text(source.end(name), source.end(list.close), text, Row::Value)?;
     Ok(true)
+}
+
+// Adds a statement for each word up to the size that has no value.
+fn push_zeros(
+    source: &Source<'_>,
+    draft: &Draft,
+    values: &mut Text,
+    list: ValueList,
+    size: u64,
+) -> Result<(), AllocError> {
+    let name = rendered(source, draft, list.name, list.name)?;
+    for index in list.count..size {
+        push_value(values, name.as_slice(), index, b"0")?;
+    }
+    Ok(())
 }
 
 // The list of a vector, if no comment, no string and no call is among its values.
@@ -110,7 +130,7 @@ fn rendered(
     last: usize,
 ) -> Result<Text, AllocError> {
     let (start, end) = (source.start(first), source.end(last));
-    render(draft.alloc, source.text, &draft.edits, start, end)
+    render(draft, source.text, start, end)
 }
 
 fn push_value(values: &mut Text, name: &[u8], index: u64, value: &[u8]) -> Result<(), AllocError> {

@@ -377,7 +377,7 @@ fn push_step(
     last: usize,
 ) -> Result<(), AllocError> {
     let (start, end) = (source.start(first), source.end(last));
-    let step = render(draft.alloc, source.text, &draft.edits, start, end)?;
+    let step = render(draft, source.text, start, end)?;
     text.push(b" ")?;
     text.push(step.as_slice().trim_ascii())?;
     text.push(b";")

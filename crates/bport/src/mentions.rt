@@ -100,15 +100,11 @@ fn declared(
 
 // Notes the names of the declaration that begins with a token, if one does, in braces that end here.
 fn declarators(source: &Source<'_>, known: &mut Known, index: usize, number: usize, end: usize) {
-    let word = source.word(index);
-    let is_external = matches!(word, b"extrn" | b"extern");
-    let is_typed = is_type(word) && is_typed(source, index);
-    let last = source.semicolon(index);
-    let begins = is_external || is_typed || matches!(word, b"auto");
-    let is_after = source.begins_statement(index) || source.is(index.wrapping_sub(1), b")");
-    if !begins || !is_after || last == NONE {
+    let last = declaration_end(source, index);
+    if last == NONE {
         return;
     }
+    let is_external = matches!(source.word(index), b"extrn" | b"extern");
     let mut next = index.wrapping_add(1);
     for at in next..last {
         if at >= next {
@@ -120,6 +116,19 @@ fn declarators(source: &Source<'_>, known: &mut Known, index: usize, number: usi
             );
             next = declarator_end(source, at, last).wrapping_add(1);
         }
+    }
+}
+
+/// The semicolon at the end of the declaration that begins with a token, if one does.
+pub(crate) fn declaration_end(source: &Source<'_>, index: usize) -> usize {
+    let word = source.word(index);
+    let begins = matches!(word, b"extrn" | b"extern" | b"auto")
+        || is_type(word) && is_typed(source, index);
+    let is_after = source.begins_statement(index) || source.is(index.wrapping_sub(1), b")");
+    if begins && is_after {
+        source.semicolon(index)
+    } else {
+        NONE
     }
 }
 

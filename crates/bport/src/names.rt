@@ -4,17 +4,15 @@ use crate::calls::defines;
 use crate::definitions::Outline;
 use crate::quotes::quoted;
 use crate::row::{NoteKind, Row};
-use crate::source::{Dialect, Draft, Source};
+use crate::source::{Dialect, Draft, Quotes, Source};
 use crate::table::{NONE, filled, put, slot, word_of};
+use crate::taken::{NAME_LETTERS, Taken};
 use crate::tokens::{Token, TokenKind, tokens_of};
 use crate::turned::Turned;
 use crate::within::places_of;
 use btools::Text;
 use bword::Edition;
 use std::alloc::{AllocError, Global};
-
-/// How many letters a name has at most.
-const NAME_LETTERS: usize = 8;
 
 const LIBRARY: [&str; 6] = ["char", "lchar", "getchar", "putchar", "printn", "exit"];
 
@@ -113,6 +111,7 @@ impl Constants {
             firsts: &[],
             edition: Edition::One,
             dialect: Dialect::Either,
+            quotes: Quotes::Both,
             turned: Turned::none(),
         };
         let mut draft = Draft::new(self.alloc);
@@ -226,9 +225,13 @@ pub(crate) fn name(
     draft: &mut Draft,
     constants: &Constants,
     short: &[Option<Text>],
+    renamed: &[usize],
     index: usize,
 ) -> Result<(), AllocError> {
     let word = source.word(index);
+    if let Some(Some(text)) = short.get(slot(renamed, index)) {
+        return draft.replace(source, index, text.as_slice(), Row::Scope);
+    }
     if let Some(value) = constants.value_of(word) {
         return draft.replace(source, index, value, Row::Constant);
     }
@@ -256,6 +259,7 @@ pub(crate) fn short_names(
     source: &Source<'_>,
     others: &Source<'_>,
     outline: &Outline,
+    names: &mut Taken,
 ) -> Result<Vec<Option<Text>>, AllocError> {
     let mut taken = filled(alloc, source.tokens.len())?;
     for function in &outline.functions {
@@ -269,7 +273,7 @@ pub(crate) fn short_names(
         let mut found = None;
         let is_free = is_short(source.word(index)) && slot(&taken, index) == NONE;
         if slot(source.firsts, index) == index && !is_free {
-            found = short_name(alloc, source, others, &short, index)?;
+            found = names.short_name(source.word(index))?;
         }
         short.push(found)?;
     }
@@ -278,42 +282,6 @@ pub(crate) fn short_names(
 
 fn is_short(word: &[u8]) -> bool {
     word.len() <= NAME_LETTERS && !word.contains(&b'.')
-}
-
-// A name that nothing has, made of the first letters of one.
-fn short_name(
-    alloc: Global,
-    source: &Source<'_>,
-    others: &Source<'_>,
-    short: &[Option<Text>],
-    index: usize,
-) -> Result<Option<Text>, AllocError> {
-    for number in 0..100u64 {
-        let text = numbered(alloc, source.word(index), number)?;
-        let name = text.as_slice();
-        if !has_name(source, name) && !has_name(others, name) && !is_given(short, name) {
-            return Ok(Some(text));
-        }
-    }
-    Ok(None)
-}
-
-fn numbered(alloc: Global, word: &[u8], number: u64) -> Result<Text, AllocError> {
-    let digits = match number {
-        0 => 0,
-        1..=9 => 1,
-        _ => 2,
-    };
-    let mut text = Text::new(alloc);
-    for byte in word {
-        if *byte != b'.' && text.as_slice().len().saturating_add(digits) < NAME_LETTERS {
-            text.push(&[*byte])?;
-        }
-    }
-    if number > 0 {
-        text.push_number(number)?;
-    }
-    Ok(text)
 }
 
 /// Whether a source has a name.
@@ -326,19 +294,8 @@ pub(crate) fn has_name(source: &Source<'_>, name: &[u8]) -> bool {
     is_reserved(name)
 }
 
-fn is_given(short: &[Option<Text>], name: &[u8]) -> bool {
-    for found in short {
-        if let Some(text) = found {
-            if text.as_slice() == name {
-                return true;
-            }
-        }
-    }
-    false
-}
-
 /// Whether a word is a keyword here, or a function of the library.
-fn is_reserved(word: &[u8]) -> bool {
+pub(crate) fn is_reserved(word: &[u8]) -> bool {
     word.is_empty() || is_keyword(word) || is_library(word)
 }
 
@@ -377,11 +334,7 @@ pub(crate) fn number(
     if word.contains(&b'.') {
         return draft.note(source, index, NoteKind::Floating);
     }
-    let (base, digits) = match word {
-        [b'0', b'x' | b'X', rest @ ..] => (16, rest),
-        [b'0', ..] => (8, word),
-        _ => (10, word),
-    };
+    let (base, digits) = digits_of(word);
     let Some(value) = value_of(base, digits) else {
         return draft.note(source, index, NoteKind::Number);
     };
@@ -397,6 +350,21 @@ pub(crate) fn number(
         return draft.replace_text(source, index, text, Row::Number);
     }
     Ok(())
+}
+
+/// The value of a number to its base.
+pub(crate) fn value_of_number(word: &[u8]) -> Option<u64> {
+    let (base, digits) = digits_of(word);
+    value_of(base, digits)
+}
+
+// The base of a number, and its digits.
+fn digits_of(word: &[u8]) -> (u64, &[u8]) {
+    match word {
+        [b'0', b'x' | b'X', rest @ ..] => (16, rest),
+        [b'0', ..] => (8, word),
+        _ => (10, word),
+    }
 }
 
 fn is_plain(base: u64, digits: &[u8]) -> bool {

@@ -1,6 +1,6 @@
 //! What is known of a source before anything of it is edited.
 use crate::shape::{partners_of, semicolons_of};
-use crate::source::{Dialect, Source};
+use crate::source::{Dialect, Quotes, Source};
 use crate::table::{first_names, word_of};
 use crate::tokens::{Token, tokens_of};
 use crate::turned::Turned;
@@ -46,8 +46,31 @@ impl SourceParts {
             firsts: &self.firsts,
             edition,
             dialect: dialect_of(text, &self.tokens),
+            quotes: quotes_of(text, &self.places),
             turned: Turned::of(text, &self.tokens, &self.partners),
         }
+    }
+}
+
+// By its escapes with a backslash, and by comments up to the end of a line.
+fn quotes_of(text: &[u8], places: &[Within]) -> Quotes {
+    let mut has_backslash = false;
+    let mut has_remark = false;
+    for at in 0..text.len() {
+        let rest = text.get(at..).unwrap_or(&[]);
+        match (rest, places.get(at)) {
+            ([b'\\', b'n' | b't' | b'0' | b'"' | b'\'', ..], Some(Within::String | Within::Char)) =>
+                {
+                    has_backslash = true;
+                }
+            ([b'/', ..], Some(Within::Slash)) => has_remark = true,
+            _ => {}
+        }
+    }
+    match (has_backslash, has_remark) {
+        (true, true) => Quotes::Backslashes,
+        (true, false) => Quotes::Both,
+        _ => Quotes::Stars,
     }
 }
 

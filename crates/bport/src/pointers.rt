@@ -162,7 +162,7 @@ fn rendered(
     last: usize,
 ) -> Result<Text, AllocError> {
     let (start, end) = (source.start(first), source.end(last));
-    render(draft.alloc, source.text, &draft.edits, start, end)
+    render(draft, source.text, start, end)
 }
 
 /// Names by their first tokens: externals declared so, those that hold addresses of functions' words, and for each

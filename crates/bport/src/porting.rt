@@ -1,11 +1,11 @@
 //! Porting a source.
 ghost use Rattle.std.specs.Prelude.{◌≡◌, ◌++◌, [], IfOk, false, true};
 ghost use Rattle.std.specs.List.{list_any};
-ghost use Rattle.bport.specs.Edits.{EditsIfFaulty, are_edits_of, edited};
+ghost use Rattle.bport.specs.Edits.{EditsIfFaulty, IsFaultyAlone, are_edits_of, edited};
 ghost use Rattle.bport.specs.Staying.{IsLeft, refuses};
 
 use crate::apply::{apply, joined};
-use crate::calls::{calls, without_base};
+use crate::calls::{calls, defines, stored_end, without_base};
 use crate::definitions::{Outline, outline_of};
 use crate::edit::{Edit, are_sound, fits};
 use crate::expressions::{exclusive_assignment, exclusive_or, is_joined, may_wrap, sign};
@@ -17,15 +17,18 @@ use crate::mentions::{heap, mentions};
 use crate::names::{Constants, name, number, short_names};
 use crate::parts::SourceParts;
 use crate::pointers::pointer_calls;
-use crate::quotes::quoted;
+use crate::quotes::{quoted, tell_ends};
+use crate::refusing::refuse;
 use crate::remarks::remarks;
 use crate::row::{Note, NoteKind};
-use crate::shape::{ends_of, is_closing, is_opening};
+use crate::scopes::renames;
+use crate::shape::ends_of;
 use crate::source::{Dialect, Draft, Source};
 use crate::statements::statement;
 use crate::staying::{has_refused, tell_old};
 use crate::streams::streams;
 use crate::table::NONE;
+use crate::taken::Taken;
 use crate::tokens::TokenKind;
 use crate::turned::turned_head;
 use crate::within::{Within, places_of};
@@ -48,7 +51,7 @@ pub struct Ported {
 
 /// Ports a source of an old or a later form of B to this edition, with what comes after it.
 ///
-/// A source that compiles and loads stays as it is.
+/// A source that compiles and loads stays as it is, also without what comes after it, and in edition 1.
 ///
 /// # Errors
 ///
@@ -61,19 +64,53 @@ pub fn port_text(
 ) -> Result<Ported, AllocError>
     ensures text { IfOk result (λ p. p.text ≡ edited source.now 0 p.edits.items) }
     ensures edits { IfOk result (λ p. are_edits_of source.now p.edits.items ≡ true) }
-    ensures stays { IfOk result (λ p. EditsIfFaulty edition (source.now ++ rest.now) p.is_program p.edits.items) }
+    ensures stays { IfOk result (λ p. EditsIfFaulty edition source.now rest.now p.is_program p.edits.items) }
     ensures left { IfOk result (λ p. p.is_program ≡ false → IsLeft source.now p.edits.items p.notes.items) }
 {
     let whole = joined(alloc, source, rest)?;
     match read_program(alloc, whole.as_slice(), Origin::Source(edition)) {
-        Ok(_) => {
-            let mut kept = unchanged(alloc, source, true)?;
-            kept.notes = plain_notes(alloc, source, rest)?;
-            Ok(kept)
-        }
+        Ok(_) => of_program(alloc, source, rest, edition),
         Err(ProgramFault::Memory) => Err(AllocError),
         Err(_) => rewrite(alloc, source, rest, edition),
     }
+}
+
+// Ports what compiles and loads with what comes after it: alone it may be of another form.
+fn of_program(
+    alloc: Global,
+    source: &[u8],
+    rest: &[u8],
+    edition: Edition,
+) -> Result<Ported, AllocError>
+    ensures text { IfOk result (λ p. p.text ≡ edited source.now 0 p.edits.items) }
+    ensures edits { IfOk result (λ p. are_edits_of source.now p.edits.items ≡ true) }
+    ensures stays { IfOk result (λ p. p.is_program ≡ true → p.edits.items ≡ []) }
+    ensures apart { IfOk result (λ p. p.is_program ≡ false → IsFaultyAlone source.now) }
+    ensures left { IfOk result (λ p. p.is_program ≡ false → IsLeft source.now p.edits.items p.notes.items) }
+{
+    match read_program(alloc, source, Origin::Source(Edition::One)) {
+        Ok(_) => as_it_is(alloc, source, rest),
+        Err(ProgramFault::Memory) => Err(AllocError),
+        Err(_) => {
+            let made = rewrite(alloc, source, rest, edition)?;
+            if made.edits.is_empty() {
+                return as_it_is(alloc, source, rest);
+            }
+            Ok(made)
+        }
+    }
+}
+
+// A program, and what it may not mean.
+fn as_it_is(alloc: Global, source: &[u8], rest: &[u8]) -> Result<Ported, AllocError>
+    ensures text { IfOk result (λ p. p.text ≡ edited source.now 0 p.edits.items) }
+    ensures edits { IfOk result (λ p. are_edits_of source.now p.edits.items ≡ true) }
+    ensures none { IfOk result (λ p. p.edits.items ≡ []) }
+    ensures program { IfOk result (λ p. p.is_program ≡ true) }
+{
+    let mut kept = unchanged(alloc, source, true)?;
+    kept.notes = plain_notes(alloc, source, rest)?;
+    Ok(kept)
 }
 
 fn unchanged(alloc: Global, source: &[u8], is_program: bool) -> Result<Ported, AllocError>
@@ -108,6 +145,8 @@ fn plain_notes(alloc: Global, source: &[u8], rest: &[u8]) -> Result<Vec<Note>, A
         alloc: _,
         edits: _,
         mut notes,
+        ordered: _,
+        told: _,
     } = draft;
     in_order(&mut notes)?;
     Ok(notes)
@@ -131,7 +170,11 @@ fn plain_tokens(
     if let Some(call) = without_base(&bare) {
         draft.note(&bare, call, NoteKind::Base)?;
     }
+    let has_stores = !defines(&bare, b"lchar");
     for index in 0..bare.tokens.len() {
+        if has_stores && bare.is(index, b"lchar") && stored_end(&bare, index) != NONE {
+            draft.note_once(&bare, index, NoteKind::Ends)?;
+        }
         if bare.dialect != Dialect::Early && is_joined(&bare, index) {
             draft.note_once(&bare, index, NoteKind::Signs)?;
         } else if may_wrap(&bare, index) {
@@ -183,6 +226,8 @@ fn rewrite(
         alloc: _,
         edits,
         mut notes,
+        ordered: _,
+        told: _,
     } = draft_of(alloc, source, rest, edition)?;
     let edits = apart(source, &places, edits, &mut notes, alloc)?;
     in_order(&mut notes)?;
@@ -235,22 +280,11 @@ fn draft_of(
         ..bare
     };
     let mut draft = Draft::new(alloc);
-    match unpaired(&source) {
-        Some(bracket) => draft.note(&source, bracket, NoteKind::Bracket)?,
-        None => draft_rows(alloc, &source, rest, &mut draft)?,
+    if refuse(&source, &mut draft)? {
+        return Ok(draft);
     }
+    draft_rows(alloc, &source, rest, &mut draft)?;
     Ok(draft)
-}
-
-// The first bracket without the other one of its pair.
-fn unpaired(source: &Source<'_>) -> Option<usize> {
-    for index in 0..source.tokens.len() {
-        let word = source.word(index);
-        if (is_opening(word) || is_closing(word)) && source.partner(index) == NONE {
-            return Some(index);
-        }
-    }
-    None
 }
 
 fn draft_rows(
@@ -277,14 +311,17 @@ fn draft_words(
     constants: &Constants,
     outline: &Outline,
 ) -> Result<(), AllocError> {
-    let short = short_names(alloc, source, others, outline)?;
+    let mut names = Taken::of(alloc, source, others)?;
+    let mut short = short_names(alloc, source, others, outline, &mut names)?;
+    let renamed = renames(alloc, source, outline, &mut names, &mut short)?;
     let held = edit_holders(alloc, source, others, draft, outline, &short)?;
     for index in 0..source.tokens.len() {
         if !outline.is_gone(index) {
-            token(source, draft, constants, &short, index)?;
+            token(source, draft, constants, &short, &renamed, index)?;
         }
     }
-    calls(alloc, source, others, draft)?;
+    tell_ends(source, draft)?;
+    calls(alloc, source, others, draft, outline)?;
     streams(source, others, draft)?;
     pointer_calls(alloc, source, draft, outline, &held)?;
     edit_grids(alloc, source, draft, outline)?;
@@ -305,6 +342,8 @@ fn draft_statements(
         exclusive_or(source, draft, *found)?;
     }
     exclusive_assignments(source, draft)?;
+    sort(draft)?;
+    draft.ordered = draft.edits.len();
     let loops = loops_of(alloc, source)?;
     for step in 0..source.tokens.len() {
         let index = source.tokens.len() - 1 - step;
@@ -329,11 +368,12 @@ fn token(
     draft: &mut Draft,
     constants: &Constants,
     short: &[Option<Text>],
+    renamed: &[usize],
     index: usize,
 ) -> Result<(), AllocError> {
     match source.kind(index) {
         Some(TokenKind::Name) if source.is_turned(index) => turned_head(source, draft, index),
-        Some(TokenKind::Name) => name(source, draft, constants, short, index),
+        Some(TokenKind::Name) => name(source, draft, constants, short, renamed, index),
         Some(TokenKind::Number) => number(source, draft, index),
         Some(TokenKind::Char | TokenKind::String) => quoted(source, draft, index),
         Some(TokenKind::Sign) => sign(source, draft, index),

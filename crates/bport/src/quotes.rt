@@ -1,7 +1,8 @@
 //! Character constants and strings.
 use crate::edit::{between, escape_for, is_octal, octal_value};
 use crate::row::{NoteKind, Row};
-use crate::source::{Draft, Source};
+use crate::source::{Draft, Quotes, Source};
+use crate::table::NONE;
 use crate::tokens::TokenKind;
 use btools::Text;
 use std::alloc::AllocError;
@@ -24,7 +25,7 @@ pub(crate) fn quoted(
     }
     let inner = between(word, 1, word.len().saturating_sub(1));
     if let (Some(TokenKind::Char), Some(code)) = (source.kind(index), code_of(inner)) {
-        let is_end = code == 0 && !source.is(index.wrapping_sub(2), b"putchar");
+        let is_end = code == 0 && !is_plain_zero(source, index);
         if is_end || escape_for(inner).is_empty() {
             return coded(source, draft, index, code);
         }
@@ -35,8 +36,8 @@ pub(crate) fn quoted(
         if at < next {
             continue;
         }
-        let unit = unit_at(word, at);
-        escape(draft, start, unit, at)?;
+        let unit = unit_at(source.quotes, word, at);
+        escape(source, draft, index, unit, at)?;
         next = at.saturating_add(unit.len());
         count = count.saturating_add(1);
     }
@@ -44,6 +45,47 @@ pub(crate) fn quoted(
         divide(source, draft, index)?;
     }
     Ok(())
+}
+
+// Whether a character 0 is written, or stored in a word of a vector or compared with one, and ends no string.
+fn is_plain_zero(source: &Source<'_>, index: usize) -> bool {
+    let sign = index.wrapping_sub(1);
+    let before = index.wrapping_sub(2);
+    source.is(before, b"putchar")
+        || source.is(before, b"]") && matches!(source.word(sign), b"=" | b"==" | b"!=")
+}
+
+/// Tells the first character 0 that is the end of a string now, where a word of a vector is compared with 0, too.
+pub(crate) fn tell_ends(source: &Source<'_>, draft: &mut Draft) -> Result<(), AllocError> {
+    let mut made = NONE;
+    let mut is_tested = false;
+    for index in 0..source.tokens.len() {
+        if made == NONE && is_zero(source, index) && !is_plain_zero(source, index) {
+            made = index;
+        }
+        is_tested = is_tested || is_zero(source, index) && source.is(index.wrapping_sub(2), b"]");
+        is_tested = is_tested || is_word_test(source, index);
+    }
+    if made == NONE || !is_tested {
+        return Ok(());
+    }
+    draft.note_once(source, made, NoteKind::Ends)
+}
+
+fn is_zero(source: &Source<'_>, index: usize) -> bool {
+    let word = source.word(index);
+    let inner = between(word, 1, word.len().saturating_sub(1));
+    source.kind(index) == Some(TokenKind::Char) && code_of(inner) == Some(0)
+}
+
+// Whether the truth of a word of a vector is a condition, and its brackets end with a token.
+fn is_word_test(source: &Source<'_>, close: usize) -> bool {
+    let name = source.partner(close).wrapping_sub(1);
+    let next = close.wrapping_add(1);
+    source.is(close, b"]")
+        && source.is(next, b")")
+        && source.is_head(next)
+        && matches!(source.word(name.wrapping_sub(1)), b"(" | b"!" | b"=")
 }
 
 // Writes a character by its number, or as the end of a string.
@@ -109,15 +151,20 @@ fn escape_length(rest: &[u8]) -> usize {
 }
 
 // The bytes of one character in quotes: more than one where an escape begins.
-fn unit_at(word: &[u8], at: usize) -> &[u8] {
+fn unit_at(quotes: Quotes, word: &[u8], at: usize) -> &[u8] {
     let rest = word.get(at..).unwrap_or(&[]);
     match rest {
         [b'\\', escape @ .., _] if !escape.is_empty() => {
             between(rest, 0, escape_length(escape).saturating_add(1))
         }
+        [b'*', b'*', _, ..] => rest.get(..2).unwrap_or(&[]),
+        [b'*', ..] if quotes == Quotes::Backslashes => rest.get(..1).unwrap_or(&[]),
+        [b'*', b'N' | b'T' | b'E', _, ..] if quotes == Quotes::Stars => rest
+            .get(..2)
+            .unwrap_or(&[]),
         [
             b'*',
-            b'0' | b'e' | b'(' | b')' | b'n' | b't' | b'*' | b'\'' | b'"',
+            b'0' | b'e' | b'(' | b')' | b'n' | b't' | b'\'' | b'"',
             _,
             ..
         ] => { rest.get(..2).unwrap_or(&[]) }
@@ -125,17 +172,43 @@ fn unit_at(word: &[u8], at: usize) -> &[u8] {
     }
 }
 
-// Edits what isn't written so here.
-fn escape(draft: &mut Draft, start: usize, unit: &[u8], at: usize) -> Result<(), AllocError> {
-    let place = start.saturating_add(at);
+// Edits what isn't written so here. A backslash that would begin an escape in what comes out is told.
+fn escape(
+    source: &Source<'_>,
+    draft: &mut Draft,
+    index: usize,
+    unit: &[u8],
+    at: usize,
+) -> Result<(), AllocError> {
+    let place = source.start(index).saturating_add(at);
+    let next = place.saturating_add(unit.len());
     let text = escape_for(unit);
+    match unit {
+        b"**" if source.quotes != Quotes::Backslashes => return Ok(()),
+        [b'\\', b'\\'] if !is_apart(source, index, next) => {
+            return draft.note_at(place, NoteKind::Backslash);
+        }
+        _ => {}
+    }
     if !text.is_empty() {
-        return draft.put(place, place.saturating_add(unit.len()), text, Row::Escape);
+        return draft.put(place, next, text, Row::Escape);
     }
     if unit.len() > 1 && unit.get(0) == Some(&b'\\') {
         return draft.note_at(place, NoteKind::Escape);
     }
     Ok(())
+}
+
+// Whether a backslash before a place begins no escape in any form of the language.
+fn is_apart(source: &Source<'_>, index: usize, next: usize) -> bool {
+    if next.saturating_add(1) == source.end(index) {
+        return source.kind(index) == Some(TokenKind::Char);
+    }
+    match source.text.get(next).copied() {
+        Some(b'a' | b'b' | b'e' | b'f' | b'n' | b'r' | b't' | b'v' | b'x' | b'0'..=b'7') => false,
+        Some(b'\\' | b'*' | b'"' | b'\'') | None => false,
+        Some(_) => true,
+    }
 }
 
 // Makes of `putchar('abc');` two calls.
@@ -167,7 +240,7 @@ fn divide(source: &Source<'_>, draft: &mut Draft, index: usize) -> Result<(), Al
             draft.put(place, place, b"'); putchar('", Row::Characters)?;
             count = 0;
         }
-        next = at.saturating_add(unit_at(word, at).len());
+        next = at.saturating_add(unit_at(source.quotes, word, at).len());
         count = count.saturating_add(1);
     }
     if !is_listed {

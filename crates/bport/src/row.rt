@@ -50,6 +50,8 @@ pub enum Row {
     Range,
     Switch,
     Empty,
+    Packed,
+    Scope,
 }
 
 impl Row {
@@ -102,6 +104,8 @@ impl Row {
             Row::Range => b"each case has one constant",
             Row::Switch => b"the cases of a switch are in braces",
             Row::Empty => b"a statement comes after a label",
+            Row::Packed => b"a word has two characters of eight bits",
+            Row::Scope => b"a name in inner braces isn't that of an outer auto",
         }
     }
 }
@@ -146,6 +150,13 @@ pub enum NoteKind {
     Sizes,
     Negated,
     Sign,
+    Ends,
+    Fewer,
+    Shift,
+    Fraction,
+    Numbered,
+    Accent,
+    Star,
 }
 
 impl NoteKind {
@@ -189,10 +200,17 @@ impl NoteKind {
             NoteKind::Bracket => b"no bracket fits this one: port changes nothing until one does",
             NoteKind::Called => b"(*f)() calls the function in the word at f: f() calls the one in f",
             NoteKind::Sign => b"this sign is one of another form, and stays",
-            NoteKind::Zero => b"the input ends with '*e' here, and not with 0",
+            NoteKind::Zero => b"the input ends with '*e' here, and not with 0 or -1",
             NoteKind::Held => b"this is the address of the function's word: (*f)() calls it, and f() doesn't",
             NoteKind::Sizes => b"a vector has one index: write v[5] for v[2][3], and v[3 * i + k] for v[i][k]",
             NoteKind::Negated => b"write while(!(x)) for until(x), and if(!(x)) for unless(x)",
+            NoteKind::Ends => b"a string ends with '*e', which is 4: a test for 0 doesn't see it",
+            NoteKind::Fewer => b"the words of this vector that have no value aren't 0",
+            NoteKind::Shift => b">> puts zeros in: a word below 0 becomes a large one",
+            NoteKind::Fraction => b"# is an operator of fractions, which aren't here: port changes nothing",
+            NoteKind::Numbered => b"lines have no numbers before them: port changes nothing until these go",
+            NoteKind::Accent => b"there are no constants between accents: port changes nothing until these go",
+            NoteKind::Star => b"*\" doesn't end a string: write **\" where it does",
         }
     }
 }

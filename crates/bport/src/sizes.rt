@@ -61,7 +61,7 @@ pub(crate) fn told_size(
         return Ok(None);
     }
     let (start, end) = (source.end(open), source.start(close));
-    let told = render(draft.alloc, source.text, &draft.edits, start, end)?;
+    let told = render(draft, source.text, start, end)?;
     Ok(total(told.as_slice()))
 }
 

@@ -25,6 +25,7 @@ pub(crate) struct Source<'a> {
     pub firsts: &'a [usize],
     pub edition: Edition,
     pub dialect: Dialect,
+    pub quotes: Quotes,
     pub turned: Turned,
 }
 
@@ -35,6 +36,17 @@ pub(crate) enum Dialect {
     Later,
     /// Nothing shows it, or both are there.
     Either,
+}
+
+/// What begins an escape in quotes.
+#[derive(Clone, Copy, PartialEq, Eq)]
+pub(crate) enum Quotes {
+    /// A `*`.
+    Stars,
+    /// A backslash, and a `*` as well.
+    Both,
+    /// A backslash alone.
+    Backslashes,
 }
 
 impl<'a> Source<'a> {
@@ -155,6 +167,10 @@ pub(crate) struct Draft {
     pub alloc: Global,
     pub edits: Vec<Edit>,
     pub notes: Vec<Note>,
+    /// How many of the edits are in order, from the first one on.
+    pub ordered: usize,
+    /// What was told of any place.
+    pub told: Vec<NoteKind>,
 }
 
 impl Draft {
@@ -163,7 +179,19 @@ impl Draft {
             alloc,
             edits: Vec::new(alloc),
             notes: Vec::new(alloc),
+            ordered: 0,
+            told: Vec::new(alloc),
         }
+    }
+
+    /// The edits among which those of a place and after it are, but for those that came after the others were in order.
+    pub(crate) fn edits_from(&self, start: usize) -> &[Edit] {
+        let edits = self.edits.as_slice();
+        if self.ordered == 0 {
+            return edits;
+        }
+        let (ordered, _) = edits.split_at(self.ordered.min(edits.len()));
+        ordered.get(first_from(ordered, start)..).unwrap_or(&[])
     }
 
     /// Puts a text in the place of some bytes.
@@ -278,16 +306,37 @@ impl Draft {
 
     /// Tells what was told of no place before.
     pub(crate) fn note_first(&mut self, start: usize, kind: NoteKind) -> Result<(), AllocError> {
-        if self.notes.iter().any(|note| note.kind == kind) {
+        if self.is_told(kind) {
             return Ok(());
         }
         self.note_at(start, kind)
     }
 
     pub(crate) fn note_at(&mut self, start: usize, kind: NoteKind) -> Result<(), AllocError> {
+        if !self.is_told(kind) {
+            self.told.push(kind)?;
+        }
         self.notes.push(Note { start, kind })?;
         Ok(())
     }
+
+    fn is_told(&self, kind: NoteKind) -> bool {
+        self.told.iter().any(|told| *told == kind)
+    }
+}
+
+// The first of these edits, which are in order, that doesn't begin before a place.
+fn first_from(edits: &[Edit], start: usize) -> usize {
+    let (mut low, mut high) = (0, edits.len());
+    for _ in 0..64 {
+        let middle = low / 2 + high / 2;
+        match edits.get(middle) {
+            Some(edit) if low < high && edit.start < start => low = middle.saturating_add(1),
+            Some(_) if middle < high => high = middle,
+            _ => break,
+        }
+    }
+    low
 }
 
 // Whether a sign is one of another form.

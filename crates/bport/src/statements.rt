@@ -128,7 +128,9 @@ fn case(
     if !source.is(sign, b"::") || case_colon(source, index) == NONE {
         return Ok(());
     }
-    let (Some(low), Some(high)) = (single(source.word(first)), single(source.word(last))) else {
+    let from = rendered(source, draft, first)?;
+    let to = rendered(source, draft, last)?;
+    let (Some(low), Some(high)) = (single(from.as_slice()), single(to.as_slice())) else {
         return draft.note(source, sign, NoteKind::Range);
     };
     if high < low || high - low >= MOST_CASES {
@@ -137,7 +139,7 @@ fn case(
     let mut text = Text::new(draft.alloc);
     for value in low.saturating_add(1)..high.saturating_add(1) {
         text.push(b": case ")?;
-        push_constant(&mut text, value, source.kind(first))?;
+        push_constant(&mut text, value, from.as_slice())?;
     }
     draft.put_text(source.end(first), source.end(last), text, Row::Range)
 }
@@ -165,9 +167,20 @@ fn decimal(word: &[u8]) -> Option<u64> {
     Some(value)
 }
 
-fn push_constant(text: &mut Text, value: u64, kind: Option<TokenKind>) -> Result<(), AllocError> {
+// What stands here for a token: the value of a constant, if its name is one.
+fn rendered(source: &Source<'_>, draft: &Draft, index: usize) -> Result<Text, AllocError> {
+    let (start, end) = (source.start(index), source.end(index));
+    if source.is_name(index) {
+        return render(draft, source.text, start, end);
+    }
+    let mut text = Text::new(draft.alloc);
+    text.push(source.word(index))?;
+    Ok(text)
+}
+
+fn push_constant(text: &mut Text, value: u64, first: &[u8]) -> Result<(), AllocError> {
     match value {
-        32..=126 if kind == Some(TokenKind::Char) && value != 39 && value != 42 => {
+        32..=126 if first.starts_with(b"'") && value != 39 && value != 42 => {
             text.push(&[b'\'', value as u8, b'\''])
         }
         _ => text.push_number(value),
@@ -327,13 +340,7 @@ fn value(
     if !source.is_plain(name, last) {
         return draft.note(source, name, NoteKind::Loop);
     }
-    let text = render(
-        draft.alloc,
-        source.text,
-        &draft.edits,
-        source.start(name),
-        source.end(last),
-    )?;
+    let text = render(draft, source.text, source.start(name), source.end(last))?;
     values.push(b" ")?;
     values.push(text.as_slice())?;
     values.push(b";")?;

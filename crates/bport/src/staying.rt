@@ -81,6 +81,9 @@ fn is_old(place: Option<Within>, first: Option<u8>, second: Option<u8>, third: O
         (Some(Within::Code | Within::Start), Some(first), Some(second)) => {
             is_old_sign(first, second, matches!(third, Some(b'=')))
         }
+        (Some(Within::Char | Within::String), Some(first), Some(second)) => {
+            first == b'\\' && second == b'n'
+        }
         _ => false,
     }
 }
@@ -89,9 +92,16 @@ fn is_old_sign(first: u8, second: u8, is_longer: bool) -> bool
     ensures { result ≡ is_old_sign first second is_longer }
 {
     match second {
-        b'=' => !is_longer && matches!(first, b'+' | b'-' | b'*' | b'/' | b'%'),
+        b'=' => {
+            !is_longer
+                && matches!(
+                    first,
+                    b'+' | b'-' | b'*' | b'/' | b'%' | b'&' | b'|' | b'^' | b'~'
+                )
+        }
         _ if first == b'$' => matches!(second, b'(' | b')'),
-        _ => first == second && matches!(first, b'&' | b'|'),
+        b'<' | b'>' => first == second && is_longer || first == b'~',
+        _ => first == second && matches!(first, b'&' | b'|') || first == b'~',
     }
 }
 
@@ -118,7 +128,7 @@ fn has_note(notes: &[Note], at: usize) -> bool
 }
 
 /// Whether a note says that nothing is edited.
-pub(crate) fn has_refused(notes: &[Note]) -> bool
+pub fn has_refused(notes: &[Note]) -> bool
     ensures { result ≡ list_any refuses notes.now }
 {
     notes.iter().any(|note| refuses_kind(note.kind))
@@ -127,5 +137,12 @@ pub(crate) fn has_refused(notes: &[Note]) -> bool
 fn refuses_kind(kind: NoteKind) -> bool
     ensures { result ≡ refuses_kind kind }
 {
-    matches!(kind, NoteKind::Growth | NoteKind::Bracket)
+    matches!(
+        kind,
+        NoteKind::Growth
+            | NoteKind::Bracket
+            | NoteKind::Fraction
+            | NoteKind::Numbered
+            | NoteKind::Accent
+    )
 }

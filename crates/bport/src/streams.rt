@@ -1,7 +1,10 @@
 //! The calls of the first B that read and write a character.
 use crate::calls::{defines, has_one};
-use crate::row::Row;
+use crate::names::value_of_number;
+use crate::row::{NoteKind, Row};
 use crate::source::{Draft, Source};
+use crate::tokens::TokenKind;
+use btools::Text;
 use std::alloc::AllocError;
 
 /// Puts `getchar` for `read`, and `putchar` for `write`, where nothing defines these and they are called so.
@@ -61,7 +64,27 @@ fn rename(
     for index in 0..source.tokens.len() {
         if source.is(index, old) {
             draft.replace(source, index, new, Row::Stream)?;
+            packed(source, draft, index.wrapping_add(2))?;
         }
     }
     Ok(())
+}
+
+// Two characters of nine bits in a number that is written alone are two of eight.
+fn packed(source: &Source<'_>, draft: &mut Draft, index: usize) -> Result<(), AllocError> {
+    let is_alone = source.is(index.wrapping_sub(1), b"(") && source.is(index.wrapping_add(1), b")");
+    if !is_alone || source.kind(index) != Some(TokenKind::Number) {
+        return Ok(());
+    }
+    let value = value_of_number(source.word(index)).unwrap_or(0);
+    let (first, second) = (value / 512, value % 512);
+    if first > 255 || second > 255 {
+        return draft.note(source, index, NoteKind::Characters);
+    }
+    if first == 0 {
+        return Ok(());
+    }
+    let mut text = Text::new(draft.alloc);
+    text.push_number(first.saturating_mul(256).saturating_add(second))?;
+    draft.replace_text(source, index, text, Row::Packed)
 }

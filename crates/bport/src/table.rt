@@ -80,7 +80,8 @@ pub(crate) fn word_of<'a>(source: &'a [u8], tokens: &[Token], index: usize) -> &
     }
 }
 
-fn hash_of(name: &[u8]) -> usize {
+/// What the letters of a name come to.
+pub(crate) fn hash_of(name: &[u8]) -> usize {
     let mut hash: usize = 14695981039346656037;
     for byte in name {
         hash = (hash ^ *byte as usize).wrapping_mul(1099511628211);

@@ -1,4 +1,5 @@
 main() {
     auto a, b;
-    if(a && b) printf("%d\n", 2);
+    a = b = 1;
+    if(a && b) putchar('\n');
 }

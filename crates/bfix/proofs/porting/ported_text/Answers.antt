@@ -38,6 +38,7 @@ returns c =
       stays =
           stays_if_it_runs c.args.edition own rest ported.is_program ported.edits.items ported.notes.items l.0.lines
           p.stays p.left l.1;
+      quiet = l.2;
       line = line;
       list =
           c.in_ok-told.ensures ∙ ap (λ t. t ++ c.as_slice-6.result.now) changes

@@ -1,0 +1,1 @@
+main() { auto w; w = `gcos`; return w; }

@@ -1,0 +1,6 @@
+main() {
+    auto x, i;
+    x = # i;
+    if(x #< i) x = x #+ i; # a remark
+    return x;
+}

@@ -1,0 +1,2 @@
+manifest NL = '\n';
+main() putchar(NL);

@@ -1,0 +1,2 @@
+manifest LOW = 'a', HIGH = 'c';
+main() switch(getchar()) { case LOW::HIGH: exit(); }

@@ -1,0 +1,209 @@
+//! Words that hold what `getchar` gave, and what they are compared with.
+use crate::calls::compared;
+use crate::definitions::{Function, Outline};
+use crate::expressions::is_assignment;
+use crate::names::is_keyword;
+use crate::row::{NoteKind, Row};
+use crate::source::{Draft, Source};
+use crate::table::{NONE, filled, put, slot};
+use crate::tokens::TokenKind;
+use std::alloc::{AllocError, Global};
+
+/// For each name, by its first token, the last function that stores what `getchar` gave in it, and the last one that
+/// may store something else there.
+#[derive(Drop)]
+struct Stores {
+    inputs: Vec<usize>,
+    others: Vec<usize>,
+    /// For each name of an external any number.
+    externals: Vec<usize>,
+    /// Whether what `getchar` gave is somewhere else, too.
+    is_spread: bool,
+}
+
+impl Stores {
+    fn is_input(&self, first: usize, number: usize) -> bool {
+        slot(&self.inputs, first) == number
+    }
+
+    // Whether a word of a function holds nothing but that.
+    fn is_alone(&self, first: usize, number: usize) -> bool {
+        slot(&self.others, first) != number && slot(&self.externals, first) == NONE
+    }
+}
+
+/// Edits comparisons of words that hold nothing else, and tells the others where the end of the input may come.
+pub(crate) fn inputs(
+    alloc: Global,
+    source: &Source<'_>,
+    draft: &mut Draft,
+    outline: &Outline,
+) -> Result<(), AllocError> {
+    let count = source.tokens.len();
+    let mut stores = Stores {
+        inputs: filled(alloc, count)?,
+        others: filled(alloc, count)?,
+        externals: filled(alloc, count)?,
+        is_spread: false,
+    };
+    for external in &outline.variables {
+        put(&mut stores.externals, slot(source.firsts, external.name), 0);
+    }
+    let mut edited = filled(alloc, count)?;
+    for number in 0..outline.functions.len() {
+        let function = outline.functions[number];
+        stores_in(source, &mut stores, function, number);
+        comparisons(source, draft, &mut stores, &mut edited, function, number)?;
+    }
+    if stores.is_spread {
+        tell(source, draft, &edited)?;
+    }
+    Ok(())
+}
+
+// Notes what a function stores.
+fn stores_in(source: &Source<'_>, stores: &mut Stores, function: Function, number: usize) {
+    for index in function.open.min(function.body)..function.end.min(source.tokens.len()) {
+        let first = slot(source.firsts, index);
+        if first == NONE {
+            continue;
+        }
+        if gets(source, index) {
+            put(&mut stores.inputs, first, number);
+        } else if index < function.body || is_set(source, index) && !is_character(source, index) {
+            put(&mut stores.others, first, number);
+        }
+        stores.is_spread = stores.is_spread || hands_on(source, index);
+    }
+}
+
+// Whether a name gets what `getchar` gives, and nothing is made of it before.
+fn gets(source: &Source<'_>, name: usize) -> bool {
+    let call = name.wrapping_add(2);
+    let close = source.partner(call.wrapping_add(1));
+    source.is(name.wrapping_add(1), b"=")
+        && source.is(call, b"getchar")
+        && source.is_call(call)
+        && matches!(
+            source.word(close.wrapping_add(1)),
+            b")" | b";" | b"," | b"]"
+        )
+}
+
+// Whether a name is set, or its address is taken.
+fn is_set(source: &Source<'_>, name: usize) -> bool {
+    let next = name.wrapping_add(1);
+    let before = name.wrapping_sub(1);
+    match source.word(before) {
+        b"++" | b"--" => true,
+        b"&" if !is_operand(source, before.wrapping_sub(1)) => true,
+        _ => is_assignment(source.word(next)) || matches!(source.word(next), b"++" | b"--"),
+    }
+}
+
+// Whether a name gets a number, a character constant, or a character of a string: none of these is below 0.
+fn is_character(source: &Source<'_>, name: usize) -> bool {
+    let value = name.wrapping_add(2);
+    let last = match source.kind(value) {
+        Some(TokenKind::Number | TokenKind::Char) => value,
+        _ if source.is(value, b"char") => source.partner(value.wrapping_add(1)),
+        _ => return false,
+    };
+    source.is(name.wrapping_add(1), b"=")
+        && matches!(source.word(last.wrapping_add(1)), b")" | b";" | b"," | b"]")
+}
+
+fn is_operand(source: &Source<'_>, index: usize) -> bool {
+    match source.kind(index) {
+        Some(TokenKind::Sign) => matches!(source.word(index), b")" | b"]"),
+        Some(_) => !source.is(index, b"return"),
+        None => false,
+    }
+}
+
+// Whether a call of `getchar` is a value of a function, a `switch` or a call, or is stored in what is no name.
+fn hands_on(source: &Source<'_>, index: usize) -> bool {
+    if !source.is(index, b"getchar") || !source.is_call(index) {
+        return false;
+    }
+    let before = index.wrapping_sub(1);
+    let head = before.wrapping_sub(1);
+    match source.word(before) {
+        b"return" | b"," => true,
+        b"(" => is_value_head(source, head) || source.is_name(head) && !is_plain_head(source, head),
+        b"=" => !source.is_name(head) || source.is(head.wrapping_sub(2), b"switch"),
+        _ => false,
+    }
+}
+
+// Edits the comparisons of a function with -1 and 0, where the word holds nothing else, and tells them else.
+fn comparisons(
+    source: &Source<'_>,
+    draft: &mut Draft,
+    stores: &mut Stores,
+    edited: &mut Vec<usize>,
+    function: Function,
+    number: usize,
+) -> Result<(), AllocError> {
+    for index in function.body..function.end.min(source.tokens.len()) {
+        let first = slot(source.firsts, index);
+        if first == NONE || !stores.is_input(first, number) {
+            continue;
+        }
+        if stores.is_alone(first, number) {
+            put(edited, index, 0);
+            compared(source, draft, index, Row::InputEnd, false)?;
+        } else if is_sign_test(source, index) {
+            draft.note(source, index, NoteKind::Zero)?;
+        }
+        let before = source.word(index.wrapping_sub(1));
+        let is_given = matches!(before, b"(") && is_value_head(source, index.wrapping_sub(2));
+        if is_given || matches!(before, b"return") || !stores.is_alone(first, number) {
+            stores.is_spread = true;
+        }
+    }
+    Ok(())
+}
+
+// Whether what stands in parentheses after a word goes nowhere else.
+fn is_plain_head(source: &Source<'_>, index: usize) -> bool {
+    is_keyword(source.word(index)) || source.is(index, b"putchar")
+}
+
+// Whether what stands in parentheses after a word is handed on.
+fn is_value_head(source: &Source<'_>, index: usize) -> bool {
+    matches!(source.word(index), b"return" | b"switch")
+}
+
+// Whether it is asked whether what ends with a token is below 0, as the end of the input was.
+fn is_sign_test(source: &Source<'_>, index: usize) -> bool {
+    let sign = index.wrapping_add(1);
+    matches!(source.word(sign), b"<" | b">=") && source.is(sign.wrapping_add(1), b"0")
+}
+
+fn is_minus_one(source: &Source<'_>, first: usize) -> bool {
+    source.is(first, b"-") && source.is(first.wrapping_add(1), b"1")
+}
+
+// Tells each comparison with -1, and each case of it, that stays.
+fn tell(source: &Source<'_>, draft: &mut Draft, edited: &[usize]) -> Result<(), AllocError> {
+    for index in 0..source.tokens.len() {
+        let before = index.wrapping_sub(1);
+        let next = index.wrapping_add(1);
+        let stays = slot(edited, before) == NONE && !is_of_call(source, before);
+        let is_compared = matches!(source.word(index), b"==" | b"!=") && stays;
+        if (is_compared || source.is(index, b"case")) && is_minus_one(source, next) {
+            draft.note(source, index, NoteKind::Zero)?;
+        }
+    }
+    Ok(())
+}
+
+// Whether the value of `getchar` is compared itself.
+fn is_of_call(source: &Source<'_>, close: usize) -> bool {
+    let call = source.partner(close).wrapping_sub(1);
+    let open = source.partner(close);
+    let inner = open.wrapping_add(3);
+    source.is(call, b"getchar")
+        || source.is(inner, b"getchar") && source.is(open.wrapping_add(2), b"=")
+}
