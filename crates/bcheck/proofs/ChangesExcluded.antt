@@ -7,7 +7,7 @@ use Rattle.bword.specs.declared.edition.Edition.TheVariants as editions
 use Rattle.blang.specs.Cut.{escape_of, fixed_of, greatest, keyword_of, longest, number_in, operator_of, other_of, whole}
 use Rattle.blang.specs.Cut.{with_quoted_byte, word_token}
 use Rattle.bcheck.specs.ChangesExcluded.{IsRefused, MayBe, WrongChanges}
-use Rattle.bcheck.specs.Spares.{is_quote, right_from, spares}
+use Rattle.bcheck.specs.Spares.{is_lost, is_of_prototype, is_other_word, is_quote, is_type_word, is_word, is_word_piece, right_from, spares}
 
 first_true : (a b : Bool) → (a && b) ≡ true → a ≡ true
 first_true true b h = refl
@@ -18,57 +18,57 @@ at_most m n h = grind (arith, nat_tests)
 
 brace : IsRefused (codes "{}}") (codes "{}") (codes "}")
 unfolding right_from longest greatest whole word_token keyword_of number_in operator_of other_of fixed_of escape_of
-    with_quoted_byte
+    with_quoted_byte is_other_word is_type_word is_word is_of_prototype is_word_piece is_lost
 brace = refl
 
 declaration : IsRefused (codes "auto i;") [] (codes "auto i;")
 unfolding right_from longest greatest whole word_token keyword_of number_in operator_of other_of fixed_of escape_of
-    with_quoted_byte
+    with_quoted_byte is_other_word is_type_word is_word is_of_prototype is_word_piece is_lost
 declaration = refl
 
 statement : IsRefused (codes "f();") [] (codes "f();")
 unfolding right_from longest greatest whole word_token keyword_of number_in operator_of other_of fixed_of escape_of
-    with_quoted_byte
+    with_quoted_byte is_other_word is_type_word is_word is_of_prototype is_word_piece is_lost
 statement = refl
 
 string_byte : IsRefused (codes "\"ab\"") (codes "\"b\"") (codes "a")
 unfolding right_from longest greatest whole word_token keyword_of number_in operator_of other_of fixed_of escape_of
-    with_quoted_byte
+    with_quoted_byte is_other_word is_type_word is_word is_of_prototype is_word_piece is_lost
 string_byte = refl
 
 call : IsRefused (codes "a f(1)") (codes "a,f 1") (codes " f(1)")
 unfolding right_from longest greatest whole word_token keyword_of number_in operator_of other_of fixed_of escape_of
-    with_quoted_byte
+    with_quoted_byte is_other_word is_type_word is_word is_of_prototype is_word_piece is_lost
 call = refl
 
 elsewhere : IsRefused (codes "a;b;c") (codes "x;b;y") (codes "a;b;c")
 unfolding right_from longest greatest whole word_token keyword_of number_in operator_of other_of fixed_of escape_of
-    with_quoted_byte
+    with_quoted_byte is_other_word is_type_word is_word is_of_prototype is_word_piece is_lost
 elsewhere = refl
 
 comment : IsRefused (codes "a;/*b*/") (codes "/*a;/*b*/") []
 unfolding right_from longest greatest whole word_token keyword_of number_in operator_of other_of fixed_of escape_of
-    with_quoted_byte
+    with_quoted_byte is_other_word is_type_word is_word is_of_prototype is_word_piece is_lost
 comment = refl
 
 semicolon : MayBe (codes "a}") (codes "a;}") []
 unfolding right_from longest greatest whole word_token keyword_of number_in operator_of other_of fixed_of escape_of
-    with_quoted_byte
+    with_quoted_byte is_other_word is_type_word is_word is_of_prototype is_word_piece is_lost
 semicolon = refl
 
 name : MayBe (codes "totl;") (codes "total;") (codes "totl")
 unfolding right_from longest greatest whole word_token keyword_of number_in operator_of other_of fixed_of escape_of
-    with_quoted_byte
+    with_quoted_byte is_other_word is_type_word is_word is_of_prototype is_word_piece is_lost
 name = refl
 
 sign : MayBe (codes "a=<b") (codes "a<=b") (codes "=<")
 unfolding right_from longest greatest whole word_token keyword_of number_in operator_of other_of fixed_of escape_of
-    with_quoted_byte
+    with_quoted_byte is_other_word is_type_word is_word is_of_prototype is_word_piece is_lost
 sign = refl
 
 remark : MayBe (codes "//a b") (codes "/*a b*/") (codes "//a b")
 unfolding right_from longest greatest whole word_token keyword_of number_in operator_of other_of fixed_of escape_of
-    with_quoted_byte
+    with_quoted_byte is_other_word is_type_word is_word is_of_prototype is_word_piece is_lost
 remark = refl
 
 pub excluded : WrongChanges

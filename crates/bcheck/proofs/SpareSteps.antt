@@ -1,5 +1,5 @@
 -- What two sources begin with alike, and what an edit makes of a source.
-use Rattle.std.proofs.Common.{◌≡◌, ◌∙◌, ℕ, zero, suc, ◌+◌, ◌<◌, ◌≤◌, Bool, true, false, List, [], ◌∷◌, ◌++◌, ap, arith, drop, length, refl, subst, sym, take}
+use Rattle.std.proofs.Common.{◌≡◌, ◌∙◌, ℕ, zero, suc, ◌+◌, ◌<◌, ◌≤◌, Bool, true, false, List, [], ◌∷◌, ◌++◌, ap, arith, drop, length, refl, sym, zero-add}
 use Rattle.std.specs.Prelude.{if◌then◌else◌}
 use Rattle.std.proofs.lemmas.List.{drop-drop, drop_all, length-drop}
 use Rattle.blex.specs.declared.scanner.PlacedPiece.{PlacedPiece}
@@ -32,7 +32,7 @@ module _ (source new : List ℕ) where
       pub within : i ≤ length news
 
   pub counts_from : (olds news : List PlacedPiece) → Counts olds news 0
-  counts_from olds news = record { all = refl; within = omega arith }
+  counts_from olds news = record { all = sym (zero-add (alike source olds new news)); within = omega arith }
 
   module _ (olds news : List PlacedPiece) (i : ℕ) (h : Counts olds news i) where
     pub counts_more : begins_alike source (drop i olds) new (drop i news) ≡ true → Counts olds news (i + 1)

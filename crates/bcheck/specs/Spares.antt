@@ -95,12 +95,12 @@ is_firm l = is_quoted l
 abbrev pub other_words : List (List ℕ)
 other_words = codes "and" ∷ codes "or" ∷ codes "not" ∷ codes "then" ∷ codes "do" ∷ []
 
-abbrev pub is_other_word : List ℕ → Bool
+unfoldable pub is_other_word : List ℕ → Bool
 is_other_word name =
     list_any (same_name name) type_words || (list_any (same_name name) heading_words || list_any (same_name name) other_words)
 
 -- names, constants and parentheses, of which one may be another one
-abbrev pub is_word : Option Lexeme → Bool
+unfoldable pub is_word : Option Lexeme → Bool
 is_word (Some (lexeme.Name name)) = not (is_other_word name)
 is_word (Some (lexeme.Number n)) = true
 is_word (Some (lexeme.Character c)) = true
@@ -116,11 +116,18 @@ times source p new qs = count_by (is_same_piece source p new) qs
 abbrev pub stays : Pair → PlacedPiece → Bool
 stays pair p = nat_le (times pair.source p pair.source pair.olds) (times pair.source p pair.new pair.news)
 
+unfoldable pub is_word_piece : PlacedPiece → Bool
+is_word_piece p = is_word p.lexeme
+
 abbrev pub words_in : List PlacedPiece → ℕ
-words_in ps = count_by (λ p. is_word p.lexeme) ps
+words_in ps = count_by is_word_piece ps
+
+-- a word that is among the new ones less often
+unfoldable pub is_lost : Pair → PlacedPiece → Bool
+is_lost pair p = is_word_piece p && not (stays pair p)
 
 abbrev pub lost_words : Pair → ℕ
-lost_words pair = count_by (λ p. is_word p.lexeme && not (stays pair p)) pair.olds
+lost_words pair = count_by (is_lost pair) pair.olds
 
 -- the words of what changes stay, but for one that another one stands for
 abbrev pub keeps_words : Pair → Bool
@@ -147,7 +154,7 @@ begins_foreign bytes =
     || (begins_with 48 bytes && (begins_with 120 rest || begins_with 88 rest)))
 
 -- a token of a prototype, which begins with a type
-abbrev pub is_of_prototype : Option Lexeme → Bool
+unfoldable pub is_of_prototype : Option Lexeme → Bool
 is_of_prototype (Some (lexeme.Name name)) = true
 is_of_prototype (Some (lexeme.Operator op)) = true
 is_of_prototype (Some lexeme.Comma) = true
@@ -156,16 +163,22 @@ is_of_prototype (Some lexeme.CloseParen) = true
 is_of_prototype (Some lexeme.Semicolon) = true
 is_of_prototype l = false
 
+unfoldable pub is_type_word : List ℕ → Bool
+is_type_word name = list_any (same_name name) type_words
+
 abbrev pub is_type : Option Lexeme → Bool
-is_type (Some (lexeme.Name name)) = list_any (same_name name) type_words
+is_type (Some (lexeme.Name name)) = is_type_word name
 is_type l = false
 
 abbrev pub begins_type : List PlacedPiece → Bool
 begins_type [] = false
 begins_type (p ∷ ps) = is_type p.lexeme
 
+abbrev pub are_of_prototype : List PlacedPiece → Bool
+are_of_prototype ps = list_all (λ p. is_of_prototype p.lexeme) ps
+
 abbrev pub is_prototype : List PlacedPiece → Bool
-is_prototype ps = begins_type ps && list_all (λ p. is_of_prototype p.lexeme) ps
+is_prototype ps = begins_type ps && are_of_prototype ps
 
 -- these pieces, which change, are in such bytes or such tokens alone, which are taken out
 abbrev pub is_foreign : (taken : List ℕ) → (pieces olds : List PlacedPiece) → Bool

@@ -3,11 +3,11 @@ ghost use Rattle.std.specs.Prelude.{◌≡◌, ◌<◌, ◌≤◌, ◌++◌, IfO
 ghost use Rattle.std.specs.List.{list_any};
 ghost use Rattle.bword.specs.Words.{same_name};
 ghost use Rattle.bcheck.specs.ChangesExcluded.{WrongChanges};
-ghost use Rattle.bcheck.specs.Spares.{alike, begins_alike, begins_foreign, begins_type, begins_with, is_firm, is_foreign};
+ghost use Rattle.bcheck.specs.Spares.{alike, are_of_prototype, begins_alike, begins_foreign, begins_type, begins_with, is_firm, is_foreign};
 ghost use Rattle.bcheck.specs.Spares.{is_of_prototype, is_other_word, is_prototype, is_quote, is_quoted, is_same_piece};
 ghost use Rattle.bcheck.specs.Spares.{is_type, is_word, is_wrong, keeps, keeps_firm, keeps_quoted, keeps_words, lost_words};
 ghost use Rattle.bcheck.specs.Spares.{other_words, pair_of, rest_back, right_piece, right_pieces, spares, stays, times};
-ghost use Rattle.bcheck.specs.Spares.{words_in};
+ghost use Rattle.bcheck.specs.Spares.{is_lost, is_word_piece, words_in};
 
 use crate::foreign::heading_word;
 use crate::further::is_end;
@@ -230,14 +230,35 @@ fn lost_words(both: &Both<'_>) -> usize
 {
     both.olds
         .iter()
-        .filter(|piece| is_word(piece.lexeme) && !stays(both, piece))
+        .filter(|piece| is_lost(both, piece))
         .count()
+}
+
+// Whether a piece is a word that is among the new ones less often.
+#[tactic(auto, unfolding(crate::specs::Spares::is_lost))]
+fn is_lost(both: &Both<'_>, piece: &PlacedPiece) -> bool
+    ensures { result ≡ is_lost (pair_of both.now) piece.now }
+{
+    is_word_piece(piece) && !stays(both, piece)
 }
 
 fn words_in(pieces: &[PlacedPiece]) -> usize
     ensures { result ≡ words_in pieces.now }
 {
-    pieces.iter().filter(|piece| is_word(piece.lexeme)).count()
+    let mut count = 0;
+    for piece in pieces {
+        if is_word_piece(piece) {
+            count += 1;
+        }
+    }
+    count
+}
+
+#[tactic(auto, unfolding(crate::specs::Spares::is_word_piece))]
+fn is_word_piece(piece: &PlacedPiece) -> bool
+    ensures { result ≡ is_word_piece piece.now }
+{
+    is_word(piece.lexeme)
 }
 
 fn is_quoted(lexeme: Option<Lexeme>) -> bool
@@ -257,6 +278,7 @@ fn is_firm(lexeme: Option<Lexeme>) -> bool
 }
 
 // Whether it is a name, a constant or a parenthesis.
+#[tactic(auto, unfolding(crate::specs::Spares::is_word))]
 fn is_word(lexeme: Option<Lexeme>) -> bool
     ensures { result ≡ is_word lexeme }
 {
@@ -270,6 +292,7 @@ fn is_word(lexeme: Option<Lexeme>) -> bool
 }
 
 // Whether a name is a word of another language.
+#[tactic(auto, unfolding(crate::specs::Spares::is_other_word))]
 fn is_other_word(name: &Name) -> bool
     ensures { result ≡ is_other_word name.now }
 {
@@ -296,7 +319,13 @@ fn begins_foreign(bytes: &[u8]) -> bool
 fn is_prototype(pieces: &[PlacedPiece]) -> bool
     ensures { result ≡ is_prototype pieces.now }
 {
-    begins_type(pieces) && pieces.iter().all(|piece| is_of_prototype(piece.lexeme))
+    begins_type(pieces) && are_of_prototype(pieces)
+}
+
+fn are_of_prototype(pieces: &[PlacedPiece]) -> bool
+    ensures { result ≡ are_of_prototype pieces.now }
+{
+    pieces.iter().all(|piece| is_of_prototype(piece.lexeme))
 }
 
 fn begins_type(pieces: &[PlacedPiece]) -> bool
@@ -308,6 +337,7 @@ fn begins_type(pieces: &[PlacedPiece]) -> bool
     }
 }
 
+#[tactic(auto, unfolding(crate::specs::Spares::is_type_word))]
 fn is_type(lexeme: Option<Lexeme>) -> bool
     ensures { result ≡ is_type lexeme }
 {
@@ -317,6 +347,7 @@ fn is_type(lexeme: Option<Lexeme>) -> bool
     }
 }
 
+#[tactic(auto, unfolding(crate::specs::Spares::is_of_prototype))]
 fn is_of_prototype(lexeme: Option<Lexeme>) -> bool
     ensures { result ≡ is_of_prototype lexeme }
 {

@@ -15,5 +15,5 @@ returns c =
     (c.as_slice-4.ensures.value ∙ c.in_ok-first_olds.ensures.news)
     (c.as_slice-5.ensures.value ∙ c.in_ok-last_olds.ensures.olds)
     (c.as_slice-6.ensures.value ∙ c.in_ok-last_olds.ensures.news)
-    (c.is_foreign.ensures ∙ ap (is_foreign taken c.as_slice-7.result.now) (c.as_slice-8.ensures.value ∙ sym c.as_slice-5.ensures.value))
+    (c.is_foreign-is_foreign.ensures ∙ ap (is_foreign taken c.as_slice-7.result.now) (c.as_slice-8.ensures.value ∙ sym c.as_slice-5.ensures.value))
     c.keeps.ensures
