@@ -19,6 +19,7 @@ pub(crate) struct Conditions<'a> {
 
 impl<'a> Conditions<'a> {
     /// The condition that a text is. It has so many words at most that join others.
+    #[cycle(conditions)]
     pub(crate) fn read(&mut self, text: &[u8], fuel: usize) -> Result<Condition, Stop> {
         if fuel == 0 {
             return Err(Stop::Fault(FaultReason::TooDeep, text.len()));
@@ -42,12 +43,14 @@ impl<'a> Conditions<'a> {
         }
     }
 
+    #[cycle(conditions)]
     fn negated(&mut self, text: &[u8], fuel: usize) -> Result<Condition, Stop> {
         let inner = self.read(text, fuel)?;
         Ok(Condition::Not(Box::new(self.alloc, inner)?))
     }
 
     // A pattern, where it is sought, and what else holds there.
+    #[cycle(conditions)]
     fn sought(&mut self, text: &[u8], fuel: usize) -> Result<Condition, Stop> {
         match parted(text, b" but ") {
             None => self.in_scope(text),
@@ -62,6 +65,7 @@ impl<'a> Conditions<'a> {
     }
 
     // Conditions with `but` between them, which all hold.
+    #[cycle(conditions)]
     fn all_of(&mut self, text: &[u8], fuel: usize) -> Result<Condition, Stop> {
         if fuel == 0 {
             return Err(Stop::Fault(FaultReason::TooDeep, text.len()));

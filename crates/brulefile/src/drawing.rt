@@ -1,8 +1,9 @@
 //! The pattern that the branches of a text are, where signs stand for some of them.
+
 use crate::cleaning::{Mark, Sign};
 use blang::Keyword;
 use blex::Lexeme;
-use bmatch::{Branch, Kind, Leaf, Pattern, Word, branch_at, lexeme_at};
+use bmatch::{Branch, Kind, Leaf, Pattern, Sort, Word, branch_at, lexeme_at};
 use btree::{Construct, Node};
 use bword::BinOp;
 use std::alloc::{AllocError, Global};
@@ -37,6 +38,7 @@ pub(crate) enum Respelled {
 
 impl<'a> Sheet<'a> {
     /// The row of the branches from one number up to another, after what is before it.
+    #[cycle(drawing)]
     pub(crate) fn row(
         &self,
         begin: usize,
@@ -44,7 +46,7 @@ impl<'a> Sheet<'a> {
         before: Pattern,
         fuel: usize,
     ) -> Result<Pattern, AllocError> {
-        if begin >= end || fuel == 0 {
+        if fuel == 0 || begin >= end {
             return Ok(before);
         }
         let index = end - 1;
@@ -55,9 +57,17 @@ impl<'a> Sheet<'a> {
 
     // Where the parts of a branch begin, in a row that begins here.
     fn begin_in(&self, index: usize, begin: usize) -> usize {
-        branch_at(self.rows, index).begin.max(begin).min(index)
+        let own = branch_at(self.rows, index).begin;
+        if own < begin {
+            begin
+        } else if index < own {
+            index
+        } else {
+            own
+        }
     }
 
+    #[cycle(drawing)]
     fn branch(
         &self,
         index: usize,
@@ -65,30 +75,14 @@ impl<'a> Sheet<'a> {
         rest: Pattern,
         fuel: usize,
     ) -> Result<Pattern, AllocError> {
-        let branch = branch_at(self.rows, index);
-        let is_told = self.is_told(branch.token);
-        if let Some(sign) = self.sign_of(index, first) {
-            return self.hole(sign, is_told, rest);
-        }
-        match self.leaf(index, first) {
-            Some(Lexeme::Name(name)) => Ok(Pattern::Leaf(
-                Leaf::Name(name),
-                is_told,
-                self.boxed(rest)?,
-            )),
-            Some(Lexeme::Number(value) | Lexeme::Character(value)) => {
-                Ok(Pattern::Leaf(Leaf::Value(value), is_told, self.boxed(rest)?))
-            }
-            Some(Lexeme::Semicolon) => {
-                Ok(Pattern::Leaf(Leaf::Word(Word::Nothing), is_told, self.boxed(rest)?))
-            }
-            Some(Lexeme::Keyword(Keyword::Return)) => {
-                Ok(Pattern::Leaf(Leaf::Word(Word::Return), is_told, self.boxed(rest)?))
-            }
-            Some(Lexeme::Keyword(Keyword::Break)) => {
-                Ok(Pattern::Leaf(Leaf::Word(Word::Break), is_told, self.boxed(rest)?))
-            }
-            _ => self.spelled(index, first, rest, fuel),
+        match self.sign_of(index, first) {
+            Some(Sign::Hole(hole, sort)) => self.leaf(Leaf::Hole(hole, sort), index, rest),
+            Some(Sign::Statement(hole)) => self.leaf(Leaf::Hole(hole, Sort::Any), index, rest),
+            Some(Sign::Dots) => Ok(Pattern::Dots(self.boxed(rest)?)),
+            None => match self.leaf_at(index, first) {
+                Some(leaf) => self.leaf(leaf, index, rest),
+                None => self.spelled(index, first, rest, fuel),
+            },
         }
     }
 
@@ -96,33 +90,31 @@ impl<'a> Sheet<'a> {
         Ok(Box::new(self.alloc, pattern)?)
     }
 
-    fn hole(&self, sign: Sign, is_told: bool, rest: Pattern) -> Result<Pattern, AllocError> {
-        let rest = self.boxed(rest)?;
-        match sign {
-            Sign::Hole(number, sort) => Ok(Pattern::Leaf(Leaf::Hole(number, sort), is_told, rest)),
-            Sign::Statement(number) => Ok(Pattern::Leaf(
-                Leaf::Hole(number, bmatch::Sort::Any),
-                is_told,
-                rest,
-            )),
-            Sign::Dots => Ok(Pattern::Dots(rest)),
-        }
+    fn leaf(&self, leaf: Leaf, index: usize, rest: Pattern) -> Result<Pattern, AllocError> {
+        Ok(Pattern::Leaf(leaf, self.is_told(index), self.boxed(rest)?))
     }
 
-    fn is_told(&self, token: usize) -> bool {
+    // Whether a branch is made by the token that is told.
+    fn is_told(&self, index: usize) -> bool {
         match self.told {
-            Some(told) => told == token,
+            Some(told) => told == branch_at(self.rows, index).token,
             None => false,
         }
     }
 
-    // The token that a name, a constant or a statement of one word is.
-    fn leaf(&self, index: usize, first: usize) -> Option<Lexeme> {
+    // The pattern that a branch without parts is.
+    fn leaf_at(&self, index: usize, first: usize) -> Option<Leaf> {
         let branch = branch_at(self.rows, index);
         let lexeme = lexeme_at(self.lexemes, branch.token);
         match branch.kind {
-            Kind::Node(Node::Name | Node::Constant) => Some(lexeme),
-            Kind::Construct(Construct::Plain) if first == index => Some(lexeme),
+            Kind::Node(Node::Name | Node::Constant) => leaf_of(lexeme),
+            Kind::Construct(Construct::Plain) => {
+                if first == index {
+                    word_of(lexeme)
+                } else {
+                    None
+                }
+            }
             _ => None,
         }
     }
@@ -131,10 +123,11 @@ impl<'a> Sheet<'a> {
     fn sign_of(&self, index: usize, first: usize) -> Option<Sign> {
         match branch_at(self.rows, index).kind {
             Kind::Node(Node::Name) => self.sign_at(index),
-            Kind::Construct(Construct::Plain) if first + 2 == index => {
-                match self.sign_at(first) {
-                    Some(Sign::Hole(_, _)) => None,
-                    sign => sign,
+            Kind::Construct(Construct::Plain) => {
+                if first == index.saturating_sub(2) {
+                    of_statement(self.sign_at(first))
+                } else {
+                    None
                 }
             }
             _ => None,
@@ -144,19 +137,17 @@ impl<'a> Sheet<'a> {
     // What stands for a branch that is a name.
     fn sign_at(&self, index: usize) -> Option<Sign> {
         let branch = branch_at(self.rows, index);
-        if !matches!(branch.kind, Kind::Node(Node::Name)) {
-            return None;
-        }
-        let start = self.starts.get(branch.token).copied().unwrap_or(0);
-        for mark in self.marks {
-            if start >= BEFORE && mark.at == start - BEFORE {
-                return Some(mark.sign);
+        match branch.kind {
+            Kind::Node(Node::Name) => {
+                let start = self.starts.get(branch.token).copied().unwrap_or(0);
+                sign_in(self.marks, start.saturating_sub(BEFORE))
             }
+            _ => None,
         }
-        None
     }
 
     // A branch with parts, in each way in which it may be spelled.
+    #[cycle(drawing)]
     fn spelled(
         &self,
         index: usize,
@@ -165,17 +156,17 @@ impl<'a> Sheet<'a> {
         fuel: usize,
     ) -> Result<Pattern, AllocError> {
         let kind = branch_at(self.rows, index).kind;
-        let respelled = self.respelled(index, first);
-        if matches!(respelled, Respelled::No) {
-            let parts = self.row(first, index, Pattern::Done, fuel)?;
-            return self.tree(kind, index, parts, rest);
-        }
-        let again = copied(self.alloc, &rest)?;
         let parts = self.row(first, index, Pattern::Done, fuel)?;
-        let one = self.tree(kind, index, parts, rest)?;
-        let parts = self.respelled_parts(respelled, index, first, fuel)?;
-        let other = self.tree(respelled_kind(respelled, kind), index, parts, again)?;
-        Ok(Pattern::Either(self.boxed(one)?, self.boxed(other)?))
+        match self.respelled(index, first) {
+            Respelled::No => self.tree(kind, index, parts, rest),
+            respelled => {
+                let again = copied(self.alloc, &rest)?;
+                let one = self.tree(kind, index, parts, rest)?;
+                let parts = self.respelled_parts(respelled, index, first, fuel)?;
+                let other = self.tree(respelled_kind(respelled, kind), index, parts, again)?;
+                Ok(Pattern::Either(self.boxed(one)?, self.boxed(other)?))
+            }
+        }
     }
 
     fn tree(
@@ -185,10 +176,11 @@ impl<'a> Sheet<'a> {
         parts: Pattern,
         rest: Pattern,
     ) -> Result<Pattern, AllocError> {
-        let is_told = self.is_told(branch_at(self.rows, index).token);
+        let is_told = self.is_told(index);
         Ok(Pattern::Tree(kind, is_told, self.boxed(parts)?, self.boxed(rest)?))
     }
 
+    #[cycle(drawing)]
     fn respelled_parts(
         &self,
         respelled: Respelled,
@@ -196,15 +188,14 @@ impl<'a> Sheet<'a> {
         first: usize,
         fuel: usize,
     ) -> Result<Pattern, AllocError> {
-        let last = index.saturating_sub(1);
         match respelled {
             Respelled::Mirrored(_) => {
-                let right = self.begin_in(last, first);
+                let right = self.begin_in(index.saturating_sub(1), first);
                 let before = self.row(right, index, Pattern::Done, fuel)?;
                 self.row(first, right, before, fuel)
             }
             Respelled::Bare => {
-                let right = self.begin_in(last.saturating_sub(1), first);
+                let right = self.begin_in(index.saturating_sub(2), first);
                 self.row(first, right, Pattern::Done, fuel)
             }
             _ => self.row(first, index, Pattern::Done, fuel),
@@ -213,14 +204,28 @@ impl<'a> Sheet<'a> {
 
     // How else a branch may be spelled.
     fn respelled(&self, index: usize, first: usize) -> Respelled {
-        let last = index.saturating_sub(1);
         match branch_at(self.rows, index).kind {
-            Kind::Node(Node::Binary(op)) if self.is_loose => match mirrored(op) {
-                Some(op) => Respelled::Mirrored(op),
-                None => Respelled::No,
-            },
-            Kind::Node(Node::Tested) if self.is_loose && self.is_nonzero(last) => Respelled::Bare,
-            Kind::Construct(Construct::If) if self.is_dots(last, first) => Respelled::WithElse,
+            Kind::Node(Node::Binary(op)) => {
+                if self.is_loose {
+                    mirrored_by(mirrored(op))
+                } else {
+                    Respelled::No
+                }
+            }
+            Kind::Node(Node::Tested) => {
+                if self.is_loose && self.is_nonzero(index.saturating_sub(1)) {
+                    Respelled::Bare
+                } else {
+                    Respelled::No
+                }
+            }
+            Kind::Construct(Construct::If) => {
+                if self.is_dots(index.saturating_sub(1), first) {
+                    Respelled::WithElse
+                } else {
+                    Respelled::No
+                }
+            }
             _ => Respelled::No,
         }
     }
@@ -228,14 +233,8 @@ impl<'a> Sheet<'a> {
     // Whether it is a comparison by `!=` with 0.
     fn is_nonzero(&self, index: usize) -> bool {
         let right = branch_at(self.rows, index.saturating_sub(1));
-        matches!(
-            branch_at(self.rows, index).kind,
-            Kind::Node(Node::Binary(BinOp::Ne))
-        ) && (matches!(right.kind, Kind::Node(Node::Constant))
-            && matches!(
-                lexeme_at(self.lexemes, right.token),
-                Lexeme::Number(0) | Lexeme::Character(0)
-            ))
+        is_unequal(branch_at(self.rows, index).kind)
+            && (is_constant(right.kind) && is_zero(lexeme_at(self.lexemes, right.token)))
     }
 
     fn is_dots(&self, index: usize, begin: usize) -> bool {
@@ -243,6 +242,67 @@ impl<'a> Sheet<'a> {
             self.sign_of(index, self.begin_in(index, begin)),
             Some(Sign::Dots)
         )
+    }
+}
+
+fn leaf_of(lexeme: Lexeme) -> Option<Leaf> {
+    match lexeme {
+        Lexeme::Name(name) => Some(Leaf::Name(name)),
+        Lexeme::Number(value) | Lexeme::Character(value) => Some(Leaf::Value(value)),
+        _ => None,
+    }
+}
+
+// The statement of one word that begins with a token.
+fn word_of(lexeme: Lexeme) -> Option<Leaf> {
+    match lexeme {
+        Lexeme::Semicolon => Some(Leaf::Word(Word::Nothing)),
+        Lexeme::Keyword(Keyword::Return) => Some(Leaf::Word(Word::Return)),
+        Lexeme::Keyword(Keyword::Break) => Some(Leaf::Word(Word::Break)),
+        _ => None,
+    }
+}
+
+fn sign_in(marks: &[Mark], place: usize) -> Option<Sign> {
+    match marks {
+        [] => None,
+        [mark, rest @ ..] => {
+            if mark.at == place {
+                Some(mark.sign)
+            } else {
+                sign_in(rest, place)
+            }
+        }
+    }
+}
+
+// A hole for an expression stands for no statement.
+fn of_statement(sign: Option<Sign>) -> Option<Sign> {
+    match sign {
+        Some(Sign::Hole(_, _)) => None,
+        _ => sign,
+    }
+}
+
+fn mirrored_by(op: Option<BinOp>) -> Respelled {
+    match op {
+        Some(op) => Respelled::Mirrored(op),
+        None => Respelled::No,
+    }
+}
+
+fn is_unequal(kind: Kind) -> bool {
+    matches!(kind, Kind::Node(Node::Binary(BinOp::Ne)))
+}
+
+fn is_constant(kind: Kind) -> bool {
+    matches!(kind, Kind::Node(Node::Constant))
+}
+
+fn is_zero(lexeme: Lexeme) -> bool {
+    match lexeme {
+        Lexeme::Number(value) | Lexeme::Character(value) => value == 0,
+        _ => false,
     }
 }
 

@@ -1,5 +1,5 @@
 //! The holes of a rule.
-use bmatch::{MOST_HOLES, ROOT, Sort};
+use bmatch::{ROOT, Sort};
 use bword::Name;
 use std::alloc::{AllocError, Global};
 
@@ -26,7 +26,7 @@ impl Holes {
         if place == count {
             self.names.push(name)?;
         }
-        if place + 1 < usize::from(MOST_HOLES) {
+        if place < usize::from(ROOT) {
             Ok(Some(place as u8))
         } else {
             Ok(None)
