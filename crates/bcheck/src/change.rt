@@ -199,11 +199,13 @@ fn only_change(
     if edit.start.saturating_add(edit.len) > within {
         return Ok(None);
     }
-    if !is_spared(alloc, bench, &edit)? {
-        return Ok(None);
+    let spared = is_spared(alloc, bench, &edit)?;
+    if spared {
+        let change = change_of(alloc, &edit)?;
+        Ok(Some(change))
+    } else {
+        Ok(None)
     }
-    let change = change_of(alloc, &edit)?;
-    Ok(Some(change))
 }
 
 // Whether an edit of a source needs no choice.
