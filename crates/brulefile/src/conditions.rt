@@ -84,7 +84,7 @@ impl<'a> Conditions<'a> {
 
     fn in_scope(&mut self, text: &[u8]) -> Result<Condition, Stop> {
         let (pattern, scope) = self.scope(text)?;
-        let more = text.len() - pattern.len();
+        let more = text.len().saturating_sub(pattern.len());
         let pattern = read_pattern(self.alloc, pattern, self.is_loose, &mut *self.holes).map_err(
             |stop| moved(stop, more),
         )?;

@@ -12,7 +12,7 @@ pub(crate) struct CutPattern {
     pub is_whole: bool,
 }
 
-/// Cuts a text.
+/// Cuts a text, each piece of which has a byte at least.
 pub(crate) fn cut(alloc: Global, text: &[u8]) -> Result<CutPattern, AllocError> {
     let mut scanner = Scanner::new(text, Edition::Two);
     let mut cut = CutPattern {
@@ -20,13 +20,14 @@ pub(crate) fn cut(alloc: Global, text: &[u8]) -> Result<CutPattern, AllocError> 
         starts: Vec::new(alloc),
         is_whole: true,
     };
-    loop {
+    for _ in 0..text.len() {
         let found = scanner.next();
         if matches!(found.lexeme, Some(Lexeme::End)) {
             return Ok(cut);
         }
         cut.take(&found)?;
     }
+    Ok(cut)
 }
 
 impl CutPattern {

@@ -264,16 +264,12 @@ fn word_of(lexeme: Lexeme) -> Option<Leaf> {
 }
 
 fn sign_in(marks: &[Mark], place: usize) -> Option<Sign> {
-    match marks {
-        [] => None,
-        [mark, rest @ ..] => {
-            if mark.at == place {
-                Some(mark.sign)
-            } else {
-                sign_in(rest, place)
-            }
+    for mark in marks {
+        if mark.at == place {
+            return Some(mark.sign);
         }
     }
+    None
 }
 
 // A hole for an expression stands for no statement.

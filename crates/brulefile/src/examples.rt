@@ -12,15 +12,17 @@ fn tells(alloc: Global, rules: &Rules, name: &[u8], text: &[u8]) -> Result<bool,
     let mut scanner = Scanner::new(text, Edition::Two);
     for _ in 0..text.len() {
         let found = scanner.next();
-        match found.lexeme {
+        let place = TokenPlace {
+            line: found.line,
+            start: found.first,
+            len: found.end.saturating_sub(found.first),
+        };
+        let lexeme = found.lexeme;
+        match lexeme {
             Some(Lexeme::End) => break,
             Some(lexeme) => {
                 lexemes.push(lexeme)?;
-                places.push(TokenPlace {
-                    line: found.line,
-                    start: found.first,
-                    len: found.end.saturating_sub(found.first),
-                })?;
+                places.push(place)?;
             }
             None => {}
         }
@@ -34,7 +36,8 @@ fn tells(alloc: Global, rules: &Rules, name: &[u8], text: &[u8]) -> Result<bool,
     };
     let found = notices_of(alloc, &tree, rules.rules.as_slice())?;
     for notice in &found {
-        if let Some(told) = rules.names.get(notice.rule) {
+        let rule = notice.rule;
+        if let Some(told) = rules.names.get(rule) {
             if told.as_bytes() == name {
                 return Ok(true);
             }

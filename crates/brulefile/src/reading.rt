@@ -70,7 +70,7 @@ fn stopped(stop: Stop, line: u64, len: usize) -> Result<Result<Rules, RuleFault>
         Stop::Memory => Err(AllocError),
         Stop::Fault(reason, left) => Ok(Err(RuleFault {
             line,
-            column: len.saturating_sub(left) as u64 + 1,
+            column: (len.saturating_sub(left) as u64).saturating_add(1),
             reason,
         })),
         Stop::Empty(line) => Ok(Err(RuleFault {

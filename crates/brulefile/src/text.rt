@@ -65,10 +65,10 @@ pub(crate) fn place_of(text: &[u8], words: &[u8]) -> Option<usize> {
 /// How many words a text has, up to a limit.
 pub(crate) fn count_words(text: &[u8], most: usize) -> usize {
     let mut rest = after_blanks(text);
-    let mut count = 0;
+    let mut count: usize = 0;
     for _ in 0..most {
         if !rest.is_empty() {
-            count += 1;
+            count = count.saturating_add(1);
             rest = after_word(rest);
         }
     }
