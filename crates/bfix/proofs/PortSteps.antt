@@ -31,21 +31,23 @@ stays_led frame ported led is none =
     let small = λ (h : length ported.text ≤ frame.most). subst (λ t. length t ≤ frame.most) (sym is) h in
     (record { lines = []; lead = is; few = omega arith; told = none; small = small }, λ e. refl, λ e. refl)
 
+not_left : (p r : Bool) → (p || r) ≡ false → p ≡ true → ⊥
+not_left true r e f = let no : true ≡ false = e in cc
+not_left false r e f = let no : true ≡ false = sym f in cc
+
+not_right : (p r : Bool) → (p || r) ≡ false → r ≡ true → ⊥
+not_right true r e f = let no : true ≡ false = e in cc
+not_right false r e f = let no : true ≡ false = sym f ∙ e in cc
+
 -- what comes of anything else
 pub goes_led : (frame : Frame) (ported : Ported) (led : Led)
     → (ported.is_program || list_any refuses ported.notes.items) ≡ false → IsLed frame ported.text led
     → IsLedOn frame ported led
-goes_led frame ported led e led_by =
-    (led_by, no_led ported.is_program (list_any refuses ported.notes.items) led e,
-    no_refused ported.is_program (list_any refuses ported.notes.items) led e)
-
-no_led : (p r : Bool) (led : Led) → (p || r) ≡ false → p ≡ true → led.lines ≡ []
-no_led true r led e f = let no : true ≡ false = e in cc
-no_led false r led e f = let no : true ≡ false = sym f in cc
-
-no_refused : (p r : Bool) (led : Led) → (p || r) ≡ false → r ≡ true → led.lines ≡ []
-no_refused true r led e f = let no : true ≡ false = e in cc
-no_refused false r led e f = let no : true ≡ false = sym f ∙ e in cc
+goes_led frame ported led e led_by = (
+  led_by,
+  (λ f. absurd (not_left ported.is_program (list_any refuses ported.notes.items) e f)),
+  (λ f. absurd (not_right ported.is_program (list_any refuses ported.notes.items) e f)),
+)
 
 -- a program has no edit and no change
 pub stays_if_it_runs : (edition : Edition) (own rest : List ℕ) (is_program : Bool) (edits : List Edit)
