@@ -2,7 +2,7 @@
 use std::alloc::{AllocError, AllocFailed};
 
 /// Where a text of rules isn't one, and why.
-#[derive(Clone, Copy, PartialEq, Eq, Debug)]
+#[derive(Clone, Copy, PartialEq, Eq)]
 pub struct RuleFault {
     /// The line, from 1.
     pub line: u64,
@@ -12,7 +12,7 @@ pub struct RuleFault {
 }
 
 /// Why a text of rules isn't one.
-#[derive(Clone, Copy, PartialEq, Eq, Debug)]
+#[derive(Clone, Copy, PartialEq, Eq)]
 pub enum FaultReason {
     LongLine,
     NoRule,
