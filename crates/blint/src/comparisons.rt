@@ -3,28 +3,18 @@ use crate::linting::Look;
 use crate::locals::compares;
 use crate::remarks::Remark;
 use crate::strings::{is_word_of_string, is_word_of_text};
-use crate::tokens::Tokens;
 use crate::tree::Branch;
 use crate::warnings::Warning;
-use blex::Lexeme;
 use btree::Node;
 use bword::BinOp;
 
 /// What is found of an operator between two operands.
 pub(crate) fn operated(look: &Look<'_>, branch: &Branch, op: BinOp) -> Option<Remark> {
-    match op {
-        BinOp::Mul => doubled(look.tree.tokens, branch.token),
-        _ if compares(op) => compared(look, branch),
-        _ => None,
+    if compares(op) {
+        compared(look, branch)
+    } else {
+        None
     }
-}
-
-// What is found of `**`.
-fn doubled(tokens: &Tokens<'_>, operator: usize) -> Option<Remark> {
-    if tokens.after(operator) == Lexeme::Operator(BinOp::Mul) && tokens.is_joined(operator) {
-        return Remark::new(operator, Warning::Power);
-    }
-    None
 }
 
 fn compared(look: &Look<'_>, branch: &Branch) -> Option<Remark> {

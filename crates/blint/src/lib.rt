@@ -28,6 +28,7 @@ mod linting;
 mod locals;
 mod looking;
 mod loops;
+mod matched;
 mod nested;
 mod nots;
 mod numbers;
@@ -53,8 +54,8 @@ mod warnings;
 mod whole;
 mod zeros;
 
+pub use bmatch::TokenPlace;
 pub use cautions::{Caution, Program};
 pub use linting::lint;
 pub use spelling::is_near;
-pub use tokens::TokenPlace;
 pub use warnings::{Slip, Warning};

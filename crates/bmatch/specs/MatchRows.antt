@@ -15,6 +15,7 @@ use Rattle.btree.specs.declared.nodes.Node.TheVariants as node
 use Rattle.btree.specs.declared.tags.Construct.{Construct}
 use Rattle.btree.specs.declared.tags.Construct.TheVariants as construct
 use Rattle.bmatch.specs.declared.binds.Binds.{Binds}
+use Rattle.bmatch.specs.declared.conditions.Measure.TheVariants as measure
 use Rattle.bmatch.specs.declared.conditions.Relation.TheVariants as relation
 use Rattle.bmatch.specs.declared.conditions.Scope.{Scope}
 use Rattle.bmatch.specs.declared.conditions.Scope.TheVariants as scope
@@ -228,7 +229,8 @@ passed t index = passes_test site t (with_told (rooted index) true 15)
 
 -- of x + 1, 1, the call and the name f: nothing acts; a constant; the function's own name; a parameter
 tested : map (λ t. map (passed t) (16 ∷ 15 ∷ 9 ∷ 4 ∷ 14 ∷ []))
-    (test.Quiet 0 ∷ test.Value 0 relation.Equal 1 ∷ test.Value 0 relation.Less 1 ∷ test.OwnName 0 ∷ test.Parameter 0
+    (test.Quiet 0 ∷ test.Compares (measure.Value 0) relation.Equal (measure.Number 1)
+    ∷ test.Compares (measure.Value 0) relation.Less (measure.Number 1) ∷ test.OwnName 0 ∷ test.Parameter 0
     ∷ test.Quiet 3 ∷ test.Parameter 3 ∷ [])
     ≡ (true ∷ true ∷ false ∷ true ∷ true ∷ []) ∷ (false ∷ true ∷ false ∷ false ∷ false ∷ []) ∷ replicate 5 false
     ∷ (false ∷ false ∷ false ∷ true ∷ false ∷ []) ∷ (false ∷ false ∷ false ∷ false ∷ true ∷ []) ∷ replicate 5 false

@@ -1,5 +1,5 @@
 -- Promise: what rules tell of a source: each place where a rule fits and its condition holds, in the order of the rules.
-use Rattle.std.specs.Prelude.{ℕ, ◌+◌, ◌-◌, ◌&&◌, Bool, true, false, if◌then◌else◌, nat_lt, List, [], ◌∷◌, length, map}
+use Rattle.std.specs.Prelude.{ℕ, ◌+◌, ◌-◌, ◌&&◌, Bool, true, false, if◌then◌else◌, nat_lt, List, [], ◌∷◌, length, map, Option, None, Some}
 use Rattle.std.specs.List.{flat_map, range_with_len}
 use Rattle.btree.specs.declared.tags.Construct.TheVariants as construct
 use Rattle.bmatch.specs.declared.binds.Binds.{Binds}
@@ -15,7 +15,7 @@ use Rattle.bmatch.specs.declared.tree.Kind.{Kind}
 use Rattle.bmatch.specs.declared.tree.Kind.TheVariants as kind
 use Rattle.bmatch.specs.declared.tree.Tree.{Tree}
 use Rattle.bmatch.specs.Asking.{told_token}
-use Rattle.bmatch.specs.Binds.{nothing_bound, with_hole}
+use Rattle.bmatch.specs.Binds.{hole_of, nothing_bound, with_hole}
 use Rattle.bmatch.specs.Fits.{span_of}
 use Rattle.bmatch.specs.Holds.{fits_at, holds_in}
 use Rattle.bmatch.specs.Trees.{branch_at}
@@ -33,8 +33,18 @@ functions_at tree index =
 abbrev pub functions_in : Tree → List Span
 functions_in tree = flat_map (functions_at tree) (range_with_len 0 (length tree.rows.now))
 
-abbrev pub notice_of : Tree → (rule : ℕ) → Binds → Notice
-notice_of tree rule b = record { rule = rule; token = told_token tree b }
+abbrev pub first_token : Tree → Option ℕ → Option ℕ
+first_token tree None = None
+first_token tree (Some index) = Some (branch_at tree.rows.now index).first
+
+abbrev pub notice_of : Tree → Rule → Binds → Notice
+notice_of tree r b =
+    record {
+      rule = r.number;
+      token = told_token tree b;
+      named = first_token tree (hole_of b r.named);
+      beside = first_token tree (hole_of b r.beside);
+    }
 
 abbrev pub sight_of : Tree → Rule → Sight
 sight_of tree r = record { tree = tree; is_loose = r.is_loose }
@@ -45,7 +55,7 @@ site_of tree r function = record { sight = sight_of tree r; function = function 
 -- a pattern fits this branch of a function, and the condition of its rule holds
 abbrev pub root_notices : Tree → Rule → Pattern → (function : Span) → (root : ℕ) → List Notice
 root_notices tree r p function root =
-    map (notice_of tree r.number) (flat_map (holds_in (site_of tree r function) r.condition)
+    map (notice_of tree r) (flat_map (holds_in (site_of tree r function) r.condition)
     (fits_at (sight_of tree r) p root (with_hole nothing_bound ROOT root)))
 
 -- A rule that looks around isn't asked in a very long function.

@@ -1,6 +1,6 @@
 //! What rules tell of a source.
 ghost use Rattle.std.specs.Prelude.{◌≡◌, ◌+◌, ◌++◌, ◌<◌, ◌^◌, IfOk, map};
-ghost use Rattle.bmatch.specs.Notices.{function_notices, functions_at, functions_in, is_passed_over, notice_of};
+ghost use Rattle.bmatch.specs.Notices.{first_token, function_notices, functions_at, functions_in, is_passed_over, notice_of};
 ghost use Rattle.bmatch.specs.Notices.{notices_by, pattern_notices, root_notices, rule_notices};
 
 use crate::asking::told_token;
@@ -20,6 +20,9 @@ pub const MOST_BRANCHES: usize = 32_768;
 pub struct Notice {
     pub rule: usize,
     pub token: usize,
+    /// The token of the name of which it speaks, and that of a second place.
+    pub named: Option<usize>,
+    pub beside: Option<usize>,
 }
 
 /// Each place where a rule fits and its condition holds, in the order of the rules.
@@ -152,22 +155,33 @@ fn root_notices(
     let site = Site { sight, function };
     let mut held = Vec::new(alloc);
     all_hold(alloc, &site, &rule.condition, ways.as_slice(), &mut held)?;
-    tell(tree, rule.number, held.as_slice(), found)
+    tell(tree, rule, held.as_slice(), found)
 }
 
 fn tell(
     tree: &Tree<'_>,
-    rule: usize,
+    rule: &Rule,
     held: &[Binds],
     found: &mut Vec<Notice>,
 ) -> Result<(), AllocError>
-    ensures { IfOk result (λ done. found.new.items ≡ found.old.items ++ map (notice_of tree.now rule) held.now) }
+    ensures { IfOk result (λ done. found.new.items ≡ found.old.items ++ map (notice_of tree.now rule.now) held.now) }
 {
     for binds in held {
         found.push(Notice {
-            rule,
+            rule: rule.number,
             token: told_token(tree, binds),
+            named: first_token(tree, binds.of(rule.named)),
+            beside: first_token(tree, binds.of(rule.beside)),
         })?;
     }
     Ok(())
+}
+
+fn first_token(tree: &Tree<'_>, index: Option<usize>) -> Option<usize>
+    ensures { result ≡ first_token tree.now index }
+{
+    match index {
+        Some(index) => Some(branch_at(tree.rows, index).first),
+        None => None,
+    }
 }

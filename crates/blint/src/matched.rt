@@ -1,0 +1,88 @@
+//! What the rules of `b check` tell of the tokens of a source.
+use crate::cutting::CutSource;
+use crate::remarks::Remark;
+use crate::tree::NONE;
+use crate::warnings::{Slip, Warning};
+use bmatch::{Notice, Tree, grown, notices_of};
+use brulefile::{CHECK_RULES, Rules, read_rules};
+use std::alloc::{AllocError, Global};
+
+/// For each token of a source the first warning of it, by a rule.
+#[derive(Drop)]
+pub(crate) struct Matched {
+    of_tokens: Vec<Option<(Warning, Notice)>>,
+}
+
+impl Matched {
+    /// What the rules tell of a source.
+    pub(crate) fn new(alloc: Global, text: &[u8], cut: &CutSource) -> Result<Self, AllocError> {
+        let mut matched = Matched {
+            of_tokens: Vec::new(alloc),
+        };
+        for _ in 0..cut.lexemes.len() {
+            matched.of_tokens.push(None)?;
+        }
+        let rows = grown(alloc, cut.lexemes.as_slice())?;
+        let tree = Tree {
+            text,
+            lexemes: cut.lexemes.as_slice(),
+            places: cut.places.as_slice(),
+            rows: rows.as_slice(),
+        };
+        if let Ok(rules) = read_rules(alloc, CHECK_RULES.as_bytes())? {
+            let notices = notices_of(alloc, &tree, rules.rules.as_slice())?;
+            for notice in &notices {
+                matched.note(&rules, notice);
+            }
+        }
+        Ok(matched)
+    }
+
+    fn note(&mut self, rules: &Rules, notice: &Notice) {
+        let Some(name) = rules.names.get(notice.rule) else {
+            return;
+        };
+        let Some(warning) = warning_named(name.as_bytes()) else {
+            return;
+        };
+        if let Some(told) = self.of_tokens.get_mut(notice.token) {
+            if told.is_none() {
+                *told = Some((warning, *notice));
+            }
+        }
+    }
+
+    /// What is said of a token of the definition that begins at another one. The remark counts its tokens from there.
+    pub(crate) fn at(&self, first: usize, token: usize) -> Option<Remark> {
+        let (warning, notice) = self
+            .of_tokens
+            .get(first.saturating_add(token))
+            .copied()
+            .unwrap_or(None)?;
+        let named = notice.named.unwrap_or(notice.token);
+        Some(Remark {
+            other: match notice.beside {
+                Some(beside) => beside.saturating_sub(first),
+                None => NONE,
+            },
+            ..Remark::about(token, warning, named.saturating_sub(first))?
+        })
+    }
+}
+
+// The warning of a rule of this name.
+fn warning_named(name: &[u8]) -> Option<Warning> {
+    let warning = match name {
+        b"Power" => Warning::Power,
+        _ => return slip_named(name),
+    };
+    Some(warning)
+}
+
+fn slip_named(name: &[u8]) -> Option<Warning> {
+    let slip = match name {
+        b"NotFirst" => Slip::NotFirst,
+        _ => return None,
+    };
+    Some(Warning::Slip(slip))
+}
