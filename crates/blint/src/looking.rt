@@ -1,10 +1,8 @@
 //! Looking at a function with each finder.
 use crate::answers::newline_between;
-use crate::bounds::settled;
 use crate::calls::{MOST_ARGUMENTS, called, calls_astray, counted_past, same_arguments, valued};
-use crate::cases::{digit_compared, not_assigned, of_case};
+use crate::cases::of_case;
 use crate::chains::{dangling, in_row};
-use crate::comparisons::operated;
 use crate::conditions::{index_kept, only_in_if, tested_before};
 use crate::copies::{copied_back, copied_late, same_now};
 use crate::counters::{
@@ -12,7 +10,6 @@ use crate::counters::{
 };
 use crate::declared::declared_in;
 use crate::divisors::{both_evaluated, divided_by_one, remainder_kept};
-use crate::ends::loop_end;
 use crate::extremes::searched;
 use crate::functions::changes_nothing;
 use crate::jumps::{begins_again, leaves_count_out};
@@ -20,20 +17,16 @@ use crate::layout::indented;
 use crate::linting::Look;
 use crate::loops::{input_endless, unchanged};
 use crate::nested::{not_set_back, same_twice};
-use crate::nots::not_first;
-use crate::numbers::{assigned, divided, multiplied, too_large};
+use crate::numbers::{assigned, divided};
 use crate::past_end::{after_last, counts_end};
 use crate::reading::{end_taken, lost};
 use crate::remainders::below_zero;
 use crate::remarks::{Remark, Remarks};
 use crate::rooms::too_small;
 use crate::stacks::popped;
-use crate::stores::{moves_address, not_reached, overwritten, put_back, stored_back, value_kept};
-use crate::strings::{
-    added, character_counted, character_for_number, form_of, names_compared, word_stored,
-    word_taken,
-};
-use crate::texts::{compared_alone, ended_by_zero, newline_next, not_ended};
+use crate::stores::{moves_address, not_reached};
+use crate::strings::form_of;
+use crate::texts::{newline_next, not_ended};
 use crate::tree::Branch;
 use crate::turns::{by_zero, counts_first, half_stays, last_turn, shared_counter};
 use crate::values::{form_kinds, put_string};
@@ -100,7 +93,6 @@ fn further_by_branch(
         Node::Assigned(None) => of_assignment(look, branch, further),
         Node::Assigned(Some(_)) => {
             further.say(reckoned(look, branch))?;
-            further.say(character_for_number(look, branch))?;
             further.say(multiplied_zero(look, branch))?;
             further.say(vector_changed(look, branch))
         }
@@ -125,7 +117,6 @@ fn of_call(look: &Look<'_>, branch: &Branch, further: &mut Remarks) -> Result<()
     values_of(look, branch, further)?;
     further.say(after_last(look, branch))?;
     further.say(not_ended(look, branch))?;
-    further.say(ended_by_zero(look, branch))?;
     further.say(newline_next(look, branch))?;
     further.say(too_small(look, branch))
 }
@@ -136,19 +127,14 @@ fn of_operation(
     op: BinOp,
     further: &mut Remarks,
 ) -> Result<(), AllocError> {
-    further.say(settled(look, branch, op))?;
-    further.say(digit_compared(look, branch, op))?;
-    further.say(names_compared(look, branch, op))?;
-    further.say(character_counted(look, branch, op))?;
     further.say(by_zero(look, branch, op))?;
     further.say(reckoned(look, branch))?;
-    further.say(character_for_number(look, branch))?;
     further.say(by_operator(look, branch, op))?;
     further.say(below_zero(look, branch, op))?;
     further.say(zero_divisor(look, branch, op))?;
     further.say(zero_after(look, branch, op))?;
     further.say(both_evaluated(look, branch, op))?;
-    further.say(not_first(look, branch, op))
+    Ok(())
 }
 
 fn of_assignment(
@@ -157,17 +143,12 @@ fn of_assignment(
     further: &mut Remarks,
 ) -> Result<(), AllocError> {
     further.say(assigned(look, branch))?;
-    further.say(value_kept(look, branch))?;
     further.say(half_stays(look, branch))?;
-    further.say(word_stored(look, branch))?;
-    further.say(word_taken(look, branch))?;
     further.say(multiplied_zero(look, branch))?;
     further.say(vector_changed(look, branch))
 }
 
 fn of_statement(look: &Look<'_>, branch: &Branch, further: &mut Remarks) -> Result<(), AllocError> {
-    further.say(stored_back(look, branch))?;
-    further.say(put_back(look, branch))?;
     further.say(copied_back(look, branch))?;
     further.say(copied_late(look, branch))?;
     further.say(same_now(look, branch))?;
@@ -187,8 +168,6 @@ fn of_index(look: &Look<'_>, branch: &Branch, further: &mut Remarks) -> Result<(
 }
 
 fn of_test(look: &Look<'_>, branch: &Branch, further: &mut Remarks) -> Result<(), AllocError> {
-    further.say(not_assigned(look, branch))?;
-    further.say(compared_alone(look, branch))?;
     further.say(lost(look, branch))?;
     further.say(end_taken(look, branch))?;
     further.say(counts_end(look, branch))?;
@@ -204,8 +183,6 @@ fn values_of(look: &Look<'_>, call: &Branch, further: &mut Remarks) -> Result<()
 
 fn by_operator(look: &Look<'_>, branch: &Branch, op: BinOp) -> Option<Remark> {
     match op {
-        BinOp::Add => added(look, branch),
-        BinOp::Mul => multiplied(look, branch).or(too_large(look, branch)),
         BinOp::Div => divided(look, branch),
         _ => None,
     }
@@ -238,12 +215,7 @@ fn by_branch(look: &Look<'_>, branch: &Branch, remarks: &mut Remarks) -> Result<
         Node::Indexed => remarks.say(indexed(look, branch)),
         Node::Address => remarks.say(addressed(look, branch)),
         Node::Returned => remarks.say(returned(look, branch)),
-        Node::Binary(op) => remarks.say(operated(look, branch, op)),
-        Node::Evaluated => remarks.say(overwritten(look, branch)),
-        Node::Tested if look.tree.is_loop(branch) => {
-            remarks.say(loop_end(look, &look.tree.branch(branch.left)))?;
-            remarks.say(unchanged(look, branch))
-        }
+        Node::Tested if look.tree.is_loop(branch) => { remarks.say(unchanged(look, branch)) }
         _ => Ok(()),
     }
 }

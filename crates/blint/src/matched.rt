@@ -74,6 +74,22 @@ impl Matched {
 fn warning_named(name: &[u8]) -> Option<Warning> {
     let warning = match name {
         b"Power" => Warning::Power,
+        b"AlwaysTrue" => Warning::AlwaysTrue,
+        b"NeverTrue" => Warning::NeverTrue,
+        b"ProductTooLarge" => Warning::ProductTooLarge,
+        b"DividesFirst" => Warning::DividesFirst,
+        b"StringEnd" => Warning::StringEnd,
+        b"InputZero" => Warning::InputZero,
+        b"InputEnd" => Warning::InputEnd,
+        b"WordOfString" => Warning::WordOfString,
+        b"AddressesCompared" => Warning::AddressesCompared,
+        b"CharacterCounted" => Warning::CharacterCounted,
+        b"DigitForCharacter" => Warning::DigitForCharacter,
+        b"StringAdded" => Warning::StringAdded,
+        b"StringMoved" => Warning::StringMoved,
+        b"StoredBack" => Warning::StoredBack,
+        b"Overwritten" => Warning::Overwritten,
+        b"AssignsNot" => Warning::AssignsNot,
         _ => return slip_named(name),
     };
     Some(warning)
@@ -82,6 +98,10 @@ fn warning_named(name: &[u8]) -> Option<Warning> {
 fn slip_named(name: &[u8]) -> Option<Warning> {
     let slip = match name {
         b"NotFirst" => Slip::NotFirst,
+        b"ZeroEnd" => Slip::ZeroEnd,
+        b"ComparedAlone" => Slip::ComparedAlone,
+        b"WordStored" => Slip::WordStored,
+        b"ValueKept" => Slip::ValueKept,
         _ => return None,
     };
     Some(Warning::Slip(slip))
