@@ -6,8 +6,8 @@ use Rattle.std.specs.List.{flat_map, range_with_len}
 use Rattle.bword.specs.declared.operators.BinOp.{BinOp}
 use Rattle.bword.specs.declared.operators.BinOp.TheVariants as op
 use Rattle.blang.specs.declared.token.Keyword.TheVariants as keyword
-use Rattle.blang.specs.Trees.{Another, Arguments, Assigned, Binary, Called, Compound, Definition, Evaluate, Expr}
-use Rattle.blang.specs.Trees.{Function, Grouped, Identifier, Literal, More, Named, No_arguments, Nothing, Number, Stmt}
+use Rattle.blang.specs.Trees.{Another, Assigned, Binary, Called, Compound, Definition, Evaluate, Expr}
+use Rattle.blang.specs.Trees.{Function, Grouped, Identifier, Literal, More, Named, No_arguments, Nothing, Number}
 use Rattle.blang.specs.Trees.{While}
 use Rattle.blex.specs.declared.lexeme.Lexeme.TheVariants as lexeme
 use Rattle.btree.specs.declared.nodes.Node.{Node}
@@ -43,7 +43,7 @@ use Rattle.bmatch.specs.Binds.{hole_of, nothing_bound, with_hole, with_told}
 use Rattle.bmatch.specs.Changes.{change_before, changed_by}
 use Rattle.bmatch.specs.Fits.{ends_of, is_word, span_of}
 use Rattle.bmatch.specs.Growing.{lexemes_of, program_rows}
-use Rattle.bmatch.specs.Holds.{fits_at, is_within, loop_around, scope_span, some_in}
+use Rattle.bmatch.specs.Holds.{fits_at, is_within, loop_around, scope_span}
 use Rattle.bmatch.specs.Notices.{first_token}
 use Rattle.bmatch.specs.Same.{is_same}
 use Rattle.bmatch.specs.Trees.{kind_number}

@@ -10,7 +10,7 @@ use crate::binds::Binds;
 use crate::changes::is_change;
 use crate::pattern::{Leaf, Pattern, Sort, Word};
 use crate::same::{is_same, is_same_lexeme};
-use crate::tree::{Branch, Kind, Tree, branch_at, kind_number, lexeme_at};
+use crate::tree::{Branch, Kind, Tree, branch_at, core_at, kind_number, lexeme_at};
 use blang::Keyword;
 use blex::Lexeme;
 use btree::{Construct, Node};
@@ -198,19 +198,19 @@ fn before(sight: &Sight<'_>, span: Span) -> Span
     }
 }
 
-// The last branch of a row that ends here, or what stands in its parentheses.
-fn seen_at(sight: &Sight<'_>, is_grouped: bool, end: usize) -> usize
+/// The last branch of a row that ends here, or what stands in its parentheses.
+pub(crate) fn seen_at(sight: &Sight<'_>, is_grouped: bool, end: usize) -> usize
     ensures { result ≡ seen_at sight.now is_grouped end }
 {
     let index = end.saturating_sub(1);
     if sight.is_loose && !is_grouped {
-        branch_at(sight.tree.rows, index).core
+        core_at(sight.tree.rows, index)
     } else {
         index
     }
 }
 
-fn is_grouped(kind: Kind) -> bool
+pub(crate) fn is_grouped(kind: Kind) -> bool
     ensures { result ≡ is_grouped kind }
 {
     matches!(kind, Kind::Node(Node::Grouped))

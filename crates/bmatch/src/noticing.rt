@@ -1,14 +1,14 @@
 //! What rules tell of a source.
 ghost use Rattle.std.specs.Prelude.{◌≡◌, ◌+◌, ◌++◌, ◌<◌, ◌^◌, IfOk, map};
 ghost use Rattle.bmatch.specs.Notices.{first_token, function_notices, functions_at, functions_in, is_passed_over, notice_of};
-ghost use Rattle.bmatch.specs.Notices.{notices_by, pattern_notices, root_notices, rule_notices};
+ghost use Rattle.bmatch.specs.Notices.{may_begin, notices_by, pattern_notices, root_notices, rule_notices};
 
 use crate::asking::told_token;
 use crate::binds::Binds;
-use crate::fits::{Sight, Span};
+use crate::fits::{Sight, Span, is_grouped, seen_at};
 use crate::holds::{Site, all_hold, fits_at};
 use crate::pattern::{Pattern, ROOT, Rule};
-use crate::tree::{Kind, Tree, branch_at};
+use crate::tree::{Kind, Tree, branch_at, kind_at, kind_number};
 use btree::Construct;
 use std::alloc::{AllocError, Global};
 
@@ -134,6 +134,7 @@ fn root_notices(
     root: usize,
     found: &mut Vec<Notice>,
 ) -> Result<(), AllocError>
+    requires { root + 1 < 2 ^ 64 }
     ensures { IfOk result (λ done.
         found.new.items ≡ found.old.items ++ root_notices tree.now rule.now pattern.now function root) }
 {
@@ -141,6 +142,9 @@ fn root_notices(
         tree: *tree,
         is_loose: rule.is_loose,
     };
+    if !may_begin(&sight, pattern, root + 1) {
+        return Ok(());
+    }
     let mut ways = Vec::new(alloc);
     fits_at(
         &sight,
@@ -156,6 +160,22 @@ fn root_notices(
     let mut held = Vec::new(alloc);
     all_hold(alloc, &site, &rule.condition, ways.as_slice(), &mut held)?;
     tell(tree, rule, held.as_slice(), found)
+}
+
+// Whether a pattern may fit the last branch that ends here, by its head.
+fn may_begin(sight: &Sight<'_>, pattern: &Pattern, end: usize) -> bool
+    ensures { result ≡ may_begin sight.now pattern.now end }
+{
+    match pattern {
+        Pattern::Tree(kind, _, _, _) => {
+            let seen = seen_at(sight, is_grouped(*kind), end);
+            kind_number(*kind) == kind_number(kind_at(sight.tree.rows, seen))
+        }
+        Pattern::Either(one, other) => {
+            may_begin(sight, &**one, end) || may_begin(sight, &**other, end)
+        }
+        Pattern::Done | Pattern::Leaf(_, _, _) | Pattern::Dots(_) => true,
+    }
 }
 
 fn tell(

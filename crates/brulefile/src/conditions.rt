@@ -66,8 +66,9 @@ impl<'a, 't> Conditions<'a, 't> {
         fuel: usize,
     ) -> Result<Option<Condition>, Stop> {
         let mut found = None;
-        for index in 0..self.named.len() {
-            if self.named[index].name == name {
+        let named = self.named;
+        for index in 0..named.len() {
+            if named[index].name == name {
                 let condition = self.of_name(index, given, fuel)?;
                 found = Some(either(self.alloc, found, condition)?);
             }
@@ -110,13 +111,17 @@ impl<'a, 't> Conditions<'a, 't> {
     fn inner_holes(&mut self, index: usize, given: &[u8]) -> Result<Holes, Stop> {
         let mut inner = Holes::after(self.alloc, self.holes.count());
         let named = self.named;
-        let mut names = named.get(index).map_or(b"".as_slice(), |one| one.given);
+        let mut names: &[u8] = b"";
+        if index < named.len() {
+            names = named[index].given;
+        }
         let mut rest = given;
         for _ in 0..given.len() {
             if !rest.is_empty() {
                 let (hole, more) = self.hole_and_rest(rest)?;
                 let word = first_word(names);
-                inner.give(part(word, 1, word.len()), hole)?;
+                let name = part(word, 1, word.len());
+                inner.give(name, hole)?;
                 names = after_word(names);
                 rest = more;
             }
