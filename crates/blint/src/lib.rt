@@ -16,7 +16,6 @@ mod counters;
 mod cutting;
 mod declared;
 mod defined;
-mod divisors;
 mod ends;
 mod extremes;
 mod falls;
@@ -52,7 +51,6 @@ mod values;
 mod vectors;
 mod warnings;
 mod whole;
-mod zeros;
 
 pub use bmatch::TokenPlace;
 pub use cautions::{Caution, Program};

@@ -11,7 +11,6 @@ use crate::counters::{
     begins_anew, counter_of, counts_away, inner_once, never_again, past_vector, steps_past,
 };
 use crate::declared::declared_in;
-use crate::divisors::{both_evaluated, divided_by_one, remainder_kept};
 use crate::ends::loop_end;
 use crate::extremes::searched;
 use crate::functions::changes_nothing;
@@ -43,7 +42,6 @@ use crate::vectors::{
 };
 use crate::warnings::Warning;
 use crate::whole::{external_twice, word_of_parameter};
-use crate::zeros::{multiplied_zero, product_base, zero_after, zero_divisor};
 use btree::{Construct, Node};
 use bword::BinOp;
 use std::alloc::AllocError;
@@ -101,12 +99,10 @@ fn further_by_branch(
         Node::Assigned(Some(_)) => {
             further.say(reckoned(look, branch))?;
             further.say(character_for_number(look, branch))?;
-            further.say(multiplied_zero(look, branch))?;
             further.say(vector_changed(look, branch))
         }
         Node::PreIncrement | Node::PostIncrement | Node::PreDecrement | Node::PostDecrement =>
             further.say(vector_changed(look, branch)),
-        Node::Returned => further.say(product_base(look, branch)),
         Node::Evaluated => of_statement(look, branch, further),
         Node::Indexed => of_index(look, branch, further),
         Node::Tested => of_test(look, branch, further),
@@ -145,9 +141,6 @@ fn of_operation(
     further.say(character_for_number(look, branch))?;
     further.say(by_operator(look, branch, op))?;
     further.say(below_zero(look, branch, op))?;
-    further.say(zero_divisor(look, branch, op))?;
-    further.say(zero_after(look, branch, op))?;
-    further.say(both_evaluated(look, branch, op))?;
     further.say(not_first(look, branch, op))
 }
 
@@ -161,7 +154,6 @@ fn of_assignment(
     further.say(half_stays(look, branch))?;
     further.say(word_stored(look, branch))?;
     further.say(word_taken(look, branch))?;
-    further.say(multiplied_zero(look, branch))?;
     further.say(vector_changed(look, branch))
 }
 
@@ -225,9 +217,7 @@ fn loop_further(look: &Look<'_>, tested: &Branch, further: &mut Remarks) -> Resu
         further.say(counts_away(look, &counted))?;
         further.say(steps_past(look, &counted))?;
         further.say(inner_once(look, &counted))?;
-        further.say(remainder_kept(look, &counted))?;
         further.say(leaves_count_out(look, &counted))?;
-        further.say(divided_by_one(look, &counted))?;
     }
     Ok(())
 }

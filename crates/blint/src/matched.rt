@@ -82,6 +82,13 @@ fn warning_named(name: &[u8]) -> Option<Warning> {
 fn slip_named(name: &[u8]) -> Option<Warning> {
     let slip = match name {
         b"NotFirst" => Slip::NotFirst,
+        b"RemainderKept" => Slip::RemainderKept,
+        b"DividedByOne" => Slip::DividedByOne,
+        b"BothEvaluated" => Slip::BothEvaluated,
+        b"ProductOfZero" => Slip::ProductOfZero,
+        b"BaseOfZero" => Slip::BaseOfZero,
+        b"ZeroDivisor" => Slip::ZeroDivisor,
+        b"ZeroAfter" => Slip::ZeroAfter,
         _ => return None,
     };
     Some(Warning::Slip(slip))

@@ -62,15 +62,18 @@ fn program_of(alloc: Global, example: &[u8]) -> Result<Vec<u8>, AllocError> {
 
 #[test]
 fn examples_of_check_are_told(rt: HostRuntime) -> Result<(), AllocError> {
-    examples_are_told(rt, CHECK_RULES.as_bytes())
+    assert_eq!(rt; wrong_examples(&rt, CHECK_RULES.as_bytes())?, 0);
+    Ok(())
 }
 
 #[test]
 fn examples_of_the_trial_are_told(rt: HostRuntime) -> Result<(), AllocError> {
-    examples_are_told(rt, TRIAL_RULES.as_bytes())
+    assert_eq!(rt; wrong_examples(&rt, TRIAL_RULES.as_bytes())?, 0);
+    Ok(())
 }
 
-fn examples_are_told(rt: HostRuntime, all: &[u8]) -> Result<(), AllocError> {
+// How many examples of rules are told otherwise than they say, each of which is printed.
+fn wrong_examples(rt: &HostRuntime, all: &[u8]) -> Result<u64, AllocError> {
     let alloc = rt.alloc();
     let rules = match read_rules(alloc, all)? {
         Ok(rules) => rules,
@@ -82,8 +85,7 @@ fn examples_are_told(rt: HostRuntime, all: &[u8]) -> Result<(), AllocError> {
                 fault.reason.sentence()
             )
             .unwrap_or(());
-            assert!(rt; false);
-            return Ok(());
+            return Ok(1);
         }
     };
     let mut name: &[u8] = b"";
@@ -108,6 +110,5 @@ fn examples_are_told(rt: HostRuntime, all: &[u8]) -> Result<(), AllocError> {
             }
         }
     }
-    assert_eq!(rt; wrong, 0);
-    Ok(())
+    Ok(wrong)
 }
