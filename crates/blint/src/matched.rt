@@ -74,6 +74,13 @@ impl Matched {
 fn warning_named(name: &[u8]) -> Option<Warning> {
     let warning = match name {
         b"Power" => Warning::Power,
+        b"CountsAway" => Warning::CountsAway,
+        b"InnerOnce" => Warning::InnerOnce,
+        b"BeginsAnew" => Warning::BeginsAnew,
+        b"InputEndless" => Warning::InputEndless,
+        b"IndexKept" => Warning::IndexKept,
+        b"LoopUnchanged" => Warning::LoopUnchanged,
+        b"StoredBack" => Warning::StoredBack,
         _ => return slip_named(name),
     };
     Some(warning)
@@ -89,6 +96,20 @@ fn slip_named(name: &[u8]) -> Option<Warning> {
         b"BaseOfZero" => Slip::BaseOfZero,
         b"ZeroDivisor" => Slip::ZeroDivisor,
         b"ZeroAfter" => Slip::ZeroAfter,
+        b"HalfStays" => Slip::HalfStays,
+        b"DividesByZero" => Slip::DividesByZero,
+        b"CountsFirst" => Slip::CountsFirst,
+        b"SharedCounter" => Slip::SharedCounter,
+        b"AfterLast" => Slip::AfterLast,
+        b"CountsEnd" => Slip::CountsEnd,
+        b"NeverAgain" => Slip::NeverAgain,
+        b"CopiedLate" => Slip::CopiedLate,
+        b"SameNow" => Slip::SameNow,
+        b"LeavesCountOut" => Slip::LeavesCountOut,
+        b"BeginsAgain" => Slip::BeginsAgain,
+        b"EndTaken" => Slip::EndTaken,
+        b"CharacterLost" => Slip::CharacterLost,
+        b"SameTwice" => Slip::SameTwice,
         _ => return None,
     };
     Some(Warning::Slip(slip))

@@ -400,3 +400,13 @@ fn acts(node: Node) -> bool {
             | Node::PreDecrement
     )
 }
+
+/// Whether an expression has a name.
+pub(crate) fn has_name(tree: &Tree<'_>, branch: &Branch, name: &bword::Name) -> bool {
+    for token in branch.first..=branch.last {
+        if tree.tokens.name(token) == Some(*name) {
+            return true;
+        }
+    }
+    false
+}
