@@ -1,8 +1,5 @@
 //! What a comparison asks of a value: how small and how large it may be.
-use crate::linting::Look;
-use crate::remarks::Remark;
 use crate::tree::{Branch, Statement, Tree};
-use crate::warnings::Warning;
 use blex::Lexeme;
 use btree::Node;
 use bword::{BinOp, Name};

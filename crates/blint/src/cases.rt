@@ -1,7 +1,6 @@
 //! Cases of a `switch`, characters that are taken for digits, and a condition that assigns by `=!`.
 use crate::falls::prepares;
 use crate::linting::Look;
-use crate::locals::{compares, relates};
 use crate::remarks::Remark;
 use crate::strings::is_input;
 use crate::tree::{Branch, Statement, Tree};
@@ -9,7 +8,6 @@ use crate::warnings::Warning;
 use blang::Keyword;
 use blex::Lexeme;
 use btree::{Construct, Node};
-use bword::BinOp;
 
 /// What is found of a case of one digit, where the switch looks at a character of the input; and of one into which
 /// control goes on from the case before, as from no other one.

@@ -1,11 +1,8 @@
 //! Loops that go on until a character in a name is 0, which ends no string and no input.
 use crate::linting::Look;
 use crate::locals::Local;
-use crate::remarks::Remark;
 use crate::tree::Branch;
-use crate::warnings::Warning;
 use btree::Node;
-use bword::BinOp;
 
 /// The local that a branch is, or of which it takes a word by an index or by `*`.
 pub(crate) fn local_in(look: &Look<'_>, branch: &Branch) -> Option<Local> {

@@ -1,5 +1,5 @@
 //! Numbers that are worth another thing than they look, and quotients without their fraction.
-use crate::bounds::{are_alike, constant_of};
+use crate::bounds::constant_of;
 use crate::linting::Look;
 use crate::remarks::{Remark, Remarks};
 use crate::tokens::Tokens;
@@ -10,14 +10,8 @@ use btree::Node;
 use bword::BinOp;
 use std::alloc::AllocError;
 
-/// The largest number of a word without a sign.
-const LARGEST_WORD: u64 = 65535;
-
 /// How many digits a number has, at most.
 const MOST_DIGITS: usize = 8;
-
-/// How many tokens before and after a quotient are looked at.
-const NEAR: usize = 32;
 
 /// Says of the numbers of a definition which begin with a 0 among others that don't.
 pub(crate) fn octal_in(tokens: &Tokens<'_>, remarks: &mut Remarks) -> Result<(), AllocError> {

@@ -1,5 +1,4 @@
 //! Values and statements of which nothing comes.
-use crate::bounds::are_alike;
 use crate::linting::Look;
 use crate::locals::NameRole;
 use crate::remarks::Remark;
@@ -8,19 +7,6 @@ use crate::warnings::{Slip, Warning};
 use blang::Keyword;
 use blex::Lexeme;
 use btree::{Construct, Node};
-
-/// What the plain statement right after another one evaluates.
-pub(crate) fn next_of(look: &Look<'_>, evaluated: &Branch) -> Option<Branch> {
-    let tree = look.tree;
-    let (here, next) = (
-        tree.statement(tree.around(evaluated.last)),
-        tree.statement(tree.around(evaluated.last.wrapping_add(1))),
-    );
-    if here.end != next.first || here.parent != next.parent || next.construct != Construct::Plain {
-        return None;
-    }
-    Some(tree.made_by(next.end.wrapping_sub(1)))
-}
 
 /// What is found of a statement in a block right after one that always leaves, as an `if` does whose parts both do.
 pub(crate) fn not_reached(look: &Look<'_>, statement: &Statement) -> Option<Remark> {
@@ -74,15 +60,6 @@ fn has_entry(look: &Look<'_>, statement: &Statement) -> bool {
         }
     }
     false
-}
-
-/// The assignment that a statement is.
-pub(crate) fn stored(look: &Look<'_>, evaluated: &Branch) -> Option<Branch> {
-    let assigned = look.tree.branch(evaluated.left);
-    match (evaluated.node, assigned.node) {
-        (Node::Evaluated, Node::Assigned(None)) => Some(assigned),
-        _ => None,
-    }
 }
 
 /// What is found of a statement that moves a parameter, which the function has nowhere else, and does nothing with the

@@ -1,19 +1,11 @@
 //! Strings and characters that are probably mistakes.
 use crate::ends::local_in;
 use crate::linting::Look;
-use crate::locals::{Locals, NameRole, compares, relates};
+use crate::locals::{Locals, NameRole};
 use crate::remarks::Remark;
 use crate::tree::{Branch, Tree};
-use crate::warnings::{Slip, Warning};
-use blex::Lexeme;
-use btree::{Construct, Node};
-use bword::BinOp;
-
-/// The value of `'9'`.
-const NINE: u16 = 57;
-
-/// How many statements around a name are looked at for an `if`.
-const MOST_LEVELS: usize = 3;
+use crate::warnings::Warning;
+use btree::Node;
 
 /// Whether a branch is a word of a string, by an index or by `*`.
 pub(crate) fn is_of_string(look: &Look<'_>, word: &Branch) -> bool {

@@ -1,12 +1,10 @@
 //! Strings that get no end, comparisons of strings that are taken for an answer, and lines of which a rest is left.
-use crate::copies::has_name;
 use crate::counters::loop_around;
 use crate::linting::Look;
 use crate::locals::NameRole;
 use crate::remarks::Remark;
-use crate::tree::{Branch, Statement, Tree};
+use crate::tree::{Branch, Statement, Tree, has_name};
 use crate::warnings::{Slip, Warning};
-use blang::Keyword;
 use blex::Lexeme;
 use btree::Node;
 use bword::{BinOp, Name};
