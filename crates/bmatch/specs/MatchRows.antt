@@ -24,7 +24,7 @@ use Rattle.bmatch.specs.declared.conditions.Test.TheVariants as test
 use Rattle.bmatch.specs.declared.fits.Sight.{Sight}
 use Rattle.bmatch.specs.declared.fits.TheConstants.{MOST_PASSED}
 use Rattle.bmatch.specs.declared.holds.Site.{Site}
-use Rattle.bmatch.specs.declared.noticing.TheConstants.{MOST_BRANCHES}
+use Rattle.bmatch.specs.declared.noticing.TheConstants.{MOST_BRANCHES, MOST_IN_ALL}
 use Rattle.bmatch.specs.declared.pattern.Leaf.TheVariants as leaf
 use Rattle.bmatch.specs.declared.pattern.Pattern.{Pattern}
 use Rattle.bmatch.specs.declared.pattern.Pattern.TheVariants as pattern
@@ -329,5 +329,5 @@ escapes = refl
 holes : map (hole_of (with_hole (with_hole nothing_bound 15 7) 16 8)) (0 ∷ 14 ∷ 15 ∷ 16 ∷ []) ≡ None ∷ None ∷ Some 7 ∷ None ∷ []
 holes = refl
 
-limits : MOST_HOLES ∷ NO_HOLE ∷ ROOT ∷ MOST_PASSED ∷ MOST_BRANCHES ∷ [] ≡ 16 ∷ 16 ∷ 15 ∷ 1000 ∷ 32768 ∷ []
+limits : MOST_HOLES ∷ NO_HOLE ∷ ROOT ∷ MOST_PASSED ∷ MOST_BRANCHES ∷ MOST_IN_ALL ∷ [] ≡ 16 ∷ 16 ∷ 15 ∷ 1000 ∷ 4096 ∷ 32768 ∷ []
 limits = refl

@@ -7,7 +7,7 @@ use Rattle.bmatch.specs.declared.fits.Sight.{Sight}
 use Rattle.bmatch.specs.declared.fits.Span.{Span}
 use Rattle.bmatch.specs.declared.holds.Site.{Site}
 use Rattle.bmatch.specs.declared.noticing.Notice.{Notice}
-use Rattle.bmatch.specs.declared.noticing.TheConstants.{MOST_BRANCHES}
+use Rattle.bmatch.specs.declared.noticing.TheConstants.{MOST_BRANCHES, MOST_IN_ALL}
 use Rattle.bmatch.specs.declared.pattern.Pattern.{Pattern}
 use Rattle.bmatch.specs.declared.pattern.Pattern.TheVariants as pattern
 use Rattle.bmatch.specs.declared.pattern.Rule.{Rule}
@@ -66,13 +66,15 @@ root_notices tree r p function root =
     map (notice_of tree r) (flat_map (holds_in (site_of tree r function) r.condition)
     (fits_at (sight_of tree r) p root (with_hole nothing_bound ROOT root)))
 
--- A rule that looks around isn't asked in a very long function.
-abbrev pub is_passed_over : Rule → Span → Bool
-is_passed_over r function = r.looks_around && nat_lt MOST_BRANCHES (function.end - function.begin)
+-- A rule that looks around isn't asked in a very long function, nor one that looks at all of the source if that is long.
+abbrev pub is_passed_over : Tree → Rule → Span → Bool
+is_passed_over tree r function =
+    (r.looks_around && nat_lt MOST_BRANCHES (function.end - function.begin))
+    || (r.looks_far && nat_lt MOST_IN_ALL (length tree.rows.now))
 
 abbrev pub function_notices : Tree → Rule → Pattern → (function : Span) → List Notice
 function_notices tree r p function =
-    if is_passed_over r function then []
+    if is_passed_over tree r function then []
     else flat_map (root_notices tree r p function) (range_with_len function.begin (function.end - function.begin))
 
 abbrev pub pattern_notices : Tree → (functions : List Span) → Rule → Pattern → List Notice

@@ -18,6 +18,6 @@ pub use conditions::{Condition, Measure, Relation, Scope, Test};
 pub use fits::{Sight, Span};
 pub use growing::grown;
 pub use holds::Site;
-pub use noticing::{MOST_BRANCHES, Notice, notices_of};
+pub use noticing::{MOST_BRANCHES, MOST_IN_ALL, Notice, notices_of};
 pub use pattern::{Leaf, MOST_HOLES, NO_HOLE, Pattern, ROOT, Rule, Sort, Word};
 pub use tree::{Branch, Kind, TokenPlace, Tree, branch_at, lexeme_at};

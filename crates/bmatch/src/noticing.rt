@@ -13,7 +13,10 @@ use btree::Construct;
 use std::alloc::{AllocError, Global};
 
 /// The most branches of a function in which a rule looks around, so that no source makes that long.
-pub const MOST_BRANCHES: usize = 32_768;
+pub const MOST_BRANCHES: usize = 4_096;
+
+/// The most branches of a source in all of which a rule looks around.
+pub const MOST_IN_ALL: usize = 32_768;
 
 /// A rule that fits, by its number, and the token that is told.
 #[derive(Clone, Copy)]
@@ -109,7 +112,7 @@ fn function_notices(
     ensures { IfOk result (λ done.
         found.new.items ≡ found.old.items ++ function_notices tree.now rule.now pattern.now function) }
 {
-    if is_passed_over(rule, function) {
+    if is_passed_over(tree, rule, function) {
         return Ok(());
     }
     for root in function.begin..function.end {
@@ -118,11 +121,12 @@ fn function_notices(
     Ok(())
 }
 
-// Whether a function is too long for a rule.
-fn is_passed_over(rule: &Rule, function: Span) -> bool
-    ensures { result ≡ is_passed_over rule.now function }
+// Whether a function or the whole source is too long for a rule.
+fn is_passed_over(tree: &Tree<'_>, rule: &Rule, function: Span) -> bool
+    ensures { result ≡ is_passed_over tree.now rule.now function }
 {
-    rule.looks_around && function.end.saturating_sub(function.begin) > MOST_BRANCHES
+    (rule.looks_around && function.end.saturating_sub(function.begin) > MOST_BRANCHES)
+        || (rule.looks_far && tree.rows.len() > MOST_IN_ALL)
 }
 
 fn root_notices(

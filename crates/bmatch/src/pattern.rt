@@ -80,4 +80,6 @@ pub struct Rule {
     pub is_loose: bool,
     /// Whether its condition looks at more than what was found, so that it isn't asked in a very long function.
     pub looks_around: bool,
+    /// Whether it looks at the whole source, so that it isn't asked in a long one.
+    pub looks_far: bool,
 }

@@ -318,14 +318,15 @@ impl<'a, 't> Conditions<'a, 't> {
     }
 }
 
-/// Whether a condition looks at more than what was found.
-pub(crate) fn looks_around(condition: &Condition) -> bool {
+/// Whether a condition looks at more than what was found, or at the whole source.
+pub(crate) fn looks_around(condition: &Condition, is_far: bool) -> bool {
     match condition {
         Condition::Both(one, other) | Condition::Either(one, other) => {
-            looks_around(one) || looks_around(other)
+            looks_around(one, is_far) || looks_around(other, is_far)
         }
-        Condition::Not(inner) => looks_around(inner),
-        Condition::Some(_, _, _) | Condition::Begun(_, _) => true,
+        Condition::Not(inner) => looks_around(inner, is_far),
+        Condition::Some(scope, _, _) => !is_far || matches!(*scope, Scope::Program),
+        Condition::Begun(_, _) => !is_far,
         Condition::Always | Condition::Is(_, _) | Condition::Test(_) => false,
     }
 }

@@ -195,7 +195,8 @@ impl<'t> Reading<'t> {
         if patterns.is_empty() {
             return Err(Stop::Empty(line));
         }
-        let looks_around = looks_around(&condition);
+        let is_around = looks_around(&condition, false);
+        let looks_far = looks_around(&condition, true);
         self.rules.push(Rule {
             number: self.rules.len(),
             patterns,
@@ -203,7 +204,8 @@ impl<'t> Reading<'t> {
             named,
             beside,
             is_loose,
-            looks_around,
+            looks_around: is_around,
+            looks_far,
         })?;
         Ok(())
     }
