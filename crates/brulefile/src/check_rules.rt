@@ -399,13 +399,6 @@ rule ValueKept
 
 -- Loops, copies and words that are counted.
 
--- A word of the function alone, of which nothing has the address.
-let local $x
-  $x is $n:name
-  parameter $x or some auto ..., $x, ...; as $d in function but first $d auto
-  no auto ..., $x $k:num, ...; in function
-  no &$x in function
-
 -- An external that the function declares.
 let shared $x
   some extrn ..., $x, ...; as $d in function but first $d extrn
@@ -440,13 +433,13 @@ let countsdown $d $x
 -- A condition of words of the function, of constants and of characters of strings, which changes nothing.
 let ownwords $c
   some $x:name in $c
-  no $y:name in $c but not local $y but not $y is char
+  no $y:name in $c but not word $y but not $y is char
   no $f(...) in $c but not $f is char
   no $z:name in $c but some change of $z in $c
   no $v[$i] in $c
   no *$p in $c
 
-let remainder $d $n
+let cutdown $d $n
   $d is $n = $n % $k:const or $d is $n =% $k:const
 
 let ownproduct $e
@@ -512,14 +505,6 @@ let keepsinput $s
 let keepsinput $s
   some return($e); in $s but some getchar() in $e
 
-let typed $c
-  some $c = $e in function but reads $e
-  no $c = $e in function but not reads $e
-  no &$c in function
-  local $c
-let reads $e
-  $e is getchar() or $e is $x = getchar()
-
 let addsalone $x $k $b
   some $d; in own $b but adding $d $x
   no $e; in $b but some $x in $e but not $e is $x = $k but not adding $e $x
@@ -537,7 +522,7 @@ let counts $x $u $w
   some change of $x in $u
   no change of $x as $d in $w but not some $d in $u
   not lastin $x $u
-  local $x
+  word $x
 
 let elseof $r $t
   $t is $r or $t is if($c) $$a else $$r
@@ -562,9 +547,9 @@ let onlystepped $x $s
 rule RemainderKept
   find while($n:name `!= >` 0) $$s
   where some $n ^= $n % $k:const in $s or some $n ^=% $k:const in $s
-  where no change of $n as $d in $s but not remainder $d $n
+  where no change of $n as $d in $s but not cutdown $d $n
   where unleft $s
-  where local $n
+  where word $n
   names $n
   beside $root
   found f(n) { while(n > 0) { g(n); n = n % 10; } }
@@ -576,7 +561,7 @@ rule DividedByOne
   where limit $n
   where some if($x % $i == 0) ...; as $t in $s but some return($k:const); in $t
   where begun $i is $i = ^1
-  where local $i
+  where word $i
   where some { ...; $i = 1; ...; } around
   where no { ...; $$m ...; if($y % $i == 0) ...; ...; } in $s but some change of $i in $m
   names $i
@@ -598,7 +583,7 @@ rule ProductOfZero
   find $x:name = $x * $e
   find $x:name =* $e
   where not joined
-  where local $x
+  where word $x
   where begun $x is $x = ^0
   where no change of $x as $d in loop but not $d is $x = $x * $y but not $d is $x =* $y
   where some { ...; $x = 0; ...; } around
@@ -620,7 +605,7 @@ rule BaseOfZero
 
 rule ZeroDivisor
   find $e ^`/ % =/ =%` $x:name
-  where local $x
+  where word $x
   where begun $x is $x = 0
   where no change of $x as $d in function but not $d is $x = 0
   where some $x = 0 as $b before
@@ -631,7 +616,7 @@ rule ZeroDivisor
 
 rule ZeroAfter
   find $a:name `eq` ^$x:name
-  where local $x
+  where word $x
   where some while($x `> !=` 0) $$s as $w before but some change of $x in $s but unleft $s but lastin $x $s
   beside $w
   found f(n, m) { while(n > 0) { m = m * 2; n--; } if(m == n) g(); }
@@ -651,7 +636,7 @@ rule HalfStays
 rule DividesByZero
   find $e ^`/ % =/ =%` $x:name
   where begun $x is $x = 0 or begun $x is $x = $y = 0
-  where local $x
+  where word $x
   where some while($c) $$s around
   where no $x = 0 in loop
   where no if($c) ...; around but asksfor $x $c
@@ -670,7 +655,7 @@ rule CountsFirst
   where countsup $e $i
   where limit $n
   where begun $i is $i = 1 or begun $i is $i = $y = 1
-  where local $i
+  where word $i
   where $root is while($c) $$s
   where some { $e; ...; $$t ...; } in $s but some $i in $t
   where no { $e; ...; $$t ...; } in $s but some change of $i in $t
@@ -719,12 +704,14 @@ rule AfterLast
 rule CountsEnd
   find return(^$n:name);
   where begun $n is $n++
+  where some $n = 0 before
   where some { ...; $n = 0; ...; } around
   where some { ...; $$w return($n); ...; } around but $w is while($e != 4) $$b but some char($s, $n++) in $e
   beside $w
   found f(s) { auto n; n = 0; while(char(s, n++) != '*e'); return(n); }
   found f(s) { auto n; n = 0; while('*e' != char(s, n++)) { } return((n)); }
   silent f(s) { auto n; n = 0; while(char(s, n) != '*e') n++; return(n); }
+  silent f(s) { auto n; while(char(s, n++) != '*e'); return(n); n = 0; }
 
 rule CountsAway
   find while($i:name `< <=` $n) $$s
@@ -733,7 +720,7 @@ rule CountsAway
   where no change of $i as $d in $s but not countsdown $d $i
   where no change of $n in $s
   where unleft $s
-  where local $i
+  where word $i
   names $i
   beside $root
   found f(n) { auto i; i = 0; while(i < n) { g(i); i--; } }
@@ -747,7 +734,7 @@ rule CountsAway
   where no change of $i as $d in $s but not countsup $d $i
   where no change of $n in $s
   where unleft $s
-  where local $i
+  where word $i
   names $i
   beside $root
   found f(n) { auto i; i = n; while(i > 0) { g(i); i =+ 1; } }
@@ -759,7 +746,7 @@ rule InnerOnce
   where limit $n
   where some change of $i in $s
   where no change of $i as $d in $s but not countsup $d $i but not countsdown $d $i
-  where local $i
+  where word $i
   where unleft $s
   where some while($c) $$t as $w around but onlyin $i $t $s but no change of $n in $t but unleft $t
   names $i
@@ -771,7 +758,7 @@ rule InnerOnce
 rule BeginsAnew
   find ^$x:name = $k:const;
   where some while($c) $$b as $w around but $b is { ...; $x = $k; ...; } but addsalone $x $k $b but no $x in $c
-  where local $x
+  where word $x
   beside $w
   found f(n) { auto s, i; i = 0; while(i < n) { s = 0; s =+ i; i++; } return(s); }
   found f(n) { auto s, i; i = 0; while(i < n) { s = 1; if(i) s = i * s; i++; } return(s); }
@@ -804,9 +791,9 @@ rule StoredBack
   find { ...; $b:name = $t:name; $a:name = $t; ^$a = $b; ...; }
   find { ...; $a:name = $t:name; $b:name = $t; ^$a = $b; ...; }
   where not $a is $b
-  where local $a
-  where local $b
-  where local $t
+  where word $a
+  where word $b
+  where word $t
   found f(a, b) { auto t; t = a; b = t; a = b; g(a, b); }
   silent f(a, b) { auto t; t = a; a = b; b = t; g(a, b); }
 
@@ -816,9 +803,9 @@ rule CopiedLate
   where not $a is $c
   where some $a in $e
   where some $b in $e
-  where local $a
-  where local $b
-  where local $c
+  where word $a
+  where word $b
+  where word $c
   names $b
   beside $y
   found f(a, b) { auto c; c = a + b; b = c; a = b; g(a, b); }
@@ -831,8 +818,8 @@ rule SameNow
   where some $a ^`% - / < > !=` $b in $e or some $b ^`% - /` $a in $e
   where kept $a $e
   where kept $b $e
-  where local $a
-  where local $b
+  where word $a
+  where word $b
   beside $a
   found f(a, b) { auto r; a = b; r = a % b; return(r); }
   found f(a, b) { b = a; if((a > b)) g(b); }
@@ -845,8 +832,8 @@ rule SameNow
   where some $a ^`== <= >=` $b in $e
   where kept $a $e
   where kept $b $e
-  where local $a
-  where local $b
+  where word $a
+  where word $b
   beside $a
   found f(a, b) { b = a; if(b == a) g(b); }
 
@@ -855,8 +842,8 @@ rule SameNow
   where not $a is $b
   where $t is $e;
   where some $a = $a ^+ $b in $e or some $b = $a ^+ $b in $e
-  where local $a
-  where local $b
+  where word $a
+  where word $b
   beside $a
   found f(a, b) { a = b; b = a + b; g(a, b); }
   found f(a, b) { a = b; b = b + a; g(a, b); }
@@ -880,7 +867,7 @@ rule BeginsAgain
   where begun $x is $d
   where owns $d $x
   where no change of $x as $z before but not owns $z $x but not $z is $x = $j:const
-  where local $x
+  where word $x
   names $x
   beside $root
   found f(n) { auto i; l: i = 0; g(i); i++; if(i < n) goto l; }
@@ -945,7 +932,7 @@ rule LoopUnchanged
 rule InputEndless
   find while($c:name ^!= $k:chr) $$s
   where $k > 4
-  where typed $c
+  where input $c
   where no $c `cmp` $e in $s
   where unleft $s
   names $c
