@@ -6,16 +6,18 @@ use Rattle.std.specs.List.{flat_map}
 use Rattle.bmatch.specs.declared.binds.Binds.{Binds}
 use Rattle.bmatch.specs.declared.fits.Sight.{Sight}
 use Rattle.bmatch.specs.declared.fits.Span.{Span}
+use Rattle.bmatch.specs.declared.holds.Site.{Site}
+use Rattle.bmatch.specs.declared.holds.Sought.{Sought}
 use Rattle.bmatch.specs.declared.noticing.Notice.{Notice}
 use Rattle.bmatch.specs.declared.pattern.Rule.{Rule}
 use Rattle.bmatch.specs.declared.pattern.TheConstants.{ROOT}
 use Rattle.bmatch.specs.declared.tree.Tree.{Tree}
 use Rattle.bmatch.specs.declared.pattern.Pattern.{Pattern}
 use Rattle.bmatch.specs.declared.pattern.Pattern.TheVariants as pattern
-use Rattle.bmatch.specs.Fits.{fits_in, go_in, inner_of, start_of}
+use Rattle.bmatch.specs.Fits.{fits_in, go_in, inner_of, may_begin, start_of}
 use Rattle.bmatch.specs.Binds.{nothing_bound, with_hole, with_told}
-use Rattle.bmatch.specs.Holds.{fits_at, holds_in, only}
-use Rattle.bmatch.specs.Notices.{may_begin, notice_of, root_notices, sight_of, site_of}
+use Rattle.bmatch.specs.Holds.{fits_at, holds_in, is_within, only, some_at}
+use Rattle.bmatch.specs.Notices.{notice_of, root_notices, sight_of, site_of}
 use Rattle.bmatch.specs.Trees.{branch_at}
 
 pub no_head : (s : Sight) (p : Pattern) (begin end : ℕ) (go : Binds → List Binds) (b : Binds) → may_begin s p end ≡ false → fits_in s p begin end go b ≡ []
@@ -39,3 +41,9 @@ nothing_found tree r p function root found h =
     let b = with_hole nothing_bound ROOT root in
     let none : fits_at (sight_of tree r) p root b ≡ [] = none_either _ _ (no_head (sight_of tree r) p _ (root + 1) only b h) in
     sym (append-nil found) ∙ ap (λ ways. found ++ map (notice_of tree r) (flat_map (holds_in (site_of tree r function) r.condition) ways)) (sym none)
+
+pub nothing_sought : (s : Site) (sought : Sought) (b : Binds) (index : ℕ) (found : List Binds) → may_begin s.sight sought.pattern.now (index + 1) ≡ false → found ≡ found ++ some_at s sought b index
+nothing_sought s sought b index found h =
+    let c = with_hole b sought.hole index in
+    let none : fits_at s.sight sought.pattern.now index c ≡ [] = none_either _ _ (no_head s.sight sought.pattern.now _ (index + 1) only c h) in
+    sym (append-nil found) ∙ ap (λ bs. found ++ bs) (sym (none_either (is_within s sought.scope b index) _ none))

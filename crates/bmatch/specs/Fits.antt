@@ -1,5 +1,5 @@
 -- Promise: how a row of patterns fits a row of branches, and what holes stand for then.
-use Rattle.std.specs.Prelude.{ℕ, zero, suc, ◌-◌, ◌==◌, ◌&&◌, Bool, true, false, not, if◌then◌else◌, nat_lt, List}
+use Rattle.std.specs.Prelude.{ℕ, zero, suc, ◌-◌, ◌==◌, ◌&&◌, ◌||◌, Bool, true, false, not, if◌then◌else◌, nat_lt, List}
 use Rattle.std.specs.Prelude.{[], ◌∷◌, ◌++◌, Option, None, Some}
 use Rattle.std.specs.List.{flat_map}
 use Rattle.blex.specs.declared.lexeme.Lexeme.{Lexeme}
@@ -97,6 +97,13 @@ inner_of s k begin end =
     let index = seen_at s (is_grouped k) end in
     let branch = branch_at s.tree.rows.now index in
     if nat_lt begin end && kind_number k == kind_number branch.kind then Some (span_of branch.begin index) else None
+
+-- A pattern whose head is another kind than the last branch that ends here fits nothing there.
+abbrev pub may_begin : Sight → Pattern → (end : ℕ) → Bool
+may_begin s (pattern.Tree' k told p parts q rest) end =
+    kind_number k == kind_number (branch_at s.tree.rows.now (seen_at s (is_grouped k) end)).kind
+may_begin s (pattern.Either' p one q other) end = may_begin s one end || may_begin s other end
+may_begin s _ end = true
 
 abbrev pub is_plain : Kind → Bool
 is_plain (kind.Construct construct.Plain) = true

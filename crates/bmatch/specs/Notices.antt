@@ -1,5 +1,5 @@
 -- Promise: what rules tell of a source: each place where a rule fits and its condition holds, in the order of the rules.
-use Rattle.std.specs.Prelude.{ℕ, ◌+◌, ◌-◌, ◌==◌, ◌&&◌, ◌||◌, Bool, true, false, if◌then◌else◌, nat_lt, List, [], ◌∷◌, length, map, Option, None, Some}
+use Rattle.std.specs.Prelude.{ℕ, ◌+◌, ◌-◌, ◌&&◌, ◌||◌, Bool, true, false, if◌then◌else◌, nat_lt, List, [], ◌∷◌, length, map, Option, None, Some}
 use Rattle.std.specs.List.{flat_map, range_with_len}
 use Rattle.btree.specs.declared.tags.Construct.TheVariants as construct
 use Rattle.bmatch.specs.declared.binds.Binds.{Binds}
@@ -9,7 +9,6 @@ use Rattle.bmatch.specs.declared.holds.Site.{Site}
 use Rattle.bmatch.specs.declared.noticing.Notice.{Notice}
 use Rattle.bmatch.specs.declared.noticing.TheConstants.{MOST_BRANCHES, MOST_IN_ALL}
 use Rattle.bmatch.specs.declared.pattern.Pattern.{Pattern}
-use Rattle.bmatch.specs.declared.pattern.Pattern.TheVariants as pattern
 use Rattle.bmatch.specs.declared.pattern.Rule.{Rule}
 use Rattle.bmatch.specs.declared.pattern.TheConstants.{ROOT}
 use Rattle.bmatch.specs.declared.tree.Kind.{Kind}
@@ -17,9 +16,9 @@ use Rattle.bmatch.specs.declared.tree.Kind.TheVariants as kind
 use Rattle.bmatch.specs.declared.tree.Tree.{Tree}
 use Rattle.bmatch.specs.Asking.{told_token}
 use Rattle.bmatch.specs.Binds.{hole_of, nothing_bound, with_hole}
-use Rattle.bmatch.specs.Fits.{is_grouped, seen_at, span_of}
+use Rattle.bmatch.specs.Fits.{span_of}
 use Rattle.bmatch.specs.Holds.{fits_at, holds_in}
-use Rattle.bmatch.specs.Trees.{branch_at, kind_number}
+use Rattle.bmatch.specs.Trees.{branch_at}
 
 abbrev pub is_definition : Kind → Bool
 is_definition (kind.Construct construct.Definition) = true
@@ -52,13 +51,6 @@ sight_of tree r = record { tree = tree; is_loose = r.is_loose }
 
 abbrev pub site_of : Tree → Rule → Span → Site
 site_of tree r function = record { sight = sight_of tree r; function = function }
-
--- A pattern whose head is another kind than the last branch that ends here fits nothing there.
-abbrev pub may_begin : Sight → Pattern → (end : ℕ) → Bool
-may_begin s (pattern.Tree' k told p parts q rest) end =
-    kind_number k == kind_number (branch_at s.tree.rows.now (seen_at s (is_grouped k) end)).kind
-may_begin s (pattern.Either' p one q other) end = may_begin s one end || may_begin s other end
-may_begin s _ end = true
 
 -- a pattern fits this branch of a function, and the condition of its rule holds
 abbrev pub root_notices : Tree → Rule → Pattern → (function : Span) → (root : ℕ) → List Notice

@@ -3,14 +3,14 @@ ghost use Rattle.std.specs.List.{flat_map};
 ghost use Rattle.std.specs.Prelude.{◌≡◌, ◌++◌, IfOk};
 ghost use Rattle.bmatch.specs.Fits.{changes_hole, ends_of, fits_in, inner_of, is_grouped, is_name_of, is_number, is_sort, is_word};
 ghost use Rattle.bmatch.specs.Fits.{is_word_alone};
-ghost use Rattle.bmatch.specs.Fits.{is_value_of, leaf_binds, left_of, seen_at, start_of, with_leaf, with_same};
+ghost use Rattle.bmatch.specs.Fits.{is_value_of, leaf_binds, left_of, may_begin, seen_at, start_of, with_leaf, with_same};
 ghost use Rattle.bmatch.specs.Trees.{branch_at};
 
 use crate::binds::Binds;
 use crate::changes::is_change;
 use crate::pattern::{Leaf, Pattern, Sort, Word};
 use crate::same::{is_same, is_same_lexeme};
-use crate::tree::{Branch, Kind, Tree, branch_at, core_at, kind_number, lexeme_at};
+use crate::tree::{Branch, Kind, Tree, branch_at, core_at, kind_at, kind_number, lexeme_at};
 use blang::Keyword;
 use blex::Lexeme;
 use btree::{Construct, Node};
@@ -87,6 +87,22 @@ pub(crate) fn fits<'a>(
             fits(sight, &**one, span, &*left, binds, found)?;
             fits(sight, &**other, span, &*left, binds, found)
         }
+    }
+}
+
+/// Whether a pattern may fit the last branch that ends here, by its head.
+pub(crate) fn may_begin(sight: &Sight<'_>, pattern: &Pattern, end: usize) -> bool
+    ensures { result ≡ may_begin sight.now pattern.now end }
+{
+    match pattern {
+        Pattern::Tree(kind, _, _, _) => {
+            let seen = seen_at(sight, is_grouped(*kind), end);
+            kind_number(*kind) == kind_number(kind_at(sight.tree.rows, seen))
+        }
+        Pattern::Either(one, other) => {
+            may_begin(sight, &**one, end) || may_begin(sight, &**other, end)
+        }
+        Pattern::Done | Pattern::Leaf(_, _, _) | Pattern::Dots(_) => true,
     }
 }
 
@@ -198,8 +214,8 @@ fn before(sight: &Sight<'_>, span: Span) -> Span
     }
 }
 
-/// The last branch of a row that ends here, or what stands in its parentheses.
-pub(crate) fn seen_at(sight: &Sight<'_>, is_grouped: bool, end: usize) -> usize
+// The last branch of a row that ends here, or what stands in its parentheses.
+fn seen_at(sight: &Sight<'_>, is_grouped: bool, end: usize) -> usize
     ensures { result ≡ seen_at sight.now is_grouped end }
 {
     let index = end.saturating_sub(1);
@@ -210,7 +226,7 @@ pub(crate) fn seen_at(sight: &Sight<'_>, is_grouped: bool, end: usize) -> usize
     }
 }
 
-pub(crate) fn is_grouped(kind: Kind) -> bool
+fn is_grouped(kind: Kind) -> bool
     ensures { result ≡ is_grouped kind }
 {
     matches!(kind, Kind::Node(Node::Grouped))

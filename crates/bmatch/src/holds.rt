@@ -1,6 +1,6 @@
 //! Whether what else is asked holds.
 ghost use Rattle.std.specs.List.{find, flat_map, range_with_len};
-ghost use Rattle.std.specs.Prelude.{◌≡◌, ◌-◌, ◌++◌, IfOk};
+ghost use Rattle.std.specs.Prelude.{◌≡◌, ◌+◌, ◌-◌, ◌<◌, ◌^◌, ◌++◌, IfOk};
 ghost use Rattle.bmatch.specs.Holds.{begun_by, fits_at, fits_begun, fits_hole, hole_span, holds_in, is_loop_around};
 ghost use Rattle.bmatch.specs.Holds.{is_within, loop_around, root_of, scope_span, some_at};
 
@@ -8,7 +8,7 @@ use crate::asking::passes_test;
 use crate::binds::Binds;
 use crate::changes::change_before;
 use crate::conditions::{Condition, Scope};
-use crate::fits::{Left, Sight, Span, fits};
+use crate::fits::{Left, Sight, Span, fits, may_begin};
 use crate::pattern::{Pattern, ROOT};
 use crate::tree::{Kind, branch_at};
 use btree::Construct;
@@ -196,9 +196,13 @@ fn some_at(
     index: usize,
     found: &mut Vec<Binds>,
 ) -> Result<(), AllocError>
+    requires { index + 1 < 2 ^ 64 }
     ensures { IfOk result (λ done.
         found.new.items ≡ found.old.items ++ some_at site.now sought.now binds index) }
 {
+    if !may_begin(&site.sight, sought.pattern, index + 1) {
+        return Ok(());
+    }
     if is_within(site, sought.scope, &binds, index) {
         let binds = binds.with(sought.hole, index);
         fits_at(&site.sight, sought.pattern, index, binds, found)

@@ -1,14 +1,14 @@
 //! What rules tell of a source.
 ghost use Rattle.std.specs.Prelude.{◌≡◌, ◌+◌, ◌++◌, ◌<◌, ◌^◌, IfOk, map};
 ghost use Rattle.bmatch.specs.Notices.{first_token, function_notices, functions_at, functions_in, is_passed_over, notice_of};
-ghost use Rattle.bmatch.specs.Notices.{may_begin, notices_by, pattern_notices, root_notices, rule_notices};
+ghost use Rattle.bmatch.specs.Notices.{notices_by, pattern_notices, root_notices, rule_notices};
 
 use crate::asking::told_token;
 use crate::binds::Binds;
-use crate::fits::{Sight, Span, is_grouped, seen_at};
+use crate::fits::{Sight, Span, may_begin};
 use crate::holds::{Site, all_hold, fits_at};
 use crate::pattern::{Pattern, ROOT, Rule};
-use crate::tree::{Kind, Tree, branch_at, kind_at, kind_number};
+use crate::tree::{Kind, Tree, branch_at};
 use btree::Construct;
 use std::alloc::{AllocError, Global};
 
@@ -164,22 +164,6 @@ fn root_notices(
     let mut held = Vec::new(alloc);
     all_hold(alloc, &site, &rule.condition, ways.as_slice(), &mut held)?;
     tell(tree, rule, held.as_slice(), found)
-}
-
-// Whether a pattern may fit the last branch that ends here, by its head.
-fn may_begin(sight: &Sight<'_>, pattern: &Pattern, end: usize) -> bool
-    ensures { result ≡ may_begin sight.now pattern.now end }
-{
-    match pattern {
-        Pattern::Tree(kind, _, _, _) => {
-            let seen = seen_at(sight, is_grouped(*kind), end);
-            kind_number(*kind) == kind_number(kind_at(sight.tree.rows, seen))
-        }
-        Pattern::Either(one, other) => {
-            may_begin(sight, &**one, end) || may_begin(sight, &**other, end)
-        }
-        Pattern::Done | Pattern::Leaf(_, _, _) | Pattern::Dots(_) => true,
-    }
 }
 
 fn tell(

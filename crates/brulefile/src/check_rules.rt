@@ -326,8 +326,10 @@ rule DigitForCharacter
 rule DigitForCharacter
   find $c:name >= ^0
   where input $c
+  where no $root & $c `< <=` $k:const around but $k > 9
   found f() { auto c; c = getchar(); if(c >= 0) g(); }
   silent f() { auto c; c = getchar(); if(c == 0) g(); }
+  silent f() { auto c; c = getchar(); if(c >= 0 & 127 >= c) g(); }
 
 rule DigitForCharacter
   find $c:name `rel` ^$n:num
