@@ -5,7 +5,7 @@ import os
 import re
 
 ROOT = os.path.dirname(os.path.dirname(os.path.abspath(__file__)))
-# The files of what is promised: a claim there is a clause, and docs/EDITS.md has the witness of each.
+# The files of what is promised: a claim there is a clause, and tools/clauses.md has the witness of each.
 PROMISES = ("ByteEnds", "Endings", "Compiles", "Reports", "Headline")
 # The files of the code that have types or limits.
 SOURCES = {"bword": "edition ends name operators store", "blang": "code limits run status token"}

@@ -1,6 +1,6 @@
 """What the page for browsers takes from the pages of this repository: the lessons of docs/TUTORIAL.md, the mistakes of
-docs/CLASS.md, docs/CARD.md, docs/LIB.md, and the exercises of class/ with their tests. `course(top)` gives all of it as
-one object for JSON; `tools/make-page` puts that into the page.
+docs/CLASS.md, docs/CARD.md, docs/LIB.md, docs/LANGUAGE.md, docs/COMMANDS.md, and the exercises of class/ with their
+tests. `course(top)` gives all of it as one object for JSON; `tools/make-page` puts that into the page.
 
 A chapter is HTML, with the programs of its text by their names. A code block is one of these:
 
@@ -261,7 +261,8 @@ def course(top, start):
     picture = (docs / "swap.svg").read_text()
     for mark, code in (("%", "%25"), ("#", "%23"), ("<", "%3C"), (">", "%3E"), ('"', "%22"), ("\n", " ")):
         picture = picture.replace(mark, code)
-    names = {"LIB.md": "library", "CARD.md": "card", "CLASS.md#mistakes": "mistakes", "TUTORIAL.md": "start"}
+    names = {"LIB.md": "library", "CARD.md": "card", "CLASS.md#mistakes": "mistakes", "TUTORIAL.md": "start",
+             "LANGUAGE.md": "language", "COMMANDS.md": "commands"}
     reader = Reader(Link(names, {"swap.svg": "data:image/svg+xml," + picture}))
     chapters = [Chapter("start", "Start here", start, reader)]
     for title, text in sections((docs / "TUTORIAL.md").read_text()):
@@ -271,8 +272,9 @@ def course(top, start):
     mistakes = dict(sections((docs / "CLASS.md").read_text()))["Mistakes"]
     chapters += [
         Chapter("mistakes", "Mistakes", "## Mistakes\n" + mistakes, reader, only="x.b"),
-        Chapter("card", "B on one sheet", (docs / "CARD.md").read_text().replace("# ", "## ", 1), reader),
-        Chapter("library", "The files of lib/", (docs / "LIB.md").read_text().replace("# ", "## ", 1), reader),
+        *(Chapter(name, title, (docs / page).read_text().replace("# ", "## ", 1), reader) for name, title, page in [
+            ("card", "B on one sheet", "CARD.md"), ("library", "The files of lib/", "LIB.md"),
+            ("language", "The language", "LANGUAGE.md"), ("commands", "The commands", "COMMANDS.md")]),
     ]
     exercises = [exercise(it.parent, reader) for it in sorted(top.glob("class/*/task.md"))]
     lessons = lessons_of((docs / "CLASS.md").read_text())

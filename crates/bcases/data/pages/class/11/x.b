@@ -1,5 +1,6 @@
-main() {
-    auto i;
-    i=-1;
-    printn(i, 10);
+sum(a, b) {
+    auto c;
+    c = a + b;
 }
+main()
+    printn(sum(2, 3), 10);

@@ -1,6 +1,6 @@
-sum(a, b) {
-    auto c;
-    c = a + b;
+main() {
+    auto x;
+    x = getchar();
+    if(x == 'a') {
+        putchar('b');
 }
-main()
-    printn(sum(2, 3), 10);

@@ -1,5 +1,5 @@
-greet(n)
-    while(n-- > 0)
-        putchar('!');
-main()
-    greet(3, '?');
+main() {
+    auto i;
+    for(i = 0; i < 3; i++)
+        printn(i, 10);
+}

@@ -1,5 +1,7 @@
-greet(n)
-    while(n-- > 0)
-        putchar('!');
-main()
-    greet(3, '?');
+main() {
+    auto s, i, c;
+    s = "abc";
+    i = 0;
+    while(c = char(s, i++))
+        putchar(c);
+}

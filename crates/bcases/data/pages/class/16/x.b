@@ -1,6 +1,5 @@
 main() {
-    auto x;
-    x = getchar();
-    if(x == 'a') {
-        putchar('b');
+    auto i;
+    while(i < 3)
+        printn(i++, 10);
 }

@@ -1,5 +1,6 @@
 main() {
     auto i;
-    for(i = 0; i < 3; i++)
-        printn(i, 10);
+    i = 0;
+    while(i < 3);
+        printn(i++, 10);
 }

@@ -1,6 +1,6 @@
 main() {
-    auto c;
-    c = getchar();
-    if(c == 'y') putchar('1');
-    elif(c == 'n') putchar('0');
+    auto i;
+    i = 3;
+    if(i & 1 == 1)
+        putchar('o');
 }

@@ -1,5 +1,6 @@
 main() {
-    auto i;
-    while(i < 3)
-        printn(i++, 10);
+    auto s;
+    s = "abc";
+    if(s == "abc")
+        putchar('y');
 }

@@ -1,6 +1,8 @@
+mean(sum, n)
+    return(sum / n);
 main() {
-    auto i;
-    i = 0;
-    while(i < 3);
-        printn(i++, 10);
+    auto n;
+    n = 2;
+    while(n--)
+        printn(mean(12, n), 10);
 }

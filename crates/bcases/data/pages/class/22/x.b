@@ -1,6 +1,8 @@
+mean(sum, n)
+    return(sum / n);
 main() {
-    auto i;
-    i = 3;
-    if(i & 1 == 1)
-        putchar('o');
+    auto n;
+    n = 2;
+    while(n--)
+        printn(mean(12, n), 10);
 }

@@ -1,6 +1,0 @@
-main() {
-    auto s;
-    s = "abc";
-    if(s == "abc")
-        putchar('y');
-}

@@ -1,2 +1,0 @@
-10 LET A = 7
-20 PRINT A / 0
