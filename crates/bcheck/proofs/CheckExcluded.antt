@@ -40,7 +40,7 @@ use Rattle.blang.specs.Trees.{Definition as Tree, bare}
 use Rattle.blang.specs.WellFormed.{AllFormed, StopsAt}
 use Rattle.blint.specs.SourceTokens.{IsSource}
 use Rattle.blint.specs.Warns.{IsDueIn}
-use Rattle.blint.specs.declared.tokens.TokenPlace.{TokenPlace}
+use Rattle.bmatch.specs.declared.tree.TokenPlace.{TokenPlace}
 use Rattle.blint.specs.declared.warnings.Warning.{Warning}
 use Rattle.bcheck.specs.CheckExcluded.{least_lines}
 use Rattle.bcheck.specs.Checks.{IsAtToken, IsOver, Reason, StandsOn, code_keyword, diagnostic_code, finding_at}

@@ -10,7 +10,7 @@ use Rattle.blang.specs.declared.status.TheConstants.{DONE}
 use Rattle.blang.specs.declared.token.Diagnostic.{Diagnostic}
 use Rattle.bsources.specs.Files.{Files}
 use Rattle.blint.specs.declared.cautions.Caution.{Caution}
-use Rattle.blint.specs.declared.tokens.TokenPlace.{TokenPlace}
+use Rattle.bmatch.specs.declared.tree.TokenPlace.{TokenPlace}
 use Rattle.blint.specs.declared.warnings.Slip.{Slip}
 use Rattle.blint.specs.declared.warnings.Slip.TheVariants as slip
 use Rattle.blint.specs.declared.warnings.Warning.{Warning}

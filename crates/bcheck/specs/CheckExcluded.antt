@@ -21,7 +21,7 @@ use Rattle.blang.specs.Trees.{Definition as Tree}
 use Rattle.blang.specs.WellFormed.{AllFormed}
 use Rattle.blint.specs.SourceTokens.{IsSource}
 use Rattle.blint.specs.Warns.{IsDueIn}
-use Rattle.blint.specs.declared.tokens.TokenPlace.{TokenPlace}
+use Rattle.bmatch.specs.declared.tree.TokenPlace.{TokenPlace}
 use Rattle.blint.specs.declared.warnings.Warning.{Warning}
 use Rattle.bplaces.specs.Columns.{column_after}
 use Rattle.bcheck.specs.Tokens.{has_token_on, is_in_token}

@@ -13,7 +13,7 @@ use Rattle.btree.specs.declared.tags.Tag.{Tag}
 use Rattle.brules.specs.declared.rules.Rule.{Rule}
 use Rattle.blint.specs.declared.cautions.Caution.{Caution}
 use Rattle.blint.specs.declared.cutting.CutSource.{CutSource}
-use Rattle.blint.specs.declared.tokens.TokenPlace.{TokenPlace}
+use Rattle.bmatch.specs.declared.tree.TokenPlace.{TokenPlace}
 use Rattle.blint.specs.Cutting.{Cuts}
 use Rattle.blint.specs.ProgramRules.{AreRules, AreStarts, lexemes_of, program_rules, starts_in, starts_of}
 use Rattle.blint.specs.SourceTokens.{lexemes_in, token_places, tokens_of}

@@ -15,7 +15,7 @@ use Rattle.blex.specs.declared.lexeme.Lexeme.TheVariants as lexeme
 use Rattle.blex.specs.declared.scanner.PlacedPiece.{PlacedPiece}
 use Rattle.blex.proofs.PlaceSteps.{end_piece, piece_grows, places_of_tokens, some_piece_from}
 use Rattle.blint.specs.declared.cutting.CutSource.{CutSource}
-use Rattle.blint.specs.declared.tokens.TokenPlace.{TokenPlace}
+use Rattle.bmatch.specs.declared.tree.TokenPlace.{TokenPlace}
 use Rattle.blint.specs.Cutting.{Cuts, TakesPiece}
 use Rattle.blint.specs.ProgramRules.{lexemes_of}
 use Rattle.blint.specs.Told.{AreRising}

@@ -13,7 +13,7 @@ use Rattle.brules.specs.declared.rules.Rule.{Rule}
 use Rattle.blint.specs.AtToken.{rule_of, warning_at}
 use Rattle.blint.specs.declared.cautions.Caution.{Caution}
 use Rattle.blint.specs.declared.telling.TheConstants.{MOST_CAUTIONS}
-use Rattle.blint.specs.declared.tokens.TokenPlace.{TokenPlace}
+use Rattle.bmatch.specs.declared.tree.TokenPlace.{TokenPlace}
 use Rattle.blint.specs.declared.warnings.Warning.{Warning}
 use Rattle.blint.specs.Told.{AreRising, TellsOne, TellsOthers, due, with_caution}
 use Rattle.blint.specs.Warns.{IsDue, TellsOf, entry, is_of_tokens}

@@ -8,7 +8,7 @@ use Rattle.blex.specs.declared.lexeme.Lexeme.TheVariants as lexeme
 use Rattle.brules.specs.Telling.{lexeme_at}
 use Rattle.brules.specs.declared.rules.Rule.{Rule}
 use Rattle.brules.specs.declared.rules.Rule.TheVariants as rule
-use Rattle.blint.specs.declared.tokens.TokenPlace.{TokenPlace}
+use Rattle.bmatch.specs.declared.tree.TokenPlace.{TokenPlace}
 use Rattle.blint.specs.declared.warnings.Warning.{Warning}
 use Rattle.blint.specs.declared.warnings.Warning.TheVariants as warning
 

@@ -14,7 +14,7 @@ use Rattle.brules.specs.declared.rules.Rule.{Rule}
 use Rattle.brules.specs.declared.rules.Rule.TheVariants as rule
 use Rattle.blint.specs.AtToken.{are_joined, has_c_escape, rule_warning, warning_at, warning_of, warning_of_token}
 use Rattle.blint.specs.declared.telling.TheConstants.{MOST_CAUTIONS}
-use Rattle.blint.specs.declared.tokens.TokenPlace.{TokenPlace}
+use Rattle.bmatch.specs.declared.tree.TokenPlace.{TokenPlace}
 use Rattle.blint.specs.declared.warnings.Warning.TheVariants as warning
 use Rattle.blint.specs.ProgramRules.{program_rules, starts_in, starts_of}
 use Rattle.blint.specs.SourceTokens.{PlacedToken, tokens_at, tokens_of}

@@ -13,7 +13,7 @@ use Rattle.blex.specs.declared.lexeme.Lexeme.{Lexeme}
 use Rattle.blex.specs.declared.lexeme.Lexeme.TheVariants as lexeme
 use Rattle.blex.specs.declared.scanner.PlacedPiece.{PlacedPiece}
 use Rattle.blex.specs.Places.{next_piece}
-use Rattle.blint.specs.declared.tokens.TokenPlace.{TokenPlace}
+use Rattle.bmatch.specs.declared.tree.TokenPlace.{TokenPlace}
 
 abbrev pub is_end : Option Lexeme → Bool
 is_end (Some lexeme.End) = true

@@ -4,7 +4,7 @@ use Rattle.std.specs.Prelude.{Option, None, Some, if◌then◌else◌, slice_get
 use Rattle.std.specs.List.{All}
 use Rattle.blint.specs.declared.cautions.Caution.{Caution}
 use Rattle.blint.specs.declared.telling.TheConstants.{MOST_CAUTIONS}
-use Rattle.blint.specs.declared.tokens.TokenPlace.{TokenPlace}
+use Rattle.bmatch.specs.declared.tree.TokenPlace.{TokenPlace}
 use Rattle.blint.specs.declared.warnings.Warning.{Warning}
 use Rattle.blint.specs.Warns.{is_of_tokens}
 

@@ -1,12 +1,11 @@
 //! Answers of one character that are read one after another.
 use crate::chains::begun_at;
 use crate::linting::Look;
-use crate::reading::evaluated_in;
 use crate::remarks::Remark;
 use crate::texts::{has_text, is_reading, is_writing};
-use crate::tree::{Branch, Statement, Tree};
+use crate::tree::{Branch, NONE, Statement, Tree};
 use crate::warnings::{Slip, Warning};
-use btree::Node;
+use btree::{Construct, Node};
 
 /// How many statements between two answers are looked at, and how many tokens of one.
 const MOST_BETWEEN: usize = 8;
@@ -74,4 +73,13 @@ fn reads(tree: &Tree<'_>, statement: &Statement) -> bool {
         }
     }
     false
+}
+
+// What a statement evaluates that does nothing else.
+fn evaluated_in(tree: &Tree<'_>, statement: &Statement) -> Branch {
+    let evaluated = match statement.construct {
+        Construct::Plain => tree.made_by(statement.end.wrapping_sub(1)),
+        _ => tree.branch(NONE),
+    };
+    tree.branch(evaluated.left)
 }

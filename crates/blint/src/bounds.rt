@@ -1,8 +1,5 @@
 //! What a comparison asks of a value: how small and how large it may be.
-use crate::linting::Look;
-use crate::remarks::Remark;
 use crate::tree::{Branch, Statement, Tree};
-use crate::warnings::Warning;
 use blex::Lexeme;
 use btree::Node;
 use bword::{BinOp, Name};
@@ -78,79 +75,11 @@ pub(crate) fn constant_of(tree: &Tree<'_>, branch: &Branch) -> Option<u64> {
     if value <= LARGEST { Some(value) } else { None }
 }
 
-/// What is found of `|` between comparisons of which one always holds, and of `&` between those that never both hold.
-pub(crate) fn settled(look: &Look<'_>, branch: &Branch, op: BinOp) -> Option<Remark> {
-    let tree = look.tree;
-    let warning = match op {
-        BinOp::Or => Warning::AlwaysTrue,
-        BinOp::And => Warning::NeverTrue,
-        _ => return None,
-    };
-    let left = tree.branch(branch.left);
-    let one = if left.node == Node::Binary(op) {
-        tree.branch(left.right)
-    } else {
-        left
-    };
-    if are_settled(
-        tree,
-        op,
-        &inner(tree, one),
-        &inner(tree, tree.branch(branch.right)),
-    ) {
-        Remark::new(branch.token, warning)
-    } else {
-        None
-    }
-}
-
 /// The branch in parentheses, or the branch itself.
 pub(crate) fn inner(tree: &Tree<'_>, branch: Branch) -> Branch {
     match branch.node {
         Node::Grouped => tree.branch(branch.left),
         _ => branch,
-    }
-}
-
-// Whether of two comparisons of the same value one always holds, for `|`, or both never do, for `&`.
-fn are_settled(tree: &Tree<'_>, op: BinOp, one: &Branch, other: &Branch) -> bool {
-    if one.acts || !are_alike(tree, &tree.branch(one.left), &tree.branch(other.left)) {
-        return false;
-    }
-    match (limits_of(tree, one), limits_of(tree, other)) {
-        (Some(one), Some(other)) => leave_nothing(op, &one, &other),
-        (None, None) => are_unequal(tree, op, one, other),
-        _ => false,
-    }
-}
-
-fn leave_nothing(op: BinOp, one: &Limits, other: &Limits) -> bool {
-    let (least, largest) = match (one.least.or(other.least), one.largest.or(other.largest)) {
-        (Some(least), Some(largest)) => (least, largest),
-        _ => return false,
-    };
-    match op {
-        BinOp::Or => least <= largest.saturating_add(1),
-        _ => largest < least,
-    }
-}
-
-// Whether both have `!=` for `|`, or `==` for `&`, with different constants.
-fn are_unequal(tree: &Tree<'_>, op: BinOp, one: &Branch, other: &Branch) -> bool {
-    let wanted = match op {
-        BinOp::Or => Node::Binary(BinOp::Ne),
-        _ => Node::Binary(BinOp::Eq),
-    };
-    if one.node != wanted || other.node != wanted {
-        return false;
-    }
-    let values: (Option<u64>, Option<u64>) = (
-        constant_of(tree, &tree.branch(one.right)),
-        constant_of(tree, &tree.branch(other.right)),
-    );
-    match values {
-        (Some(one), Some(other)) => one != other,
-        _ => false,
     }
 }
 

@@ -1,13 +1,12 @@
 //! Calls that are probably mistakes.
 use crate::bounds::constant_of;
-use crate::copies::has_name;
 use crate::defined::{What, is_own_call};
 use crate::linting::Look;
 use crate::locals::{NameRole, relates};
 use crate::numbers::large;
 use crate::remarks::Remark;
 use crate::strings::{is_of_string, is_string};
-use crate::tree::{Branch, Tree};
+use crate::tree::{Branch, Tree, has_name};
 use crate::vectors::last_of;
 use crate::warnings::{Slip, Warning};
 use blex::Lexeme;

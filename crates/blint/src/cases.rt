@@ -1,7 +1,6 @@
 //! Cases of a `switch`, characters that are taken for digits, and a condition that assigns by `=!`.
 use crate::falls::prepares;
 use crate::linting::Look;
-use crate::locals::{compares, relates};
 use crate::remarks::Remark;
 use crate::strings::is_input;
 use crate::tree::{Branch, Statement, Tree};
@@ -9,37 +8,6 @@ use crate::warnings::Warning;
 use blang::Keyword;
 use blex::Lexeme;
 use btree::{Construct, Node};
-use bword::BinOp;
-
-/// What is found of a condition that assigns what `!` gives: `x =! 3`.
-pub(crate) fn not_assigned(look: &Look<'_>, tested: &Branch) -> Option<Remark> {
-    let assigned = look.tree.branch(tested.left);
-    let is_not = assigned.node == Node::Assigned(None)
-        && look.tree.branch(assigned.right).node == Node::Not;
-    if is_not && look.tree.tokens.is_joined(assigned.token) {
-        return Remark::new(assigned.token, Warning::AssignsNot);
-    }
-    None
-}
-
-/// What is found of a number of one digit with which a character of the input is compared.
-pub(crate) fn digit_compared(look: &Look<'_>, branch: &Branch, op: BinOp) -> Option<Remark> {
-    let tree = look.tree;
-    let (subject, constant) = (tree.branch(branch.left), tree.branch(branch.right));
-    if !compares(op) && !relates(op) || !is_input(look, &subject) {
-        return None;
-    }
-    let is_digit = match tree.tokens.at(constant.token) {
-        Lexeme::Number(1 | 2 | 3 | 5 | 6) => true,
-        Lexeme::Number(0) => op == BinOp::Ge,
-        Lexeme::Number(7 | 8 | 9) => relates(op),
-        _ => false,
-    };
-    if is_digit && constant.node == Node::Constant {
-        return Remark::new(constant.token, Warning::DigitForCharacter);
-    }
-    None
-}
 
 /// What is found of a case of one digit, where the switch looks at a character of the input; and of one into which
 /// control goes on from the case before, as from no other one.

@@ -1,7 +1,7 @@
 //! What is looked at, and what is said of it.
-use crate::tokens::TokenPlace;
 use crate::warnings::Warning;
 use blang::Definition;
+use bmatch::TokenPlace;
 use bsources::SourceFiles;
 use bword::{Edition, Name};
 

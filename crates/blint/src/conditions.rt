@@ -2,7 +2,6 @@
 use crate::bounds::{are_alike, bound_in, constant_of, inner};
 use crate::chains::{body_of, else_of};
 use crate::linting::Look;
-use crate::locals::relates;
 use crate::loops::{changes, has_own_words, leaves};
 use crate::remarks::Remark;
 use crate::tree::{Branch, Statement, Tree};
@@ -151,31 +150,6 @@ fn divisor_in(tree: &Tree<'_>, comparison: &Branch) -> Option<u64> {
         return None;
     }
     constant_of(tree, &tree.branch(remainder.right))
-}
-
-/// What is found of `if(v[i] > m) m = i;`: the index is kept, where the word is compared.
-pub(crate) fn index_kept(look: &Look<'_>, statement: &Statement) -> Option<Remark> {
-    let tree = look.tree;
-    let condition = condition_of(tree, statement);
-    let (left, right) = (tree.branch(condition.left), tree.branch(condition.right));
-    let (word, kept) = match (condition.node, left.node, right.node) {
-        (Node::Binary(op), Node::Indexed, Node::Name) if relates(op) => (left, right),
-        (Node::Binary(op), Node::Name, Node::Indexed) if relates(op) => (right, left),
-        _ => return None,
-    };
-    let (index, name) = (tree.name(&tree.branch(word.right))?, tree.name(&kept)?);
-    let body = body_of(tree, statement)?;
-    for token in body.first..body.end {
-        let assigned = tree.made_by(token);
-        let (to, given) = (tree.branch(assigned.left), tree.branch(assigned.right));
-        let is_kept = assigned.node == Node::Assigned(None)
-            && tree.name(&to) == Some(name)
-            && tree.name(&given) == Some(index);
-        if is_kept && index != name {
-            return Remark::about(given.token, Warning::IndexKept, to.token);
-        }
-    }
-    None
 }
 
 /// What is found of a loop whose condition can change in one `if` alone, when nothing else changes what that asks for.

@@ -1,8 +1,8 @@
 //! Words that count the turns of a loop.
-use crate::bounds::{are_alike, constant_of};
+use crate::bounds::constant_of;
 use crate::linting::Look;
 use crate::locals::{NameRole, relates};
-use crate::loops::{changes, changes_name, has_own_words, leaves};
+use crate::loops::{changes_name, leaves};
 use crate::remarks::Remark;
 use crate::tree::{Branch, Statement, Tree};
 use crate::vectors::last_of;
@@ -17,9 +17,6 @@ const MOST_TOKENS: usize = 600;
 
 /// How many assignments one after another are looked at.
 const MOST_CHAINED: usize = 8;
-
-/// How many statements between two loops are looked at.
-const MOST_BETWEEN: usize = 4;
 
 /// A loop whose condition compares a word of the function with a constant or another word, by its size or by `!=`.
 #[derive(Clone, Copy)]
@@ -92,71 +89,6 @@ fn way_of_sum(tree: &Tree<'_>, sum: &Branch, name: &Name) -> Way {
         Node::Binary(BinOp::Sub) if is_own && is_constant => Way::Down,
         _ => Way::Other,
     }
-}
-
-/// What is found of a word that goes away from where a loop ends, which nothing else leaves.
-pub(crate) fn counts_away(look: &Look<'_>, counted: &Counter) -> Option<Remark> {
-    let wrong = match counted.op {
-        BinOp::Lt | BinOp::Le => Way::Down,
-        BinOp::Gt | BinOp::Ge => Way::Up,
-        _ => return None,
-    };
-    let mut found = None;
-    for token in counted.first..counted.end {
-        if leaves(look, token) || changes_limit(look.tree, token, counted) {
-            return None;
-        }
-        match way_of(look.tree, token, &counted.name) {
-            None => {}
-            Some(way) if way == wrong => found = found.or(Some(token)),
-            Some(_) => return None,
-        }
-    }
-    let token = found?;
-    Some(Remark {
-        other: counted.keyword,
-        ..Remark::about(token, Warning::CountsAway, look.tree.made_by(token).first)?
-    })
-}
-
-fn changes_limit(tree: &Tree<'_>, token: usize, counted: &Counter) -> bool {
-    match tree.name(&counted.limit) {
-        Some(name) => changes_name(tree, token, &name),
-        None => false,
-    }
-}
-
-/// What is found of a loop in another one that counts a word which nothing sets again.
-pub(crate) fn inner_once(look: &Look<'_>, counted: &Counter) -> Option<Remark> {
-    let tree = look.tree;
-    let outer = loop_around(tree, counted.keyword)?;
-    if outer.end.saturating_sub(outer.first) > MOST_TOKENS {
-        return None;
-    }
-    let mut counts = false;
-    for token in outer.first..outer.end {
-        let is_inside = counted.first <= token && token < counted.end;
-        let way = way_of(tree, token, &counted.name);
-        if leaves(look, token) || changes_limit(tree, token, counted) {
-            return None;
-        }
-        match (way, is_inside) {
-            (None, _) => {}
-            (Some(Way::Up | Way::Down), true) => counts = true,
-            _ => return None,
-        }
-    }
-    if !counts {
-        return None;
-    }
-    Some(Remark {
-        other: outer.first,
-        ..Remark::about(
-            counted.keyword,
-            Warning::InnerOnce,
-            counted.keyword.wrapping_add(2),
-        )?
-    })
 }
 
 /// The innermost loop around the statement of a keyword.
@@ -273,42 +205,6 @@ fn step_of(tree: &Tree<'_>, change: &Branch) -> Option<u64> {
         Node::Assigned(None) => constant_of(tree, &tree.branch(given.right)),
         _ => Some(1),
     }
-}
-
-/// What is found of a loop with the condition of one before it, which has made that 0.
-pub(crate) fn never_again(look: &Look<'_>, tested: &Branch) -> Option<Remark> {
-    let tree = look.tree;
-    let statement = tree.statement(tree.around(tested.token));
-    let condition = tree.branch(tested.left);
-    if !has_own_words(look, &condition) || condition.acts {
-        return None;
-    }
-    let mut here = statement;
-    for _ in 0..MOST_BETWEEN {
-        here = tree.before(&here)?;
-        if here.end.saturating_sub(here.first) > MOST_TOKENS {
-            return None;
-        }
-        let is_loop = here.construct == Construct::While
-            && are_alike(
-                tree,
-                &tree.branch(tree.made_by(here.first).left),
-                &condition,
-            );
-        for token in here.first..here.end {
-            let is_left = leaves(look, token);
-            if is_left || !is_loop && changes(tree, token, &condition) {
-                return None;
-            }
-        }
-        if is_loop {
-            return Some(Remark {
-                other: here.first,
-                ..Remark::new(tested.token, Warning::Slip(Slip::NeverAgain))?
-            });
-        }
-    }
-    None
 }
 
 // The index of a name that is just the word which a loop counts, or most above it, unless something changes that or asks
@@ -437,86 +333,4 @@ fn parameter_of(look: &Look<'_>, branch: &Branch) -> Option<usize> {
         }
     }
     None
-}
-
-/// What is found of a constant that a loop sets a word to, to which it adds once in each turn.
-pub(crate) fn begins_anew(look: &Look<'_>, evaluated: &Branch) -> Option<Remark> {
-    let tree = look.tree;
-    let set = tree.branch(evaluated.left);
-    let name = tree.name(&tree.branch(set.left))?;
-    let here = tree.statement(tree.around(set.first));
-    let block = tree.statement(here.parent);
-    let around = tree.statement(block.parent);
-    let is_set = set.node == Node::Assigned(None)
-        && tree.branch(set.right).node == Node::Constant
-        && block.construct == Construct::Block
-        && around.construct == Construct::While;
-    let local = look.locals.find(&name)?;
-    if !is_set || !local.is_own_word() || local.has_address {
-        return None;
-    }
-    if around.end.saturating_sub(around.first) > MOST_TOKENS {
-        return None;
-    }
-    let added = added_once(look, &name, here.end, &around, here.parent)?;
-    if is_named_else(tree, &name, &around, &set, &added) {
-        return None;
-    }
-    Some(Remark {
-        other: around.first,
-        ..Remark::new(set.first, Warning::BeginsAnew)?
-    })
-}
-
-// The one change of a name in a loop after a token, if it adds to it and stands in the same block.
-fn added_once(
-    look: &Look<'_>,
-    name: &Name,
-    from: usize,
-    around: &Statement,
-    block: usize,
-) -> Option<Branch> {
-    let tree = look.tree;
-    let mut found = None;
-    for token in from..around.end {
-        if changes_name(tree, token, name) {
-            let is_here = tree.statement(tree.around(token)).parent == block;
-            if found.is_some() || !is_here || !adds(tree, &tree.made_by(token), name) {
-                return None;
-            }
-            found = Some(tree.made_by(token));
-        }
-    }
-    found
-}
-
-// Whether it is `x =+ e` or `x = x + e`.
-fn adds(tree: &Tree<'_>, branch: &Branch, name: &Name) -> bool {
-    let given = tree.branch(branch.right);
-    match branch.node {
-        Node::Assigned(Some(BinOp::Add | BinOp::Mul)) => true,
-        Node::Assigned(None) => {
-            let is_sum = matches!(given.node, Node::Binary(BinOp::Add | BinOp::Mul));
-            is_sum && tree.name(&tree.branch(given.left)) == Some(*name)
-        }
-        _ => false,
-    }
-}
-
-// Whether a loop has a name but where it is set and added to.
-fn is_named_else(
-    tree: &Tree<'_>,
-    name: &Name,
-    around: &Statement,
-    set: &Branch,
-    added: &Branch,
-) -> bool {
-    for token in around.first..around.end {
-        let is_in = set.first <= token && token <= set.last
-            || added.first <= token && token <= added.last;
-        if !is_in && tree.tokens.name(token) == Some(*name) {
-            return true;
-        }
-    }
-    false
 }

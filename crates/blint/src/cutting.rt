@@ -4,8 +4,8 @@ ghost use Rattle.blint.specs.Cutting.{Cuts, TakesPiece};
 ghost use Rattle.blint.specs.SourceTokens.{is_end, place_of, token_of, tokens_of};
 
 use crate::cautions::Program;
-use crate::tokens::TokenPlace;
 use blex::{Lexeme, PlacedPiece, Scanner};
+use bmatch::TokenPlace;
 use std::alloc::{AllocError, Global};
 
 /// The tokens of a source, and where each stands.

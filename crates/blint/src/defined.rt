@@ -2,9 +2,9 @@
 use crate::cautions::Program;
 use crate::counters::PastLoop;
 use crate::locals::Locals;
-use crate::tokens::TokenPlace;
 use crate::tree::Tree;
 use blang::{Definition, Instr, Ival, View};
+use bmatch::TokenPlace;
 use bnames::{NameTable, Probes};
 use btree::Node;
 use bword::Name;

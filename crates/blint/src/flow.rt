@@ -1,9 +1,8 @@
 //! Automatics that are used before anything has set them.
-use crate::copies::has_name;
 use crate::defined::Defined;
 use crate::locals::{Local, Locals, sets};
 use crate::remarks::{Remark, Remarks};
-use crate::tree::{Branch, Tree};
+use crate::tree::{Branch, Tree, has_name};
 use crate::warnings::{Slip, Warning};
 use blang::Keyword;
 use blex::Lexeme;

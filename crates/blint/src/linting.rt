@@ -13,17 +13,19 @@ use crate::flow::unset_in;
 use crate::functions::{calls_itself, outside, without_main};
 use crate::locals::Locals;
 use crate::looking::{look_at, look_further};
+use crate::matched::Matched;
 use crate::numbers::octal_in;
 use crate::octals::padded_in;
 use crate::remarks::{Remark, Remarks};
 use crate::ruled::{Ruled, rules_of, starts_of};
 use crate::stacks::pushed;
 use crate::telling::{MOST_CAUTIONS, told};
-use crate::tokens::{TokenPlace, Tokens};
+use crate::tokens::Tokens;
 use crate::tree::{NONE, Tree};
 use crate::warnings::{Slip, Warning};
 use crate::whole::Whole;
 use blex::Lexeme;
+use bmatch::TokenPlace;
 use bsources::SourceFiles;
 use bword::Name;
 use std::alloc::{AllocError, Global};
@@ -57,7 +59,8 @@ pub fn lint(alloc: Global, program: &Program<'_>) -> Result<Vec<Caution>, AllocE
         lexemes: cut.lexemes.as_slice(),
         places: cut.places.as_slice(),
     };
-    let mut linting = Linting::new(alloc, program, starts.len())?;
+    let matched = Matched::new(alloc, program.text, &cut)?;
+    let mut linting = Linting::new(alloc, program, starts.len(), matched)?;
     linting.look_for_main(&tokens, starts.as_slice());
     let rules = rules_of(alloc, &tokens, starts.as_slice(), &mut linting)?;
     let others = linting.finish(alloc, cut.across)?;
@@ -96,11 +99,19 @@ pub(crate) struct Linting<'a> {
     /// Vectors in which something is stored by an index that counts up after it.
     pushed: Vec<Name>,
     whole: Whole,
+    /// What the rules tell, and how many tokens stand in the definitions before.
+    matched: Matched,
+    passed: usize,
 }
 
 impl<'a> Linting<'a> {
-    // Nothing yet, of so many definitions.
-    fn new(alloc: Global, program: &'a Program<'a>, count: usize) -> Result<Self, AllocError> {
+    // Nothing yet but what the rules tell, of so many definitions.
+    fn new(
+        alloc: Global,
+        program: &'a Program<'a>,
+        count: usize,
+        matched: Matched,
+    ) -> Result<Self, AllocError> {
         let mut used = Vec::new(alloc);
         for _ in 0..count {
             used.push(false)?;
@@ -115,6 +126,8 @@ impl<'a> Linting<'a> {
             without_main: None,
             pushed: Vec::new(alloc),
             whole: Whole::new(alloc),
+            matched,
+            passed: 0,
         })
     }
 
@@ -158,6 +171,10 @@ impl<'a> Linting<'a> {
             told = with_loop(&look, passed(&look));
         }
         self.told.push(told)?;
+        for token in 0..tokens.len() {
+            further.say(self.matched.at(self.passed, token))?;
+        }
+        self.passed = self.passed.saturating_add(tokens.len());
         let is_own = self.files.beyond_first(tokens.place(0).line).is_none();
         for token in 0..tokens.len() {
             if is_own {

@@ -1,41 +1,26 @@
 //! Looking at a function with each finder.
 use crate::answers::newline_between;
-use crate::bounds::settled;
 use crate::calls::{MOST_ARGUMENTS, called, calls_astray, counted_past, same_arguments, valued};
-use crate::cases::{digit_compared, not_assigned, of_case};
+use crate::cases::of_case;
 use crate::chains::{dangling, in_row};
-use crate::comparisons::operated;
-use crate::conditions::{index_kept, only_in_if, tested_before};
-use crate::copies::{copied_back, copied_late, same_now};
-use crate::counters::{
-    begins_anew, counter_of, counts_away, inner_once, never_again, past_vector, steps_past,
-};
+use crate::conditions::{only_in_if, tested_before};
+use crate::counters::{counter_of, past_vector, steps_past};
 use crate::declared::declared_in;
-use crate::divisors::{both_evaluated, divided_by_one, remainder_kept};
-use crate::ends::loop_end;
 use crate::extremes::searched;
 use crate::functions::changes_nothing;
-use crate::jumps::{begins_again, leaves_count_out};
 use crate::layout::indented;
 use crate::linting::Look;
-use crate::loops::{input_endless, unchanged};
-use crate::nested::{not_set_back, same_twice};
-use crate::nots::not_first;
-use crate::numbers::{assigned, divided, multiplied, too_large};
-use crate::past_end::{after_last, counts_end};
-use crate::reading::{end_taken, lost};
+use crate::nested::not_set_back;
+use crate::numbers::{assigned, divided};
 use crate::remainders::below_zero;
 use crate::remarks::{Remark, Remarks};
 use crate::rooms::too_small;
 use crate::stacks::popped;
-use crate::stores::{moves_address, not_reached, overwritten, put_back, stored_back, value_kept};
-use crate::strings::{
-    added, character_counted, character_for_number, form_of, names_compared, word_stored,
-    word_taken,
-};
-use crate::texts::{compared_alone, ended_by_zero, newline_next, not_ended};
+use crate::stores::{moves_address, not_reached};
+use crate::strings::form_of;
+use crate::texts::{newline_next, not_ended};
 use crate::tree::Branch;
-use crate::turns::{by_zero, counts_first, half_stays, last_turn, shared_counter};
+use crate::turns::last_turn;
 use crate::values::{form_kinds, put_string};
 use crate::vectors::{
     addressed, character_index, indexed, indexed_twice, never_set, reckoned, returned,
@@ -43,7 +28,6 @@ use crate::vectors::{
 };
 use crate::warnings::Warning;
 use crate::whole::{external_twice, word_of_parameter};
-use crate::zeros::{multiplied_zero, product_base, zero_after, zero_divisor};
 use btree::{Construct, Node};
 use bword::BinOp;
 use std::alloc::AllocError;
@@ -71,15 +55,11 @@ pub(crate) fn look_further(look: &Look<'_>, further: &mut Remarks) -> Result<(),
     for statement in &look.tree.statements {
         further.say(not_reached(look, statement))?;
         match statement.construct {
-            Construct::Heading => {
-                further.say(of_case(look, statement))?;
-                further.say(begins_again(look, statement))?;
-            }
+            Construct::Heading => further.say(of_case(look, statement))?,
             Construct::If => {
                 further.say(dangling(look, statement))?;
                 further.say(in_row(look, statement))?;
                 further.say(tested_before(look, statement))?;
-                further.say(index_kept(look, statement))?;
                 further.say(searched(look, statement))?;
                 further.say(last_turn(look, statement))?;
             }
@@ -100,13 +80,10 @@ fn further_by_branch(
         Node::Assigned(None) => of_assignment(look, branch, further),
         Node::Assigned(Some(_)) => {
             further.say(reckoned(look, branch))?;
-            further.say(character_for_number(look, branch))?;
-            further.say(multiplied_zero(look, branch))?;
             further.say(vector_changed(look, branch))
         }
         Node::PreIncrement | Node::PostIncrement | Node::PreDecrement | Node::PostDecrement =>
             further.say(vector_changed(look, branch)),
-        Node::Returned => further.say(product_base(look, branch)),
         Node::Evaluated => of_statement(look, branch, further),
         Node::Indexed => of_index(look, branch, further),
         Node::Tested => of_test(look, branch, further),
@@ -117,15 +94,12 @@ fn further_by_branch(
 fn of_call(look: &Look<'_>, branch: &Branch, further: &mut Remarks) -> Result<(), AllocError> {
     further.say(same_arguments(look, branch))?;
     further.say(calls_astray(look, branch))?;
-    further.say(shared_counter(look, branch))?;
     further.say(form_of(look, branch))?;
     further.say(form_kinds(look, branch))?;
     further.say(put_string(look, branch))?;
     further.say(counted_past(look, branch))?;
     values_of(look, branch, further)?;
-    further.say(after_last(look, branch))?;
     further.say(not_ended(look, branch))?;
-    further.say(ended_by_zero(look, branch))?;
     further.say(newline_next(look, branch))?;
     further.say(too_small(look, branch))
 }
@@ -136,19 +110,11 @@ fn of_operation(
     op: BinOp,
     further: &mut Remarks,
 ) -> Result<(), AllocError> {
-    further.say(settled(look, branch, op))?;
-    further.say(digit_compared(look, branch, op))?;
-    further.say(names_compared(look, branch, op))?;
-    further.say(character_counted(look, branch, op))?;
-    further.say(by_zero(look, branch, op))?;
     further.say(reckoned(look, branch))?;
-    further.say(character_for_number(look, branch))?;
-    further.say(by_operator(look, branch, op))?;
-    further.say(below_zero(look, branch, op))?;
-    further.say(zero_divisor(look, branch, op))?;
-    further.say(zero_after(look, branch, op))?;
-    further.say(both_evaluated(look, branch, op))?;
-    further.say(not_first(look, branch, op))
+    if op == BinOp::Div {
+        further.say(divided(look, branch))?;
+    }
+    further.say(below_zero(look, branch, op))
 }
 
 fn of_assignment(
@@ -157,23 +123,12 @@ fn of_assignment(
     further: &mut Remarks,
 ) -> Result<(), AllocError> {
     further.say(assigned(look, branch))?;
-    further.say(value_kept(look, branch))?;
-    further.say(half_stays(look, branch))?;
-    further.say(word_stored(look, branch))?;
-    further.say(word_taken(look, branch))?;
-    further.say(multiplied_zero(look, branch))?;
     further.say(vector_changed(look, branch))
 }
 
 fn of_statement(look: &Look<'_>, branch: &Branch, further: &mut Remarks) -> Result<(), AllocError> {
-    further.say(stored_back(look, branch))?;
-    further.say(put_back(look, branch))?;
-    further.say(copied_back(look, branch))?;
-    further.say(copied_late(look, branch))?;
-    further.say(same_now(look, branch))?;
     further.say(moves_address(look, branch))?;
-    further.say(newline_between(look, branch))?;
-    further.say(begins_anew(look, branch))
+    further.say(newline_between(look, branch))
 }
 
 fn of_index(look: &Look<'_>, branch: &Branch, further: &mut Remarks) -> Result<(), AllocError> {
@@ -181,17 +136,11 @@ fn of_index(look: &Look<'_>, branch: &Branch, further: &mut Remarks) -> Result<(
     further.say(never_set(look, branch))?;
     further.say(character_index(look, branch))?;
     further.say(popped(look, branch))?;
-    further.say(same_twice(look, branch))?;
     further.say(external_twice(look, branch))?;
     further.say(word_of_parameter(look, branch))
 }
 
 fn of_test(look: &Look<'_>, branch: &Branch, further: &mut Remarks) -> Result<(), AllocError> {
-    further.say(not_assigned(look, branch))?;
-    further.say(compared_alone(look, branch))?;
-    further.say(lost(look, branch))?;
-    further.say(end_taken(look, branch))?;
-    further.say(counts_end(look, branch))?;
     loop_further(look, branch, further)
 }
 
@@ -202,32 +151,15 @@ fn values_of(look: &Look<'_>, call: &Branch, further: &mut Remarks) -> Result<()
     Ok(())
 }
 
-fn by_operator(look: &Look<'_>, branch: &Branch, op: BinOp) -> Option<Remark> {
-    match op {
-        BinOp::Add => added(look, branch),
-        BinOp::Mul => multiplied(look, branch).or(too_large(look, branch)),
-        BinOp::Div => divided(look, branch),
-        _ => None,
-    }
-}
-
 fn loop_further(look: &Look<'_>, tested: &Branch, further: &mut Remarks) -> Result<(), AllocError> {
     if !look.tree.is_loop(tested) {
         return Ok(());
     }
-    further.say(input_endless(look, tested))?;
     further.say(only_in_if(look, tested))?;
     further.say(not_set_back(look, tested))?;
-    further.say(never_again(look, tested))?;
-    further.say(counts_first(look, tested))?;
     if let Some(counted) = counter_of(look, tested) {
         further.say(past_vector(look, &counted))?;
-        further.say(counts_away(look, &counted))?;
         further.say(steps_past(look, &counted))?;
-        further.say(inner_once(look, &counted))?;
-        further.say(remainder_kept(look, &counted))?;
-        further.say(leaves_count_out(look, &counted))?;
-        further.say(divided_by_one(look, &counted))?;
     }
     Ok(())
 }
@@ -238,12 +170,6 @@ fn by_branch(look: &Look<'_>, branch: &Branch, remarks: &mut Remarks) -> Result<
         Node::Indexed => remarks.say(indexed(look, branch)),
         Node::Address => remarks.say(addressed(look, branch)),
         Node::Returned => remarks.say(returned(look, branch)),
-        Node::Binary(op) => remarks.say(operated(look, branch, op)),
-        Node::Evaluated => remarks.say(overwritten(look, branch)),
-        Node::Tested if look.tree.is_loop(branch) => {
-            remarks.say(loop_end(look, &look.tree.branch(branch.left)))?;
-            remarks.say(unchanged(look, branch))
-        }
         _ => Ok(()),
     }
 }

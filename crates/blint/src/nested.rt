@@ -1,9 +1,8 @@
-//! Loops in loops: an index with one word of both, and a sum that goes on from turn to turn.
+//! Loops in loops: a sum that goes on from turn to turn.
 use crate::bounds::are_alike;
 use crate::counters::{begun_with, counter_of, given_by, loop_around};
 use crate::linting::Look;
 use crate::locals::{NameRole, relates};
-use crate::loops::changes_name;
 use crate::remarks::Remark;
 use crate::tree::{Branch, Statement, Tree};
 use crate::warnings::{Slip, Warning};
@@ -12,78 +11,6 @@ use bword::{BinOp, Name};
 
 /// The longest loop around another one that is looked at, in tokens.
 const MOST_TOKENS: usize = 600;
-
-/// What is found of an index as `i * 3 + i` in two loops, of which one counts what nothing else asks for.
-pub(crate) fn same_twice(look: &Look<'_>, indexed: &Branch) -> Option<Remark> {
-    let tree = look.tree;
-    let twice = twice_in(tree, &tree.branch(indexed.right))?;
-    let inner = loop_around(tree, indexed.token)?;
-    let outer = loop_around(tree, inner.first)?;
-    if outer.end.saturating_sub(outer.first) > MOST_TOKENS {
-        return None;
-    }
-    let first = counter_of(look, &tree.made_by(outer.first))?.name;
-    let second = counter_of(look, &tree.made_by(inner.first))?.name;
-    let other = if twice == first {
-        second
-    } else if twice == second {
-        first
-    } else {
-        return None;
-    };
-    if first == second || is_asked_in(tree, &inner, &other) {
-        return None;
-    }
-    Remark::about(
-        tree.branch(indexed.right).first,
-        Warning::Slip(Slip::SameTwice),
-        tree.branch(indexed.left).token,
-    )
-}
-
-// The name that is in an index twice, multiplied and added.
-fn twice_in(tree: &Tree<'_>, index: &Branch) -> Option<Name> {
-    if index.node != Node::Binary(BinOp::Add) {
-        return None;
-    }
-    let (left, right) = (tree.branch(index.left), tree.branch(index.right));
-    let (product, added) = match left.node {
-        Node::Name => (right, left),
-        _ => (left, right),
-    };
-    let product = match product.node {
-        Node::Grouped => tree.branch(product.left),
-        _ => product,
-    };
-    let name = tree.name(&added)?;
-    let one = tree.name(&tree.branch(product.left));
-    let other = tree.name(&tree.branch(product.right));
-    let is_factor = one == Some(name) || other == Some(name);
-    if product.node == Node::Binary(BinOp::Mul) && is_factor && one != other {
-        Some(name)
-    } else {
-        None
-    }
-}
-
-// Whether the body of a loop has a name but where that is counted.
-fn is_asked_in(tree: &Tree<'_>, around: &Statement, name: &Name) -> bool {
-    let first = tree.made_by(around.first).last;
-    for token in first..around.end {
-        let mention = tree.made_by(token);
-        if tree.name(&mention) == Some(*name) && !is_in_change(tree, &mention, name) {
-            return true;
-        }
-    }
-    false
-}
-
-// Whether a mention of a name is a part of a change of it.
-fn is_in_change(tree: &Tree<'_>, mention: &Branch, name: &Name) -> bool {
-    let parent = tree.branch(mention.parent);
-    let above = tree.branch(parent.parent);
-    changes_name(tree, parent.token, name) || changes_name(tree, above.token, name)
-}
 
 /// What is found of a loop in another one that adds to a word, which each turn of the outer one asks for, and which
 /// nothing sets back.

@@ -1,5 +1,5 @@
 //! Numbers that are worth another thing than they look, and quotients without their fraction.
-use crate::bounds::{are_alike, constant_of};
+use crate::bounds::constant_of;
 use crate::linting::Look;
 use crate::remarks::{Remark, Remarks};
 use crate::tokens::Tokens;
@@ -10,14 +10,8 @@ use btree::Node;
 use bword::BinOp;
 use std::alloc::AllocError;
 
-/// The largest number of a word without a sign.
-const LARGEST_WORD: u64 = 65535;
-
 /// How many digits a number has, at most.
 const MOST_DIGITS: usize = 8;
-
-/// How many tokens before and after a quotient are looked at.
-const NEAR: usize = 32;
 
 /// Says of the numbers of a definition which begin with a 0 among others that don't.
 pub(crate) fn octal_in(tokens: &Tokens<'_>, remarks: &mut Remarks) -> Result<(), AllocError> {
@@ -75,44 +69,6 @@ fn is_for_bits(lexeme: &Lexeme) -> bool {
     )
 }
 
-/// What is found of a product of a quotient, which has lost its fraction.
-pub(crate) fn multiplied(look: &Look<'_>, product: &Branch) -> Option<Remark> {
-    let tree = look.tree;
-    let (left, right) = (tree.branch(product.left), tree.branch(product.right));
-    let (quotient, factor) = match ungrouped(tree, &left).node {
-        Node::Binary(BinOp::Div) => (ungrouped(tree, &left), right),
-        _ => (ungrouped(tree, &right), left),
-    };
-    let divisor = tree.branch(quotient.right);
-    let is_large = matches!(constant_of(tree, &factor), Some(10..));
-    let is_quotient = quotient.node == Node::Binary(BinOp::Div) && divisor.node != Node::Constant;
-    if is_quotient && is_large && !has_remainder(tree, &quotient, &divisor) {
-        return Remark::new(quotient.token, Warning::DividesFirst);
-    }
-    None
-}
-
-// The branch in parentheses, or the branch itself.
-fn ungrouped(tree: &Tree<'_>, branch: &Branch) -> Branch {
-    match branch.node {
-        Node::Grouped => tree.branch(branch.left),
-        _ => *branch,
-    }
-}
-
-// Whether a remainder by the same divisor stands near.
-fn has_remainder(tree: &Tree<'_>, quotient: &Branch, divisor: &Branch) -> bool {
-    let first = quotient.first.saturating_sub(NEAR);
-    for token in first..quotient.last.saturating_add(NEAR) {
-        let other = tree.made_by(token);
-        let is_remainder = other.node == Node::Binary(BinOp::Rem);
-        if is_remainder && are_alike(tree, &tree.branch(other.right), divisor) {
-            return true;
-        }
-    }
-    false
-}
-
 /// What is found of a quotient of two constants that is 0, or of a factor that is one and drops its fraction.
 pub(crate) fn divided(look: &Look<'_>, quotient: &Branch) -> Option<Remark> {
     let tree = look.tree;
@@ -138,18 +94,6 @@ fn is_factor(tree: &Tree<'_>, quotient: &Branch) -> bool {
     product.node == Node::Binary(BinOp::Mul)
         && left.node != Node::Constant
         && right.node != Node::Constant
-}
-
-/// What is found of a product of two constants that no word holds.
-pub(crate) fn too_large(look: &Look<'_>, branch: &Branch) -> Option<Remark> {
-    let tree = look.tree;
-    let one = constant_of(tree, &tree.branch(branch.left))?;
-    let other = constant_of(tree, &tree.branch(branch.right))?;
-    if one.saturating_mul(other) > LARGEST_WORD {
-        Remark::new(branch.token, Warning::ProductTooLarge)
-    } else {
-        None
-    }
 }
 
 /// What is found of a number that is below 0, where it is assigned to a word that is compared by its size.

@@ -7,8 +7,9 @@ ghost use Rattle.blint.specs.Warns.{IsDue, TellsOf, is_of_tokens};
 
 use crate::at_token::warning_at;
 use crate::cautions::Caution;
-use crate::tokens::{TokenPlace, Tokens};
+use crate::tokens::Tokens;
 use crate::warnings::Warning;
+use bmatch::TokenPlace;
 use brules::Rule;
 use bsources::SourceFiles;
 use std::alloc::{AllocError, Global};

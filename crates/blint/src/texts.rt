@@ -1,12 +1,10 @@
 //! Strings that get no end, comparisons of strings that are taken for an answer, and lines of which a rest is left.
-use crate::copies::has_name;
 use crate::counters::loop_around;
 use crate::linting::Look;
 use crate::locals::NameRole;
 use crate::remarks::Remark;
-use crate::tree::{Branch, Statement, Tree};
+use crate::tree::{Branch, Statement, Tree, has_name};
 use crate::warnings::{Slip, Warning};
-use blang::Keyword;
 use blex::Lexeme;
 use btree::Node;
 use bword::{BinOp, Name};
@@ -44,19 +42,6 @@ pub(crate) fn not_ended(look: &Look<'_>, call: &Branch) -> Option<Remark> {
         Warning::Slip(Slip::NotEnded),
         target.token,
     )
-}
-
-/// What is found of a 0 that is stored in a string as its end, as C has it.
-pub(crate) fn ended_by_zero(look: &Look<'_>, call: &Branch) -> Option<Remark> {
-    let tree = look.tree;
-    let given = tree.argument(call, 2);
-    let is_zero = given.node == Node::Constant
-        && tree.tokens.at(given.token) == Lexeme::Character(0);
-    if is_zero && tree.is_call_of(call, "lchar") {
-        Remark::new(given.token, Warning::Slip(Slip::ZeroEnd))
-    } else {
-        None
-    }
 }
 
 // Whether a character is one of another string.
@@ -112,21 +97,6 @@ fn has_argument(tree: &Tree<'_>, call: &Branch, name: &Name) -> bool {
         }
     }
     false
-}
-
-/// What is found of an `if` that asks for what `compare` gives, which is 0 for strings that are the same.
-pub(crate) fn compared_alone(look: &Look<'_>, tested: &Branch) -> Option<Remark> {
-    let tree = look.tree;
-    let condition = tree.branch(tested.left);
-    let is_if = tree.tokens.at(tested.token) == Lexeme::Keyword(Keyword::If);
-    if is_if && tree.is_call_of(&condition, "compare") && tree.arguments(&condition) == 2 {
-        Remark::new(
-            tree.branch(condition.left).token,
-            Warning::Slip(Slip::ComparedAlone),
-        )
-    } else {
-        None
-    }
 }
 
 /// What is found of a character that a loop up to the right one reads once in each turn, where the newline after it comes

@@ -4,17 +4,8 @@ ghost use Rattle.brules.specs.Telling.{lexeme_at};
 ghost use Rattle.blint.specs.AtToken.{are_joined, bytes_at, is_short};
 
 use blex::Lexeme;
+use bmatch::TokenPlace;
 use bword::Name;
-
-/// Where a token or a comment stands.
-#[derive(Clone, Copy)]
-pub struct TokenPlace {
-    pub line: u64,
-    /// The place of its first byte in the source, from 0.
-    pub start: usize,
-    /// How many bytes it has.
-    pub len: usize,
-}
 
 /// The tokens of a definition, which are counted from 0, and where each stands.
 #[derive(Clone, Copy)]

@@ -325,11 +325,6 @@ impl<'a> Tree<'a> {
         }
     }
 
-    /// Whether a branch is -1.
-    pub(crate) fn is_minus_one(&self, branch: &Branch) -> bool {
-        branch.node == Node::Negate && self.is_value(&self.branch(branch.left), 1)
-    }
-
     /// Whether a branch is the condition of a `while`.
     pub(crate) fn is_loop(&self, tested: &Branch) -> bool {
         tested.node == Node::Tested
@@ -399,4 +394,14 @@ fn acts(node: Node) -> bool {
             | Node::PreIncrement
             | Node::PreDecrement
     )
+}
+
+/// Whether an expression has a name.
+pub(crate) fn has_name(tree: &Tree<'_>, branch: &Branch, name: &bword::Name) -> bool {
+    for token in branch.first..=branch.last {
+        if tree.tokens.name(token) == Some(*name) {
+            return true;
+        }
+    }
+    false
 }

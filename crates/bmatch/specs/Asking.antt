@@ -1,20 +1,23 @@
 -- Promise: what tests of holes and of tokens say.
-use Rattle.std.specs.Prelude.{ℕ, ◌+◌, ◌-◌, ◌==◌, ◌&&◌, ◌||◌, Bool, true, false, not, if◌then◌else◌, nat_le, nat_lt}
+use Rattle.std.specs.Prelude.{ℕ, ◌+◌, ◌-◌, ◌*◌, ◌==◌, ◌&&◌, ◌||◌, Bool, true, false, not, if◌then◌else◌, nat_le, nat_lt}
 use Rattle.std.specs.Prelude.{List, [], ◌∷◌, drop, length, Option, None, Some, slice_get, take, unwrap_or}
 use Rattle.std.specs.List.{list_any, take_while}
 use Rattle.blex.specs.declared.lexeme.Lexeme.{Lexeme}
 use Rattle.blex.specs.declared.lexeme.Lexeme.TheVariants as lexeme
 use Rattle.bmatch.specs.declared.binds.Binds.{Binds}
+use Rattle.bmatch.specs.declared.conditions.Measure.{Measure}
+use Rattle.bmatch.specs.declared.conditions.Measure.TheVariants as measure
 use Rattle.bmatch.specs.declared.conditions.Relation.{Relation}
 use Rattle.bmatch.specs.declared.conditions.Relation.TheVariants as relation
 use Rattle.bmatch.specs.declared.conditions.Test.{Test}
 use Rattle.bmatch.specs.declared.conditions.Test.TheVariants as test
 use Rattle.bmatch.specs.declared.holds.Site.{Site}
 use Rattle.bmatch.specs.declared.pattern.TheConstants.{ROOT}
+use Rattle.bmatch.specs.declared.pattern.Word.{Word}
 use Rattle.bmatch.specs.declared.tree.TokenPlace.{TokenPlace}
 use Rattle.bmatch.specs.declared.tree.Tree.{Tree}
 use Rattle.bmatch.specs.Binds.{hole_of}
-use Rattle.bmatch.specs.Fits.{is_constant}
+use Rattle.bmatch.specs.Fits.{is_constant, is_word}
 use Rattle.bmatch.specs.Same.{constant_in, is_same_lexeme}
 use Rattle.bmatch.specs.Trees.{branch_at, lexeme_at, operator_number}
 
@@ -40,13 +43,17 @@ compares relation.AtMost m n = nat_le m n
 compares relation.Greater m n = nat_lt n m
 compares relation.AtLeast m n = nat_le n m
 
-abbrev pub compares_some : Option ℕ → Relation → (other : ℕ) → Bool
-compares_some None r n = false
-compares_some (Some m) r n = compares r m n
+abbrev pub compares_both : (one : Option ℕ) → Relation → (other : Option ℕ) → Bool
+compares_both (Some m) r (Some n) = compares r m n
+compares_both _ r other = false
 
-abbrev pub has_value : Tree → Option ℕ → Relation → (value : ℕ) → Bool
-has_value tree None r n = false
-has_value tree (Some index) r n = compares_some (value_at tree index) r n
+abbrev pub value_in : Tree → Option ℕ → Option ℕ
+value_in tree None = None
+value_in tree (Some index) = value_at tree index
+
+abbrev pub product_of : (one other : Option ℕ) → Option ℕ
+product_of (Some m) (Some n) = Some (m * n)
+product_of _ other = None
 
 abbrev pub place_at : Tree → (token : ℕ) → Option TokenPlace
 place_at tree token = slice_get tree.places.now token
@@ -59,9 +66,17 @@ length_at (Some p) = p.len
 abbrev pub bytes_of : Tree → (index : ℕ) → ℕ
 bytes_of tree index = length_at (place_at tree (branch_at tree.rows.now index).first)
 
-abbrev pub has_bytes : Tree → Option ℕ → Relation → (count : ℕ) → Bool
-has_bytes tree None r n = false
-has_bytes tree (Some index) r n = compares r (bytes_of tree index) n
+abbrev pub bytes_in : Tree → Option ℕ → Option ℕ
+bytes_in tree None = None
+bytes_in tree (Some index) = Some (bytes_of tree index)
+
+-- a number that a rule compares, if it is there
+abbrev pub measure_of : Tree → Measure → Binds → Option ℕ
+measure_of tree (measure.Number n) b = Some n
+measure_of tree (measure.Value hole) b = value_in tree (hole_of b hole)
+measure_of tree (measure.Product one other) b =
+    product_of (value_in tree (hole_of b one)) (value_in tree (hole_of b other))
+measure_of tree (measure.Bytes hole) b = bytes_in tree (hole_of b hole)
 
 abbrev pub bytes_at : (source : List ℕ) → Option TokenPlace → List ℕ
 bytes_at source None = []
@@ -80,6 +95,10 @@ abbrev pub has_backslash : Tree → Option ℕ → Bool
 has_backslash tree None = false
 has_backslash tree (Some index) =
     has_c_escape 0 (bytes_at tree.text.now (place_at tree (branch_at tree.rows.now index).first))
+
+abbrev pub begins_with : Tree → Option ℕ → Word → Bool
+begins_with tree None w = false
+begins_with tree (Some index) w = is_word w (lexeme_at tree.lexemes.now (branch_at tree.rows.now index).first)
 
 -- the second place is directly after the first
 abbrev pub are_joined : (first second : Option TokenPlace) → Bool
@@ -135,9 +154,9 @@ within_tokens tree token = nat_lt token (length tree.lexemes.now)
 
 abbrev pub passes_test : Site → Test → Binds → Bool
 passes_test s (test.Quiet hole) b = is_quiet s.sight.tree (hole_of b hole)
-passes_test s (test.Value hole r n) b = has_value s.sight.tree (hole_of b hole) r n
-passes_test s (test.Bytes hole r n) b = has_bytes s.sight.tree (hole_of b hole) r n
+passes_test s (test.Compares m r n) b = compares_both (measure_of s.sight.tree m b) r (measure_of s.sight.tree n b)
 passes_test s (test.Backslash hole) b = has_backslash s.sight.tree (hole_of b hole)
+passes_test s (test.Begins hole w) b = begins_with s.sight.tree (hole_of b hole) w
 passes_test s test.Joined b =
     let token = told_token s.sight.tree b in
     within_tokens s.sight.tree token && are_joined (place_at s.sight.tree token) (place_at s.sight.tree (token + 1))

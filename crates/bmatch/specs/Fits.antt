@@ -26,6 +26,7 @@ use Rattle.bmatch.specs.declared.tree.Kind.{Kind}
 use Rattle.bmatch.specs.declared.tree.Kind.TheVariants as kind
 use Rattle.bmatch.specs.declared.tree.Tree.{Tree}
 use Rattle.bmatch.specs.Binds.{hole_of, with_hole, with_told}
+use Rattle.bmatch.specs.Changes.{is_change}
 use Rattle.bmatch.specs.Same.{is_same, is_same_lexeme}
 use Rattle.bmatch.specs.Trees.{branch_at, kind_number, lexeme_at}
 
@@ -105,6 +106,8 @@ abbrev pub is_word : Word → Lexeme → Bool
 is_word word.Nothing lexeme.Semicolon = true
 is_word word.Return (lexeme.Keyword keyword.Return) = true
 is_word word.Break (lexeme.Keyword keyword.Break) = true
+is_word word.Auto (lexeme.Keyword keyword.Auto) = true
+is_word word.Extrn (lexeme.Keyword keyword.Extrn) = true
 is_word w l = false
 
 -- the branch is a statement that is this word and a ;
@@ -113,10 +116,15 @@ is_word_alone tree index w =
     let b = branch_at tree.rows.now index in
     is_plain b.kind && (b.begin == index && is_word w (lexeme_at tree.lexemes.now b.token))
 
+abbrev pub changes_hole : Tree → (name : Option ℕ) → (index : ℕ) → Bool
+changes_hole tree None index = false
+changes_hole tree (Some name) index = is_change tree name index
+
 abbrev pub leaf_binds : Tree → Leaf → (index : ℕ) → Binds → Option Binds
 leaf_binds tree (leaf.Name x) index b = if is_name_of tree (branch_at tree.rows.now index) x then Some b else None
 leaf_binds tree (leaf.Value n) index b = if is_value_of tree (branch_at tree.rows.now index) n then Some b else None
 leaf_binds tree (leaf.Word w) index b = if is_word_alone tree index w then Some b else None
+leaf_binds tree (leaf.Change hole) index b = if changes_hole tree (hole_of b hole) index then Some b else None
 leaf_binds tree (leaf.Hole hole sort) index b =
     if is_sort tree (branch_at tree.rows.now index) sort then with_same tree b hole index else None
 

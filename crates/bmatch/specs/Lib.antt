@@ -1,5 +1,6 @@
 pub mod Asking
 pub mod Binds
+pub mod Changes
 pub mod Fits
 pub mod Growing
 pub mod Holds

@@ -1,13 +1,13 @@
 -- Closed facts: kinds, the branches of a small program, and what fits there.
-use Rattle.std.specs.Prelude.{◌≡◌, ℕ, ◌-◌, codes, true, false, Bool, List, [], ◌∷◌, ◌++◌, None, Option, Some, map, refl}
+use Rattle.std.specs.Prelude.{◌≡◌, ℕ, ◌-◌, ◌==◌, codes, true, false, Bool, List, [], ◌∷◌, ◌++◌, None, Option, Some, map, refl}
 use Rattle.std.specs.Prelude.{Box, length, replicate}
 use Rattle.std.specs.declared.alloc.Global.{Global}
 use Rattle.std.specs.List.{flat_map, range_with_len}
 use Rattle.bword.specs.declared.operators.BinOp.{BinOp}
 use Rattle.bword.specs.declared.operators.BinOp.TheVariants as op
 use Rattle.blang.specs.declared.token.Keyword.TheVariants as keyword
-use Rattle.blang.specs.Trees.{Another, Arguments, Assigned, Binary, Called, Compound, Definition, Evaluate, Expr}
-use Rattle.blang.specs.Trees.{Function, Grouped, Identifier, Literal, More, Named, No_arguments, Nothing, Number, Stmt}
+use Rattle.blang.specs.Trees.{Another, Assigned, Binary, Called, Compound, Definition, Evaluate, Expr}
+use Rattle.blang.specs.Trees.{Function, Grouped, Identifier, Literal, More, Named, No_arguments, Nothing, Number}
 use Rattle.blang.specs.Trees.{While}
 use Rattle.blex.specs.declared.lexeme.Lexeme.TheVariants as lexeme
 use Rattle.btree.specs.declared.nodes.Node.{Node}
@@ -15,6 +15,7 @@ use Rattle.btree.specs.declared.nodes.Node.TheVariants as node
 use Rattle.btree.specs.declared.tags.Construct.{Construct}
 use Rattle.btree.specs.declared.tags.Construct.TheVariants as construct
 use Rattle.bmatch.specs.declared.binds.Binds.{Binds}
+use Rattle.bmatch.specs.declared.conditions.Measure.TheVariants as measure
 use Rattle.bmatch.specs.declared.conditions.Relation.TheVariants as relation
 use Rattle.bmatch.specs.declared.conditions.Scope.{Scope}
 use Rattle.bmatch.specs.declared.conditions.Scope.TheVariants as scope
@@ -23,24 +24,27 @@ use Rattle.bmatch.specs.declared.conditions.Test.TheVariants as test
 use Rattle.bmatch.specs.declared.fits.Sight.{Sight}
 use Rattle.bmatch.specs.declared.fits.TheConstants.{MOST_PASSED}
 use Rattle.bmatch.specs.declared.holds.Site.{Site}
-use Rattle.bmatch.specs.declared.noticing.TheConstants.{MOST_BRANCHES}
+use Rattle.bmatch.specs.declared.noticing.TheConstants.{MOST_BRANCHES, MOST_IN_ALL}
 use Rattle.bmatch.specs.declared.pattern.Leaf.TheVariants as leaf
 use Rattle.bmatch.specs.declared.pattern.Pattern.{Pattern}
 use Rattle.bmatch.specs.declared.pattern.Pattern.TheVariants as pattern
 use Rattle.bmatch.specs.declared.pattern.Sort.{Sort}
 use Rattle.bmatch.specs.declared.pattern.Sort.TheVariants as sort
-use Rattle.bmatch.specs.declared.pattern.TheConstants.{MOST_HOLES, ROOT}
+use Rattle.bmatch.specs.declared.pattern.TheConstants.{MOST_HOLES, NO_HOLE, ROOT}
 use Rattle.bmatch.specs.declared.pattern.Word.TheVariants as word
 use Rattle.bmatch.specs.declared.tree.Branch.{Branch}
 use Rattle.bmatch.specs.declared.tree.Kind.{Kind}
 use Rattle.bmatch.specs.declared.tree.Kind.TheVariants as kind
 use Rattle.bmatch.specs.declared.tree.TokenPlace.{TokenPlace}
 use Rattle.bmatch.specs.declared.tree.Tree.{Tree}
-use Rattle.bmatch.specs.Asking.{are_joined, compares, follows, has_c_escape, passes_test}
+use Rattle.bmatch.specs.Asking.{are_joined, begins_with, compares, compares_both, follows, has_c_escape, measure_of}
+use Rattle.bmatch.specs.Asking.{passes_test, product_of}
 use Rattle.bmatch.specs.Binds.{hole_of, nothing_bound, with_hole, with_told}
+use Rattle.bmatch.specs.Changes.{change_before, changed_by}
 use Rattle.bmatch.specs.Fits.{ends_of, is_word, span_of}
 use Rattle.bmatch.specs.Growing.{lexemes_of, program_rows}
-use Rattle.bmatch.specs.Holds.{fits_at, is_within, scope_span, some_in}
+use Rattle.bmatch.specs.Holds.{fits_at, is_within, loop_around, scope_span}
+use Rattle.bmatch.specs.Notices.{first_token}
 use Rattle.bmatch.specs.Same.{is_same}
 use Rattle.bmatch.specs.Trees.{kind_number}
 
@@ -212,8 +216,37 @@ scopes : map in_scope (scope.Before ∷ scope.After ∷ scope.Around ∷ scope.H
     ≡ (0 ∷ 1 ∷ []) ∷ range_with_len 13 7 ∷ (20 ∷ 21 ∷ []) ∷ range_with_len 2 11 ∷ (12 ∷ []) ∷ [] ∷ []
 scopes = refl
 
-whole_function : in_scope scope.Function ≡ range_with_len 0 22
+whole_function : map in_scope (scope.Function ∷ scope.Program ∷ scope.Loop ∷ []) ≡ replicate 2 (range_with_len 0 22) ++ [] ∷ []
 whole_function = refl
+
+-- the loop around the call, its condition and itself: in it, in it, and none
+loops : map (loop_around site) (9 ∷ 2 ∷ 12 ∷ 17 ∷ []) ≡ Some 12 ∷ Some 12 ∷ None ∷ None ∷ []
+loops = refl
+
+-- what each branch of small changes: x in x = x + 1 alone
+changed : map (changed_by rows) (range_with_len 0 22) ≡ replicate 17 None ++ Some 13 ∷ replicate 4 None
+changed = refl
+
+abbrev leaf_row : Kind → (begin : ℕ) → (core : ℕ) → Branch
+leaf_row k begin core =
+    record { kind = k; token = 0; first = 0; last = 0; begin = begin; core = core; acts = false; loops = 0 }
+
+-- x, (x), y, and a change of what stands before it: (x) =+ y, and (x) counted in each way; -(x) changes nothing
+changes : map (λ (k : Kind). changed_by (leaf_row (kind.Node node.Name) 0 0 ∷ leaf_row (kind.Node node.Grouped) 0 0
+    ∷ leaf_row k 0 2 ∷ []) 2) (map kind.Node (node.PostIncrement ∷ node.PostDecrement ∷ node.PreIncrement
+    ∷ node.PreDecrement ∷ node.Negate ∷ node.Assigned None ∷ []))
+    ≡ replicate 4 (Some 0) ++ None ∷ Some 0 ∷ []
+changes = refl
+
+assigned_changes : map (λ (o : Option BinOp). changed_by (leaf_row (kind.Node node.Name) 0 0
+    ∷ leaf_row (kind.Node node.Grouped) 0 0 ∷ leaf_row (kind.Node node.Name) 2 2
+    ∷ leaf_row (kind.Node (node.Assigned o)) 0 3 ∷ []) 3) (None ∷ map Some operators) ≡ replicate 16 (Some 0)
+assigned_changes = refl
+
+-- the last change of x before the end, before itself, and before the loop; of f there is none
+changes_before : (change_before site 14 22 ∷ change_before site 14 18 ∷ change_before site 14 17 ∷ change_before site 14 2
+    ∷ change_before site 0 22 ∷ []) ≡ Some 17 ∷ Some 17 ∷ None ∷ None ∷ None ∷ []
+changes_before = refl
 
 -- each relation, below, at and above a number, and at the edges of a word
 relations : map (λ r. map (λ n. compares r n 4) (0 ∷ 3 ∷ 4 ∷ 5 ∷ 65535 ∷ []))
@@ -223,12 +256,33 @@ relations : map (λ r. map (λ n. compares r n 4) (0 ∷ 3 ∷ 4 ∷ 5 ∷ 65535
     ∷ (false ∷ false ∷ false ∷ true ∷ true ∷ []) ∷ (false ∷ false ∷ true ∷ true ∷ true ∷ []) ∷ []
 relations = refl
 
+-- what is compared: a number, the values 1 and 1, their product, of x no value, and no bytes of an unbound hole
+measures : map (λ m. measure_of tree m (with_hole (with_hole nothing_bound 0 15) 1 8)) (measure.Number 0
+    ∷ measure.Number 65535 ∷ measure.Value 0 ∷ measure.Product 0 1 ∷ measure.Product 0 2 ∷ measure.Bytes 2
+    ∷ measure.Bytes 0 ∷ []) ≡ Some 0 ∷ Some 65535 ∷ Some 1 ∷ Some 1 ∷ None ∷ None ∷ Some 0 ∷ []
+measures = refl
+
+products : map (product_of (Some 300)) (Some 300 ∷ Some 0 ∷ Some 65535 ∷ None ∷ []) ≡ Some 90000 ∷ Some 0 ∷ Some 19660500 ∷ None ∷ []
+products = refl
+
+-- where one of both isn't there, nothing is so
+compared_both : map (λ r. compares_both (Some 4) r (Some 4) ∷ compares_both None r (Some 4) ∷ compares_both (Some 4) r None
+    ∷ compares_both None r None ∷ []) (relation.Equal ∷ relation.Unequal ∷ relation.AtMost ∷ [])
+    ≡ (true ∷ replicate 3 false) ∷ replicate 4 false ∷ (true ∷ replicate 3 false) ∷ []
+compared_both = refl
+
+-- the names and the second place of a notice
+noticed : map (λ (n : ℕ). first_token tree (hole_of (with_hole nothing_bound 0 9) n)) (0 ∷ 1 ∷ NO_HOLE ∷ [])
+    ≡ Some 9 ∷ None ∷ None ∷ []
+noticed = refl
+
 abbrev passed : Test → (index : ℕ) → Bool
 passed t index = passes_test site t (with_told (rooted index) true 15)
 
 -- of x + 1, 1, the call and the name f: nothing acts; a constant; the function's own name; a parameter
 tested : map (λ t. map (passed t) (16 ∷ 15 ∷ 9 ∷ 4 ∷ 14 ∷ []))
-    (test.Quiet 0 ∷ test.Value 0 relation.Equal 1 ∷ test.Value 0 relation.Less 1 ∷ test.OwnName 0 ∷ test.Parameter 0
+    (test.Quiet 0 ∷ test.Compares (measure.Value 0) relation.Equal (measure.Number 1)
+    ∷ test.Compares (measure.Value 0) relation.Less (measure.Number 1) ∷ test.OwnName 0 ∷ test.Parameter 0
     ∷ test.Quiet 3 ∷ test.Parameter 3 ∷ [])
     ≡ (true ∷ true ∷ false ∷ true ∷ true ∷ []) ∷ (false ∷ true ∷ false ∷ false ∷ false ∷ []) ∷ replicate 5 false
     ∷ (false ∷ false ∷ false ∷ true ∷ false ∷ []) ∷ (false ∷ false ∷ false ∷ false ∷ true ∷ []) ∷ replicate 5 false
@@ -247,9 +301,15 @@ signs : map (λ l. map (follows l) (lexeme.OpenBrace ∷ lexeme.CloseBrace ∷ l
 signs = refl
 
 words : map (λ w. map (is_word w) (lexeme.Semicolon ∷ lexeme.Keyword keyword.Return ∷ lexeme.Keyword keyword.Break
-    ∷ lexeme.Keyword keyword.Goto ∷ lexeme.End ∷ [])) (word.Nothing ∷ word.Return ∷ word.Break ∷ [])
-    ≡ (true ∷ replicate 4 false) ∷ (false ∷ true ∷ replicate 3 false) ∷ (false ∷ false ∷ true ∷ replicate 2 false) ∷ []
+    ∷ lexeme.Keyword keyword.Auto ∷ lexeme.Keyword keyword.Extrn ∷ lexeme.Keyword keyword.Goto ∷ lexeme.End ∷ []))
+    (word.Nothing ∷ word.Return ∷ word.Break ∷ word.Auto ∷ word.Extrn ∷ [])
+    ≡ map (λ n. map (λ m. m == n) (range_with_len 0 7)) (range_with_len 0 5)
 words = refl
+
+-- the loop begins with while, its body and small with a name; an unbound hole with nothing
+begun : map (λ i. map (begins_with tree i) (word.Nothing ∷ word.Return ∷ word.Auto ∷ [])) (Some 12 ∷ Some 21 ∷ None ∷ [])
+    ≡ replicate 3 (replicate 3 false)
+begun = refl
 
 abbrev place : (start len : ℕ) → TokenPlace
 place start len = record { line = 1; start = start; len = len }
@@ -269,5 +329,5 @@ escapes = refl
 holes : map (hole_of (with_hole (with_hole nothing_bound 15 7) 16 8)) (0 ∷ 14 ∷ 15 ∷ 16 ∷ []) ≡ None ∷ None ∷ Some 7 ∷ None ∷ []
 holes = refl
 
-limits : MOST_HOLES ∷ ROOT ∷ MOST_PASSED ∷ MOST_BRANCHES ∷ [] ≡ 16 ∷ 15 ∷ 1000 ∷ 32768 ∷ []
+limits : MOST_HOLES ∷ NO_HOLE ∷ ROOT ∷ MOST_PASSED ∷ MOST_BRANCHES ∷ MOST_IN_ALL ∷ [] ≡ 16 ∷ 16 ∷ 15 ∷ 1000 ∷ 4096 ∷ 32768 ∷ []
 limits = refl

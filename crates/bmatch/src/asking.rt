@@ -2,15 +2,16 @@
 ghost use Rattle.std.specs.List.{list_any, take_while};
 ghost use Rattle.std.specs.Prelude.{◌≡◌};
 ghost use Rattle.bmatch.specs.Asking.{after, are_joined, bytes_at, bytes_of, compares, follows, has_backslash};
-ghost use Rattle.bmatch.specs.Asking.{has_bytes, has_c_escape, has_value, is_c_escape, is_no_close, is_operator};
+ghost use Rattle.bmatch.specs.Asking.{compares_both, has_c_escape, is_c_escape, is_no_close, is_operator};
 ghost use Rattle.bmatch.specs.Asking.{is_own_name, is_parameter, is_quiet, passes_test, place_at, sign_number};
-ghost use Rattle.bmatch.specs.Asking.{told_token, value_at};
+ghost use Rattle.bmatch.specs.Asking.{begins_with, bytes_in, measure_of, product_of, told_token, value_at, value_in};
 ghost use Rattle.bmatch.specs.Same.{is_same_lexeme};
 
 use crate::binds::Binds;
-use crate::conditions::{Relation, Test};
+use crate::conditions::{Measure, Relation, Test};
+use crate::fits::is_word;
 use crate::holds::Site;
-use crate::pattern::ROOT;
+use crate::pattern::{ROOT, Word};
 use crate::same::{constant_in, is_same_lexeme};
 use crate::tree::{Kind, TokenPlace, Tree, branch_at, lexeme_at, operator_number};
 use blex::Lexeme;
@@ -24,9 +25,13 @@ pub(crate) fn passes_test(site: &Site<'_>, test: Test, binds: &Binds) -> bool
     let token = told_token(tree, binds);
     match test {
         Test::Quiet(hole) => is_quiet(tree, binds.of(hole)),
-        Test::Value(hole, relation, value) => has_value(tree, binds.of(hole), relation, value),
-        Test::Bytes(hole, relation, count) => has_bytes(tree, binds.of(hole), relation, count),
+        Test::Compares(one, relation, other) => compares_both(
+            measure_of(tree, one, binds),
+            relation,
+            measure_of(tree, other, binds),
+        ),
         Test::Backslash(hole) => has_backslash(tree, binds.of(hole)),
+        Test::Begins(hole, word) => begins_with(tree, binds.of(hole), word),
         Test::Joined => token < tree.lexemes.len()
             && are_joined(place_at(tree, token), place_at(tree, token + 1)),
         Test::Followed(lexeme) => {
@@ -57,15 +62,54 @@ fn is_quiet(tree: &Tree<'_>, index: Option<usize>) -> bool
     }
 }
 
-fn has_value(tree: &Tree<'_>, index: Option<usize>, relation: Relation, value: u16) -> bool
-    ensures { result ≡ has_value tree.now index relation value }
+// A number that a rule compares, if it is there.
+fn measure_of(tree: &Tree<'_>, measure: Measure, binds: &Binds) -> Option<u64>
+    ensures { result ≡ measure_of tree.now measure binds.now }
+{
+    match measure {
+        Measure::Number(number) => Some(u64::from(number)),
+        Measure::Value(hole) => wide(value_in(tree, binds.of(hole))),
+        Measure::Product(one, other) => product_of(
+            value_in(tree, binds.of(one)),
+            value_in(tree, binds.of(other)),
+        ),
+        Measure::Bytes(hole) => bytes_in(tree, binds.of(hole)),
+    }
+}
+
+fn product_of(one: Option<u16>, other: Option<u16>) -> Option<u64>
+    ensures { result ≡ product_of one other }
+{
+    match (one, other) {
+        (Some(one), Some(other)) => Some(u64::from(one) * u64::from(other)),
+        _ => None,
+    }
+}
+
+fn wide(value: Option<u16>) -> Option<u64>
+    ensures { result ≡ value }
+{
+    match value {
+        Some(value) => Some(u64::from(value)),
+        None => None,
+    }
+}
+
+fn value_in(tree: &Tree<'_>, index: Option<usize>) -> Option<u16>
+    ensures { result ≡ value_in tree.now index }
 {
     match index {
-        Some(index) => match value_at(tree, index) {
-            Some(found) => compares(relation, u64::from(found), u64::from(value)),
-            None => false,
-        },
-        None => false,
+        Some(index) => value_at(tree, index),
+        None => None,
+    }
+}
+
+fn bytes_in(tree: &Tree<'_>, index: Option<usize>) -> Option<u64>
+    ensures { result ≡ bytes_in tree.now index }
+{
+    match index {
+        Some(index) => Some(bytes_of(tree, index) as u64),
+        None => None,
     }
 }
 
@@ -80,6 +124,15 @@ fn value_at(tree: &Tree<'_>, index: usize) -> Option<u16>
     }
 }
 
+fn compares_both(one: Option<u64>, relation: Relation, other: Option<u64>) -> bool
+    ensures { result ≡ compares_both one relation other }
+{
+    match (one, other) {
+        (Some(one), Some(other)) => compares(relation, one, other),
+        _ => false,
+    }
+}
+
 fn compares(relation: Relation, one: u64, other: u64) -> bool
     ensures { result ≡ compares relation one other }
 {
@@ -90,15 +143,6 @@ fn compares(relation: Relation, one: u64, other: u64) -> bool
         Relation::AtMost => one <= other,
         Relation::Greater => other < one,
         Relation::AtLeast => other <= one,
-    }
-}
-
-fn has_bytes(tree: &Tree<'_>, index: Option<usize>, relation: Relation, count: usize) -> bool
-    ensures { result ≡ has_bytes tree.now index relation count }
-{
-    match index {
-        Some(index) => compares(relation, bytes_of(tree, index) as u64, count as u64),
-        None => false,
     }
 }
 
@@ -120,6 +164,18 @@ fn has_backslash(tree: &Tree<'_>, index: Option<usize>) -> bool
             let place = place_at(tree, branch_at(tree.rows, index).first);
             has_c_escape(bytes_at(tree.text, place))
         }
+        None => false,
+    }
+}
+
+fn begins_with(tree: &Tree<'_>, index: Option<usize>, word: Word) -> bool
+    ensures { result ≡ begins_with tree.now index word }
+{
+    match index {
+        Some(index) => is_word(
+            word,
+            &lexeme_at(tree.lexemes, branch_at(tree.rows, index).first),
+        ),
         None => false,
     }
 }

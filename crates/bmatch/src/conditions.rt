@@ -1,5 +1,5 @@
 //! What else is asked of what a pattern fits.
-use crate::pattern::Pattern;
+use crate::pattern::{Pattern, Word};
 use blex::Lexeme;
 
 /// What has to hold. It may bind holes that stand for nothing yet.
@@ -15,8 +15,10 @@ pub enum Condition {
     Not(Box<Condition>),
     /// What a hole stands for fits a pattern.
     Is(u8, Pattern),
-    /// Some branch in a scope fits a pattern.
-    Some(Scope, Pattern),
+    /// Some branch in a scope fits a pattern. A hole stands for that branch; `NO_HOLE` is none.
+    Some(Scope, u8, Pattern),
+    /// What changes the name of a hole last, before what was found, fits a pattern.
+    Begun(u8, Pattern),
     /// A test of the holes and of the tokens.
     Test(Test),
 }
@@ -24,8 +26,12 @@ pub enum Condition {
 /// Where branches are sought.
 #[derive(Clone, Copy)]
 pub enum Scope {
+    /// In the whole source.
+    Program,
     /// In the function around.
     Function,
+    /// In the innermost loop around what was found.
+    Loop,
     /// In the function, before what was found, or after it.
     Before,
     After,
@@ -47,17 +53,29 @@ pub enum Relation {
     AtLeast,
 }
 
+/// A number that a rule compares.
+#[derive(Clone, Copy)]
+pub enum Measure {
+    Number(u16),
+    /// The value of a hole that is a constant.
+    Value(u8),
+    /// The product of two such values.
+    Product(u8, u8),
+    /// How many bytes of the source a hole's first token has, with its quotes.
+    Bytes(u8),
+}
+
 /// A test of the holes and of the tokens.
 #[derive(Clone, Copy)]
 pub enum Test {
     /// Nothing is called or changed in it.
     Quiet(u8),
-    /// It is a constant, which compares so with a number.
-    Value(u8, Relation, u16),
-    /// So many bytes of the source, with its quotes.
-    Bytes(u8, Relation, usize),
+    /// Two numbers compare so, where both are there.
+    Compares(Measure, Relation, Measure),
     /// It has a backslash and then n, t, r, 0 or a backslash.
     Backslash(u8),
+    /// Its first token is this word.
+    Begins(u8, Word),
     /// The token that is told stands directly before the next one.
     Joined,
     /// This token comes after the one that is told.

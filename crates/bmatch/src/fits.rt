@@ -1,15 +1,16 @@
 //! Whether a row of patterns fits a row of branches.
 ghost use Rattle.std.specs.List.{flat_map};
 ghost use Rattle.std.specs.Prelude.{◌≡◌, ◌++◌, IfOk};
-ghost use Rattle.bmatch.specs.Fits.{ends_of, fits_in, inner_of, is_grouped, is_name_of, is_number, is_sort, is_word};
+ghost use Rattle.bmatch.specs.Fits.{changes_hole, ends_of, fits_in, inner_of, is_grouped, is_name_of, is_number, is_sort, is_word};
 ghost use Rattle.bmatch.specs.Fits.{is_word_alone};
 ghost use Rattle.bmatch.specs.Fits.{is_value_of, leaf_binds, left_of, seen_at, start_of, with_leaf, with_same};
 ghost use Rattle.bmatch.specs.Trees.{branch_at};
 
 use crate::binds::Binds;
+use crate::changes::is_change;
 use crate::pattern::{Leaf, Pattern, Sort, Word};
 use crate::same::{is_same, is_same_lexeme};
-use crate::tree::{Branch, Kind, Tree, branch_at, kind_number, lexeme_at};
+use crate::tree::{Branch, Kind, Tree, branch_at, core_at, kind_number, lexeme_at};
 use blang::Keyword;
 use blex::Lexeme;
 use btree::{Construct, Node};
@@ -142,6 +143,7 @@ fn leaf_binds(tree: &Tree<'_>, leaf: Leaf, index: usize, binds: Binds) -> Option
         Leaf::Name(name) if is_name_of(tree, branch, name) => Some(binds),
         Leaf::Value(value) if is_value_of(tree, branch, value) => Some(binds),
         Leaf::Word(word) if is_word_alone(tree, index, word) => Some(binds),
+        Leaf::Change(hole) if changes_hole(tree, binds.of(hole), index) => Some(binds),
         Leaf::Hole(hole, sort) if is_sort(tree, branch, sort) => with_same(
             tree, binds, hole, index,
         ),
@@ -196,19 +198,19 @@ fn before(sight: &Sight<'_>, span: Span) -> Span
     }
 }
 
-// The last branch of a row that ends here, or what stands in its parentheses.
-fn seen_at(sight: &Sight<'_>, is_grouped: bool, end: usize) -> usize
+/// The last branch of a row that ends here, or what stands in its parentheses.
+pub(crate) fn seen_at(sight: &Sight<'_>, is_grouped: bool, end: usize) -> usize
     ensures { result ≡ seen_at sight.now is_grouped end }
 {
     let index = end.saturating_sub(1);
     if sight.is_loose && !is_grouped {
-        branch_at(sight.tree.rows, index).core
+        core_at(sight.tree.rows, index)
     } else {
         index
     }
 }
 
-fn is_grouped(kind: Kind) -> bool
+pub(crate) fn is_grouped(kind: Kind) -> bool
     ensures { result ≡ is_grouped kind }
 {
     matches!(kind, Kind::Node(Node::Grouped))
@@ -237,6 +239,15 @@ fn is_value_of(tree: &Tree<'_>, branch: Branch, value: u16) -> bool
     }
 }
 
+fn changes_hole(tree: &Tree<'_>, name: Option<usize>, index: usize) -> bool
+    ensures { result ≡ changes_hole tree.now name index }
+{
+    match name {
+        Some(name) => is_change(tree, name, index),
+        None => false,
+    }
+}
+
 // Whether a branch is a statement that is this word and a `;`.
 fn is_word_alone(tree: &Tree<'_>, index: usize, word: Word) -> bool
     ensures { result ≡ is_word_alone tree.now index word }
@@ -246,13 +257,15 @@ fn is_word_alone(tree: &Tree<'_>, index: usize, word: Word) -> bool
         && (branch.begin == index && is_word(word, &lexeme_at(tree.lexemes, branch.token)))
 }
 
-fn is_word(word: Word, lexeme: &Lexeme) -> bool
+pub(crate) fn is_word(word: Word, lexeme: &Lexeme) -> bool
     ensures { result ≡ is_word word lexeme.now }
 {
     match word {
         Word::Nothing => matches!(*lexeme, Lexeme::Semicolon),
         Word::Return => matches!(*lexeme, Lexeme::Keyword(Keyword::Return)),
         Word::Break => matches!(*lexeme, Lexeme::Keyword(Keyword::Break)),
+        Word::Auto => matches!(*lexeme, Lexeme::Keyword(Keyword::Auto)),
+        Word::Extrn => matches!(*lexeme, Lexeme::Keyword(Keyword::Extrn)),
     }
 }
 

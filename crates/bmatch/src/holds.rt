@@ -1,14 +1,17 @@
 //! Whether what else is asked holds.
-ghost use Rattle.std.specs.List.{flat_map, range_with_len};
+ghost use Rattle.std.specs.List.{find, flat_map, range_with_len};
 ghost use Rattle.std.specs.Prelude.{◌≡◌, ◌-◌, ◌++◌, IfOk};
-ghost use Rattle.bmatch.specs.Holds.{fits_at, fits_hole, hole_span, holds_in, is_within, scope_span, some_at};
+ghost use Rattle.bmatch.specs.Holds.{begun_by, fits_at, fits_begun, fits_hole, hole_span, holds_in, is_loop_around};
+ghost use Rattle.bmatch.specs.Holds.{is_within, loop_around, root_of, scope_span, some_at};
 
 use crate::asking::passes_test;
 use crate::binds::Binds;
+use crate::changes::change_before;
 use crate::conditions::{Condition, Scope};
 use crate::fits::{Left, Sight, Span, fits};
 use crate::pattern::{Pattern, ROOT};
-use crate::tree::branch_at;
+use crate::tree::{Kind, branch_at};
+use btree::Construct;
 use std::alloc::{AllocError, Global};
 
 /// Where rules look: a tree, and the function in it.
@@ -16,6 +19,14 @@ use std::alloc::{AllocError, Global};
 pub struct Site<'a> {
     pub sight: Sight<'a>,
     pub function: Span,
+}
+
+/// What is sought: where, the hole that stands for it, and what it fits.
+#[derive(Clone, Copy)]
+pub(crate) struct Sought<'a> {
+    pub scope: Scope,
+    pub hole: u8,
+    pub pattern: &'a Pattern,
 }
 
 /// Adds to those found what holes stand for in each way in which a condition holds.
@@ -52,7 +63,15 @@ pub(crate) fn holds(
             Ok(())
         }
         Condition::Is(hole, pattern) => fits_hole(site, *hole, pattern, binds, found),
-        Condition::Some(scope, pattern) => fits_some(site, *scope, pattern, binds, found),
+        Condition::Some(scope, hole, pattern) => {
+            let sought = Sought {
+                scope: *scope,
+                hole: *hole,
+                pattern,
+            };
+            fits_some(site, &sought, binds, found)
+        }
+        Condition::Begun(hole, pattern) => fits_begun(site, *hole, pattern, binds, found),
         Condition::Test(test) => {
             if passes_test(site, *test, &binds) {
                 found.push(binds)?;
@@ -117,51 +136,104 @@ pub(crate) fn fits_at(
     fits(sight, pattern, span, &Left::Nothing, binds, found)
 }
 
-// Whether some branch of a scope fits a pattern.
-fn fits_some(
+// Whether what changes the name of a hole last, before what was found, fits a pattern.
+fn fits_begun(
     site: &Site<'_>,
-    scope: Scope,
+    hole: u8,
     pattern: &Pattern,
     binds: Binds,
     found: &mut Vec<Binds>,
 ) -> Result<(), AllocError>
-    ensures { IfOk result (λ done. found.new.items ≡ found.old.items
-        ++ flat_map (some_at site.now scope pattern.now binds)
-        (range_with_len (scope_span site.now scope binds).begin
-        ((scope_span site.now scope binds).end - (scope_span site.now scope binds).begin))) }
+    ensures { IfOk result (λ done.
+        found.new.items ≡ found.old.items ++ fits_begun site.now pattern.now hole binds) }
 {
-    let span = scope_span(site, scope, &binds);
+    match begun_by(site, hole, &binds) {
+        Some(index) => fits_at(&site.sight, pattern, index, binds, found),
+        None => Ok(()),
+    }
+}
+
+// What changes the name of a hole last, before what was found.
+fn begun_by(site: &Site<'_>, hole: u8, binds: &Binds) -> Option<usize>
+    ensures { result ≡ begun_by site.now hole binds.now }
+{
+    let end = branch_at(site.sight.tree.rows, root_of(binds)).begin;
+    match binds.of(hole) {
+        Some(name) => change_before(site, name, end),
+        None => None,
+    }
+}
+
+fn root_of(binds: &Binds) -> usize
+    ensures { result ≡ root_of binds.now }
+{
+    binds.of(ROOT).unwrap_or(0)
+}
+
+// Whether some branch of a scope fits a pattern.
+fn fits_some(
+    site: &Site<'_>,
+    sought: &Sought<'_>,
+    binds: Binds,
+    found: &mut Vec<Binds>,
+) -> Result<(), AllocError>
+    ensures { IfOk result (λ done. found.new.items ≡ found.old.items
+        ++ flat_map (some_at site.now sought.now binds)
+        (range_with_len (scope_span site.now sought.now.scope binds).begin
+        ((scope_span site.now sought.now.scope binds).end - (scope_span site.now sought.now.scope binds).begin))) }
+{
+    let span = scope_span(site, sought.scope, &binds);
     for index in span.begin..span.end {
-        some_at(site, scope, pattern, binds, index, found)?;
+        some_at(site, sought, binds, index, found)?;
     }
     Ok(())
 }
 
 fn some_at(
     site: &Site<'_>,
-    scope: Scope,
-    pattern: &Pattern,
+    sought: &Sought<'_>,
     binds: Binds,
     index: usize,
     found: &mut Vec<Binds>,
 ) -> Result<(), AllocError>
     ensures { IfOk result (λ done.
-        found.new.items ≡ found.old.items ++ some_at site.now scope pattern.now binds index) }
+        found.new.items ≡ found.old.items ++ some_at site.now sought.now binds index) }
 {
-    if is_within(site, scope, &binds, index) {
-        fits_at(&site.sight, pattern, index, binds, found)
+    if is_within(site, sought.scope, &binds, index) {
+        let binds = binds.with(sought.hole, index);
+        fits_at(&site.sight, sought.pattern, index, binds, found)
     } else {
         Ok(())
     }
+}
+
+// The innermost loop around what was found.
+fn loop_around(site: &Site<'_>, root: usize) -> Option<usize>
+    ensures { result ≡ loop_around site.now root }
+{
+    (root..site.function.end).find(|index| is_loop_around(site, root, *index))
+}
+
+fn is_loop_around(site: &Site<'_>, root: usize, index: usize) -> bool
+    ensures { result ≡ is_loop_around site.now root index }
+{
+    let branch = branch_at(site.sight.tree.rows, index);
+    matches!(branch.kind, Kind::Construct(Construct::While))
+        && (root < index && branch.begin <= root)
 }
 
 // From which branch up to which a scope goes.
 fn scope_span(site: &Site<'_>, scope: Scope, binds: &Binds) -> Span
     ensures { result ≡ scope_span site.now scope binds.now }
 {
-    let root = binds.of(ROOT).unwrap_or(0);
+    let root = root_of(binds);
     match scope {
+        Scope::Program => Span {
+            begin: 0,
+            end: site.sight.tree.rows.len(),
+        },
         Scope::Function => site.function,
+        Scope::Loop => hole_span(site, loop_around(site, root)),
         Scope::Before => Span {
             begin: site.function.begin,
             end: branch_at(site.sight.tree.rows, root).begin,
@@ -191,10 +263,10 @@ fn hole_span(site: &Site<'_>, index: Option<usize>) -> Span
 fn is_within(site: &Site<'_>, scope: Scope, binds: &Binds, index: usize) -> bool
     ensures { result ≡ is_within site.now scope binds.now index }
 {
-    let root = binds.of(ROOT).unwrap_or(0);
+    let root = root_of(binds);
     let branch = branch_at(site.sight.tree.rows, index);
     match scope {
-        Scope::Function | Scope::Before | Scope::Hole(_) => true,
+        Scope::Program | Scope::Function | Scope::Loop | Scope::Before | Scope::Hole(_) => true,
         Scope::After => root < branch.begin,
         Scope::Around => root < index && branch.begin <= root,
         Scope::Own(hole) => {

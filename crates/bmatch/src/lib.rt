@@ -3,6 +3,7 @@
 
 mod asking;
 mod binds;
+mod changes;
 mod conditions;
 mod fits;
 mod growing;
@@ -13,10 +14,10 @@ mod same;
 mod tree;
 
 pub use binds::Binds;
-pub use conditions::{Condition, Relation, Scope, Test};
+pub use conditions::{Condition, Measure, Relation, Scope, Test};
 pub use fits::{Sight, Span};
 pub use growing::grown;
 pub use holds::Site;
-pub use noticing::{MOST_BRANCHES, Notice, notices_of};
-pub use pattern::{Leaf, MOST_HOLES, Pattern, ROOT, Rule, Sort, Word};
+pub use noticing::{MOST_BRANCHES, MOST_IN_ALL, Notice, notices_of};
+pub use pattern::{Leaf, MOST_HOLES, NO_HOLE, Pattern, ROOT, Rule, Sort, Word};
 pub use tree::{Branch, Kind, TokenPlace, Tree, branch_at, lexeme_at};

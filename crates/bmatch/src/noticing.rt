@@ -1,25 +1,31 @@
 //! What rules tell of a source.
 ghost use Rattle.std.specs.Prelude.{◌≡◌, ◌+◌, ◌++◌, ◌<◌, ◌^◌, IfOk, map};
-ghost use Rattle.bmatch.specs.Notices.{function_notices, functions_at, functions_in, is_passed_over, notice_of};
-ghost use Rattle.bmatch.specs.Notices.{notices_by, pattern_notices, root_notices, rule_notices};
+ghost use Rattle.bmatch.specs.Notices.{first_token, function_notices, functions_at, functions_in, is_passed_over, notice_of};
+ghost use Rattle.bmatch.specs.Notices.{may_begin, notices_by, pattern_notices, root_notices, rule_notices};
 
 use crate::asking::told_token;
 use crate::binds::Binds;
-use crate::fits::{Sight, Span};
+use crate::fits::{Sight, Span, is_grouped, seen_at};
 use crate::holds::{Site, all_hold, fits_at};
 use crate::pattern::{Pattern, ROOT, Rule};
-use crate::tree::{Kind, Tree, branch_at};
+use crate::tree::{Kind, Tree, branch_at, kind_at, kind_number};
 use btree::Construct;
 use std::alloc::{AllocError, Global};
 
 /// The most branches of a function in which a rule looks around, so that no source makes that long.
-pub const MOST_BRANCHES: usize = 32_768;
+pub const MOST_BRANCHES: usize = 4_096;
+
+/// The most branches of a source in all of which a rule looks around.
+pub const MOST_IN_ALL: usize = 32_768;
 
 /// A rule that fits, by its number, and the token that is told.
 #[derive(Clone, Copy)]
 pub struct Notice {
     pub rule: usize,
     pub token: usize,
+    /// The token of the name of which it speaks, and that of a second place.
+    pub named: Option<usize>,
+    pub beside: Option<usize>,
 }
 
 /// Each place where a rule fits and its condition holds, in the order of the rules.
@@ -106,7 +112,7 @@ fn function_notices(
     ensures { IfOk result (λ done.
         found.new.items ≡ found.old.items ++ function_notices tree.now rule.now pattern.now function) }
 {
-    if is_passed_over(rule, function) {
+    if is_passed_over(tree, rule, function) {
         return Ok(());
     }
     for root in function.begin..function.end {
@@ -115,11 +121,12 @@ fn function_notices(
     Ok(())
 }
 
-// Whether a function is too long for a rule.
-fn is_passed_over(rule: &Rule, function: Span) -> bool
-    ensures { result ≡ is_passed_over rule.now function }
+// Whether a function or the whole source is too long for a rule.
+fn is_passed_over(tree: &Tree<'_>, rule: &Rule, function: Span) -> bool
+    ensures { result ≡ is_passed_over tree.now rule.now function }
 {
-    rule.looks_around && function.end.saturating_sub(function.begin) > MOST_BRANCHES
+    (rule.looks_around && function.end.saturating_sub(function.begin) > MOST_BRANCHES)
+        || (rule.looks_far && tree.rows.len() > MOST_IN_ALL)
 }
 
 fn root_notices(
@@ -131,6 +138,7 @@ fn root_notices(
     root: usize,
     found: &mut Vec<Notice>,
 ) -> Result<(), AllocError>
+    requires { root + 1 < 2 ^ 64 }
     ensures { IfOk result (λ done.
         found.new.items ≡ found.old.items ++ root_notices tree.now rule.now pattern.now function root) }
 {
@@ -138,6 +146,9 @@ fn root_notices(
         tree: *tree,
         is_loose: rule.is_loose,
     };
+    if !may_begin(&sight, pattern, root + 1) {
+        return Ok(());
+    }
     let mut ways = Vec::new(alloc);
     fits_at(
         &sight,
@@ -152,22 +163,49 @@ fn root_notices(
     let site = Site { sight, function };
     let mut held = Vec::new(alloc);
     all_hold(alloc, &site, &rule.condition, ways.as_slice(), &mut held)?;
-    tell(tree, rule.number, held.as_slice(), found)
+    tell(tree, rule, held.as_slice(), found)
+}
+
+// Whether a pattern may fit the last branch that ends here, by its head.
+fn may_begin(sight: &Sight<'_>, pattern: &Pattern, end: usize) -> bool
+    ensures { result ≡ may_begin sight.now pattern.now end }
+{
+    match pattern {
+        Pattern::Tree(kind, _, _, _) => {
+            let seen = seen_at(sight, is_grouped(*kind), end);
+            kind_number(*kind) == kind_number(kind_at(sight.tree.rows, seen))
+        }
+        Pattern::Either(one, other) => {
+            may_begin(sight, &**one, end) || may_begin(sight, &**other, end)
+        }
+        Pattern::Done | Pattern::Leaf(_, _, _) | Pattern::Dots(_) => true,
+    }
 }
 
 fn tell(
     tree: &Tree<'_>,
-    rule: usize,
+    rule: &Rule,
     held: &[Binds],
     found: &mut Vec<Notice>,
 ) -> Result<(), AllocError>
-    ensures { IfOk result (λ done. found.new.items ≡ found.old.items ++ map (notice_of tree.now rule) held.now) }
+    ensures { IfOk result (λ done. found.new.items ≡ found.old.items ++ map (notice_of tree.now rule.now) held.now) }
 {
     for binds in held {
         found.push(Notice {
-            rule,
+            rule: rule.number,
             token: told_token(tree, binds),
+            named: first_token(tree, binds.of(rule.named)),
+            beside: first_token(tree, binds.of(rule.beside)),
         })?;
     }
     Ok(())
+}
+
+fn first_token(tree: &Tree<'_>, index: Option<usize>) -> Option<usize>
+    ensures { result ≡ first_token tree.now index }
+{
+    match index {
+        Some(index) => Some(branch_at(tree.rows, index).first),
+        None => None,
+    }
 }

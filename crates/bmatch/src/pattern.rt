@@ -6,6 +6,9 @@ use bword::Name;
 /// How many holes a rule may have, with the one for what the whole pattern stands for.
 pub const MOST_HOLES: u8 = 16;
 
+/// The number of no hole.
+pub const NO_HOLE: u8 = MOST_HOLES;
+
 /// The hole that stands for what the whole pattern fits.
 pub const ROOT: u8 = 15;
 
@@ -34,17 +37,21 @@ pub enum Leaf {
     Value(u16),
     /// A statement that is one word and a `;`.
     Word(Word),
+    /// A branch that changes the name for which a hole stands.
+    Change(u8),
     /// Any branch of a sort. What a hole stands for is the same wherever it comes.
     Hole(u8, Sort),
 }
 
-/// The word of a statement that is no more.
+/// The word with which a statement begins.
 #[derive(Clone, Copy)]
 pub enum Word {
     /// `;` alone.
     Nothing,
     Return,
     Break,
+    Auto,
+    Extrn,
 }
 
 /// What a hole may stand for.
@@ -66,8 +73,13 @@ pub struct Rule {
     pub number: usize,
     pub patterns: Vec<Pattern>,
     pub condition: Condition,
+    /// The hole whose first token has the name of which it speaks, and the hole of a second place; or `NO_HOLE`.
+    pub named: u8,
+    pub beside: u8,
     /// Whether a part in parentheses is no other than one without: else parentheses fit parentheses alone.
     pub is_loose: bool,
     /// Whether its condition looks at more than what was found, so that it isn't asked in a very long function.
     pub looks_around: bool,
+    /// Whether it looks at the whole source, so that it isn't asked in a long one.
+    pub looks_far: bool,
 }

@@ -79,6 +79,25 @@ pub fn branch_at(rows: &[Branch], index: usize) -> Branch
     }
 }
 
+/// The kind of a branch, and the number of what stands in its parentheses.
+pub(crate) fn kind_at(rows: &[Branch], index: usize) -> Kind
+    ensures { result ≡ (branch_at rows.now index).kind }
+{
+    match rows.get(index) {
+        Some(branch) => branch.kind,
+        None => Kind::Node(Node::NoArguments),
+    }
+}
+
+pub(crate) fn core_at(rows: &[Branch], index: usize) -> usize
+    ensures { result ≡ (branch_at rows.now index).core }
+{
+    match rows.get(index) {
+        Some(branch) => branch.core,
+        None => 0,
+    }
+}
+
 /// A number for each kind, by which kinds are compared.
 pub(crate) fn kind_number(kind: Kind) -> u16
     ensures { result ≡ kind_number kind }

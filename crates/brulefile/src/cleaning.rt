@@ -137,7 +137,11 @@ impl Cleaning {
         let (number, len) = hole_number(after, holes)?;
         let (sort, more) = sort_at(part(after, len, after.len()))?;
         let all = len.saturating_add(more).saturating_add(1);
-        self.sign(Sign::Hole(number, sort), b"_", all)
+        let stands = match sort {
+            Sort::Number => b"1",
+            _ => b"_",
+        };
+        self.sign(Sign::Hole(number, sort), stands, all)
     }
 }
 

@@ -6,18 +6,28 @@ use crate::faults::{FaultReason, Stop};
 use crate::holes::Holes;
 use crate::patterns::read_pattern;
 use crate::text::{after_blanks, after_word, first_word, place_of};
-use bmatch::{Condition, Relation, Scope, Test};
-use std::alloc::Global;
+use bmatch::{Condition, Leaf, Measure, NO_HOLE, Pattern, Relation, Scope, Test, Word};
+use std::alloc::{AllocError, Global};
+
+/// A condition that has a name, and stands in these lines. It speaks of the holes that it is given.
+#[derive(Drop)]
+pub(crate) struct Named<'t> {
+    pub name: &'t [u8],
+    /// Its own names of these holes.
+    pub given: &'t [u8],
+    pub lines: Vec<&'t [u8]>,
+}
 
 /// What reads conditions of a rule.
 #[derive(Drop)]
-pub(crate) struct Conditions<'a> {
+pub(crate) struct Conditions<'a, 't> {
     pub alloc: Global,
     pub holes: &'a mut Holes,
     pub is_loose: bool,
+    pub named: &'a [Named<'t>],
 }
 
-impl<'a> Conditions<'a> {
+impl<'a, 't> Conditions<'a, 't> {
     /// The condition that a text is. It has so many words at most that join others.
     #[cycle(conditions)]
     pub(crate) fn read(&mut self, text: &[u8], fuel: usize) -> Result<Condition, Stop> {
@@ -38,9 +48,96 @@ impl<'a> Conditions<'a> {
                 let sought = self.sought(after_word(text), fuel - 1)?;
                 Ok(Condition::Not(Box::new(self.alloc, sought)?))
             }
+            b"begun" => self.begun(after_word(text)),
             [b'$', ..] => self.of_hole(text),
-            _ => Ok(Condition::Test(self.test(text)?)),
+            word => match self.called(word, after_word(text), fuel - 1)? {
+                Some(condition) => Ok(condition),
+                None => Ok(Condition::Test(self.test(text)?)),
+            },
         }
+    }
+
+    // A condition that has a name, if one has this. Where several have it, one of them holds.
+    #[cycle(conditions)]
+    fn called(
+        &mut self,
+        name: &[u8],
+        given: &[u8],
+        fuel: usize,
+    ) -> Result<Option<Condition>, Stop> {
+        let mut found = None;
+        let named = self.named;
+        for index in 0..named.len() {
+            if named[index].name == name {
+                let condition = self.of_name(index, given, fuel)?;
+                found = Some(either(self.alloc, found, condition)?);
+            }
+        }
+        Ok(found)
+    }
+
+    // One with a name. What its own holes stand for isn't seen outside.
+    #[cycle(conditions)]
+    fn of_name(&mut self, index: usize, given: &[u8], fuel: usize) -> Result<Condition, Stop> {
+        let mut holes = self.inner_holes(index, given)?;
+        let mut inner = Conditions {
+            alloc: self.alloc,
+            holes: &mut holes,
+            is_loose: self.is_loose,
+            named: self.named,
+        };
+        let condition = inner
+            .lines(index, fuel)
+            .map_err(|stop| moved_to(stop, given.len()))?;
+        let inverse = Condition::Not(Box::new(self.alloc, condition)?);
+        Ok(Condition::Not(Box::new(self.alloc, inverse)?))
+    }
+
+    // The lines of one with a name, which all hold.
+    #[cycle(conditions)]
+    fn lines(&mut self, index: usize, fuel: usize) -> Result<Condition, Stop> {
+        let mut all = Condition::Always;
+        let named = self.named;
+        if index < named.len() {
+            for line in named[index].lines.as_slice() {
+                let next = self.read(line, fuel)?;
+                all = both(self.alloc, all, next)?;
+            }
+        }
+        Ok(all)
+    }
+
+    // The holes of one with a name, of which the first are given.
+    fn inner_holes(&mut self, index: usize, given: &[u8]) -> Result<Holes, Stop> {
+        let mut inner = Holes::after(self.alloc, self.holes.count());
+        let named = self.named;
+        let mut names: &[u8] = b"";
+        if index < named.len() {
+            names = named[index].given;
+        }
+        let mut rest = given;
+        for _ in 0..given.len() {
+            if !rest.is_empty() {
+                let (hole, more) = self.hole_and_rest(rest)?;
+                let word = first_word(names);
+                let name = part(word, 1, word.len());
+                inner.give(name, hole)?;
+                names = after_word(names);
+                rest = more;
+            }
+        }
+        Ok(inner)
+    }
+
+    // `begun $x is PATTERN`: what changes a name last, before what was found.
+    fn begun(&mut self, text: &[u8]) -> Result<Condition, Stop> {
+        let (hole, rest) = self.hole_and_rest(text)?;
+        if first_word(rest) != b"is".as_slice() {
+            return Err(Stop::Fault(FaultReason::ConditionWord, rest.len()));
+        }
+        let pattern = after_word(rest);
+        let pattern = read_pattern(self.alloc, pattern, self.is_loose, &mut *self.holes)?;
+        Ok(Condition::Begun(hole, pattern))
     }
 
     #[cycle(conditions)]
@@ -85,14 +182,35 @@ impl<'a> Conditions<'a> {
     fn in_scope(&mut self, text: &[u8]) -> Result<Condition, Stop> {
         let (pattern, scope) = self.scope(text)?;
         let more = text.len().saturating_sub(pattern.len());
-        let pattern = read_pattern(self.alloc, pattern, self.is_loose, &mut *self.holes).map_err(
-            |stop| moved(stop, more),
-        )?;
-        Ok(Condition::Some(scope, pattern))
+        let (pattern, hole) = self.as_hole(pattern)?;
+        let pattern = self
+            .sought_pattern(pattern)
+            .map_err(|stop| moved(stop, more))?;
+        Ok(Condition::Some(scope, hole, pattern))
+    }
+
+    // A pattern, or `change of $x`.
+    fn sought_pattern(&mut self, text: &[u8]) -> Result<Pattern, Stop> {
+        match text.strip_prefix(b"change of $") {
+            Some(name) => {
+                let hole = self.only_hole(name)?;
+                let rest = Box::new(self.alloc, Pattern::Done)?;
+                Ok(Pattern::Leaf(Leaf::Change(hole), false, rest))
+            }
+            None => read_pattern(self.alloc, text, self.is_loose, &mut *self.holes),
+        }
+    }
+
+    // A pattern without `as $x` after it, and that hole.
+    fn as_hole<'p>(&mut self, text: &'p [u8]) -> Result<(&'p [u8], u8), Stop> {
+        match parted(text, b" as $") {
+            Some((pattern, name)) => Ok((pattern, self.only_hole(name)?)),
+            None => Ok((text, NO_HOLE)),
+        }
     }
 
     // A pattern without the scope after it, and that.
-    fn scope<'t>(&mut self, text: &'t [u8]) -> Result<(&'t [u8], Scope), Stop> {
+    fn scope<'p>(&mut self, text: &'p [u8]) -> Result<(&'p [u8], Scope), Stop> {
         if let Some((pattern, scope)) = named_scope(text) {
             return Ok((pattern, scope));
         }
@@ -124,12 +242,20 @@ impl<'a> Conditions<'a> {
             return Ok(Condition::Is(hole, pattern));
         }
         let relation = relation_of(rest)?;
-        let value = number_of(after_word(rest))?;
-        Ok(Condition::Test(Test::Value(hole, relation, value)))
+        let other = self.measure(after_word(rest))?;
+        Ok(Condition::Test(Test::Compares(Measure::Value(hole), relation, other)))
+    }
+
+    // A number, or the value of a hole.
+    fn measure(&mut self, text: &[u8]) -> Result<Measure, Stop> {
+        match text {
+            [b'$', name @ ..] => Ok(Measure::Value(self.only_hole(name)?)),
+            _ => Ok(Measure::Number(number_of(text)?)),
+        }
     }
 
     // The hole that a text begins with, and what stands after it.
-    fn hole_and_rest<'t>(&mut self, text: &'t [u8]) -> Result<(u8, &'t [u8]), Stop> {
+    fn hole_and_rest<'p>(&mut self, text: &'p [u8]) -> Result<(u8, &'p [u8]), Stop> {
         let [b'$', name @ ..] = text else {
             return Err(Stop::Fault(FaultReason::UnknownHole, text.len()));
         };
@@ -148,15 +274,29 @@ impl<'a> Conditions<'a> {
             }
             b"bytes" => {
                 let (hole, rest) = self.hole_and_rest(rest)?;
-                let relation = relation_of(rest)?;
-                let value = number_of(after_word(rest))?;
-                Ok(Test::Bytes(hole, relation, usize::from(value)))
+                self.compared(Measure::Bytes(hole), rest)
+            }
+            b"product" => {
+                let (one, rest) = self.hole_and_rest(rest)?;
+                let (other, rest) = self.hole_and_rest(rest)?;
+                self.compared(Measure::Product(one, other), rest)
+            }
+            b"first" => {
+                let (hole, rest) = self.hole_and_rest(rest)?;
+                Ok(Test::Begins(hole, word_of(rest)?))
             }
             b"joined" if rest.is_empty() => Ok(Test::Joined),
             b"after" if rest == b"operator".as_slice() => Ok(Test::AfterOperator),
             b"followed" => self.followed(rest),
             _ => Err(Stop::Fault(FaultReason::ConditionWord, text.len())),
         }
+    }
+
+    // A number with a relation to another one.
+    fn compared(&mut self, one: Measure, text: &[u8]) -> Result<Test, Stop> {
+        let relation = relation_of(text)?;
+        let other = self.measure(after_word(text))?;
+        Ok(Test::Compares(one, relation, other))
     }
 
     // The only hole of a text.
@@ -178,14 +318,15 @@ impl<'a> Conditions<'a> {
     }
 }
 
-/// Whether a condition looks at more than what was found.
-pub(crate) fn looks_around(condition: &Condition) -> bool {
+/// Whether a condition looks at more than what was found, or at the whole source.
+pub(crate) fn looks_around(condition: &Condition, is_far: bool) -> bool {
     match condition {
         Condition::Both(one, other) | Condition::Either(one, other) => {
-            looks_around(one) || looks_around(other)
+            looks_around(one, is_far) || looks_around(other, is_far)
         }
-        Condition::Not(inner) => looks_around(inner),
-        Condition::Some(_, _) => true,
+        Condition::Not(inner) => looks_around(inner, is_far),
+        Condition::Some(scope, _, _) => !is_far || matches!(*scope, Scope::Program),
+        Condition::Begun(_, _) => !is_far,
         Condition::Always | Condition::Is(_, _) | Condition::Test(_) => false,
     }
 }
@@ -209,8 +350,56 @@ fn moved(stop: Stop, more: usize) -> Stop {
     }
 }
 
+// What is wrong in a line elsewhere is told where it is called.
+fn moved_to(stop: Stop, left: usize) -> Stop {
+    match stop {
+        Stop::Fault(reason, _) => Stop::Fault(reason, left),
+        _ => stop,
+    }
+}
+
+/// Both, of which the first may be nothing.
+pub(crate) fn both(
+    alloc: Global,
+    one: Condition,
+    other: Condition,
+) -> Result<Condition, AllocError> {
+    match one {
+        Condition::Always => Ok(other),
+        one => Ok(Condition::Both(Box::new(alloc, one)?, Box::new(alloc, other)?)),
+    }
+}
+
+fn either(
+    alloc: Global,
+    one: Option<Condition>,
+    other: Condition,
+) -> Result<Condition, AllocError> {
+    match one {
+        None => Ok(other),
+        Some(one) => Ok(Condition::Either(Box::new(alloc, one)?, Box::new(alloc, other)?)),
+    }
+}
+
+fn word_of(text: &[u8]) -> Result<Word, Stop> {
+    match text {
+        b";" => Ok(Word::Nothing),
+        b"return" => Ok(Word::Return),
+        b"break" => Ok(Word::Break),
+        b"auto" => Ok(Word::Auto),
+        b"extrn" => Ok(Word::Extrn),
+        _ => Err(Stop::Fault(FaultReason::Token, text.len())),
+    }
+}
+
 // A pattern without the word for a scope after it, and that scope.
 fn named_scope(text: &[u8]) -> Option<(&[u8], Scope)> {
+    if let Some(pattern) = text.strip_suffix(b" in program") {
+        return Some((pattern, Scope::Program));
+    }
+    if let Some(pattern) = text.strip_suffix(b" in loop") {
+        return Some((pattern, Scope::Loop));
+    }
     if let Some(pattern) = text.strip_suffix(b" in function") {
         return Some((pattern, Scope::Function));
     }

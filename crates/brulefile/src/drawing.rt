@@ -122,7 +122,7 @@ impl<'a> Sheet<'a> {
     // What stands for a branch: for a name, or for a statement that is one.
     fn sign_of(&self, index: usize, first: usize) -> Option<Sign> {
         match branch_at(self.rows, index).kind {
-            Kind::Node(Node::Name) => self.sign_at(index),
+            Kind::Node(Node::Name | Node::Constant) => self.sign_at(index),
             Kind::Construct(Construct::Plain) => {
                 if first == index.saturating_sub(2) {
                     of_statement(self.sign_at(first))
@@ -138,7 +138,7 @@ impl<'a> Sheet<'a> {
     fn sign_at(&self, index: usize) -> Option<Sign> {
         let branch = branch_at(self.rows, index);
         match branch.kind {
-            Kind::Node(Node::Name) => {
+            Kind::Node(Node::Name | Node::Constant) => {
                 let start = self.starts.get(branch.token).copied().unwrap_or(0);
                 sign_in(self.marks, start.saturating_sub(BEFORE))
             }

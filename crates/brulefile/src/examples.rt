@@ -1,4 +1,5 @@
 //! The examples of the rules of `b check`: each finds what it says, or is silent.
+use crate::trial_rules::TRIAL_RULES;
 use crate::{CHECK_RULES, Rules, read_rules};
 use blex::{Lexeme, Scanner};
 use bmatch::{TokenPlace, Tree, grown, notices_of};
@@ -60,15 +61,36 @@ fn program_of(alloc: Global, example: &[u8]) -> Result<Vec<u8>, AllocError> {
 }
 
 #[test]
-fn examples_are_told(rt: HostRuntime) -> Result<(), AllocError> {
+fn examples_of_check_are_told(rt: HostRuntime) -> Result<(), AllocError> {
+    assert_eq!(rt; wrong_examples(&rt, CHECK_RULES.as_bytes())?, 0);
+    Ok(())
+}
+
+#[test]
+fn examples_of_the_trial_are_told(rt: HostRuntime) -> Result<(), AllocError> {
+    assert_eq!(rt; wrong_examples(&rt, TRIAL_RULES.as_bytes())?, 0);
+    Ok(())
+}
+
+// How many examples of rules are told otherwise than they say, each of which is printed.
+fn wrong_examples(rt: &HostRuntime, all: &[u8]) -> Result<u64, AllocError> {
     let alloc = rt.alloc();
-    let Ok(rules) = read_rules(alloc, CHECK_RULES.as_bytes())? else {
-        assert!(rt; false);
-        return Ok(());
+    let rules = match read_rules(alloc, all)? {
+        Ok(rules) => rules,
+        Err(fault) => {
+            println!(rt;
+                "{}:{}: {}",
+                fault.line,
+                fault.column,
+                fault.reason.sentence()
+            )
+            .unwrap_or(());
+            return Ok(1);
+        }
     };
     let mut name: &[u8] = b"";
     let mut wrong = 0_u64;
-    for line in CHECK_RULES.as_bytes().split(|byte| *byte == b'\n') {
+    for line in all.split(|byte| *byte == b'\n') {
         let text = line.trim_ascii();
         if let Some(rest) = text.strip_prefix(b"rule ") {
             name = rest;
@@ -88,6 +110,5 @@ fn examples_are_told(rt: HostRuntime) -> Result<(), AllocError> {
             }
         }
     }
-    assert_eq!(rt; wrong, 0);
-    Ok(())
+    Ok(wrong)
 }

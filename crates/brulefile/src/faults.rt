@@ -48,10 +48,10 @@ impl FaultReason {
             FaultReason::NoRule =>
                 "a line that begins with a blank belongs to a rule, and there is none yet",
             FaultReason::RuleWord =>
-                "a line that begins with no blank is a comment after -- or begins a rule: rule NAME",
+                "a line that begins with no blank is a comment after -- or begins with rule NAME or let NAME",
             FaultReason::RuleName => "the name of a rule has 1 to 24 letters and nothing after it",
             FaultReason::LineWord => {
-                "a line of a rule begins with find, where, exact, found, silent, says, fix or mend"
+                "a line of a rule begins with find, where, exact, names, beside, found, silent, says, fix or mend"
             }
             FaultReason::LateExact =>
                 "exact stands alone in its line, before the first find or where",
@@ -72,7 +72,7 @@ impl FaultReason {
             FaultReason::StringInPattern => "a pattern has no string: $s:str is any",
             FaultReason::ConditionWord => "this is no condition",
             FaultReason::Scope => {
-                "a pattern is sought in function, loop or a hole, or before, after or around what was found"
+                "a pattern is sought in program, function, loop or a hole, or before, after or around what was found"
             }
             FaultReason::Number => "a number from 0 to 65535 stands here",
             FaultReason::Relation => "one of == != < <= > >= stands here",

@@ -3,17 +3,38 @@ use bmatch::{ROOT, Sort};
 use bword::Name;
 use std::alloc::{AllocError, Global};
 
-/// The names of a rule's holes, each in the place of its number.
+/// The names of a rule's holes, or of a condition's own, with their numbers.
 #[derive(Drop)]
 pub(crate) struct Holes {
-    names: Vec<Name>,
+    names: Vec<(Name, u8)>,
+    // The number of the next one.
+    next: u8,
 }
 
 impl Holes {
     pub(crate) fn new(alloc: Global) -> Self {
+        Holes::after(alloc, 0)
+    }
+
+    /// None yet, but that so many numbers have others.
+    pub(crate) fn after(alloc: Global, count: u8) -> Self {
         Holes {
             names: Vec::new(alloc),
+            next: count,
         }
+    }
+
+    /// The number that the next hole gets.
+    pub(crate) fn count(&self) -> u8 {
+        self.next
+    }
+
+    /// A name for a hole that has a number.
+    pub(crate) fn give(&mut self, name: &[u8], number: u8) -> Result<(), AllocError> {
+        if let Some(name) = Name::from_bytes(name) {
+            self.names.push((name, number))?;
+        }
+        Ok(())
     }
 
     /// The number of a hole, which gets one where it comes first; none if it is one too many.
@@ -21,20 +42,26 @@ impl Holes {
         if name.as_bytes() == b"root".as_slice() {
             return Ok(Some(ROOT));
         }
-        let count = self.names.len();
-        let place = self.place(name).unwrap_or(count);
-        if place == count {
-            self.names.push(name)?;
+        let known = self.find(name);
+        if known.is_some() {
+            return Ok(known);
         }
-        if place < usize::from(ROOT) {
-            Ok(Some(place as u8))
-        } else {
-            Ok(None)
+        let number = self.next;
+        if number >= ROOT {
+            return Ok(None);
         }
+        self.names.push((name, number))?;
+        self.next = number + 1;
+        Ok(Some(number))
     }
 
-    fn place(&self, name: Name) -> Option<usize> {
-        self.names.iter().position(|known| *known == name)
+    fn find(&self, name: Name) -> Option<u8> {
+        for (known, number) in self.names.as_slice() {
+            if *known == name {
+                return Some(*number);
+            }
+        }
+        None
     }
 }
 

@@ -16,6 +16,8 @@ mod reading;
 #[cfg(test)]
 mod tests;
 mod text;
+#[cfg(test)]
+mod trial_rules;
 
 pub use check_rules::CHECK_RULES;
 pub use faults::{FaultReason, RuleFault};

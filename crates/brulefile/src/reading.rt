@@ -1,10 +1,11 @@
 //! Reading a text of rules.
-use crate::conditions::{Conditions, looks_around};
+use crate::cleaning::hole_number;
+use crate::conditions::{Conditions, Named, both, looks_around};
 use crate::faults::{FaultReason, RuleFault, Stop};
 use crate::holes::Holes;
 use crate::patterns::read_patterns;
 use crate::text::{after_blanks, after_word, first_word, is_blank};
-use bmatch::{Condition, Pattern, Rule};
+use bmatch::{Condition, NO_HOLE, Pattern, Rule};
 use std::alloc::{AllocError, Global};
 
 /// The most bytes of a line.
@@ -14,7 +15,7 @@ pub const MOST_LINE: usize = 400;
 pub const MOST_NAME: usize = 24;
 
 /// The most words of a condition that join others.
-const MOST_JOINED: usize = 9;
+const MOST_JOINED: usize = 14;
 
 /// The name of a rule.
 #[derive(Clone, Copy)]
@@ -47,6 +48,7 @@ pub fn read_rules(alloc: Global, text: &[u8]) -> Result<Result<Rules, RuleFault>
         rules: Vec::new(alloc),
         names: Vec::new(alloc),
         draft: None,
+        named: Vec::new(alloc),
     };
     let mut number: u64 = 0;
     for line in text.split(|byte| *byte == b'\n') {
@@ -86,6 +88,8 @@ fn stopped(stop: Stop, line: u64, len: usize) -> Result<Result<Rules, RuleFault>
 struct Draft {
     patterns: Vec<Pattern>,
     condition: Condition,
+    named: u8,
+    beside: u8,
     is_loose: bool,
     holes: Holes,
     // Whether a pattern or a condition was read.
@@ -95,15 +99,17 @@ struct Draft {
 
 /// What was read of a text.
 #[derive(Drop)]
-struct Reading {
+struct Reading<'t> {
     alloc: Global,
     rules: Vec<Rule>,
     names: Vec<RuleName>,
     draft: Option<Draft>,
+    /// The conditions that have names. Without a draft the last one is being read.
+    named: Vec<Named<'t>>,
 }
 
-impl Reading {
-    fn line(&mut self, line: &[u8], number: u64) -> Result<(), Stop> {
+impl<'t> Reading<'t> {
+    fn line(&mut self, line: &'t [u8], number: u64) -> Result<(), Stop> {
         if line.len() > MOST_LINE {
             return Err(Stop::Fault(FaultReason::LongLine, line.len()));
         }
@@ -116,8 +122,11 @@ impl Reading {
         }
     }
 
-    // The first line of a rule.
-    fn heading(&mut self, text: &[u8], number: u64) -> Result<(), Stop> {
+    // The first line of a rule, or of a condition with a name.
+    fn heading(&mut self, text: &'t [u8], number: u64) -> Result<(), Stop> {
+        if first_word(text) == b"let".as_slice() {
+            return self.name_condition(after_word(text));
+        }
         if first_word(text) != b"rule".as_slice() {
             return Err(Stop::Fault(FaultReason::RuleWord, text.len()));
         }
@@ -130,6 +139,8 @@ impl Reading {
         self.draft = Some(Draft {
             patterns: Vec::new(self.alloc),
             condition: Condition::Always,
+            named: NO_HOLE,
+            beside: NO_HOLE,
             is_loose: true,
             holes: Holes::new(self.alloc),
             is_begun: false,
@@ -138,11 +149,31 @@ impl Reading {
         Ok(())
     }
 
-    // A line of a rule after the first one.
-    fn inner(&mut self, text: &[u8]) -> Result<(), Stop> {
+    // The name of a condition, and its own names of the holes that it is given.
+    fn name_condition(&mut self, text: &'t [u8]) -> Result<(), Stop> {
+        self.end()?;
+        if !are_letters(first_word(text)) {
+            return Err(Stop::Fault(FaultReason::RuleName, text.len()));
+        }
+        self.named.push(Named {
+            name: first_word(text),
+            given: after_word(text),
+            lines: Vec::new(self.alloc),
+        })?;
+        Ok(())
+    }
+
+    // A line of a rule, or of a condition with a name, after the first one.
+    fn inner(&mut self, text: &'t [u8]) -> Result<(), Stop> {
         let alloc = self.alloc;
-        match &mut self.draft {
-            Some(draft) => draft.line(alloc, text),
+        if let Some(draft) = &mut self.draft {
+            return draft.line(alloc, text, self.named.as_slice());
+        }
+        match self.named.last_mut() {
+            Some(named) => {
+                named.lines.push(text)?;
+                Ok(())
+            }
             None => Err(Stop::Fault(FaultReason::NoRule, text.len())),
         }
     }
@@ -155,6 +186,8 @@ impl Reading {
         let Draft {
             patterns,
             condition,
+            named,
+            beside,
             is_loose,
             line,
             ..
@@ -162,20 +195,24 @@ impl Reading {
         if patterns.is_empty() {
             return Err(Stop::Empty(line));
         }
-        let looks_around = looks_around(&condition);
+        let is_around = looks_around(&condition, false);
+        let looks_far = looks_around(&condition, true);
         self.rules.push(Rule {
             number: self.rules.len(),
             patterns,
             condition,
+            named,
+            beside,
             is_loose,
-            looks_around,
+            looks_around: is_around,
+            looks_far,
         })?;
         Ok(())
     }
 }
 
 impl Draft {
-    fn line(&mut self, alloc: Global, text: &[u8]) -> Result<(), Stop> {
+    fn line(&mut self, alloc: Global, text: &[u8], named: &[Named<'_>]) -> Result<(), Stop> {
         let rest = after_word(text);
         match first_word(text) {
             b"find" => {
@@ -188,7 +225,15 @@ impl Draft {
                     &mut self.patterns,
                 )
             }
-            b"where" => self.more(alloc, rest),
+            b"where" => self.more(alloc, rest, named),
+            b"names" => {
+                self.named = self.hole(rest)?;
+                Ok(())
+            }
+            b"beside" => {
+                self.beside = self.hole(rest)?;
+                Ok(())
+            }
             b"exact" if rest.is_empty() && !self.is_begun => {
                 self.is_loose = false;
                 Ok(())
@@ -199,20 +244,33 @@ impl Draft {
         }
     }
 
+    // The hole that a text is.
+    fn hole(&mut self, text: &[u8]) -> Result<u8, Stop> {
+        match text {
+            [b'$', name @ ..] => {
+                let (number, len) = hole_number(name, &mut self.holes)?;
+                if len == name.len() {
+                    Ok(number)
+                } else {
+                    Err(Stop::Fault(FaultReason::UnknownHole, text.len()))
+                }
+            }
+            _ => Err(Stop::Fault(FaultReason::UnknownHole, text.len())),
+        }
+    }
+
     // One more condition.
-    fn more(&mut self, alloc: Global, text: &[u8]) -> Result<(), Stop> {
+    fn more(&mut self, alloc: Global, text: &[u8], named: &[Named<'_>]) -> Result<(), Stop> {
         self.is_begun = true;
         let mut conditions = Conditions {
             alloc,
             holes: &mut self.holes,
             is_loose: self.is_loose,
+            named,
         };
         let next = conditions.read(text, MOST_JOINED)?;
         let before = std::mem::replace(&mut self.condition, Condition::Always);
-        self.condition = match before {
-            Condition::Always => next,
-            before => Condition::Both(Box::new(alloc, before)?, Box::new(alloc, next)?),
-        };
+        self.condition = both(alloc, before, next)?;
         Ok(())
     }
 }

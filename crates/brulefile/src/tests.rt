@@ -1,10 +1,11 @@
 //! Texts of rules.
-use crate::{CHECK_RULES, FaultReason, read_rules};
+use crate::trial_rules::TRIAL_RULES;
+use crate::{FaultReason, read_rules};
 use std::alloc::{AllocError, Global};
 
 #[test]
 fn reads_the_rules(rt: HostRuntime) -> Result<(), AllocError> {
-    match read_rules(rt.alloc(), CHECK_RULES.as_bytes())? {
+    match read_rules(rt.alloc(), TRIAL_RULES.as_bytes())? {
         Ok(read) => {
             assert!(rt; read.rules.len() == 38);
             assert!(rt; read.names.len() == 38);
