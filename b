@@ -1,15 +1,18 @@
 #!/usr/bin/env bash
-# Runs the program `b` with these words, and first proves and builds it where it isn't built of just these sources.
-# Where it was never built, an unproved run answers first, if it can. With --prove before the words it doesn't. With
-# --prove --keep, what the kit keeps of each check stays, for those who change the sources.
+# Runs the program `b` with these words, and first proves and builds it where it isn't built of just these sources. Its
+# core, the program `bgo`, is proved first, and answers what it can until all is proved. Where neither was ever built,
+# an unproved run answers first, if it can. With --prove before the words none of these does. With --prove=core the
+# core alone is proved, and answers. With --prove --keep, what the kit keeps of each check stays, for those who change
+# the sources.
 set -u
 unset CDPATH
 export PATH
 top=$(readlink -f "${BASH_SOURCE[0]}")
 top=${top%/*}
-out=$top/crates/b/out
-program=$out/b
+program=$top/crates/b/out/b
+core=$top/crates/bgo/out/bgo
 no_program=200 # the status where there is no program to run, which is none of the program's own
+lacks_tool=136 # that of the core where only the whole program can answer
 
 say() { printf 'b: %s\n' "$1" >&2; }
 
@@ -18,13 +21,13 @@ fail() {
     exit "$no_program"
 }
 
-# Puts what the program is built of into `sources`: crates.txt, and the folders of each crate that it lists up to b.
+# Puts what a program is built of into `sources`: crates.txt, and the folders of each crate that it lists up to its own.
 find_sources() {
     local crate
     sources=(crates.txt)
     while IFS=:' ' read -r crate _; do
         [ -d "$top/crates/$crate/src" ] && sources+=("crates/$crate/"{src,specs,proofs})
-        [ "$crate" != b ] || break
+        [ "$crate" != "${1##*/}" ] || break
     done <"$top/crates.txt"
 }
 
@@ -43,11 +46,12 @@ find_kit() {
     if [ -r "$kit" ]; then kit=$(<"$kit"); else kit=''; fi
 }
 
-# Beside the program stand the kit and the digests of the sources that it was built of, and a list of these, which
-# saves reading them. A copy of all has another list, and the same digests.
+# Beside a program stand the kit and the digests of the sources that it was built of, and a list of these, which saves
+# reading them. A copy of all has another list, and the same digests.
 is_stale() {
-    local list
-    [ -x "$program" ] && [ -e "$out/digests" ] || return 0
+    local list out=${1%/*}
+    [ -x "$1" ] && [ -e "$out/digests" ] || return 0
+    find_sources "$1"
     find_kit
     [ -z "$kit" ] || [ "$kit" = "$(<"$out/kit")" ] || return 0
     list=$(list_sources)
@@ -58,13 +62,15 @@ is_stale() {
 }
 
 prove_first='' keep=()
-if [ "${1-}" = --prove ]; then
+case ${1-} in
+--prove=core) program=$core ;;&
+--prove | --prove=core)
     prove_first=1
     shift
     [ "${1-}" != --keep ] || { keep=(--keep) && shift; }
-fi
-find_sources
-if is_stale; then
+    ;;
+esac
+if is_stale "$program"; then
     # shellcheck source=tools/start
     . "$top/tools/start"
     start "$@"

@@ -193,7 +193,7 @@ def digest(path):
 
 
 def sources_digest(name):
-    """The digest of the digests of all that a crate is built of, which for `b` ./b keeps beside the program."""
+    """The digest of the digests of all that a crate is built of, which for a program ./b keeps beside it."""
     crates = re.findall(r"^(\w+)", (TOP / "crates.txt").read_text(), re.M)
     below = crates[:crates.index(name) + 1]
     folders = [TOP / "crates" / it / part for it in below for part in ("src", "specs", "proofs")]

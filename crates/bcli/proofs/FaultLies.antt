@@ -41,7 +41,7 @@ use Rattle.btools.specs.Origins.{NoProgramOf, Origin, ProgramOf, Source}
 use Rattle.bsources.specs.Files.{Files}
 use Rattle.bcli.specs.ShellExcluded.{tells_run}
 use Rattle.bcli.specs.Serves.{Answers, ShowsBy, care_taken}
-use Rattle.bcli.specs.Shelves.{Holdings}
+use Rattle.bcore.specs.Shelves.{Holdings}
 
 module _ (edition : Edition) (text : List ℕ) (d : Diagnostic) (faulty : HasFault edition text d) where
   no_program : (ds : List Definition) (image : Image) → HasProgram edition text ds image → ⊥

@@ -10,7 +10,7 @@ use Rattle.blang.specs.Reports.{RunEnds}
 use Rattle.bsources.specs.JoinedEnds.{Joined, joined_in, joined_new}
 use Rattle.bsources.specs.JoinedRows.{refused_early}
 use Rattle.bcli.specs.ShellExcluded.{AreCounted, NothingFails}
-use Rattle.bcli.specs.Serves.{CompilesJoined, compiling}
+use Rattle.bcore.specs.Serves.{CompilesJoined, compiling}
 
 is_none : (n : ℕ) → (0 < n → ⊥) → n ≡ 0
 is_none zero h = refl

@@ -6,11 +6,12 @@ use Rattle.clap.specs.Words.{Text}
 use Rattle.bword.specs.ByteEnds.{Outgoing}
 use Rattle.blang.specs.Reports.{Reported, RunEnds}
 use Rattle.bcli.specs.ShellExcluded.{AreWrong, Excluded, ProcessExcluded, silent_lines}
-use Rattle.bcli.specs.Processes.{AnswersWords, KnownStreams, PerformsTask}
-use Rattle.bcli.specs.Serves.{RefusesWords, Serves, did, no_memory, refused, unread_line}
-use Rattle.bcli.specs.Shelves.{Holdings}
+use Rattle.bcore.specs.Processes.{AnswersWords, KnownStreams, PerformsTask}
+use Rattle.bcore.specs.Serves.{RefusesWords, did, no_memory, refused, unread_line}
+use Rattle.bcli.specs.Serves.{Serves, UsesTool}
+use Rattle.bcore.specs.Shelves.{Holdings}
 use Rattle.bcli.proofs.ShellExcluded.{excluded, fault_is_no_complaint}
-use Rattle.bcli.proofs.Showing.{held_grows, held_stays}
+use Rattle.bcore.proofs.Showing.{held_grows, held_stays}
 
 -- what no task may do is not done
 not_performed : (does : RunEnds → ℕ → Type 0) (known : KnownStreams) (status : ℕ) → (status ≡ 133 → ⊥) → (status ≡ 134 → ⊥)
@@ -70,15 +71,15 @@ complaint files words told ends wrong l a (no_memory silent) = omega (arith, sil
 
 pub process_excluded : (files : Holdings) → ProcessExcluded files
 process_excluded files = record {
-  help_unserved = λ words known is. not_performed (AnswersWords files (Some words)) known 135 (λ e. omega (arith, e)) (λ e. omega (arith, e))
+  help_unserved = λ words known is. not_performed (AnswersWords UsesTool files (Some words)) known 135 (λ e. omega (arith, e)) (λ e. omega (arith, e))
       (λ ends l a it. all.help_refused words ends is it);
-  wrong_status = λ words known wrong. not_performed (AnswersWords files (Some words)) known 0 (λ e. omega (arith, e)) (λ e. omega (arith, e))
+  wrong_status = λ words known wrong. not_performed (AnswersWords UsesTool files (Some words)) known 0 (λ e. omega (arith, e)) (λ e. omega (arith, e))
       (λ ends l a it. all.wrong_done words ends wrong it);
-  unread_status = λ known. not_performed (AnswersWords files None) known 0 (λ e. omega (arith, e)) (λ e. omega (arith, e))
+  unread_status = λ known. not_performed (AnswersWords UsesTool files None) known 0 (λ e. omega (arith, e)) (λ e. omega (arith, e))
       (λ ends l a it. all.unread_words_done ends.line ends.line_after it.1);
-  line_lost = λ words input told wrong. not_performed (AnswersWords files (Some words)) (silent_lines input told) 135
+  line_lost = λ words input told wrong. not_performed (AnswersWords UsesTool files (Some words)) (silent_lines input told) 135
       (λ e. omega (arith, e)) (λ e. omega (arith, e)) (λ ends l a it. complaint files words told ends wrong l a it);
-  unread_line_lost = λ input told. not_performed (AnswersWords files None) (silent_lines input told) 135
+  unread_line_lost = λ input told. not_performed (AnswersWords UsesTool files None) (silent_lines input told) 135
       (λ e. omega (arith, e)) (λ e. omega (arith, e)) (λ ends l a it. untold told unread_line ends (λ e. cc) l a it.1);
   unanswered = unanswered;
   unshown = unshown;

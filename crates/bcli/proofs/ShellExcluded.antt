@@ -18,8 +18,8 @@ use Rattle.brun.specs.Runs.{RunsText}
 use Rattle.brun.proofs.OneRun.{one_run}
 use Rattle.bcommand.specs.CommandLine.{OriginAsked, Question, ask, asked_in, compile, fault_in, from_code, from_made, go, locate_code, run}
 use Rattle.bwhere.specs.Wheres.{LocatesCode}
-use Rattle.bcli.specs.declared.shelf.MemFile.{MemFile}
-use Rattle.bcli.specs.Shelves.{Holdings, holding}
+use Rattle.bcore.specs.declared.shelf.MemFile.{MemFile}
+use Rattle.bcore.specs.Shelves.{Holdings, holding}
 use Rattle.std.proofs.lemmas.List.Elements.{All-cons, All-head, All-nil, All-tail}
 use Rattle.blang.specs.Compiles.{CompileAnswers, Compilation, CompilesTo, HasOutcome, Tells}
 use Rattle.blang.specs.Cut.{tokens_from}
@@ -28,7 +28,9 @@ use Rattle.bcli.proofs.FaultLies.{fault_meant, fault_told}
 use Rattle.bcli.proofs.Joined.{failed_joined, joined_answers}
 use Rattle.bcli.proofs.TriedSources.{tried_unread, tried_whole}
 use Rattle.btools.specs.Origins.{Code, Origin}
-use Rattle.bcli.specs.Serves.{OnNames, OnOrigin, origin_of, CompilesJoined, NamesLib, Reads, ReadsLibs, compiling, files_read, whole, Answers, AnswersOf, Does, HasNoFile, IsHelp, NamesFile, RefusesWords, SaysNothing, Serves, did, refused, no_memory}
+use Rattle.bcore.specs.Serves.{CompilesJoined, HasNoFile, IsHelp, NamesFile, NamesLib, Reads, ReadsLibs, RefusesWords}
+use Rattle.bcore.specs.Serves.{SaysNothing, compiling, did, no_memory, refused, whole}
+use Rattle.bcli.specs.Serves.{Answers, AnswersOf, Does, OnNames, OnOrigin, Serves, files_read, origin_of}
 use Rattle.bcli.specs.ShellExcluded.{AreWrong, Excluded, FileIsRead, HoldsOne, NothingFails, alone, files_alone, in_file, with_lib}
 
 fault_is_told : (f : EndFault) → 0 ≡ status_of f → ⊥

@@ -1,43 +1,15 @@
--- Inner words: what was read of the files of a source and of its code text, and why they could not be.
-use Rattle.std.specs.Prelude.{◌≡◌, ◌⊎◌, ℕ, List, ◌∷◌, ◌++◌, Option, Some, None, option_map}
+-- Inner words: what was read of the code text of a program, and why it could not be.
+use Rattle.std.specs.Prelude.{◌≡◌, ◌⊎◌, ℕ, List, Option, Some, None, option_map}
 use Rattle.clap.specs.Words.{Text}
-use Rattle.bsources.specs.Files.{Followed, file_of, file_shown, followed}
 use Rattle.bword.specs.declared.edition.Edition.{Edition}
-use Rattle.bcommand.specs.CommandLine.{OriginAsked, SourceAsked, from_code, from_made, from_source}
+use Rattle.bcommand.specs.CommandLine.{OriginAsked, from_code, from_made, from_source}
 use Rattle.btools.specs.Origins.{Code, Origin, Source}
 use Rattle.bcli.specs.declared.origins.MadeTexts.{MadeTexts}
 use Rattle.bcli.specs.declared.origins.OriginTexts.{OriginTexts}
 use Rattle.bcli.specs.declared.origins.OriginTexts.TheVariants as texts
-use Rattle.bcli.specs.declared.shelf.FileFault.TheVariants as file_fault
-use Rattle.bcli.specs.declared.sources.NamedFault.{NamedFault}
-use Rattle.bcli.specs.declared.sources.Unread.{Unread}
-use Rattle.bcli.specs.declared.sources.Unread.TheVariants as unread
-use Rattle.bcli.specs.declared.sources.Whole.{Whole}
-use Rattle.bcli.specs.Serves.{Reads, ReadsLibs, whole}
-use Rattle.bcli.specs.Shelves.{Holdings}
-
-abbrev pub HasReadLibs : Holdings → List Text → Followed → Type 0
-HasReadLibs shelf names libs = (r : ReadsLibs shelf names) × (libs ≡ followed r.texts)
-
--- a source was read, and this is its text, and these are its files
-pub record HasReadSource (shelf : Holdings) (source : SourceAsked) (it : Whole) : Type 0 where
-  pub reads : Reads shelf source
-  pub text : it.text.items ≡ whole reads
-  pub first : file_shown it.first ≡ file_of source.file reads.text
-  pub libs : it.libs ≡ followed reads.libs.texts
-
--- Of these files those before one were read. That one could not be, or there was no memory for it.
-pub record LibIsUnread (shelf : Holdings) (names : List Text) (it : NamedFault) : Type 0 where
-  pub before : List Text
-  pub after : List Text
-  pub in_turn : names ≡ before ++ it.name.now ∷ after
-  pub reads : ReadsLibs shelf before
-  pub reason : it.fault ≡ file_fault.Device → shelf.lacks it.name.now
-
-abbrev pub IsUnread : Holdings → SourceAsked → Unread → Type 0
-IsUnread shelf source (unread.File fault) = fault ≡ file_fault.Device → shelf.lacks source.file
-IsUnread shelf source (unread.Lib it) =
-    (text : List ℕ) × shelf.holds source.file text × LibIsUnread shelf source.libs it
+use Rattle.bcore.specs.declared.shelf.FileFault.TheVariants as file_fault
+use Rattle.bcore.specs.declared.sources.NamedFault.{NamedFault}
+use Rattle.bcore.specs.Shelves.{Holdings}
 
 -- the program that is read from these texts, of a source in this edition and of this text
 abbrev pub origin_read : OriginTexts → Edition → (text : List ℕ) → Origin

@@ -44,11 +44,12 @@ use Rattle.bcommand.specs.CommandLine.{locate_code, try_out, verify, map as layo
 use Rattle.bcommand.specs.declared.job.Care.TheVariants as care
 use Rattle.bcommand.specs.declared.job.Rows.TheVariants as which
 use Rattle.bsources.specs.Files.{Files, NamedText, followed}
-use Rattle.bcli.specs.Shelves.{Holdings}
+use Rattle.bcore.specs.Shelves.{Holdings}
 use Rattle.bcli.specs.Explains.{LocatesAndExplains, fault_explained, letters_meaning}
 use Rattle.bcli.specs.Tries.{Tries, next_text}
-use Rattle.bcli.specs.Serves.{Answers, AnswersOf, CompilesJoined, Does, OnOrigin, Reads, ReadsLibs, compiling}
-use Rattle.bcli.specs.Serves.{files_read, form_of, no_file_line, origin_of, style_of, telling_ends, traced_rows, whole}
+use Rattle.bcore.specs.Serves.{CompilesJoined, Reads, ReadsLibs, compiling, no_file_line, whole}
+use Rattle.bcli.specs.Serves.{Answers, AnswersOf, Does, OnOrigin, files_read, form_of, origin_of, style_of}
+use Rattle.bcli.specs.Serves.{telling_ends, traced_rows}
 
 -- findings and counts for an editor, and for people
 forms_asked : map form_of (true ∷ false ∷ []) ≡ forms.Json ∷ forms.Text ∷ []

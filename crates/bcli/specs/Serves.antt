@@ -1,20 +1,11 @@
--- Promise: the answer to a command line.
-use Rattle.std.specs.Prelude.{◌≡◌, ◌≢◌, ℕ, Bool, List, [], ◌∷◌, ◌++◌, All, codes, if◌then◌else◌, ◌⊎◌}
-use Rattle.std.specs.Prelude.{Option, Some, None, map as map_each}
-use Rattle.clap.specs.Words.{IsAmong, Text}
-use Rattle.clap.specs.declared.error.kind.ErrorKind.{ErrorKind}
-use Rattle.clap.specs.declared.error.kind.ErrorKind.TheVariants as kind
-use Rattle.bword.specs.ByteEnds.{Incoming, Unread, incoming_of}
+-- Promise: the answer to a command line by the whole program, and what each tool does for it.
+use Rattle.std.specs.Prelude.{◌≡◌, ℕ, Bool, List, [], if◌then◌else◌, ◌⊎◌, Option, Some, None}
+use Rattle.clap.specs.Words.{Text}
+use Rattle.bword.specs.ByteEnds.{Unread, incoming_of}
 use Rattle.bword.specs.declared.edition.Edition.{Edition}
-use Rattle.blang.specs.Compiles.{CompileHeadline, Compiles, Run}
-use Rattle.blang.specs.declared.status.TheConstants.{DONE, DEVICE, MEMORY, WRONG_COMMAND}
-use Rattle.blang.specs.Headline.{GoesOff, Headline}
-use Rattle.brun.specs.Migrates.{Migrates, rewriting}
 use Rattle.brun.specs.OneRun.{unread}
-use Rattle.blang.specs.Reports.{Reported, RunEnds, HasNotRun}
-use Rattle.brun.specs.Runs.{RunsText}
-use Rattle.bsources.specs.Files.{Files, NamedText, file_of, followed, joined}
-use Rattle.bsources.specs.JoinedEnds.{IsJoined, Joined, joined_in, joined_new, lender_joined}
+use Rattle.blang.specs.Reports.{RunEnds}
+use Rattle.bsources.specs.Files.{Files, file_of, followed}
 use Rattle.bcheck.specs.Checks.{Checks}
 use Rattle.bcheck.specs.declared.form.FindingForm.{FindingForm}
 use Rattle.bcheck.specs.declared.form.FindingForm.TheVariants as forms
@@ -40,42 +31,20 @@ use Rattle.bfix.specs.Ports.{Ports}
 use Rattle.bshow.specs.CarefulPages.{ShowsCarefully}
 use Rattle.bformat.specs.Formats.{Formats}
 use Rattle.bwhere.specs.Wheres.{LocatesCode}
-use Rattle.bcommand.specs.CommandLine.{Asked, OriginAsked, Question, SourceAsked, asked_in, clash_line, fault_in}
+use Rattle.bcommand.specs.CommandLine.{Asked, OriginAsked, Question, SourceAsked}
 use Rattle.bcommand.specs.CommandLine.{from_source, from_code, from_made, try_out}
-use Rattle.bcommand.specs.CommandLine.{compile, run, locate_code, go, migrate, ask, contradiction, list, map, draw}
+use Rattle.bcommand.specs.CommandLine.{locate_code, ask, list, map, draw}
 use Rattle.bcommand.specs.CommandLine.{check, fix, tell_names, trace, locate, go_careful, count, show, format, verify}
 use Rattle.bcommand.specs.CommandLine.{port}
 use Rattle.bcommand.specs.declared.job.Care.{Care}
 use Rattle.bcommand.specs.declared.job.Care.TheVariants as care
 use Rattle.bcommand.specs.declared.job.Rows.{Rows}
 use Rattle.bcommand.specs.declared.job.Rows.TheVariants as which
-use Rattle.bcli.specs.Shelves.{Holdings}
+use Rattle.bcore.specs.Processes.{KnownStreams, ServesProcess as ServesProcessWith}
+use Rattle.bcore.specs.Serves.{Does as DoesWith, NamesFile, NamesLibOf, Reads, Serves as ServesWith, whole}
+use Rattle.bcore.specs.Shelves.{Holdings}
 use Rattle.bcli.specs.Explains.{LocatesAndExplains}
 use Rattle.bcli.specs.Tries.{Tries}
-
--- the message for words that aren't UTF-8
-abbrev pub unread_line : List ℕ
-unread_line = codes "error: a word of the command line is not UTF-8\n\nFor more information, try '--help'.\n"
-
--- Nothing was read or written, and this is the status.
-pub record SaysNothing (ends : RunEnds) (status answer : ℕ) : Type 0 where
-  pub unread : HasNotRun ends
-  pub no_line : ends.line_after ≡ ends.line
-  pub status_is : status ≡ answer
-
--- The file could not be opened or read, for which there is this reason, or memory ran out.
-abbrev pub HasNoFile : Type 0 → RunEnds → ℕ → Type 0
-HasNoFile reason ends status = reason × SaysNothing ends status DEVICE ⊎ SaysNothing ends status MEMORY
-
--- the message for a file that can't be opened or read
-abbrev pub no_file_line : List ℕ → List ℕ
-no_file_line file = codes "error: the file '" ++ file ++ codes "' can't be read\n"
-
--- The file could not be opened or read, for which there is this reason, and its name was told; or memory was refused.
-abbrev pub NamesFile : Type 0 → Text → RunEnds → ℕ → Type 0
-NamesFile reason file ends status =
-    reason × HasNotRun ends × Reported (no_file_line file) DEVICE ends.line ends.line_after status
-    ⊎ SaysNothing ends status MEMORY
 
 -- the streams of a command that tells of a source
 abbrev pub telling_ends : RunEnds → ToldEnds
@@ -95,72 +64,9 @@ style_of for_editor = if for_editor then styles.Json else styles.Table
 abbrev pub form_of : (for_editor : Bool) → FindingForm
 form_of for_editor = if for_editor then forms.Json else forms.Text
 
--- the compiler over a source and the streams of the program
-abbrev pub compiling : Edition → (source source_after : Incoming) → RunEnds → ℕ → Run
-compiling edition source source_after ends status = record {
-  edition = edition;
-  source = source;
-  source_after = source_after;
-  code = ends.out;
-  code_after = ends.out_after;
-  line = ends.line;
-  line_after = ends.line_after;
-  status = status;
-}
-
--- The files that follow the first one of a source were read.
-pub record ReadsLibs (shelf : Holdings) (names : List Text) : Type 0 where
-  pub texts : List NamedText
-  pub names_are : map_each (λ it. it.name) texts ≡ names
-  pub held : All (λ it. shelf.holds it.name it.text) texts
-
--- A source was read: its first file, and those that follow it.
-pub record Reads (shelf : Holdings) (source : SourceAsked) : Type 0 where
-  pub text : List ℕ
-  pub held : shelf.holds source.file text
-  pub libs : ReadsLibs shelf source.libs
-
--- the bytes of the source: those of its files, a newline between them
-abbrev pub whole : {shelf : Holdings} {source : SourceAsked} → Reads shelf source → List ℕ
-whole r = joined r.text (map_each (λ it. it.text) r.libs.texts)
-
 abbrev pub files_read : {shelf : Holdings} {source : SourceAsked} → Reads shelf source → Files
 files_read {shelf} {source} r =
     record { first = file_of source.file r.text; rest = (followed r.libs.texts).files }
-
--- Of these files those before one were read. That one could not be opened or read, and its name was told; or memory was
--- refused.
-pub record NamesLib (shelf : Holdings) (names : List Text) (ends : RunEnds) (status : ℕ) : Type 0 where
-  pub before : List Text
-  pub lib : Text
-  pub after : List Text
-  pub in_turn : names ≡ before ++ lib ∷ after
-  pub reads : ReadsLibs shelf before
-  pub named : NamesFile (shelf.lacks lib) lib ends status
-
--- the first file of a source was read, and then one could not be
-abbrev pub NamesLibOf : Holdings → SourceAsked → RunEnds → ℕ → Type 0
-NamesLibOf shelf source ends status =
-    (text : List ℕ) × shelf.holds source.file text × NamesLib shelf source.libs ends status
-
--- A source was compiled over an end over the input and these bytes after it, of which this stands after all calls.
-pub record CompilesJoined (edition : Edition) (rest : List ℕ) (ends : RunEnds) (status : ℕ) : Type 0 where
-  pub source : Joined
-  pub source_after : Joined
-  pub begins : source ≡ joined_new ends.input source.ready source.lender rest
-  pub same : lender_joined source_after ≡ lender_joined source
-  pub stands : IsJoined source_after
-  pub ended : source_after.first ≡ ends.input_after
-  pub compiles : Compiles (compiling edition (joined_in source) (joined_in source_after) ends status)
-  pub headline : CompileHeadline (compiling edition (joined_in source) (joined_in source_after) ends status)
-
--- a source was compiled over the input, and these files after it
-abbrev pub CompilesInput : Holdings → Edition → List Text → RunEnds → ℕ → Type 0
-CompilesInput shelf edition [] ends status =
-    Compiles (compiling edition ends.input ends.input_after ends status)
-    × CompileHeadline (compiling edition ends.input ends.input_after ends status)
-CompilesInput shelf edition (lib ∷ libs) ends status = NamesLib shelf (lib ∷ libs) ends status
-    ⊎ ((r : ReadsLibs shelf (lib ∷ libs)) × CompilesJoined edition (followed r.texts).text ends status)
 
 -- what a question asks a program to be read from
 abbrev pub origin_of : Question → OriginAsked
@@ -298,59 +204,26 @@ abbrev pub Answers : Holdings → Edition → Files → (text : List ℕ) → Qu
 Answers shelf edition files text question ends status = OnOrigin shelf edition text (origin_of question)
     (λ origin. AnswersOf origin edition files text question) ends status
 
--- what was asked for is done, for texts that the shelf holds under the names of the files
-abbrev pub Does : Holdings → Asked → RunEnds → ℕ → Type 0
-Does shelf (compile edition libs) ends status = CompilesInput shelf edition libs ends status
-Does shelf (run file steps) ends status = HasNoFile (shelf.lacks file) ends status
-    ⊎ ((text : List ℕ) × shelf.holds file text × RunsText steps text ends status)
-Does shelf (locate_code file steps) ends status = NamesFile (shelf.lacks file) file ends status
+-- what is asked of a tool is done, for texts that the shelf holds under the names of the files
+abbrev pub UsesTool : Holdings → Asked → RunEnds → ℕ → Type 0
+UsesTool shelf (locate_code file steps) ends status = NamesFile (shelf.lacks file) file ends status
     ⊎ ((text : List ℕ) × shelf.holds file text × LocatesCode steps text ends status)
-Does shelf (go source steps) ends status = HasNoFile (shelf.lacks source.file) ends status
-    ⊎ NamesLibOf shelf source ends status
-    ⊎ ((r : Reads shelf source) × (following : Unread)
-    × GoesOff source.edition steps (unread (whole r)) (incoming_of following) ends status
-    × Headline source.edition steps (unread (whole r)) (incoming_of following) ends status)
-Does shelf migrate ends status =
-    Migrates (rewriting ends.input ends.input_after ends.out ends.out_after) ends.line ends.line_after status
-Does shelf (verify file) ends status = NamesFile (shelf.lacks file) file ends status
+UsesTool shelf (verify file) ends status = NamesFile (shelf.lacks file) file ends status
     ⊎ ((text : List ℕ) × shelf.holds file text × VerifiesText text (telling_ends ends) status
     × (ends.input_after ≡ ends.input))
-Does shelf (ask source question) ends status = NamesFile (shelf.lacks source.file) source.file ends status
+UsesTool shelf (ask source question) ends status = NamesFile (shelf.lacks source.file) source.file ends status
     ⊎ NamesLibOf shelf source ends status
     ⊎ ((r : Reads shelf source) × Answers shelf source.edition (files_read r) (whole r) question ends status)
-Does shelf (contradiction clash) ends status =
-    HasNotRun ends × Reported (clash_line clash) WRONG_COMMAND ends.line ends.line_after status
+UsesTool shelf other ends status = ⊥
 
-abbrev pub IsHelp : ErrorKind → Type 0
-IsHelp k = (k ≡ kind.DisplayHelp) ⊎ (k ≡ kind.DisplayVersion)
+-- what was asked for is done, by the core of the program with these tools
+abbrev pub Does : Holdings → Asked → RunEnds → ℕ → Type 0
+Does shelf asked ends status = DoesWith UsesTool shelf asked ends status
 
--- A text was written to the output, for a reason of this kind: help or the version was asked for.
-pub record AnswersHelp (k : ErrorKind) (ends : RunEnds) (status : ℕ) : Type 0 where
-  pub help : IsHelp k
-  pub unread : ends.input_after ≡ ends.input
-  pub no_line : ends.line_after ≡ ends.line
-  pub text : List ℕ
-  pub some_text : text ≢ []
-  pub told : Reported text DONE ends.out ends.out_after status
+-- Words without a fault get what they ask for, and others an answer to one of their faults.
+abbrev pub Serves : Holdings → (words : List Text) → RunEnds → ℕ → Type 0
+Serves shelf words ends status = ServesWith UsesTool shelf words ends status
 
--- A text was written beside the output, for a reason of another kind.
-pub record Complains (k : ErrorKind) (ends : RunEnds) (status : ℕ) : Type 0 where
-  pub no_help : IsHelp k → ⊥
-  pub no_memory : k ≢ kind.OutOfMemory
-  pub unread : HasNotRun ends
-  pub text : List ℕ
-  pub some_text : text ≢ []
-  pub told : Reported text WRONG_COMMAND ends.line ends.line_after status
-
--- what is answered for a reason of this kind
-abbrev pub RefusesWords : ErrorKind → RunEnds → ℕ → Type 0
-RefusesWords k ends status = AnswersHelp k ends status ⊎ Complains k ends status ⊎ SaysNothing ends status MEMORY
-
--- Words without a fault get what they ask for, of the files on this shelf. Others are answered for one of their faults,
--- of which help is one. To read any words takes memory; where it is refused, nothing is read or written.
-pub data Serves (shelf : Holdings) (words : List Text) (ends : RunEnds) (status : ℕ) : Type 0 where
-  did : fault_in words ≡ [] → Does shelf (asked_in words) ends status
-      → Serves shelf words ends status
-  refused : (k : ErrorKind) → IsAmong k (fault_in words) → RefusesWords k ends status
-      → Serves shelf words ends status
-  no_memory : SaysNothing ends status MEMORY → Serves shelf words ends status
+-- so do those of a process
+abbrev pub ServesProcess : Holdings → Option (List Text) → (shown : Type 0) → KnownStreams → ℕ → Type 0
+ServesProcess files words shown known status = ServesProcessWith UsesTool files words shown known status

@@ -29,15 +29,16 @@ use Rattle.btools.specs.FaultPlaces.{fault_lines}
 use Rattle.btools.specs.Programs.{HasFault, HasProgram}
 use Rattle.bcommand.specs.declared.job.Clash.{Clash}
 use Rattle.bwhere.specs.Wheres.{LocatesCode}
-use Rattle.bcli.specs.declared.shelf.MemFile.{MemFile}
-use Rattle.bcli.specs.Serves.{Answers, AnswersOf, CompilesJoined, Does, HasNoFile, IsHelp, NamesFile, NamesLib}
-use Rattle.bcli.specs.Serves.{NamesLibOf, SaysNothing, Serves, compiling, origin_of, unread_line}
+use Rattle.bcore.specs.declared.shelf.MemFile.{MemFile}
+use Rattle.bcore.specs.Serves.{CompilesJoined, HasNoFile, IsHelp, NamesFile, NamesLib, NamesLibOf, SaysNothing}
+use Rattle.bcore.specs.Serves.{compiling, unread_line}
+use Rattle.bcli.specs.Serves.{Answers, AnswersOf, Does, Serves, ServesProcess, origin_of}
 use Rattle.btools.specs.declared.program.ProgramFault.TheVariants as why
 use Rattle.bcli.specs.Explains.{fault_explained}
 use Rattle.bcli.specs.Tries.{IsTriedWhole}
-use Rattle.bcli.specs.Blocks.{HandsOn, Held, TakesPiece, held}
-use Rattle.bcli.specs.Processes.{KnownStreams, PerformsTask, ServesProcess}
-use Rattle.bcli.specs.Shelves.{Holdings, holding}
+use Rattle.bcore.specs.Blocks.{HandsOn, Held, TakesPiece, held}
+use Rattle.bcore.specs.Processes.{KnownStreams, PerformsTask}
+use Rattle.bcore.specs.Shelves.{Holdings, holding}
 
 -- The words have a fault, and don't ask for help.
 pub record AreWrong (words : List Text) : Type 0 where

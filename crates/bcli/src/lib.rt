@@ -1,15 +1,13 @@
-//! Serving the command line of the program `b`.
+//! The tools of the program `b`, and its command line with them.
 #![tactic(auto)]
 
-mod block;
 mod explaining;
 mod origins;
-mod process;
 mod serving;
-mod shelf;
-mod sources;
 mod trying;
 
-pub use process::{Served, Streams, serve_process, wrong_processes_are_excluded};
-pub use serving::{files_are_read, refuse_words, serve, serve_with, wrong_answers_are_excluded};
-pub use shelf::{FileFault, MemFile, Shelf, SystemFiles};
+pub use bcore::{FileFault, MemFile, Served, Shelf, Streams, SystemFiles};
+pub use serving::{
+    AllTools, files_are_read, serve, serve_process, serve_with, wrong_answers_are_excluded,
+    wrong_processes_are_excluded,
+};

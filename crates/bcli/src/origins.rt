@@ -2,13 +2,12 @@
 ghost use Rattle.std.specs.Prelude.{◌≡◌, IfOk, IfErr, option_map};
 ghost use Rattle.bcommand.specs.CommandLine.{origin_shown as asked_origin};
 ghost use Rattle.btools.specs.Origins.{origin_shown};
-ghost use Rattle.bcli.specs.Shelves.{Holdings};
+ghost use Rattle.bcore.specs.Shelves.{Holdings};
 ghost use Rattle.bcli.specs.Reading.{HasReadMade, HasReadNames, HasReadOrigin, IsNamed, MadeIsUnread};
 ghost use Rattle.bcli.specs.Reading.{NamesAreUnread, OriginIsUnread, origin_read};
 
-use crate::shelf::Shelf;
-use crate::sources::NamedFault;
 use bcommand::{MadeNames, OriginNames};
+use bcore::{NamedFault, Shelf};
 use btools::{CodeText, Origin};
 use bword::Edition;
 use std::alloc::Global;

@@ -1,58 +1,76 @@
-//! Serving a command line.
-ghost use Rattle.std.specs.Prelude.{◌≡◌, ◌≢◌, ◌⊎◌, [], IfOk, map as map_each, option_map, string_bytes};
-ghost use Rattle.clap.specs.Words.{kind_of};
-ghost use Rattle.bword.specs.ByteEnds.{Incoming, Outgoing};
-ghost use Rattle.blang.specs.declared.status.TheConstants.{DEVICE, MEMORY, WRONG_COMMAND};
-ghost use Rattle.blang.specs.Reports.{Reported, run_ends};
-ghost use Rattle.bcommand.specs.CommandLine.{ask, asked_of, compile, go, question_of, source_shown};
+//! What the tools do, and the whole program with them.
+ghost use Rattle.std.specs.Prelude.{◌≡◌, ◌≢◌, None, map as map_each, option_map, string_bytes};
+ghost use Rattle.blang.specs.Reports.{run_ends};
+ghost use Rattle.bcommand.specs.CommandLine.{ask, question_of, source_shown};
 ghost use Rattle.bcommand.specs.CommandLine.{origin_shown as asked_origin};
-ghost use Rattle.bcli.specs.ShellExcluded.{Excluded, FileIsRead};
+ghost use Rattle.bcli.specs.ShellExcluded.{Excluded, FileIsRead, ProcessExcluded};
+ghost use Rattle.bcore.specs.Shelves.{opened};
 ghost use Rattle.bshow.specs.Shows.{asked_of as page_of};
 ghost use Rattle.bsources.specs.Files.{file_shown, files_shown};
 ghost use Rattle.btools.specs.Origins.{origin_shown};
-ghost use Rattle.bcli.specs.Serves.{Answers, AnswersOf, CompilesJoined, Does, NamesFile, RefusesWords, Serves};
-ghost use Rattle.bcli.specs.Serves.{ShowsBy, ShowsRun, care_taken, form_of, no_file_line, origin_of, page_asked};
-ghost use Rattle.bcli.specs.Serves.{style_of, traced_rows, unread_line};
-ghost use Rattle.bcli.specs.Shelves.{opened};
+ghost use Rattle.bcli.specs.Serves.{Answers, AnswersOf, Serves, ServesProcess, ShowsBy, ShowsRun, UsesTool, care_taken};
+ghost use Rattle.bcli.specs.Serves.{form_of, origin_of, page_asked, style_of, traced_rows};
 
 use crate::explaining::locate_and_explain;
 use crate::origins::read_origin;
-use crate::shelf::{FileFault, MemFile, Shelf, SystemFiles};
-use crate::sources::{Unread, Whole, read_libs, read_source};
 use crate::trying::{Attempt, try_source};
 use bcareful::{CarefulRequest, go_careful};
 use bcheck::{FindingForm, Request, check};
-use bcommand::{
-    Care, Display, Job, OriginNames, Question, Rows, SourceNames, UNREAD, Walk, clash_text,
-    full_words, job_of, parse,
+use bcommand::{Care, Display, OriginNames, Question, Rows, SourceNames, Walk};
+use bcore::{
+    MemFile, Served, Shelf, Streams, ToolJob, Tools, Unread, Whole, name_file, read_source,
 };
 use bcount::{CountStyle, Counting, count};
 use bdraw::draw;
 use bfix::{fix, port};
 use bformat::{House, format};
-use blang::status::{self, Status};
+use blang::status::Status;
 use blist::{list, map};
 use bnaming::tell_names;
-use bparse::compile_edition;
-use brun::{go_edition, migrate, run_text};
 use bshow::{show, show_careful};
-use bsources::{Following, JoinedIn, SourceFile, SourceFiles};
-use btools::{Origin, tell};
+use bsources::{Following, SourceFile, SourceFiles};
+use btools::Origin;
 use btrace::{TraceRequest, trace};
 use bverify::verify_text;
 use bwhere::locate_code;
 use bword::{ByteIn, ByteOut, Edition, MemIn};
-use clap::Error;
-use clap::error::ErrorKind;
-use std::alloc::{AllocError, Global};
+use std::alloc::Global;
+use std::io::{Read, Write};
 use std::rt::Files;
 
-// The message where that of `clap` is empty.
-const UNTOLD: &str = "b: there is no message for these words\n";
+/// The tools of the program.
+#[derive(Clone, Copy)]
+pub struct AllTools;
 
-/// Does what the words of a command line ask for, with the files of the system. The first word is the program's name.
-///
-/// The same as `serve_with`.
+impl Tools for AllTools {
+    ghost answers = { UsesTool };
+
+    fn answer<S: Shelf, I: ByteIn, O: ByteOut, D: ByteOut>(
+        &self,
+        alloc: Global,
+        shelf: &S,
+        job: ToolJob<'_>,
+        input: &mut I,
+        out: &mut O,
+        diag: &mut D,
+    ) -> Status {
+        match job {
+            ToolJob::LocateCode(file, steps) => match shelf.read(alloc, file) {
+                Ok(code) => locate_code(alloc, code.as_slice(), input, out, diag, steps),
+                Err(fault) => name_file(alloc, file, fault, diag),
+            },
+            ToolJob::Verify(file) => match shelf.read(alloc, file) {
+                Ok(code) => verify_text(alloc, code.as_slice(), out, diag),
+                Err(fault) => name_file(alloc, file, fault, diag),
+            },
+            ToolJob::Ask(source, question) => {
+                ask_file(alloc, shelf, source, question, input, out, diag)
+            }
+        }
+    }
+}
+
+/// Does what the words of a command line ask for, with the files of the system, as `bcore::serve` does with these tools.
 pub fn serve<R: AllocGlobal + Files, I: ByteIn, O: ByteOut, D: ByteOut>(
     rt: &R,
     words: &[String],
@@ -67,13 +85,10 @@ pub fn serve<R: AllocGlobal + Files, I: ByteIn, O: ByteOut, D: ByteOut>(
     ensures out_lender { O.lender out.new ≡ O.lender out.old }
     ensures diag_lender { D.lender diag.new ≡ D.lender diag.old }
 {
-    serve_with(rt.alloc(), &SystemFiles { rt }, words, input, out, diag)
+    bcore::serve(&AllTools, rt, words, input, out, diag)
 }
 
-/// Does what the words of a command line ask for, with the files on a shelf. The first word is the program's own name.
-///
-/// Help goes to `out` with status 0. What is wrong with the words goes to `diag` with status 135. The words are read
-/// first, then FILE if a command needs it, and then the input. The status is 133 if FILE can't be read.
+/// The same with the files on a shelf.
 pub fn serve_with<S: Shelf, I: ByteIn, O: ByteOut, D: ByteOut>(
     alloc: Global,
     shelf: &S,
@@ -89,132 +104,28 @@ pub fn serve_with<S: Shelf, I: ByteIn, O: ByteOut, D: ByteOut>(
     ensures out_lender { O.lender out.new ≡ O.lender out.old }
     ensures diag_lender { D.lender diag.new ≡ D.lender diag.old }
 {
-    let Ok(words) = full_words(alloc, words) else {
-        return status::MEMORY;
-    };
-    match parse(alloc, words.as_slice()) {
-        Ok(found) => perform(alloc, shelf, job_of(&found), input, out, diag),
-        Err(error) => refuse(alloc, error, out, diag),
-    }
+    bcore::serve_with(&AllTools, alloc, shelf, words, input, out, diag)
 }
 
-// Does what is asked for.
-fn perform<S: Shelf, I: ByteIn, O: ByteOut, D: ByteOut>(
-    alloc: Global,
-    shelf: &S,
-    job: Job<'_>,
-    input: &mut I,
-    out: &mut O,
-    diag: &mut D,
-) -> Status
-    ensures does { Does (S.holdings shelf.now) (asked_of job.entry) (run_ends
-        (I.incoming input.old) (I.incoming input.new) (O.outgoing out.old) (O.outgoing out.new)
-        (D.outgoing diag.old) (D.outgoing diag.new)) result }
-    ensures input_lender { I.lender input.new ≡ I.lender input.old }
-    ensures out_lender { O.lender out.new ≡ O.lender out.old }
-    ensures diag_lender { D.lender diag.new ≡ D.lender diag.old }
+/// Does what the words of a process ask for, over its streams, as `bcore::serve_process` does with these tools.
+pub fn serve_process<R, I, O, D>(
+    rt: &R,
+    words: Option<Vec<String>>,
+    streams: Streams<I, O, D>,
+) -> Served<O, D>
+where
+    R: AllocGlobal + Files,
+    I: Read + Drop,
+    O: Write + Drop,
+    D: Write + Drop,
+    ensures serves { ServesProcess (opened R.File.remaining)
+        (option_map (λ v. map_each string_bytes v.items) words) (result.output ≢ None) (record {
+          input = I.remaining streams.input;
+          line = D.contents streams.diag;
+          line_after = D.contents result.diag;
+        }) result.status }
 {
-    match job {
-        Job::Compile(edition, libs) => {
-            compile_input(alloc, shelf, edition, libs, input, out, diag)
-        }
-        Job::Run(file, steps) => match shelf.read(alloc, file) {
-            Ok(code) => run_text(alloc, code.as_slice(), input, out, diag, steps),
-            Err(fault) => status_of(fault),
-        },
-        Job::LocateCode(file, steps) => match shelf.read(alloc, file) {
-            Ok(code) => locate_code(alloc, code.as_slice(), input, out, diag, steps),
-            Err(fault) => name_file(alloc, file, fault, diag),
-        },
-        Job::Go(source, steps) => go_file(alloc, shelf, source, steps, input, out, diag),
-        Job::Migrate => migrate(alloc, input, out, diag),
-        Job::Verify(file) => match shelf.read(alloc, file) {
-            Ok(code) => verify_text(alloc, code.as_slice(), out, diag),
-            Err(fault) => name_file(alloc, file, fault, diag),
-        },
-        Job::Ask(source, question) => ask_file(alloc, shelf, source, question, input, out, diag),
-        Job::Contradiction(clash) => refuse_with(clash_text(clash), diag),
-    }
-}
-
-// Compiles the input, and files after it.
-fn compile_input<S: Shelf, I: ByteIn, O: ByteOut, D: ByteOut>(
-    alloc: Global,
-    shelf: &S,
-    edition: Edition,
-    libs: &[&str],
-    input: &mut I,
-    out: &mut O,
-    diag: &mut D,
-) -> Status
-    ensures does { Does (S.holdings shelf.now) (compile edition (map_each (λ lib. lib.now) libs.now)) (run_ends
-        (I.incoming input.old) (I.incoming input.new) (O.outgoing out.old) (O.outgoing out.new)
-        (D.outgoing diag.old) (D.outgoing diag.new)) result }
-    ensures input_lender { I.lender input.new ≡ I.lender input.old }
-    ensures out_lender { O.lender out.new ≡ O.lender out.old }
-    ensures diag_lender { D.lender diag.new ≡ D.lender diag.old }
-{
-    if libs.is_empty() {
-        return compile_edition(alloc, input, out, diag, edition);
-    }
-    match read_libs(alloc, shelf, libs) {
-        Ok(libs) => compile_joined(alloc, libs.text(), edition, input, out, diag),
-        Err(lib) => name_file(alloc, lib.name, lib.fault, diag),
-    }
-}
-
-// Compiles the input, and bytes after it.
-fn compile_joined<I: ByteIn, O: ByteOut, D: ByteOut>(
-    alloc: Global,
-    rest: &[u8],
-    edition: Edition,
-    input: &mut I,
-    out: &mut O,
-    diag: &mut D,
-) -> Status
-    ensures compiles { CompilesJoined edition rest.now (run_ends
-        (I.incoming input.old) (I.incoming input.new) (O.outgoing out.old) (O.outgoing out.new)
-        (D.outgoing diag.old) (D.outgoing diag.new)) result }
-    ensures input_lender { I.lender input.new ≡ I.lender input.old }
-    ensures out_lender { O.lender out.new ≡ O.lender out.old }
-    ensures diag_lender { D.lender diag.new ≡ D.lender diag.old }
-{
-    let mut source = JoinedIn::new(input, rest);
-    let status = compile_edition(alloc, &mut source, out, diag, edition);
-    let _ = source.into_first();
-    status
-}
-
-// Compiles the source in a file and runs it.
-fn go_file<S: Shelf, I: ByteIn, O: ByteOut, D: ByteOut>(
-    alloc: Global,
-    shelf: &S,
-    source: SourceNames<'_>,
-    steps: u64,
-    input: &mut I,
-    out: &mut O,
-    diag: &mut D,
-) -> Status
-    ensures does { Does (S.holdings shelf.now) (go (source_shown source.entry) steps) (run_ends
-        (I.incoming input.old) (I.incoming input.new) (O.outgoing out.old) (O.outgoing out.new)
-        (D.outgoing diag.old) (D.outgoing diag.new)) result }
-    ensures input_lender { I.lender input.new ≡ I.lender input.old }
-    ensures out_lender { O.lender out.new ≡ O.lender out.old }
-    ensures diag_lender { D.lender diag.new ≡ D.lender diag.old }
-{
-    match read_source(alloc, shelf, source) {
-        Ok(whole) => go_edition(
-            alloc,
-            &mut MemIn::new(whole.text.as_slice()),
-            input,
-            out,
-            diag,
-            steps,
-            source.edition,
-        ),
-        Err(Unread::File(fault)) => status_of(fault),
-        Err(Unread::Lib(lib)) => name_file(alloc, lib.name, lib.fault, diag),
-    }
+    bcore::serve_process(&AllTools, rt, words, streams)
 }
 
 // Answers what is asked of the source in a file.
@@ -227,7 +138,7 @@ fn ask_file<S: Shelf, I: ByteIn, O: ByteOut, D: ByteOut>(
     out: &mut O,
     diag: &mut D,
 ) -> Status
-    ensures does { Does (S.holdings shelf.now) (ask (source_shown source.entry) (question_of question.entry)) (run_ends
+    ensures does { UsesTool (S.holdings shelf.now) (ask (source_shown source.entry) (question_of question.entry)) (run_ends
         (I.incoming input.old) (I.incoming input.new) (O.outgoing out.old) (O.outgoing out.new)
         (D.outgoing diag.old) (D.outgoing diag.new)) result }
     ensures input_lender { I.lender input.new ≡ I.lender input.old }
@@ -570,85 +481,6 @@ fn form_of(for_editor: bool) -> FindingForm
     }
 }
 
-// Names a file that can't be opened or read, unless there was no memory for it.
-fn name_file<D: ByteOut>(alloc: Global, file: &str, fault: FileFault, diag: &mut D) -> Status
-    ensures names { (unread : Incoming) (out : Outgoing) → NamesFile (fault ≡ FileFault.Device) file.now
-        (run_ends unread unread out out (D.outgoing diag.old) (D.outgoing diag.new)) result }
-    ensures diag_lender { D.lender diag.new ≡ D.lender diag.old }
-{
-    match fault {
-        FileFault::Device => match no_file_line(alloc, file) {
-            Ok(text) => tell(text.as_bytes(), status::DEVICE, diag),
-            Err(_) => status::MEMORY,
-        },
-        FileFault::Memory => status::MEMORY,
-    }
-}
-
-fn no_file_line(alloc: Global, file: &str) -> Result<String, AllocError>
-    ensures { IfOk result (λ text. string_bytes text ≡ no_file_line file.now) }
-{
-    let mut text = String::from_str(alloc, "error: the file '")?;
-    text.push_str(file)?;
-    text.push_str("' can't be read\n")?;
-    Ok(text)
-}
-
-// The status for a file that was not read.
-fn status_of(fault: FileFault) -> Status
-    ensures { (fault ≡ FileFault.Device) × (result ≡ DEVICE) ⊎ (result ≡ MEMORY) }
-{
-    match fault {
-        FileFault::Device => status::DEVICE,
-        FileFault::Memory => status::MEMORY,
-    }
-}
-
-/// Refuses a command line with a word that isn't UTF-8, and says so.
-pub fn refuse_words<D: ByteOut>(diag: &mut D) -> Status
-    ensures gives { Reported unread_line WRONG_COMMAND (D.outgoing diag.old) (D.outgoing diag.new) result }
-    ensures diag_lender { D.lender diag.new ≡ D.lender diag.old }
-{
-    refuse_with(UNREAD, diag)
-}
-
-// Writes what is wrong with a command line.
-fn refuse_with<D: ByteOut>(text: &str, diag: &mut D) -> Status
-    ensures gives { Reported text.now WRONG_COMMAND (D.outgoing diag.old) (D.outgoing diag.new) result }
-    ensures diag_lender { D.lender diag.new ≡ D.lender diag.old }
-{
-    tell(text.as_bytes(), status::WRONG_COMMAND, diag)
-}
-
-// Writes help to the output, and what is wrong beside it.
-fn refuse<O: ByteOut, D: ByteOut>(alloc: Global, error: Error, out: &mut O, diag: &mut D) -> Status
-    ensures refuses { (unread : Incoming) → RefusesWords (kind_of error)
-        (run_ends unread unread (O.outgoing out.old) (O.outgoing out.new)
-        (D.outgoing diag.old) (D.outgoing diag.new)) result }
-    ensures out_lender { O.lender out.new ≡ O.lender out.old }
-    ensures diag_lender { D.lender diag.new ≡ D.lender diag.old }
-{
-    if error.kind() == ErrorKind::OutOfMemory {
-        return status::MEMORY;
-    }
-    let Ok(text) = error.to_string(alloc) else {
-        return status::MEMORY;
-    };
-    let said = or_untold(text.as_str());
-    if error.use_stderr() {
-        refuse_with(said, diag)
-    } else {
-        tell(said.as_bytes(), status::DONE, out)
-    }
-}
-
-// The text of an error, or another one where it is empty. No contract of `clap` says that it isn't.
-fn or_untold(text: &str) -> &str
-    ensures { result.now ≢ [] }
-{
-    if text.is_empty() { UNTOLD } else { text }
-}
-
 /// No command line gives these answers, whatever the shelf holds: success or an action for wrong words, a complaint for
 /// help, success for a file that can't be read, a run where a limit of steps and none are asked for.
 pub fn wrong_answers_are_excluded<S: Shelf>(_shelf: &S)
@@ -658,4 +490,10 @@ pub fn wrong_answers_are_excluded<S: Shelf>(_shelf: &S)
 /// A file in memory isn't missing, and its own text is compiled or run, and no other.
 pub fn files_are_read(_file: MemFile<'_>)
     ensures { FileIsRead _file.entry }
+{}
+
+/// No process gets these answers: that of other words, success for wrong ones, or a complaint whose line is not
+/// written. A block of its output holds what it held, and then the bytes that it takes.
+pub fn wrong_processes_are_excluded<S: Shelf>(_shelf: &S)
+    ensures { ProcessExcluded (S.holdings _shelf.now) }
 {}

@@ -1,5 +1,6 @@
 //! Command lines: what is written, the line beside it and the status.
 use bcli::{MemFile, serve, serve_with};
+use bcore::NoTools;
 use bparse::Status;
 use bword::{ByteIn, ByteOut, MemIn, MemOut};
 use std::alloc::Global;
@@ -52,6 +53,37 @@ pub(crate) fn serves(
 fn a_file_that_is_not_there(rt: HostRuntime) -> Result<(), Fail> {
     let (out, line) = serves(&rt, "b run none.code", "", 133)?;
     assert!(rt; out.bytes().is_empty() && line.bytes().is_empty());
+    Ok(())
+}
+
+// The core alone compiles and runs, and says so of what is asked of tools.
+#[test]
+fn the_core_alone(rt: HostRuntime) -> Result<(), Fail> {
+    let file = MemFile {
+        name: "a.b",
+        text: b"main() putchar('a');",
+    };
+    for (line, status, written) in [
+        ("b go a.b", 0, "a"),
+        ("b check a.b", 136, ""),
+        ("b go --where a.b", 136, ""),
+    ] {
+        let words = words_of(rt.alloc(), line)?;
+        let mut out = MemOut::new(rt.alloc());
+        let mut diag = MemOut::new(rt.alloc());
+        let answer = bcore::serve_with(
+            &NoTools,
+            rt.alloc(),
+            &file,
+            words.as_slice(),
+            &mut MemIn::new(&[]),
+            &mut out,
+            &mut diag,
+        );
+        assert_eq!(rt; answer, status, "the status of {line}");
+        assert_eq!(rt; out.bytes(), written.as_bytes(), "the output of {line}");
+        assert_eq!(rt; diag.bytes().is_empty(), status == 0, "the line of {line}");
+    }
     Ok(())
 }
 

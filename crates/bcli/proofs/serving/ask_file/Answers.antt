@@ -1,6 +1,7 @@
 use Rattle.std.proofs.Common.{inl, inr, refl}
 use Rattle.bcommand.specs.CommandLine.{question_of, source_shown}
-use Rattle.bcli.proofs.Answered.{asked_of_source, lib_named_of, named_for}
+use Rattle.bcore.proofs.Answered.{lib_named_of, named_for}
+use Rattle.bcli.proofs.Answered.{asked_of_source}
 use Rattle.bcli.proofs.serving.ask_file.Goals as goal
 
 pub returns-in-Ok-clause-does : goal.returns-in-Ok-clause-does

@@ -1,5 +1,0 @@
-use Rattle.bcli.proofs.Showing.{passes_rest}
-use Rattle.bcli.proofs.block.Block.pass_on.Goals as goal
-
-pub returns : goal.returns
-returns g c = record { passes = passes_rest _ _ _ _ _ _ c.in_ok-show_kept.ensures c.if-keep.ensures.keeps c.if-keep.ensures.fits c.show_piece.ensures }

@@ -1,7 +1,0 @@
-use Rattle.std.proofs.Common.{take}
-use Rattle.bcli.proofs.ReadLibs.{shown}
-use Rattle.bcli.specs.Reading.{HasReadLibs}
-use Rattle.bcli.proofs.sources.read_libs.Given as goal
-
-abbrev pub invariant-loop-name : goal.invariant-loop-name
-invariant-loop-name g l = HasReadLibs (g.S.Shelf.holdings l.shelf) (shown (take l.name-index l.names)) l.libs

@@ -1,0 +1,6 @@
+pub mod Blocks
+pub mod Processes
+pub mod Reading
+pub mod Serves
+pub mod Shelves
+pub mod Tools

@@ -1,0 +1,308 @@
+//! The streams of a process, kept in order: what was written is shown before more input is fetched, and before a line
+//! is written beside it.
+ghost use Rattle.std.specs.Prelude.{◌≡◌, ◌≢◌, ℕ, IfOk, None, OnOk, length, map as map_each, option_map, string_bytes};
+ghost use Rattle.std.specs.Io.{ReadsAtMost, WritesAtMost};
+ghost use Rattle.std.specs.Io.KnownBytes.{Keeps, ReadConsumes, WriteAppends};
+ghost use Rattle.blang.specs.Reports.{RunEnds, run_ends};
+ghost use Rattle.bcore.specs.Blocks.{WasFinished, WasShown, WasTaken};
+ghost use Rattle.bcore.specs.Processes.{AnswersWords, PerformsTask, ServesProcess};
+ghost use Rattle.bcore.specs.Shelves.{opened};
+
+use crate::block::{Block, Buffered, Finish};
+use crate::serving::{refuse_words, serve};
+use crate::tools::Tools;
+use blang::status::{self, Status};
+use bword::{ByteIn, ByteOut, Reading, Writing};
+use std::alloc::Global;
+use std::cell::RefCell;
+use std::env;
+use std::io::{self, BufReader, ErrorKind, IsTerminal, Read, Write};
+use std::process::ExitCode;
+use std::rt::Files;
+
+/// What a process reads and writes.
+#[derive(Drop)]
+pub struct Streams<I: Read + Drop, O: Write + Drop, D: Write + Drop> {
+    pub input: I,
+    pub output: O,
+    /// Gets the lines of faults, traps and wrong command lines.
+    pub diag: D,
+    /// Whether each piece of output is shown at once.
+    pub at_once: bool,
+}
+
+/// The status of a process, and its writers as they were left.
+#[derive(Drop)]
+pub struct Served<O: Write + Drop, D: Write + Drop> {
+    pub status: Status,
+    /// None where some of the output wasn't shown.
+    pub output: Option<O>,
+    pub diag: D,
+}
+
+/// Does what the words of a command line ask for. Without words it refuses the command line. When it returns, all of
+/// the output was shown, or the status is that of a failed write.
+pub fn serve_process<T, R, I, O, D>(
+    tools: &T,
+    rt: &R,
+    words: Option<Vec<String>>,
+    streams: Streams<I, O, D>,
+) -> Served<O, D>
+where
+    T: Tools,
+    R: AllocGlobal + Files,
+    I: Read + Drop,
+    O: Write + Drop,
+    D: Write + Drop,
+    ensures serves { ServesProcess T.answers (opened R.File.remaining)
+        (option_map (λ v. map_each string_bytes v.items) words) (result.output ≢ None) (record {
+          input = I.remaining streams.input;
+          line = D.contents streams.diag;
+          line_after = D.contents result.diag;
+        }) result.status }
+{
+    let Streams {
+        input,
+        output,
+        diag,
+        at_once,
+    } = streams;
+    let alloc = rt.alloc();
+    match Block::new(alloc, output, at_once) {
+        Ok(block) => {
+            let task = Answering { tools, rt, words };
+            perform_task(alloc, task, Output::new(block), input, diag)
+        }
+        Err(_) => Served {
+            status: status::MEMORY,
+            output: None,
+            diag,
+        },
+    }
+}
+
+/// Answers the words of the process that runs on this system, over its own streams.
+pub fn serve_host<T: Tools>(tools: &T, rt: &HostRuntime) -> ExitCode {
+    let words = match words(rt) {
+        Ok(words) => Some(words),
+        Err(error) if error.kind() == ErrorKind::InvalidData => None,
+        Err(_) => return ExitCode::from(status::MEMORY),
+    };
+    let streams = Streams {
+        input: rt.stdin(),
+        output: rt.stdout(),
+        diag: rt.stderr(),
+        at_once: rt.stdout().is_terminal(),
+    };
+    ExitCode::from(serve_process(tools, rt, words, streams).status)
+}
+
+// The words of the command line, where all are UTF-8.
+fn words(rt: &HostRuntime) -> io::Result<Vec<String>> {
+    Ok(env::args(rt)?.collect::<Vec<String>>(rt.alloc())?)
+}
+
+// What is done over the ends of a process. As with a buffer, that it was done can only come from a call. What it
+// writes goes to a buffer of this type, and only the caller of `perform_task` has one.
+trait Task<B: Buffered + Drop> {
+    // What it does to the ends, with its status.
+    ghost does: { Self → RunEnds → ℕ → Type 0 };
+
+    fn perform<I: ByteIn, D: ByteOut>(
+        self,
+        input: &mut I,
+        out: &mut Writing<&Output<B>>,
+        diag: &mut D,
+    ) -> Status
+        ensures does { does self (run_ends
+            (I.incoming input.old) (I.incoming input.new) out.old out.new
+            (D.outgoing diag.old) (D.outgoing diag.new)) result };
+}
+
+// Answering the words of a process.
+#[derive(Drop)]
+struct Answering<'a, T, R> {
+    tools: &'a T,
+    rt: &'a R,
+    words: Option<Vec<String>>,
+}
+
+impl<T: Tools, R: AllocGlobal + Files, B: Buffered + Drop> Task<B> for Answering<'_, T, R> {
+    ghost does = { λ it. AnswersWords T.answers (opened R.File.remaining)
+        (option_map (λ v. map_each string_bytes v.items) it.words) };
+
+    fn perform<I: ByteIn, D: ByteOut>(
+        self,
+        input: &mut I,
+        out: &mut Writing<&Output<B>>,
+        diag: &mut D,
+    ) -> Status {
+        let Answering { tools, rt, words } = self;
+        match words {
+            Some(words) => serve(tools, rt, words.as_slice(), input, out, diag),
+            None => refuse_words(diag),
+        }
+    }
+}
+
+// Performs a task over the streams of a process, and then shows what is held of the output.
+fn perform_task<T, B, I, O, D>(
+    alloc: Global,
+    task: T,
+    output: Output<B>,
+    input: I,
+    diag: D,
+) -> Served<O, D>
+where
+    T: Task<B> + Drop,
+    B: Buffered + Finish<O> + Drop,
+    I: Read + Drop,
+    O: Write + Drop,
+    D: Write + Drop,
+    ensures performs { PerformsTask (T.does task) (WasFinished B.finishes result.output) (record {
+      input = I.remaining input;
+      line = D.contents diag;
+      line_after = D.contents result.diag;
+    }) result.status }
+{
+    let asking = ReadAfterOutput {
+        reader: input,
+        output: &output,
+    };
+    let Ok(reader) = BufReader::new(alloc, asking) else {
+        return Served {
+            status: status::MEMORY,
+            output: None,
+            diag,
+        };
+    };
+    let mut lines = Writing::new(WriteAfterOutput {
+        writer: diag,
+        output: &output,
+    });
+    let told = task.perform(
+        &mut Reading::new(reader),
+        &mut Writing::new(&output),
+        &mut lines,
+    );
+    let WriteAfterOutput {
+        writer: diag,
+        output: _,
+    } = lines.into_writer();
+    match output.into_buffer().finish() {
+        Ok(writer) => Served {
+            status: told,
+            output: Some(writer),
+            diag,
+        },
+        Err(_) => Served {
+            status: status::DEVICE,
+            output: None,
+            diag,
+        },
+    }
+}
+
+// Output that streams share.
+#[derive(Drop)]
+struct Output<B: Buffered + Drop> {
+    buffer: RefCell<B>,
+}
+
+impl<B: Buffered + Drop> Output<B> {
+    fn new(buffer: B) -> Self {
+        Output {
+            buffer: RefCell::new(buffer),
+        }
+    }
+
+    // Shows what was written, or fails where some of it can't be.
+    fn show(&self) -> io::Result<()>
+        ensures { OnOk result (WasShown B.shows) }
+    {
+        match self.buffer.try_borrow_mut() {
+            Ok(mut buffer) => buffer.show(),
+            Err(_) => Err(io::Error::from(ErrorKind::Other)),
+        }
+    }
+
+    // The buffer, which no stream shares any more.
+    fn into_buffer(self) -> B {
+        let Output { buffer } = self;
+        buffer.into_inner()
+    }
+
+    #[inline(always)]
+    fn take(&self, bytes: &[u8]) -> io::Result<()>
+        ensures { OnOk result (WasTaken B.takes bytes.now) }
+    {
+        match self.buffer.try_borrow_mut() {
+            Ok(mut buffer) => buffer.take(bytes),
+            Err(_) => Err(io::Error::from(ErrorKind::Other)),
+        }
+    }
+}
+
+impl<B: Buffered + Drop> Write for &Output<B> {
+    #[inline(always)]
+    fn write(&mut self, buf: &[u8]) -> io::Result<usize>
+        ensures bound { WritesAtMost result buf.now }
+        ensures bytes { WriteAppends None None result buf.now }
+        ensures whole { IfOk result (λ count. count ≡ length buf.now) }
+        ensures takes { OnOk result (WasTaken B.takes buf.now) }
+    {
+        self.take(buf)?;
+        Ok(buf.len())
+    }
+
+    fn flush(&mut self) -> io::Result<()>
+        ensures bytes { Keeps None None }
+        ensures shows { OnOk result (WasShown B.shows) }
+    {
+        self.show()
+    }
+}
+
+// A reader before whose reads the output is shown.
+#[derive(Drop)]
+struct ReadAfterOutput<'a, R: Read + Drop, B: Buffered + Drop> {
+    reader: R,
+    output: &'a Output<B>,
+}
+
+impl<R: Read + Drop, B: Buffered + Drop> Read for ReadAfterOutput<'_, R, B> {
+    ghost remaining = { λ a. R.remaining a.reader };
+
+    fn read(&mut self, buf: &mut [u8]) -> io::Result<usize>
+        ensures bound { ReadsAtMost result buf.new }
+        ensures bytes { ReadConsumes (R.remaining self.old.reader) (R.remaining self.new.reader) result buf.new }
+        ensures shows { OnOk result (WasShown B.shows) }
+    {
+        self.output.show()?;
+        self.reader.read(buf)
+    }
+}
+
+// A writer before whose writes the output is shown.
+#[derive(Drop)]
+struct WriteAfterOutput<'a, D: Write + Drop, B: Buffered + Drop> {
+    writer: D,
+    output: &'a Output<B>,
+}
+
+impl<D: Write + Drop, B: Buffered + Drop> Write for WriteAfterOutput<'_, D, B> {
+    ghost contents = { λ b. D.contents b.writer };
+
+    fn write(&mut self, buf: &[u8]) -> io::Result<usize>
+        ensures bound { WritesAtMost result buf.now }
+        ensures bytes { WriteAppends (D.contents self.old.writer) (D.contents self.new.writer) result buf.now }
+        ensures shows { OnOk result (WasShown B.shows) }
+    {
+        self.output.show()?;
+        self.writer.write(buf)
+    }
+
+    fn flush(&mut self) -> io::Result<()> {
+        self.writer.flush()
+    }
+}
