@@ -1,6 +1,8 @@
 //! A `{` or a `}` that is missing, where the layout of the lines shows its place.
+use crate::around::opener_of;
 use crate::draft::Draft;
 use crate::mends::Site;
+use crate::name_mends::body_of;
 use crate::own_parts::indent_at;
 use crate::syntax_mends::{after_brackets, statement_of};
 use blang::Keyword;
@@ -39,6 +41,44 @@ pub(crate) fn is_outdented(draft: &Draft<'_>, site: Site, token: usize) -> bool 
     let begins = begins_line(draft, first) && indent_of(draft, first) == 0;
     let is_plain = first.wrapping_add(1) == token;
     begins && is_plain && first > site.first && indent_of(draft, first.wrapping_sub(1)) > 0
+}
+
+/// Whether the statement of a token begins a line that isn't indented, as definitions do, where others of its function
+/// are. A label may stand so.
+pub(crate) fn may_define(draft: &Draft<'_>, site: Site, token: usize) -> bool {
+    let first = statement_of(draft, token);
+    let body = match body_of(draft, site) {
+        Some(brace) => brace.saturating_add(1),
+        None => return false,
+    };
+    let begins = begins_line(draft, first) && indent_of(draft, first) == 0;
+    let is_named = matches!(draft.at(first), Lexeme::Name(_))
+        && draft.at(first.saturating_add(1)) != Lexeme::Colon;
+    if !begins || !is_named {
+        return false;
+    }
+    for at in body..first {
+        if begins_line(draft, at) && indent_of(draft, at) > 0 {
+            return true;
+        }
+    }
+    false
+}
+
+/// Whether what ends before a token may be a heading: a brace comes after it, or a line that stands farther in.
+pub(crate) fn is_heading(draft: &Draft<'_>, token: usize) -> bool {
+    let closer = token.wrapping_sub(1);
+    if draft.at(closer) != Lexeme::CloseParen {
+        return false;
+    }
+    let Some(opener) = opener_of(draft.spans, closer) else {
+        return false;
+    };
+    let name = opener.wrapping_sub(1);
+    let begins = statement_of(draft, token) == name
+        || draft.at(name.wrapping_sub(1)) == Lexeme::Keyword(Keyword::Else);
+    let is_inner = begins_line(draft, token) && indent_of(draft, token) > indent_of(draft, name);
+    draft.at(token) == Lexeme::OpenBrace || begins && is_inner
 }
 
 // The `)` of the head of the function before.

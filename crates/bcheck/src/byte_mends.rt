@@ -1,11 +1,15 @@
 //! Edits for bytes that begin no token, and for wrong constants.
 use crate::bytes::{Byte, Constant};
 use crate::draft::{Draft, Part};
+use blex::Lexeme;
 use btools::Text;
 use std::alloc::AllocError;
 
 /// How many bytes of values are looked at, at most, after a string whose quote is missing.
 const LONGEST_VALUES: usize = 255;
+
+/// How many characters a word has on other machines, at most.
+const WORD_LETTERS: usize = 4;
 
 /// What may stand in the place of a byte that begins no token.
 pub(crate) fn character(draft: &mut Draft<'_>, byte: Byte, start: usize) -> Result<(), AllocError> {
@@ -151,7 +155,7 @@ pub(crate) fn constant(
     }
     match constant {
         Constant::Octal => digits(draft, line, start),
-        Constant::Characters => as_string(draft, line, start),
+        Constant::Characters => as_string(draft, line, token),
         Constant::Unclosed => closed(draft, line, start),
         Constant::Escape => doubled(draft, line, start),
         _ => Ok(()),
@@ -189,13 +193,21 @@ fn digits(draft: &mut Draft<'_>, line: &[u8], start: usize) -> Result<(), AllocE
     draft.put(start, start.saturating_add(zeros), &[])
 }
 
-// A string in the place of a constant of many characters.
-fn as_string(draft: &mut Draft<'_>, line: &[u8], start: usize) -> Result<(), AllocError> {
+// A string in the place of a constant of many characters. Up to four that are no argument may be meant as a word.
+fn as_string(draft: &mut Draft<'_>, line: &[u8], token: usize) -> Result<(), AllocError> {
+    let start = draft.start(token);
     let words = line.get(1..).unwrap_or(&[]);
+    let is_argument = matches!(
+        draft.at(token.wrapping_sub(1)),
+        Lexeme::OpenParen | Lexeme::Comma
+    );
     for index in 0..words.len() {
         if words.get(index) == Some(&b'\'') {
             let end = start.saturating_add(index).saturating_add(2);
             let inner = words.get(..index).unwrap_or(&[]);
+            if !is_argument && inner.len() <= WORD_LETTERS {
+                return Ok(());
+            }
             return draft.put(
                 start,
                 end,
@@ -207,12 +219,13 @@ fn as_string(draft: &mut Draft<'_>, line: &[u8], start: usize) -> Result<(), All
 }
 
 // A quote before what ends a line, as `);` does, or before a comma after which values come: as many as the form before it
-// asks for, where `printf` gets it.
+// asks for, where `printf` gets it. Where a `;` stands before it, it is a choice.
 fn closed(draft: &mut Draft<'_>, line: &[u8], start: usize) -> Result<(), AllocError> {
     let quote = line.get(..1).unwrap_or(&[]);
     let end = closing_place(line, open_at(draft.source, start));
     let is_form = line.starts_with(b"\"") && is_after_printf(draft.source, start);
     let (mut values, mut depth): (usize, usize) = (0, 0);
+    draft.is_choice = line.get(..end).unwrap_or(&[]).contains(&b';');
     for back in 0..end.min(LONGEST_VALUES) {
         let place = end.saturating_sub(back);
         match line.get(place) {
@@ -242,6 +255,7 @@ fn closing_place(line: &[u8], open: usize) -> usize {
         let at = whole.len().saturating_sub(index).saturating_sub(1);
         match whole.get(at) {
             Some(b';' | b'}') => last = at,
+            Some(b':') if whole.starts_with(b"'") => last = at,
             Some(b')') if left > 0 => {
                 last = at;
                 left = left.saturating_sub(1);

@@ -40,13 +40,8 @@ pub(crate) fn proposals(
     if bench.tries() == 0 || bench.files.beyond_first(finding.place.line).is_some() {
         return Ok(draft.all);
     }
-    let token = token_at(tokens, finding.place.start);
-    let (before, first) = firsts_of(bench.judgement.compiled.ends.as_slice(), token);
-    let site = Site {
-        token,
-        first,
-        before,
-    };
+    let site = site_of(bench, tokens, finding);
+    let token = site.token;
     match finding.matter {
         Matter::Character(byte) => byte_mends::character(&mut draft, byte, finding.place.start)?,
         Matter::OpenComment => byte_mends::comment(&mut draft, finding.place.start)?,
@@ -63,6 +58,17 @@ pub(crate) fn proposals(
         _ => {}
     }
     Ok(draft.all)
+}
+
+/// Where a finding stands among these tokens.
+pub(crate) fn site_of(bench: &Bench<'_>, tokens: &Spans, finding: &Finding) -> Site {
+    let token = token_at(tokens, finding.place.start);
+    let (before, first) = firsts_of(bench.judgement.compiled.ends.as_slice(), token);
+    Site {
+        token,
+        first,
+        before,
+    }
 }
 
 /// The last token that begins at a place or before it.

@@ -5,6 +5,7 @@ use crate::draft::{Draft, Part};
 use crate::finding::Finding;
 use crate::kinds::is_word;
 use crate::mends::{Site, token_at};
+use crate::near::near_name;
 use crate::syntax_mends::{after_brackets, opener_before, statement_of, word_here};
 use crate::undefined::UndefinedName;
 use crate::unknown::{Lvalue, Unknown};
@@ -13,9 +14,6 @@ use blang::Keyword;
 use blex::Lexeme;
 use bword::Name;
 use std::alloc::AllocError;
-
-/// So often a name stands in a function that another one like it, which stands there once, is mistyped.
-const MANY: u64 = 5;
 
 /// What may mend a definition of a name that a prototype has, which is the second place.
 pub(crate) fn prototype(draft: &mut Draft<'_>, finding: &Finding) -> Result<(), AllocError> {
@@ -77,15 +75,10 @@ pub(crate) fn of_unknown(
         }
         Unknown::Near => near_or_declared(draft, site, &finding.other, &name),
         Unknown::NoLabel => label(draft, site, &name),
-        Unknown::Letter => draft.replace(
-            site.token,
-            site.token,
-            &[
-                Part::Words(b"'"),
-                Part::Words(name.as_bytes()),
-                Part::Words(b"'"),
-            ],
-        ),
+        Unknown::Letter => {
+            draft.is_choice = true;
+            draft.around(site.token, site.token, b"'", b"'")
+        }
         Unknown::Other => declare_either(draft, site, &name),
         _ => Ok(()),
     }
@@ -131,7 +124,7 @@ fn near(draft: &mut Draft<'_>, token: usize, other: &Option<Name>) -> Result<(),
 
 // The name that is declared perhaps, in the place of one use of another one; where nothing else names it in its function
 // it is rather its declaration that is mistyped. Where both are named more than once, it is a choice. What stands once
-// beside many of the other name is mistyped, and no word of its own.
+// is no word of its own.
 fn near_or_declared(
     draft: &mut Draft<'_>,
     site: Site,
@@ -142,15 +135,26 @@ fn near_or_declared(
         return declare_either(draft, site, name);
     };
     let (uses, others) = (mentions(draft, site, name), mentions(draft, site, known));
-    draft.is_choice = uses > 1 && others > 1;
+    draft.is_choice = uses > 1 && others > 1 || is_near_another(draft, site, name, known);
     match declared_in(draft, site, known) {
         Some(declared) if uses > 1 && others == 1 => draft.rename(declared, name.as_bytes())?,
         _ => draft.rename(site.token, known.as_bytes())?,
     }
-    if uses == 1 && others >= MANY {
+    if uses == 1 {
         return Ok(());
     }
     declare_either(draft, site, name)
+}
+
+// Whether a name of the function before a token, other than this one, is spelt almost so, too.
+fn is_near_another(draft: &Draft<'_>, site: Site, name: &Name, known: &Name) -> bool {
+    for token in site.first.saturating_add(1)..site.token {
+        let lexeme = draft.at(token);
+        if lexeme != Lexeme::Name(*known) && near_name(name, &lexeme).is_some() {
+            return true;
+        }
+    }
+    false
 }
 
 // How often a name stands in the function of a token.
@@ -218,7 +222,9 @@ fn stored(draft: &mut Draft<'_>, token: usize) -> Result<(), AllocError> {
 }
 
 // A declaration of a name as a word of the function. Where another function names it, too, it is rather an external.
+// What stands once may be another name mistyped, and is a choice.
 fn declare_either(draft: &mut Draft<'_>, site: Site, name: &Name) -> Result<(), AllocError> {
+    draft.is_choice = draft.is_choice || mentions(draft, site, name) == 1;
     after_declaration(draft, site, name)?;
     if is_elsewhere(draft, site, name) {
         declare(draft, site, Keyword::Extrn, name)?;

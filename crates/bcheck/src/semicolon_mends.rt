@@ -1,12 +1,15 @@
 //! A `;` that is all that lacks.
 use crate::advice::Matter;
+use crate::brace_mends::{is_heading, may_define};
 use crate::draft::Draft;
 use crate::edit::Proposal;
 use crate::finding::Finding;
 use crate::kinds::is_operand;
 use crate::mending::Bench;
+use crate::mends::site_of;
 use crate::spans::{Spans, is_joined};
 use crate::syntax::Syntax;
+use crate::syntax_mends::does_before;
 use blex::Lexeme;
 use std::alloc::{AllocError, Global};
 
@@ -27,6 +30,10 @@ pub(crate) fn semicolons(
     }
     let seen = bench.judgement.compiled.end;
     let first = first_on_line(&draft, seen);
+    let site = site_of(bench, tokens, finding);
+    if is_heading(&draft, seen) || may_define(&draft, site, seen) {
+        return Ok(draft.all);
+    }
     draft.is_sure = true;
     if first > 0 && may_lack_before(&draft, syntax, first, finding) {
         draft.after(first - 1, b";")?;
@@ -60,12 +67,12 @@ fn may_lack_before(draft: &Draft<'_>, syntax: Syntax, first: usize, finding: &Fi
     !is_keyword && finding.place.start >= draft.end(first.wrapping_sub(1))
 }
 
-// Whether it may lack right before this token. Where the token may go on with the value of a `return`, or seems to be
-// of one word with a number before it, it doesn't.
+// Whether it may lack right before this token. Where the token may go on with the value of a `return`, seems to be of
+// one word with a number before it, or stands twice, it doesn't.
 fn may_lack_here(draft: &Draft<'_>, syntax: Syntax, token: usize) -> bool {
     let before = token.wrapping_sub(1);
     let is_word = is_operand(&draft.at(token)) && is_operand(&draft.at(before));
-    if is_word && is_joined(draft.spans, before) {
+    if is_word && is_joined(draft.spans, before) || draft.at(token) == draft.at(before) {
         return false;
     }
     match syntax {
@@ -73,7 +80,9 @@ fn may_lack_here(draft: &Draft<'_>, syntax: Syntax, token: usize) -> bool {
         | Syntax::SemicolonBefore
         | Syntax::NoStatement
         | Syntax::SourceEnds => true,
-        Syntax::TwoOperands | Syntax::Other => may_begin(draft, token),
+        Syntax::TwoOperands | Syntax::Other => {
+            may_begin(draft, token) && does_before(draft, token)
+        }
         Syntax::ReturnValue => matches!(
             draft.at(token),
             Lexeme::CloseBrace | Lexeme::Keyword(_) | Lexeme::End

@@ -1,6 +1,6 @@
 //! Edits for a token with which no program goes on.
 use crate::around::opener_of;
-use crate::brace_mends::{brace_by_lines, indent_of, is_outdented};
+use crate::brace_mends::{brace_by_lines, indent_of, is_heading, is_outdented, may_define};
 use crate::byte_mends::remark;
 use crate::declared_mends::{definition, head, local, names_alone, push_each};
 use crate::draft::{Draft, Part};
@@ -20,6 +20,9 @@ use blang::Keyword;
 use blex::Lexeme;
 use bword::BinOp;
 use std::alloc::AllocError;
+
+/// How many tokens before a `]` are looked at for its `[`.
+const MOST_INDEX: usize = 8;
 
 /// What may mend a token with which no program goes on.
 pub(crate) fn of_syntax(
@@ -158,7 +161,15 @@ fn of_statement(draft: &mut Draft<'_>, site: Site, syntax: Syntax) -> Result<(),
     let token = site.token;
     let before = token.wrapping_sub(1);
     match syntax {
+        Syntax::CallParens if is_outdented(draft, site, token) => {
+            draft.before(statement_of(draft, token), b"} ")
+        }
         Syntax::SemicolonMissing if has_keyword(draft, token) => keyword(draft, token),
+        Syntax::SemicolonMissing
+        | Syntax::SemicolonBefore
+        | Syntax::NoStatement
+        | Syntax::CallParens
+            if is_heading(draft, token) || may_define(draft, site, token) => { Ok(()) }
         Syntax::SemicolonMissing | Syntax::SemicolonBefore | Syntax::NoStatement => draft.after(
             before, b";",
         ),
@@ -166,6 +177,9 @@ fn of_statement(draft: &mut Draft<'_>, site: Site, syntax: Syntax) -> Result<(),
             local(draft, statement_of(draft, token))
         }
         Syntax::TypeInside => local(draft, token),
+        Syntax::ExtrnList if matches!(draft.at(token), Lexeme::Keyword(_)) => {
+            draft.after(before, b";")
+        }
         Syntax::ExtrnList => names_alone(draft, statement_of(draft, token)),
         Syntax::Then if is_word(&draft.at(token), "then") => draft.remove(token, token),
         Syntax::Then => {
@@ -180,9 +194,6 @@ fn of_statement(draft: &mut Draft<'_>, site: Site, syntax: Syntax) -> Result<(),
         Syntax::Condition => condition(draft, token),
         Syntax::ReturnValue => parenthesized(draft, token, Lexeme::Semicolon, b"("),
         Syntax::CallParens if has_keyword(draft, token) => keyword(draft, token),
-        Syntax::CallParens if is_outdented(draft, site, token) => {
-            draft.before(statement_of(draft, token), b"} ")
-        }
         Syntax::CallParens => call_parens(draft, token),
         Syntax::ElseAlone => else_alone(draft, before),
         Syntax::HeadColon => draft.remove(token, token),
@@ -205,7 +216,6 @@ fn of_expression(draft: &mut Draft<'_>, site: Site, syntax: Syntax) -> Result<()
     let next = token.wrapping_add(1);
     match syntax {
         Syntax::ParenOpen => closing(draft, token),
-        Syntax::OtherBracket => other_bracket(draft, token),
         Syntax::SlashesDivide => draft.replace(token, next, &[Part::Words(b"/")]),
         Syntax::OrOr => mend_logic(draft, Logic::Or, before, token),
         Syntax::EqualsAfter => draft.replace(
@@ -228,14 +238,68 @@ fn of_expression(draft: &mut Draft<'_>, site: Site, syntax: Syntax) -> Result<()
             draft.replace(before, token, &[])
         }
         Syntax::AssignLeft => assigned_left(draft, token),
+        Syntax::Unopened | Syntax::OtherBracket if index_opened(draft, token)? => Ok(()),
         Syntax::Unopened => {
+            draft.is_choice = draft.at(token) == Lexeme::CloseBracket
+                && !is_ended_twice(draft, token);
             opened(draft, token)?;
             draft.remove(token, token)
         }
+        Syntax::OtherBracket => other_bracket(draft, token),
         Syntax::TwoOperands if opener_before(draft, token).is_some() => draft.after(before, b","),
-        Syntax::TwoOperands if may_begin(draft, token) => draft.after(before, b";"),
+        Syntax::TwoOperands if may_begin(draft, token) && !is_heading(draft, token) => {
+            draft.after(before, b";")
+        }
         _ => Ok(()),
     }
+}
+
+// A `[` in the name before a `]` on its line that is two words which stand elsewhere, or one and a number. Where there
+// are several such places it is a choice. Whether there is one.
+fn index_opened(draft: &mut Draft<'_>, closer: usize) -> Result<bool, AllocError> {
+    let count = if draft.at(closer) == Lexeme::CloseBracket {
+        MOST_INDEX
+    } else {
+        0
+    };
+    for back in 1..count {
+        let token = closer.saturating_sub(back);
+        if draft.line(token) != draft.line(closer) || draft.at(token) == Lexeme::OpenParen {
+            break;
+        }
+        let word = draft.bytes(token, token);
+        if !is_name(&draft.at(token)) {
+            continue;
+        }
+        for length in 1..word.len() {
+            let (name, index) = word.split_at(length);
+            if stands(draft, name) && (is_digits(index) || stands(draft, index)) {
+                let place = draft.start(token).saturating_add(length);
+                draft.is_choice = !draft.all.is_empty();
+                draft.put(place, place, &[Part::Words(b"[")])?;
+            }
+        }
+    }
+    Ok(!draft.all.is_empty())
+}
+
+// Whether a bracket stands twice.
+fn is_ended_twice(draft: &Draft<'_>, closer: usize) -> bool {
+    draft.at(closer) == draft.at(closer.wrapping_sub(1))
+}
+
+// Whether a name has these letters.
+fn stands(draft: &Draft<'_>, word: &[u8]) -> bool {
+    for token in 0..draft.spans.end() {
+        if is_name(&draft.at(token)) && draft.bytes(token, token) == word {
+            return true;
+        }
+    }
+    false
+}
+
+fn is_digits(word: &[u8]) -> bool {
+    word.iter().all(|byte| byte.is_ascii_digit())
 }
 
 // A parenthesis that is missing after the name of a function, where a `)` comes right after it, and another one.
@@ -323,8 +387,13 @@ fn is_between_statements(draft: &Draft<'_>, comma: usize) -> bool {
     if is_headed(draft, comma) || !begins {
         return false;
     }
-    for token in statement_of(draft, comma)..comma {
-        if does_something(&draft.at(token)) {
+    does_before(draft, comma)
+}
+
+/// Whether what stands of a statement before a token assigns, counts or calls something, or begins with a keyword.
+pub(crate) fn does_before(draft: &Draft<'_>, token: usize) -> bool {
+    for at in statement_of(draft, token)..token {
+        if does_something(&draft.at(at)) || matches!(draft.at(at), Lexeme::Keyword(_)) {
             return true;
         }
     }
@@ -385,9 +454,26 @@ fn closing(draft: &mut Draft<'_>, token: usize) -> Result<(), AllocError> {
             _ => {}
         }
     }
-    draft.is_choice = is_joined && !is_whole_statement(draft, opener);
+    draft.is_choice = is_joined && !is_whole_statement(draft, opener)
+        || !is_index && has_operator(draft, token.wrapping_sub(1));
     draft.after(token.wrapping_sub(1), closer)?;
     before_commas(draft, opener, token, closer)
+}
+
+// Whether an operator stands in the parentheses that end with a token, after which they may be meant to end.
+fn has_operator(draft: &Draft<'_>, closer: usize) -> bool {
+    if draft.at(closer) != Lexeme::CloseParen {
+        return false;
+    }
+    let Some(opener) = opener_of(draft.spans, closer) else {
+        return false;
+    };
+    for at in opener.saturating_add(2)..closer {
+        if matches!(draft.at(at), Lexeme::Operator(_)) && is_ended(&draft.at(at.wrapping_sub(1))) {
+            return true;
+        }
+    }
+    false
 }
 
 // Whether an open bracket is that of a heading, of a return or of a call that is a statement.

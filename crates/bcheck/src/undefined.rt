@@ -139,7 +139,7 @@ impl UndefinedName {
             UndefinedName::LikeNumbers =>
                 ("nothing defines @: here it is #", "lib/numbers.b has #: b go FILE --with numbers"),
             UndefinedName::LikePrint =>
-                ("nothing defines @: here it is #", "lib/print.b has #: b go FILE --with print"),
+                ("nothing defines @: here it is #", "putstr(s); putchar('*n'); with b go FILE --with print"),
             UndefinedName::LikeStrings =>
                 ("nothing defines @: here it is #", "lib/strings.b has #: b go FILE --with strings"),
             UndefinedName::LikeVectors =>

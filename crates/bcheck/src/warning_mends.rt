@@ -59,7 +59,7 @@ fn of_operands(
     let token = site.token;
     match warning {
         Warning::StringEnd | Warning::InputZero => end_for_zero(draft, token),
-        Warning::InputEnd => end_for_minus_one(draft, token),
+        Warning::InputEnd => end_for_minus_one(draft, site),
         Warning::StringForCharacter => as_character(draft, token),
         Warning::Backslash => escapes(draft, token),
         Warning::LibraryArguments if is_word(&draft.at(token), "getchar") => read_into(
@@ -240,17 +240,68 @@ fn end_for_zero(draft: &mut Draft<'_>, token: usize) -> Result<(), AllocError> {
     Ok(())
 }
 
-// The end of the input in the place of a -1. What is above -1 is no end, and what isn't above it is one.
-fn end_for_minus_one(draft: &mut Draft<'_>, token: usize) -> Result<(), AllocError> {
-    let (before, last) = (token.wrapping_sub(1), token.wrapping_add(1));
+// The end of the input in the place of a -1 or a 0. What is above -1, or not below 0, is no end. Where the name that is
+// compared holds something else, too, it is a choice.
+fn end_for_minus_one(draft: &mut Draft<'_>, site: Site) -> Result<(), AllocError> {
+    let token = site.token;
+    let is_zero = draft.at(token) == Lexeme::Number(0);
+    let (before, last) = (
+        token.wrapping_sub(1),
+        if is_zero {
+            token
+        } else {
+            token.wrapping_add(1)
+        },
+    );
     let next = last.wrapping_add(1);
-    match (draft.at(before), draft.at(next)) {
-        (Lexeme::Operator(BinOp::Gt), _) => draft.replace(before, last, &[Part::Words(b"!= '*e'")]),
-        (Lexeme::Operator(BinOp::Le), _) => draft.replace(before, last, &[Part::Words(b"== '*e'")]),
-        (_, Lexeme::Operator(BinOp::Lt)) => draft.replace(token, next, &[Part::Words(b"'*e' !=")]),
-        (_, Lexeme::Operator(BinOp::Ge)) => draft.replace(token, next, &[Part::Words(b"'*e' ==")]),
-        _ => draft.replace(token, last, &[Part::Words(b"'*e'")]),
+    let (left, right) = (draft.at(before), draft.at(next));
+    let is_first = is_comparison(&right);
+    let name = if is_first {
+        next.wrapping_add(1)
+    } else {
+        before.wrapping_sub(1)
+    };
+    draft.is_choice = holds_others(draft, site, &draft.at(name));
+    match (is_zero, left, right) {
+        (false, Lexeme::Operator(BinOp::Gt), _) | (true, Lexeme::Operator(BinOp::Ge), _) => {
+            draft.replace(before, last, &[Part::Words(b"!= '*e'")])
+        }
+        (false, Lexeme::Operator(BinOp::Le), _) | (true, Lexeme::Operator(BinOp::Lt), _) => {
+            draft.replace(before, last, &[Part::Words(b"== '*e'")])
+        }
+        (false, _, Lexeme::Operator(BinOp::Lt)) | (true, _, Lexeme::Operator(BinOp::Le)) => {
+            draft.replace(token, next, &[Part::Words(b"'*e' !=")])
+        }
+        (false, _, Lexeme::Operator(BinOp::Ge)) | (true, _, Lexeme::Operator(BinOp::Gt)) => {
+            draft.replace(token, next, &[Part::Words(b"'*e' ==")])
+        }
+        (false, _, _) => draft.replace(token, last, &[Part::Words(b"'*e'")]),
+        (true, _, _) => Ok(()),
     }
+}
+
+// Whether a name of a function may hold something else than what `getchar` gives: it is a parameter, or is set otherwise.
+fn holds_others(draft: &Draft<'_>, site: Site, name: &Lexeme) -> bool {
+    let (Lexeme::Name(_), Some(brace)) = (name, body_of(draft, site)) else {
+        return false;
+    };
+    for token in site.first.saturating_add(1)..after_brackets(draft, brace) {
+        let next = token.saturating_add(1);
+        let value = draft.at(next.saturating_add(1));
+        let is_set = match draft.at(next) {
+            Lexeme::Assign(None) => !is_constant(&value) && !is_word(&value, "getchar"),
+            Lexeme::Assign(_) | Lexeme::Increment | Lexeme::Decrement => true,
+            _ => token < brace,
+        };
+        if draft.at(token) == *name && is_set {
+            return true;
+        }
+    }
+    false
+}
+
+fn is_constant(lexeme: &Lexeme) -> bool {
+    matches!(lexeme, Lexeme::Number(_) | Lexeme::Character(_))
 }
 
 /// Single quotes around a string of one or two characters, in the place of its own.
@@ -267,13 +318,16 @@ pub(crate) fn as_character(draft: &mut Draft<'_>, token: usize) -> Result<(), Al
     )
 }
 
-// The base 10 for a call of `printn` without one.
+// The base 10 for a call of `printn` without one. A base alone lacks its number.
 fn base_ten(draft: &mut Draft<'_>, token: usize) -> Result<(), AllocError> {
     let opener = token.wrapping_add(1);
-    if !is_word(&draft.at(token), "printn") {
+    let argument = opener.wrapping_add(1);
+    let closer = after_brackets(draft, opener).wrapping_sub(1);
+    let is_base = matches!(draft.at(argument), Lexeme::Number(8 | 10))
+        && argument.wrapping_add(1) == closer;
+    if !is_word(&draft.at(token), "printn") || is_base {
         return Ok(());
     }
-    let closer = after_brackets(draft, opener).wrapping_sub(1);
     draft.before(closer, b", 10")
 }
 

@@ -119,6 +119,12 @@ note_sentence kind.Fraction = codes "# is an operator of fractions, which aren't
 note_sentence kind.Numbered = codes "lines have no numbers before them: port changes nothing until these go"
 note_sentence kind.Accent = codes "there are no constants between accents: port changes nothing until these go"
 note_sentence kind.Star = codes "*\" doesn't end a string: write **\" where it does"
+note_sentence kind.Pair =
+    codes "a word has two characters of eight bits, the first one in its high byte: 'ab' is 97 * 256 + 98"
+note_sentence kind.Order = codes "arguments are evaluated from left to right: another order may be meant"
+note_sentence kind.Octal = codes "%o writes the 16 bits of a number below 0, without a sign"
+note_sentence kind.Line = codes "puts(s) writes a newline after the string: write putstr(s); putchar('*n');"
+note_sentence kind.Stars = codes "* begins an escape in a string, as in *n and *(: write ** for a star"
 
 -- what is told of a note: the file, the line, and the sentence
 abbrev pub note_text : (file source : List ℕ) → Note → List ℕ

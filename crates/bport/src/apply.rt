@@ -42,7 +42,7 @@ pub(crate) fn render(
     let mut text = Text::new(draft.alloc);
     let mut at = start;
     for edit in draft.edits_from(start) {
-        if draft.ordered > 0 && edit.start > end {
+        if draft.ordered.is_some() && edit.start > end {
             break;
         }
         if edit.start >= at && edit.end <= end {

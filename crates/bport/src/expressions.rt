@@ -27,9 +27,6 @@ pub(crate) fn sign(source: &Source<'_>, draft: &mut Draft, index: usize) -> Resu
             assignment(source, draft, index)
         }
         _ if may_wrap(source, index) => draft.note_once(source, index, NoteKind::Wraps),
-        b">>" if source.dialect == Dialect::Later => {
-            draft.note_once(source, index, NoteKind::Shift)
-        }
         _ if is_joined(source, index) => apart(source, draft, index),
         _ => Ok(()),
     }
@@ -82,8 +79,8 @@ fn cast(source: &Source<'_>, draft: &mut Draft, open: usize) -> Result<(), Alloc
     draft.put(source.start(open), source.start(next), words, Row::Type)
 }
 
-// Whether a token comes right after this one.
-fn is_tight(source: &Source<'_>, index: usize) -> bool {
+/// Whether a token comes right after this one.
+pub(crate) fn is_tight(source: &Source<'_>, index: usize) -> bool {
     source.end(index) == source.start(index.wrapping_add(1))
 }
 
@@ -277,7 +274,8 @@ fn is_quiet(source: &Source<'_>, first: usize, end: usize) -> bool {
     true
 }
 
-fn is_callee(source: &Source<'_>, index: usize) -> bool {
+/// Whether a parenthesis after a token is that of a call.
+pub(crate) fn is_callee(source: &Source<'_>, index: usize) -> bool {
     source.is_name(index) || source.is(index, b")") || source.is(index, b"]")
 }
 

@@ -70,7 +70,7 @@ pub(crate) fn tell_holders(
     draft: &mut Draft,
 ) -> Result<(), AllocError> {
     let mut unused = Draft::new(alloc);
-    let mut constants = Constants::new(alloc);
+    let mut constants = Constants::new(alloc, source.text.len())?;
     let outline = outline_of(alloc, source, &mut unused, &mut constants)?;
     let mut found = found_in(alloc, source, others, &unused, &outline)?;
     let _ = find_uses(source, &outline, &mut found);

@@ -15,6 +15,7 @@ mod listing;
 mod lists;
 mod logic;
 mod loops;
+mod meanings;
 mod mentions;
 mod names;
 mod parts;

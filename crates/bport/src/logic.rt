@@ -304,27 +304,24 @@ fn disjunction(
 ) -> Result<(), AllocError> {
     let is_whole = !signs.iter().any(|sign| source.is(*sign, b"||"));
     let is_closed = is_whole || is_filled;
+    let is_bare = is_whole && is_filled;
     if !is_closed {
         draft.insert(source.start(first), b"(", Row::Or)?;
     }
     let mut from = first;
-    for sign in signs {
-        if source.is(*sign, b"||") {
-            let is_bare = is_whole && is_filled;
-            conjunction(source, draft, signs, from, *sign, true, is_bare)?;
-            draft.replace(source, *sign, b"? 1 :", Row::Or)?;
+    let mut begun = 0;
+    for at in 0..signs.len() {
+        let sign = signs[at];
+        if source.is(sign, b"||") {
+            let ands = signs.get(begun..at).unwrap_or(&[]);
+            conjunction(source, draft, ands, from, sign, true, is_bare)?;
+            draft.replace(source, sign, b"? 1 :", Row::Or)?;
             from = sign.wrapping_add(1);
+            begun = at.saturating_add(1);
         }
     }
-    conjunction(
-        source,
-        draft,
-        signs,
-        from,
-        end,
-        is_truth,
-        is_whole && is_filled,
-    )?;
+    let ands = signs.get(begun..).unwrap_or(&[]);
+    conjunction(source, draft, ands, from, end, is_truth, is_bare)?;
     if !is_closed {
         draft.insert(source.end(end.wrapping_sub(1)), b")", Row::Or)?;
     }
@@ -344,7 +341,7 @@ fn conjunction(
     let mut count: usize = 0;
     let mut from = first;
     for sign in signs {
-        if *sign >= first && *sign < end && source.is(*sign, b"&&") {
+        if source.is(*sign, b"&&") {
             if count == 0 && !is_bare {
                 draft.insert(source.start(first), b"(", Row::And)?;
             }

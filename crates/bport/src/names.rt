@@ -5,7 +5,7 @@ use crate::definitions::Outline;
 use crate::quotes::quoted;
 use crate::row::{NoteKind, Row};
 use crate::source::{Dialect, Draft, Quotes, Source};
-use crate::table::{NONE, filled, put, slot, word_of};
+use crate::table::{NONE, filled, place_in, put, slot, word_of};
 use crate::taken::{NAME_LETTERS, Taken};
 use crate::tokens::{Token, TokenKind, tokens_of};
 use crate::turned::Turned;
@@ -27,13 +27,6 @@ const TYPES: [&str; 15] = [
     "float", "double", "struct", "union", "typedef",
 ];
 
-/// A constant with a name, and what stands for it.
-#[derive(Drop)]
-struct Constant {
-    name: Text,
-    value: Text,
-}
-
 /// What stands for a name: its text, and whether it is several tokens that got parentheses.
 #[derive(Drop)]
 struct Value {
@@ -45,15 +38,21 @@ struct Value {
 #[derive(Drop)]
 pub(crate) struct Constants {
     alloc: Global,
-    items: Vec<Constant>,
+    names: Vec<Text>,
+    values: Vec<Text>,
+    /// The places of names, by what their letters come to.
+    slots: Vec<usize>,
 }
 
 impl Constants {
-    pub(crate) fn new(alloc: Global) -> Self {
-        Constants {
+    /// Room for those of a source of so many bytes.
+    pub(crate) fn new(alloc: Global, size: usize) -> Result<Self, AllocError> {
+        Ok(Constants {
             alloc,
-            items: Vec::new(alloc),
-        }
+            names: Vec::new(alloc),
+            values: Vec::new(alloc),
+            slots: filled(alloc, (size / 4).saturating_add(1))?,
+        })
     }
 
     /// Keeps a constant, unless it is no value, or its name stands for another one: this is told. What stands for it is
@@ -88,9 +87,12 @@ impl Constants {
     }
 
     fn add(&mut self, name: &[u8], value: Text) -> Result<(), AllocError> {
+        let place = place_in(&self.slots, &self.names, name);
+        put(&mut self.slots, place, self.names.len());
         let mut kept = Text::new(self.alloc);
         kept.push(name)?;
-        self.items.push(Constant { name: kept, value })?;
+        self.names.push(kept)?;
+        self.values.push(value)?;
         Ok(())
     }
 
@@ -154,12 +156,8 @@ impl Constants {
 
     /// What stands for a name.
     pub(crate) fn value_of(&self, name: &[u8]) -> Option<&[u8]> {
-        for item in &self.items {
-            if item.name.as_slice() == name {
-                return Some(item.value.as_slice());
-            }
-        }
-        None
+        let place = place_in(&self.slots, &self.names, name);
+        Some(self.values.get(slot(&self.slots, place))?.as_slice())
     }
 }
 

@@ -74,13 +74,15 @@ fn quotes_of(text: &[u8], places: &[Within]) -> Quotes {
     }
 }
 
-// By its assignment operators and types.
+// By its assignment operators. Where types are there, nothing early is certain.
 fn dialect_of(text: &[u8], tokens: &[Token]) -> Dialect {
     let mut is_later = false;
     let mut is_early = false;
+    let mut is_typed = false;
     for index in 0..tokens.len() {
         match word_of(text, tokens, index) {
-            b"+=" | b"-=" | b"*=" | b"/=" | b"%=" | b"<<=" | b">>=" | b"int" => is_later = true,
+            b"+=" | b"-=" | b"*=" | b"/=" | b"%=" | b"<<=" | b">>=" => is_later = true,
+            b"int" => is_typed = true,
             b"=+" | b"=-" | b"=*" | b"=&" | b"=/" | b"=|" => {
                 if matches!(text.get(tokens[index].end), Some(b' ')) {
                     is_early = true;
@@ -90,7 +92,7 @@ fn dialect_of(text: &[u8], tokens: &[Token]) -> Dialect {
         }
     }
     match (is_early, is_later) {
-        (true, false) => Dialect::Early,
+        (true, false) if !is_typed => Dialect::Early,
         (false, true) => Dialect::Later,
         _ => Dialect::Either,
     }

@@ -8,11 +8,14 @@ use crate::apply::{apply, joined};
 use crate::calls::{calls, defines, stored_end, without_base};
 use crate::definitions::{Outline, outline_of};
 use crate::edit::{Edit, are_sound, fits};
-use crate::expressions::{exclusive_assignment, exclusive_or, is_joined, may_wrap, sign};
+use crate::expressions::{
+    Exclusive, exclusive_assignment, exclusive_or, is_joined, may_wrap, sign,
+};
 use crate::grids::edit_grids;
 use crate::holders::{edit_holders, tell_holders};
 use crate::logic::signs;
 use crate::loops::loops_of;
+use crate::meanings::meanings;
 use crate::mentions::{heap, mentions};
 use crate::names::{Constants, name, number, short_names};
 use crate::parts::SourceParts;
@@ -23,7 +26,7 @@ use crate::remarks::remarks;
 use crate::row::{Note, NoteKind};
 use crate::scopes::renames;
 use crate::shape::ends_of;
-use crate::source::{Dialect, Draft, Source};
+use crate::source::{Dialect, Draft, Source, key_of};
 use crate::statements::statement;
 use crate::staying::{has_refused, tell_old};
 use crate::streams::streams;
@@ -166,7 +169,9 @@ fn plain_tokens(
         ends: &ends,
         ..bare
     };
-    tell_holders(alloc, &source, &others.source(rest, Edition::One), draft)?;
+    let others = others.source(rest, Edition::One);
+    tell_holders(alloc, &source, &others, draft)?;
+    meanings(&bare, &others, draft, false)?;
     if let Some(call) = without_base(&bare) {
         draft.note(&bare, call, NoteKind::Base)?;
     }
@@ -295,7 +300,7 @@ fn draft_rows(
 ) -> Result<(), AllocError> {
     let parts = SourceParts::of(alloc, rest)?;
     let others = parts.source(rest, source.edition);
-    let mut constants = Constants::new(alloc);
+    let mut constants = Constants::new(alloc, source.text.len())?;
     remarks(draft, &mut constants, source.text, source.places)?;
     let mut outline = outline_of(alloc, source, draft, &mut constants)?;
     draft_words(alloc, source, &others, draft, &constants, &outline)?;
@@ -321,10 +326,13 @@ fn draft_words(
         }
     }
     tell_ends(source, draft)?;
+    meanings(source, others, draft, true)?;
     calls(alloc, source, others, draft, outline)?;
     streams(source, others, draft)?;
     pointer_calls(alloc, source, draft, outline, &held)?;
+    draft.order()?;
     edit_grids(alloc, source, draft, outline)?;
+    draft.ordered = None;
     mentions(alloc, source, draft, outline, &short)?;
     heap(source, others, draft, outline)
 }
@@ -337,13 +345,9 @@ fn draft_statements(
     outline: &mut Outline,
 ) -> Result<(), AllocError> {
     let exclusives = signs(alloc, source, draft, outline)?;
-    sort(draft)?;
-    for found in &exclusives {
-        exclusive_or(source, draft, *found)?;
-    }
+    exclusive_ors(source, draft, exclusives)?;
     exclusive_assignments(source, draft)?;
-    sort(draft)?;
-    draft.ordered = draft.edits.len();
+    draft.order()?;
     let loops = loops_of(alloc, source)?;
     for step in 0..source.tokens.len() {
         let index = source.tokens.len() - 1 - step;
@@ -352,6 +356,33 @@ fn draft_statements(
         }
     }
     Ok(())
+}
+
+// Edits those that have no other one in them, then those around these, and so on.
+fn exclusive_ors(
+    source: &Source<'_>,
+    draft: &mut Draft,
+    exclusives: Vec<Exclusive>,
+) -> Result<(), AllocError> {
+    let mut left = exclusives;
+    for _ in 0..MOST_LEVELS {
+        draft.order()?;
+        let mut outer = Vec::new(draft.alloc);
+        let mut reached = 0;
+        for found in &left {
+            if found.first < reached {
+                outer.push(*found)?;
+            } else {
+                exclusive_or(source, draft, *found)?;
+            }
+            reached = reached.max(found.end);
+        }
+        left = outer;
+        if left.is_empty() {
+            break;
+        }
+    }
+    draft.order()
 }
 
 fn exclusive_assignments(source: &Source<'_>, draft: &mut Draft) -> Result<(), AllocError> {
@@ -381,9 +412,8 @@ fn token(
     }
 }
 
-fn sort(draft: &mut Draft) -> Result<(), AllocError> {
-    draft.edits.sort_by_key(|edit| key_of(edit))
-}
+/// How many exclusive ors there are in one another, at most.
+const MOST_LEVELS: usize = 200;
 
 /// How many bytes a small source may grow by beside twice its size.
 const SPARE: usize = 1024;
@@ -416,9 +446,4 @@ fn apart(
         }
     }
     Ok(kept)
-}
-
-// Edits go by their places; at one place those that take nothing out come first.
-fn key_of(edit: &Edit) -> (usize, bool) {
-    (edit.start, edit.end > edit.start)
 }

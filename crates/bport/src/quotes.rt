@@ -150,6 +150,19 @@ fn escape_length(rest: &[u8]) -> usize {
     rest.len().min(3)
 }
 
+/// How many characters a constant has.
+pub(crate) fn units_in(quotes: Quotes, word: &[u8]) -> usize {
+    let mut count: usize = 0;
+    let mut next: usize = 1;
+    for at in 1..word.len().saturating_sub(1) {
+        if at >= next {
+            next = at.saturating_add(unit_at(quotes, word, at).len());
+            count = count.saturating_add(1);
+        }
+    }
+    count
+}
+
 // The bytes of one character in quotes: more than one where an escape begins.
 fn unit_at(quotes: Quotes, word: &[u8], at: usize) -> &[u8] {
     let rest = word.get(at..).unwrap_or(&[]);

@@ -157,6 +157,11 @@ pub enum NoteKind {
     Numbered,
     Accent,
     Star,
+    Pair,
+    Order,
+    Octal,
+    Line,
+    Stars,
 }
 
 impl NoteKind {
@@ -211,6 +216,12 @@ impl NoteKind {
             NoteKind::Numbered => b"lines have no numbers before them: port changes nothing until these go",
             NoteKind::Accent => b"there are no constants between accents: port changes nothing until these go",
             NoteKind::Star => b"*\" doesn't end a string: write **\" where it does",
+            NoteKind::Pair =>
+                b"a word has two characters of eight bits, the first one in its high byte: 'ab' is 97 * 256 + 98",
+            NoteKind::Order => b"arguments are evaluated from left to right: another order may be meant",
+            NoteKind::Octal => b"%o writes the 16 bits of a number below 0, without a sign",
+            NoteKind::Line => b"puts(s) writes a newline after the string: write putstr(s); putchar('*n');",
+            NoteKind::Stars => b"* begins an escape in a string, as in *n and *(: write ** for a star",
         }
     }
 }

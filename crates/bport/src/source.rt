@@ -167,8 +167,8 @@ pub(crate) struct Draft {
     pub alloc: Global,
     pub edits: Vec<Edit>,
     pub notes: Vec<Note>,
-    /// How many of the edits are in order, from the first one on.
-    pub ordered: usize,
+    /// How many of the edits are in order, from the first one on, if that is known.
+    pub ordered: Option<usize>,
     /// What was told of any place.
     pub told: Vec<NoteKind>,
 }
@@ -179,7 +179,7 @@ impl Draft {
             alloc,
             edits: Vec::new(alloc),
             notes: Vec::new(alloc),
-            ordered: 0,
+            ordered: None,
             told: Vec::new(alloc),
         }
     }
@@ -187,11 +187,18 @@ impl Draft {
     /// The edits among which those of a place and after it are, but for those that came after the others were in order.
     pub(crate) fn edits_from(&self, start: usize) -> &[Edit] {
         let edits = self.edits.as_slice();
-        if self.ordered == 0 {
+        let Some(count) = self.ordered else {
             return edits;
-        }
-        let (ordered, _) = edits.split_at(self.ordered.min(edits.len()));
+        };
+        let (ordered, _) = edits.split_at(count.min(edits.len()));
         ordered.get(first_from(ordered, start)..).unwrap_or(&[])
+    }
+
+    /// Puts the edits in order.
+    pub(crate) fn order(&mut self) -> Result<(), AllocError> {
+        self.edits.sort_by_key(|edit| key_of(edit))?;
+        self.ordered = Some(self.edits.len());
+        Ok(())
     }
 
     /// Puts a text in the place of some bytes.
@@ -323,6 +330,11 @@ impl Draft {
     fn is_told(&self, kind: NoteKind) -> bool {
         self.told.iter().any(|told| *told == kind)
     }
+}
+
+/// Edits go by their places; at one place those that take nothing out come first.
+pub(crate) fn key_of(edit: &Edit) -> (usize, bool) {
+    (edit.start, edit.end > edit.start)
 }
 
 // The first of these edits, which are in order, that doesn't begin before a place.

@@ -1,6 +1,7 @@
 //! Which names of a source are the same.
 use crate::edit::between;
 use crate::tokens::{Token, TokenKind};
+use btools::Text;
 use std::alloc::{AllocError, Global};
 
 /// No token, or no function.
@@ -70,6 +71,19 @@ fn find(source: &[u8], tokens: &[Token], table: &mut Vec<usize>, index: usize) -
         place = place.wrapping_add(1) % size;
     }
     index
+}
+
+/// The slot of a name among the places of names, or the one where it would be.
+pub(crate) fn place_in(slots: &[usize], names: &[Text], name: &[u8]) -> usize {
+    let size = slots.len().max(1);
+    let mut place = hash_of(name) % size;
+    for _ in 0..size {
+        match names.get(slot(slots, place)) {
+            Some(text) if text.as_slice() != name => place = place.wrapping_add(1) % size,
+            _ => break,
+        }
+    }
+    place
 }
 
 /// The bytes of a token, or none.

@@ -1,12 +1,12 @@
 //! Names that are taken.
 use crate::names::is_reserved;
 use crate::source::Source;
-use crate::table::{NONE, filled, hash_of, put, slot};
+use crate::table::{NONE, filled, hash_of, place_in, put, slot};
 use btools::Text;
 use std::alloc::{AllocError, Global};
 
 /// How many names of the same first letters are tried for one.
-const MOST_TRIES: u64 = 9999;
+const MOST_TRIES: u64 = 99999;
 
 /// The names of sources, and those that were made.
 #[derive(Drop)]
@@ -59,18 +59,8 @@ impl Taken {
         Ok(())
     }
 
-    // The slot of a name, or the one where it would be.
     fn place_of(&self, name: &[u8]) -> usize {
-        let size = self.slots.len().max(1);
-        let mut place = hash_of(name) % size;
-        for _ in 0..size {
-            let kept = slot(&self.slots, place);
-            match self.names.get(kept) {
-                Some(text) if text.as_slice() != name => place = place.wrapping_add(1) % size,
-                _ => break,
-            }
-        }
-        place
+        place_in(&self.slots, &self.names, name)
     }
 
     fn has(&self, name: &[u8]) -> bool {
@@ -107,7 +97,8 @@ fn numbered(alloc: Global, word: &[u8], number: u64) -> Result<Text, AllocError>
         1..=9 => 1,
         10..=99 => 2,
         100..=999 => 3,
-        _ => 4,
+        1000..=9999 => 4,
+        _ => 5,
     };
     let mut text = Text::new(alloc);
     for byte in word {

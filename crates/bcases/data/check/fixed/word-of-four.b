@@ -1,0 +1,6 @@
+main() {
+    auto w;
+
+    w = 'abcd';
+    putchar(w);
+}

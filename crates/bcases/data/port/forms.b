@@ -1,0 +1,4 @@
+main() {
+    puts("eight");
+    printf("%d %o", 8, -8);
+}

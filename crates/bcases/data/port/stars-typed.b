@@ -1,0 +1,5 @@
+int n;
+main() {
+    printf("2 *n\n");
+}
+printf(s) { n = s; }

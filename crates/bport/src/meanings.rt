@@ -1,0 +1,232 @@
+//! What compiles here, and may have meant another thing where it was written: each is told once.
+use crate::calls::defines;
+use crate::expressions::{is_assignment, is_callee, is_tight};
+use crate::logic::after_part;
+use crate::names::{is_keyword, is_type, value_of_number};
+use crate::quotes::units_in;
+use crate::row::NoteKind;
+use crate::source::{Dialect, Draft, Quotes, Source};
+use crate::table::NONE;
+use crate::tokens::TokenKind;
+use std::alloc::AllocError;
+
+/// How many tokens of a call are looked at, on either side.
+const MOST_TOKENS: usize = 64;
+
+/// How many calls around a token are looked at.
+const MOST_CALLS: usize = 4;
+
+/// What is known of a whole source.
+#[derive(Clone, Copy)]
+struct Facts {
+    has_types: bool,
+    /// Whether its words may have more than 16 bits: it is of another form.
+    is_wide: bool,
+    /// Whether it defines these, or what comes after it does.
+    has_puts: bool,
+    has_printf: bool,
+    has_write: bool,
+}
+
+/// Tells what may have meant another thing, in a source as it stands or in one of another form.
+pub(crate) fn meanings(
+    source: &Source<'_>,
+    others: &Source<'_>,
+    draft: &mut Draft,
+    is_wide: bool,
+) -> Result<(), AllocError> {
+    let facts = Facts {
+        has_types: has_types(source),
+        is_wide,
+        has_puts: defines(source, b"puts") || defines(others, b"puts"),
+        has_printf: defines(source, b"printf"),
+        has_write: defines(source, b"write") || defines(others, b"write"),
+    };
+    for index in 0..source.tokens.len() {
+        if let Some(kind) = meaning(source, facts, index) {
+            draft.note_once(source, index, kind)?;
+        }
+    }
+    Ok(())
+}
+
+fn has_types(source: &Source<'_>) -> bool {
+    for index in 0..source.tokens.len() {
+        if is_type(source.word(index)) && !source.is_call(index) {
+            return true;
+        }
+    }
+    false
+}
+
+fn meaning(source: &Source<'_>, facts: Facts, index: usize) -> Option<NoteKind> {
+    let word = source.word(index);
+    match source.kind(index)? {
+        TokenKind::Number if !facts.has_write && is_nine_bits(word) && !is_written(source, index) =>
+            { Some(NoteKind::Pair) }
+        TokenKind::Char if units_in(source.quotes, word) == 2 && !is_written(source, index) => {
+            Some(NoteKind::Pair)
+        }
+        TokenKind::String if source.quotes == Quotes::Both && has_pair(word, b'*', b"nte0()") => {
+            Some(NoteKind::Stars)
+        }
+        TokenKind::String if !facts.has_printf && is_form(source, index) => {
+            Some(NoteKind::Octal)
+        }
+        TokenKind::Name if matches!(word, b"puts") && !facts.has_puts && source.is_call(index) => {
+            Some(NoteKind::Line)
+        }
+        TokenKind::Number | TokenKind::Char | TokenKind::String => None,
+        _ if is_ordered(source, index) => Some(NoteKind::Order),
+        _ => sign_meaning(source, facts, index),
+    }
+}
+
+fn sign_meaning(source: &Source<'_>, facts: Facts, index: usize) -> Option<NoteKind> {
+    let is_nine = matches!(
+        source.word(index.wrapping_add(1)),
+        b"9" | b"011" | b"18" | b"022" | b"27" | b"033"
+    );
+    match source.word(index) {
+        b"<<" | b">>" | b"=<<" | b"=>>" | b"<<=" | b">>=" if is_nine => Some(NoteKind::Pair),
+        b">>" | b"=>>" if facts.has_types || source.dialect == Dialect::Later => {
+            Some(NoteKind::Shift)
+        }
+        b"=*" | b"*=" | b"=<<" | b"<<=" if !is_tight(source, index) => Some(NoteKind::Wraps),
+        b"=+" | b"+=" if facts.is_wide && is_last_name(source, index) => Some(NoteKind::Wraps),
+        b"+" if is_sum(source, facts, index) => Some(NoteKind::Wraps),
+        b"*" if is_product(source, index) => Some(NoteKind::Wraps),
+        _ => None,
+    }
+}
+
+// Whether what comes after a token is a name that ends a statement.
+fn is_last_name(source: &Source<'_>, index: usize) -> bool {
+    source.is_name(index.wrapping_add(1)) && source.is(index.wrapping_add(2), b";")
+}
+
+// Whether a name is added to itself, or to another one that is the last one of what is assigned.
+fn is_sum(source: &Source<'_>, facts: Facts, index: usize) -> bool {
+    let before = index.wrapping_sub(1);
+    let is_doubled = source.word(before) == source.word(index.wrapping_add(1));
+    let is_assigned = source.is(before.wrapping_sub(1), b"=") && is_last_name(source, index);
+    source.is_name(before) && (is_doubled || facts.is_wide && is_assigned)
+}
+
+// Whether a name is assigned a product of itself alone.
+fn is_product(source: &Source<'_>, index: usize) -> bool {
+    let (before, next) = (index.wrapping_sub(1), index.wrapping_add(1));
+    let name = index.wrapping_sub(3);
+    source.is_name(name)
+        && source.is(index.wrapping_sub(2), b"=")
+        && (source.word(before) == source.word(name) || source.word(next) == source.word(name))
+        && source.is(next.wrapping_add(1), b";")
+}
+
+// Whether an octal number has two characters of nine bits.
+fn is_nine_bits(word: &[u8]) -> bool {
+    let value = value_of_number(word).unwrap_or(0);
+    word.starts_with(b"0") && matches!(value / 512, 8..=126) && matches!(value % 512, 8..=126)
+}
+
+// Whether a constant is all that is written by a call.
+fn is_written(source: &Source<'_>, index: usize) -> bool {
+    matches!(source.word(index), b"'$('" | b"'$)'")
+        || matches!(source.word(index.wrapping_sub(2)), b"putchar" | b"write")
+            && source.is(index.wrapping_sub(1), b"(")
+            && source.is(index.wrapping_add(1), b")")
+}
+
+// Whether a string is a form in which a number is written to the base 8.
+fn is_form(source: &Source<'_>, index: usize) -> bool {
+    source.is(index.wrapping_sub(2), b"printf")
+        && source.is(index.wrapping_sub(1), b"(")
+        && has_pair(source.word(index), b'%', b"o")
+}
+
+// Whether one of these bytes comes after a mark.
+fn has_pair(word: &[u8], mark: u8, bytes: &[u8]) -> bool {
+    let mut is_marked = false;
+    for byte in word {
+        if is_marked && bytes.contains(byte) {
+            return true;
+        }
+        is_marked = *byte == mark && !is_marked;
+    }
+    false
+}
+
+// Whether a call gets in one argument what a token changes, and the same name in another one.
+fn is_ordered(source: &Source<'_>, index: usize) -> bool {
+    let name = changed(source, index);
+    if !source.is_name(name) {
+        return false;
+    }
+    let mut at = name;
+    for _ in 0..MOST_CALLS {
+        at = open_before(source, at);
+        let callee = at.wrapping_sub(1);
+        let is_call = is_callee(source, callee) && !is_keyword(source.word(callee));
+        if is_call && is_elsewhere(source, at, name) {
+            return true;
+        }
+    }
+    false
+}
+
+// The name that a token changes, or the call of what reads the input.
+fn changed(source: &Source<'_>, index: usize) -> usize {
+    let (before, next) = (index.wrapping_sub(1), index.wrapping_add(1));
+    match source.word(index) {
+        b"++" | b"--" if source.is_name(next) => next,
+        b"++" | b"--" => before,
+        b"getchar" | b"read" | b"getnum" | b"getc" if source.is_call(index) => index,
+        word if is_assignment(word) => before,
+        _ => NONE,
+    }
+}
+
+// The bracket that is open before a token.
+fn open_before(source: &Source<'_>, index: usize) -> usize {
+    let mut at = index;
+    for _ in 0..MOST_TOKENS {
+        at = at.wrapping_sub(1);
+        match source.word(at) {
+            b"(" | b"[" => return at,
+            b")" | b"]" => at = source.partner(at),
+            b";" | b"{" | b"}" | b"" => return NONE,
+            _ => {}
+        }
+    }
+    NONE
+}
+
+// Whether another argument of a call than that of a token has the same name.
+fn is_elsewhere(source: &Source<'_>, open: usize, name: usize) -> bool {
+    let end = source.partner(open).min(open.saturating_add(MOST_TOKENS));
+    let mut first = open.saturating_add(1);
+    let mut next = first;
+    for at in first..end.saturating_add(1) {
+        if at < next {
+            continue;
+        }
+        if at == end || source.is(at, b",") {
+            let is_own = first <= name && name < at;
+            if !is_own && has_word(source, first, at, source.word(name)) {
+                return true;
+            }
+            first = at.saturating_add(1);
+        }
+        next = after_part(source, at);
+    }
+    false
+}
+
+fn has_word(source: &Source<'_>, first: usize, end: usize, word: &[u8]) -> bool {
+    for index in first..end {
+        if source.is(index, word) {
+            return true;
+        }
+    }
+    false
+}
