@@ -490,7 +490,7 @@ no_warning c line text to t ds formed is at warning d few h =
     let w = told_in c line DONE text to t h in
     let warned = w.are.7 refl ds formed is in
     let lines = has_lines c (comes_to c line DONE to) line DONE text w in
-    one_told c.form (newlines (shown_in_form c.form line)) (newlines text) (length (all_of w)) w.are.0 (warned.all at warning d) (omega (arith, length-append w.are.0 w.are.3)) lines.least few
+    one_told c.form (newlines (shown_in_form c.form line)) (newlines text) (length (all_of w)) w.are.0 (warned.2.all at warning (d warned.0 warned.1)) (omega (arith, length-append w.are.0 w.are.3)) lines.least few
 
 other_bytes : Never (λ c line status text. IsTrue (is_printed (shown_in_form c.form line)) × ((n : ℕ) → IsTrue (is_printed (finding_start c.form (file_at c n)))) × (is_printed text ≡ false))
 other_bytes c line status text to t wrong h =

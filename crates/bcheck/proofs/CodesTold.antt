@@ -15,14 +15,14 @@ use Rattle.blint.specs.declared.warnings.Slip.{Slip}
 use Rattle.blint.specs.declared.warnings.Slip.TheVariants as slip
 use Rattle.blint.specs.declared.warnings.Warning.{Warning}
 use Rattle.blint.specs.declared.warnings.Warning.TheVariants as warning
-use Rattle.blint.specs.Warns.{IsDueIn, TellsDue, TellsOf, Warns, entry, is_of_tokens}
+use Rattle.blint.specs.Warns.{IsDueBy, TellsDue, TellsOf, Warns, entry, is_of_rules}
 use Rattle.bcheck.specs.declared.finding.Finding.{Finding}
 use Rattle.bcheck.specs.declared.verdict.Verdict.{Verdict}
 use Rattle.bcheck.specs.declared.verdict.Verdict.TheVariants as verdict
 use Rattle.bcheck.specs.Checks.{status_told}
 use Rattle.bcheck.specs.declared.advice.Matter.TheVariants as matter
 use Rattle.bcheck.specs.Findings.{AreWarned, found_at, matter_code}
-use Rattle.bcheck.specs.RuleWarnings.{IsOfTokens, TellsWarnings, caution_at, slip_code, warning_code}
+use Rattle.bcheck.specs.RuleWarnings.{IsOfRules, TellsWarnings, caution_at, slip_code, warning_code}
 
 any_of_map : {A B : Type 0} (P : B → Type 0) (f : A → B) (xs : List A) → Any P (map f xs) → Any (λ x. P (f x)) xs
 any_of_map P f [] a = absurd (omega (arith, a.2))
@@ -34,26 +34,27 @@ any_of_map P f (x ∷ xs) a =
 any_to_map : {A B : Type 0} (P : B → Type 0) (f : A → B) (xs : List A) → Any (λ x. P (f x)) xs → Any P (map f xs)
 any_to_map P f xs a = (a.0, f a.1, omega (arith, a.2, length-map xs f), get_or-map f xs a.0 a.1 (f a.1) a.2 ∙ ap f a.3, a.4)
 
-slip_of_tokens : (s : Slip) → IsOfTokens (slip_code s) → is_of_tokens (warning.Slip s) ≡ true
-slip_of_tokens slip.VectorAssigned e = cc
-slip_of_tokens _ e = cc
+slip_of_rules : (s : Slip) → IsOfRules (slip_code s) → is_of_rules (warning.Slip s) ≡ true
+slip_of_rules slip.FormKind e = cc
+slip_of_rules slip.LastTurnOnly e = cc
+slip_of_rules slip.SetLater e = cc
+slip_of_rules slip.NextPast e = cc
+slip_of_rules _ e = refl
 
-code_of_tokens : (w : Warning) → IsOfTokens (warning_code w) → is_of_tokens w ≡ true
-code_of_tokens warning.OperatorAssigns e = refl
-code_of_tokens warning.Backslash e = refl
-code_of_tokens warning.AssignsItself e = refl
-code_of_tokens warning.BitsCompared e = refl
-code_of_tokens warning.ComparesTwice e = refl
-code_of_tokens warning.NotCompared e = refl
-code_of_tokens warning.OrConstant e = refl
-code_of_tokens warning.NegativeNumber e = refl
-code_of_tokens warning.ConditionAssigns e = refl
-code_of_tokens warning.AssignsComparison e = refl
-code_of_tokens warning.AssignsCompared e = refl
-code_of_tokens warning.EmptyIf e = refl
-code_of_tokens warning.EmptyLoop e = refl
-code_of_tokens (warning.Slip s) e = slip_of_tokens s e
-code_of_tokens _ e = cc
+code_of_rules : (w : Warning) → IsOfRules (warning_code w) → is_of_rules w ≡ true
+code_of_rules warning.CommentGoesOn e = cc
+code_of_rules warning.CountPastVector e = cc
+code_of_rules warning.DanglingElse e = cc
+code_of_rules warning.FallsIntoCase e = cc
+code_of_rules warning.FormValues e = cc
+code_of_rules warning.HidesExternal e = cc
+code_of_rules warning.NearMain e = cc
+code_of_rules warning.NoMain e = cc
+code_of_rules warning.OctalNumber e = cc
+code_of_rules warning.Unset e = cc
+code_of_rules warning.UnsetVector e = cc
+code_of_rules (warning.Slip s) e = slip_of_rules s e
+code_of_rules _ e = refl
 
 module _ (Due : TokenPlace → Warning → Type 0) (source : List ℕ) (cautions : List Caution) where
   abbrev Is : TokenPlace → Warning → ℕ × Warning → Type 0
@@ -89,21 +90,21 @@ module _ (Due : TokenPlace → Warning → Type 0) (source : List ℕ) (cautions
   told at w n (inr h) = inr (omega (arith, h.0, length-map cautions entry, length-map cautions (caution_at source)), early at h.1)
 
   pub codes_told : TellsOf Due cautions
-      → TellsDue (λ at. take at.start source) warning_code (λ before at. length before ≤ at.start) IsOfTokens Due (map (caution_at source) cautions)
+      → TellsDue (λ at. take at.start source) warning_code (λ before at. length before ≤ at.start) IsOfRules Due (map (caution_at source) cautions)
   codes_told h = record {
     all = λ at w d. told at w _ (h.all at w d);
     meant = All-map
-        (λ t. IsOfTokens t.1 → (at : TokenPlace) × (w : Warning) × Due at w × (t.0 ≡ take at.start source) × (t.1 ≡ warning_code w))
+        (λ t. IsOfRules t.1 → (at : TokenPlace) × (w : Warning) × Due at w × (t.0 ≡ take at.start source) × (t.1 ≡ warning_code w))
         (caution_at source) cautions (λ k d lt only. meant k d lt only);
   }
     where
-      meant : (k : ℕ) (d : Caution) → k < length cautions → IsOfTokens (warning_code (get_or cautions k d).warning)
+      meant : (k : ℕ) (d : Caution) → k < length cautions → IsOfRules (warning_code (get_or cautions k d).warning)
           → (at : TokenPlace) × (w : Warning) × Due at w × (take (get_or cautions k d).place.start source ≡ take at.start source) × (warning_code (get_or cautions k d).warning ≡ warning_code w)
       meant k d lt only =
           let c = get_or cautions k d in
           let is : get_or (map entry cautions) k (entry d) ≡ entry c = get_or-map entry cautions k d (entry d) lt in
-          let m = subst (λ (t : ℕ × Warning). is_of_tokens t.1 ≡ true → (at : TokenPlace) × (w : Warning) × Due at w × (t.0 ≡ at.start) × (t.1 ≡ w)) is
-          (h.meant k (entry d) (omega (arith, lt, length-map cautions entry))) (code_of_tokens c.warning only) in
+          let m = subst (λ (t : ℕ × Warning). is_of_rules t.1 ≡ true → (at : TokenPlace) × (w : Warning) × Due at w × (t.0 ≡ at.start) × (t.1 ≡ w)) is
+          (h.meant k (entry d) (omega (arith, lt, length-map cautions entry))) (code_of_rules c.warning only) in
           (m.0, m.1, m.2, ap (λ n. take n source) m.3, ap warning_code m.4)
 
 pub not_done : (edition : Edition) (files : Files) (source : List ℕ) (v : Verdict) (line : Kept) (d : Diagnostic) → v ≡ verdict.Faulty line d
@@ -128,5 +129,9 @@ caution_more source cautions i c d f old new lt here place is more h =
 pub all_warned : (edition : Edition) (files : Files) (source : List ℕ) (cautions slice : List Caution) (found : List Finding) → Warns edition files source cautions → slice ≡ cautions
     → map (found_at source) found ≡ map (caution_at source) slice → TellsWarnings edition files source (map (found_at source) found)
 all_warned edition files source cautions slice found warns same is ds formed spelled =
-    subst (TellsDue (λ at. take at.start source) warning_code (λ before at. length before ≤ at.start) IsOfTokens (IsDueIn edition files source ds))
-    (sym (is ∙ ap (map (caution_at source)) same)) (codes_told (IsDueIn edition files source ds) source cautions (warns ds formed spelled))
+    let w = warns ds formed spelled in
+    let Due = IsDueBy edition files source w.0 in (
+      w.0,
+      w.1,
+      subst (TellsDue (λ at. take at.start source) warning_code (λ before at. length before ≤ at.start) IsOfRules Due) (sym (is ∙ ap (map (caution_at source)) same)) (codes_told Due source cautions w.2),
+    )

@@ -12,7 +12,8 @@ use Rattle.blint.specs.declared.warnings.Slip.TheVariants as slip
 use Rattle.blint.specs.declared.warnings.Warning.{Warning}
 use Rattle.blint.specs.declared.warnings.Warning.TheVariants as warning
 use Rattle.blint.specs.SourceTokens.{IsSource}
-use Rattle.blint.specs.Warns.{IsDueIn, TellsDue}
+use Rattle.blint.specs.Warns.{AreNoticesIn, IsDueBy, TellsDue}
+use Rattle.bmatch.specs.declared.noticing.Notice.{Notice}
 
 -- by which code each slip is known
 abbrev pub slip_code : Slip → List ℕ
@@ -172,19 +173,21 @@ warning_code warning.IndexKept = codes "ix"
 warning_code warning.OwnResultDropped = codes "no"
 warning_code (warning.Slip s) = slip_code s
 
--- codes that tokens and rules alone give
-abbrev pub IsOfTokens : List ℕ → Type 0
-IsOfTokens code =
+-- codes that rules alone give
+abbrev pub IsOfRules : List ℕ → Type 0
+IsOfRules code =
     IsTrue (list_any (same_name code)
-    (codes "pr" ∷ codes "if" ∷ codes "em" ∷ codes "sg" ∷ codes "op" ∷ codes "bs" ∷ []))
+    (codes "and" ∷ codes "op" ∷ codes "if" ∷ codes "em" ∷ codes "sg" ∷ codes "en" ∷ codes "st" ∷ codes "no" ∷ codes "bs"
+    ∷ codes "pr" ∷ codes "rt" ∷ codes "us" ∷ codes "ed" ∷ codes "tr" ∷ codes "di" ∷ codes "es" ∷ []))
 
--- What is due of a source that is definitions is told, and nothing else with the codes of tokens and rules alone: each
--- finding with the bytes before it, and its code.
+-- What is due of a source that is definitions is told, and nothing else with the codes of rules alone: each finding with
+-- the bytes before it, and its code.
 abbrev pub TellsWarnings : Edition → Files → List ℕ → (told : List (List ℕ × List ℕ)) → Type 0
 TellsWarnings edition files source told =
     (ds : List Definition) → AllFormed ds → IsSource edition source ds
-    → TellsDue (λ at. take at.start source) warning_code (λ before at. length before ≤ at.start) IsOfTokens
-    (IsDueIn edition files source ds) told
+    → (notices : List Notice) × AreNoticesIn edition source ds notices
+    × TellsDue (λ at. take at.start source) warning_code (λ before at. length before ≤ at.start) IsOfRules
+    (IsDueBy edition files source notices) told
 
 -- Inner words: the bytes before a caution, and its code
 abbrev pub caution_at : (source : List ℕ) → Caution → List ℕ × List ℕ

@@ -1,3 +1,2 @@
 pub mod FurtherRows
-pub mod NoticeFacts
 pub mod UnitFacts

@@ -1,6 +1,4 @@
-pub mod DefinitionStarts
+pub mod FirstNotices
 pub mod LintSteps
-pub mod RuleRows
-pub mod RulesOfProgram
 pub mod SourceSteps
 pub mod ToldSteps

@@ -17,7 +17,7 @@ use Rattle.blex.proofs.PlaceSteps.{end_piece, piece_grows, places_of_tokens, som
 use Rattle.blint.specs.declared.cutting.CutSource.{CutSource}
 use Rattle.bmatch.specs.declared.tree.TokenPlace.{TokenPlace}
 use Rattle.blint.specs.Cutting.{Cuts, TakesPiece}
-use Rattle.blint.specs.ProgramRules.{lexemes_of}
+use Rattle.bmatch.specs.Growing.{lexemes_of}
 use Rattle.blint.specs.Told.{AreRising}
 use Rattle.blint.specs.SourceTokens.{IsSource, PlacedToken, is_end, lexemes_in, token_places, token_of, tokens_at, tokens_of}
 

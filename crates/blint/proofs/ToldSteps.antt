@@ -7,16 +7,15 @@ use Rattle.std.proofs.lemmas.List.Quantifiers.{Any-push}
 use Rattle.std.proofs.lemmas.Option.{slice_get_within}
 use Rattle.std.specs.Prelude.{◌==◌, if◌then◌else◌, nat_lt, slice_get}
 use Rattle.std.specs.List.{All, Any}
-use Rattle.blex.specs.declared.lexeme.Lexeme.{Lexeme}
 use Rattle.bsources.specs.Files.{Files, Line, beyond_first}
-use Rattle.brules.specs.declared.rules.Rule.{Rule}
-use Rattle.blint.specs.AtToken.{rule_of, warning_at}
+use Rattle.bmatch.specs.declared.noticing.Notice.{Notice}
+use Rattle.blint.specs.Noticed.{first_notice, notice_at, warning_of}
 use Rattle.blint.specs.declared.cautions.Caution.{Caution}
 use Rattle.blint.specs.declared.telling.TheConstants.{MOST_CAUTIONS}
 use Rattle.bmatch.specs.declared.tree.TokenPlace.{TokenPlace}
 use Rattle.blint.specs.declared.warnings.Warning.{Warning}
 use Rattle.blint.specs.Told.{AreRising, TellsOne, TellsOthers, due, with_caution}
-use Rattle.blint.specs.Warns.{IsDue, TellsOf, entry, is_of_tokens}
+use Rattle.blint.specs.Warns.{IsDue, TellsOf, entry, is_of_rules}
 
 abbrev Entry : Type 0
 Entry = ℕ × Warning
@@ -64,12 +63,12 @@ told_others at w start old new h (inr f) =
     subst (Told at w) (sym (h.1 ∙ ap (λ l. old ++ l) none ∙ append-nil old)) (inr f)
 
 abbrev IsOther : ℕ → Caution → Type 0
-IsOther start c = (is_of_tokens c.warning ≡ false) × (c.place.start ≤ start)
+IsOther start c = (is_of_rules c.warning ≡ false) × (c.place.start ≤ start)
 
 pub no_others : (start : ℕ) (old : List Caution) → TellsOthers start old old
 no_others start old = ([], sym (append-nil old), λ full. refl, All-nil (IsOther start))
 
-pub one_other : (c : Caution) (old new : List Caution) → is_of_tokens c.warning ≡ false → new ≡ with_caution c old → TellsOthers c.place.start old new
+pub one_other : (c : Caution) (old new : List Caution) → is_of_rules c.warning ≡ false → new ≡ with_caution c old → TellsOthers c.place.start old new
 one_other c old new e is =
     subst (TellsOthers c.place.start old) (sym is)
     (with_one (TellsOthers c.place.start old) c old
@@ -84,12 +83,12 @@ others_after start at first old new le a b = (
   All-append (IsOther start) a.0 b.0 a.3 (All-weaker (IsOther at) (IsOther start) (λ c h. (h.0, omega (arith, h.1, le))) b.0 b.3),
 )
 
-module _ (files : Files) (source : List ℕ) (lexemes : List Lexeme) (places : List TokenPlace) (rules : List (Option Rule)) where
+module _ (files : Files) (places : List TokenPlace) (notices : List Notice) where
   abbrev Due : TokenPlace → Warning → Type 0
-  Due = IsDue files source lexemes places rules
+  Due = IsDue files places notices
 
   abbrev Meant : Entry → Type 0
-  Meant t = is_of_tokens t.1 ≡ true → (at : TokenPlace) × (w : Warning) × Due at w × (t.0 ≡ at.start) × (t.1 ≡ w)
+  Meant t = is_of_rules t.1 ≡ true → (at : TokenPlace) × (w : Warning) × Due at w × (t.0 ≡ at.start) × (t.1 ≡ w)
 
   -- what is due of the first tokens is told
   pub record Below (n : ℕ) (cautions : List Caution) : Type 0 where
@@ -121,7 +120,7 @@ module _ (files : Files) (source : List ℕ) (lexemes : List Lexeme) (places : L
       (All-map (IsEarly a) entry h.0 (λ j d lt. let f = (h.3 j d lt).1 in let g = rising n k at a le here p in omega (arith, f, g))))
 
   -- of one token more nothing is due
-  below_silent : (n : ℕ) (at : TokenPlace) (cautions : List Caution) → slice_get places n ≡ Some at → due (beyond_first files at.line) (warning_at source lexemes places n (rule_of rules n)) ≡ None → Below n cautions → Below (n + 1) cautions
+  below_silent : (n : ℕ) (at : TokenPlace) (cautions : List Caution) → slice_get places n ≡ Some at → due (beyond_first files at.line) (warning_of (first_notice notices n)) ≡ None → Below n cautions → Below (n + 1) cautions
   below_silent n at cautions here none b = record {
     all = λ a w d lt. by a w d lt;
     meant = b.meant;
@@ -136,16 +135,16 @@ module _ (files : Files) (source : List ℕ) (lexemes : List Lexeme) (places : L
               let same : d.token ≡ n = same_number d.token n g in
               let there : Some a ≡ Some at = sym d.place ∙ ap (slice_get places) same ∙ here in
               let place : a ≡ at = cc in
-              let is : due (beyond_first files at.line) (warning_at source lexemes places n (rule_of rules n)) ≡ Some w =
-              ap (λ (o : Option Line). due o (warning_at source lexemes places n (rule_of rules n))) (ap (λ (x : TokenPlace). beyond_first files x.line) (sym place) ∙ d.own)
-              ∙ ap (λ (j : ℕ). warning_at source lexemes places j (rule_of rules j)) (sym same) ∙ d.is in
+              let is : due (beyond_first files at.line) (warning_of (first_notice notices n)) ≡ Some w =
+              ap (λ (o : Option Line). due o (warning_of (first_notice notices n))) (ap (λ (x : TokenPlace). beyond_first files x.line) (sym place) ∙ d.own)
+              ∙ ap (λ (j : ℕ). warning_of (first_notice notices j)) (sym same) ∙ d.is in
               absurd (let g : None ≡ Some w = sym none ∙ is in cc)
 
   due_own : {X : Type 0} (o : Option X) (found : Option Warning) (w : Warning) → due o found ≡ Some w → (o ≡ None) × (found ≡ Some w)
   due_own None found w e = (refl, e)
   due_own (Some x) found w e = cc
 
-  below_one : (n : ℕ) (at : TokenPlace) (w : Warning) (old new : List Caution) → slice_get places n ≡ Some at → due (beyond_first files at.line) (warning_at source lexemes places n (rule_of rules n)) ≡ Some w
+  below_one : (n : ℕ) (at : TokenPlace) (w : Warning) (old new : List Caution) → slice_get places n ≡ Some at → due (beyond_first files at.line) (warning_of (first_notice notices n)) ≡ Some w
       → TellsOne (Some w) at old new → AreEarly n old → Below n old → Below (n + 1) new
   below_one n at w old new here is h early b = record {
     all = by;
@@ -158,7 +157,7 @@ module _ (files : Files) (source : List ℕ) (lexemes : List Lexeme) (places : L
     where
       this : Due at w
       this =
-          let own = due_own (beyond_first files at.line) (warning_at source lexemes places n (rule_of rules n)) w is in
+          let own = due_own (beyond_first files at.line) (warning_of (first_notice notices n)) w is in
           record { token = n; place = here; own = own.0; is = own.1 }
 
       by : (a : TokenPlace) (v : Warning) (d : Due a v) → d.token < n + 1 → Told a v new
@@ -170,19 +169,19 @@ module _ (files : Files) (source : List ℕ) (lexemes : List Lexeme) (places : L
               let same : d.token ≡ n = same_number d.token n g in
               let there : Some a ≡ Some at = sym d.place ∙ ap (slice_get places) same ∙ here in
               let place : a ≡ at = cc in
-              let both : Some v ≡ Some w = sym d.is ∙ ap (λ (j : ℕ). warning_at source lexemes places j (rule_of rules j)) same ∙ this.is in
+              let both : Some v ≡ Some w = sym d.is ∙ ap (λ (j : ℕ). warning_of (first_notice notices j)) same ∙ this.is in
               let warning : v ≡ w = cc in
               subst (λ (x : TokenPlace). Told x v new) (sym place)
               (subst (λ (x : Warning). Told at x new) (sym warning)
               (subst (Told at w) (sym h.1) (just_told at w h.0 old h.2 h.3 (early n at (omega arith) here))))
 
-  pub below_due : (n : ℕ) (at : TokenPlace) (o found : Option Warning) (r : Option Rule) (old new : List Caution) → slice_get places n ≡ Some at → o ≡ due (beyond_first files at.line) found
-      → found ≡ warning_at source lexemes places n r → r ≡ rule_of rules n → TellsOne o at old new → AreEarly n old → Below n old → Below (n + 1) new
+  pub below_due : (n : ℕ) (at : TokenPlace) (o found : Option Warning) (r : Option Notice) (old new : List Caution) → slice_get places n ≡ Some at → o ≡ due (beyond_first files at.line) found
+      → found ≡ warning_of r → r ≡ first_notice notices n → TellsOne o at old new → AreEarly n old → Below n old → Below (n + 1) new
   below_due n at None found r old new here is same speaks h early b =
       subst (Below (n + 1)) (sym h)
-      (below_silent n at old here (sym (is ∙ ap (due (beyond_first files at.line)) (same ∙ ap (warning_at source lexemes places n) speaks))) b)
+      (below_silent n at old here (sym (is ∙ ap (due (beyond_first files at.line)) (same ∙ ap warning_of speaks))) b)
   below_due n at (Some w) found r old new here is same speaks h early b =
-      below_one n at w old new here (sym (is ∙ ap (due (beyond_first files at.line)) (same ∙ ap (warning_at source lexemes places n) speaks))) h early b
+      below_one n at w old new here (sym (is ∙ ap (due (beyond_first files at.line)) (same ∙ ap warning_of speaks))) h early b
 
   pub early_due : (n : ℕ) (at : TokenPlace) (o : Option Warning) (old new : List Caution) → AreRising places → slice_get places n ≡ Some at → TellsOne o at old new → AreEarly n old → AreEarly (n + 1) new
   early_due n at None old new rising here h e k a le p = subst (λ l. All (IsEarly a) (map entry l)) (sym h) (e k a (omega (arith, le)) p)
@@ -202,8 +201,8 @@ module _ (files : Files) (source : List ℕ) (lexemes : List Lexeme) (places : L
   pub up_to_none : ToldUpTo 0 []
   up_to_none = (below_none, early_none)
 
-  pub up_to_more : (n : ℕ) (at : TokenPlace) (o found : Option Warning) (r : Option Rule) (old middle new : List Caution) → AreRising places → slice_get places n ≡ Some at → o ≡ due (beyond_first files at.line) found
-      → found ≡ warning_at source lexemes places n r → r ≡ rule_of rules n → TellsOthers at.start old middle → TellsOne o at middle new → ToldUpTo n old → ToldUpTo (n + 1) new
+  pub up_to_more : (n : ℕ) (at : TokenPlace) (o found : Option Warning) (r : Option Notice) (old middle new : List Caution) → AreRising places → slice_get places n ≡ Some at → o ≡ due (beyond_first files at.line) found
+      → found ≡ warning_of r → r ≡ first_notice notices n → TellsOthers at.start old middle → TellsOne o at middle new → ToldUpTo n old → ToldUpTo (n + 1) new
   up_to_more n at o found r old middle new rising here is same speaks others one h =
       let early = early_others n at old middle rising here others h.1 in (
         below_due n at o found r middle new here is same speaks one early (below_others n at.start old middle others h.0),

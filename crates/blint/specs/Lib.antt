@@ -1,7 +1,6 @@
-pub mod AtToken
 pub mod Cutting
+pub mod Noticed
 pub mod ProgramRows
-pub mod ProgramRules
 pub mod SourceTokens
 pub mod Told
 pub mod Warns

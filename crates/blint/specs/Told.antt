@@ -6,7 +6,7 @@ use Rattle.blint.specs.declared.cautions.Caution.{Caution}
 use Rattle.blint.specs.declared.telling.TheConstants.{MOST_CAUTIONS}
 use Rattle.bmatch.specs.declared.tree.TokenPlace.{TokenPlace}
 use Rattle.blint.specs.declared.warnings.Warning.{Warning}
-use Rattle.blint.specs.Warns.{is_of_tokens}
+use Rattle.blint.specs.Warns.{is_of_rules}
 
 -- Places come one after another.
 abbrev pub AreRising : List TokenPlace → Type 0
@@ -25,7 +25,7 @@ with_caution c cautions = if nat_lt (length cautions) MOST_CAUTIONS then caution
 abbrev pub TellsOthers : (start : ℕ) → (old new : List Caution) → Type 0
 TellsOthers start old new =
     (more : List Caution) × (new ≡ old ++ more) × (MOST_CAUTIONS ≤ length old → more ≡ [])
-    × All (λ c. (is_of_tokens c.warning ≡ false) × (c.place.start ≤ start)) more
+    × All (λ c. (is_of_rules c.warning ≡ false) × (c.place.start ≤ start)) more
 
 -- What is due of a token was told after these.
 abbrev pub TellsOne : Option Warning → TokenPlace → (old new : List Caution) → Type 0

@@ -1,16 +1,14 @@
-//! Cases of a `switch`, characters that are taken for digits, and a condition that assigns by `=!`.
+//! Cases of a `switch` that go on into the next one.
 use crate::falls::prepares;
 use crate::linting::Look;
 use crate::remarks::Remark;
-use crate::strings::is_input;
-use crate::tree::{Branch, Statement, Tree};
+use crate::tree::{Statement, Tree};
 use crate::warnings::Warning;
 use blang::Keyword;
 use blex::Lexeme;
 use btree::{Construct, Node};
 
-/// What is found of a case of one digit, where the switch looks at a character of the input; and of one into which
-/// control goes on from the case before, as from no other one.
+/// What is found of a case into which control goes on from the case before, as from no other one.
 pub(crate) fn of_case(look: &Look<'_>, heading: &Statement) -> Option<Remark> {
     let tree = look.tree;
     let is_case = matches!(
@@ -22,15 +20,6 @@ pub(crate) fn of_case(look: &Look<'_>, heading: &Statement) -> Option<Remark> {
     if !is_case || around.construct != Construct::Switch {
         return None;
     }
-    let value = heading.first.wrapping_add(1);
-    let is_digit = matches!(
-        tree.tokens.at(value),
-        Lexeme::Number(1 | 2 | 3 | 5 | 6 | 7 | 8)
-    );
-    let switched = tree.branch(tree.made_by(around.first).left);
-    if is_digit && is_input(look, &ungrouped(tree, &switched)) {
-        return Remark::new(value, Warning::DigitForCharacter);
-    }
     if ending(tree, heading) == Some(false)
         && (is_like_next(tree, heading) && all_fall(look, heading, &block)
             || falls_alone(look, heading, &block)
@@ -39,13 +28,6 @@ pub(crate) fn of_case(look: &Look<'_>, heading: &Statement) -> Option<Remark> {
         return Remark::new(heading.first, Warning::FallsIntoCase);
     }
     None
-}
-
-fn ungrouped(tree: &Tree<'_>, branch: &Branch) -> Branch {
-    match branch.node {
-        Node::Grouped => tree.branch(branch.left),
-        _ => *branch,
-    }
 }
 
 // Whether what stands before a case leaves the switch; nothing, if that is another case or the beginning.

@@ -2,11 +2,8 @@
 use crate::bounds::constant_of;
 use crate::linting::Look;
 use crate::locals::{NameRole, relates};
-use crate::loops::{changes_name, leaves};
-use crate::remarks::Remark;
+use crate::loops::changes_name;
 use crate::tree::{Branch, Statement, Tree};
-use crate::vectors::last_of;
-use crate::warnings::{Slip, Warning};
 use blang::Keyword;
 use blex::Lexeme;
 use btree::{Construct, Node};
@@ -55,42 +52,6 @@ pub(crate) fn counter_of(look: &Look<'_>, tested: &Branch) -> Option<Counter> {
     })
 }
 
-/// How something is changed: by counting up or down, or in another way.
-#[derive(Clone, Copy, PartialEq, Eq)]
-enum Way {
-    Up,
-    Down,
-    Other,
-}
-
-// How a token changes a name, if it does.
-fn way_of(tree: &Tree<'_>, token: usize, name: &Name) -> Option<Way> {
-    if !changes_name(tree, token, name) {
-        return None;
-    }
-    let branch = tree.made_by(token);
-    let is_constant = tree.branch(branch.right).node == Node::Constant;
-    Some(match branch.node {
-        Node::PreIncrement | Node::PostIncrement => Way::Up,
-        Node::PreDecrement | Node::PostDecrement => Way::Down,
-        Node::Assigned(Some(BinOp::Add)) if is_constant => Way::Up,
-        Node::Assigned(Some(BinOp::Sub)) if is_constant => Way::Down,
-        Node::Assigned(None) => way_of_sum(tree, &tree.branch(branch.right), name),
-        _ => Way::Other,
-    })
-}
-
-// How `x = x + 1` changes `x`.
-fn way_of_sum(tree: &Tree<'_>, sum: &Branch, name: &Name) -> Way {
-    let is_own = tree.name(&tree.branch(sum.left)) == Some(*name);
-    let is_constant = tree.branch(sum.right).node == Node::Constant;
-    match sum.node {
-        Node::Binary(BinOp::Add) if is_own && is_constant => Way::Up,
-        Node::Binary(BinOp::Sub) if is_own && is_constant => Way::Down,
-        _ => Way::Other,
-    }
-}
-
 /// The innermost loop around the statement of a keyword.
 pub(crate) fn loop_around(tree: &Tree<'_>, keyword: usize) -> Option<Statement> {
     let mut found = tree.statement(tree.statement(tree.around(keyword)).parent);
@@ -99,22 +60,6 @@ pub(crate) fn loop_around(tree: &Tree<'_>, keyword: usize) -> Option<Statement> 
             Construct::While => return Some(found),
             Construct::Definition => return None,
             _ => found = tree.statement(found.parent),
-        }
-    }
-    None
-}
-
-/// The assignment that gives a name its value last before a token, if that is what changes it last there.
-pub(crate) fn begun_with(tree: &Tree<'_>, end: usize, name: &Name) -> Option<Branch> {
-    for back in 0..end.min(MOST_TOKENS) {
-        let token = end.wrapping_sub(back).wrapping_sub(1);
-        if changes_name(tree, token, name) {
-            let changed = tree.made_by(token);
-            return if changed.node == Node::Assigned(None) {
-                Some(changed)
-            } else {
-                None
-            };
         }
     }
     None
@@ -130,81 +75,6 @@ pub(crate) fn given_by(tree: &Tree<'_>, assigned: &Branch) -> Branch {
         given = tree.branch(given.right);
     }
     given
-}
-
-/// What is found of an index that a loop counts past the last word of a vector, or from there down.
-pub(crate) fn past_vector(look: &Look<'_>, counted: &Counter) -> Option<Remark> {
-    let tree = look.tree;
-    let largest = match (counted.op, tree.tokens.at(counted.limit.token)) {
-        (BinOp::Lt, Lexeme::Number(limit)) => u64::from(limit).checked_sub(1)?,
-        (BinOp::Le, Lexeme::Number(limit)) => u64::from(limit),
-        (BinOp::Ge | BinOp::Gt, Lexeme::Number(0 | 1)) => {
-            let begun = begun_with(tree, counted.keyword, &counted.name)?;
-            constant_of(tree, &given_by(tree, &begun))?
-        }
-        _ => return None,
-    };
-    let (indexed, more) = first_index(look, counted)?;
-    let vector = tree.branch(indexed.left);
-    if last_of(look, &tree.name(&vector)?)? >= largest.saturating_add(more) {
-        return None;
-    }
-    Some(Remark {
-        other: counted.keyword,
-        ..Remark::about(
-            tree.branch(indexed.right).first,
-            Warning::LoopPastVector,
-            vector.token,
-        )?
-    })
-}
-
-/// What is found of a loop up to one number that a word never has, as it counts by steps past it.
-pub(crate) fn steps_past(look: &Look<'_>, counted: &Counter) -> Option<Remark> {
-    let tree = look.tree;
-    if counted.op != BinOp::Ne {
-        return None;
-    }
-    let limit = constant_of(tree, &counted.limit)?;
-    let begun = begun_with(tree, counted.keyword, &counted.name)?;
-    let first = constant_of(tree, &given_by(tree, &begun))?;
-    let mut found = None;
-    for token in counted.first..counted.end {
-        if leaves(look, token) {
-            return None;
-        }
-        if let Some(way) = way_of(tree, token, &counted.name) {
-            if found.is_some() {
-                return None;
-            }
-            found = Some((token, way));
-        }
-    }
-    let (token, way) = found?;
-    let step = step_of(tree, &tree.made_by(token))?;
-    let distance = match way {
-        Way::Up => limit.checked_sub(first)?,
-        Way::Down => first.checked_sub(limit)?,
-        Way::Other => return None,
-    };
-    if step < 2 || distance % step == 0 {
-        return None;
-    }
-    Remark::about(
-        tree.branch(tree.made_by(counted.keyword).left).token,
-        Warning::Slip(Slip::StepsPast),
-        counted.keyword.wrapping_add(2),
-    )
-}
-
-// The constant by which a word is changed.
-fn step_of(tree: &Tree<'_>, change: &Branch) -> Option<u64> {
-    let given = tree.branch(change.right);
-    match change.node {
-        Node::Assigned(Some(_)) => constant_of(tree, &given),
-        Node::Assigned(None) => constant_of(tree, &tree.branch(given.right)),
-        _ => Some(1),
-    }
 }
 
 // The index of a name that is just the word which a loop counts, or most above it, unless something changes that or asks

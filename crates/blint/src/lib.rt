@@ -1,50 +1,37 @@
 //! What compiles and is probably a mistake: one cut of a source, one tree for each function, and rules over both.
 #![tactic(auto)]
 
-mod answers;
-mod at_token;
 mod bounds;
 mod calls;
 mod cases;
 mod cautions;
 mod chains;
-mod conditions;
-mod copied;
+mod check_rules;
+mod constructs;
 mod counters;
 mod cutting;
 mod declared;
 mod defined;
-mod ends;
-mod extremes;
 mod falls;
 mod flow;
 mod functions;
-mod layout;
 mod linting;
 mod locals;
 mod looking;
 mod loops;
 mod matched;
-mod nested;
 mod numbers;
 mod octals;
-mod remainders;
 mod remarks;
-mod rooms;
-mod ruled;
 mod spelling;
-mod stacks;
-mod stores;
 mod strings;
 mod telling;
-mod texts;
 mod tokens;
 mod tree;
 mod turns;
 mod values;
 mod vectors;
 mod warnings;
-mod whole;
 
 pub use bmatch::TokenPlace;
 pub use cautions::{Caution, Program};

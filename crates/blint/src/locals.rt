@@ -32,19 +32,13 @@ pub(crate) struct Local {
     pub is_word: bool,
     /// Whether its address is taken.
     pub has_address: bool,
-    /// Whether it is asked for being 0.
-    pub is_asked: bool,
     /// Whether it is compared by its size.
     pub is_related: bool,
     /// Whether something changes it, or may do so by its address.
     pub is_changed: bool,
     /// How often a value is assigned to it, or its address is taken.
     pub sets: u64,
-    /// How often the function has it, and how often with a `*` before it.
-    pub mentions: u64,
-    pub pointed: u64,
-    /// How often a constant is assigned to it, and how often a number of one digit.
-    pub constants: u64,
+    /// How often a number of one digit is assigned to it.
     pub digits: u64,
     /// Whether it is compared with a number above a digit's.
     pub is_large: bool,
@@ -66,10 +60,6 @@ impl Local {
         let parent = tree.branch(mention.parent);
         let is_left = tree.branch(parent.left).token == mention.token;
         self.is_used = true;
-        self.mentions = self.mentions.saturating_add(1);
-        if parent.node == Node::Indirection {
-            self.pointed = self.pointed.saturating_add(1);
-        }
         self.is_plain = self.is_plain || !is_left || !has_two_indices(tree, &parent);
         match parent.node {
             Node::Indexed if is_left => self.is_indexed = true,
@@ -90,9 +80,6 @@ impl Local {
                     self.texts = self.texts.saturating_add(1);
                 }
             }
-            Node::Not => self.is_asked = true,
-            Node::Tested => self.is_asked = self.is_asked || !tree.is_loop(&parent),
-            Node::Conditional if is_left => self.is_asked = true,
             _ => {}
         }
     }
@@ -108,9 +95,6 @@ impl Local {
             return;
         }
         let given = given_by(tree, assigned);
-        if given.node == Node::Constant {
-            self.constants = self.constants.saturating_add(1);
-        }
         if matches!(tree.tokens.at(given.token), Lexeme::Number(0..=9)) {
             self.digits = self.digits.saturating_add(1);
         }
@@ -131,7 +115,6 @@ impl Local {
             || matches!(value, Lexeme::Number(32..) | Lexeme::Character(_));
         if compares(op) || relates(op) {
             self.is_word = self.is_word || other.node == Node::Constant;
-            self.is_asked = self.is_asked || (compares(op) && tree.is_value(&other, 0));
         }
     }
 
@@ -153,11 +136,6 @@ impl Local {
     /// Whether it counts from a number of one digit on, and no character is among its values.
     pub(crate) fn is_small(&self) -> bool {
         self.digits > 0 && self.digits == self.sets && !self.is_large && !self.has_address
-    }
-
-    /// Whether nothing but constants is assigned to it.
-    pub(crate) fn is_constant(&self) -> bool {
-        self.constants > 0 && self.constants == self.sets && !self.has_address
     }
 
     /// Whether it is a word of the function alone.
@@ -275,13 +253,9 @@ impl Locals {
             is_plain: false,
             is_word: false,
             has_address: false,
-            is_asked: false,
             is_related: false,
             is_changed: false,
             sets: 0,
-            mentions: 0,
-            pointed: 0,
-            constants: 0,
             digits: 0,
             is_large: false,
             inputs: 0,
@@ -334,26 +308,6 @@ impl Locals {
             Some(local) if local.role == NameRole::Parameter => Some(*local),
             _ => None,
         }
-    }
-
-    /// Whether one of them is an automatic.
-    pub(crate) fn has_auto(&self) -> bool {
-        for local in &self.all {
-            if matches!(local.role, NameRole::Auto | NameRole::Vector(_)) {
-                return true;
-            }
-        }
-        false
-    }
-
-    /// Whether one of them is an external.
-    pub(crate) fn has_external(&self) -> bool {
-        for local in &self.all {
-            if local.role == NameRole::External {
-                return true;
-            }
-        }
-        false
     }
 
     /// How many parameters there are.

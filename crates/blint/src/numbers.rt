@@ -1,12 +1,8 @@
-//! Numbers that are worth another thing than they look, and quotients without their fraction.
-use crate::bounds::constant_of;
-use crate::linting::Look;
+//! Numbers that are worth another thing than they look.
 use crate::remarks::{Remark, Remarks};
 use crate::tokens::Tokens;
-use crate::tree::{Branch, Tree};
 use crate::warnings::Warning;
 use blex::Lexeme;
-use btree::Node;
 use bword::BinOp;
 use std::alloc::AllocError;
 
@@ -67,53 +63,4 @@ fn is_for_bits(lexeme: &Lexeme) -> bool {
         Lexeme::Operator(BinOp::And | BinOp::Or | BinOp::Shl | BinOp::Shr)
             | Lexeme::Assign(Some(BinOp::And | BinOp::Or | BinOp::Shl | BinOp::Shr))
     )
-}
-
-/// What is found of a quotient of two constants that is 0, or of a factor that is one and drops its fraction.
-pub(crate) fn divided(look: &Look<'_>, quotient: &Branch) -> Option<Remark> {
-    let tree = look.tree;
-    let dividend = constant_of(tree, &tree.branch(quotient.left))?;
-    let divisor = constant_of(tree, &tree.branch(quotient.right))?;
-    if 0 < dividend && dividend < divisor {
-        return Remark::new(quotient.token, Warning::ZeroQuotient);
-    }
-    if divisor > 0 && dividend % divisor > 0 && is_factor(tree, quotient) {
-        return Remark::new(quotient.token, Warning::QuotientCut);
-    }
-    None
-}
-
-// Whether another factor than a constant stands beside a quotient.
-fn is_factor(tree: &Tree<'_>, quotient: &Branch) -> bool {
-    let parent = tree.branch(quotient.parent);
-    let product = match parent.node {
-        Node::Grouped => tree.branch(parent.parent),
-        _ => parent,
-    };
-    let (left, right) = (tree.branch(product.left), tree.branch(product.right));
-    product.node == Node::Binary(BinOp::Mul)
-        && left.node != Node::Constant
-        && right.node != Node::Constant
-}
-
-/// What is found of a number that is below 0, where it is assigned to a word that is compared by its size.
-pub(crate) fn assigned(look: &Look<'_>, assigned: &Branch) -> Option<Remark> {
-    let local = look.locals.of(look.tree, &look.tree.branch(assigned.left))?;
-    if local.is_related {
-        large(look.tree, &look.tree.branch(assigned.right))
-    } else {
-        None
-    }
-}
-
-/// What is found of a number that is below 0, and is written without its sign.
-pub(crate) fn large(tree: &Tree<'_>, number: &Branch) -> Option<Remark> {
-    let is_large = number.node == Node::Constant
-        && matches!(tree.tokens.at(number.token), Lexeme::Number(32768..=65534))
-        && tree.tokens.bytes(number.token).first() != Some(&b'0');
-    if is_large {
-        Remark::new(number.token, Warning::LargeNumber)
-    } else {
-        None
-    }
 }

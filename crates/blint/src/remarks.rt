@@ -14,9 +14,8 @@ pub(crate) struct Remark {
     pub other: usize,
     /// The definition of the name, where what is said hangs on it.
     pub definition: usize,
-    /// Of a call how many arguments it has, and whether its value is used.
+    /// The places of arguments of a call.
     pub given: u64,
-    pub is_value: bool,
 }
 
 impl Remark {
@@ -34,7 +33,6 @@ impl Remark {
             other: NONE,
             definition: NONE,
             given: 0,
-            is_value: false,
         })
     }
 }

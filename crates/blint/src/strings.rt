@@ -1,35 +1,13 @@
 //! Strings and characters that are probably mistakes.
-use crate::ends::local_in;
 use crate::linting::Look;
-use crate::locals::{Locals, NameRole};
 use crate::remarks::Remark;
-use crate::tree::{Branch, Tree};
+use crate::tree::Branch;
 use crate::warnings::Warning;
 use btree::Node;
-
-/// Whether a branch is a word of a string, by an index or by `*`.
-pub(crate) fn is_of_string(look: &Look<'_>, word: &Branch) -> bool {
-    matches!(word.node, Node::Indexed | Node::Indirection)
-        && matches!(local_in(look, word), Some(local) if local.is_string())
-}
-
-/// Whether a branch is a word, by an index, of a parameter that the function takes for a string, too.
-pub(crate) fn is_word_of_text(look: &Look<'_>, word: &Branch) -> bool {
-    word.node == Node::Indexed
-        && matches!(
-            local_in(look, word),
-            Some(local) if local.role == NameRole::Parameter && local.texts > 0
-        )
-}
 
 /// Whether a branch is a name to which characters of the input alone are assigned.
 pub(crate) fn is_input(look: &Look<'_>, branch: &Branch) -> bool {
     matches!(look.locals.of(look.tree, branch), Some(local) if local.is_input())
-}
-
-/// Whether a branch is a string, or a name to which strings alone are assigned.
-pub(crate) fn is_string_of(tree: &Tree<'_>, locals: &Locals, branch: &Branch) -> bool {
-    branch.node == Node::Text || matches!(locals.of(tree, branch), Some(local) if local.is_string())
 }
 
 /// Whether a branch is a name to which strings alone are assigned.

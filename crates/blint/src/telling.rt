@@ -1,51 +1,44 @@
 //! Telling what was found, in the order of the tokens.
 ghost use Rattle.std.specs.Prelude.{◌≡◌, IfOk};
 ghost use Rattle.bsources.specs.Files.{beyond_first, files_shown};
-ghost use Rattle.blint.specs.AtToken.{rule_of};
 ghost use Rattle.blint.specs.Told.{AreRising, TellsOne, TellsOthers, due, with_caution};
-ghost use Rattle.blint.specs.Warns.{IsDue, TellsOf, is_of_tokens};
+ghost use Rattle.blint.specs.Warns.{IsDue, TellsOf, is_of_rules};
 
-use crate::at_token::warning_at;
 use crate::cautions::Caution;
+use crate::matched::{by_token, notice_at, warning_of};
 use crate::tokens::Tokens;
 use crate::warnings::Warning;
-use bmatch::TokenPlace;
-use brules::Rule;
+use bmatch::{Notice, TokenPlace};
 use bsources::SourceFiles;
+use bword::Name;
 use std::alloc::{AllocError, Global};
 
 /// The most that is said of a program, which is as much as a person reads.
 pub(crate) const MOST_CAUTIONS: usize = 100;
 
-/// Tells of the tokens of the first file what they show and what the rules say, and what else was found.
+/// Tells of the tokens of the first file what the rules say, and what else was found.
 pub(crate) fn told(
     alloc: Global,
     files: &SourceFiles<'_>,
     tokens: &Tokens<'_>,
-    rules: &[Option<Rule>],
+    notices: &[Notice],
     others: &[Caution],
 ) -> Result<Vec<Caution>, AllocError>
     ensures { IfOk result (λ cautions. AreRising tokens.now.places.now
-        → TellsOf (IsDue (files_shown files.now) tokens.now.text.now tokens.now.lexemes.now tokens.now.places.now
-        rules.now) cautions.items) }
+        → TellsOf (IsDue (files_shown files.now) tokens.now.places.now notices.now) cautions.items) }
 {
+    let firsts = by_token(alloc, tokens.places.len(), notices)?;
     let mut cautions = Vec::new(alloc);
     let mut rest = others;
     for token in 0..tokens.places.len() {
         let place = tokens.places[token];
-        rest = tell_others(&mut cautions, rest, place.start)?;
-        let found = warning_at(tokens, token, rule_of(rules, token));
-        let warning = due(files, &place, found);
-        tell_due(&mut cautions, tokens, token, &place, warning)?;
+        let notice = notice_at(firsts.as_slice(), token);
+        rest = tell_others(&mut cautions, rest, place.start, notice.is_some())?;
+        let warning = due(files, &place, warning_of(&notice));
+        tell_due(&mut cautions, tokens, &place, &notice, warning)?;
     }
-    tell_others(&mut cautions, rest, usize::MAX)?;
+    tell_others(&mut cautions, rest, usize::MAX, false)?;
     Ok(cautions)
-}
-
-fn rule_of(rules: &[Option<Rule>], token: usize) -> Option<Rule>
-    ensures { result ≡ rule_of rules.now token }
-{
-    rules.get(token).copied().unwrap_or(None)
 }
 
 // The warning of a token at a place, if that is in the first file.
@@ -58,11 +51,13 @@ fn due(files: &SourceFiles<'_>, place: &TokenPlace, warning: Option<Warning>) ->
     }
 }
 
-// Tells what else was found up to a place, and answers what comes after it.
+// Tells what else was found up to a place, and answers what comes after it. Where a rule speaks of this place, it says
+// nothing again.
 fn tell_others<'a>(
     cautions: &mut Vec<Caution>,
     others: &'a [Caution],
     start: usize,
+    is_noticed: bool,
 ) -> Result<&'a [Caution], AllocError>
     ensures { IfOk result (λ rest. TellsOthers start cautions.old.items cautions.new.items) }
 {
@@ -71,27 +66,34 @@ fn tell_others<'a>(
         if other.place.start > start {
             return Ok(&others[index..]);
         }
-        tell_other(cautions, &other)?;
+        tell_other(cautions, &other, is_noticed)?;
     }
     Ok(&[])
 }
 
-// Tells what a finder gives, which is nothing that tokens and rules alone give.
-fn tell_other(cautions: &mut Vec<Caution>, other: &Caution) -> Result<(), AllocError>
+// Tells what a finder gives, which is nothing that rules alone give.
+fn tell_other(
+    cautions: &mut Vec<Caution>,
+    other: &Caution,
+    is_noticed: bool,
+) -> Result<(), AllocError>
     ensures { IfOk result (λ done. TellsOthers other.now.place.start cautions.old.items cautions.new.items) }
 {
-    if is_of_tokens(other.warning) {
+    if is_noticed {
+        return Ok(());
+    }
+    if is_of_rules(other.warning) {
         return Ok(());
     }
     tell(cautions, other)
 }
 
-// Tells of a token the warning that it has, if it has one.
+// Tells of a token the warning that its notice gives, if it gives one.
 fn tell_due(
     cautions: &mut Vec<Caution>,
     tokens: &Tokens<'_>,
-    token: usize,
     place: &TokenPlace,
+    notice: &Option<Notice>,
     warning: Option<Warning>,
 ) -> Result<(), AllocError>
     ensures { IfOk result (λ done. TellsOne warning place.now cautions.old.items cautions.new.items) }
@@ -103,11 +105,27 @@ fn tell_due(
         cautions,
         &Caution {
             warning,
-            name: tokens.name(token),
+            name: name_of(tokens, notice),
             place: *place,
-            related: None,
+            related: related_of(tokens, notice),
         },
     )
+}
+
+// The name of which a notice speaks.
+fn name_of(tokens: &Tokens<'_>, notice: &Option<Notice>) -> Option<Name> {
+    match notice {
+        Some(notice) => tokens.name(notice.named.unwrap_or(notice.token)),
+        None => None,
+    }
+}
+
+// The second place of a notice.
+fn related_of(tokens: &Tokens<'_>, notice: &Option<Notice>) -> Option<TokenPlace> {
+    match notice {
+        Some(notice) => notice.beside.map(|token| tokens.place(token)),
+        None => None,
+    }
 }
 
 fn tell(cautions: &mut Vec<Caution>, caution: &Caution) -> Result<(), AllocError>
@@ -124,9 +142,9 @@ fn tell(cautions: &mut Vec<Caution>, caution: &Caution) -> Result<(), AllocError
     Ok(())
 }
 
-// Whether only a token or a rule gives it.
-fn is_of_tokens(warning: Warning) -> bool
-    ensures { result ≡ is_of_tokens warning }
+// Whether only rules give it.
+fn is_of_rules(warning: Warning) -> bool
+    ensures { result ≡ is_of_rules warning }
 {
     matches!(
         warning,

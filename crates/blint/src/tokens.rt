@@ -1,7 +1,7 @@
 //! The tokens of a source, one definition after another.
 ghost use Rattle.std.specs.Prelude.{◌≡◌, ◌+◌, slice_get};
-ghost use Rattle.brules.specs.Telling.{lexeme_at};
-ghost use Rattle.blint.specs.AtToken.{are_joined, bytes_at, is_short};
+ghost use Rattle.bmatch.specs.Asking.{are_joined, bytes_at};
+ghost use Rattle.bmatch.specs.Trees.{lexeme_at};
 
 use blex::Lexeme;
 use bmatch::TokenPlace;
@@ -105,9 +105,7 @@ impl<'a> Tokens<'a> {
     }
 
     /// Whether a string has one character or two, or an escape.
-    pub(crate) fn is_short(&self, token: usize) -> bool
-        ensures { result ≡ is_short (slice_get self.now.places.now token) }
-    {
+    pub(crate) fn is_short(&self, token: usize) -> bool {
         match self.places.get(token) {
             Some(place) => place.len <= 4,
             None => true,

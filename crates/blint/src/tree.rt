@@ -1,9 +1,9 @@
 //! The constructs of a definition, and the nodes of its expressions with their parts.
-use crate::ruled::Ruled;
+use crate::constructs::constructs_of;
 use crate::tokens::Tokens;
 use blang::Keyword;
 use blex::Lexeme;
-use btree::{Construct, Node, NodeTag, Tag};
+use btree::{Construct, Node, NodeTag, Tag, nodes_of};
 use std::alloc::{AllocError, Global};
 
 /// In the place of a token, of a branch or of a statement: there is none.
@@ -54,16 +54,11 @@ pub(crate) struct Tree<'a> {
 }
 
 impl<'a> Tree<'a> {
-    pub(crate) fn new(
-        alloc: Global,
-        tokens: &'a Tokens<'a>,
-        ruled: Ruled,
-    ) -> Result<Self, AllocError> {
-        let Ruled { nodes, tags, .. } = ruled;
+    pub(crate) fn new(alloc: Global, tokens: &'a Tokens<'a>) -> Result<Self, AllocError> {
         let mut tree = Tree {
             tokens,
-            nodes,
-            tags,
+            nodes: nodes_of(alloc, tokens.lexemes)?,
+            tags: constructs_of(alloc, tokens.lexemes)?,
             branches: Vec::new(alloc),
             statements: Vec::new(alloc),
             made: Vec::new(alloc),

@@ -11,21 +11,6 @@ use btree::Node;
 /// The most items of a form that are looked at.
 const MOST_ITEMS: u64 = 8;
 
-/// What is found of the argument of `putstr`, which is an address: a number or a character.
-pub(crate) fn put_string(look: &Look<'_>, call: &Branch) -> Option<Remark> {
-    let tree = look.tree;
-    if !tree.is_call_of(call, "putstr") || tree.arguments(call) != 1 {
-        return None;
-    }
-    let argument = tree.argument(call, 0);
-    let warning = match kind_of(look, &argument) {
-        Kind::Character => Warning::Slip(Slip::CharacterForString),
-        Kind::Number => Warning::Slip(Slip::NumberForString),
-        _ => return None,
-    };
-    Remark::new(argument.token, warning)
-}
-
 /// What a value is for.
 #[derive(Clone, Copy, PartialEq, Eq)]
 enum Kind {

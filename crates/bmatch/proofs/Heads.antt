@@ -1,5 +1,5 @@
--- A pattern of another head fits nothing.
-use Rattle.std.proofs.Common.{◌≡◌, ◌∙◌, ℕ, ◌+◌, Bool, true, false, List, [], ◌++◌, None, ap, append-nil, nat_lt, refl, sym}
+-- Steps that ask for another head fit nothing.
+use Rattle.std.proofs.Common.{◌≡◌, ◌∙◌, ℕ, zero, suc, ◌+◌, Bool, true, false, List, [], ◌∷◌, ◌++◌, None, ap, append-nil, nat_lt, refl, sym}
 use Rattle.std.specs.Prelude.{if◌then◌else◌, map}
 use Rattle.std.proofs.lemmas.Bool.{and_right, cond-false, or_parts}
 use Rattle.std.specs.List.{flat_map}
@@ -10,40 +10,47 @@ use Rattle.bmatch.specs.declared.holds.Site.{Site}
 use Rattle.bmatch.specs.declared.holds.Sought.{Sought}
 use Rattle.bmatch.specs.declared.noticing.Notice.{Notice}
 use Rattle.bmatch.specs.declared.pattern.Rule.{Rule}
+use Rattle.bmatch.specs.declared.pattern.RuleTable.{RuleTable}
+use Rattle.bmatch.specs.declared.pattern.Step.{Step}
+use Rattle.bmatch.specs.declared.pattern.Step.TheVariants as step
 use Rattle.bmatch.specs.declared.pattern.TheConstants.{ROOT}
 use Rattle.bmatch.specs.declared.tree.Tree.{Tree}
-use Rattle.bmatch.specs.declared.pattern.Pattern.{Pattern}
-use Rattle.bmatch.specs.declared.pattern.Pattern.TheVariants as pattern
-use Rattle.bmatch.specs.Fits.{fits_in, go_in, inner_of, may_begin, start_of}
+use Rattle.bmatch.specs.Fits.{fits_in, go_in, inner_of, may_begin, span_of, start_of}
 use Rattle.bmatch.specs.Binds.{nothing_bound, with_hole, with_told}
-use Rattle.bmatch.specs.Holds.{fits_at, holds_in, is_within, only, some_at}
+use Rattle.bmatch.specs.Holds.{fits_at, holds_in, is_within, some_at, steps_at}
 use Rattle.bmatch.specs.Notices.{notice_of, root_notices, sight_of, site_of}
 use Rattle.bmatch.specs.Trees.{branch_at}
+use Rattle.std.specs.Prelude.{drop}
 
-pub no_head : (s : Sight) (p : Pattern) (begin end : ℕ) (go : Binds → List Binds) (b : Binds) → may_begin s p end ≡ false → fits_in s p begin end go b ≡ []
-no_head s (pattern.Tree' k told p parts q rest) begin end go b h =
+pub no_head : (s : Sight) (n : ℕ) (is : List Step) (begin end : ℕ) (rows : List Span) (b : Binds) → may_begin s n is end ≡ false → fits_in s n is begin end rows b ≡ []
+no_head s n [] begin end rows b h = refl
+no_head s (suc n) (i ∷ is) begin end rows b h = no_head s n is begin end rows b h
+no_head s zero (step.Tree k told ∷ is) begin end rows b h =
     let none : inner_of s k begin end ≡ None = cond-false _ _ _ (and_right (nat_lt begin end) _ h) in
-    ap (λ i. go_in i (λ inner. fits_in s parts inner.begin inner.end (fits_in s rest begin (start_of s.tree.rows.now end) go) (with_told b told (branch_at s.tree.rows.now inner.end).token))) none
-no_head s (pattern.Either' p one q other) begin end go b h =
-    let hs = or_parts (may_begin s one end) (may_begin s other end) h in
-    ap (λ bs. bs ++ fits_in s other begin end go b) (no_head s one begin end go b hs.0) ∙ no_head s other begin end go b hs.1
-no_head s pattern.Done begin end go b h = absurd cc
-no_head s (pattern.Leaf' l told p rest) begin end go b h = absurd cc
-no_head s (pattern.Dots' p rest) begin end go b h = absurd cc
+    ap (λ i. go_in i (λ inner. fits_in s zero is inner.begin inner.end (span_of begin (start_of s.tree.rows.now end) ∷ rows) (with_told b told (branch_at s.tree.rows.now inner.end).token))) none
+no_head s zero (step.Either n ∷ is) begin end rows b h =
+    let hs = or_parts (may_begin s zero is end) (may_begin s n is end) h in
+    ap (λ bs. bs ++ fits_in s n is begin end rows b) (no_head s zero is begin end rows b hs.0) ∙ no_head s n is begin end rows b hs.1
+no_head s zero (step.Jump n ∷ is) begin end rows b h = no_head s n is begin end rows b h
+no_head s zero (step.Done ∷ is) begin end rows b h = absurd cc
+no_head s zero (step.Leaf l told ∷ is) begin end rows b h = absurd cc
+no_head s zero (step.Dots ∷ is) begin end rows b h = absurd cc
 
 none_either : (b : Bool) (bs : List Binds) → bs ≡ [] → (if b then bs else []) ≡ []
 none_either true bs e = e
 none_either false bs e = refl
 
-pub nothing_found : (tree : Tree) (r : Rule) (p : Pattern) (function : Span) (root : ℕ) (found : List Notice) → may_begin (sight_of tree r) p (root + 1) ≡ false
-    → found ≡ found ++ root_notices tree r p function root
-nothing_found tree r p function root found h =
+pub nothing_found : (tree : Tree) (t : RuleTable) (r : Rule) (function : Span) (root : ℕ) (found : List Notice) → may_begin (sight_of tree t r) 0 (drop r.pattern t.steps.now) (root + 1) ≡ false
+    → found ≡ found ++ root_notices tree t r function root
+nothing_found tree t r function root found h =
     let b = with_hole nothing_bound ROOT root in
-    let none : fits_at (sight_of tree r) p root b ≡ [] = none_either _ _ (no_head (sight_of tree r) p _ (root + 1) only b h) in
-    sym (append-nil found) ∙ ap (λ ways. found ++ map (notice_of tree r) (flat_map (holds_in (site_of tree r function) r.condition) ways)) (sym none)
+    let is = drop r.pattern t.steps.now in
+    let none : fits_at (sight_of tree t r) is root b ≡ [] = none_either _ _ (no_head (sight_of tree t r) 0 is _ (root + 1) [] b h) in
+    sym (append-nil found) ∙ ap (λ ways. found ++ map (notice_of tree r) (flat_map (holds_in (site_of tree t r function) 0 (drop r.condition t.claims.now)) ways)) (sym none)
 
-pub nothing_sought : (s : Site) (sought : Sought) (b : Binds) (index : ℕ) (found : List Binds) → may_begin s.sight sought.pattern.now (index + 1) ≡ false → found ≡ found ++ some_at s sought b index
+pub nothing_sought : (s : Site) (sought : Sought) (b : Binds) (index : ℕ) (found : List Binds) → may_begin s.sight 0 (steps_at s.sight sought.pattern) (index + 1) ≡ false → found ≡ found ++ some_at s sought b index
 nothing_sought s sought b index found h =
     let c = with_hole b sought.hole index in
-    let none : fits_at s.sight sought.pattern.now index c ≡ [] = none_either _ _ (no_head s.sight sought.pattern.now _ (index + 1) only c h) in
+    let is = steps_at s.sight sought.pattern in
+    let none : fits_at s.sight is index c ≡ [] = none_either _ _ (no_head s.sight 0 is _ (index + 1) [] c h) in
     sym (append-nil found) ∙ ap (λ bs. found ++ bs) (sym (none_either (is_within s sought.scope b index) _ none))

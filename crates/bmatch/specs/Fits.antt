@@ -1,7 +1,8 @@
--- Promise: how a row of patterns fits a row of branches, and what holes stand for then.
+-- Promise: how the steps of a pattern fit a row of branches, and what holes stand for then.
 use Rattle.std.specs.Prelude.{ℕ, zero, suc, ◌-◌, ◌==◌, ◌&&◌, ◌||◌, Bool, true, false, not, if◌then◌else◌, nat_lt, List}
-use Rattle.std.specs.Prelude.{[], ◌∷◌, ◌++◌, Option, None, Some}
+use Rattle.std.specs.Prelude.{[], ◌∷◌, ◌++◌, Option, None, Some, take}
 use Rattle.std.specs.List.{flat_map}
+use Rattle.std.specs.Str.{bytes_eq}
 use Rattle.blex.specs.declared.lexeme.Lexeme.{Lexeme}
 use Rattle.blex.specs.declared.lexeme.Lexeme.TheVariants as lexeme
 use Rattle.blang.specs.declared.token.Keyword.TheVariants as keyword
@@ -15,10 +16,10 @@ use Rattle.bmatch.specs.declared.fits.Span.{Span}
 use Rattle.bmatch.specs.declared.fits.TheConstants.{MOST_PASSED}
 use Rattle.bmatch.specs.declared.pattern.Leaf.{Leaf}
 use Rattle.bmatch.specs.declared.pattern.Leaf.TheVariants as leaf
-use Rattle.bmatch.specs.declared.pattern.Pattern.{Pattern}
-use Rattle.bmatch.specs.declared.pattern.Pattern.TheVariants as pattern
 use Rattle.bmatch.specs.declared.pattern.Sort.{Sort}
 use Rattle.bmatch.specs.declared.pattern.Sort.TheVariants as sort
+use Rattle.bmatch.specs.declared.pattern.Step.{Step}
+use Rattle.bmatch.specs.declared.pattern.Step.TheVariants as step
 use Rattle.bmatch.specs.declared.pattern.Word.{Word}
 use Rattle.bmatch.specs.declared.pattern.Word.TheVariants as word
 use Rattle.bmatch.specs.declared.tree.Branch.{Branch}
@@ -59,9 +60,12 @@ abbrev pub is_number : Lexeme → Bool
 is_number (lexeme.Number n) = true
 is_number _ = false
 
+abbrev pub is_named : Lexeme → (name : List ℕ) → Bool
+is_named (lexeme.Name x) name = bytes_eq x name
+is_named _ name = false
+
 abbrev pub is_name_of : Tree → Branch → (name : List ℕ) → Bool
-is_name_of tree b name =
-    if is_name b.kind then is_same_lexeme (lexeme_at tree.lexemes.now b.token) (lexeme.Name name) else false
+is_name_of tree b name = if is_name b.kind then is_named (lexeme_at tree.lexemes.now b.token) name else false
 
 abbrev pub is_value_of : Tree → Branch → (value : ℕ) → Bool
 is_value_of tree b value =
@@ -98,12 +102,17 @@ inner_of s k begin end =
     let branch = branch_at s.tree.rows.now index in
     if nat_lt begin end && kind_number k == kind_number branch.kind then Some (span_of branch.begin index) else None
 
--- A pattern whose head is another kind than the last branch that ends here fits nothing there.
-abbrev pub may_begin : Sight → Pattern → (end : ℕ) → Bool
-may_begin s (pattern.Tree' k told p parts q rest) end =
+-- Steps whose first one asks for another kind than the last branch that ends here fit nothing there.
+abbrev pub may_begin : Sight → (passed : ℕ) → List Step → (end : ℕ) → Bool
+may_begin s n [] end = false
+may_begin s (suc n) (i ∷ is) end = may_begin s n is end
+may_begin s zero (step.Tree k told ∷ is) end =
     kind_number k == kind_number (branch_at s.tree.rows.now (seen_at s (is_grouped k) end)).kind
-may_begin s (pattern.Either' p one q other) end = may_begin s one end || may_begin s other end
-may_begin s _ end = true
+may_begin s zero (step.Either n ∷ is) end = may_begin s zero is end || may_begin s n is end
+may_begin s zero (step.Jump n ∷ is) end = may_begin s n is end
+may_begin s zero (step.Done ∷ is) end = true
+may_begin s zero (step.Leaf l told ∷ is) end = true
+may_begin s zero (step.Dots ∷ is) end = true
 
 abbrev pub is_plain : Kind → Bool
 is_plain (kind.Construct construct.Plain) = true
@@ -128,7 +137,8 @@ changes_hole tree None index = false
 changes_hole tree (Some name) index = is_change tree name index
 
 abbrev pub leaf_binds : Tree → Leaf → (index : ℕ) → Binds → Option Binds
-leaf_binds tree (leaf.Name x) index b = if is_name_of tree (branch_at tree.rows.now index) x then Some b else None
+leaf_binds tree (leaf.Name bytes len) index b =
+    if is_name_of tree (branch_at tree.rows.now index) (take len bytes) then Some b else None
 leaf_binds tree (leaf.Value n) index b = if is_value_of tree (branch_at tree.rows.now index) n then Some b else None
 leaf_binds tree (leaf.Word w) index b = if is_word_alone tree index w then Some b else None
 leaf_binds tree (leaf.Change hole) index b = if changes_hole tree (hole_of b hole) index then Some b else None
@@ -146,22 +156,27 @@ abbrev pub go_in : {A : Type 0} → Option A → (A → List Binds) → List Bin
 go_in None go = []
 go_in (Some x) go = go x
 
--- What holes stand for, in each way in which a row of patterns fits the branches from one number up to another, and
--- what has to fit then goes on.
-abbrev pub fits_in : Sight → Pattern → (begin end : ℕ) → (Binds → List Binds) → Binds → List Binds
-fits_in s pattern.Done begin end go b = if nat_lt begin end then [] else go b
-fits_in s (pattern.Tree' k told p parts q rest) begin end go b =
+-- What holes stand for, in each way in which steps fit the branches from one number up to another, after so many steps
+-- were passed over. The rows that were begun have to fit then.
+abbrev pub fits_in : Sight → (passed : ℕ) → List Step → (begin end : ℕ) → (rows : List Span) → Binds → List Binds
+fits_in s n [] begin end rows b = []
+fits_in s (suc n) (i ∷ is) begin end rows b = fits_in s n is begin end rows b
+fits_in s zero (step.Done ∷ is) begin end [] b = if nat_lt begin end then [] else b ∷ []
+fits_in s zero (step.Done ∷ is) begin end (row ∷ rows) b =
+    if nat_lt begin end then [] else fits_in s zero is row.begin row.end rows b
+fits_in s zero (step.Tree k told ∷ is) begin end rows b =
     go_in (inner_of s k begin end) (λ inner.
-    fits_in s parts inner.begin inner.end (fits_in s rest begin (start_of s.tree.rows.now end) go)
+    fits_in s zero is inner.begin inner.end (span_of begin (start_of s.tree.rows.now end) ∷ rows)
     (with_told b told (branch_at s.tree.rows.now inner.end).token))
-fits_in s (pattern.Leaf' l told p rest) begin end go b =
-    go_in (with_leaf s l told begin end b) (fits_in s rest begin (start_of s.tree.rows.now end) go)
-fits_in s (pattern.Dots' p rest) begin end go b =
-    flat_map (λ e. fits_in s rest begin e go b) (ends_of s.tree.rows.now MOST_PASSED begin end)
-fits_in s (pattern.Either' p one q other) begin end go b =
-    fits_in s one begin end go b ++ fits_in s other begin end go b
+fits_in s zero (step.Leaf l told ∷ is) begin end rows b =
+    go_in (with_leaf s l told begin end b) (fits_in s zero is begin (start_of s.tree.rows.now end) rows)
+fits_in s zero (step.Dots ∷ is) begin end rows b =
+    flat_map (λ e. fits_in s zero is begin e rows b) (ends_of s.tree.rows.now MOST_PASSED begin end)
+fits_in s zero (step.Either n ∷ is) begin end rows b =
+    fits_in s zero is begin end rows b ++ fits_in s n is begin end rows b
+fits_in s zero (step.Jump n ∷ is) begin end rows b = fits_in s n is begin end rows b
 
--- what has to fit after a row; where nothing has to, there is a way
-abbrev pub left_of : Sight → Left → Binds → List Binds
-left_of s left_is.Nothing b = b ∷ []
-left_of s (left_is.Row' wanted span p after) b = fits_in s wanted.now span.begin span.end (left_of s after) b
+-- the rows that were begun, the innermost first
+abbrev pub rows_left : Left → List Span
+rows_left left_is.Nothing = []
+rows_left (left_is.Row' span p after) = span ∷ rows_left after

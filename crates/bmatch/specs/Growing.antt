@@ -189,6 +189,7 @@ called g = called_by g.opens g
 
 abbrev pub made : Node → Growth → Growth
 made node.Argument g = g
+made node.Switched g = g
 made node.NoArguments g =
     with_row (leaf node.NoArguments (g.place - 1) (length g.rows) (loops_in g.opens))
     (with_open construct.Parens (g.place - 1) g)

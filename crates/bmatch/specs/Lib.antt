@@ -1,11 +1,11 @@
 pub mod Asking
 pub mod Binds
 pub mod Changes
+pub mod Counting
 pub mod Fits
 pub mod Growing
 pub mod Holds
 pub mod MatchRows
 pub mod Notices
 pub mod Same
-pub mod Sizes
 pub mod Trees

@@ -1,7 +1,6 @@
 -- Closed facts: kinds, the branches of a small program, and what fits there.
 use Rattle.std.specs.Prelude.{◌≡◌, ℕ, ◌-◌, ◌==◌, codes, true, false, Bool, List, [], ◌∷◌, ◌++◌, None, Option, Some, map, refl}
-use Rattle.std.specs.Prelude.{Box, length, replicate}
-use Rattle.std.specs.declared.alloc.Global.{Global}
+use Rattle.std.specs.Prelude.{length, replicate}
 use Rattle.std.specs.List.{flat_map, range_with_len}
 use Rattle.bword.specs.declared.operators.BinOp.{BinOp}
 use Rattle.bword.specs.declared.operators.BinOp.TheVariants as op
@@ -15,7 +14,10 @@ use Rattle.btree.specs.declared.nodes.Node.TheVariants as node
 use Rattle.btree.specs.declared.tags.Construct.{Construct}
 use Rattle.btree.specs.declared.tags.Construct.TheVariants as construct
 use Rattle.bmatch.specs.declared.binds.Binds.{Binds}
+use Rattle.bmatch.specs.declared.conditions.Claim.{Claim}
+use Rattle.bmatch.specs.declared.conditions.Claim.TheVariants as claim
 use Rattle.bmatch.specs.declared.conditions.Measure.TheVariants as measure
+use Rattle.bmatch.specs.declared.counting.TheConstants.{MOST_COUNTED}
 use Rattle.bmatch.specs.declared.conditions.Relation.TheVariants as relation
 use Rattle.bmatch.specs.declared.conditions.Scope.{Scope}
 use Rattle.bmatch.specs.declared.conditions.Scope.TheVariants as scope
@@ -24,12 +26,15 @@ use Rattle.bmatch.specs.declared.conditions.Test.TheVariants as test
 use Rattle.bmatch.specs.declared.fits.Sight.{Sight}
 use Rattle.bmatch.specs.declared.fits.TheConstants.{MOST_PASSED}
 use Rattle.bmatch.specs.declared.holds.Site.{Site}
+use Rattle.bmatch.specs.declared.noticing.Notice.{Notice}
 use Rattle.bmatch.specs.declared.noticing.TheConstants.{MOST_BRANCHES, MOST_IN_ALL}
 use Rattle.bmatch.specs.declared.pattern.Leaf.TheVariants as leaf
-use Rattle.bmatch.specs.declared.pattern.Pattern.{Pattern}
-use Rattle.bmatch.specs.declared.pattern.Pattern.TheVariants as pattern
 use Rattle.bmatch.specs.declared.pattern.Sort.{Sort}
 use Rattle.bmatch.specs.declared.pattern.Sort.TheVariants as sort
+use Rattle.bmatch.specs.declared.pattern.Rule.{Rule}
+use Rattle.bmatch.specs.declared.pattern.RuleTable.{RuleTable}
+use Rattle.bmatch.specs.declared.pattern.Step.{Step}
+use Rattle.bmatch.specs.declared.pattern.Step.TheVariants as step
 use Rattle.bmatch.specs.declared.pattern.TheConstants.{MOST_HOLES, NO_HOLE, ROOT}
 use Rattle.bmatch.specs.declared.pattern.Word.TheVariants as word
 use Rattle.bmatch.specs.declared.tree.Branch.{Branch}
@@ -38,13 +43,16 @@ use Rattle.bmatch.specs.declared.tree.Kind.TheVariants as kind
 use Rattle.bmatch.specs.declared.tree.TokenPlace.{TokenPlace}
 use Rattle.bmatch.specs.declared.tree.Tree.{Tree}
 use Rattle.bmatch.specs.Asking.{are_joined, begins_with, compares, compares_both, follows, has_c_escape, measure_of}
-use Rattle.bmatch.specs.Asking.{passes_test, product_of}
+use Rattle.bmatch.specs.Asking.{begins_definition, branches_up_to, comes_before, first_constant, is_dropped, is_inside}
+use Rattle.bmatch.specs.Asking.{is_negative, is_no_end, letters_of, passes_test, product_of, remainder_of, rest_of}
+use Rattle.bmatch.specs.Asking.{sign_number, size_by, size_declared, size_defined, size_in, sum_of}
 use Rattle.bmatch.specs.Binds.{hole_of, nothing_bound, with_hole, with_told}
 use Rattle.bmatch.specs.Changes.{change_before, changed_by}
+use Rattle.bmatch.specs.Counting.{blanks_at}
 use Rattle.bmatch.specs.Fits.{ends_of, is_word, span_of}
 use Rattle.bmatch.specs.Growing.{lexemes_of, program_rows}
-use Rattle.bmatch.specs.Holds.{fits_at, is_within, loop_around, scope_span}
-use Rattle.bmatch.specs.Notices.{first_token}
+use Rattle.bmatch.specs.Holds.{fits_at, holds_in, is_within, loop_around, scope_span}
+use Rattle.bmatch.specs.Notices.{first_token, notices_by}
 use Rattle.bmatch.specs.Same.{is_same}
 use Rattle.bmatch.specs.Trees.{kind_number}
 
@@ -118,66 +126,73 @@ tree =
       rows = record { ref_ptr = (0, 0); now = rows };
     }
 
+abbrev sight_of_steps : List Step → (loose : Bool) → Sight
+sight_of_steps is loose =
+    record { tree = tree; steps = record { ref_ptr = (0, 0); now = is }; is_loose = loose }
+
 abbrev sight : (loose : Bool) → Sight
-sight loose = record { tree = tree; is_loose = loose }
+sight loose = sight_of_steps [] loose
 
 abbrev site : Site
 site = record { sight = sight true; function = span_of 0 22 }
 
-abbrev Link : Type 0
-Link = Box (Unit {0}) Global
-
-abbrev hole : ℕ → Sort → (told : Bool) → Link → (before : Pattern) → Pattern
-hole h s told p before = pattern.Leaf' (leaf.Hole h s) told p before
+abbrev hole : ℕ → Sort → (told : Bool) → Step
+hole h s told = step.Leaf (leaf.Hole h s) told
 
 -- what two holes stand for, and what is told, of each way
 abbrev ways : List Binds → List (Option ℕ × Option ℕ × Option ℕ)
 ways bs = map (λ b. (hole_of b 0, hole_of b 1, b.told)) bs
 
-abbrev at : Sight → Pattern → (index : ℕ) → List (Option ℕ × Option ℕ × Option ℕ)
-at s p index = ways (fits_at s p index nothing_bound)
+abbrev at : (loose : Bool) → List Step → (index : ℕ) → List (Option ℕ × Option ℕ × Option ℕ)
+at loose is index = ways (fits_at (sight loose) is index nothing_bound)
+
+abbrev binary : BinOp → (told : Bool) → Step
+binary o told = step.Tree (kind.Node (node.Binary o)) told
 
 -- $0 + $1, with the operator told, at each branch: at x + 1 alone
-sum_fits : (p : Link) → flat_map (at (sight true) (pattern.Tree' (kind.Node (node.Binary op.Add)) true p
-    (hole 1 sort.Any false p (hole 0 sort.Any false p pattern.Done)) p pattern.Done)) (range_with_len 0 22)
-    ≡ (Some 14, Some 15, Some 21) ∷ []
-sum_fits p = refl
+abbrev sum : List Step
+sum = binary op.Add true ∷ hole 1 sort.Any false ∷ hole 0 sort.Any false ∷ step.Done ∷ step.Done ∷ []
+
+sum_fits : flat_map (at true sum) (range_with_len 0 22) ≡ (Some 14, Some 15, Some 21) ∷ []
+sum_fits = refl
 
 -- $0 + $0 and $0 - $1 fit nothing; $0 + 1 and $0 + 2
-same_fits : (p : Link) → map (λ (q : Pattern). at (sight true) q 16)
-    (pattern.Tree' (kind.Node (node.Binary op.Add)) false p
-    (hole 0 sort.Any false p (hole 0 sort.Any false p pattern.Done)) p pattern.Done
-    ∷ pattern.Tree' (kind.Node (node.Binary op.Sub)) false p
-    (hole 1 sort.Any false p (hole 0 sort.Any false p pattern.Done)) p pattern.Done
-    ∷ pattern.Tree' (kind.Node (node.Binary op.Add)) false p
-    (pattern.Leaf' (leaf.Value 1) true p (hole 0 sort.Name false p pattern.Done)) p pattern.Done
-    ∷ pattern.Tree' (kind.Node (node.Binary op.Add)) false p
-    (pattern.Leaf' (leaf.Value 2) true p (hole 0 sort.Name false p pattern.Done)) p pattern.Done ∷ [])
+same_fits : map (λ (is : List Step). at true is 16)
+    ((binary op.Add false ∷ hole 0 sort.Any false ∷ hole 0 sort.Any false ∷ step.Done ∷ step.Done ∷ [])
+    ∷ (binary op.Sub false ∷ hole 1 sort.Any false ∷ hole 0 sort.Any false ∷ step.Done ∷ step.Done ∷ [])
+    ∷ (binary op.Add false ∷ step.Leaf (leaf.Value 1) true ∷ hole 0 sort.Name false ∷ step.Done ∷ step.Done ∷ [])
+    ∷ (binary op.Add false ∷ step.Leaf (leaf.Value 2) true ∷ hole 0 sort.Name false ∷ step.Done ∷ step.Done ∷ []) ∷ [])
     ≡ [] ∷ [] ∷ ((Some 14, None, Some 22) ∷ []) ∷ [] ∷ []
-same_fits p = refl
+same_fits = refl
 
 -- $0 = $0 + .., where what stands left and right is the same name
-assigned_fits : (p : Link) → at (sight true) (pattern.Tree' (kind.Node (node.Assigned None)) false p
-    (pattern.Tree' (kind.Node (node.Binary op.Add)) false p (hole 1 sort.Constant false p
-    (hole 0 sort.Any false p pattern.Done)) p (hole 0 sort.Any true p pattern.Done)) p pattern.Done) 17
+assigned_fits : at true (step.Tree (kind.Node (node.Assigned None)) false ∷ binary op.Add false
+    ∷ hole 1 sort.Constant false ∷ hole 0 sort.Any false ∷ step.Done ∷ hole 0 sort.Any true ∷ step.Done ∷ step.Done ∷ []) 17
     ≡ (Some 14, Some 15, Some 18) ∷ []
-assigned_fits p = refl
+assigned_fits = refl
+
+-- the name x, of one byte of two and of two; and a row that isn't over, or whose steps aren't
+names_fit : map (λ (is : List Step). length (at true is 14))
+    ((step.Leaf (leaf.Name (120 ∷ 121 ∷ []) 1) false ∷ step.Done ∷ [])
+    ∷ (step.Leaf (leaf.Name (120 ∷ 121 ∷ []) 2) false ∷ step.Done ∷ []) ∷ (step.Leaf (leaf.Name [] 0) false ∷ step.Done ∷ [])
+    ∷ (step.Done ∷ []) ∷ (hole 0 sort.Any false ∷ []) ∷ (hole 0 sort.Any false ∷ hole 1 sort.Any false ∷ step.Done ∷ []) ∷ [])
+    ≡ 1 ∷ 0 ∷ 0 ∷ 0 ∷ 0 ∷ 0 ∷ []
+names_fit = refl
 
 -- a name in parentheses is a name for a rule that is loose, and for no other
-parentheses : (p : Link) → map (λ (loose : Bool). at (sight loose) (hole 0 sort.Name true p pattern.Done) 7)
+parentheses : map (λ (loose : Bool). at loose (hole 0 sort.Name true ∷ step.Done ∷ []) 7)
     (true ∷ false ∷ []) ≡ ((Some 6, None, Some 12) ∷ []) ∷ [] ∷ []
-parentheses p = refl
+parentheses = refl
 
-own_parentheses : (p : Link) → map (λ (loose : Bool). at (sight loose) (pattern.Tree' (kind.Node node.Grouped) true p
-    (hole 0 sort.Any false p pattern.Done) p pattern.Done) 7) (true ∷ false ∷ [])
-    ≡ replicate 2 ((Some 6, None, Some 11) ∷ [])
-own_parentheses p = refl
+own_parentheses : map (λ (loose : Bool). at loose (step.Tree (kind.Node node.Grouped) true ∷ hole 0 sort.Any false
+    ∷ step.Done ∷ step.Done ∷ []) 7) (true ∷ false ∷ []) ≡ replicate 2 ((Some 6, None, Some 11) ∷ [])
+own_parentheses = refl
 
 -- which sorts x, 1 and the call are
-sorts_of_some : (p : Link) → map (λ (s : Sort). map (λ index. length (at (sight true) (hole 0 s false p pattern.Done) index))
+sorts_of_some : map (λ (s : Sort). map (λ index. length (at true (hole 0 s false ∷ step.Done ∷ []) index))
     (14 ∷ 15 ∷ 9 ∷ [])) (sort.Any ∷ sort.Name ∷ sort.Number ∷ sort.Character ∷ sort.Constant ∷ sort.Text ∷ [])
     ≡ (1 ∷ 1 ∷ 1 ∷ []) ∷ (1 ∷ 0 ∷ 0 ∷ []) ∷ (0 ∷ 1 ∷ 0 ∷ []) ∷ (0 ∷ 0 ∷ 0 ∷ []) ∷ (0 ∷ 1 ∷ 0 ∷ []) ∷ (0 ∷ 0 ∷ 0 ∷ []) ∷ []
-sorts_of_some p = refl
+sorts_of_some = refl
 
 -- where a row of two arguments may end, in as many steps: after both, after one, before them
 ends : map (λ most. ends_of rows most 5 9) (0 ∷ 1 ∷ 2 ∷ 4 ∷ 9 ∷ [])
@@ -185,11 +200,22 @@ ends : map (λ most. ends_of rows most 5 9) (0 ∷ 1 ∷ 2 ∷ 4 ∷ 9 ∷ [])
 unfolding ends_of
 ends = refl
 
--- one of two rows, the first way first
-either_fits : (p : Link) → at (sight true) (pattern.Either' p (hole 0 sort.Name true p pattern.Done) p
-    (pattern.Either' p (hole 1 sort.Text false p pattern.Done) p (hole 1 sort.Any false p pattern.Done))) 14
+-- one of two, the first way first; and what comes after a jump
+either_fits : at true (step.Either 2 ∷ hole 0 sort.Name true ∷ step.Jump 3 ∷ step.Either 1 ∷ hole 1 sort.Text false
+    ∷ hole 1 sort.Any false ∷ step.Done ∷ []) 14
     ≡ (Some 14, None, Some 20) ∷ (None, Some 14, None) ∷ []
-either_fits p = refl
+either_fits = refl
+
+-- passing over no step, one, all and more
+jumps : map (λ n. length (at true (step.Jump n ∷ hole 0 sort.Text false ∷ hole 0 sort.Any false ∷ step.Done ∷ []) 14))
+    (0 ∷ 1 ∷ 2 ∷ 3 ∷ 4 ∷ 65535 ∷ []) ≡ 0 ∷ 1 ∷ 0 ∷ 0 ∷ 0 ∷ 0 ∷ []
+jumps = refl
+
+-- f, then any arguments but the last
+dots_fit : at true (step.Tree (kind.Node node.Called) false ∷ hole 1 sort.Any false ∷ step.Dots ∷ hole 0 sort.Name true
+    ∷ step.Done ∷ step.Done ∷ []) 9 ≡ (Some 4, Some 8, Some 9) ∷ []
+unfolding ends_of
+dots_fit = refl
 
 -- the branches that are the same tree as x in x + 1: each x, but not in parentheses, and no other
 same_as_x : map (is_same tree 14) (range_with_len 0 22)
@@ -216,7 +242,8 @@ scopes : map in_scope (scope.Before ∷ scope.After ∷ scope.Around ∷ scope.H
     ≡ (0 ∷ 1 ∷ []) ∷ range_with_len 13 7 ∷ (20 ∷ 21 ∷ []) ∷ range_with_len 2 11 ∷ (12 ∷ []) ∷ [] ∷ []
 scopes = refl
 
-whole_function : map in_scope (scope.Function ∷ scope.Program ∷ scope.Loop ∷ []) ≡ replicate 2 (range_with_len 0 22) ++ [] ∷ []
+whole_function : map in_scope (scope.Function ∷ scope.Program ∷ scope.Loop ∷ scope.Definitions ∷ [])
+    ≡ replicate 2 (range_with_len 0 22) ++ [] ∷ (21 ∷ []) ∷ []
 whole_function = refl
 
 -- the loop around the call, its condition and itself: in it, in it, and none
@@ -262,6 +289,26 @@ measures : map (λ m. measure_of tree m (with_hole (with_hole nothing_bound 0 15
     ∷ measure.Bytes 0 ∷ []) ≡ Some 0 ∷ Some 65535 ∷ Some 1 ∷ Some 1 ∷ None ∷ None ∷ Some 0 ∷ []
 measures = refl
 
+-- of f((x),1): its two arguments, and which each of them is; of the definition one parameter; where they begin
+counts : map (λ m. measure_of tree m (with_hole (with_hole (with_hole nothing_bound 0 9) 1 8) 2 21)) (measure.Arguments 0
+    ∷ measure.Arguments 2 ∷ measure.Arguments 1 ∷ measure.Arguments 3 ∷ measure.Place 1 0 ∷ measure.Place 0 2
+    ∷ measure.Place 1 3 ∷ measure.Token 0 ∷ measure.Token 3 ∷ measure.Line 0 ∷ measure.Indent 0 ∷ measure.Room 1
+    ∷ measure.Room 0 ∷ measure.Remainder 1 1 ∷ measure.Remainder 1 0 ∷ measure.Letters 1 ∷ measure.Letters 3 ∷ [])
+    ≡ Some 2 ∷ Some 1 ∷ Some 0 ∷ None ∷ Some 2 ∷ Some 3 ∷ None ∷ Some 9 ∷ None ∷ None ∷ None ∷ Some 3 ∷ None ∷ Some 0
+    ∷ None ∷ Some 0 ∷ None ∷ []
+counts = refl
+
+-- blanks before a place: none at the beginning, one, a tab and a blank after a newline, and none after a letter
+blanks : map (λ (n : ℕ). blanks_at (codes " a\n\t b") n 0 MOST_COUNTED) (0 ∷ 1 ∷ 2 ∷ 3 ∷ 4 ∷ 5 ∷ [])
+    ≡ Some 0 ∷ Some 1 ∷ None ∷ Some 0 ∷ Some 8 ∷ Some 9 ∷ []
+blanks = refl
+
+letters : map letters_of (codes "\"ab\"" ∷ codes "\"*n*e\"" ∷ codes "\"\"" ∷ []) ≡ 2 ∷ 2 ∷ 0 ∷ []
+letters = refl
+
+rests : map (remainder_of (Some 7)) (Some 2 ∷ Some 7 ∷ Some 0 ∷ None ∷ []) ≡ Some 1 ∷ Some 0 ∷ None ∷ None ∷ []
+rests = refl
+
 products : map (product_of (Some 300)) (Some 300 ∷ Some 0 ∷ Some 65535 ∷ None ∷ []) ≡ Some 90000 ∷ Some 0 ∷ Some 19660500 ∷ None ∷ []
 products = refl
 
@@ -283,18 +330,20 @@ passed t index = passes_test site t (with_told (rooted index) true 15)
 tested : map (λ t. map (passed t) (16 ∷ 15 ∷ 9 ∷ 4 ∷ 14 ∷ []))
     (test.Quiet 0 ∷ test.Compares (measure.Value 0) relation.Equal (measure.Number 1)
     ∷ test.Compares (measure.Value 0) relation.Less (measure.Number 1) ∷ test.OwnName 0 ∷ test.Parameter 0
-    ∷ test.Quiet 3 ∷ test.Parameter 3 ∷ [])
+    ∷ test.Quiet 3 ∷ test.Parameter 3 ∷ test.Heading 0 ∷ test.Heading 3 ∷ test.Next 0 (sign_number lexeme.OpenParen)
+    ∷ test.Next 3 (sign_number lexeme.OpenParen) ∷ [])
     ≡ (true ∷ true ∷ false ∷ true ∷ true ∷ []) ∷ (false ∷ true ∷ false ∷ false ∷ false ∷ []) ∷ replicate 5 false
     ∷ (false ∷ false ∷ false ∷ true ∷ false ∷ []) ∷ (false ∷ false ∷ false ∷ false ∷ true ∷ []) ∷ replicate 5 false
+    ∷ replicate 5 false ∷ replicate 5 false ∷ replicate 5 false ∷ (false ∷ false ∷ false ∷ true ∷ false ∷ [])
     ∷ replicate 5 false ∷ []
 tested = refl
 
 -- after the token 15, which is 1, comes )
-next_token : map (λ l. passed (test.Followed l) 16) (lexeme.CloseParen ∷ lexeme.OpenParen ∷ lexeme.Semicolon
+next_token : map (λ l. passed (test.Followed (sign_number l)) 16) (lexeme.CloseParen ∷ lexeme.OpenParen ∷ lexeme.Semicolon
     ∷ lexeme.Operator op.Add ∷ lexeme.Question ∷ []) ≡ true ∷ replicate 4 false
 next_token = refl
 
-signs : map (λ l. map (follows l) (lexeme.OpenBrace ∷ lexeme.CloseBrace ∷ lexeme.OpenParen ∷ lexeme.CloseParen
+signs : map (λ l. map (follows (sign_number l)) (lexeme.OpenBrace ∷ lexeme.CloseBrace ∷ lexeme.OpenParen ∷ lexeme.CloseParen
     ∷ lexeme.OpenBracket ∷ lexeme.CloseBracket ∷ lexeme.Semicolon ∷ lexeme.Comma ∷ lexeme.Operator op.Or
     ∷ lexeme.Operator op.Div ∷ lexeme.Colon ∷ [])) (lexeme.OpenBrace ∷ lexeme.Operator op.Or ∷ lexeme.Colon ∷ [])
     ≡ (true ∷ replicate 10 false) ∷ (replicate 8 false ++ true ∷ replicate 2 false) ∷ replicate 11 false ∷ []
@@ -310,6 +359,66 @@ words = refl
 begun : map (λ i. map (begins_with tree i) (word.Nothing ∷ word.Return ∷ word.Auto ∷ [])) (Some 12 ∷ Some 21 ∷ None ∷ [])
     ≡ replicate 3 (replicate 3 false)
 begun = refl
+
+-- x in x + 1, itself, not what is before it, not the sum in x, and nothing where one isn't there
+insides : map (λ m. is_inside tree (Some m) (Some 16)) (13 ∷ 14 ∷ 16 ∷ 17 ∷ []) ++ is_inside tree (Some 16) (Some 14)
+    ∷ is_inside tree None (Some 16) ∷ is_inside tree (Some 14) None ∷ []
+    ≡ false ∷ true ∷ true ∷ false ∷ false ∷ false ∷ false ∷ []
+insides = refl
+
+befores : map (λ m. comes_before tree (Some m) (Some 16)) (0 ∷ 13 ∷ 14 ∷ 16 ∷ 17 ∷ []) ++ comes_before tree None (Some 16)
+    ∷ comes_before tree (Some 0) None ∷ [] ≡ true ∷ true ∷ replicate 5 false
+befores = refl
+
+-- the assignment and the call are all that their statements do
+dropped : map (λ i. is_dropped tree i) (Some 17 ∷ Some 9 ∷ Some 16 ∷ Some 18 ∷ Some 21 ∷ Some 22 ∷ None ∷ [])
+    ≡ true ∷ true ∷ replicate 5 false
+dropped = refl
+
+-- the name of the function begins a definition, and so does what comes after it
+definitions : map (λ i. begins_definition tree i) (Some 0 ∷ Some 22 ∷ Some 1 ∷ Some 21 ∷ None ∷ [])
+    ≡ true ∷ true ∷ replicate 3 false
+definitions = refl
+
+sizes : (size_by (Some 4) 3 ∷ size_by (Some 1) 9 ∷ size_by (Some 0) 0 ∷ size_by None 0 ∷ size_by None 7 ∷ [])
+    ≡ 5 ∷ 8 ∷ 1 ∷ 1 ∷ 7 ∷ []
+sizes = refl
+
+-- auto v 4; v[4] 1, 2; v[]; and what has no size
+declared_sizes : map size_declared ((lexeme.Number 4 ∷ lexeme.Semicolon ∷ []) ∷ (lexeme.Comma ∷ []) ∷ [] ∷ [])
+    ≡ Some 5 ∷ None ∷ None ∷ []
+declared_sizes = refl
+
+defined_sizes : map (λ ls. size_defined ls 3) ((lexeme.OpenBracket ∷ lexeme.Number 4 ∷ lexeme.CloseBracket ∷ [])
+    ∷ (lexeme.OpenBracket ∷ lexeme.CloseBracket ∷ []) ∷ (lexeme.OpenBracket ∷ []) ∷ (lexeme.OpenParen ∷ lexeme.Number 4 ∷ []) ∷ [])
+    ≡ Some 5 ∷ Some 3 ∷ None ∷ None ∷ []
+defined_sizes = refl
+
+no_sizes : map (size_in tree) (Some 0 ∷ Some 14 ∷ None ∷ []) ≡ replicate 3 None
+no_sizes = refl
+
+branches_of_definition : map (branches_up_to 3) (None ∷ Some 3 ∷ Some 4 ∷ Some 9 ∷ []) ≡ 0 ∷ 0 ∷ 0 ∷ 5 ∷ []
+branches_of_definition = refl
+
+sums : map (sum_of (Some 65535)) (Some 65535 ∷ Some 0 ∷ None ∷ []) ≡ Some 131070 ∷ Some 65535 ∷ None ∷ []
+sums = refl
+
+-- 7 and 3, either way, divided by 3, by 4 and by 0
+differences : map (rest_of (Some 7) (Some 3)) (Some 3 ∷ Some 4 ∷ Some 0 ∷ None ∷ []) ++ rest_of (Some 3) (Some 7) (Some 3)
+    ∷ rest_of None (Some 7) (Some 3) ∷ rest_of (Some 7) None (Some 3) ∷ []
+    ≡ Some 1 ∷ Some 0 ∷ None ∷ None ∷ Some 1 ∷ None ∷ None ∷ []
+differences = refl
+
+negatives : map is_negative (lexeme.Number 32767 ∷ lexeme.Number 32768 ∷ lexeme.Number 65535 ∷ lexeme.Operator op.Sub
+    ∷ lexeme.Operator op.Add ∷ lexeme.Character 65535 ∷ []) ≡ false ∷ true ∷ true ∷ true ∷ false ∷ false ∷ []
+negatives = refl
+
+ends_of_lists : map is_no_end (lexeme.Semicolon ∷ lexeme.Comma ∷ lexeme.End ∷ []) ≡ false ∷ true ∷ true ∷ []
+ends_of_lists = refl
+
+constants_first : map first_constant ((lexeme.Number 4 ∷ []) ∷ (lexeme.Character 65 ∷ []) ∷ (lexeme.Comma ∷ lexeme.Number 4 ∷ [])
+    ∷ [] ∷ []) ≡ Some 4 ∷ Some 65 ∷ None ∷ None ∷ []
+constants_first = refl
 
 abbrev place : (start len : ℕ) → TokenPlace
 place start len = record { line = 1; start = start; len = len }
@@ -331,3 +440,68 @@ holes = refl
 
 limits : MOST_HOLES ∷ NO_HOLE ∷ ROOT ∷ MOST_PASSED ∷ MOST_BRANCHES ∷ MOST_IN_ALL ∷ [] ≡ 16 ∷ 16 ∷ 15 ∷ 1000 ∷ 4096 ∷ 32768 ∷ []
 limits = refl
+
+-- Claims: $0 is x, at the steps from 0 on; some branch of the function is, at those from 3 on a call.
+abbrev steps : List Step
+steps =
+    step.Jump 0 ∷ step.Leaf (leaf.Name (120 ∷ []) 1) false ∷ step.Done ∷ step.Tree (kind.Node node.Called) false ∷ step.Dots
+    ∷ step.Done ∷ step.Done ∷ []
+
+abbrev site_with : Site
+site_with = record { sight = sight_of_steps steps true; function = span_of 0 22 }
+
+abbrev held : List Claim → (index : ℕ) → List (Option ℕ × Option ℕ × Option ℕ)
+held cs index = ways (holds_in site_with 0 cs (with_hole nothing_bound 0 index))
+
+abbrev is_x : Claim
+is_x = claim.Is 0 0
+
+abbrev fails : Claim
+fails = claim.Test (test.Quiet 3)
+
+claims_hold : map (λ cs. map (λ index. length (held cs index)) (14 ∷ 15 ∷ []))
+    ([] ∷ (claim.End ∷ fails ∷ []) ∷ (is_x ∷ claim.End ∷ []) ∷ (is_x ∷ fails ∷ claim.End ∷ []) ∷ (is_x ∷ is_x ∷ claim.End ∷ [])
+    ∷ (claim.Not 2 ∷ is_x ∷ claim.End ∷ claim.End ∷ []) ∷ (claim.Not 2 ∷ is_x ∷ claim.End ∷ fails ∷ claim.End ∷ [])
+    ∷ (claim.Either 2 ∷ fails ∷ claim.Jump 1 ∷ is_x ∷ claim.End ∷ [])
+    ∷ (claim.Either 2 ∷ is_x ∷ claim.Jump 1 ∷ fails ∷ claim.End ∷ [])
+    ∷ (claim.Either 2 ∷ is_x ∷ claim.Jump 1 ∷ is_x ∷ claim.Jump 1 ∷ fails ∷ claim.End ∷ []) ∷ (claim.Jump 1 ∷ fails ∷ claim.End ∷ []) ∷ [])
+    ≡ (1 ∷ 1 ∷ []) ∷ (1 ∷ 1 ∷ []) ∷ (1 ∷ 0 ∷ []) ∷ (0 ∷ 0 ∷ []) ∷ (1 ∷ 0 ∷ []) ∷ (0 ∷ 1 ∷ []) ∷ (0 ∷ 0 ∷ []) ∷ (1 ∷ 0 ∷ [])
+    ∷ (1 ∷ 0 ∷ []) ∷ (2 ∷ 0 ∷ []) ∷ (1 ∷ 1 ∷ []) ∷ []
+claims_hold = refl
+
+-- the call is some branch of the function, and hole 1 stands for it; none changes x before itself
+sought_claims : map (λ c. held (c ∷ claim.End ∷ []) 14)
+    (claim.Some scope.Function 1 3 ∷ claim.Some scope.Function NO_HOLE 3 ∷ claim.Some scope.Before 1 3 ∷ claim.Begun 0 0 ∷ [])
+    ≡ ((Some 14, Some 9, None) ∷ []) ∷ ((Some 14, None, None) ∷ []) ∷ [] ∷ [] ∷ []
+unfolding ends_of
+sought_claims = refl
+
+abbrev rule : (number pattern condition : ℕ) → Rule
+rule number pattern condition =
+    record {
+      number = number;
+      pattern = pattern;
+      condition = condition;
+      named = 0;
+      beside = NO_HOLE;
+      is_loose = true;
+      looks_around = false;
+      looks_far = false;
+    }
+
+-- two rules, which the call and each x fit, in the order of the rules, then of the branches; and one that doesn't hold
+abbrev table : RuleTable
+table =
+    record {
+      steps = record { ref_ptr = (0, 0); now = steps };
+      claims = record { ref_ptr = (0, 0); now = claim.End ∷ fails ∷ claim.End ∷ [] };
+      rules = record { ref_ptr = (0, 0); now = rule 4 3 0 ∷ rule 7 3 1 ∷ rule 5 1 0 ∷ [] };
+    }
+
+abbrev told_notice : Notice → ℕ × ℕ
+told_notice n = (n.rule, n.token)
+
+told_by_table : map told_notice (notices_by tree table)
+    ≡ (4, 9) ∷ (5, 2) ∷ (5, 7) ∷ (5, 12) ∷ (5, 11) ∷ (5, 18) ∷ (5, 20) ∷ []
+unfolding ends_of
+told_by_table = refl

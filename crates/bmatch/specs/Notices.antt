@@ -1,5 +1,5 @@
 -- Promise: what rules tell of a source: each place where a rule fits and its condition holds, in the order of the rules.
-use Rattle.std.specs.Prelude.{ℕ, ◌+◌, ◌-◌, ◌&&◌, ◌||◌, Bool, true, false, if◌then◌else◌, nat_lt, List, [], ◌∷◌, length, map, Option, None, Some}
+use Rattle.std.specs.Prelude.{ℕ, ◌+◌, ◌-◌, ◌&&◌, ◌||◌, Bool, true, false, if◌then◌else◌, nat_lt, List, [], ◌∷◌, drop, length, map, Option, None, Some}
 use Rattle.std.specs.List.{flat_map, range_with_len}
 use Rattle.btree.specs.declared.tags.Construct.TheVariants as construct
 use Rattle.bmatch.specs.declared.binds.Binds.{Binds}
@@ -8,8 +8,8 @@ use Rattle.bmatch.specs.declared.fits.Span.{Span}
 use Rattle.bmatch.specs.declared.holds.Site.{Site}
 use Rattle.bmatch.specs.declared.noticing.Notice.{Notice}
 use Rattle.bmatch.specs.declared.noticing.TheConstants.{MOST_BRANCHES, MOST_IN_ALL}
-use Rattle.bmatch.specs.declared.pattern.Pattern.{Pattern}
 use Rattle.bmatch.specs.declared.pattern.Rule.{Rule}
+use Rattle.bmatch.specs.declared.pattern.RuleTable.{RuleTable}
 use Rattle.bmatch.specs.declared.pattern.TheConstants.{ROOT}
 use Rattle.bmatch.specs.declared.tree.Kind.{Kind}
 use Rattle.bmatch.specs.declared.tree.Kind.TheVariants as kind
@@ -46,17 +46,17 @@ notice_of tree r b =
       beside = first_token tree (hole_of b r.beside);
     }
 
-abbrev pub sight_of : Tree → Rule → Sight
-sight_of tree r = record { tree = tree; is_loose = r.is_loose }
+abbrev pub sight_of : Tree → RuleTable → Rule → Sight
+sight_of tree t r = record { tree = tree; steps = t.steps; is_loose = r.is_loose }
 
-abbrev pub site_of : Tree → Rule → Span → Site
-site_of tree r function = record { sight = sight_of tree r; function = function }
+abbrev pub site_of : Tree → RuleTable → Rule → Span → Site
+site_of tree t r function = record { sight = sight_of tree t r; function = function }
 
--- a pattern fits this branch of a function, and the condition of its rule holds
-abbrev pub root_notices : Tree → Rule → Pattern → (function : Span) → (root : ℕ) → List Notice
-root_notices tree r p function root =
-    map (notice_of tree r) (flat_map (holds_in (site_of tree r function) r.condition)
-    (fits_at (sight_of tree r) p root (with_hole nothing_bound ROOT root)))
+-- the pattern of a rule fits this branch of a function, and its condition holds
+abbrev pub root_notices : Tree → RuleTable → Rule → (function : Span) → (root : ℕ) → List Notice
+root_notices tree t r function root =
+    map (notice_of tree r) (flat_map (holds_in (site_of tree t r function) 0 (drop r.condition t.claims.now))
+    (fits_at (sight_of tree t r) (drop r.pattern t.steps.now) root (with_hole nothing_bound ROOT root)))
 
 -- A rule that looks around isn't asked in a very long function, nor one that looks at all of the source if that is long.
 abbrev pub is_passed_over : Tree → Rule → Span → Bool
@@ -64,16 +64,13 @@ is_passed_over tree r function =
     (r.looks_around && nat_lt MOST_BRANCHES (function.end - function.begin))
     || (r.looks_far && nat_lt MOST_IN_ALL (length tree.rows.now))
 
-abbrev pub function_notices : Tree → Rule → Pattern → (function : Span) → List Notice
-function_notices tree r p function =
+abbrev pub function_notices : Tree → RuleTable → Rule → (function : Span) → List Notice
+function_notices tree t r function =
     if is_passed_over tree r function then []
-    else flat_map (root_notices tree r p function) (range_with_len function.begin (function.end - function.begin))
+    else flat_map (root_notices tree t r function) (range_with_len function.begin (function.end - function.begin))
 
-abbrev pub pattern_notices : Tree → (functions : List Span) → Rule → Pattern → List Notice
-pattern_notices tree functions r p = flat_map (function_notices tree r p) functions
+abbrev pub rule_notices : Tree → RuleTable → (functions : List Span) → Rule → List Notice
+rule_notices tree t functions r = flat_map (function_notices tree t r) functions
 
-abbrev pub rule_notices : Tree → (functions : List Span) → Rule → List Notice
-rule_notices tree functions r = flat_map (pattern_notices tree functions r) r.patterns.items
-
-abbrev pub notices_by : Tree → List Rule → List Notice
-notices_by tree rules = flat_map (rule_notices tree (functions_in tree)) rules
+abbrev pub notices_by : Tree → RuleTable → List Notice
+notices_by tree t = flat_map (rule_notices tree t (functions_in tree)) t.rules.now

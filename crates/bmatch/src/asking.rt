@@ -1,21 +1,26 @@
 //! Tests of holes and of tokens.
-ghost use Rattle.std.specs.List.{list_any, take_while};
+ghost use Rattle.std.specs.List.{find, list_any, range_with_len, take_while};
 ghost use Rattle.std.specs.Prelude.{◌≡◌};
 ghost use Rattle.bmatch.specs.Asking.{after, are_joined, bytes_at, bytes_of, compares, follows, has_backslash};
 ghost use Rattle.bmatch.specs.Asking.{compares_both, has_c_escape, is_c_escape, is_no_close, is_operator};
 ghost use Rattle.bmatch.specs.Asking.{is_own_name, is_parameter, is_quiet, passes_test, place_at, sign_number};
 ghost use Rattle.bmatch.specs.Asking.{begins_with, bytes_in, measure_of, product_of, told_token, value_at, value_in};
+ghost use Rattle.bmatch.specs.Asking.{is_heading, is_next, is_spelled, letters_in, letters_of, line_in, remainder_of, room_of, token_in};
+ghost use Rattle.bmatch.specs.Asking.{begins_definition, branches_up_to, comes_before, definition_end, distance};
+ghost use Rattle.bmatch.specs.Asking.{ends_definition, given_after, has_negative, is_dropped, is_inside, larger, rest_of, size_by};
+ghost use Rattle.bmatch.specs.Asking.{is_negative, is_no_end, size_declared, size_defined, size_in, sum_of};
 ghost use Rattle.bmatch.specs.Same.{is_same_lexeme};
 
 use crate::binds::Binds;
 use crate::conditions::{Measure, Relation, Test};
-use crate::fits::is_word;
+use crate::counting::{arguments_in, indent_in, place_in};
+use crate::fits::{is_named, is_word, name_in};
 use crate::holds::Site;
 use crate::pattern::{ROOT, Word};
 use crate::same::{constant_in, is_same_lexeme};
 use crate::tree::{Kind, TokenPlace, Tree, branch_at, lexeme_at, operator_number};
 use blex::Lexeme;
-use btree::Node;
+use btree::{Construct, Node};
 
 /// Whether a test holds.
 pub(crate) fn passes_test(site: &Site<'_>, test: Test, binds: &Binds) -> bool
@@ -34,12 +39,20 @@ pub(crate) fn passes_test(site: &Site<'_>, test: Test, binds: &Binds) -> bool
         Test::Begins(hole, word) => begins_with(tree, binds.of(hole), word),
         Test::Joined => token < tree.lexemes.len()
             && are_joined(place_at(tree, token), place_at(tree, token + 1)),
-        Test::Followed(lexeme) => {
-            token < tree.lexemes.len() && follows(&lexeme, &lexeme_at(tree.lexemes, token + 1))
+        Test::Followed(sign) => {
+            token < tree.lexemes.len() && follows(sign, &lexeme_at(tree.lexemes, token + 1))
         }
         Test::AfterOperator => is_operator(lexeme_at(tree.lexemes, token.saturating_sub(1))),
         Test::OwnName(hole) => is_own_name(site, binds.of(hole)),
         Test::Parameter(hole) => is_parameter(site, binds.of(hole)),
+        Test::Heading(hole) => is_heading(tree, binds.of(hole)),
+        Test::Next(hole, sign) => is_next(tree, binds.of(hole), sign),
+        Test::Spelled(hole, bytes, len) => is_spelled(tree, binds.of(hole), name_in(&bytes, len)),
+        Test::Defines(hole) => begins_definition(tree, binds.of(hole)),
+        Test::Negative(hole) => has_negative(tree, binds.of(hole)),
+        Test::Inside(one, other) => is_inside(tree, binds.of(one), binds.of(other)),
+        Test::Precedes(one, other) => comes_before(tree, binds.of(one), binds.of(other)),
+        Test::Dropped(hole) => is_dropped(tree, binds.of(hole)),
     }
 }
 
@@ -74,6 +87,28 @@ fn measure_of(tree: &Tree<'_>, measure: Measure, binds: &Binds) -> Option<u64>
             value_in(tree, binds.of(other)),
         ),
         Measure::Bytes(hole) => bytes_in(tree, binds.of(hole)),
+        Measure::Remainder(one, other) => remainder_of(
+            value_in(tree, binds.of(one)),
+            value_in(tree, binds.of(other)),
+        ),
+        Measure::Arguments(hole) => arguments_in(tree, binds.of(hole)),
+        Measure::Place(one, other) => place_in(tree, binds.of(one), binds.of(other)),
+        Measure::Room(hole) => room_of(value_in(tree, binds.of(hole))),
+        Measure::Letters(hole) => letters_in(tree, binds.of(hole)),
+        Measure::Token(hole) => token_in(tree, binds.of(hole)),
+        Measure::Line(hole) => line_in(tree, binds.of(hole)),
+        Measure::Indent(hole) => indent_in(tree, binds.of(hole)),
+        Measure::Size(hole) => size_in(tree, binds.of(hole)),
+        Measure::Given(hole) => wide(given_after(tree, binds.of(hole))),
+        Measure::Sum(one, other) => sum_of(
+            value_in(tree, binds.of(one)),
+            value_in(tree, binds.of(other)),
+        ),
+        Measure::Remains(one, other, step) => rest_of(
+            value_in(tree, binds.of(one)),
+            value_in(tree, binds.of(other)),
+            value_in(tree, binds.of(step)),
+        ),
     }
 }
 
@@ -95,6 +130,24 @@ fn wide(value: Option<u16>) -> Option<u64>
     }
 }
 
+fn remainder_of(one: Option<u16>, other: Option<u16>) -> Option<u64>
+    ensures { result ≡ remainder_of one other }
+{
+    match (one, other) {
+        (Some(one), Some(other)) if other > 0 => Some(u64::from(one % other)),
+        _ => None,
+    }
+}
+
+fn room_of(last: Option<u16>) -> Option<u64>
+    ensures { result ≡ room_of last }
+{
+    match last {
+        Some(last) => Some(2 * u64::from(last) + 1),
+        None => None,
+    }
+}
+
 fn value_in(tree: &Tree<'_>, index: Option<usize>) -> Option<u16>
     ensures { result ≡ value_in tree.now index }
 {
@@ -109,6 +162,205 @@ fn bytes_in(tree: &Tree<'_>, index: Option<usize>) -> Option<u64>
 {
     match index {
         Some(index) => Some(bytes_of(tree, index) as u64),
+        None => None,
+    }
+}
+
+// Whether a branch is the name with which a definition begins.
+fn begins_definition(tree: &Tree<'_>, index: Option<usize>) -> bool
+    ensures { result ≡ begins_definition tree.now index }
+{
+    match index {
+        Some(index) => index == 0 || ends_definition(tree, index - 1),
+        None => false,
+    }
+}
+
+fn ends_definition(tree: &Tree<'_>, index: usize) -> bool
+    ensures { result ≡ ends_definition tree.now index }
+{
+    matches!(
+        branch_at(tree.rows, index).kind,
+        Kind::Construct(Construct::Definition)
+    )
+}
+
+// How many words a vector has, where a name declares or defines it.
+fn size_in(tree: &Tree<'_>, index: Option<usize>) -> Option<u64>
+    ensures { result ≡ size_in tree.now index }
+{
+    match index {
+        Some(index) if begins_definition(tree, Some(index)) => size_defined(
+            after(tree.lexemes, branch_at(tree.rows, index).token),
+            values_after(tree, index) as u64,
+        ),
+        Some(index) => size_declared(after(tree.lexemes, branch_at(tree.rows, index).token)),
+        None => None,
+    }
+}
+
+// The size of a vector whose name in a definition has these tokens after it, and so many branches.
+fn size_defined(lexemes: &[Lexeme], count: u64) -> Option<u64>
+    ensures { result ≡ size_defined lexemes.now count }
+{
+    match lexemes {
+        [Lexeme::OpenBracket, last, ..] => Some(size_by(constant_in(last), count)),
+        _ => None,
+    }
+}
+
+// The size of a vector of a function whose name has these tokens after it.
+fn size_declared(lexemes: &[Lexeme]) -> Option<u64>
+    ensures { result ≡ size_declared lexemes.now }
+{
+    match lexemes {
+        [Lexeme::Number(last), ..] => Some(u64::from(*last) + 1),
+        _ => None,
+    }
+}
+
+// Where the definition ends in which a branch is.
+fn definition_end(tree: &Tree<'_>, index: usize) -> Option<usize>
+    ensures { result ≡ definition_end tree.now index }
+{
+    (index..tree.rows.len()).find(|end| ends_definition(tree, *end))
+}
+
+// How many branches a definition has after its name.
+fn values_after(tree: &Tree<'_>, index: usize) -> usize
+    ensures { result ≡ branches_up_to index (definition_end tree.now index) }
+{
+    match definition_end(tree, index) {
+        Some(end) => end.saturating_sub(index).saturating_sub(1),
+        None => 0,
+    }
+}
+
+// The size of a vector with this last index in brackets, if it has one, and so many branches after its name. It has a
+// word at least.
+fn size_by(last: Option<u16>, count: u64) -> u64
+    ensures { result ≡ size_by last count }
+{
+    match last {
+        Some(last) => larger(u64::from(last) + 1, count.saturating_sub(1)),
+        None => larger(1, count),
+    }
+}
+
+fn larger(one: u64, other: u64) -> u64
+    ensures { result ≡ larger one other }
+{
+    if one < other { other } else { one }
+}
+
+fn sum_of(one: Option<u16>, other: Option<u16>) -> Option<u64>
+    ensures { result ≡ sum_of one other }
+{
+    match (one, other) {
+        (Some(one), Some(other)) => Some(u64::from(one) + u64::from(other)),
+        _ => None,
+    }
+}
+
+// What is left of the difference of two values, divided by a third.
+fn rest_of(one: Option<u16>, other: Option<u16>, step: Option<u16>) -> Option<u64>
+    ensures { result ≡ rest_of one other step }
+{
+    match (one, other, step) {
+        (Some(one), Some(other), Some(step)) if step > 0 => {
+            Some(u64::from(distance(one, other) % step))
+        }
+        _ => None,
+    }
+}
+
+fn distance(one: u16, other: u16) -> u16
+    ensures { result ≡ distance one other }
+{
+    if one < other {
+        other - one
+    } else {
+        one - other
+    }
+}
+
+// Whether a number below 0, or a minus, stands after a branch, before the next `;`.
+fn has_negative(tree: &Tree<'_>, index: Option<usize>) -> bool
+    ensures { result ≡ has_negative tree.now index }
+{
+    match index {
+        Some(index) => some_negative(after(tree.lexemes, branch_at(tree.rows, index).token)),
+        None => false,
+    }
+}
+
+fn some_negative(lexemes: &[Lexeme]) -> bool
+    ensures { result ≡ list_any is_negative (take_while is_no_end lexemes.now) }
+{
+    lexemes
+        .iter()
+        .take_while(|lexeme| is_no_end(lexeme))
+        .any(|lexeme| is_negative(lexeme))
+}
+
+fn is_no_end(lexeme: &Lexeme) -> bool
+    ensures { result ≡ is_no_end lexeme.now }
+{
+    !matches!(*lexeme, Lexeme::Semicolon)
+}
+
+fn is_negative(lexeme: &Lexeme) -> bool
+    ensures { result ≡ is_negative lexeme.now }
+{
+    match *lexeme {
+        Lexeme::Number(value) => value >= 32_768,
+        Lexeme::Operator(op) => operator_number(op) == 10,
+        _ => false,
+    }
+}
+
+// Whether a branch is in another one, or is it.
+fn is_inside(tree: &Tree<'_>, one: Option<usize>, other: Option<usize>) -> bool
+    ensures { result ≡ is_inside tree.now one other }
+{
+    match (one, other) {
+        (Some(one), Some(other)) => one <= other && branch_at(tree.rows, other).begin <= one,
+        _ => false,
+    }
+}
+
+// Whether a branch ends before another one begins.
+fn comes_before(tree: &Tree<'_>, one: Option<usize>, other: Option<usize>) -> bool
+    ensures { result ≡ comes_before tree.now one other }
+{
+    match (one, other) {
+        (Some(one), Some(other)) => one < branch_at(tree.rows, other).begin,
+        _ => false,
+    }
+}
+
+// Whether a branch is all that a statement does.
+fn is_dropped(tree: &Tree<'_>, index: Option<usize>) -> bool
+    ensures { result ≡ is_dropped tree.now index }
+{
+    match index {
+        Some(index) if index < tree.rows.len() => matches!(
+            branch_at(tree.rows, index + 1).kind,
+            Kind::Node(Node::Evaluated)
+        ),
+        _ => false,
+    }
+}
+
+// The number that stands after a name.
+fn given_after(tree: &Tree<'_>, index: Option<usize>) -> Option<u16>
+    ensures { result ≡ given_after tree.now index }
+{
+    match index {
+        Some(index) => match after(tree.lexemes, branch_at(tree.rows, index).token) {
+            [given, ..] => constant_in(given),
+            [] => None,
+        },
         None => None,
     }
 }
@@ -153,6 +405,88 @@ fn bytes_of(tree: &Tree<'_>, index: usize) -> usize
     match place_at(tree, branch_at(tree.rows, index).first) {
         Some(place) => place.len,
         None => 0,
+    }
+}
+
+fn letters_in(tree: &Tree<'_>, index: Option<usize>) -> Option<u64>
+    ensures { result ≡ letters_in tree.now index }
+{
+    match index {
+        Some(index) => {
+            let place = place_at(tree, branch_at(tree.rows, index).first);
+            Some(letters_of(bytes_at(tree.text, place)) as u64)
+        }
+        None => None,
+    }
+}
+
+// How many bytes are no stars, without two quotes.
+fn letters_of(bytes: &[u8]) -> usize
+    ensures { result ≡ letters_of bytes.now }
+{
+    bytes
+        .iter()
+        .filter(|byte| **byte != b'*')
+        .count()
+        .saturating_sub(2)
+}
+
+fn token_in(tree: &Tree<'_>, index: Option<usize>) -> Option<u64>
+    ensures { result ≡ token_in tree.now index }
+{
+    match index {
+        Some(index) => Some(branch_at(tree.rows, index).first as u64),
+        None => None,
+    }
+}
+
+fn line_in(tree: &Tree<'_>, index: Option<usize>) -> Option<u64>
+    ensures { result ≡ line_in tree.now index }
+{
+    match place_at(tree, branch_at(tree.rows, index?).first) {
+        Some(place) => Some(place.line),
+        None => None,
+    }
+}
+
+// Whether the token of a branch is the name of these letters.
+fn is_spelled(tree: &Tree<'_>, index: Option<usize>, name: &[u8]) -> bool
+    ensures { result ≡ is_spelled tree.now index name.now }
+{
+    match index {
+        Some(index) => is_named(
+            &lexeme_at(tree.lexemes, branch_at(tree.rows, index).token),
+            name,
+        ),
+        None => false,
+    }
+}
+
+fn is_heading(tree: &Tree<'_>, index: Option<usize>) -> bool
+    ensures { result ≡ is_heading tree.now index }
+{
+    match index {
+        Some(index) => matches!(
+            branch_at(tree.rows, index).kind,
+            Kind::Construct(Construct::Heading)
+        ),
+        None => false,
+    }
+}
+
+// Whether a sign comes after the last token of a branch.
+fn is_next(tree: &Tree<'_>, index: Option<usize>, sign: u16) -> bool
+    ensures { result ≡ is_next tree.now index sign }
+{
+    match index {
+        Some(index) => follows(
+            sign,
+            &lexeme_at(
+                tree.lexemes,
+                branch_at(tree.rows, index).last.saturating_add(1),
+            ),
+        ),
+        None => false,
     }
 }
 
@@ -229,14 +563,14 @@ fn are_joined(first: Option<TokenPlace>, second: Option<TokenPlace>) -> bool
 }
 
 // Whether a token is this sign.
-fn follows(wanted: &Lexeme, lexeme: &Lexeme) -> bool
-    ensures { result ≡ follows wanted.now lexeme.now }
+fn follows(sign: u16, lexeme: &Lexeme) -> bool
+    ensures { result ≡ follows sign lexeme.now }
 {
-    let number = sign_number(wanted);
-    number > 0 && number == sign_number(lexeme)
+    sign > 0 && sign == sign_number(lexeme)
 }
 
-fn sign_number(lexeme: &Lexeme) -> u16
+/// The sign number of a token: one for each sign that may be asked for, and 0 for all else.
+pub fn sign_number(lexeme: &Lexeme) -> u16
     ensures { result ≡ sign_number lexeme.now }
 {
     match *lexeme {

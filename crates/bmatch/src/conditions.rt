@@ -1,24 +1,25 @@
 //! What else is asked of what a pattern fits.
-use crate::pattern::{Pattern, Word};
-use blex::Lexeme;
+use crate::pattern::Word;
+use bword::NAME_LEN;
 
-/// What has to hold. It may bind holes that stand for nothing yet.
-#[derive(Drop)]
-pub enum Condition {
-    /// It always holds.
-    Always,
-    /// Both hold, the second with what the first binds.
-    Both(Box<Condition>, Box<Condition>),
-    /// One of them holds.
-    Either(Box<Condition>, Box<Condition>),
-    /// It doesn't hold.
-    Not(Box<Condition>),
+/// A step of a condition. Each holds with what those before it have bound, and may bind holes that stand for nothing yet.
+/// A pattern stands in it by its first step.
+#[derive(Clone, Copy)]
+pub enum Claim {
+    /// Nothing else has to hold.
+    End,
+    /// The next claims, up to their `End`, don't hold. Those that come after so many are asked then.
+    Not(u16),
+    /// The next claims hold, or those that come after so many.
+    Either(u16),
+    /// So many claims are passed over.
+    Jump(u16),
     /// What a hole stands for fits a pattern.
-    Is(u8, Pattern),
+    Is(u8, u16),
     /// Some branch in a scope fits a pattern. A hole stands for that branch; `NO_HOLE` is none.
-    Some(Scope, u8, Pattern),
+    Some(Scope, u8, u16),
     /// What changes the name of a hole last, before what was found, fits a pattern.
-    Begun(u8, Pattern),
+    Begun(u8, u16),
     /// A test of the holes and of the tokens.
     Test(Test),
 }
@@ -28,6 +29,8 @@ pub enum Condition {
 pub enum Scope {
     /// In the whole source.
     Program,
+    /// In the whole source, but only what is a definition.
+    Definitions,
     /// In the function around.
     Function,
     /// In the innermost loop around what was found.
@@ -63,6 +66,29 @@ pub enum Measure {
     Product(u8, u8),
     /// How many bytes of the source a hole's first token has, with its quotes.
     Bytes(u8),
+    /// How many arguments a call has, or how many parameters a definition.
+    Arguments(u8),
+    /// Which argument of a call, or which parameter of a definition, a hole is, from 1.
+    Place(u8, u8),
+    /// How many characters with their end a vector with this last index has room for.
+    Room(u8),
+    /// How many characters a string has at least.
+    Letters(u8),
+    /// The number of a hole's first token, and its line.
+    Token(u8),
+    Line(u8),
+    /// How far it is indented, where it is the first one of its line. A tab counts as eight blanks.
+    Indent(u8),
+    /// How many words a vector has, where the name of a hole declares or defines it.
+    Size(u8),
+    /// The number that stands after the name of a hole.
+    Given(u8),
+    /// The sum of two values.
+    Sum(u8, u8),
+    /// What is left where the first of two values is divided by the second.
+    Remainder(u8, u8),
+    /// What is left where the difference of the first two values is divided by the third.
+    Remains(u8, u8, u8),
 }
 
 /// A test of the holes and of the tokens.
@@ -78,12 +104,28 @@ pub enum Test {
     Begins(u8, Word),
     /// The token that is told stands directly before the next one.
     Joined,
-    /// This token comes after the one that is told.
-    Followed(Lexeme),
+    /// A token of this sign number comes after the one that is told.
+    Followed(u16),
     /// The token before the one that is told is an operator.
     AfterOperator,
     /// It is the name of the function around.
     OwnName(u8),
     /// It is a parameter of the function around.
     Parameter(u8),
+    /// It is a label, a case or a default.
+    Heading(u8),
+    /// A token of this sign number comes after its last one.
+    Next(u8, u16),
+    /// It is the name of the first of these bytes, as many as this says. It may be no name in a pattern.
+    Spelled(u8, [u8; NAME_LEN], u8),
+    /// It is the name with which a definition begins.
+    Defines(u8),
+    /// A number below 0, or a minus, stands after its first token, before the next `;`.
+    Negative(u8),
+    /// The first is in the second, or is it.
+    Inside(u8, u8),
+    /// The first ends before the second begins.
+    Precedes(u8, u8),
+    /// It is all that a statement does.
+    Dropped(u8),
 }

@@ -1,20 +1,21 @@
-//! Whether a row of patterns fits a row of branches.
+//! Whether steps of a pattern fit a row of branches.
 ghost use Rattle.std.specs.List.{flat_map};
-ghost use Rattle.std.specs.Prelude.{◌≡◌, ◌++◌, IfOk};
-ghost use Rattle.bmatch.specs.Fits.{changes_hole, ends_of, fits_in, inner_of, is_grouped, is_name_of, is_number, is_sort, is_word};
+ghost use Rattle.std.specs.Prelude.{◌≡◌, ◌∷◌, ◌++◌, IfOk, take};
+ghost use Rattle.bmatch.specs.Fits.{changes_hole, ends_of, fits_in, inner_of, is_grouped, is_name_of, is_named, is_number, is_sort, is_word};
 ghost use Rattle.bmatch.specs.Fits.{is_word_alone};
-ghost use Rattle.bmatch.specs.Fits.{is_value_of, leaf_binds, left_of, may_begin, seen_at, start_of, with_leaf, with_same};
+ghost use Rattle.bmatch.specs.Fits.{is_value_of, leaf_binds, may_begin, rows_left, seen_at, start_of, with_leaf, with_same};
 ghost use Rattle.bmatch.specs.Trees.{branch_at};
+ghost use Rattle.bmatch.specs.declared.pattern.Step.TheVariants as step;
 
 use crate::binds::Binds;
 use crate::changes::is_change;
-use crate::pattern::{Leaf, Pattern, Sort, Word};
+use crate::pattern::{Leaf, Sort, Step, Word, steps_from};
 use crate::same::{is_same, is_same_lexeme};
 use crate::tree::{Branch, Kind, Tree, branch_at, core_at, kind_at, kind_number, lexeme_at};
 use blang::Keyword;
 use blex::Lexeme;
 use btree::{Construct, Node};
-use bword::Name;
+use bword::NAME_LEN;
 use std::alloc::{AllocError, Global};
 
 /// The branches from one number up to another.
@@ -24,85 +25,106 @@ pub struct Span {
     pub end: usize,
 }
 
-/// What has to fit after a row.
+/// Rows that were begun, the innermost first.
 #[derive(Clone, Copy)]
 pub(crate) enum Left<'a> {
     Nothing,
-    Row(&'a Pattern, Span, &'a Left<'a>),
+    Row(Span, &'a Left<'a>),
 }
 
-/// A tree, and whether a part in parentheses is no other than one without.
+/// A tree, the steps of all patterns, and whether a part in parentheses is no other than one without.
 #[derive(Clone, Copy)]
 pub struct Sight<'a> {
     pub tree: Tree<'a>,
+    pub steps: &'a [Step],
     pub is_loose: bool,
 }
 
 /// Over how many branches of a row `...` goes, at most.
 pub(crate) const MOST_PASSED: usize = 1_000;
 
-/// Adds to those found what holes stand for in each way in which a row of patterns fits a row of branches, with what is
-/// left after it.
+/// Adds to those found what holes stand for in each way in which steps fit a row of branches, and those after them the
+/// rows that were begun.
 #[cycle(fits)]
-pub(crate) fn fits<'a>(
+pub(crate) fn fits(
     sight: &Sight<'_>,
-    pattern: &'a Pattern,
+    steps: &[Step],
     span: Span,
-    left: &Left<'a>,
+    left: &Left<'_>,
     binds: Binds,
     found: &mut Vec<Binds>,
 ) -> Result<(), AllocError>
     ensures { IfOk result (λ done. found.new.items
-        ≡ found.old.items ++ fits_in sight.now pattern.now span.begin span.end (left_of sight.now left.now) binds) }
+        ≡ found.old.items ++ fits_in sight.now 0 steps.now span.begin span.end (rows_left left.now) binds) }
 {
-    match pattern {
-        Pattern::Done => {
-            if span.begin < span.end {
-                return Ok(());
-            }
-            match left {
-                Left::Nothing => {
-                    found.push(binds)?;
-                    Ok(())
-                }
-                Left::Row(next, next_span, after) => {
-                    fits(sight, &**next, *next_span, &**after, binds, found)
-                }
-            }
-        }
-        Pattern::Tree(kind, is_told, parts, rest) => match inner(sight, *kind, span) {
+    let [step, more @ ..] = steps else {
+        return Ok(());
+    };
+    match *step {
+        Step::Done => fits_left(sight, more, span, left, binds, found),
+        Step::Tree(kind, is_told) => match inner(sight, kind, span) {
             Some(inner) => {
-                let row = Left::Row(&**rest, before(sight, span), &*left);
-                let binds = binds.telling(*is_told, token_at(sight, inner.end));
-                fits(sight, &**parts, inner, &row, binds, found)
+                let row = Left::Row(before(sight, span), &*left);
+                let binds = binds.telling(is_told, token_at(sight, inner.end));
+                fits(sight, more, inner, &row, binds, found)
             }
             None => Ok(()),
         },
-        Pattern::Leaf(leaf, is_told, rest) => match with_leaf(sight, *leaf, *is_told, span, binds) {
-            Some(binds) => fits(sight, &**rest, before(sight, span), &*left, binds, found),
+        Step::Leaf(leaf, is_told) => match with_leaf(sight, leaf, is_told, span, binds) {
+            Some(binds) => fits(sight, more, before(sight, span), &*left, binds, found),
             None => Ok(()),
         },
-        Pattern::Dots(rest) => passes(sight, &**rest, span, &*left, binds, found),
-        Pattern::Either(one, other) => {
-            fits(sight, &**one, span, &*left, binds, found)?;
-            fits(sight, &**other, span, &*left, binds, found)
+        Step::Dots => passes(sight, more, span, &*left, binds, found),
+        Step::Either(count) => {
+            fits(sight, more, span, &*left, binds, found)?;
+            fits(sight, steps_from(more, count), span, &*left, binds, found)
         }
+        Step::Jump(count) => fits(sight, steps_from(more, count), span, &*left, binds, found),
     }
 }
 
-/// Whether a pattern may fit the last branch that ends here, by its head.
-pub(crate) fn may_begin(sight: &Sight<'_>, pattern: &Pattern, end: usize) -> bool
-    ensures { result ≡ may_begin sight.now pattern.now end }
+// The same where a row has no more steps.
+#[cycle(fits)]
+fn fits_left(
+    sight: &Sight<'_>,
+    more: &[Step],
+    span: Span,
+    left: &Left<'_>,
+    binds: Binds,
+    found: &mut Vec<Binds>,
+) -> Result<(), AllocError>
+    ensures { IfOk result (λ done. found.new.items
+        ≡ found.old.items ++ fits_in sight.now 0 (step.Done ∷ more.now) span.begin span.end (rows_left left.now) binds) }
 {
-    match pattern {
-        Pattern::Tree(kind, _, _, _) => {
-            let seen = seen_at(sight, is_grouped(*kind), end);
-            kind_number(*kind) == kind_number(kind_at(sight.tree.rows, seen))
+    if span.begin < span.end {
+        return Ok(());
+    }
+    match left {
+        Left::Nothing => {
+            found.push(binds)?;
+            Ok(())
         }
-        Pattern::Either(one, other) => {
-            may_begin(sight, &**one, end) || may_begin(sight, &**other, end)
+        Left::Row(next, after) => fits(sight, more, *next, &**after, binds, found),
+    }
+}
+
+/// Whether steps may fit the last branch that ends here, by the first of them.
+pub(crate) fn may_begin(sight: &Sight<'_>, steps: &[Step], end: usize) -> bool
+    ensures { result ≡ may_begin sight.now 0 steps.now end }
+{
+    let [step, more @ ..] = steps else {
+        return false;
+    };
+    match *step {
+        Step::Tree(kind, _) => {
+            let seen = seen_at(sight, is_grouped(kind), end);
+            kind_number(kind) == kind_number(kind_at(sight.tree.rows, seen))
         }
-        Pattern::Done | Pattern::Leaf(_, _, _) | Pattern::Dots(_) => true,
+        Step::Either(count) => {
+            may_begin(sight, more, end) || may_begin(sight, steps_from(more, count), end)
+        }
+        Step::Jump(count) => may_begin(sight, steps_from(more, count), end),
+        Step::Done | Step::Leaf(_, _) | Step::Dots => true,
     }
 }
 
@@ -156,7 +178,7 @@ fn leaf_binds(tree: &Tree<'_>, leaf: Leaf, index: usize, binds: Binds) -> Option
 {
     let branch = branch_at(tree.rows, index);
     match leaf {
-        Leaf::Name(name) if is_name_of(tree, branch, name) => Some(binds),
+        Leaf::Name(bytes, len) if is_name_of(tree, branch, name_in(&bytes, len)) => Some(binds),
         Leaf::Value(value) if is_value_of(tree, branch, value) => Some(binds),
         Leaf::Word(word) if is_word_alone(tree, index, word) => Some(binds),
         Leaf::Change(hole) if changes_hole(tree, binds.of(hole), index) => Some(binds),
@@ -169,16 +191,16 @@ fn leaf_binds(tree: &Tree<'_>, leaf: Leaf, index: usize, binds: Binds) -> Option
 
 // The same for a row before any branches.
 #[cycle(fits)]
-fn passes<'a>(
+fn passes(
     sight: &Sight<'_>,
-    rest: &'a Pattern,
+    more: &[Step],
     span: Span,
-    left: &Left<'a>,
+    left: &Left<'_>,
     binds: Binds,
     found: &mut Vec<Binds>,
 ) -> Result<(), AllocError>
     ensures { IfOk result (λ done. found.new.items
-        ≡ found.old.items ++ flat_map (λ end. fits_in sight.now rest.now span.begin end (left_of sight.now left.now) binds)
+        ≡ found.old.items ++ flat_map (λ end. fits_in sight.now 0 more.now span.begin end (rows_left left.now) binds)
         (ends_of sight.now.tree.rows.now MOST_PASSED span.begin span.end)) }
 {
     let mut end = span.end;
@@ -187,7 +209,7 @@ fn passes<'a>(
             begin: span.begin,
             end,
         };
-        fits(sight, rest, here, &*left, binds, found)?;
+        fits(sight, more, here, &*left, binds, found)?;
         if end <= span.begin {
             return Ok(());
         }
@@ -232,15 +254,30 @@ fn is_grouped(kind: Kind) -> bool
     matches!(kind, Kind::Node(Node::Grouped))
 }
 
-fn is_name_of(tree: &Tree<'_>, branch: Branch, name: Name) -> bool
-    ensures { result ≡ is_name_of tree.now branch name }
+fn is_name_of(tree: &Tree<'_>, branch: Branch, name: &[u8]) -> bool
+    ensures { result ≡ is_name_of tree.now branch name.now }
 {
     match branch.kind {
-        Kind::Node(Node::Name) => {
-            is_same_lexeme(&lexeme_at(tree.lexemes, branch.token), &Lexeme::Name(name))
-        }
+        Kind::Node(Node::Name) => is_named(&lexeme_at(tree.lexemes, branch.token), name),
         _ => false,
     }
+}
+
+/// Whether a token is the name of these letters.
+pub(crate) fn is_named(lexeme: &Lexeme, name: &[u8]) -> bool
+    ensures { result ≡ is_named lexeme.now name.now }
+{
+    match lexeme {
+        Lexeme::Name(own) => own.as_bytes() == name,
+        _ => false,
+    }
+}
+
+/// The first of these bytes, as many as this says.
+pub(crate) fn name_in(bytes: &[u8; NAME_LEN], len: u8) -> &[u8]
+    ensures { result.now ≡ take len bytes.now }
+{
+    bytes.get(..len as usize).unwrap_or(bytes)
 }
 
 fn is_value_of(tree: &Tree<'_>, branch: Branch, value: u16) -> bool

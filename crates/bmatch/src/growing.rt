@@ -106,7 +106,7 @@ impl Growing {
         ensures place { self.new.place ≡ self.old.place }
     {
         match node {
-            Node::Argument => Ok(()),
+            Node::Argument | Node::Switched => Ok(()),
             Node::NoArguments => {
                 let (token, index) = (self.place.saturating_sub(1), self.rows.len());
                 self.open(Construct::Parens, token)?;

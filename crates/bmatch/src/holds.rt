@@ -1,15 +1,15 @@
 //! Whether what else is asked holds.
 ghost use Rattle.std.specs.List.{find, flat_map, range_with_len};
 ghost use Rattle.std.specs.Prelude.{◌≡◌, ◌+◌, ◌-◌, ◌<◌, ◌^◌, ◌++◌, IfOk};
-ghost use Rattle.bmatch.specs.Holds.{begun_by, fits_at, fits_begun, fits_hole, hole_span, holds_in, is_loop_around};
+ghost use Rattle.bmatch.specs.Holds.{begun_by, fits_at, fits_begun, fits_claim, fits_hole, hole_span, holds_in, if_none, is_loop_around};
 ghost use Rattle.bmatch.specs.Holds.{is_within, loop_around, root_of, scope_span, some_at};
 
 use crate::asking::passes_test;
 use crate::binds::Binds;
 use crate::changes::change_before;
-use crate::conditions::{Condition, Scope};
+use crate::conditions::{Claim, Scope};
 use crate::fits::{Left, Sight, Span, fits, may_begin};
-use crate::pattern::{Pattern, ROOT};
+use crate::pattern::{ROOT, Step, claims_from, steps_from};
 use crate::tree::{Kind, branch_at};
 use btree::Construct;
 use std::alloc::{AllocError, Global};
@@ -21,64 +21,93 @@ pub struct Site<'a> {
     pub function: Span,
 }
 
-/// What is sought: where, the hole that stands for it, and what it fits.
+/// What is sought: where, the hole that stands for it, and the first step of what it fits.
 #[derive(Clone, Copy)]
-pub(crate) struct Sought<'a> {
+pub(crate) struct Sought {
     pub scope: Scope,
     pub hole: u8,
-    pub pattern: &'a Pattern,
+    pub pattern: u16,
 }
 
-/// Adds to those found what holes stand for in each way in which a condition holds.
+/// Adds to those found what holes stand for in each way in which claims hold.
 #[cycle(holds)]
 pub(crate) fn holds(
     alloc: Global,
     site: &Site<'_>,
-    condition: &Condition,
+    claims: &[Claim],
     binds: Binds,
     found: &mut Vec<Binds>,
 ) -> Result<(), AllocError>
-    ensures { IfOk result (λ done. found.new.items ≡ found.old.items ++ holds_in site.now condition.now binds) }
+    ensures { IfOk result (λ done. found.new.items ≡ found.old.items ++ holds_in site.now 0 claims.now binds) }
 {
-    match condition {
-        Condition::Always => {
+    let [claim, more @ ..] = claims else {
+        found.push(binds)?;
+        return Ok(());
+    };
+    match *claim {
+        Claim::End => {
             found.push(binds)?;
             Ok(())
         }
-        Condition::Both(one, other) => {
+        Claim::Not(count) => {
             let mut ways = Vec::new(alloc);
-            holds(alloc, site, &**one, binds, &mut ways)?;
-            all_hold(alloc, site, &**other, ways.as_slice(), found)
+            holds(alloc, site, more, binds, &mut ways)?;
+            let claims = claims_from(more, count);
+            if_none_hold(alloc, site, ways.as_slice(), claims, binds, found)
         }
-        Condition::Either(one, other) => {
-            holds(alloc, site, &**one, binds, found)?;
-            holds(alloc, site, &**other, binds, found)
+        Claim::Either(count) => {
+            holds(alloc, site, more, binds, found)?;
+            holds(alloc, site, claims_from(more, count), binds, found)
         }
-        Condition::Not(inner) => {
-            let mut ways = Vec::new(alloc);
-            holds(alloc, site, &**inner, binds, &mut ways)?;
-            if ways.is_empty() {
-                found.push(binds)?;
+        Claim::Jump(count) => holds(alloc, site, claims_from(more, count), binds, found),
+        Claim::Test(test) => {
+            if passes_test(site, test, &binds) {
+                holds(alloc, site, more, binds, found)
+            } else {
+                Ok(())
             }
-            Ok(())
         }
-        Condition::Is(hole, pattern) => fits_hole(site, *hole, pattern, binds, found),
-        Condition::Some(scope, hole, pattern) => {
-            let sought = Sought {
-                scope: *scope,
-                hole: *hole,
-                pattern,
-            };
-            fits_some(site, &sought, binds, found)
-        }
-        Condition::Begun(hole, pattern) => fits_begun(site, *hole, pattern, binds, found),
-        Condition::Test(test) => {
-            if passes_test(site, *test, &binds) {
-                found.push(binds)?;
-            }
-            Ok(())
-        }
+        Claim::Is(_, _) => fits_and_holds(alloc, site, claim, more, binds, found),
+        Claim::Some(_, _, _) => fits_and_holds(alloc, site, claim, more, binds, found),
+        Claim::Begun(_, _) => fits_and_holds(alloc, site, claim, more, binds, found),
     }
+}
+
+// The same where there are none of these ways.
+#[cycle(holds)]
+fn if_none_hold(
+    alloc: Global,
+    site: &Site<'_>,
+    ways: &[Binds],
+    claims: &[Claim],
+    binds: Binds,
+    found: &mut Vec<Binds>,
+) -> Result<(), AllocError>
+    ensures { IfOk result (λ done.
+        found.new.items ≡ found.old.items ++ if_none ways.now (holds_in site.now 0 claims.now binds)) }
+{
+    match ways {
+        [] => holds(alloc, site, claims, binds, found),
+        _ => Ok(()),
+    }
+}
+
+// The same with each way in which a claim of a pattern holds.
+#[cycle(holds)]
+fn fits_and_holds(
+    alloc: Global,
+    site: &Site<'_>,
+    claim: &Claim,
+    more: &[Claim],
+    binds: Binds,
+    found: &mut Vec<Binds>,
+) -> Result<(), AllocError>
+    ensures { IfOk result (λ done.
+        found.new.items ≡ found.old.items ++ flat_map (holds_in site.now 0 more.now) (fits_claim site.now claim.now binds)) }
+{
+    let mut ways = Vec::new(alloc);
+    fits_claim(site, claim, binds, &mut ways)?;
+    all_hold(alloc, site, more, ways.as_slice(), found)
 }
 
 /// The same with each of these.
@@ -86,45 +115,72 @@ pub(crate) fn holds(
 pub(crate) fn all_hold(
     alloc: Global,
     site: &Site<'_>,
-    condition: &Condition,
+    claims: &[Claim],
     ways: &[Binds],
     found: &mut Vec<Binds>,
 ) -> Result<(), AllocError>
     ensures { IfOk result (λ done.
-        found.new.items ≡ found.old.items ++ flat_map (holds_in site.now condition.now) ways.now) }
+        found.new.items ≡ found.old.items ++ flat_map (holds_in site.now 0 claims.now) ways.now) }
 {
     for way in ways {
-        holds(alloc, site, condition, *way, found)?;
+        holds(alloc, site, claims, *way, found)?;
     }
     Ok(())
+}
+
+// Adds to those found what holes stand for in each way in which a claim alone holds, if it is one of a pattern.
+fn fits_claim(
+    site: &Site<'_>,
+    claim: &Claim,
+    binds: Binds,
+    found: &mut Vec<Binds>,
+) -> Result<(), AllocError>
+    ensures { IfOk result (λ done. found.new.items ≡ found.old.items ++ fits_claim site.now claim.now binds) }
+{
+    match *claim {
+        Claim::Is(hole, pattern) => fits_hole(site, hole, pattern, binds, found),
+        Claim::Some(scope, hole, pattern) => {
+            let sought = Sought {
+                scope,
+                hole,
+                pattern,
+            };
+            fits_some(site, &sought, binds, found)
+        }
+        Claim::Begun(hole, pattern) => fits_begun(site, hole, pattern, binds, found),
+        _ => Ok(()),
+    }
 }
 
 // Whether what a hole stands for fits a pattern.
 fn fits_hole(
     site: &Site<'_>,
     hole: u8,
-    pattern: &Pattern,
+    pattern: u16,
     binds: Binds,
     found: &mut Vec<Binds>,
 ) -> Result<(), AllocError>
     ensures { IfOk result (λ done.
-        found.new.items ≡ found.old.items ++ fits_hole site.now pattern.now hole binds) }
+        found.new.items ≡ found.old.items ++ fits_hole site.now pattern hole binds) }
 {
     match binds.of(hole) {
-        Some(index) => fits_at(&site.sight, pattern, index, binds, found),
+        Some(index) => {
+            let steps = steps_from(site.sight.steps, pattern);
+            fits_at(&site.sight, steps, index, binds, found)
+        }
         None => Ok(()),
     }
 }
 
-/// Adds to those found what holes stand for in each way in which a pattern fits one branch.
+/// Adds to those found what holes stand for in each way in which steps fit one branch.
 pub(crate) fn fits_at(
     sight: &Sight<'_>,
-    pattern: &Pattern,
+    steps: &[Step],
     index: usize,
     binds: Binds,
     found: &mut Vec<Binds>,
 ) -> Result<(), AllocError>
-    ensures { IfOk result (λ done. found.new.items ≡ found.old.items ++ fits_at sight.now pattern.now index binds) }
+    ensures { IfOk result (λ done. found.new.items ≡ found.old.items ++ fits_at sight.now steps.now index binds) }
 {
     if index >= sight.tree.rows.len() {
         return Ok(());
@@ -133,22 +189,25 @@ pub(crate) fn fits_at(
         begin: branch_at(sight.tree.rows, index).begin,
         end: index + 1,
     };
-    fits(sight, pattern, span, &Left::Nothing, binds, found)
+    fits(sight, steps, span, &Left::Nothing, binds, found)
 }
 
 // Whether what changes the name of a hole last, before what was found, fits a pattern.
 fn fits_begun(
     site: &Site<'_>,
     hole: u8,
-    pattern: &Pattern,
+    pattern: u16,
     binds: Binds,
     found: &mut Vec<Binds>,
 ) -> Result<(), AllocError>
     ensures { IfOk result (λ done.
-        found.new.items ≡ found.old.items ++ fits_begun site.now pattern.now hole binds) }
+        found.new.items ≡ found.old.items ++ fits_begun site.now pattern hole binds) }
 {
     match begun_by(site, hole, &binds) {
-        Some(index) => fits_at(&site.sight, pattern, index, binds, found),
+        Some(index) => {
+            let steps = steps_from(site.sight.steps, pattern);
+            fits_at(&site.sight, steps, index, binds, found)
+        }
         None => Ok(()),
     }
 }
@@ -173,7 +232,7 @@ fn root_of(binds: &Binds) -> usize
 // Whether some branch of a scope fits a pattern.
 fn fits_some(
     site: &Site<'_>,
-    sought: &Sought<'_>,
+    sought: &Sought,
     binds: Binds,
     found: &mut Vec<Binds>,
 ) -> Result<(), AllocError>
@@ -191,7 +250,7 @@ fn fits_some(
 
 fn some_at(
     site: &Site<'_>,
-    sought: &Sought<'_>,
+    sought: &Sought,
     binds: Binds,
     index: usize,
     found: &mut Vec<Binds>,
@@ -200,15 +259,15 @@ fn some_at(
     ensures { IfOk result (λ done.
         found.new.items ≡ found.old.items ++ some_at site.now sought.now binds index) }
 {
-    if !may_begin(&site.sight, sought.pattern, index + 1) {
+    if !is_within(site, sought.scope, &binds, index) {
         return Ok(());
     }
-    if is_within(site, sought.scope, &binds, index) {
-        let binds = binds.with(sought.hole, index);
-        fits_at(&site.sight, sought.pattern, index, binds, found)
-    } else {
-        Ok(())
+    let steps = steps_from(site.sight.steps, sought.pattern);
+    if !may_begin(&site.sight, steps, index + 1) {
+        return Ok(());
     }
+    let binds = binds.with(sought.hole, index);
+    fits_at(&site.sight, steps, index, binds, found)
 }
 
 // The innermost loop around what was found.
@@ -232,7 +291,7 @@ fn scope_span(site: &Site<'_>, scope: Scope, binds: &Binds) -> Span
 {
     let root = root_of(binds);
     match scope {
-        Scope::Program => Span {
+        Scope::Program | Scope::Definitions => Span {
             begin: 0,
             end: site.sight.tree.rows.len(),
         },
@@ -271,6 +330,7 @@ fn is_within(site: &Site<'_>, scope: Scope, binds: &Binds, index: usize) -> bool
     let branch = branch_at(site.sight.tree.rows, index);
     match scope {
         Scope::Program | Scope::Function | Scope::Loop | Scope::Before | Scope::Hole(_) => true,
+        Scope::Definitions => matches!(branch.kind, Kind::Construct(Construct::Definition)),
         Scope::After => root < branch.begin,
         Scope::Around => root < index && branch.begin <= root,
         Scope::Own(hole) => {

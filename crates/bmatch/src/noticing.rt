@@ -1,13 +1,13 @@
 //! What rules tell of a source.
 ghost use Rattle.std.specs.Prelude.{◌≡◌, ◌+◌, ◌++◌, ◌<◌, ◌^◌, IfOk, map};
 ghost use Rattle.bmatch.specs.Notices.{first_token, function_notices, functions_at, functions_in, is_passed_over, notice_of};
-ghost use Rattle.bmatch.specs.Notices.{notices_by, pattern_notices, root_notices, rule_notices};
+ghost use Rattle.bmatch.specs.Notices.{notices_by, root_notices, rule_notices};
 
 use crate::asking::told_token;
 use crate::binds::Binds;
 use crate::fits::{Sight, Span, may_begin};
 use crate::holds::{Site, all_hold, fits_at};
-use crate::pattern::{Pattern, ROOT, Rule};
+use crate::pattern::{ROOT, Rule, RuleTable, claims_from, steps_from};
 use crate::tree::{Kind, Tree, branch_at};
 use btree::Construct;
 use std::alloc::{AllocError, Global};
@@ -33,13 +33,17 @@ pub struct Notice {
 /// # Errors
 ///
 /// If memory was refused.
-pub fn notices_of(alloc: Global, tree: &Tree<'_>, rules: &[Rule]) -> Result<Vec<Notice>, AllocError>
-    ensures { IfOk result (λ found. found.items ≡ notices_by tree.now rules.now) }
+pub fn notices_of(
+    alloc: Global,
+    tree: &Tree<'_>,
+    table: &RuleTable<'_>,
+) -> Result<Vec<Notice>, AllocError>
+    ensures { IfOk result (λ found. found.items ≡ notices_by tree.now table.now) }
 {
     let functions = functions_in(alloc, tree)?;
     let mut found = Vec::new(alloc);
-    for rule in rules {
-        rule_notices(alloc, tree, functions.as_slice(), rule, &mut found)?;
+    for rule in table.rules {
+        rule_notices(alloc, tree, table, functions.as_slice(), rule, &mut found)?;
     }
     Ok(found)
 }
@@ -72,31 +76,16 @@ fn take_function(tree: &Tree<'_>, index: usize, spans: &mut Vec<Span>) -> Result
 fn rule_notices(
     alloc: Global,
     tree: &Tree<'_>,
+    table: &RuleTable<'_>,
     functions: &[Span],
     rule: &Rule,
-    found: &mut Vec<Notice>,
-) -> Result<(), AllocError>
-    ensures { IfOk result (λ done. found.new.items ≡ found.old.items ++ rule_notices tree.now functions.now rule.now) }
-{
-    for pattern in rule.patterns.as_slice() {
-        pattern_notices(alloc, tree, functions, rule, pattern, found)?;
-    }
-    Ok(())
-}
-
-fn pattern_notices(
-    alloc: Global,
-    tree: &Tree<'_>,
-    functions: &[Span],
-    rule: &Rule,
-    pattern: &Pattern,
     found: &mut Vec<Notice>,
 ) -> Result<(), AllocError>
     ensures { IfOk result (λ done.
-        found.new.items ≡ found.old.items ++ pattern_notices tree.now functions.now rule.now pattern.now) }
+        found.new.items ≡ found.old.items ++ rule_notices tree.now table.now functions.now rule.now) }
 {
     for function in functions {
-        function_notices(alloc, tree, *function, rule, pattern, found)?;
+        function_notices(alloc, tree, table, rule, *function, found)?;
     }
     Ok(())
 }
@@ -104,19 +93,19 @@ fn pattern_notices(
 fn function_notices(
     alloc: Global,
     tree: &Tree<'_>,
-    function: Span,
+    table: &RuleTable<'_>,
     rule: &Rule,
-    pattern: &Pattern,
+    function: Span,
     found: &mut Vec<Notice>,
 ) -> Result<(), AllocError>
     ensures { IfOk result (λ done.
-        found.new.items ≡ found.old.items ++ function_notices tree.now rule.now pattern.now function) }
+        found.new.items ≡ found.old.items ++ function_notices tree.now table.now rule.now function) }
 {
     if is_passed_over(tree, rule, function) {
         return Ok(());
     }
     for root in function.begin..function.end {
-        root_notices(alloc, tree, function, rule, pattern, root, found)?;
+        root_notices(alloc, tree, table, rule, function, root, found)?;
     }
     Ok(())
 }
@@ -132,27 +121,29 @@ fn is_passed_over(tree: &Tree<'_>, rule: &Rule, function: Span) -> bool
 fn root_notices(
     alloc: Global,
     tree: &Tree<'_>,
-    function: Span,
+    table: &RuleTable<'_>,
     rule: &Rule,
-    pattern: &Pattern,
+    function: Span,
     root: usize,
     found: &mut Vec<Notice>,
 ) -> Result<(), AllocError>
     requires { root + 1 < 2 ^ 64 }
     ensures { IfOk result (λ done.
-        found.new.items ≡ found.old.items ++ root_notices tree.now rule.now pattern.now function root) }
+        found.new.items ≡ found.old.items ++ root_notices tree.now table.now rule.now function root) }
 {
     let sight = Sight {
         tree: *tree,
+        steps: table.steps,
         is_loose: rule.is_loose,
     };
-    if !may_begin(&sight, pattern, root + 1) {
+    let steps = steps_from(table.steps, rule.pattern);
+    if !may_begin(&sight, steps, root + 1) {
         return Ok(());
     }
     let mut ways = Vec::new(alloc);
     fits_at(
         &sight,
-        pattern,
+        steps,
         root,
         Binds::nothing().with(ROOT, root),
         &mut ways,
@@ -162,7 +153,8 @@ fn root_notices(
     }
     let site = Site { sight, function };
     let mut held = Vec::new(alloc);
-    all_hold(alloc, &site, &rule.condition, ways.as_slice(), &mut held)?;
+    let claims = claims_from(table.claims, rule.condition);
+    all_hold(alloc, &site, claims, ways.as_slice(), &mut held)?;
     tell(tree, rule, held.as_slice(), found)
 }
 

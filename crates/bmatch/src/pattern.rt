@@ -1,7 +1,9 @@
 //! Patterns of B with holes, and rules of them.
-use crate::conditions::Condition;
+ghost use Rattle.std.specs.Prelude.{◌≡◌, drop};
+
+use crate::conditions::Claim;
 use crate::tree::Kind;
-use bword::Name;
+use bword::NAME_LEN;
 
 /// How many holes a rule may have, with the one for what the whole pattern stands for.
 pub const MOST_HOLES: u8 = 16;
@@ -12,27 +14,29 @@ pub const NO_HOLE: u8 = MOST_HOLES;
 /// The hole that stands for what the whole pattern fits.
 pub const ROOT: u8 = 15;
 
-/// A row of patterns, which fits a row of branches. The last pattern comes first, and each but `Done` and `Either` has
-/// after it the patterns before it. A `true` marks the pattern whose token is told.
-#[derive(Drop)]
-pub enum Pattern {
-    /// No branches.
+/// A step of a pattern. The steps of a row of branches speak of the last branch first, and end with `Done`.
+#[derive(Clone, Copy)]
+pub enum Step {
+    /// The row has no more branches.
     Done,
-    /// A branch of this kind, whose parts fit these.
-    Tree(Kind, bool, Box<Pattern>, Box<Pattern>),
-    /// A branch that is this.
-    Leaf(Leaf, bool, Box<Pattern>),
+    /// A branch of this kind. The steps for what is in it come next, up to their `Done`, and then those for what is
+    /// before it. Where this is `true`, its token is told.
+    Tree(Kind, bool),
+    /// A branch that is this. Where this is `true`, its first token is told.
+    Leaf(Leaf, bool),
     /// Any branches.
-    Dots(Box<Pattern>),
-    /// One of two rows.
-    Either(Box<Pattern>, Box<Pattern>),
+    Dots,
+    /// The next steps fit, or those that come after so many.
+    Either(u16),
+    /// So many steps are passed over.
+    Jump(u16),
 }
 
 /// A pattern without parts.
 #[derive(Clone, Copy)]
 pub enum Leaf {
-    /// This name.
-    Name(Name),
+    /// The name of the first of these bytes, as many as this says.
+    Name([u8; NAME_LEN], u8),
     /// A number or a character of this value.
     Value(u16),
     /// A statement that is one word and a `;`.
@@ -66,13 +70,14 @@ pub enum Sort {
     Text,
 }
 
-/// A rule: where one of its patterns fits, and its condition holds.
-#[derive(Drop)]
+/// A rule: where its pattern fits, and its condition holds.
+#[derive(Clone, Copy)]
 pub struct Rule {
-    /// Its number in its file, from 0.
+    /// Its number in its table, from 0.
     pub number: usize,
-    pub patterns: Vec<Pattern>,
-    pub condition: Condition,
+    /// Its first step, and its first claim.
+    pub pattern: u16,
+    pub condition: u16,
     /// The hole whose first token has the name of which it speaks, and the hole of a second place; or `NO_HOLE`.
     pub named: u8,
     pub beside: u8,
@@ -82,4 +87,26 @@ pub struct Rule {
     pub looks_around: bool,
     /// Whether it looks at the whole source, so that it isn't asked in a long one.
     pub looks_far: bool,
+}
+
+/// Rules, with the steps and the claims of all of them.
+#[derive(Clone, Copy)]
+pub struct RuleTable<'a> {
+    pub steps: &'a [Step],
+    pub claims: &'a [Claim],
+    pub rules: &'a [Rule],
+}
+
+/// The steps from one on.
+pub(crate) fn steps_from(steps: &[Step], at: u16) -> &[Step]
+    ensures { result.now ≡ drop at steps.now }
+{
+    steps.get(at as usize..).unwrap_or(&[])
+}
+
+/// The claims from one on.
+pub(crate) fn claims_from(claims: &[Claim], at: u16) -> &[Claim]
+    ensures { result.now ≡ drop at claims.now }
+{
+    claims.get(at as usize..).unwrap_or(&[])
 }

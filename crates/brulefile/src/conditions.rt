@@ -2,11 +2,13 @@
 use crate::classes::part;
 use crate::cleaning::hole_number;
 use crate::cutting::cut;
+use crate::drawing::bytes_of;
 use crate::faults::{FaultReason, Stop};
 use crate::holes::Holes;
-use crate::patterns::read_pattern;
+use crate::patterns::read_patterns;
 use crate::text::{after_blanks, after_word, first_word, place_of};
-use bmatch::{Condition, Leaf, Measure, NO_HOLE, Pattern, Relation, Scope, Test, Word};
+use bmatch::{Claim, Leaf, Measure, NO_HOLE, Relation, Scope, Step, Test, Word, sign_number};
+use bword::Name;
 use std::alloc::{AllocError, Global};
 
 /// A condition that has a name, and stands in these lines. It speaks of the holes that it is given.
@@ -18,103 +20,164 @@ pub(crate) struct Named<'t> {
     pub lines: Vec<&'t [u8]>,
 }
 
-/// What reads conditions of a rule.
+/// What reads conditions, into claims and the steps of patterns.
 #[derive(Drop)]
-pub(crate) struct Conditions<'a, 't> {
+pub(crate) struct Conditions<'t> {
     pub alloc: Global,
-    pub holes: &'a mut Holes,
+    /// The holes of the rule or of the condition with a name that is read.
+    pub holes: Holes,
     pub is_loose: bool,
-    pub named: &'a [Named<'t>],
+    /// The conditions that have names.
+    pub named: Vec<Named<'t>>,
+    pub steps: Vec<Step>,
+    pub claims: Vec<Claim>,
 }
 
-impl<'a, 't> Conditions<'a, 't> {
-    /// The condition that a text is. It has so many words at most that join others.
+impl<'t> Conditions<'t> {
+    /// Reads the condition that a text is. It has so many words at most that join others.
     #[cycle(conditions)]
-    pub(crate) fn read(&mut self, text: &[u8], fuel: usize) -> Result<Condition, Stop> {
+    pub(crate) fn read(&mut self, text: &[u8], fuel: usize) -> Result<(), Stop> {
         if fuel == 0 {
             return Err(Stop::Fault(FaultReason::TooDeep, text.len()));
         }
         if let Some((one, other)) = parted(text, b" or ") {
-            let one = self
-                .read(one, fuel - 1)
-                .map_err(|stop| moved(stop, other.len() + 4))?;
-            let other = self.read(other, fuel - 1)?;
-            return Ok(Condition::Either(Box::new(self.alloc, one)?, Box::new(self.alloc, other)?));
+            return self.one_of(one, other, fuel - 1);
         }
         match first_word(text) {
             b"not" => self.negated(after_word(text), fuel - 1),
             b"some" => self.sought(after_word(text), fuel - 1),
             b"no" => {
-                let sought = self.sought(after_word(text), fuel - 1)?;
-                Ok(Condition::Not(Box::new(self.alloc, sought)?))
+                let not = self.begin(Claim::Not(0))?;
+                self.sought(after_word(text), fuel - 1)?;
+                self.end(not)
             }
             b"begun" => self.begun(after_word(text)),
             [b'$', ..] => self.of_hole(text),
-            word => match self.called(word, after_word(text), fuel - 1)? {
-                Some(condition) => Ok(condition),
-                None => Ok(Condition::Test(self.test(text)?)),
-            },
+            word => {
+                if self.called(word, after_word(text), fuel - 1)? {
+                    return Ok(());
+                }
+                let test = self.test(text)?;
+                self.claims.push(Claim::Test(test))?;
+                Ok(())
+            }
+        }
+    }
+
+    // Two conditions, of which one holds.
+    #[cycle(conditions)]
+    fn one_of(&mut self, one: &[u8], other: &[u8], fuel: usize) -> Result<(), Stop> {
+        let either = self.begin(Claim::Either(0))?;
+        self.read(one, fuel)
+            .map_err(|stop| moved(stop, other.len() + 4))?;
+        let jump = self.begin(Claim::Jump(0))?;
+        let count = self.after(either);
+        self.set(either, Claim::Either(count));
+        self.read(other, fuel)?;
+        let count = self.after(jump);
+        self.set(jump, Claim::Jump(count));
+        Ok(())
+    }
+
+    // Adds a claim that is set later, and gives its place.
+    fn begin(&mut self, claim: Claim) -> Result<usize, AllocError> {
+        let at = self.claims.len();
+        self.claims.push(claim)?;
+        Ok(at)
+    }
+
+    // The claims that don't hold end here.
+    fn end(&mut self, not: usize) -> Result<(), Stop> {
+        self.claims.push(Claim::End)?;
+        let count = self.after(not);
+        self.set(not, Claim::Not(count));
+        Ok(())
+    }
+
+    // How many claims come after this one.
+    fn after(&self, at: usize) -> u16 {
+        self.claims
+            .len()
+            .saturating_sub(at.saturating_add(1))
+            .min(65_535) as u16
+    }
+
+    fn set(&mut self, at: usize, claim: Claim) {
+        if let Some(old) = self.claims.get_mut(at) {
+            *old = claim;
         }
     }
 
     // A condition that has a name, if one has this. Where several have it, one of them holds.
     #[cycle(conditions)]
-    fn called(
-        &mut self,
-        name: &[u8],
-        given: &[u8],
-        fuel: usize,
-    ) -> Result<Option<Condition>, Stop> {
-        let mut found = None;
-        let named = self.named;
-        for index in 0..named.len() {
-            if named[index].name == name {
-                let condition = self.of_name(index, given, fuel)?;
-                found = Some(either(self.alloc, found, condition)?);
+    fn called(&mut self, name: &[u8], given: &[u8], fuel: usize) -> Result<bool, Stop> {
+        if !self.named.iter().any(|it| it.name == name) {
+            return Ok(false);
+        }
+        let not = self.begin(Claim::Not(0))?;
+        for index in 0..self.named.len() {
+            if self.is_named(index, name) {
+                self.of_name(index, given, fuel)?;
             }
         }
-        Ok(found)
+        self.end(not)?;
+        Ok(true)
     }
 
-    // One with a name. What its own holes stand for isn't seen outside.
+    fn is_named(&self, index: usize, name: &[u8]) -> bool {
+        match self.named.get(index) {
+            Some(named) => named.name == name,
+            None => false,
+        }
+    }
+
+    // That one with a name doesn't hold. What its own holes stand for isn't seen outside.
     #[cycle(conditions)]
-    fn of_name(&mut self, index: usize, given: &[u8], fuel: usize) -> Result<Condition, Stop> {
-        let mut holes = self.inner_holes(index, given)?;
-        let mut inner = Conditions {
-            alloc: self.alloc,
-            holes: &mut holes,
-            is_loose: self.is_loose,
-            named: self.named,
-        };
-        let condition = inner
-            .lines(index, fuel)
+    fn of_name(&mut self, index: usize, given: &[u8], fuel: usize) -> Result<(), Stop> {
+        let inner = self.inner_holes(index, given)?;
+        let outer = std::mem::replace(&mut self.holes, inner);
+        let not = self.begin(Claim::Not(0))?;
+        self.lines(index, fuel)
             .map_err(|stop| moved_to(stop, given.len()))?;
-        let inverse = Condition::Not(Box::new(self.alloc, condition)?);
-        Ok(Condition::Not(Box::new(self.alloc, inverse)?))
+        self.holes = outer;
+        self.end(not)
     }
 
     // The lines of one with a name, which all hold.
     #[cycle(conditions)]
-    fn lines(&mut self, index: usize, fuel: usize) -> Result<Condition, Stop> {
-        let mut all = Condition::Always;
-        let named = self.named;
-        if index < named.len() {
-            for line in named[index].lines.as_slice() {
-                let next = self.read(line, fuel)?;
-                all = both(self.alloc, all, next)?;
-            }
+    fn lines(&mut self, index: usize, fuel: usize) -> Result<(), Stop> {
+        for number in 0..self.count_lines(index) {
+            let line = self.line_at(index, number);
+            self.read(line, fuel)?;
         }
-        Ok(all)
+        Ok(())
+    }
+
+    fn count_lines(&self, index: usize) -> usize {
+        match self.named.get(index) {
+            Some(named) => named.lines.len(),
+            None => 0,
+        }
+    }
+
+    fn line_at(&self, index: usize, number: usize) -> &'t [u8] {
+        match self.named.get(index) {
+            Some(named) => named.lines.get(number).copied().unwrap_or(&[]),
+            None => &[],
+        }
+    }
+
+    fn given_at(&self, index: usize) -> &'t [u8] {
+        match self.named.get(index) {
+            Some(named) => named.given,
+            None => &[],
+        }
     }
 
     // The holes of one with a name, of which the first are given.
     fn inner_holes(&mut self, index: usize, given: &[u8]) -> Result<Holes, Stop> {
         let mut inner = Holes::after(self.alloc, self.holes.count());
-        let named = self.named;
-        let mut names: &[u8] = b"";
-        if index < named.len() {
-            names = named[index].given;
-        }
+        let mut names = self.given_at(index);
         let mut rest = given;
         for _ in 0..given.len() {
             if !rest.is_empty() {
@@ -130,74 +193,97 @@ impl<'a, 't> Conditions<'a, 't> {
     }
 
     // `begun $x is PATTERN`: what changes a name last, before what was found.
-    fn begun(&mut self, text: &[u8]) -> Result<Condition, Stop> {
+    fn begun(&mut self, text: &[u8]) -> Result<(), Stop> {
         let (hole, rest) = self.hole_and_rest(text)?;
         if first_word(rest) != b"is".as_slice() {
             return Err(Stop::Fault(FaultReason::ConditionWord, rest.len()));
         }
-        let pattern = after_word(rest);
-        let pattern = read_pattern(self.alloc, pattern, self.is_loose, &mut *self.holes)?;
-        Ok(Condition::Begun(hole, pattern))
+        let pattern = self.pattern(after_word(rest))?;
+        self.claims.push(Claim::Begun(hole, pattern))?;
+        Ok(())
     }
 
     #[cycle(conditions)]
-    fn negated(&mut self, text: &[u8], fuel: usize) -> Result<Condition, Stop> {
-        let inner = self.read(text, fuel)?;
-        Ok(Condition::Not(Box::new(self.alloc, inner)?))
+    fn negated(&mut self, text: &[u8], fuel: usize) -> Result<(), Stop> {
+        let not = self.begin(Claim::Not(0))?;
+        self.read(text, fuel)?;
+        self.end(not)
     }
 
     // A pattern, where it is sought, and what else holds there.
     #[cycle(conditions)]
-    fn sought(&mut self, text: &[u8], fuel: usize) -> Result<Condition, Stop> {
+    fn sought(&mut self, text: &[u8], fuel: usize) -> Result<(), Stop> {
         match parted(text, b" but ") {
             None => self.in_scope(text),
             Some((head, tail)) => {
-                let found = self
-                    .in_scope(head)
+                self.in_scope(head)
                     .map_err(|stop| moved(stop, tail.len() + 5))?;
-                let holds = self.all_of(tail, fuel)?;
-                Ok(Condition::Both(Box::new(self.alloc, found)?, Box::new(self.alloc, holds)?))
+                self.all_of(tail, fuel)
             }
         }
     }
 
     // Conditions with `but` between them, which all hold.
     #[cycle(conditions)]
-    fn all_of(&mut self, text: &[u8], fuel: usize) -> Result<Condition, Stop> {
+    fn all_of(&mut self, text: &[u8], fuel: usize) -> Result<(), Stop> {
         if fuel == 0 {
             return Err(Stop::Fault(FaultReason::TooDeep, text.len()));
         }
         match parted(text, b" but ") {
             None => self.read(text, fuel - 1),
             Some((head, tail)) => {
-                let one = self
-                    .read(head, fuel - 1)
+                self.read(head, fuel - 1)
                     .map_err(|stop| moved(stop, tail.len() + 5))?;
-                let other = self.all_of(tail, fuel - 1)?;
-                Ok(Condition::Both(Box::new(self.alloc, one)?, Box::new(self.alloc, other)?))
+                self.all_of(tail, fuel - 1)
             }
         }
     }
 
-    fn in_scope(&mut self, text: &[u8]) -> Result<Condition, Stop> {
+    fn in_scope(&mut self, text: &[u8]) -> Result<(), Stop> {
         let (pattern, scope) = self.scope(text)?;
         let more = text.len().saturating_sub(pattern.len());
         let (pattern, hole) = self.as_hole(pattern)?;
+        let scope = scope_of(pattern, scope);
         let pattern = self
             .sought_pattern(pattern)
             .map_err(|stop| moved(stop, more))?;
-        Ok(Condition::Some(scope, hole, pattern))
+        self.claims.push(Claim::Some(scope, hole, pattern))?;
+        Ok(())
     }
 
-    // A pattern, or `change of $x`.
-    fn sought_pattern(&mut self, text: &[u8]) -> Result<Pattern, Stop> {
+    // The first step of a pattern, or of `change of $x`.
+    fn sought_pattern(&mut self, text: &[u8]) -> Result<u16, Stop> {
         match text.strip_prefix(b"change of $") {
             Some(name) => {
                 let hole = self.only_hole(name)?;
-                let rest = Box::new(self.alloc, Pattern::Done)?;
-                Ok(Pattern::Leaf(Leaf::Change(hole), false, rest))
+                let at = self.next_step(text.len())?;
+                self.steps.push(Step::Leaf(Leaf::Change(hole), false))?;
+                self.steps.push(Step::Done)?;
+                Ok(at)
             }
-            None => read_pattern(self.alloc, text, self.is_loose, &mut *self.holes),
+            None => self.pattern(text),
+        }
+    }
+
+    // Adds a pattern, and gives its first step.
+    fn pattern(&mut self, text: &[u8]) -> Result<u16, Stop> {
+        let at = self.next_step(text.len())?;
+        read_patterns(
+            self.alloc,
+            text,
+            self.is_loose,
+            &mut self.holes,
+            &mut self.steps,
+            None,
+        )?;
+        Ok(at)
+    }
+
+    // The number of the next step, where so many bytes of the line are left.
+    fn next_step(&self, left: usize) -> Result<u16, Stop> {
+        match u16::try_from(self.steps.len()) {
+            Ok(at) => Ok(at),
+            Err(_) => Err(Stop::Fault(FaultReason::ManySteps, left)),
         }
     }
 
@@ -225,7 +311,7 @@ impl<'a, 't> Conditions<'a, 't> {
 
     // The hole of this name, after which nothing stands.
     fn only_hole(&mut self, text: &[u8]) -> Result<u8, Stop> {
-        let (number, len) = hole_number(text, &mut *self.holes)?;
+        let (number, len) = hole_number(text, &mut self.holes)?;
         if len == text.len() {
             Ok(number)
         } else {
@@ -234,24 +320,64 @@ impl<'a, 't> Conditions<'a, 't> {
     }
 
     // A condition that begins with a hole: `$x is PATTERN`, or `$x == 0`.
-    fn of_hole(&mut self, text: &[u8]) -> Result<Condition, Stop> {
+    fn of_hole(&mut self, text: &[u8]) -> Result<(), Stop> {
         let (hole, rest) = self.hole_and_rest(text)?;
         if first_word(rest) == b"is".as_slice() {
-            let pattern = after_word(rest);
-            let pattern = read_pattern(self.alloc, pattern, self.is_loose, &mut *self.holes)?;
-            return Ok(Condition::Is(hole, pattern));
+            let pattern = self.pattern(after_word(rest))?;
+            self.claims.push(Claim::Is(hole, pattern))?;
+            return Ok(());
         }
         let relation = relation_of(rest)?;
         let other = self.measure(after_word(rest))?;
-        Ok(Condition::Test(Test::Compares(Measure::Value(hole), relation, other)))
+        let test = Test::Compares(Measure::Value(hole), relation, other);
+        self.claims.push(Claim::Test(test))?;
+        Ok(())
     }
 
-    // A number, or the value of a hole.
+    // A number, the value of a hole, or what is counted of one.
     fn measure(&mut self, text: &[u8]) -> Result<Measure, Stop> {
-        match text {
-            [b'$', name @ ..] => Ok(Measure::Value(self.only_hole(name)?)),
-            _ => Ok(Measure::Number(number_of(text)?)),
+        if let [b'$', name @ ..] = text {
+            return Ok(Measure::Value(self.only_hole(name)?));
         }
+        match self.counted(text)? {
+            Some((measure, [])) => Ok(measure),
+            Some((_, rest)) => Err(Stop::Fault(FaultReason::ConditionWord, rest.len())),
+            None => Ok(Measure::Number(number_of(text)?)),
+        }
+    }
+
+    // What is counted of holes, if a text begins with the word for it, and what stands after that.
+    fn counted<'p>(&mut self, text: &'p [u8]) -> Result<Option<(Measure, &'p [u8])>, Stop> {
+        let word = first_word(text);
+        let takes = count_of_holes(word);
+        if takes == 0 {
+            return Ok(None);
+        }
+        let (one, mut rest) = self.hole_and_rest(after_word(text))?;
+        let (mut other, mut third) = (NO_HOLE, NO_HOLE);
+        if takes > 1 {
+            (other, rest) = self.hole_and_rest(rest)?;
+        }
+        if takes > 2 {
+            (third, rest) = self.hole_and_rest(rest)?;
+        }
+        let measure = match word {
+            b"product" => Measure::Product(one, other),
+            b"sum" => Measure::Sum(one, other),
+            b"modulo" => Measure::Remainder(one, other),
+            b"remains" => Measure::Remains(one, other, third),
+            b"place" => Measure::Place(one, other),
+            b"size" => Measure::Size(one),
+            b"given" => Measure::Given(one),
+            b"bytes" => Measure::Bytes(one),
+            b"arguments" => Measure::Arguments(one),
+            b"room" => Measure::Room(one),
+            b"letters" => Measure::Letters(one),
+            b"token" => Measure::Token(one),
+            b"line" => Measure::Line(one),
+            _ => Measure::Indent(one),
+        };
+        Ok(Some((measure, rest)))
     }
 
     // The hole that a text begins with, and what stands after it.
@@ -259,35 +385,55 @@ impl<'a, 't> Conditions<'a, 't> {
         let [b'$', name @ ..] = text else {
             return Err(Stop::Fault(FaultReason::UnknownHole, text.len()));
         };
-        let (number, len) = hole_number(name, &mut *self.holes)?;
+        let (number, len) = hole_number(name, &mut self.holes)?;
         Ok((number, after_blanks(part(name, len, name.len()))))
     }
 
     fn test(&mut self, text: &[u8]) -> Result<Test, Stop> {
+        if let Some((measure, rest)) = self.counted(text)? {
+            return self.compared(measure, rest);
+        }
         let rest = after_word(text);
         match first_word(text) {
             b"quiet" => Ok(Test::Quiet(self.last_hole(rest)?)),
             b"backslash" => Ok(Test::Backslash(self.last_hole(rest)?)),
             b"parameter" => Ok(Test::Parameter(self.last_hole(rest)?)),
+            b"defines" => Ok(Test::Defines(self.last_hole(rest)?)),
             b"own" if first_word(rest) == b"name".as_slice() => {
                 Ok(Test::OwnName(self.last_hole(after_word(rest))?))
             }
-            b"bytes" => {
+            b"heading" => Ok(Test::Heading(self.last_hole(rest)?)),
+            b"next" => {
                 let (hole, rest) = self.hole_and_rest(rest)?;
-                self.compared(Measure::Bytes(hole), rest)
+                Ok(Test::Next(hole, self.token(rest)?))
             }
-            b"product" => {
+            b"spelled" => {
+                let (hole, rest) = self.hole_and_rest(rest)?;
+                match Name::from_bytes(rest) {
+                    Some(name) => {
+                        let (bytes, len) = bytes_of(name);
+                        Ok(Test::Spelled(hole, bytes, len))
+                    }
+                    None => Err(Stop::Fault(FaultReason::Token, rest.len())),
+                }
+            }
+            b"inside" => {
                 let (one, rest) = self.hole_and_rest(rest)?;
-                let (other, rest) = self.hole_and_rest(rest)?;
-                self.compared(Measure::Product(one, other), rest)
+                Ok(Test::Inside(one, self.last_hole(rest)?))
             }
+            b"precedes" => {
+                let (one, rest) = self.hole_and_rest(rest)?;
+                Ok(Test::Precedes(one, self.last_hole(rest)?))
+            }
+            b"negative" => Ok(Test::Negative(self.last_hole(rest)?)),
+            b"dropped" => Ok(Test::Dropped(self.last_hole(rest)?)),
             b"first" => {
                 let (hole, rest) = self.hole_and_rest(rest)?;
                 Ok(Test::Begins(hole, word_of(rest)?))
             }
             b"joined" if rest.is_empty() => Ok(Test::Joined),
             b"after" if rest == b"operator".as_slice() => Ok(Test::AfterOperator),
-            b"followed" => self.followed(rest),
+            b"followed" => Ok(Test::Followed(self.token(rest)?)),
             _ => Err(Stop::Fault(FaultReason::ConditionWord, text.len())),
         }
     }
@@ -309,25 +455,52 @@ impl<'a, 't> Conditions<'a, 't> {
         }
     }
 
-    fn followed(&self, text: &[u8]) -> Result<Test, Stop> {
+    // The sign number of the only token of a text.
+    fn token(&self, text: &[u8]) -> Result<u16, Stop> {
         let cut = cut(self.alloc, text)?;
         match cut.lexemes.as_slice() {
-            [lexeme] if cut.is_whole => Ok(Test::Followed(*lexeme)),
+            [lexeme] if cut.is_whole => Ok(sign_number(lexeme)),
             _ => Err(Stop::Fault(FaultReason::Token, text.len())),
         }
     }
 }
 
-/// Whether a condition looks at more than what was found, or at the whole source.
-pub(crate) fn looks_around(condition: &Condition, is_far: bool) -> bool {
-    match condition {
-        Condition::Both(one, other) | Condition::Either(one, other) => {
-            looks_around(one, is_far) || looks_around(other, is_far)
-        }
-        Condition::Not(inner) => looks_around(inner, is_far),
-        Condition::Some(scope, _, _) => !is_far || matches!(*scope, Scope::Program),
-        Condition::Begun(_, _) => !is_far,
-        Condition::Always | Condition::Is(_, _) | Condition::Test(_) => false,
+// A definition is sought among definitions alone.
+fn scope_of(pattern: &[u8], scope: Scope) -> Scope {
+    match scope {
+        Scope::Program if pattern.starts_with(b"define ") => Scope::Definitions,
+        _ => scope,
+    }
+}
+
+/// Whether a claim looks at more than what was found.
+pub(crate) fn looks_around(claim: &Claim) -> bool {
+    matches!(*claim, Claim::Some(_, _, _) | Claim::Begun(_, _))
+}
+
+/// Whether a claim looks at the whole source.
+pub(crate) fn looks_far(claim: &Claim) -> bool {
+    matches!(
+        *claim,
+        Claim::Some(Scope::Program | Scope::Definitions, _, _)
+    )
+}
+
+// Of how many holes a measure of this name speaks; 0 if it is none.
+fn count_of_holes(word: &[u8]) -> u8 {
+    match word {
+        b"remains" => 3,
+        b"product" | b"sum" | b"modulo" | b"place" => 2,
+        b"bytes"
+        | b"arguments"
+        | b"room"
+        | b"letters"
+        | b"token"
+        | b"line"
+        | b"indent"
+        | b"size"
+        | b"given" => 1,
+        _ => 0,
     }
 }
 
@@ -355,29 +528,6 @@ fn moved_to(stop: Stop, left: usize) -> Stop {
     match stop {
         Stop::Fault(reason, _) => Stop::Fault(reason, left),
         _ => stop,
-    }
-}
-
-/// Both, of which the first may be nothing.
-pub(crate) fn both(
-    alloc: Global,
-    one: Condition,
-    other: Condition,
-) -> Result<Condition, AllocError> {
-    match one {
-        Condition::Always => Ok(other),
-        one => Ok(Condition::Both(Box::new(alloc, one)?, Box::new(alloc, other)?)),
-    }
-}
-
-fn either(
-    alloc: Global,
-    one: Option<Condition>,
-    other: Condition,
-) -> Result<Condition, AllocError> {
-    match one {
-        None => Ok(other),
-        Some(one) => Ok(Condition::Either(Box::new(alloc, one)?, Box::new(alloc, other)?)),
     }
 }
 

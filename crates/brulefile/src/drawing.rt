@@ -1,12 +1,12 @@
-//! The pattern that the branches of a text are, where signs stand for some of them.
+//! The steps of the pattern that the branches of a text are, where signs stand for some of them.
 
 use crate::cleaning::{Mark, Sign};
 use blang::Keyword;
 use blex::Lexeme;
-use bmatch::{Branch, Kind, Leaf, Pattern, Sort, Word, branch_at, lexeme_at};
+use bmatch::{Branch, Kind, Leaf, Sort, Step, Word, branch_at, lexeme_at};
 use btree::{Construct, Node};
-use bword::BinOp;
-use std::alloc::{AllocError, Global};
+use bword::{BinOp, NAME_LEN, Name};
+use std::alloc::AllocError;
 
 /// How many bytes stand before a pattern in the text that is cut: `f(){`.
 pub(crate) const BEFORE: usize = 4;
@@ -14,7 +14,6 @@ pub(crate) const BEFORE: usize = 4;
 /// The branches of a text, and what stands for some of them.
 #[derive(Clone, Copy)]
 pub(crate) struct Sheet<'a> {
-    pub alloc: Global,
     pub rows: &'a [Branch],
     pub lexemes: &'a [Lexeme],
     pub starts: &'a [usize],
@@ -37,22 +36,22 @@ pub(crate) enum Respelled {
 }
 
 impl<'a> Sheet<'a> {
-    /// The row of the branches from one number up to another, after what is before it.
+    /// Adds the steps for the branches from one number up to another, the last one first.
     #[cycle(drawing)]
     pub(crate) fn row(
         &self,
         begin: usize,
         end: usize,
-        before: Pattern,
+        steps: &mut Vec<Step>,
         fuel: usize,
-    ) -> Result<Pattern, AllocError> {
+    ) -> Result<(), AllocError> {
         if fuel == 0 || begin >= end {
-            return Ok(before);
+            return Ok(());
         }
         let index = end - 1;
         let first = self.begin_in(index, begin);
-        let rest = self.row(begin, first, before, fuel - 1)?;
-        self.branch(index, first, rest, fuel - 1)
+        self.branch(index, first, steps, fuel - 1)?;
+        self.row(begin, first, steps, fuel - 1)
     }
 
     // Where the parts of a branch begin, in a row that begins here.
@@ -72,26 +71,31 @@ impl<'a> Sheet<'a> {
         &self,
         index: usize,
         first: usize,
-        rest: Pattern,
+        steps: &mut Vec<Step>,
         fuel: usize,
-    ) -> Result<Pattern, AllocError> {
-        match self.sign_of(index, first) {
-            Some(Sign::Hole(hole, sort)) => self.leaf(Leaf::Hole(hole, sort), index, rest),
-            Some(Sign::Statement(hole)) => self.leaf(Leaf::Hole(hole, Sort::Any), index, rest),
-            Some(Sign::Dots) => Ok(Pattern::Dots(self.boxed(rest)?)),
-            None => match self.leaf_at(index, first) {
-                Some(leaf) => self.leaf(leaf, index, rest),
-                None => self.spelled(index, first, rest, fuel),
-            },
+    ) -> Result<(), AllocError> {
+        let is_told = self.is_told(index);
+        match self.step_at(index, first) {
+            Some(leaf) => {
+                steps.push(Step::Leaf(leaf, is_told))?;
+                Ok(())
+            }
+            None if self.is_dots(index, first) => {
+                steps.push(Step::Dots)?;
+                Ok(())
+            }
+            None => self.spelled(index, first, steps, fuel),
         }
     }
 
-    fn boxed(&self, pattern: Pattern) -> Result<Box<Pattern>, AllocError> {
-        Ok(Box::new(self.alloc, pattern)?)
-    }
-
-    fn leaf(&self, leaf: Leaf, index: usize, rest: Pattern) -> Result<Pattern, AllocError> {
-        Ok(Pattern::Leaf(leaf, self.is_told(index), self.boxed(rest)?))
+    // The leaf that a branch is, or for which a sign stands.
+    fn step_at(&self, index: usize, first: usize) -> Option<Leaf> {
+        match self.sign_of(index, first) {
+            Some(Sign::Hole(hole, sort)) => Some(Leaf::Hole(hole, sort)),
+            Some(Sign::Statement(hole)) => Some(Leaf::Hole(hole, Sort::Any)),
+            Some(Sign::Dots) => None,
+            None => self.leaf_at(index, first),
+        }
     }
 
     // Whether a branch is made by the token that is told.
@@ -152,32 +156,31 @@ impl<'a> Sheet<'a> {
         &self,
         index: usize,
         first: usize,
-        rest: Pattern,
+        steps: &mut Vec<Step>,
         fuel: usize,
-    ) -> Result<Pattern, AllocError> {
+    ) -> Result<(), AllocError> {
         let kind = branch_at(self.rows, index).kind;
-        let parts = self.row(first, index, Pattern::Done, fuel)?;
-        match self.respelled(index, first) {
-            Respelled::No => self.tree(kind, index, parts, rest),
-            respelled => {
-                let again = copied(self.alloc, &rest)?;
-                let one = self.tree(kind, index, parts, rest)?;
-                let parts = self.respelled_parts(respelled, index, first, fuel)?;
-                let other = self.tree(respelled_kind(respelled, kind), index, parts, again)?;
-                Ok(Pattern::Either(self.boxed(one)?, self.boxed(other)?))
-            }
-        }
-    }
-
-    fn tree(
-        &self,
-        kind: Kind,
-        index: usize,
-        parts: Pattern,
-        rest: Pattern,
-    ) -> Result<Pattern, AllocError> {
         let is_told = self.is_told(index);
-        Ok(Pattern::Tree(kind, is_told, self.boxed(parts)?, self.boxed(rest)?))
+        let respelled = self.respelled(index, first);
+        if let Respelled::No = respelled {
+            steps.push(Step::Tree(kind, is_told))?;
+            self.row(first, index, steps, fuel)?;
+            steps.push(Step::Done)?;
+            return Ok(());
+        }
+        let either = steps.len();
+        steps.push(Step::Either(0))?;
+        steps.push(Step::Tree(kind, is_told))?;
+        self.row(first, index, steps, fuel)?;
+        steps.push(Step::Done)?;
+        let jump = steps.len();
+        steps.push(Step::Jump(0))?;
+        set(steps, either, Step::Either(steps_after(steps, either)));
+        steps.push(Step::Tree(respelled_kind(respelled, kind), is_told))?;
+        self.respelled_parts(respelled, index, first, steps, fuel)?;
+        steps.push(Step::Done)?;
+        set(steps, jump, Step::Jump(steps_after(steps, jump)));
+        Ok(())
     }
 
     #[cycle(drawing)]
@@ -186,19 +189,20 @@ impl<'a> Sheet<'a> {
         respelled: Respelled,
         index: usize,
         first: usize,
+        steps: &mut Vec<Step>,
         fuel: usize,
-    ) -> Result<Pattern, AllocError> {
+    ) -> Result<(), AllocError> {
         match respelled {
             Respelled::Mirrored(_) => {
                 let right = self.begin_in(index.saturating_sub(1), first);
-                let before = self.row(right, index, Pattern::Done, fuel)?;
-                self.row(first, right, before, fuel)
+                self.row(first, right, steps, fuel)?;
+                self.row(right, index, steps, fuel)
             }
             Respelled::Bare => {
                 let right = self.begin_in(index.saturating_sub(2), first);
-                self.row(first, right, Pattern::Done, fuel)
+                self.row(first, right, steps, fuel)
             }
-            _ => self.row(first, index, Pattern::Done, fuel),
+            _ => self.row(first, index, steps, fuel),
         }
     }
 
@@ -247,10 +251,22 @@ impl<'a> Sheet<'a> {
 
 fn leaf_of(lexeme: Lexeme) -> Option<Leaf> {
     match lexeme {
-        Lexeme::Name(name) => Some(Leaf::Name(name)),
+        Lexeme::Name(name) => {
+            let (bytes, len) = bytes_of(name);
+            Some(Leaf::Name(bytes, len))
+        }
         Lexeme::Number(value) | Lexeme::Character(value) => Some(Leaf::Value(value)),
         _ => None,
     }
+}
+
+/// The bytes of a name, and how many it has.
+pub(crate) fn bytes_of(name: Name) -> ([u8; NAME_LEN], u8) {
+    let mut bytes = [0; NAME_LEN];
+    let own = name.as_bytes();
+    let len = own.len().min(NAME_LEN);
+    bytes[..len].copy_from_slice(&own[..len]);
+    (bytes, len as u8)
 }
 
 // The statement of one word that begins with a token.
@@ -322,24 +338,14 @@ fn mirrored(op: BinOp) -> Option<BinOp> {
     }
 }
 
-// The same pattern once more.
-fn copied(alloc: Global, pattern: &Pattern) -> Result<Pattern, AllocError> {
-    match pattern {
-        Pattern::Done => Ok(Pattern::Done),
-        Pattern::Tree(kind, told, parts, rest) => {
-            let parts = Box::new(alloc, copied(alloc, parts)?)?;
-            let rest = Box::new(alloc, copied(alloc, rest)?)?;
-            Ok(Pattern::Tree(*kind, *told, parts, rest))
-        }
-        Pattern::Leaf(leaf, told, rest) => {
-            let rest = Box::new(alloc, copied(alloc, rest)?)?;
-            Ok(Pattern::Leaf(*leaf, *told, rest))
-        }
-        Pattern::Dots(rest) => Ok(Pattern::Dots(Box::new(alloc, copied(alloc, rest)?)?)),
-        Pattern::Either(one, other) => {
-            let one = Box::new(alloc, copied(alloc, one)?)?;
-            let other = Box::new(alloc, copied(alloc, other)?)?;
-            Ok(Pattern::Either(one, other))
-        }
+/// Puts a step into the place of another one.
+pub(crate) fn set(steps: &mut Vec<Step>, at: usize, step: Step) {
+    if let Some(old) = steps.get_mut(at) {
+        *old = step;
     }
+}
+
+/// How many steps come after this one.
+pub(crate) fn steps_after(steps: &[Step], at: usize) -> u16 {
+    steps.len().saturating_sub(at.saturating_add(1)).min(65_535) as u16
 }

@@ -1,6 +1,6 @@
 //! The examples of the rules of `b check`: each finds what it says, or is silent.
-use crate::trial_rules::TRIAL_RULES;
-use crate::{CHECK_RULES, Rules, read_rules};
+use crate::check_rules::CHECK_RULES;
+use crate::{Rules, read_rules};
 use blex::{Lexeme, Scanner};
 use bmatch::{TokenPlace, Tree, grown, notices_of};
 use bword::Edition;
@@ -35,7 +35,7 @@ fn tells(alloc: Global, rules: &Rules, name: &[u8], text: &[u8]) -> Result<bool,
         places: places.as_slice(),
         rows: rows.as_slice(),
     };
-    let found = notices_of(alloc, &tree, rules.rules.as_slice())?;
+    let found = notices_of(alloc, &tree, &rules.table())?;
     for notice in &found {
         let rule = notice.rule;
         if let Some(told) = rules.names.get(rule) {
@@ -63,12 +63,6 @@ fn program_of(alloc: Global, example: &[u8]) -> Result<Vec<u8>, AllocError> {
 #[test]
 fn examples_of_check_are_told(rt: HostRuntime) -> Result<(), AllocError> {
     assert_eq!(rt; wrong_examples(&rt, CHECK_RULES.as_bytes())?, 0);
-    Ok(())
-}
-
-#[test]
-fn examples_of_the_trial_are_told(rt: HostRuntime) -> Result<(), AllocError> {
-    assert_eq!(rt; wrong_examples(&rt, TRIAL_RULES.as_bytes())?, 0);
     Ok(())
 }
 

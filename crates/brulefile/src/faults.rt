@@ -38,6 +38,7 @@ pub enum FaultReason {
     Relation,
     Token,
     TooDeep,
+    ManySteps,
 }
 
 impl FaultReason {
@@ -78,6 +79,7 @@ impl FaultReason {
             FaultReason::Relation => "one of == != < <= > >= stands here",
             FaultReason::Token => "one token stands here",
             FaultReason::TooDeep => "a condition has at most 8 words not, or and but",
+            FaultReason::ManySteps => "the rules have too many patterns and conditions together",
         }
     }
 }

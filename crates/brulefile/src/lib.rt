@@ -1,6 +1,7 @@
 //! Reads a text of rules into the rules that the engine knows.
 #![tactic(auto)]
 
+#[cfg(test)]
 mod check_rules;
 mod classes;
 mod cleaning;
@@ -16,9 +17,6 @@ mod reading;
 #[cfg(test)]
 mod tests;
 mod text;
-#[cfg(test)]
-mod trial_rules;
 
-pub use check_rules::CHECK_RULES;
 pub use faults::{FaultReason, RuleFault};
 pub use reading::{MOST_LINE, MOST_NAME, RuleName, Rules, read_rules};

@@ -2,56 +2,73 @@
 use crate::classes::{Classes, part};
 use crate::cleaning::{Cleaning, cleaned};
 use crate::cutting::cut;
-use crate::drawing::{BEFORE, Sheet};
+use crate::drawing::{BEFORE, Sheet, set, steps_after};
 use crate::faults::{FaultReason, Stop};
 use crate::holes::Holes;
 use blex::Lexeme;
-use bmatch::{Branch, Kind, Pattern, branch_at, grown};
+use bmatch::{Branch, Kind, Step, branch_at, grown};
 use btree::{Construct, Node};
 use std::alloc::{AllocError, Global};
 
-/// Adds the patterns of a text, one for each choice of its operators.
+/// Adds the patterns of a text, one for each choice of its operators, after one that begins at a step. One of all has to
+/// fit. Gives the step at which the last one begins.
+///
+/// Each begins with a `Jump` over nothing, which becomes an `Either` where another one comes after it.
 pub(crate) fn read_patterns(
     alloc: Global,
     text: &[u8],
     is_loose: bool,
     holes: &mut Holes,
-    patterns: &mut Vec<Pattern>,
-) -> Result<(), Stop> {
+    steps: &mut Vec<Step>,
+    before: Option<usize>,
+) -> Result<Option<usize>, Stop> {
+    let (text, is_definition) = without_define(text);
     let classes = Classes::of(alloc, text)?;
+    let mut last = before;
     for choice in 0..classes.choices {
         let cleaning = cleaned(alloc, text, &classes, choice, holes)?;
-        let pattern = pattern_of(alloc, &cleaning, is_loose)?;
-        patterns.push(pattern)?;
+        last = Some(begin_pattern(steps, last)?);
+        draw(alloc, &cleaning, is_loose, is_definition, steps)?;
+        steps.push(Step::Done)?;
     }
-    Ok(())
+    Ok(last)
 }
 
-/// One pattern that fits where one of those of a text does.
-pub(crate) fn read_pattern(
+// One more pattern begins.
+fn begin_pattern(steps: &mut Vec<Step>, before: Option<usize>) -> Result<usize, AllocError> {
+    if let Some(before) = before {
+        let count = steps_after(steps.as_slice(), before);
+        set(steps, before, Step::Either(count));
+    }
+    let at = steps.len();
+    steps.push(Step::Jump(0))?;
+    Ok(at)
+}
+
+// A text without the word for a definition, and whether it has it.
+fn without_define(text: &[u8]) -> (&[u8], bool) {
+    match text.strip_prefix(b"define ") {
+        Some(definition) => (definition, true),
+        None => (text, false),
+    }
+}
+
+// Adds the steps of the pattern that a cleaned text is.
+fn draw(
     alloc: Global,
-    text: &[u8],
+    cleaning: &Cleaning,
     is_loose: bool,
-    holes: &mut Holes,
-) -> Result<Pattern, Stop> {
-    let classes = Classes::of(alloc, text)?;
-    let cleaning = cleaned(alloc, text, &classes, 0, holes)?;
-    let mut pattern = pattern_of(alloc, &cleaning, is_loose)?;
-    for choice in 1..classes.choices {
-        let cleaning = cleaned(alloc, text, &classes, choice, holes)?;
-        let next = pattern_of(alloc, &cleaning, is_loose)?;
-        pattern = Pattern::Either(Box::new(alloc, pattern)?, Box::new(alloc, next)?);
-    }
-    Ok(pattern)
-}
-
-// The pattern that a cleaned text is.
-fn pattern_of(alloc: Global, cleaning: &Cleaning, is_loose: bool) -> Result<Pattern, Stop> {
-    let text = wrapped(alloc, cleaning.out.as_slice())?;
+    is_definition: bool,
+    steps: &mut Vec<Step>,
+) -> Result<(), Stop> {
+    let text = if is_definition {
+        indented(alloc, cleaning.out.as_slice())?
+    } else {
+        wrapped(alloc, cleaning.out.as_slice())?
+    };
     let cut = cut(alloc, text.as_slice())?;
     let rows = grown(alloc, cut.lexemes.as_slice())?;
     let sheet = Sheet {
-        alloc,
         rows: rows.as_slice(),
         lexemes: cut.lexemes.as_slice(),
         starts: cut.starts.as_slice(),
@@ -59,14 +76,20 @@ fn pattern_of(alloc: Global, cleaning: &Cleaning, is_loose: bool) -> Result<Patt
         told: told_token(cut.starts.as_slice(), cleaning.told),
         is_loose,
     };
-    let statement = is_statement(cleaning.out.as_slice());
-    let span = span_of(sheet.rows, statement);
+    let span = if is_definition {
+        definition_span(sheet.rows)
+    } else {
+        span_of(sheet.rows, is_statement(cleaning.out.as_slice()))
+    };
     match span {
         _ if has_text(sheet.lexemes) => Err(Stop::Fault(
             FaultReason::StringInPattern,
             cleaning.out.len(),
         )),
-        Some((begin, end)) if cut.is_whole => Ok(sheet.row(begin, end, Pattern::Done, end)?),
+        Some((begin, end)) if cut.is_whole => {
+            sheet.row(begin, end, steps, end)?;
+            Ok(())
+        }
         _ => Err(Stop::Fault(FaultReason::NoPattern, cleaning.out.len())),
     }
 }
@@ -87,6 +110,16 @@ fn wrapped(alloc: Global, text: &[u8]) -> Result<Vec<u8>, AllocError> {
     } else {
         push_all(&mut out, b";}")?;
     }
+    Ok(out)
+}
+
+// A definition, which begins where a statement would.
+fn indented(alloc: Global, text: &[u8]) -> Result<Vec<u8>, AllocError> {
+    let mut out = Vec::new(alloc);
+    for _ in 0..BEFORE {
+        out.push(b' ')?;
+    }
+    push_all(&mut out, text)?;
     Ok(out)
 }
 
@@ -141,4 +174,16 @@ fn is_function(rows: &[Branch], count: usize) -> bool {
     matches!(definition.kind, Kind::Construct(Construct::Definition))
         && (matches!(block.kind, Kind::Construct(Construct::Block))
             && (definition.begin == 0 && block.begin == 1))
+}
+
+// The branches of the only definition of a text.
+fn definition_span(rows: &[Branch]) -> Option<(usize, usize)> {
+    let count = rows.len();
+    let definition = branch_at(rows, count.saturating_sub(1));
+    let is_one = matches!(definition.kind, Kind::Construct(Construct::Definition));
+    if is_one && definition.begin == 0 {
+        Some((0, count))
+    } else {
+        None
+    }
 }

@@ -1,11 +1,11 @@
 //! Reading a text of rules.
 use crate::cleaning::hole_number;
-use crate::conditions::{Conditions, Named, both, looks_around};
+use crate::conditions::{Conditions, Named, looks_around, looks_far};
 use crate::faults::{FaultReason, RuleFault, Stop};
 use crate::holes::Holes;
 use crate::patterns::read_patterns;
 use crate::text::{after_blanks, after_word, first_word, is_blank};
-use bmatch::{Condition, NO_HOLE, Pattern, Rule};
+use bmatch::{Claim, NO_HOLE, Rule, RuleTable, Step};
 use std::alloc::{AllocError, Global};
 
 /// The most bytes of a line.
@@ -30,11 +30,24 @@ impl RuleName {
     }
 }
 
-/// Rules, and their names. The number of a rule is its place.
+/// Rules with their steps and claims, and their names. The number of a rule is its place.
 #[derive(Drop)]
 pub struct Rules {
+    pub steps: Vec<Step>,
+    pub claims: Vec<Claim>,
     pub rules: Vec<Rule>,
     pub names: Vec<RuleName>,
+}
+
+impl Rules {
+    /// The rules as the engine takes them.
+    pub fn table(&self) -> RuleTable<'_> {
+        RuleTable {
+            steps: self.steps.as_slice(),
+            claims: self.claims.as_slice(),
+            rules: self.rules.as_slice(),
+        }
+    }
 }
 
 /// The rules of a text, or what is wrong in it first.
@@ -44,11 +57,17 @@ pub struct Rules {
 /// If memory was refused.
 pub fn read_rules(alloc: Global, text: &[u8]) -> Result<Result<Rules, RuleFault>, AllocError> {
     let mut reading = Reading {
-        alloc,
+        conditions: Conditions {
+            alloc,
+            holes: Holes::new(alloc),
+            is_loose: true,
+            named: Vec::new(alloc),
+            steps: Vec::new(alloc),
+            claims: Vec::new(alloc),
+        },
         rules: Vec::new(alloc),
         names: Vec::new(alloc),
         draft: None,
-        named: Vec::new(alloc),
     };
     let mut number: u64 = 0;
     for line in text.split(|byte| *byte == b'\n') {
@@ -58,10 +77,7 @@ pub fn read_rules(alloc: Global, text: &[u8]) -> Result<Result<Rules, RuleFault>
         }
     }
     match reading.end() {
-        Ok(()) => {
-            let Reading { rules, names, .. } = reading;
-            Ok(Ok(Rules { rules, names }))
-        }
+        Ok(()) => Ok(Ok(reading.done())),
         Err(stop) => stopped(stop, number, 0),
     }
 }
@@ -86,12 +102,13 @@ fn stopped(stop: Stop, line: u64, len: usize) -> Result<Result<Rules, RuleFault>
 /// A rule that is being read.
 #[derive(Drop)]
 struct Draft {
-    patterns: Vec<Pattern>,
-    condition: Condition,
+    // The steps of its patterns, and where the last one begins.
+    pattern: Vec<Step>,
+    last: Option<usize>,
+    // Its first claim.
+    condition: u16,
     named: u8,
     beside: u8,
-    is_loose: bool,
-    holes: Holes,
     // Whether a pattern or a condition was read.
     is_begun: bool,
     line: u64,
@@ -100,15 +117,31 @@ struct Draft {
 /// What was read of a text.
 #[derive(Drop)]
 struct Reading<'t> {
-    alloc: Global,
+    // The steps and the claims of all rules, and the conditions that have names. Without a draft the last one of these
+    // is being read.
+    conditions: Conditions<'t>,
     rules: Vec<Rule>,
     names: Vec<RuleName>,
     draft: Option<Draft>,
-    /// The conditions that have names. Without a draft the last one is being read.
-    named: Vec<Named<'t>>,
 }
 
 impl<'t> Reading<'t> {
+    fn done(self) -> Rules {
+        let Reading {
+            conditions,
+            rules,
+            names,
+            ..
+        } = self;
+        let Conditions { steps, claims, .. } = conditions;
+        Rules {
+            steps,
+            claims,
+            rules,
+            names,
+        }
+    }
+
     fn line(&mut self, line: &'t [u8], number: u64) -> Result<(), Stop> {
         if line.len() > MOST_LINE {
             return Err(Stop::Fault(FaultReason::LongLine, line.len()));
@@ -136,13 +169,15 @@ impl<'t> Reading<'t> {
             Some(name) => self.names.push(name)?,
             None => return Err(Stop::Fault(FaultReason::RuleName, name.len())),
         }
+        let alloc = self.conditions.alloc;
+        self.conditions.holes = Holes::new(alloc);
+        self.conditions.is_loose = true;
         self.draft = Some(Draft {
-            patterns: Vec::new(self.alloc),
-            condition: Condition::Always,
+            pattern: Vec::new(alloc),
+            last: None,
+            condition: number_of(self.conditions.claims.len(), text.len())?,
             named: NO_HOLE,
             beside: NO_HOLE,
-            is_loose: true,
-            holes: Holes::new(self.alloc),
             is_begun: false,
             line: number,
         });
@@ -155,21 +190,21 @@ impl<'t> Reading<'t> {
         if !are_letters(first_word(text)) {
             return Err(Stop::Fault(FaultReason::RuleName, text.len()));
         }
-        self.named.push(Named {
+        let lines = Vec::new(self.conditions.alloc);
+        self.conditions.named.push(Named {
             name: first_word(text),
             given: after_word(text),
-            lines: Vec::new(self.alloc),
+            lines,
         })?;
         Ok(())
     }
 
     // A line of a rule, or of a condition with a name, after the first one.
     fn inner(&mut self, text: &'t [u8]) -> Result<(), Stop> {
-        let alloc = self.alloc;
         if let Some(draft) = &mut self.draft {
-            return draft.line(alloc, text, self.named.as_slice());
+            return draft.line(text, &mut self.conditions);
         }
-        match self.named.last_mut() {
+        match self.conditions.named.last_mut() {
             Some(named) => {
                 named.lines.push(text)?;
                 Ok(())
@@ -183,59 +218,56 @@ impl<'t> Reading<'t> {
         let Some(draft) = self.draft.take() else {
             return Ok(());
         };
-        let Draft {
-            patterns,
-            condition,
-            named,
-            beside,
-            is_loose,
-            line,
-            ..
-        } = draft;
-        if patterns.is_empty() {
-            return Err(Stop::Empty(line));
+        if draft.last.is_none() {
+            return Err(Stop::Empty(draft.line));
         }
-        let is_around = looks_around(&condition, false);
-        let looks_far = looks_around(&condition, true);
+        let conditions = &mut self.conditions;
+        conditions.claims.push(Claim::End)?;
+        number_of(conditions.claims.len(), 0)?;
+        let pattern = number_of(conditions.steps.len(), 0)?;
+        conditions
+            .steps
+            .extend_from_slice(draft.pattern.as_slice())?;
+        let claims = claims_from(conditions.claims.as_slice(), draft.condition);
+        let is_around = claims.iter().any(looks_around);
+        let is_far = claims.iter().any(looks_far);
         self.rules.push(Rule {
             number: self.rules.len(),
-            patterns,
-            condition,
-            named,
-            beside,
-            is_loose,
+            pattern,
+            condition: draft.condition,
+            named: draft.named,
+            beside: draft.beside,
+            is_loose: self.conditions.is_loose,
             looks_around: is_around,
-            looks_far,
+            looks_far: is_far,
         })?;
         Ok(())
     }
 }
 
+fn claims_from(claims: &[Claim], at: u16) -> &[Claim] {
+    claims.get(at as usize..).unwrap_or(&[])
+}
+
 impl Draft {
-    fn line(&mut self, alloc: Global, text: &[u8], named: &[Named<'_>]) -> Result<(), Stop> {
+    fn line(&mut self, text: &[u8], conditions: &mut Conditions<'_>) -> Result<(), Stop> {
         let rest = after_word(text);
         match first_word(text) {
-            b"find" => {
+            b"find" => self.find(rest, conditions),
+            b"where" => {
                 self.is_begun = true;
-                read_patterns(
-                    alloc,
-                    rest,
-                    self.is_loose,
-                    &mut self.holes,
-                    &mut self.patterns,
-                )
+                conditions.read(rest, MOST_JOINED)
             }
-            b"where" => self.more(alloc, rest, named),
             b"names" => {
-                self.named = self.hole(rest)?;
+                self.named = hole_in(rest, &mut conditions.holes)?;
                 Ok(())
             }
             b"beside" => {
-                self.beside = self.hole(rest)?;
+                self.beside = hole_in(rest, &mut conditions.holes)?;
                 Ok(())
             }
             b"exact" if rest.is_empty() && !self.is_begun => {
-                self.is_loose = false;
+                conditions.is_loose = false;
                 Ok(())
             }
             b"exact" => Err(Stop::Fault(FaultReason::LateExact, text.len())),
@@ -244,34 +276,41 @@ impl Draft {
         }
     }
 
-    // The hole that a text is.
-    fn hole(&mut self, text: &[u8]) -> Result<u8, Stop> {
-        match text {
-            [b'$', name @ ..] => {
-                let (number, len) = hole_number(name, &mut self.holes)?;
-                if len == name.len() {
-                    Ok(number)
-                } else {
-                    Err(Stop::Fault(FaultReason::UnknownHole, text.len()))
-                }
-            }
-            _ => Err(Stop::Fault(FaultReason::UnknownHole, text.len())),
-        }
-    }
-
-    // One more condition.
-    fn more(&mut self, alloc: Global, text: &[u8], named: &[Named<'_>]) -> Result<(), Stop> {
+    // One more pattern.
+    fn find(&mut self, text: &[u8], conditions: &mut Conditions<'_>) -> Result<(), Stop> {
         self.is_begun = true;
-        let mut conditions = Conditions {
-            alloc,
-            holes: &mut self.holes,
-            is_loose: self.is_loose,
-            named,
-        };
-        let next = conditions.read(text, MOST_JOINED)?;
-        let before = std::mem::replace(&mut self.condition, Condition::Always);
-        self.condition = both(alloc, before, next)?;
+        self.last = read_patterns(
+            conditions.alloc,
+            text,
+            conditions.is_loose,
+            &mut conditions.holes,
+            &mut self.pattern,
+            self.last,
+        )?;
         Ok(())
+    }
+}
+
+// The hole that a text is.
+fn hole_in(text: &[u8], holes: &mut Holes) -> Result<u8, Stop> {
+    match text {
+        [b'$', name @ ..] => {
+            let (number, len) = hole_number(name, holes)?;
+            if len == name.len() {
+                Ok(number)
+            } else {
+                Err(Stop::Fault(FaultReason::UnknownHole, text.len()))
+            }
+        }
+        _ => Err(Stop::Fault(FaultReason::UnknownHole, text.len())),
+    }
+}
+
+// The number of a step or of a claim, where so many bytes of the line are left.
+fn number_of(count: usize, left: usize) -> Result<u16, Stop> {
+    match u16::try_from(count) {
+        Ok(number) => Ok(number),
+        Err(_) => Err(Stop::Fault(FaultReason::ManySteps, left)),
     }
 }
 

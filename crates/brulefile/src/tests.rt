@@ -1,15 +1,14 @@
 //! Texts of rules.
-use crate::trial_rules::TRIAL_RULES;
+use crate::check_rules::CHECK_RULES;
 use crate::{FaultReason, read_rules};
 use std::alloc::{AllocError, Global};
 
 #[test]
 fn reads_the_rules(rt: HostRuntime) -> Result<(), AllocError> {
-    match read_rules(rt.alloc(), TRIAL_RULES.as_bytes())? {
+    match read_rules(rt.alloc(), CHECK_RULES.as_bytes())? {
         Ok(read) => {
-            assert!(rt; read.rules.len() == 38);
-            assert!(rt; read.names.len() == 38);
-            assert!(rt; read.names[37].as_bytes() == b"NoEffect".as_slice());
+            assert!(rt; read.rules.len() == read.names.len());
+            assert!(rt; read.names[0].as_bytes() == b"AndAnd".as_slice());
         }
         Err(_) => assert!(rt; false),
     }

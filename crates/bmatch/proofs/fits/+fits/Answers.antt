@@ -1,31 +1,42 @@
-use Rattle.std.proofs.Common.{◌≡◌, ◌++◌, IfOk, subst}
-use Rattle.std.specs.List.{flat_map}
-use Rattle.bmatch.specs.Fits.{ends_of, fits_in, left_of}
+use Rattle.std.proofs.Common.{◌≡◌, ◌∙◌, ◌++◌, IfOk, List, ap, append_assoc, subst}
+use Rattle.bmatch.specs.Fits.{fits_in, rows_left}
+use Rattle.bmatch.specs.declared.binds.Binds.{Binds}
+use Rattle.bmatch.specs.declared.pattern.Step.{Step}
+use Rattle.bmatch.proofs.Steps.{fits_after_jump, fits_by_either, others}
 use Rattle.bmatch.specs.declared.fits.TheConstants.{MOST_PASSED}
-use Rattle.bmatch.specs.declared.pattern.Pattern.{Pattern}
 use Rattle.bmatch.proofs.Passing.{last_one, none_more, one_more}
 use Rattle.bmatch.proofs.fits.+fits.Goals as goal
 
-pub fits-returns-in-Dots : goal.fits-returns-in-Dots
-fits-returns-in-Dots t c =
-    rw c.in-Dots.is
-    (subst
-    (λ (q : Pattern).
-    IfOk c.passes.result
-    (λ done. c.passes.new.found.items ≡ c.args.found.now.items ++ flat_map (λ e. fits_in c.args.sight.now q c.args.span.begin e (left_of c.args.sight.now c.args.left.now) c.args.binds)
-    (ends_of c.args.sight.now.tree.rows.now MOST_PASSED c.args.span.begin c.args.span.end))) c.deref-in-Dots.ensures c.passes.ensures)
-
 pub passes-returns-then-end-span : goal.passes-returns-then-end-span
 passes-returns-then-end-span t c =
-    last_one (λ e. fits_in c.args.sight.now c.args.rest.now c.args.span.begin e (left_of c.args.sight.now c.args.left.now) c.args.binds) c.args.sight.now.tree.rows.now MOST_PASSED c.loop.counter c.args.span.begin
+    last_one (λ e. fits_in c.args.sight.now 0 c.args.more.now c.args.span.begin e (rows_left c.args.left.now) c.args.binds) c.args.sight.now.tree.rows.now MOST_PASSED c.loop.counter c.args.span.begin
     c.loop.end c.loop.found.items _ _ c.loop-test.true c.if-end-span.true c.in_ok-fits.ensures c.loop.invariant
 
 pub passes-loop-preserved : goal.passes-loop-preserved
 passes-loop-preserved t c =
-    one_more (λ e. fits_in c.args.sight.now c.args.rest.now c.args.span.begin e (left_of c.args.sight.now c.args.left.now) c.args.binds) c.args.sight.now.tree.rows.now MOST_PASSED c.loop.counter c.args.span.begin
+    one_more (λ e. fits_in c.args.sight.now 0 c.args.more.now c.args.span.begin e (rows_left c.args.left.now) c.args.binds) c.args.sight.now.tree.rows.now MOST_PASSED c.loop.counter c.args.span.begin
     c.loop.end c.start_of-end.result c.loop.found.items _ _ c.loop-test.true c.if-end-span.false c.start_of-end.ensures c.in_ok-fits.ensures c.loop.invariant
 
 pub passes-returns : goal.passes-returns
 passes-returns t c =
-    none_more (λ e. fits_in c.args.sight.now c.args.rest.now c.args.span.begin e (left_of c.args.sight.now c.args.left.now) c.args.binds) c.args.sight.now.tree.rows.now MOST_PASSED c.loop.counter c.args.span.begin
+    none_more (λ e. fits_in c.args.sight.now 0 c.args.more.now c.args.span.begin e (rows_left c.args.left.now) c.args.binds) c.args.sight.now.tree.rows.now MOST_PASSED c.loop.counter c.args.span.begin
     c.loop.end c.loop.found.items _ c.loop-test.false c.loop.invariant
+
+pub fits-returns-in-Jump : goal.fits-returns-in-Jump
+fits-returns-in-Jump t c =
+    let s = c.args.sight.now in
+    let fit = λ (is : List Step). fits_in s 0 is c.args.span.begin c.args.span.end (rows_left c.args.left.now) c.args.binds in
+    subst (λ (bs : List Binds). IfOk c.fits-in-Jump.result (λ done. c.fits-in-Jump.new.found.items ≡ c.args.found.now.items ++ bs))
+    (ap fit c.steps_from-in-Jump.ensures ∙ fits_after_jump s c.args.steps.now _ c.in-Jump.count c.args.span.begin c.args.span.end (rows_left c.args.left.now) c.args.binds
+    c.in-len1-up.len_at_least c.in-Jump.is) c.fits-in-Jump.ensures
+
+pub fits-returns-in_ok-fits-in-Either : goal.fits-returns-in_ok-fits-in-Either
+fits-returns-in_ok-fits-in-Either t c =
+    let s = c.args.sight.now in
+    let found = c.args.found.now.items in
+    let fit = λ (is : List Step). fits_in s 0 is c.args.span.begin c.args.span.end (rows_left c.args.left.now) c.args.binds in
+    let one = fit (others c.args.steps.now) in
+    subst (λ (bs : List Binds). IfOk c.fits-in-Either-2.result (λ done. c.fits-in-Either-2.new.found.items ≡ bs))
+    (ap (λ bs. bs ++ fit c.steps_from.result.now) c.in_ok-fits-in-Either.ensures ∙ (append_assoc found one (fit c.steps_from.result.now)
+    ∙ ap (λ bs. found ++ bs) (ap (λ is. one ++ fit is) c.steps_from.ensures ∙ fits_by_either s c.args.steps.now _ c.in-Either.count c.args.span.begin c.args.span.end
+    (rows_left c.args.left.now) c.args.binds c.in-len1-up.len_at_least c.in-Either.is))) c.fits-in-Either-2.ensures

@@ -1,5 +1,5 @@
-use Rattle.bmatch.specs.Sizes.{pattern_size}
+use Rattle.std.proofs.Common.{length}
 use Rattle.bmatch.proofs.fits.+may_begin.Given as goal
 
 abbrev pub decreases-may_begin : goal.decreases-may_begin
-decreases-may_begin l = pattern_size l.pattern.now
+decreases-may_begin l = length l.steps.now

@@ -21,3 +21,6 @@ decreases-of_name l = 4 * l.fuel + 2
 
 abbrev pub decreases-lines : goal.decreases-lines
 decreases-lines l = 4 * l.fuel + 1
+
+abbrev pub decreases-one_of : goal.decreases-one_of
+decreases-one_of l = 4 * l.fuel + 1

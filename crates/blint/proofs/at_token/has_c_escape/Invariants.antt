@@ -1,6 +1,0 @@
-use Rattle.std.proofs.Common.{◌≡◌, drop}
-use Rattle.blint.specs.AtToken.{has_c_escape}
-use Rattle.blint.proofs.at_token.has_c_escape.Given as goal
-
-abbrev pub invariant-loop-byte : goal.invariant-loop-byte
-invariant-loop-byte l = has_c_escape l.before (drop l.byte-index l.bytes) ≡ has_c_escape 0 l.bytes

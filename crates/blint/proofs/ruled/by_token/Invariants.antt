@@ -1,9 +1,0 @@
-use Rattle.std.proofs.Common.{◌≡◌, ◌≤◌, drop, length}
-use Rattle.blint.specs.ProgramRules.{rules_from}
-use Rattle.blint.proofs.ruled.by_token.Given as goal
-
-abbrev pub invariant-loop-left : goal.invariant-loop-left
-invariant-loop-left l = (l.rules.items ≡ rules_from (drop l.left l.notices) 0 l.count) × (l.left ≤ length l.notices)
-
-abbrev pub decreases-loop-left : goal.decreases-loop-left
-decreases-loop-left l = l.left

@@ -1,7 +1,0 @@
-use Rattle.std.proofs.Common.{◌≡◌, ◌++◌, drop}
-use Rattle.std.specs.List.{flat_map}
-use Rattle.bmatch.specs.Notices.{function_notices}
-use Rattle.bmatch.proofs.noticing.pattern_notices.Given as goal
-
-abbrev pub invariant-loop-function : goal.invariant-loop-function
-invariant-loop-function l = l.found.items ++ flat_map (function_notices l.tree l.rule l.pattern) (drop l.function-index l.functions) ≡ l.initial.found.items ++ flat_map (function_notices l.tree l.rule l.pattern) l.functions
