@@ -3,12 +3,12 @@ _b() {
     local words=''
     COMPREPLY=()
     if [ "$COMP_CWORD" -eq 1 ]; then
-        words='compile run go try migrate verify list map check names trace count show format port help --help --version'
+        words='compile run go try migrate verify list map check find names trace count show format port help --help --version'
         mapfile -t COMPREPLY < <(compgen -W "$words" -- "${COMP_WORDS[COMP_CWORD]}")
         return
     fi
     if [ "${COMP_WORDS[1]}" = help ]; then
-        words='compile run go try migrate verify list map check names trace count show format port'
+        words='compile run go try migrate verify list map check find names trace count show format port'
         [ "$COMP_CWORD" -gt 2 ] || mapfile -t COMPREPLY < <(compgen -W "$words" -- "${COMP_WORDS[COMP_CWORD]}")
         return
     fi
@@ -40,7 +40,8 @@ _b() {
     verify) words='--help' ;;
     list) words='--edition --with --code --made --lines --names --help' ;;
     map) words='--edition --with --code --made --lines --names --svg --steps --help' ;;
-    check) words='--write --diff --edition --with --json --fix --help' ;;
+    check) words='--write --diff --edition --with --json --fix --rules --help' ;;
+    find) words='--edition --json --help' ;;
     names) words='--edition --with --json --help' ;;
     trace) words='--edition --with --code --made --lines --names --steps --from --last --function --help' ;;
     count) words='--edition --with --code --made --lines --names --steps --no-limit --json --help' ;;

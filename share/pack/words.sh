@@ -185,7 +185,7 @@ compile | go | try | list | map | check | names | trace | count | show | format 
         file*) b_with='' ;;
         "$b_command$b_fix:--") b_over=over ;;
         "$b_command$b_fix:--with") b_with=with ;;
-        "$b_command:--made" | "$b_command:--lines") b_with='file' ;;
+        "$b_command:--made" | "$b_command:--lines" | "$b_command:--rules") b_with='file' ;;
         "$b_command$b_fix:--with="*) b_lib "${b_word#--with=}" "\${$b_at#--with=}" --with= ;;
         format:--write | checkyes:--write | checkyes:--diff | port:--write | port:--diff) b_put='' ;;
         list:- | map:- | check:- | checkyes:- | names:- | format:- | port:-) b_put=/dev/stdin ;;

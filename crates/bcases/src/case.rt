@@ -83,7 +83,7 @@ fn words_of(alloc: Global, lines: &str, edition: &str) -> Result<Vec<String>, Al
 fn input_of<'a>(folder: &Folder, name: &str, words: &str) -> Result<Option<&'a str>> {
     let reads = words.starts_with("compile\n") || words.starts_with("migrate\n");
     let mut input = None;
-    for ending in ["b", "bas", "code", "lines", "names", "in"] {
+    for ending in ["b", "bas", "code", "lines", "names", "rules", "in"] {
         let is_word = ending != "in" && words.lines().any(|word| is_named(word, name, ending));
         if is_word != folder.has(name, ending) {
             ensure!(

@@ -4,8 +4,8 @@ use std::fs;
 use std::rt::Files;
 
 // What the files of a case end in, beside its words in NAME.args.
-const ENDINGS: [&str; 10] = [
-    "b", "bas", "code", "lines", "names", "in", "out", "line", "status", "shown",
+const ENDINGS: [&str; 11] = [
+    "b", "bas", "code", "lines", "names", "rules", "in", "out", "line", "status", "shown",
 ];
 
 /// A folder with the names of its files.

@@ -54,6 +54,8 @@ mod words;
 pub use change::{Change, next_change};
 pub use checking::{check, wrong_checks_are_excluded};
 pub use form::{FindingForm, Request};
+pub use pieces::{Fragment, push_all};
+pub use places::{Milestone, milestones, parts, position};
 pub use spares::wrong_changes_are_excluded;
 pub use tally::{Tally, tally_on};
 pub use verdict::Verdict;

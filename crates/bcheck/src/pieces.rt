@@ -11,7 +11,7 @@ use std::alloc::AllocError;
 
 /// A piece of a text.
 #[derive(Clone, Copy)]
-pub(crate) enum Fragment<'a> {
+pub enum Fragment<'a> {
     /// These bytes.
     Words(&'a [u8]),
     /// The digits of a number.
@@ -29,7 +29,7 @@ pub(crate) enum Fragment<'a> {
 }
 
 /// Adds pieces, one after another.
-pub(crate) fn push_all(text: &mut Text, pieces: &[Fragment<'_>]) -> Result<(), AllocError>
+pub fn push_all(text: &mut Text, pieces: &[Fragment<'_>]) -> Result<(), AllocError>
     ensures { OnOk result (text.new ≡ text.old ++ flat_map piece_text pieces.now) }
 {
     for piece in pieces {

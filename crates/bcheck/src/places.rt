@@ -17,7 +17,7 @@ use bword::{Edition, MemIn};
 use std::alloc::{AllocError, Global};
 
 /// The bytes before a place of the source, and those from it on.
-pub(crate) fn parts(source: &[u8], start: usize) -> (&[u8], &[u8])
+pub fn parts(source: &[u8], start: usize) -> (&[u8], &[u8])
     ensures before { result.0.now ≡ take start source.now }
     ensures rest { result.1.now ≡ drop start source.now }
 {
@@ -33,7 +33,7 @@ const MILESTONE_BYTES: usize = 4096;
 
 /// The line and the columns of a place of the source, from 1.
 #[derive(Clone, Copy)]
-pub(crate) struct Milestone {
+pub struct Milestone {
     pub start: usize,
     pub line: u64,
     pub column: usize,
@@ -41,7 +41,7 @@ pub(crate) struct Milestone {
 }
 
 /// The lines and columns of some places of a source, so that those of others are found without going through it again.
-pub(crate) fn milestones(alloc: Global, source: &[u8]) -> Result<Vec<Milestone>, AllocError>
+pub fn milestones(alloc: Global, source: &[u8]) -> Result<Vec<Milestone>, AllocError>
     ensures { IfOk result (λ all. All (IsMilestone source.now) (vec_items all)) }
 {
     let mut all = Vec::new(alloc);
@@ -76,11 +76,7 @@ fn push_milestone(all: &mut Vec<Milestone>, here: Milestone) -> Result<(), Alloc
 }
 
 /// The line and the columns of a place of the source, from 1.
-pub(crate) fn position(
-    source: &[u8],
-    milestones: &[Milestone],
-    start: usize,
-) -> (u64, usize, UnitPlace)
+pub fn position(source: &[u8], milestones: &[Milestone], start: usize) -> (u64, usize, UnitPlace)
     requires { All (IsMilestone source.now) milestones.now }
     ensures line { result.0 ≡ line_number_after 1 (take start source.now) }
     ensures column { result.1 ≡ column_after 1 (take start source.now) }

@@ -4,3 +4,4 @@ mod Joined
 mod FaultLies
 mod Processes
 mod TriedSources
+mod Passing

@@ -1,4 +1,5 @@
 pub mod ShellExcluded
+pub mod Passes
 pub mod Reading
 pub mod Serves
 pub mod ServeRows

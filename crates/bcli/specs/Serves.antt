@@ -1,10 +1,10 @@
 -- Promise: the answer to a command line by the whole program, and what each tool does for it.
-use Rattle.std.specs.Prelude.{◌≡◌, ℕ, Bool, List, [], if◌then◌else◌, ◌⊎◌, Option, Some, None}
+use Rattle.std.specs.Prelude.{◌≡◌, ℕ, Bool, List, [], codes, if◌then◌else◌, ◌⊎◌, Option, Some, None}
 use Rattle.clap.specs.Words.{Text}
 use Rattle.bword.specs.ByteEnds.{Unread, incoming_of}
 use Rattle.bword.specs.declared.edition.Edition.{Edition}
 use Rattle.brun.specs.OneRun.{unread}
-use Rattle.blang.specs.Reports.{RunEnds}
+use Rattle.blang.specs.Reports.{HasNotRun, RunEnds}
 use Rattle.bsources.specs.Files.{Files, file_of, followed}
 use Rattle.bcheck.specs.Checks.{Checks}
 use Rattle.bcheck.specs.declared.form.FindingForm.{FindingForm}
@@ -26,12 +26,15 @@ use Rattle.bcount.specs.Counts.{Counts}
 use Rattle.bcount.specs.declared.table.CountStyle.{CountStyle}
 use Rattle.bcount.specs.declared.table.CountStyle.TheVariants as styles
 use Rattle.bshow.specs.Shows.{Shows, Asked as PageAsked}
+use Rattle.bfind.specs.Finds.{ChecksBy, Finds, IsRefused}
+use Rattle.bfind.specs.declared.own.OwnRules.{OwnRules}
 use Rattle.bfix.specs.Fixes.{Fixes}
 use Rattle.bfix.specs.Ports.{Ports}
 use Rattle.bshow.specs.CarefulPages.{ShowsCarefully}
 use Rattle.bformat.specs.Formats.{Formats}
 use Rattle.bwhere.specs.Wheres.{LocatesCode}
-use Rattle.bcommand.specs.CommandLine.{Asked, OriginAsked, Question, SourceAsked}
+use Rattle.bcommand.specs.CommandLine.{Asked, OriginAsked, Question, SearchAsked, SourceAsked}
+use Rattle.bcommand.specs.CommandLine.{check_by, find}
 use Rattle.bcommand.specs.CommandLine.{from_source, from_code, from_made, try_out}
 use Rattle.bcommand.specs.CommandLine.{locate_code, ask, list, map, draw}
 use Rattle.bcommand.specs.CommandLine.{check, fix, tell_names, trace, locate, go_careful, count, show, format, verify}
@@ -44,6 +47,7 @@ use Rattle.bcore.specs.Processes.{KnownStreams, ServesProcess as ServesProcessWi
 use Rattle.bcore.specs.Serves.{Does as DoesWith, NamesFile, NamesLibOf, Reads, Serves as ServesWith, whole}
 use Rattle.bcore.specs.Shelves.{Holdings}
 use Rattle.bcli.specs.Explains.{LocatesAndExplains}
+use Rattle.bcli.specs.Passes.{PassesAll}
 use Rattle.bcli.specs.Tries.{Tries}
 
 -- the streams of a command that tells of a source
@@ -204,6 +208,32 @@ abbrev pub Answers : Holdings → Edition → Files → (text : List ℕ) → Qu
 Answers shelf edition files text question ends status = OnOrigin shelf edition text (origin_of question)
     (λ origin. AnswersOf origin edition files text question) ends status
 
+-- A source that was read was checked by the rules in a file; or that could not be read, and was named.
+abbrev pub ChecksRead : Holdings → Edition → Files → (source : List ℕ) → (rules : Text) → (for_editor : Bool) → RunEnds
+    → ℕ → Type 0
+ChecksRead shelf edition files source rules for_editor ends status = NamesFile (shelf.lacks rules) rules ends status
+    ⊎ ((text : List ℕ) × shelf.holds rules text × (ends.input_after ≡ ends.input)
+    × ChecksBy edition (form_of for_editor) files source rules ends.out ends.out_after ends.line ends.line_after status)
+
+abbrev pub ChecksFile : Holdings → SourceAsked → (rules : Text) → (for_editor : Bool) → RunEnds → ℕ → Type 0
+ChecksFile shelf source rules for_editor ends status = NamesFile (shelf.lacks source.file) source.file ends status
+    ⊎ NamesLibOf shelf source ends status
+    ⊎ ((r : Reads shelf source)
+    × ChecksRead shelf source.edition (files_read r) (whole r) rules for_editor ends status)
+
+-- It was told where rules fit in a file, which is a source of its own; or it could not be read, and was named.
+abbrev pub FindsFile : Holdings → OwnRules → Edition → (for_editor : Bool) → (file : Text) → RunEnds → ℕ → Type 0
+FindsFile shelf own edition for_editor file ends status = NamesFile (shelf.lacks file) file ends status
+    ⊎ ((text : List ℕ) × shelf.holds file text × (ends.input_after ≡ ends.input)
+    × Finds edition (form_of for_editor) (record { first = file_of file text; rest = [] }) text own ends.out
+    ends.out_after ends.line ends.line_after status)
+
+-- A pattern was told to be none, and nothing else happened; or it was told where it fits in one file after another.
+abbrev pub FindsAll : Holdings → SearchAsked → RunEnds → ℕ → Type 0
+FindsAll shelf it ends status =
+    HasNotRun ends × IsRefused (codes "PATTERN") ends.line ends.line_after status
+    ⊎ ((own : OwnRules) × PassesAll (FindsFile shelf own it.edition it.for_editor) it.files ends status)
+
 -- what is asked of a tool is done, for texts that the shelf holds under the names of the files
 abbrev pub UsesTool : Holdings → Asked → RunEnds → ℕ → Type 0
 UsesTool shelf (locate_code file steps) ends status = NamesFile (shelf.lacks file) file ends status
@@ -214,6 +244,8 @@ UsesTool shelf (verify file) ends status = NamesFile (shelf.lacks file) file end
 UsesTool shelf (ask source question) ends status = NamesFile (shelf.lacks source.file) source.file ends status
     ⊎ NamesLibOf shelf source ends status
     ⊎ ((r : Reads shelf source) × Answers shelf source.edition (files_read r) (whole r) question ends status)
+UsesTool shelf (check_by source rules for_editor) ends status = ChecksFile shelf source rules for_editor ends status
+UsesTool shelf (find it) ends status = FindsAll shelf it ends status
 UsesTool shelf other ends status = ⊥
 
 -- what was asked for is done, by the core of the program with these tools

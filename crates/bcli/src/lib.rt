@@ -2,6 +2,7 @@
 #![tactic(auto)]
 
 mod explaining;
+mod finding;
 mod origins;
 mod serving;
 mod trying;

@@ -12,6 +12,7 @@ ghost use Rattle.bcli.specs.Serves.{Answers, AnswersOf, Serves, ServesProcess, S
 ghost use Rattle.bcli.specs.Serves.{form_of, origin_of, page_asked, style_of, traced_rows};
 
 use crate::explaining::locate_and_explain;
+use crate::finding::{check_file, find_all};
 use crate::origins::read_origin;
 use crate::trying::{Attempt, try_source};
 use bcareful::{CarefulRequest, go_careful};
@@ -66,6 +67,10 @@ impl Tools for AllTools {
             ToolJob::Ask(source, question) => {
                 ask_file(alloc, shelf, source, question, input, out, diag)
             }
+            ToolJob::CheckBy(source, rules, for_editor) => {
+                check_file(alloc, shelf, source, rules, for_editor, out, diag)
+            }
+            ToolJob::Find(search) => find_all(alloc, shelf, search, out, diag),
         }
     }
 }
@@ -283,7 +288,11 @@ fn answer<I: ByteIn, O: ByteOut, D: ByteOut>(
 }
 
 // What is asked of a check, of a trace, of a careful run and of counts.
-fn check_request<'a>(edition: Edition, files: SourceFiles<'a>, for_editor: bool) -> Request<'a>
+pub(crate) fn check_request<'a>(
+    edition: Edition,
+    files: SourceFiles<'a>,
+    for_editor: bool,
+) -> Request<'a>
     ensures { result ≡ record { edition = edition; files = files.entry; form = form_of for_editor } }
 {
     Request {

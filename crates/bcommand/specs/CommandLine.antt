@@ -32,6 +32,7 @@ use Rattle.bcommand.specs.declared.job.Clash.{Clash}
 use Rattle.bcommand.specs.declared.job.Clash.TheVariants as clash
 use Rattle.bcommand.specs.declared.job.Display.{Display}
 use Rattle.bcommand.specs.declared.job.Rows.{Rows}
+use Rattle.bcommand.specs.declared.job.Search.{Search}
 use Rattle.bcommand.specs.declared.job.Rows.TheVariants as which
 use Rattle.bcommand.specs.declared.commands.TheConstants.{MOST_STEPS}
 use Rattle.bcommand.specs.declared.parsing.TheConstants.{DEFAULT_SHOWN_STEPS, DEFAULT_STEPS, DEFAULT_TRACE_STEPS}
@@ -60,6 +61,10 @@ repeated_rule name = record (new_rule name) { long = Some name; action = Some Ap
 -- an argument without an option, and whether it has to be there
 abbrev pub argument_rule : Text → Bool → Rule
 argument_rule name is_required = record (new_rule name) { required = is_required; action = Some Set }
+
+-- one argument without an option, or more
+abbrev pub arguments_rule : Text → Rule
+arguments_rule name = record (argument_rule name true) { action = Some Append }
 
 abbrev pub edition_rule : Rule
 edition_rule = number_rule (codes "edition") 2
@@ -98,6 +103,9 @@ needed_json_rule = record json_rule { required = true }
 abbrev pub fix_rule : Rule
 fix_rule = flag_rule (codes "fix")
 
+abbrev pub rules_rule : Rule
+rules_rule = text_rule (codes "rules")
+
 abbrev pub svg_rule : Rule
 svg_rule = flag_rule (codes "svg")
 
@@ -121,6 +129,12 @@ names_rule = text_rule (codes "names")
 
 abbrev pub file_rule : Rule
 file_rule = argument_rule (codes "FILE") true
+
+abbrev pub pattern_rule : Rule
+pattern_rule = argument_rule (codes "PATTERN") true
+
+abbrev pub files_rule : Rule
+files_rule = arguments_rule (codes "FILE")
 
 abbrev pub name_rule : Rule
 name_rule = argument_rule (codes "NAME") false
@@ -167,7 +181,11 @@ abbrev pub map_command : App
 map_command = with_rule (with_rule (telling_code (new_app (codes "map"))) svg_rule) steps_rule
 
 abbrev pub check_command : App
-check_command = with_rule (with_rule (telling (new_app (codes "check"))) json_rule) fix_rule
+check_command = with_rule (with_rule (with_rule (telling (new_app (codes "check"))) json_rule) fix_rule) rules_rule
+
+abbrev pub find_command : App
+find_command =
+    with_rule (with_rule (with_rule (with_rule (new_app (codes "find")) edition_rule) json_rule) pattern_rule) files_rule
 
 abbrev pub names_command : App
 names_command = with_rule (telling (new_app (codes "names"))) needed_json_rule
@@ -201,9 +219,10 @@ abbrev pub command_line : App
 command_line =
     with_subcommand (with_subcommand (with_subcommand (with_subcommand (with_subcommand (with_subcommand (with_subcommand
     (with_subcommand (with_subcommand (with_subcommand (with_subcommand (with_subcommand (with_subcommand
-    (with_subcommand (with_subcommand bare_line compile_command.top) run_command.top) go_command.top) try_command.top)
-    migrate_command.top) verify_command.top) list_command.top) map_command.top) check_command.top) names_command.top)
-    trace_command.top) count_command.top) show_command.top) format_command.top) port_command.top
+    (with_subcommand (with_subcommand (with_subcommand bare_line compile_command.top) run_command.top) go_command.top)
+    try_command.top) migrate_command.top) verify_command.top) list_command.top) map_command.top) check_command.top)
+    find_command.top) names_command.top) trace_command.top) count_command.top) show_command.top) format_command.top)
+    port_command.top
 
 -- the digits of a number that a u64 holds
 abbrev pub is_number : Text → Bool
@@ -264,6 +283,17 @@ file_in rows = unwrap_or (first_of (codes "FILE") rows) []
 -- the files that come after the first one
 abbrev pub libs_in : List Row → List Text
 libs_in rows = unwrap_or (all_of (codes "with") rows) []
+
+-- those that are sources of their own
+abbrev pub files_in : List Row → List Text
+files_in rows = unwrap_or (all_of (codes "FILE") rows) []
+
+abbrev pub pattern_in : List Row → Text
+pattern_in rows = unwrap_or (first_of (codes "PATTERN") rows) []
+
+-- the file of rules
+abbrev pub rules_in : List Row → Option Text
+rules_in rows = first_of (codes "rules") rows
 
 abbrev pub name_in : List Row → Option Text
 name_in rows = first_of (codes "NAME") rows
@@ -331,9 +361,17 @@ pub data Question : Type 0 where
   format : (is_check : Bool) → Question
   port : Question
 
+-- a pattern, the files of the sources in which it is looked for, their edition, and whether an editor reads what is found
+pub record SearchAsked : Type 0 where
+  pub pattern : Text
+  pub files : List Text
+  pub edition : Edition
+  pub for_editor : Bool
+
 -- What is asked for: that a source is compiled, with the files that come after it; that the code text in a file is run
 -- for so many steps; the same, and where it went wrong; that a source is compiled and run for so many; that a code text
--- is migrated; what may go wrong in a code text; something of a source; or two options that contradict each other.
+-- is migrated; what may go wrong in a code text; something of a source; its faults, and where the rules in a file fit;
+-- where a pattern fits in each of some sources; or two options that contradict each other.
 pub data Asked : Type 0 where
   compile : (edition : Edition) (libs : List Text) → Asked
   run : (file : Text) (steps : ℕ) → Asked
@@ -342,6 +380,8 @@ pub data Asked : Type 0 where
   migrate : Asked
   verify : (file : Text) → Asked
   ask : SourceAsked → Question → Asked
+  check_by : SourceAsked → (rules : Text) (for_editor : Bool) → Asked
+  find : SearchAsked → Asked
   contradiction : Clash → Asked
 
 -- where a run was over is asked for by a flag
@@ -384,10 +424,13 @@ abbrev pub go_asked : SourceAsked → Result OriginAsked Clash → (is_located :
 go_asked source (Ok origin) is_located it steps = go_of_origin source origin is_located (care_known origin it) steps
 go_asked source (Err clash) is_located it steps = contradiction clash
 
-abbrev pub check_asked : SourceAsked → (is_fixed : Bool) → (for_editor : Bool) → Asked
-check_asked source true true = contradiction clash.Fix
-check_asked source true false = ask source fix
-check_asked source false for_editor = ask source (check for_editor)
+-- by rules a source is checked, and not mended
+abbrev pub check_asked : SourceAsked → (is_fixed : Bool) → (for_editor : Bool) → (rules : Option Text) → Asked
+check_asked source true true rules = contradiction clash.Fix
+check_asked source true false (Some rules) = contradiction clash.Rules
+check_asked source true false None = ask source fix
+check_asked source false for_editor None = ask source (check for_editor)
+check_asked source false for_editor (Some rules) = check_by source rules for_editor
 
 abbrev pub try_asked : SourceAsked → Option ℕ → Asked
 try_asked source (Some steps) = ask source (try_out steps)
@@ -459,7 +502,16 @@ abbrev pub try_in : List Row → Asked
 try_in rows = try_asked (source_in rows) (steps_in rows)
 
 abbrev pub check_in : List Row → Asked
-check_in rows = check_asked (source_in rows) (is_set_in (codes "fix") rows) (is_set_in (codes "json") rows)
+check_in rows =
+    check_asked (source_in rows) (is_set_in (codes "fix") rows) (is_set_in (codes "json") rows) (rules_in rows)
+
+abbrev pub find_in : List Row → Asked
+find_in rows = find (record {
+  pattern = pattern_in rows;
+  files = files_in rows;
+  edition = edition_in rows;
+  for_editor = is_set_in (codes "json") rows;
+})
 
 abbrev pub map_in : List Row → Asked
 map_in rows = map_asked (source_in rows) (origin_in rows) (is_set_in (codes "svg") rows)
@@ -490,13 +542,14 @@ asked_by name rows = if bytes_eq name (codes "run") then run_in rows
     else (if bytes_eq name (codes "list") then list_in rows
     else (if bytes_eq name (codes "map") then map_in rows
     else (if bytes_eq name (codes "check") then check_in rows
+    else (if bytes_eq name (codes "find") then find_in rows
     else (if bytes_eq name (codes "names") then ask (source_in rows) tell_names
     else (if bytes_eq name (codes "trace") then trace_in rows
     else (if bytes_eq name (codes "count") then count_in rows
     else (if bytes_eq name (codes "show") then show_in rows
     else (if bytes_eq name (codes "format") then ask (source_in rows) (format (is_set_in (codes "check") rows))
     else (if bytes_eq name (codes "port") then ask (source_in rows) port
-    else compile (edition_in rows) (libs_in rows))))))))))))))
+    else compile (edition_in rows) (libs_in rows)))))))))))))))
 
 abbrev pub asked : Option (Text × List Row) → Asked
 asked None = compile editions.One []
@@ -556,6 +609,14 @@ question_of (questioned.Show it) = display_shown it
 question_of (questioned.Format is_check) = format is_check
 question_of questioned.Port = port
 
+abbrev pub search_shown : Search → SearchAsked
+search_shown it = record {
+  pattern = it.pattern.now;
+  files = map_each (λ file. file.now) it.files.now;
+  edition = it.edition;
+  for_editor = it.for_editor;
+}
+
 -- what a job is of what can be asked for
 abbrev pub asked_of : Job → Asked
 asked_of (job.Compile edition libs) = compile edition (map_each (λ lib. lib.now) libs.now)
@@ -565,6 +626,8 @@ asked_of (job.Go source steps) = go (source_shown source) steps
 asked_of job.Migrate = migrate
 asked_of (job.Verify file) = verify file.now
 asked_of (job.Ask source question) = ask (source_shown source) (question_of question)
+asked_of (job.CheckBy source rules for_editor) = check_by (source_shown source) rules.now for_editor
+asked_of (job.Find it) = find (search_shown it)
 asked_of (job.Contradiction it) = contradiction it
 
 -- the message for options that contradict each other
@@ -578,6 +641,7 @@ clash_line clash.Origins = clash_message (codes "'--code' cannot be used with '-
 clash_line clash.Libs = clash_message (codes "'--code' cannot be used with '--with <LIB>'")
 clash_line clash.Made = clash_message (codes "'--made <CODE>' cannot be used without '--lines <LINES>'")
 clash_line clash.Fix = clash_message (codes "'--fix' cannot be used with '--json'")
+clash_line clash.Rules = clash_message (codes "'--fix' cannot be used with '--rules <RULES>'")
 clash_line clash.Care = clash_message (codes "'--careful' is '--careful=stay', '--careful=warn' or '--careful=wraps'")
 clash_line clash.ShownCare = clash_message (codes "'--careful' of 'show' is '--careful=stay' or '--careful=wraps'")
 clash_line clash.Names = clash_message (codes "'--names <NAMES>' cannot be used without '--made <CODE>'")

@@ -1,12 +1,12 @@
 -- Closed facts: what command lines ask for, and their faults.
-use Rattle.std.specs.Prelude.{◌≡◌, true, false, List, [], ◌∷◌, Some, None, codes, refl}
+use Rattle.std.specs.Prelude.{◌≡◌, Bool, true, false, List, [], ◌∷◌, Some, None, codes, refl}
 use Rattle.clap.specs.Words.{Text, is_simple, is_simple_and_free}
 use Rattle.clap.specs.declared.error.kind.ErrorKind.TheVariants as kind
 use Rattle.clap.proofs.OnLiterals.{clap_on_literals}
 use Rattle.bword.specs.declared.edition.Edition.TheVariants as editions
 use Rattle.bword.specs.declared.edition.Edition.{Edition}
 use Rattle.bcommand.specs.CommandLine.{Asked, SourceAsked, asked_in, fault_in, command_line}
-use Rattle.bcommand.specs.CommandLine.{compile, run, locate_code, go, migrate, verify, ask, contradiction, list, map}
+use Rattle.bcommand.specs.CommandLine.{compile, run, locate_code, find, go, migrate, verify, ask, contradiction, list, map}
 use Rattle.bcommand.specs.CommandLine.{draw, check, tell_names, trace, locate, go_careful, count, show, format, port}
 use Rattle.bcommand.specs.CommandLine.{from_source, try_out}
 use Rattle.bcommand.specs.declared.job.Care.TheVariants as care
@@ -396,6 +396,31 @@ compares_formats : Asks (codes "b" ∷ codes "format" ∷ codes "--check" ∷ co
     (ask (x editions.Two) (format true))
 unfolding clap_on_literals
 compares_formats = (refl, refl)
+
+-- what is found of a pattern in sources
+abbrev found_in : (files : List Text) → Edition → (for_editor : Bool) → Asked
+found_in files edition for_editor =
+    find (record { pattern = codes "p"; files = files; edition = edition; for_editor = for_editor })
+
+finds : Asks (codes "b" ∷ codes "find" ∷ codes "p" ∷ codes "x" ∷ []) (found_in (codes "x" ∷ []) editions.One false)
+unfolding clap_on_literals
+finds = (refl, refl)
+
+finds_in_all : Asks
+    (codes "b" ∷ codes "find" ∷ codes "--edition=2" ∷ codes "p" ∷ codes "x" ∷ codes "y" ∷ codes "--json" ∷ codes "z" ∷ [])
+    (found_in (codes "x" ∷ codes "y" ∷ codes "z" ∷ []) editions.Two true)
+unfolding clap_on_literals
+finds_in_all = (refl, refl)
+
+-- after -- it may begin with a sign
+finds_signs : Asks (codes "b" ∷ codes "find" ∷ codes "--" ∷ codes "p" ∷ codes "--x" ∷ [])
+    (found_in (codes "--x" ∷ []) editions.One false)
+unfolding clap_on_literals
+finds_signs = (refl, refl)
+
+finds_nowhere : fault_in (codes "b" ∷ codes "find" ∷ codes "p" ∷ []) ≡ kind.MissingRequiredArgument ∷ []
+unfolding clap_on_literals
+finds_nowhere = refl
 
 ports : Asks (codes "b" ∷ codes "port" ∷ codes "--edition=2" ∷ codes "x" ∷ codes "--with" ∷ codes "l" ∷ [])
     (ask (record { file = codes "x"; libs = codes "l" ∷ []; edition = editions.Two }) port)

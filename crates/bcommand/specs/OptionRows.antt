@@ -4,7 +4,7 @@ use Rattle.clap.specs.Words.{Text}
 use Rattle.clap.proofs.OnLiterals.{clap_on_literals}
 use Rattle.bword.specs.declared.edition.Edition.TheVariants as editions
 use Rattle.bcommand.specs.CommandLine.{Asked, SourceAsked, asked_in, fault_in}
-use Rattle.bcommand.specs.CommandLine.{compile, run, locate_code, go, ask, contradiction}
+use Rattle.bcommand.specs.CommandLine.{compile, run, locate_code, go, ask, check_by, contradiction}
 use Rattle.bcommand.specs.CommandLine.{list, map as layout, draw, check, fix, tell_names, trace, locate, go_careful}
 use Rattle.bcommand.specs.CommandLine.{count, show, format, try_out, port}
 use Rattle.bcommand.specs.CommandLine.{from_source}
@@ -16,7 +16,7 @@ use Rattle.bcommand.specs.declared.job.Rows.TheVariants as which
 abbrev options : List Text
 options =
     codes "--edition=2" ∷ codes "--with=l" ∷ codes "--steps=5" ∷ codes "--no-limit" ∷ codes "--where"
-    ∷ codes "--careful" ∷ codes "--json" ∷ codes "--fix" ∷ codes "--svg" ∷ codes "--from=5" ∷ codes "--last=5"
+    ∷ codes "--careful" ∷ codes "--json" ∷ codes "--fix" ∷ codes "--rules=r" ∷ codes "--svg" ∷ codes "--from=5" ∷ codes "--last=5"
     ∷ codes "--function=f" ∷ codes "--input=i" ∷ codes "--check" ∷ codes "--code" ∷ codes "--made=c" ∷ codes "--lines=l"
     ∷ codes "--names=n" ∷ []
 
@@ -66,9 +66,14 @@ map_takes : taken (codes "map") x
 unfolding clap_on_literals
 map_takes = refl
 
-check_takes : taken (codes "check") x ≡ codes "--edition=2" ∷ codes "--with=l" ∷ codes "--json" ∷ codes "--fix" ∷ []
+check_takes : taken (codes "check") x
+    ≡ codes "--edition=2" ∷ codes "--with=l" ∷ codes "--json" ∷ codes "--fix" ∷ codes "--rules=r" ∷ []
 unfolding clap_on_literals
 check_takes = refl
+
+find_takes : taken (codes "find") (codes "p" ∷ x) ≡ codes "--edition=2" ∷ codes "--json" ∷ []
+unfolding clap_on_literals
+find_takes = refl
 
 -- and both with it, without which there is a fault
 names_takes : (taken (codes "names") x ≡ codes "--json" ∷ [])
@@ -210,6 +215,16 @@ lasts_of_function : of_x (codes "trace" ∷ codes "--last=3" ∷ codes "--functi
     ≡ ask alone (trace from_source 10000000 (which.Last 3) (Some (codes "f")))
 unfolding clap_on_literals
 lasts_of_function = refl
+
+-- a source is checked by rules, and not mended by them
+checked_by_rules :
+    of_x (codes "check" ∷ codes "--rules=r" ∷ []) ∷ of_x (codes "check" ∷ codes "--json" ∷ codes "--rules" ∷ codes "r" ∷ [])
+    ∷ of_x (codes "check" ∷ codes "--rules=r" ∷ codes "--fix" ∷ [])
+    ∷ of_x (codes "check" ∷ codes "--rules=r" ∷ codes "--fix" ∷ codes "--json" ∷ []) ∷ []
+    ≡ check_by alone (codes "r") false ∷ check_by alone (codes "r") true ∷ contradiction clash.Rules
+    ∷ contradiction clash.Fix ∷ []
+unfolding clap_on_literals
+checked_by_rules = refl
 
 fixed_for_editors : of_x (codes "check" ∷ codes "--fix" ∷ codes "--json" ∷ []) ≡ contradiction clash.Fix
 unfolding clap_on_literals

@@ -175,7 +175,7 @@ hint = codes "\n\nFor more information, try '--help'.\n"
 
 clashes_told : map clash_line
     (clash.Limits ∷ clash.Rows ∷ clash.Origins ∷ clash.Libs ∷ clash.Made ∷ clash.Lines ∷ clash.Care ∷ clash.Fix
-    ∷ clash.ShownCare ∷ clash.Names ∷ clash.Plain ∷ clash.Unnamed ∷ [])
+    ∷ clash.ShownCare ∷ clash.Rules ∷ clash.Names ∷ clash.Plain ∷ clash.Unnamed ∷ [])
     ≡ (codes "error: the argument '--steps <N>' cannot be used with '--no-limit'" ++ hint)
     ∷ (codes "error: the argument '--from <N>' cannot be used with '--last <N>'" ++ hint)
     ∷ (codes "error: the argument '--code' cannot be used with '--made <CODE>' or '--lines <LINES>'" ++ hint)
@@ -185,6 +185,7 @@ clashes_told : map clash_line
     ∷ (codes "error: the argument '--careful' is '--careful=stay', '--careful=warn' or '--careful=wraps'" ++ hint)
     ∷ (codes "error: the argument '--fix' cannot be used with '--json'" ++ hint)
     ∷ (codes "error: the argument '--careful' of 'show' is '--careful=stay' or '--careful=wraps'" ++ hint)
+    ∷ (codes "error: the argument '--fix' cannot be used with '--rules <RULES>'" ++ hint)
     ∷ (codes "error: the argument '--names <NAMES>' cannot be used without '--made <CODE>'" ++ hint)
     ∷ (codes "error: the argument '--code' or '--made <CODE>' of 'go' cannot be used without '--where' or '--careful'"
     ++ hint)

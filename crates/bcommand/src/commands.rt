@@ -5,9 +5,9 @@ ghost use Rattle.bcommand.specs.CommandLine.{bare_line, command_line};
 ghost use Rattle.bcommand.specs.Rows.{command_in, line_in, rule_in};
 
 use crate::texts::{
-    ABOUT, CHECK_HELP, COMPILE_HELP, COUNT_HELP, FORMAT_HELP, GO_HELP, HELP, LIST_HELP, MAP_HELP,
-    MIGRATE_HELP, NAMES_HELP, PORT_HELP, RUN_HELP, SHOW_HELP, TRACE_HELP, TRY_HELP, VERIFY_HELP,
-    VERSION,
+    ABOUT, CHECK_HELP, COMPILE_HELP, COUNT_HELP, FIND_HELP, FORMAT_HELP, GO_HELP, HELP, LIST_HELP,
+    MAP_HELP, MIGRATE_HELP, NAMES_HELP, PORT_HELP, RUN_HELP, SHOW_HELP, TRACE_HELP, TRY_HELP,
+    VERIFY_HELP, VERSION,
 };
 use clap::{Arg, ArgAction, Command, value_parser};
 use std::alloc::{AllocError, Global};
@@ -46,6 +46,8 @@ pub(crate) enum GivenAs {
     Attached(&'static str),
     /// An argument, and whether it has to be there.
     Positional(bool),
+    /// One argument or more, the last ones.
+    Positionals,
 }
 
 /// The most steps that a command may ask for.
@@ -153,6 +155,12 @@ const FIX: ArgumentRow = ArgumentRow {
     help: "Writes the source with the mends that need no choice",
 };
 
+const RULES: ArgumentRow = ArgumentRow {
+    id: "rules",
+    kind: GivenAs::Text("RULES"),
+    help: "Tells where the rules in the file RULES fit, too",
+};
+
 const NEEDED_JSON: ArgumentRow = ArgumentRow {
     id: "json",
     kind: GivenAs::Flag(true),
@@ -207,13 +215,25 @@ const FILE_OR_INPUT: ArgumentRow = ArgumentRow {
     help: "The file; - is standard input",
 };
 
+const PATTERN: ArgumentRow = ArgumentRow {
+    id: "PATTERN",
+    kind: GivenAs::Positional(true),
+    help: "An expression or a statement of B with holes, as $x",
+};
+
+const FILES: ArgumentRow = ArgumentRow {
+    id: "FILE",
+    kind: GivenAs::Positionals,
+    help: "The files, each a source of its own",
+};
+
 const NAME: ArgumentRow = ArgumentRow {
     id: "NAME",
     kind: GivenAs::Positional(false),
     help: "The definition to list; all if not given",
 };
 
-const COMMANDS: [CommandRow; 15] = [
+const COMMANDS: [CommandRow; 16] = [
     CommandRow {
         name: "compile",
         about: "Compiles the source on standard input to code text on standard output",
@@ -287,7 +307,14 @@ const COMMANDS: [CommandRow; 15] = [
         about: "Tells what is wrong in the source in FILE, where, and how to fix it",
         usage: None,
         help: CHECK_HELP,
-        arguments: &[EDITION, FILE_OR_INPUT, WITH, JSON, FIX],
+        arguments: &[EDITION, FILE_OR_INPUT, WITH, JSON, FIX, RULES],
+    },
+    CommandRow {
+        name: "find",
+        about: "Finds where a pattern of B fits in the sources in the FILEs",
+        usage: None,
+        help: FIND_HELP,
+        arguments: &[EDITION, JSON, PATTERN, FILES],
     },
     CommandRow {
         name: "names",
@@ -439,5 +466,6 @@ fn argument_of<'a>(alloc: Global, row: ArgumentRow) -> Arg<'a>
             .hide(true)
             .action(ArgAction::Set),
         GivenAs::Positional(is_required) => arg.required(is_required).action(ArgAction::Set),
+        GivenAs::Positionals => arg.required(true).action(ArgAction::Append),
     }
 }

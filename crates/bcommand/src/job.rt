@@ -16,6 +16,9 @@ pub enum Job<'a> {
     Go(SourceNames<'a>, u64),
     Migrate,
     Ask(SourceNames<'a>, Question<'a>),
+    /// The faults of a source, and where the rules in a file fit; and whether an editor reads them.
+    CheckBy(SourceNames<'a>, &'a str, bool),
+    Find(Search<'a>),
     /// Two options that contradict each other.
     Contradiction(Clash),
 }
@@ -47,6 +50,8 @@ pub enum Clash {
     Fix,
     /// One that no page shows.
     ShownCare,
+    /// A source mended, and rules of its reader.
+    Rules,
 }
 
 /// What is asked of a source.
@@ -139,6 +144,18 @@ pub struct Display<'a> {
     pub rows: Rows,
     /// The input of the program, if it isn't standard input.
     pub input: Option<&'a str>,
+}
+
+/// What is looked for, and in which sources.
+#[derive(Clone, Copy)]
+pub struct Search<'a> {
+    /// A pattern of B with holes.
+    pub pattern: &'a str,
+    /// Files, each of which is a source of its own.
+    pub files: &'a [&'a str],
+    pub edition: Edition,
+    /// Whether an editor reads what is found.
+    pub for_editor: bool,
 }
 
 /// A source in a file, and in those that come after it.

@@ -8,7 +8,7 @@ mod texts;
 mod words;
 
 pub use job::{
-    Care, Clash, Display, Job, MadeNames, OriginNames, Question, Rows, SourceNames, Walk,
+    Care, Clash, Display, Job, MadeNames, OriginNames, Question, Rows, Search, SourceNames, Walk,
 };
 pub use parsing::{job_of, parse};
 pub use texts::{UNREAD, clash_text};

@@ -4,12 +4,12 @@ ghost use Rattle.clap.specs.Words.{HasKind, fault_of, first_of, found_of, rows_o
 ghost use Rattle.bcommand.specs.CommandLine.{asked, asked_of, command_line, edition_in, file_in, is_set_in, libs_in, option_number, question_of, source_in, source_shown, steps_in};
 ghost use Rattle.bcommand.specs.CommandLine.{care_asked, care_known, check_in, count_in, go_in, going, list_in, map_in};
 ghost use Rattle.bcommand.specs.CommandLine.{mapping, origin_asked, origin_in, origin_or_clash, origin_shown};
-ghost use Rattle.bcommand.specs.CommandLine.{page_rows, rows_asked, run_in};
+ghost use Rattle.bcommand.specs.CommandLine.{files_in, find_in, page_rows, pattern_in, rows_asked, run_in};
 ghost use Rattle.bcommand.specs.CommandLine.{show_in, shown_care, shown_steps, trace_in, trace_steps, try_in};
 
 use crate::commands::command;
 use crate::job::{
-    Care, Clash, Display, Job, MadeNames, OriginNames, Question, Rows, SourceNames, Walk,
+    Care, Clash, Display, Job, MadeNames, OriginNames, Question, Rows, Search, SourceNames, Walk,
 };
 use bword::Edition;
 use clap::{ArgMatches, Error};
@@ -51,6 +51,7 @@ pub fn job_of<'m, 'a: 'm>(matches: &'m ArgMatches<'a>) -> Job<'m>
         "list" => list_of(given),
         "map" => map_of(given),
         "check" => check_of(given),
+        "find" => find_of(given),
         "names" => Job::Ask(source_of(given), Question::Names),
         "trace" => trace_of(given),
         "count" => count_of(given),
@@ -217,11 +218,25 @@ fn origin_named<'a>(
 fn check_of<'m, 'a: 'm>(given: &'m ArgMatches<'a>) -> Job<'m>
     ensures { asked_of result ≡ check_in (rows_of (found_of given.now)) }
 {
-    match (is_set(given, "fix"), is_set(given, "json")) {
-        (true, true) => Job::Contradiction(Clash::Fix),
-        (true, false) => Job::Ask(source_of(given), Question::Fix),
-        (false, for_editor) => Job::Ask(source_of(given), Question::Check(for_editor)),
+    let (is_fixed, for_editor) = (is_set(given, "fix"), is_set(given, "json"));
+    match (is_fixed, for_editor, text_of(given, "rules")) {
+        (true, true, _) => Job::Contradiction(Clash::Fix),
+        (true, false, Some(_)) => Job::Contradiction(Clash::Rules),
+        (true, false, None) => Job::Ask(source_of(given), Question::Fix),
+        (false, for_editor, None) => Job::Ask(source_of(given), Question::Check(for_editor)),
+        (false, for_editor, Some(rules)) => Job::CheckBy(source_of(given), rules, for_editor),
     }
+}
+
+fn find_of<'m, 'a: 'm>(given: &'m ArgMatches<'a>) -> Job<'m>
+    ensures { asked_of result ≡ find_in (rows_of (found_of given.now)) }
+{
+    Job::Find(Search {
+        pattern: pattern_of(given),
+        files: files_of(given),
+        edition: edition_of(given),
+        for_editor: is_set(given, "json"),
+    })
 }
 
 fn map_of<'m, 'a: 'm>(given: &'m ArgMatches<'a>) -> Job<'m>
@@ -375,10 +390,22 @@ fn file_of<'a>(given: &ArgMatches<'a>) -> &'a str
     text_of(given, "FILE").unwrap_or("")
 }
 
+fn pattern_of<'a>(given: &ArgMatches<'a>) -> &'a str
+    ensures { result.now ≡ pattern_in (rows_of (found_of given.now)) }
+{
+    text_of(given, "PATTERN").unwrap_or("")
+}
+
 fn libs_of<'m, 'a: 'm>(given: &'m ArgMatches<'a>) -> &'m [&'m str]
     ensures { map (λ t. t.now) result.now ≡ libs_in (rows_of (found_of given.now)) }
 {
     given.get_strs("with").unwrap_or(&[])
+}
+
+fn files_of<'m, 'a: 'm>(given: &'m ArgMatches<'a>) -> &'m [&'m str]
+    ensures { map (λ t. t.now) result.now ≡ files_in (rows_of (found_of given.now)) }
+{
+    given.get_strs("FILE").unwrap_or(&[])
 }
 
 fn text_of<'a>(given: &ArgMatches<'a>, id: &str) -> Option<&'a str>

@@ -81,6 +81,12 @@ error: the argument '--careful' of 'show' is '--careful=stay' or '--careful=wrap
 For more information, try '--help'.
 ";
 
+const RULES: &str = "\
+error: the argument '--fix' cannot be used with '--rules <RULES>'
+
+For more information, try '--help'.
+";
+
 const FIX: &str = "\
 error: the argument '--fix' cannot be used with '--json'
 
@@ -104,6 +110,7 @@ pub fn clash_text(clash: Clash) -> &'static str
         Clash::Care => CARE,
         Clash::Fix => FIX,
         Clash::ShownCare => SHOWN_CARE,
+        Clash::Rules => RULES,
     }
 }
 
@@ -130,6 +137,7 @@ Examples:
   b show hello.b > run.html           writes a page that shows its run
   b count hello.b                     counts the steps of each line
   b check hello.b                     tells what is wrong, where, how to fix it
+  b find 'while($c) $$s' hello.b      finds where a pattern of B fits
   b names --json hello.b              tells an editor what each name is
   b format hello.b > new.b            lays it out in one style
   b port old.b > new.b                writes an old program in this language
@@ -328,16 +336,41 @@ knows --write and --diff, too: b check --fix --write FILE puts the text in the
 place of FILE, and --diff shows what would change and writes nothing. A link is
 refused, and what is no plain file. FILE is never half written.
 
+--rules RULES tells after that, as warnings, where the rules in the file RULES
+fit in FILE: patterns of B with holes and conditions, as docs/RULES.md has them.
+The sentence is that of the rule's line says, or has its name. RULES that aren't
+rules get one line with its line, its column and why, and status 1.
+
 Examples:
   b check hello.b
   b check --fix hello.b > new.b
   b check --fix --write hello.b
   b check --json --edition 2 menu.b
   b check --with print sum.b
+  b check --rules class/loop/rules hello.b
 
-Statuses: 0 no fault, 1 a fault of the source, 132 code that doesn't load,
-133 a failed read or write, 134 out of memory, 135 a wrong command line.
+Statuses: 0 no fault, 1 a fault of the source or of RULES, 132 code that doesn't
+load, 133 a failed read or write, 134 out of memory, 135 a wrong command line.
 b --help explains the letters.";
+
+pub(crate) const FIND_HELP: &str = "\
+PATTERN is one expression, or one statement of B with its ; or }. $x in it is
+any expression, $$s any statement, $x:name any name, and ... any arguments or
+statements in a row. The same hole again is the same once more. A part in
+parentheses is as one without, and a < b fits b > a. docs/RULES.md has the rest.
+
+Each place where it fits is told as b check tells a place: the FILE, the line
+and the column, and the line of the source with a mark. --json writes each as
+one object on one line. Each FILE is a source of its own. One with a fault isn't
+looked at; a line beside the output tells where the fault is.
+
+Examples:
+  b find 'while($c) $$s' hello.b
+  b find '$x = $x' *.b
+  b find --json 'goto $x;' hello.b
+
+Statuses: 0 it fits somewhere, 1 it fits nowhere, or isn't a pattern, 133 a
+failed read or write, 134 out of memory, 135 a wrong command line.";
 
 pub(crate) const NAMES_HELP: &str = "\
 Each line is an object of JSON. First comes one for each comment. Then come, in

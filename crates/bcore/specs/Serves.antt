@@ -15,7 +15,7 @@ use Rattle.brun.specs.Runs.{RunsText}
 use Rattle.bsources.specs.Files.{NamedText, followed, joined}
 use Rattle.bsources.specs.JoinedEnds.{IsJoined, Joined, joined_in, joined_new, lender_joined}
 use Rattle.bcommand.specs.CommandLine.{Asked, SourceAsked, asked_in, clash_line, fault_in}
-use Rattle.bcommand.specs.CommandLine.{compile, run, locate_code, go, migrate, ask, contradiction, verify}
+use Rattle.bcommand.specs.CommandLine.{compile, run, locate_code, go, migrate, ask, check_by, contradiction, find, verify}
 use Rattle.bcore.specs.Shelves.{Holdings}
 
 -- what tools do for what is asked for, of these files
@@ -130,6 +130,9 @@ Does tools shelf (contradiction clash) ends status =
 Does tools shelf (locate_code file steps) ends status = tools shelf (locate_code file steps) ends status
 Does tools shelf (verify file) ends status = tools shelf (verify file) ends status
 Does tools shelf (ask source question) ends status = tools shelf (ask source question) ends status
+Does tools shelf (check_by source rules for_editor) ends status =
+    tools shelf (check_by source rules for_editor) ends status
+Does tools shelf (find it) ends status = tools shelf (find it) ends status
 
 abbrev pub IsHelp : ErrorKind → Type 0
 IsHelp k = (k ≡ kind.DisplayHelp) ⊎ (k ≡ kind.DisplayVersion)

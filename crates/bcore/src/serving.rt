@@ -120,6 +120,11 @@ fn perform<T: Tools, S: Shelf, I: ByteIn, O: ByteOut, D: ByteOut>(
             let job = ToolJob::Ask(source, question);
             tools.answer(alloc, shelf, job, input, out, diag)
         }
+        Job::CheckBy(source, rules, for_editor) => {
+            let job = ToolJob::CheckBy(source, rules, for_editor);
+            tools.answer(alloc, shelf, job, input, out, diag)
+        }
+        Job::Find(search) => { tools.answer(alloc, shelf, ToolJob::Find(search), input, out, diag) }
     }
 }
 

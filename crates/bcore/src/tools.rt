@@ -7,7 +7,7 @@ ghost use Rattle.bcore.specs.Tools.{LacksTool, tool_asked};
 
 use crate::serving::tell;
 use crate::shelf::Shelf;
-use bcommand::{Question, SourceNames};
+use bcommand::{Question, Search, SourceNames};
 use blang::status::Status;
 use bword::{ByteIn, ByteOut};
 use std::alloc::Global;
@@ -26,6 +26,10 @@ pub enum ToolJob<'a> {
     /// What may go wrong in any run of the code text in a file.
     Verify(&'a str),
     Ask(SourceNames<'a>, Question<'a>),
+    /// What is wrong in a source, and where the rules in a file fit; and whether an editor reads it.
+    CheckBy(SourceNames<'a>, &'a str, bool),
+    /// Where a pattern fits.
+    Find(Search<'a>),
 }
 
 /// The tools of a program.

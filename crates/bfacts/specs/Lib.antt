@@ -1,2 +1,3 @@
 pub mod FurtherRows
+pub mod RuleFacts
 pub mod UnitFacts

@@ -10,36 +10,30 @@ use Rattle.bmatch.specs.declared.noticing.Notice.{Notice}
 use Rattle.blint.specs.declared.cautions.Caution.{Caution}
 use Rattle.blint.specs.declared.telling.TheConstants.{MOST_CAUTIONS}
 use Rattle.bmatch.specs.declared.tree.TokenPlace.{TokenPlace}
+use Rattle.blint.specs.declared.warnings.Slip.TheVariants as slip
 use Rattle.blint.specs.declared.warnings.Warning.{Warning}
 use Rattle.blint.specs.declared.warnings.Warning.TheVariants as warning
 use Rattle.blint.specs.Noticed.{IsNoticed, first_notice, warning_of}
 use Rattle.blint.specs.SourceTokens.{IsSource, lexemes_in, token_places, tokens_of}
 
--- what rules alone give
+-- what rules alone give: finders give these others, too
 abbrev pub is_of_rules : Warning → Bool
-is_of_rules warning.AndAnd = true
-is_of_rules warning.OperatorAssigns = true
-is_of_rules warning.Backslash = true
-is_of_rules warning.BitsCompared = true
-is_of_rules warning.ComparesTwice = true
-is_of_rules warning.NotCompared = true
-is_of_rules warning.OrConstant = true
-is_of_rules warning.StringsAdded = true
-is_of_rules warning.StringCompared = true
-is_of_rules warning.NegativeNumber = true
-is_of_rules warning.AssignsItself = true
-is_of_rules warning.PassesOldValue = true
-is_of_rules warning.ConditionAssigns = true
-is_of_rules warning.AssignsComparison = true
-is_of_rules warning.AssignsCompared = true
-is_of_rules warning.EmptyIf = true
-is_of_rules warning.EmptyLoop = true
-is_of_rules warning.EndlessLoop = true
-is_of_rules warning.NameAlone = true
-is_of_rules warning.ComparesAlone = true
-is_of_rules warning.ValueDropped = true
-is_of_rules warning.NoEffect = true
-is_of_rules w = false
+is_of_rules warning.CommentGoesOn = false
+is_of_rules warning.CountPastVector = false
+is_of_rules warning.DanglingElse = false
+is_of_rules warning.FallsIntoCase = false
+is_of_rules warning.FormValues = false
+is_of_rules warning.HidesExternal = false
+is_of_rules warning.NearMain = false
+is_of_rules warning.NoMain = false
+is_of_rules warning.OctalNumber = false
+is_of_rules warning.Unset = false
+is_of_rules warning.UnsetVector = false
+is_of_rules (warning.Slip slip.FormKind) = false
+is_of_rules (warning.Slip slip.LastTurnOnly) = false
+is_of_rules (warning.Slip slip.SetLater) = false
+is_of_rules (warning.Slip slip.NextPast) = false
+is_of_rules w = true
 
 -- A token at this place, in the first file, has this warning, by what is said of it first.
 pub record IsDue (files : Files) (places : List TokenPlace) (notices : List Notice) (at : TokenPlace) (w : Warning)

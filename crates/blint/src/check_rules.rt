@@ -9,7 +9,7 @@ use bword::BinOp as B;
 
 /// The steps of all patterns.
 #[rattlefmt::skip]
-pub(crate) const STEPS: [S; 21437] = [
+pub const STEPS: [S; 21437] = [
     S::Either(5), S::Tree(K::Node(N::Binary(B::And)), true), S::Leaf(L::Hole(1, A::Any), false),
     S::Leaf(L::Hole(0, A::Any), false), S::Done, S::Jump(4), S::Tree(K::Node(N::Binary(B::And)), true),
     S::Leaf(L::Hole(0, A::Any), false), S::Leaf(L::Hole(1, A::Any), false), S::Done, S::Done, S::Either(5),
@@ -5664,7 +5664,7 @@ pub(crate) const STEPS: [S; 21437] = [
 
 /// The claims of all conditions.
 #[rattlefmt::skip]
-pub(crate) const CLAIMS: [C; 10990] = [
+pub const CLAIMS: [C; 10990] = [
     C::Test(T::Joined), C::Test(T::Followed(11)), C::End, C::Test(T::Joined), C::End, C::Test(T::Backslash(0)), C::End,
     C::Either(2), C::Is(0, 35), C::Jump(13), C::Either(2), C::Is(0, 37), C::Jump(10), C::Either(2), C::Is(0, 39),
     C::Jump(7), C::Either(2), C::Is(0, 44), C::Jump(4), C::Either(2), C::Is(0, 48), C::Jump(1), C::Is(0, 52), C::End,
@@ -7454,7 +7454,7 @@ pub(crate) const CLAIMS: [C; 10990] = [
 
 /// The rules, in the order in which they are asked.
 #[rattlefmt::skip]
-pub(crate) const RULES: [Rule; 215] = [
+pub const RULES: [Rule; 215] = [
     
     Rule { number: 0, pattern: 0, condition: 0, named: 16, beside: 16, is_loose: true, looks_around: false, looks_far: false },
     Rule { number: 1, pattern: 11, condition: 3, named: 16, beside: 16, is_loose: true, looks_around: false, looks_far: false },
@@ -7675,7 +7675,7 @@ pub(crate) const RULES: [Rule; 215] = [
 
 /// The warning of each rule.
 #[rattlefmt::skip]
-pub(crate) const WARNINGS: [Warning; 215] = [
+pub const WARNINGS: [Warning; 215] = [
     Warning::AndAnd, Warning::OperatorAssigns, Warning::Backslash, Warning::BitsCompared, Warning::BitsCompared,
     Warning::ComparesTwice, Warning::NotCompared, Warning::NotCompared, Warning::OrConstant, Warning::StringsAdded,
     Warning::StringForCharacter, Warning::StringCompared, Warning::NegativeNumber, Warning::StringEnd,

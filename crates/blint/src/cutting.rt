@@ -10,7 +10,7 @@ use std::alloc::{AllocError, Global};
 
 /// The tokens of a source, and where each stands.
 #[derive(Drop)]
-pub(crate) struct CutSource {
+pub struct CutSource {
     pub lexemes: Vec<Lexeme>,
     pub places: Vec<TokenPlace>,
     /// The comment that begins in the first file and ends in another one: it is the last of that file.
@@ -18,7 +18,7 @@ pub(crate) struct CutSource {
 }
 
 /// Cuts a source.
-pub(crate) fn cut(alloc: Global, program: &Program<'_>) -> Result<CutSource, AllocError>
+pub fn cut(alloc: Global, program: &Program<'_>) -> Result<CutSource, AllocError>
     ensures { IfOk result (Cuts (tokens_of program.now.edition program.now.text.now)) }
 {
     let mut scanner = Scanner::new(program.text, program.edition);

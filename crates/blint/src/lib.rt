@@ -35,6 +35,7 @@ mod warnings;
 
 pub use bmatch::TokenPlace;
 pub use cautions::{Caution, Program};
+pub use cutting::{CutSource, cut};
 pub use linting::lint;
 pub use spelling::is_near;
 pub use warnings::{Slip, Warning};

@@ -7,7 +7,7 @@ ghost use Rattle.blint.specs.Warns.{IsDue, TellsOf, is_of_rules};
 use crate::cautions::Caution;
 use crate::matched::{by_token, notice_at, warning_of};
 use crate::tokens::Tokens;
-use crate::warnings::Warning;
+use crate::warnings::{Slip, Warning};
 use bmatch::{Notice, TokenPlace};
 use bsources::SourceFiles;
 use bword::Name;
@@ -142,33 +142,23 @@ fn tell(cautions: &mut Vec<Caution>, caution: &Caution) -> Result<(), AllocError
     Ok(())
 }
 
-// Whether only rules give it.
+// Whether rules alone give it, and no finder.
 fn is_of_rules(warning: Warning) -> bool
     ensures { result ≡ is_of_rules warning }
 {
-    matches!(
+    !matches!(
         warning,
-        Warning::AndAnd
-            | Warning::OperatorAssigns
-            | Warning::Backslash
-            | Warning::BitsCompared
-            | Warning::ComparesTwice
-            | Warning::NotCompared
-            | Warning::OrConstant
-            | Warning::StringsAdded
-            | Warning::StringCompared
-            | Warning::NegativeNumber
-            | Warning::AssignsItself
-            | Warning::PassesOldValue
-            | Warning::ConditionAssigns
-            | Warning::AssignsComparison
-            | Warning::AssignsCompared
-            | Warning::EmptyIf
-            | Warning::EmptyLoop
-            | Warning::EndlessLoop
-            | Warning::NameAlone
-            | Warning::ComparesAlone
-            | Warning::ValueDropped
-            | Warning::NoEffect
+        Warning::CommentGoesOn
+            | Warning::CountPastVector
+            | Warning::DanglingElse
+            | Warning::FallsIntoCase
+            | Warning::FormValues
+            | Warning::HidesExternal
+            | Warning::NearMain
+            | Warning::NoMain
+            | Warning::OctalNumber
+            | Warning::Unset
+            | Warning::UnsetVector
+            | Warning::Slip(Slip::FormKind | Slip::LastTurnOnly | Slip::SetLater | Slip::NextPast)
     )
 }

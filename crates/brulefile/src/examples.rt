@@ -7,7 +7,7 @@ use bword::Edition;
 use std::alloc::{AllocError, Global};
 
 // Whether a rule of this name tells something of a source.
-fn tells(alloc: Global, rules: &Rules, name: &[u8], text: &[u8]) -> Result<bool, AllocError> {
+fn tells(alloc: Global, rules: &Rules<'_>, name: &[u8], text: &[u8]) -> Result<bool, AllocError> {
     let mut lexemes = Vec::new(alloc);
     let mut places = Vec::new(alloc);
     let mut scanner = Scanner::new(text, Edition::Two);

@@ -32,14 +32,16 @@ impl RuleName {
 
 /// Rules with their steps and claims, and their names. The number of a rule is its place.
 #[derive(Drop)]
-pub struct Rules {
+pub struct Rules<'t> {
     pub steps: Vec<Step>,
     pub claims: Vec<Claim>,
     pub rules: Vec<Rule>,
     pub names: Vec<RuleName>,
+    /// What each says of a place where it fits; nothing where no line of it tells that.
+    pub says: Vec<&'t [u8]>,
 }
 
-impl Rules {
+impl Rules<'_> {
     /// The rules as the engine takes them.
     pub fn table(&self) -> RuleTable<'_> {
         RuleTable {
@@ -55,7 +57,10 @@ impl Rules {
 /// # Errors
 ///
 /// If memory was refused.
-pub fn read_rules(alloc: Global, text: &[u8]) -> Result<Result<Rules, RuleFault>, AllocError> {
+pub fn read_rules<'t>(
+    alloc: Global,
+    text: &'t [u8],
+) -> Result<Result<Rules<'t>, RuleFault>, AllocError> {
     let mut reading = Reading {
         conditions: Conditions {
             alloc,
@@ -67,6 +72,7 @@ pub fn read_rules(alloc: Global, text: &[u8]) -> Result<Result<Rules, RuleFault>
         },
         rules: Vec::new(alloc),
         names: Vec::new(alloc),
+        says: Vec::new(alloc),
         draft: None,
     };
     let mut number: u64 = 0;
@@ -83,7 +89,11 @@ pub fn read_rules(alloc: Global, text: &[u8]) -> Result<Result<Rules, RuleFault>
 }
 
 // What is said where a line of so many bytes is read no further.
-fn stopped(stop: Stop, line: u64, len: usize) -> Result<Result<Rules, RuleFault>, AllocError> {
+fn stopped<'t>(
+    stop: Stop,
+    line: u64,
+    len: usize,
+) -> Result<Result<Rules<'t>, RuleFault>, AllocError> {
     match stop {
         Stop::Memory => Err(AllocError),
         Stop::Fault(reason, left) => Ok(Err(RuleFault {
@@ -122,15 +132,17 @@ struct Reading<'t> {
     conditions: Conditions<'t>,
     rules: Vec<Rule>,
     names: Vec<RuleName>,
+    says: Vec<&'t [u8]>,
     draft: Option<Draft>,
 }
 
 impl<'t> Reading<'t> {
-    fn done(self) -> Rules {
+    fn done(self) -> Rules<'t> {
         let Reading {
             conditions,
             rules,
             names,
+            says,
             ..
         } = self;
         let Conditions { steps, claims, .. } = conditions;
@@ -139,6 +151,7 @@ impl<'t> Reading<'t> {
             claims,
             rules,
             names,
+            says,
         }
     }
 
@@ -166,7 +179,10 @@ impl<'t> Reading<'t> {
         self.end()?;
         let name = after_word(text);
         match name_of(name) {
-            Some(name) => self.names.push(name)?,
+            Some(name) => {
+                self.names.push(name)?;
+                self.says.push(b"".as_slice())?;
+            }
             None => return Err(Stop::Fault(FaultReason::RuleName, name.len())),
         }
         let alloc = self.conditions.alloc;
@@ -201,6 +217,9 @@ impl<'t> Reading<'t> {
 
     // A line of a rule, or of a condition with a name, after the first one.
     fn inner(&mut self, text: &'t [u8]) -> Result<(), Stop> {
+        if self.draft.is_some() {
+            self.note_says(text);
+        }
         if let Some(draft) = &mut self.draft {
             return draft.line(text, &mut self.conditions);
         }
@@ -210,6 +229,16 @@ impl<'t> Reading<'t> {
                 Ok(())
             }
             None => Err(Stop::Fault(FaultReason::NoRule, text.len())),
+        }
+    }
+
+    // What the last rule says, where a line tells that.
+    fn note_says(&mut self, text: &'t [u8]) {
+        if first_word(text) != b"says".as_slice() {
+            return;
+        }
+        if let Some(says) = self.says.last_mut() {
+            *says = after_word(text);
         }
     }
 

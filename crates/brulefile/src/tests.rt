@@ -8,7 +8,10 @@ fn reads_the_rules(rt: HostRuntime) -> Result<(), AllocError> {
     match read_rules(rt.alloc(), CHECK_RULES.as_bytes())? {
         Ok(read) => {
             assert!(rt; read.rules.len() == read.names.len());
-            assert!(rt; read.names[0].as_bytes() == b"AndAnd".as_slice());
+            match read.names.first() {
+                Some(name) => assert!(rt; name.as_bytes() == b"AndAnd".as_slice()),
+                None => assert!(rt; false),
+            }
         }
         Err(_) => assert!(rt; false),
     }

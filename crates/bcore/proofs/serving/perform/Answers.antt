@@ -35,3 +35,11 @@ returns-in-Verify-clause-does g c =
 pub returns-in-Ask-clause-does : goal.returns-in-Ask-clause-does
 returns-in-Ask-clause-does g c =
     done g.T.Tools.answers _ c.args.job (jobs.Ask c.in-Ask.source c.in-Ask.question) _ _ c.in-Ask.is c.answer-in-Ask.ensures.answers
+
+pub returns-in-CheckBy-clause-does : goal.returns-in-CheckBy-clause-does
+returns-in-CheckBy-clause-does g c =
+    done g.T.Tools.answers _ c.args.job (jobs.CheckBy c.in-CheckBy.source c.in-CheckBy.rules c.in-CheckBy.for_editor) _ _ c.in-CheckBy.is c.answer-in-CheckBy.ensures.answers
+
+pub returns-in-Find-clause-does : goal.returns-in-Find-clause-does
+returns-in-Find-clause-does g c =
+    done g.T.Tools.answers _ c.args.job (jobs.Find c.in-Find.search) _ _ c.in-Find.is c.answer-in-Find.ensures.answers

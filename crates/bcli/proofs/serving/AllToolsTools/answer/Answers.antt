@@ -27,3 +27,11 @@ returns-in-Err-read-clause-answers g c =
 pub returns-in-Ask-clause-answers : goal.returns-in-Ask-clause-answers
 returns-in-Ask-clause-answers g c =
     used _ c.args.job (jobs.Ask c.in-Ask.source c.in-Ask.question) _ _ c.in-Ask.is c.ask_file.ensures.does
+
+pub returns-in-CheckBy-clause-answers : goal.returns-in-CheckBy-clause-answers
+returns-in-CheckBy-clause-answers g c =
+    used _ c.args.job (jobs.CheckBy c.in-CheckBy.source c.in-CheckBy.rules c.in-CheckBy.for_editor) _ _ c.in-CheckBy.is (c.check_file.ensures.checks (g.I.ByteIn.incoming c.args.input.now))
+
+pub returns-in-Find-clause-answers : goal.returns-in-Find-clause-answers
+returns-in-Find-clause-answers g c =
+    used _ c.args.job (jobs.Find c.in-Find.search) _ _ c.in-Find.is (c.find_all.ensures.finds (g.I.ByteIn.incoming c.args.input.now))

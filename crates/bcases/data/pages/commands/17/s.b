@@ -1,0 +1,9 @@
+main() {
+    auto i;
+
+    i = 0;
+    while(i < 10) {
+        printn(i, 10);
+        i = i + 1;
+    }
+}
