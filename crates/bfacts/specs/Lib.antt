@@ -1,3 +1,4 @@
+pub mod EngineRows
 pub mod FurtherRows
 pub mod RuleFacts
 pub mod UnitFacts
