@@ -1,4 +1,4 @@
-//! The rules of `b check`, as tools/rules makes them of share/rules/check.rules, whose digest is 830075001db968e6.
+//! The rules of `b check`, as tools/rules makes them of share/rules/check.rules, whose digest is 6f4916371bd37fb9.
 use crate::warnings::{Slip, Warning};
 use bmatch::{
     Claim as C, Kind as K, Leaf as L, Measure as M, Relation as R, Rule, Scope as P, Sort as A,

@@ -2082,8 +2082,6 @@ rule SameTwice
   silent f(v) { auto i, k; i = 0; while(i < 3) { k = 0; while(k < 3) { g(v[i * 3 + k]); k++; } i++; } }
   silent f(v) { auto i; i = 0; while(i < 3) { g(v[i * 3 + i]); i++; } }
 
--- R1
-
 -- Where nothing of the program has the name, the library's function is called.
 
 let inner $x
