@@ -226,6 +226,17 @@ def tests_of(folder):
         yield test
 
 
+def rules_of(path):
+    """The rules that a hand-in has to fit: as one text, and of each its name, what it says, and whether it is wanted."""
+    if not path.exists():
+        return {"structure": []}
+    parts = re.split(r"^rule ", path.read_text(), flags=re.M)[1:]
+    named = [(it.split()[0], re.search(r"^\s+says (.*)", it, re.M)) for it in parts]
+    rows = [{"name": name, "says": says[1] if says else name, "isWanted": not name.startswith("No")}
+            for name, says in named]
+    return {"rules": latin(path), "structure": rows}
+
+
 def exercise(folder, reader):
     """An exercise as class/grade reads it."""
     made = {"name": folder.name, "edition": "1", "steps": 1000000, "libs": {}}
@@ -239,6 +250,7 @@ def exercise(folder, reader):
     for part in ("start", "asks"):
         if (folder / f"{part}.b").exists():
             made[part] = (folder / f"{part}.b").read_text()
+    made |= rules_of(folder / "structure")
     text = (folder / "task.md").read_text()
     made["html"] = Chapter(folder.name, "", text.split("\n", 1)[1], reader).made()["html"]
     made["tests"] = list(tests_of(folder))

@@ -13,6 +13,8 @@ from changes import ROOT, read, types_of_code
 from evaluator import Evaluator
 
 CRATES = ("bword", "blang", "bfacts")
+# What has definitions of other crates has nothing to do with these.
+ABOVE = re.compile(r"^use Rattle\.b(?!word|lang|grammar)", re.M)
 # A fact may come to so many clauses more than it does as the definitions stand.
 MORE = 300_000
 
@@ -22,7 +24,8 @@ def files_of(crates=CRATES):
     found = {}
     for crate in crates:
         for module in re.findall(r"mod (\w+)", read(f"{ROOT}/crates/{crate}/specs/Lib.antt")):
-            found[module] = read(f"{ROOT}/crates/{crate}/specs/{module}.antt")
+            text = read(f"{ROOT}/crates/{crate}/specs/{module}.antt")
+            found |= {} if ABOVE.search(text) else {module: text}
     return found
 
 

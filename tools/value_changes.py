@@ -2,7 +2,11 @@
 
 The argument is a number at an edge, a variant of an enum, or a list that is empty, without its first or its last
 element, or cut off after nine, or before the last hundred. The other result is one of the same type. Where the tool has
-none of that type, the definition takes the argument for its neighbour."""
+none of that type, the definition takes the argument for its neighbour.
+
+A change of a pair gives another result where two tests hold at once: what two `if`s of a clause ask, or two arguments
+at an edge each. It is what meets each fact of one feature, and is wrong where two meet."""
+import itertools
 import re
 
 from changes import Change, bound_by, definitions_in, is_claimed, nested
@@ -40,13 +44,13 @@ def other_result(kind, said):
 
 
 # What the changes of a kind need of the kit's Prelude.
-NEEDED = re.compile(r"\b(not|suc|nat_eq|take|drop|length|None|Some)\b|(\[\]|∷|(?<= )-(?= ))|\b(if)\b")
+NEEDED = re.compile(r"\b(not|suc|nat_eq|take|drop|length|None|Some)\b|(\[\]|∷|&&|(?<= )-(?= ))|\b(if)\b")
 
 
 def needed_words(new):
     """Returns the words of the Prelude in a text."""
     found = {it[1] or it[2] or it[3] for it in NEEDED.finditer(new)}
-    named = {"∷": "◌∷◌", "-": "◌-◌", "if": "if◌then◌else◌"}
+    named = {"∷": "◌∷◌", "&&": "◌&&◌", "-": "◌-◌", "if": "if◌then◌else◌"}
     return sorted(named.get(it, it) for it in found)
 
 
@@ -129,9 +133,45 @@ def block_start(text, start):
     return start if not text[start].isspace() else block_start(text, start - 2)
 
 
-def value_changes_of(module, text, names, wanted):
+def tests_of(place, variables):
+    """Returns the tests of a clause, each with the variables that it names."""
+    bound = set(re.findall(r"(?:λ|let) (\w+)", place.said))
+    for asked in re.findall(r"\bif ((?:(?!\b(?:if|then)\b).)+?) then\b", place.said, re.S):
+        words = set(re.findall(r"[\w']+", asked))
+        if not words & bound and asked.count("(") == asked.count(")"):
+            yield f"({asked})", words
+    for variable, kind in variables.items():
+        if kind in NUMBERS:
+            yield from ((f"nat_eq {variable} {edge}", {variable}) for edge in edges(place.module, variable)[::4])
+        elif (kind or "").startswith("List ") and variable not in SHORT:
+            yield f"nat_eq (length {variable}) 0", {variable}
+        elif kind == "Bool":
+            yield variable, {variable}
+
+
+def of_pairs(place, variables):
+    """Returns the changes where two tests of a clause hold at once, each as its edits."""
+    for (one, its), (other, others) in itertools.combinations(tests_of(place, variables), 2):
+        if its != others:
+            yield place.when(f"{one} && {other}")
+
+
+def pair_changes_of(module, text, names, wanted):
+    """Returns the changes of pairs of a file, in order."""
+    return value_changes_of(module, text, names, wanted, is_of_pairs=True)
+
+
+def edits_at(place, variables, names, at_head, is_of_pairs):
+    """Returns the changes of a clause, each as its edits."""
+    if is_of_pairs:
+        return of_pairs(place, variables)
+    return itertools.chain.from_iterable(
+        of_argument(place, variable, kind or "", names, at_head) for variable, kind in variables.items())
+
+
+def value_changes_of(module, text, names, wanted, is_of_pairs=False):
     """Returns the changes of this kind of a file, in order."""
-    found, seen = [], {text}
+    found, seen, letters = [], {text}, "vp" if is_of_pairs else "v"
     for definition in definitions_in(text):
         if definition.believed_as not in wanted or is_claimed(module, text, definition):
             continue
@@ -140,12 +180,10 @@ def value_changes_of(module, text, names, wanted):
             place = Place(module, text, clause, result_of(text, definition))
             kinds = [kind for _, kind in definition.arguments]
             variables = bound_by(nested([it for it in clause.left if it[0] != "\n"]), kinds, names)
-            for variable, kind in variables.items():
-                edits = []
-                for edit in (it for it in of_argument(place, variable, kind or "", names, at_head) if it):
-                    line = text.count("\n", 0, clause.start) + 1
-                    change = Change(module, f"v{len(found) + 1}", definition.name, line, edit, text)
-                    if change.text not in seen:
-                        seen.add(change.text)
-                        found.append(change)
+            for edit in filter(None, edits_at(place, variables, names, at_head, is_of_pairs)):
+                line = text.count("\n", 0, clause.start) + 1
+                change = Change(module, f"{letters}{len(found) + 1}", definition.name, line, edit, text)
+                if change.text not in seen:
+                    seen.add(change.text)
+                    found.append(change)
     return found

@@ -1,6 +1,6 @@
 // The lessons: chapters made of the pages of the repository, their programs with Run beside them, and the exercises.
 import {$, button, element} from './dom.mjs';
-import {passes, sentence} from './exercises.mjs';
+import {passes, sentence, testsOf} from './exercises.mjs';
 
 const plural = (n, what) => `${n} ${what}${n === 1 ? '' : 's'}`;
 
@@ -109,7 +109,7 @@ export class Course {
   }
 
   card(exercise) {
-    const {name} = exercise, count = exercise.tests.length;
+    const {name} = exercise, count = testsOf(exercise).length;
     const box = element('section', {className: 'exercise', id: `exercise-${name}`});
     box.innerHTML = exercise.html;
     box.prepend(element('h3', {}, 'Exercise ', element('em', {}, name)));
@@ -136,7 +136,7 @@ export class Course {
   graded(exercise, {refused, results}) {
     const failed = results.filter(it => it.result !== 'ok').map(it => [it.test.name, sentence(it)]);
     const passed = results.filter(passes).length;
-    return this.keep(exercise, {passed, of: exercise.tests.length, failed, refused, isOld: false});
+    return this.keep(exercise, {passed, of: testsOf(exercise).length, failed, refused, isOld: false});
   }
 
   keep(exercise, result) {

@@ -1,5 +1,6 @@
 // The tests of an exercise, and what comes of them: the verdict is that of class/grade, word for word.
 import {bytesOf, bytesOfLatin} from './dom.mjs';
+import {parsed} from './findings.mjs';
 import {withoutMain} from './mains.mjs';
 import {endOf, findingOf} from './runs.mjs';
 
@@ -7,7 +8,7 @@ const SOURCE_BYTES = 65536; // the longest hand-in
 const OUTPUT_BYTES = 65536; // how much more than the wanted output a run may write
 const SECONDS = 20; // after which a run is ended
 const SHOWN = 100; // characters of a line
-const END_NAME = 'handedin.b';
+const END_NAME = 'handedin.b', RULES = 'structure';
 const END = '/* The end of the hand-in. */\nhandedin() {\n}\n';
 const PLACE = /at +in (\w+) +place +\d+ +line +(\d+)(?: of (\w+\.b))? +step (\d+)\n(.*)\n +means: (.*)/;
 const BLANKS = /[ \t\n\r\v\f]+$/;
@@ -36,6 +37,9 @@ function firstDifference(output, wanted) {
   return {line: at + 1, wrote: told(got[at]), wanted: told(want[at])};
 }
 
+/** The tests of an exercise: those that run the hand-in, and the rules that it has to fit. */
+export const testsOf = ({tests, structure}) => [...tests, ...structure];
+
 /** The grading of one hand-in, by a machine of its own. */
 export class Grading {
   constructor(machine, exercise, text) {
@@ -43,6 +47,7 @@ export class Grading {
     this.hasMains = exercise.tests.some(it => it.source);
     this.source = this.hasMains ? withoutMain(text) : text;
     this.files = {[this.name]: bytesOf(this.source), [END_NAME]: bytesOf(END)};
+    if (exercise.rules) this.files[RULES] = bytesOfLatin(exercise.rules);
     for (const [name, lib] of Object.entries(exercise.libs)) this.files[name] = bytesOfLatin(lib);
     for (const it of exercise.tests) if (it.source) this.files[`${it.name}.b`] = bytesOfLatin(it.source);
   }
@@ -77,11 +82,20 @@ export class Grading {
     }
     const [first] = this.exercise.tests, results = [];
     const checked = await this.run(this.words('check', ['--json'], this.hasMains ? first : null));
-    for (const test of this.exercise.tests) {
-      results.push(checked.status === 1 ? {test, result: 'fault'} : await this.tryTest(test));
+    for (const test of testsOf(this.exercise)) {
+      const look = 'says' in test ? it => this.lookFor(it) : it => this.tryTest(it);
+      results.push(checked.status === 1 ? {test, result: 'fault'} : await look(test));
       if (this.isStopped) return null;
     }
     return {results, note: this.source === this.text ? '' : 'Your main is left out: the tests have one of their own.'};
+  }
+
+  /** Whether a rule fits in the hand-in as it has to. */
+  async lookFor(test) {
+    const libs = Object.keys(this.exercise.libs).flatMap(it => ['--with', it]);
+    const words = ['check', '--json', `--rules=${RULES}`, `--edition=${this.exercise.edition}`, this.name, ...libs];
+    const found = parsed((await this.run(words)).text).find(it => it.code === test.name);
+    return {test, result: !found === !test.isWanted ? 'ok' : 'structure', fits: found?.line, name: this.name};
   }
 
   async tryTest(test) {
@@ -121,8 +135,9 @@ export function sentence(it) {
   return finding ? `${failure(it)}; a careful run finds: ${finding}` : failure(it);
 }
 
-function failure({test, result, why, difference, place, status, libs, steps}) {
+function failure({test, result, why, difference, place, status, libs, steps, fits, name}) {
   if (result === 'fault') return 'the program has a fault, which stands below the editor';
+  if (result === 'structure') return `${plain(test.says)}: it is ${fits ? `in line ${fits} of` : 'nowhere in'} ${name}`;
   if (why) return why;
   const given = inputOf(test.input ?? ''), start = test.source ? '' : given ? `for ${given} `
     : test.input ? `for the input ${JSON.stringify(test.input)} ` : 'input' in test ? 'without an input ' : '';

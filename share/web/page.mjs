@@ -5,6 +5,7 @@ import {newFile, putBack, readFile, removeFile, rename, showKept} from './device
 import {editor, example, findings, goTo, keepNow, layOut, openAll, openFile, pane, recheck, runs, setLib,
   show, showCourse} from './editing.mjs';
 import {Grading} from './exercises.mjs';
+import {findPattern, ownRules} from './searching.mjs';
 import {fillPrinted, link, openLink, printed} from './sharing.mjs';
 import {checker, data, files, isNarrow, onWidth, output, store, testing} from './state.mjs';
 import {begin, exerciseOf, grade, handIn, stopTests} from './trying.mjs';
@@ -29,6 +30,8 @@ const ACTS = {
   rename,
   'put-back': putBack,
   delete: removeFile,
+  find: findPattern,
+  'own-rules': ownRules,
   link,
   print: () => printed('program'),
   'print-lesson': () => printed('lesson'),

@@ -1,7 +1,7 @@
 // What a command gets of a program: its words, its files and its input.
 import {bytesOf, textOf} from './dom.mjs';
 import {parsed} from './findings.mjs';
-import {checker, data, files} from './state.mjs';
+import {checker, data, files, store} from './state.mjs';
 
 const pathOf = name => name.endsWith('.b') ? name : `lib/${name}.b`;
 
@@ -22,10 +22,23 @@ function testedWith(file) {
   return (exercise && exercise.tests[0].source || '').match(/^\w+(?=\()/gm) ?? [];
 }
 
-/** What `check` finds in a program. */
+const RULES = 'own.rules';
+
+/** Looks at a program by `check`, and by these rules. */
+function checked(file, rules, change) {
+  const {words, files: given} = programOf(file, change), by = rules ? [`--rules=${RULES}`] : [];
+  return checker.ask(['check', '--json', ...by, ...words], {files: {...given, [RULES]: bytesOf(rules)}});
+}
+
+/** What is wrong with rules, or nothing. */
+export async function faultOf(rules) {
+  const {told = '', failed} = await checked(files.program, rules);
+  return failed ?? told.split('\n').find(it => it.startsWith(RULES)) ?? '';
+}
+
+/** What `check` finds in a program, and the rules of one's own. */
 export async function check(file, change) {
-  const {words, files: given} = programOf(file, change), known = testedWith(file);
-  const ended = await checker.ask(['check', '--json', ...words], {files: given});
+  const ended = await checked(file, store.get('rules') ?? '', change), known = testedWith(file);
   const lacks = it => /^nothing defines (\w+)$/.exec(it.message)?.[1];
   return ended.output ? parsed(textOf(ended.output)).filter(it => !known.includes(lacks(it))) : null;
 }

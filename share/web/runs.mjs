@@ -178,7 +178,7 @@ export class Runs {
     $('out').classList.toggle('table', !isRun);
     const ended = await this.machine.ask(words, {files, input: bytesOf(input),
       write: it => this.session === session && this.output.write(it)});
-    if (this.session !== session) return;
+    if (this.session !== session) return null;
     this.session = null;
     this.ended(true);
     this.output.flush();
@@ -186,6 +186,7 @@ export class Runs {
     if (!isRun) $('out').scrollTop = 0;
     say(ended.failed ?? `Ended with status ${ended.status}.`, ended.failed ? 'bad' : '');
     this.readOut();
+    return ended;
   }
 
   async step() {

@@ -14,16 +14,17 @@ use Rattle.bparse.specs.Locals.{NamedWord}
 use Rattle.bcareful.specs.Things.{Atlas, extents_of, frame_thing, is_cut, is_outside, is_past_end, of_data}
 use Rattle.bcareful.specs.Things.{owned}
 use Rattle.bcareful.specs.Things.{string_at, string_words}
-use Rattle.bcareful.specs.Marks.{Marks, begun, data_marks, is_over, running}
-use Rattle.bcareful.specs.Effects.{Moment, changed, combined, instr_effect}
-use Rattle.bcareful.specs.Findings.{instr_finding, wraps}
+use Rattle.bcareful.specs.Marks.{Marks, begun, data_marks, is_over, part_at, running, with_part}
+use Rattle.bcareful.specs.Effects.{Moment, changed, combined, instr_effect, operands_taken}
+use Rattle.bcareful.specs.Findings.{finding_of, instr_finding, wraps}
 use Rattle.bcareful.specs.declared.effect.Effect.{Effect}
-use Rattle.bcareful.specs.declared.effect.Effect.TheVariants.{Begins, Ends, Puts, Stores, Takes}
+use Rattle.bcareful.specs.declared.effect.Effect.TheVariants.{Begins, Ends, Puts, Sets, Stores, Takes}
 use Rattle.bcareful.specs.declared.finding.Finding.{Finding}
 use Rattle.bcareful.specs.declared.finding.Finding.TheVariants.{Index, Low, Never, Over, Past, Wraps}
 use Rattle.bcareful.specs.declared.thing.Mark.{Mark}
-use Rattle.bcareful.specs.declared.thing.Mark.TheVariants.{Of, Plain, Unset}
+use Rattle.bcareful.specs.declared.thing.Mark.TheVariants.{First, Of, Plain, Second, Unset}
 use Rattle.bcareful.specs.declared.thing.Owner.{Owner}
+use Rattle.bcareful.specs.declared.thing.Part.TheVariants as part
 use Rattle.bcareful.specs.declared.thing.Thing.{Thing}
 
 -- a call of `f(a, b)` with `auto v 4, i`, whose frame lies at 10; it is the third call, and two are active
@@ -96,9 +97,10 @@ string_with_offset : string_at 8 (1633 ∷ 1122 ∷ 25185 ∷ 4 ∷ []) 2 ≡ of
 string_with_offset = refl
 
 -- `"ab"` ends with the first byte of its second word, and `"a"` with the second byte of its only one
-string_ends : (map (is_past_end (of_data 20 2 true)) (20 ∷ 21 ∷ 22 ∷ []) ≡ false ∷ true ∷ false ∷ [])
-    × (is_past_end (of_data 20 1 false) 20 ≡ false)
-string_ends = (refl, refl)
+string_ends : (map (is_past_end (of_data 20 2 true) part.Second) (20 ∷ 21 ∷ 22 ∷ []) ≡ false ∷ true ∷ false ∷ [])
+    × (map (λ p. is_past_end (of_data 20 2 true) p 21) (part.Whole ∷ part.First ∷ []) ≡ false ∷ false ∷ [])
+    × (is_past_end (of_data 20 1 false) part.Second 20 ≡ false)
+string_ends = (refl, refl, refl)
 
 -- the call that runs, the one below it, one that was over before, and one of the same depth
 active : (running (0 ∷ 2 ∷ []) ≡ owner) × (running (0 ∷ []) ≡ record { depth = 1; number = 0 })
@@ -135,9 +137,9 @@ atlas = record {
 abbrev pub no_atlas : Atlas
 no_atlas = record { definitions = []; functions = []; frames = []; address_of = λ x. 4; extents = []; wraps = true }
 
--- `a`, `b` and the own word of `v` are set, and so is its first word
+-- `a`, `b` and the own word of `v` are set, and so is its first word; of its third and fourth one a character alone is
 abbrev pub words : List Mark
-words = replicate 12 Plain ++ Of v ∷ Plain ∷ Unset ∷ Unset ∷ Unset ∷ Unset ∷ Unset ∷ []
+words = replicate 12 Plain ++ Of v ∷ Plain ∷ Unset ∷ First ∷ Second ∷ Unset ∷ Unset ∷ []
 
 -- before a step with these operands, the topmost first, and their marks, the topmost last
 abbrev pub before : List ℕ → List Mark → Moment
@@ -163,8 +165,9 @@ on_store address origin = instr_finding (before (3 ∷ address ∷ []) (origin �
 abbrev pub on_modify : ℕ → Mark → Option Finding
 on_modify address origin = instr_finding (before (3 ∷ address ∷ []) (origin ∷ Plain ∷ [])) (instr.Modify op.Add)
 
-never_set : (on_load 18 (Of (thing 18 1)) ≡ Some (Never 18)) × (on_count 18 (Of (thing 18 1)) ≡ Some (Never 18))
-    × (on_modify 17 (Of v) ≡ Some (Never 17))
+never_set : (on_load 18 (Of (thing 18 1)) ≡ Some (Never part.Whole 18))
+    × (on_count 18 (Of (thing 18 1)) ≡ Some (Never part.Whole 18))
+    × (on_modify 17 (Of v) ≡ Some (Never part.Whole 17))
 never_set = (refl, refl, refl)
 
 stored_first : (on_store 17 (Of v) ≡ None) × (on_store 18 (Of (thing 18 1)) ≡ None)
@@ -234,8 +237,28 @@ on_lchar origin address index =
     instr_finding (before (97 ∷ index ∷ address ∷ 2 ∷ []) (Plain ∷ origin ∷ Plain ∷ Plain ∷ [])) (instr.Call 3)
 
 char_in_vector : (on_char (Of v) 13 1 ≡ None) × (on_char (Of v) 13 10 ≡ Some (Index v 18))
-    × (on_char (Of v) 13 3 ≡ Some (Never 14)) × (on_char (Of v) 12 1 ≡ Some (Index v 12))
+    × (on_char (Of v) 13 3 ≡ Some (Never part.Whole 14)) × (on_char (Of v) 12 1 ≡ Some (Index v 12))
 char_in_vector = (refl, refl, refl, refl)
+
+-- both characters of the third and the fourth word of `v`, and these words whole
+half_set : (map (on_char (Of v) 13) (4 ∷ 5 ∷ 6 ∷ 7 ∷ [])
+    ≡ None ∷ Some (Never part.Second 15) ∷ Some (Never part.First 16) ∷ None ∷ [])
+    × (on_char (Of v) 15 1 ≡ Some (Never part.Second 15)) × (on_char (Of v) 13 2 ≡ Some (Never part.Whole 14))
+    × (on_load 15 (Of v) ≡ Some (Never part.Second 15)) × (on_load 16 (Of v) ≡ Some (Never part.First 16))
+    × (on_count 15 (Of v) ≡ Some (Never part.Second 15)) × (on_modify 16 (Of v) ≡ Some (Never part.First 16))
+    × (on_store 15 (Of v) ≡ None) × (on_char First 13 4 ≡ None) × (on_char Second 0 13 ≡ Some (Low 6))
+half_set = (refl, refl, refl, refl, refl, refl, refl, refl, refl, refl)
+
+-- which character an index is, and what is set after either: of a word that nothing has set, of one whose first or
+-- second character is set, and of one that is set, even to an address
+parts : map part_at (0 ∷ 1 ∷ 2 ∷ 65535 ∷ []) ≡ part.First ∷ part.Second ∷ part.First ∷ part.Second ∷ []
+parts = refl
+
+set_in_part : (map (with_part part.First) (Unset ∷ First ∷ Second ∷ Plain ∷ Of v ∷ [])
+    ≡ First ∷ First ∷ Plain ∷ Plain ∷ Plain ∷ [])
+    × (map (with_part part.Second) (Unset ∷ First ∷ Second ∷ Plain ∷ Of v ∷ [])
+    ≡ Second ∷ Plain ∷ Second ∷ Plain ∷ Plain ∷ [])
+set_in_part = (refl, refl)
 
 lchar_in_vector : (on_lchar (Of v) 13 9 ≡ None) × (on_lchar (Of v) 13 10 ≡ Some (Index v 18))
 lchar_in_vector = (refl, refl)
@@ -312,11 +335,14 @@ wraps_unasked = refl
 sums : (combined op.Add (Of v) Plain ≡ Of v) × (combined op.Add Plain (Of v) ≡ Of v)
     × (combined op.Add (Of v) (Of v) ≡ Plain)
     × (combined op.Add Plain Plain ≡ Plain) × (combined op.Add Unset (Of v) ≡ Of v)
-sums = (refl, refl, refl, refl, refl)
+    × (combined op.Add (Of v) First ≡ Of v) × (combined op.Add Second (Of v) ≡ Of v)
+    × (combined op.Add First Second ≡ Plain)
+sums = (refl, refl, refl, refl, refl, refl, refl, refl)
 
 differences : (combined op.Sub (Of v) Plain ≡ Of v) × (combined op.Sub Plain (Of v) ≡ Plain)
     × (combined op.Sub (Of v) (Of v) ≡ Plain) × (combined op.Sub Plain Plain ≡ Plain)
-differences = (refl, refl, refl, refl)
+    × (combined op.Sub (Of v) Second ≡ Of v)
+differences = (refl, refl, refl, refl, refl)
 
 -- no other operator keeps a thing
 other_operators : map (λ o. combined o (Of v) Plain) (op.Or ∷ op.And ∷ op.Eq ∷ op.Ne ∷ op.Lt ∷ op.Le ∷ op.Gt ∷ op.Ge
@@ -367,9 +393,33 @@ calls : (effect (instr.Call 2) ≡ Begins 2) × (effect (instr.Call 0) ≡ Puts 
     × (effect instr.Return ≡ Ends 3 Plain)
 calls = (refl, refl, refl)
 
-lchar_stores : instr_effect (before (97 ∷ 9 ∷ 13 ∷ 2 ∷ []) (Plain ∷ Of v ∷ Plain ∷ Plain ∷ [])) (instr.Call 3)
-    ≡ Stores 4 17 Plain
-lchar_stores = refl
+-- `lchar(v, i, 'a')`
+abbrev pub lchar_effect : (index : ℕ) → Effect
+lchar_effect index =
+    instr_effect (before (97 ∷ index ∷ 13 ∷ 2 ∷ []) (Plain ∷ Of v ∷ Plain ∷ Plain ∷ [])) (instr.Call 3)
+
+lchar_sets : map lchar_effect (0 ∷ 1 ∷ 2 ∷ 3 ∷ 4 ∷ 5 ∷ 6 ∷ 7 ∷ [])
+    ≡ Sets 4 13 Plain ∷ Sets 4 13 Plain ∷ Sets 4 14 First ∷ Sets 4 14 Second ∷ Sets 4 15 First ∷ Sets 4 15 Plain
+    ∷ Sets 4 16 Plain ∷ Sets 4 16 Second ∷ []
+lchar_sets = refl
+
+-- how many operands each effect takes, and steps that lack one: nothing is found there
+taken_by : map operands_taken (Takes 1 ∷ Puts 2 Plain ∷ Stores 2 7 Plain ∷ Sets 4 7 First ∷ Begins 2 ∷ Ends 3 Plain
+    ∷ [])
+    ≡ 1 ∷ 2 ∷ 2 ∷ 4 ∷ 3 ∷ 3 ∷ []
+taken_by = refl
+
+abbrev pub found_with : List ℕ → Instr → Option Finding
+found_with operands i =
+    finding_of (Some (record { moment = before operands (replicate 3 Plain); instr = i }))
+
+lacking : (found_with [] instr.Load ≡ None) × (found_with (3 ∷ []) instr.Load ≡ Some (Low 3))
+    × (found_with (9 ∷ []) instr.Store ≡ None) × (found_with (9 ∷ 3 ∷ []) instr.Store ≡ Some (Low 3))
+    × (found_with (9 ∷ []) (instr.Modify op.Add) ≡ None) × (found_with [] (instr.Increment PreIncrement) ≡ None)
+    × (found_with (32768 ∷ []) (instr.Binary op.Sub) ≡ None)
+    × (found_with (32768 ∷ 0 ∷ []) (instr.Binary op.Sub) ≡ Some (Wraps op.Sub 0 32768))
+    × (found_with (1 ∷ []) (instr.Call 1) ≡ None) × (found_with (3 ∷ 1 ∷ []) (instr.Call 1) ≡ Some (Low 3))
+lacking = (refl, refl, refl, refl, refl, refl, refl, refl, refl, refl)
 
 -- a frame that is used again: its parameters have the marks of the arguments, a missing one is set, and the rest is not
 used_again : begun 2 (Of v ∷ []) 1 4 (replicate 6 Plain) ≡ Plain ∷ Of v ∷ Plain ∷ Unset ∷ Unset ∷ Plain ∷ []
@@ -413,7 +463,11 @@ other_effects : (after (Takes 1) (marks (Plain ∷ Unset ∷ []) (Plain ∷ []) 
     ≡ marks (Plain ∷ Of v ∷ []) (Plain ∷ []) (0 ∷ []) 1)
     × (after (Stores 2 0 (Of v)) (marks (Plain ∷ Plain ∷ []) (Unset ∷ []) (0 ∷ []) 1)
     ≡ marks (Of v ∷ []) (Of v ∷ []) (0 ∷ []) 1)
-other_effects = (refl, refl, refl)
+    × (after (Stores 2 0 Plain) (marks (Plain ∷ Plain ∷ []) (First ∷ []) (0 ∷ []) 1)
+    ≡ marks (Plain ∷ []) (Plain ∷ []) (0 ∷ []) 1)
+    × (after (Sets 2 0 First) (marks (Of v ∷ Plain ∷ Plain ∷ []) (Unset ∷ Unset ∷ []) (0 ∷ []) 1)
+    ≡ marks (Of v ∷ Plain ∷ []) (First ∷ Unset ∷ []) (0 ∷ []) 1)
+other_effects = (refl, refl, refl, refl, refl)
 
 -- the sizes and the marks of its externals
 external_sizes : extents_of externals ≡ replicate 7 1 ++ 3 ∷ replicate 4 1 ++ replicate 4 1

@@ -14,9 +14,10 @@ use Rattle.bmach.specs.Stops.{active_of}
 use Rattle.bmach.specs.declared.machine.Active.{Active}
 use Rattle.bwatch.specs.Sights.{Sight, Sights}
 use Rattle.bcareful.specs.Things.{Atlas, Site, external_thing, frame_thing, located, site_of, atlas_of, string_at}
-use Rattle.bcareful.specs.Marks.{Marks, above, begun, below, grown, marks_of, operand_mark, running, unbegun}
+use Rattle.bcareful.specs.Marks.{Marks, above, begun, below, grown, marks_of, operand_mark, part_at, running, unbegun}
+use Rattle.bcareful.specs.Marks.{with_part}
 use Rattle.bcareful.specs.declared.effect.Effect.{Effect}
-use Rattle.bcareful.specs.declared.effect.Effect.TheVariants.{Begins, Ends, Puts, Stores, Takes}
+use Rattle.bcareful.specs.declared.effect.Effect.TheVariants.{Begins, Ends, Puts, Sets, Stores, Takes}
 use Rattle.bcareful.specs.declared.moment as told
 use Rattle.bcareful.specs.declared.moment.Pointed.{Pointed}
 use Rattle.bcareful.specs.declared.thing.Mark.{Mark}
@@ -73,10 +74,14 @@ module _ (m : Moment) where
   abbrev pub character_address : (count : ℕ) → ℕ
   character_address count = byte_address (argument count 0) (argument count 1)
 
-  -- Of the library `lchar` alone stores a word; its functions have the values up to 6.
+  -- the mark of that word after a call of `lchar`
+  abbrev pub character_mark : (count : ℕ) → Mark
+  character_mark count = with_part (part_at (argument count 1)) (word_mark (character_address count))
+
+  -- Of the library `lchar` alone sets a character; its functions have the values up to 6.
   abbrev pub call_effect : (count callee : ℕ) → Effect
   call_effect count callee =
-      if callee == 2 then Stores (count + 1) (character_address count) Plain
+      if callee == 2 then Sets (count + 1) (character_address count) (character_mark count)
       else if nat_le callee 6 then Puts (count + 1) Plain else Begins count
 
   -- what an instruction does to marks
@@ -102,6 +107,15 @@ module _ (m : Moment) where
   instr_effect instr.Return = Ends (length m.operands) (mark 0)
   instr_effect instr.Pop = Takes 1
 
+-- how many operands a step with this effect takes
+abbrev pub operands_taken : Effect → ℕ
+operands_taken (Takes n) = n
+operands_taken (Puts n mark) = n
+operands_taken (Stores n address mark) = n
+operands_taken (Sets n address mark) = n
+operands_taken (Begins n) = n + 1
+operands_taken (Ends n mark) = n
+
 -- so many operands are taken, and one is put
 abbrev pub put_after : ℕ → Mark → List Mark → List Mark
 put_after n mark operands = below n operands ++ mark ∷ []
@@ -114,6 +128,12 @@ changed (Puts n mark) call site m =
     record { operands = put_after n mark m.operands; words = m.words; calls = m.calls; next = m.next }
 changed (Stores n address mark) call site m = record {
   operands = put_after n mark m.operands;
+  words = slice_set m.words address mark;
+  calls = m.calls;
+  next = m.next;
+}
+changed (Sets n address mark) call site m = record {
+  operands = put_after n Plain m.operands;
   words = slice_set m.words address mark;
   calls = m.calls;
   next = m.next;

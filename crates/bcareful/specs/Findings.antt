@@ -1,7 +1,7 @@
 -- Promise: what is found at a step.
 use Rattle.std.specs.Prelude.{ℕ, zero, suc, ◌+◌, ◌%◌, ◌==◌, ◌&&◌, ◌||◌, Bool, true, false, List, Option, Some, None}
-use Rattle.std.specs.Prelude.{is_some, nat_le, nat_lt}
-use Rattle.std.specs.Prelude.{option_and_then, if◌then◌else◌}
+use Rattle.std.specs.Prelude.{is_some, length, nat_le, nat_lt}
+use Rattle.std.specs.Prelude.{option_and_then, option_map, if◌then◌else◌}
 use Rattle.std.specs.Prelude.{ℤ, pos, neg_ℤ, ◌+ℤ◌, ◌-ℤ◌, ◌*ℤ◌, int_le, not}
 use Rattle.std.specs.Option.{option_or}
 use Rattle.bword.specs.Words.{signed_of}
@@ -14,19 +14,26 @@ use Rattle.blang.specs.declared.code.Instr.TheVariants as instr
 use Rattle.blang.specs.Machine.{Loaded, States}
 use Rattle.bwatch.specs.Sights.{Sights, sights_of}
 use Rattle.bcareful.specs.Things.{Atlas, is_outside, is_past_end}
-use Rattle.bcareful.specs.Marks.{is_over}
+use Rattle.bcareful.specs.Marks.{is_over, part_at}
 use Rattle.bcareful.specs.Effects.{Moment, Step, argument, argument_mark, character_address, mark, marks_at, operand}
-use Rattle.bcareful.specs.Effects.{step_in, word_mark}
+use Rattle.bcareful.specs.Effects.{instr_effect, operands_taken, step_in, word_mark}
 use Rattle.bcareful.specs.declared.finding.Finding.{Finding}
 use Rattle.bcareful.specs.declared.finding.Finding.TheVariants.{Index, Low, Never, Over, Past, Wraps}
 use Rattle.bcareful.specs.declared.finding.Touched.{Touched}
 use Rattle.bcareful.specs.declared.thing.Mark.{Mark}
-use Rattle.bcareful.specs.declared.thing.Mark.TheVariants.{Of, Plain, Unset}
+use Rattle.bcareful.specs.declared.thing.Mark.TheVariants.{First, Of, Plain, Second, Unset}
+use Rattle.bcareful.specs.declared.thing.Part.{Part}
+use Rattle.bcareful.specs.declared.thing.Part.TheVariants as part
 use Rattle.bcareful.specs.declared.thing.Thing.{Thing}
 
-abbrev pub is_unset : Mark → Bool
-is_unset Unset = true
-is_unset mark = false
+-- what of a word with this mark nothing has set, where this part of it is read
+abbrev pub unset_part : Part → Mark → Option Part
+unset_part read Unset = Some part.Whole
+unset_part part.First First = None
+unset_part read First = Some part.Second
+unset_part part.Second Second = None
+unset_part read Second = Some part.First
+unset_part read mark = None
 
 abbrev pub is_address : Mark → Bool
 is_address (Of thing) = true
@@ -58,14 +65,14 @@ module _ (m : Moment) where
         address = character_address m count;
         origin = argument_mark m count 0;
         reads = callee == 1;
-        is_second = argument m count 1 % 2 == 1;
+        part = part_at (argument m count 1);
       })
       else None
 
   -- the word at the address that has so many operands above it
   abbrev pub touch_through : (above : ℕ) → (reads : Bool) → Touched
   touch_through n reads =
-      record { address = operand m n; origin = mark m n; reads = reads; is_second = false }
+      record { address = operand m n; origin = mark m n; reads = reads; part = part.Whole }
 
   -- the word of memory that an instruction reads or stores, and the mark of its address
   abbrev pub touch : Instr → Option Touched
@@ -80,18 +87,19 @@ module _ (m : Moment) where
   abbrev pub frames_end : ℕ
   frames_end = m.call.start + m.site.function.frame
 
-  -- a word past the last frame; or one that is read and that nothing has set
+  -- a word past the last frame; or a word or a character that is read and that nothing has set
   abbrev pub word_finding : Touched → Option Finding
   word_finding t =
       if nat_le frames_end t.address then Some (Low t.address)
-      else if t.reads && is_unset (word_mark m t.address) then Some (Never t.address) else None
+      else if t.reads then option_map (λ unset. Never unset t.address) (unset_part t.part (word_mark m t.address))
+      else None
 
   -- an address whose thing was of a call that is over, or that has left it; or a character after a string's end
   abbrev pub thing_finding : Thing → Touched → Option Finding
   thing_finding thing t =
       if is_over m.marks.calls thing then Some (Over t.address)
       else if is_outside thing t.address then Some (Index thing t.address)
-      else if t.is_second && is_past_end thing t.address then Some (Past t.address) else word_finding t
+      else if is_past_end thing t.part t.address then Some (Past t.address) else word_finding t
 
   -- the same; or one of the first words, of which nobody knows what its address was made of
   abbrev pub touch_finding : Mark → Touched → Option Finding
@@ -115,9 +123,13 @@ module _ (m : Moment) where
   abbrev pub found_word : Instr → Option Finding
   found_word i = option_and_then (λ t. touch_finding t.origin t) (touch i)
 
+  -- whether the machine is stuck at an instruction, for want of operands
+  abbrev pub lacks_operands : Instr → Bool
+  lacks_operands i = nat_lt (length m.operands) (operands_taken (instr_effect m i))
+
   -- what is found at an instruction: at the word that it touches, or else of its result
   abbrev pub instr_finding : Instr → Option Finding
-  instr_finding i = option_or (found_word i) (wrap_finding i)
+  instr_finding i = if lacks_operands i then None else option_or (found_word i) (wrap_finding i)
 
 -- what is found at a step, if there is one
 abbrev pub finding_of : Option Step → Option Finding

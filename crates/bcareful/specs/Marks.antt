@@ -10,8 +10,10 @@ use Rattle.blang.specs.Layout.{DefinitionKind, Shape, Vector, shape_of, size_of,
 use Rattle.bcareful.specs.Things.{Atlas, external_thing, of_data, string_at}
 use Rattle.bcareful.specs.declared.marks as told
 use Rattle.bcareful.specs.declared.thing.Mark.{Mark}
-use Rattle.bcareful.specs.declared.thing.Mark.TheVariants.{Of, Plain, Unset}
+use Rattle.bcareful.specs.declared.thing.Mark.TheVariants.{First, Of, Plain, Second, Unset}
 use Rattle.bcareful.specs.declared.thing.Owner.{Owner}
+use Rattle.bcareful.specs.declared.thing.Part.{Part}
+use Rattle.bcareful.specs.declared.thing.Part.TheVariants as part
 use Rattle.bcareful.specs.declared.thing.Thing.{Thing}
 
 -- the marks of the operands of all calls, the topmost last, and of the words of memory; the numbers of the active
@@ -34,6 +36,18 @@ running calls = record { depth = length calls; number = slice_index_or calls (le
 abbrev pub is_over : (calls : List ℕ) → Thing → Bool
 is_over calls t =
     nat_lt 0 t.depth && not (option_map_or (λ number. number == t.number) (slice_get calls (t.depth - 1)) false)
+
+-- the character of a word that has this index
+abbrev pub part_at : (index : ℕ) → Part
+part_at index = if index % 2 == 0 then part.First else part.Second
+
+-- the mark of a word after a part of it was set
+abbrev pub with_part : Part → Mark → Mark
+with_part part.First Unset = First
+with_part part.First First = First
+with_part part.Second Unset = Second
+with_part part.Second Second = Second
+with_part set mark = Plain
 
 -- so many marks: some are left out, or these are added
 abbrev pub resized : ℕ → Mark → List Mark → List Mark

@@ -22,6 +22,7 @@ use Rattle.bcareful.specs.TellingRows.{at_place, told_so}
 use Rattle.bcareful.specs.Warned.{kept_text, noted, warned, warnings_at}
 use Rattle.bcareful.specs.declared.finding.Finding.{Finding}
 use Rattle.bcareful.specs.declared.finding.Finding.TheVariants.{Index, Never, Wraps}
+use Rattle.bcareful.specs.declared.thing.Part.TheVariants as part
 use Rattle.bcareful.specs.declared.warnings.Place.{Place}
 
 -- the function `main` with so many words in its frame
@@ -55,7 +56,7 @@ unset_found made = finding_at (atlas_with unset (word_at (codes "x") false ∷ [
 unset_stays : made_by (atlas_with unset (word_at (codes "x") false ∷ []) false) (sights_in unset) 9 ≡ 1
 unset_stays = refl
 
-finds_unset : map unset_found (0 ∷ 1 ∷ 2 ∷ []) ≡ None ∷ Some (Never 8) ∷ None ∷ []
+finds_unset : map unset_found (0 ∷ 1 ∷ 2 ∷ []) ≡ None ∷ Some (Never part.Whole 8) ∷ None ∷ []
 finds_unset = refl
 
 -- x = 1; x =+ 32767; with x in the word 8
@@ -141,10 +142,10 @@ abbrev pub sight_with : Option Active → Sight
 sight_with call = record { call = call; operands = []; below = []; storing = []; store = []; output = [] }
 
 warned_of_calls : (a : Atlas) (legend : Legend) (source : List ℕ)
-    → warned a legend source (sight_with (Some (at_place 9 5))) 3 (Some (Never 28)) told_so
+    → warned a legend source (sight_with (Some (at_place 9 5))) 3 (Some (Never part.Whole 28)) told_so
     ≡ noted (at_place 9 5)
     (careful_text a legend source (sight_with (Some (at_place 9 5)))
-    (record { finding = Never 28; call = at_place 9 5; made = 3 })) told_so
+    (record { finding = Never part.Whole 28; call = at_place 9 5; made = 3 })) told_so
 warned_of_calls a legend source = refl
 
 warned_of_nothing : (a : Atlas) (legend : Legend) (source : List ℕ)
@@ -152,7 +153,7 @@ warned_of_nothing : (a : Atlas) (legend : Legend) (source : List ℕ)
 warned_of_nothing a legend source = refl
 
 warned_at_the_end : (a : Atlas) (legend : Legend) (source : List ℕ)
-    → warned a legend source (sight_with None) 3 (Some (Never 28)) told_so ≡ told_so
+    → warned a legend source (sight_with None) 3 (Some (Never part.Whole 28)) told_so ≡ told_so
 warned_at_the_end a legend source = refl
 
 -- Nothing is told where memory was refused, and there alone.

@@ -14,13 +14,14 @@ use Rattle.bcareful.specs.Warned.{Warnings, no_warnings, noted, told_after}
 use Rattle.bcareful.specs.declared.care.Care.TheVariants as care
 use Rattle.bcareful.specs.declared.finding.Finding.{Finding}
 use Rattle.bcareful.specs.declared.finding.Finding.TheVariants.{Index, Low, Never, Over, Past, Wraps}
+use Rattle.bcareful.specs.declared.thing.Part.TheVariants as part
 
-told_lines : map careful_line (Never 18 ∷ Index v 18 ∷ Past 18 ∷ Over 18 ∷ Low 3 ∷ Wraps op.Mul 5 8 ∷ [])
+told_lines : map careful_line (Never part.Whole 18 ∷ Index v 18 ∷ Past 18 ∷ Over 18 ∷ Low 3 ∷ Wraps op.Mul 5 8 ∷ [])
     ≡ codes "careful set\n" ∷ codes "careful index\n" ∷ codes "careful index\n" ∷ codes "careful index\n"
     ∷ codes "careful low\n" ∷ codes "careful wraps\n" ∷ []
 told_lines = refl
 
-told_words : map address_of (Never 18 ∷ Index v 19 ∷ Past 20 ∷ Over 21 ∷ Low 3 ∷ Wraps op.Mul 5 8 ∷ [])
+told_words : map address_of (Never part.Whole 18 ∷ Index v 19 ∷ Past 20 ∷ Over 21 ∷ Low 3 ∷ Wraps op.Mul 5 8 ∷ [])
     ≡ Some 18 ∷ Some 19 ∷ Some 20 ∷ Some 21 ∷ Some 3 ∷ None ∷ []
 told_words = refl
 
@@ -94,12 +95,17 @@ told_string : told (Index (of_data 13 2 false) 16)
 unfolding digits
 told_string = refl
 
-told_set : told (Never 28) ≡ codes "nothing has set i of f"
+told_set : told (Never part.Whole 28) ≡ codes "nothing has set i of f"
 told_set = refl
 
-told_element : told (Never 25) ≡ codes "nothing has set v[2] of f"
+told_element : told (Never part.Whole 25) ≡ codes "nothing has set v[2] of f"
 unfolding digits
 told_element = refl
+
+told_characters : (told (Never part.First 25) ≡ codes "nothing has set the first character of v[2] of f")
+    × (told (Never part.Second 28) ≡ codes "nothing has set the second character of i of f")
+unfolding digits
+told_characters = (refl, refl)
 
 told_past : told (Past 14) ≡ codes "a character after the end of a string of f"
 told_past = refl

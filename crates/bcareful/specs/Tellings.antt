@@ -24,6 +24,8 @@ use Rattle.bcareful.specs.Things.{Atlas, Site, located}
 use Rattle.bcareful.specs.declared.finding.Finding.{Finding}
 use Rattle.bcareful.specs.declared.finding.Finding.TheVariants.{Index, Low, Never, Over, Past, Wraps}
 use Rattle.bcareful.specs.declared.naming as told
+use Rattle.bcareful.specs.declared.thing.Part.{Part}
+use Rattle.bcareful.specs.declared.thing.Part.TheVariants as part
 use Rattle.bcareful.specs.declared.thing.Thing.{Thing}
 use Rattle.bcareful.specs.declared.watching.Found.{Found}
 
@@ -178,9 +180,14 @@ wrap_text operator left right =
     signed_text left ++ codes " " ++ sign operator ++ codes " " ++ signed_text right
     ++ codes " is no number from -32768 to 32767"
 
+abbrev pub part_text : Part → List ℕ
+part_text part.Whole = []
+part_text part.First = codes "the first character of "
+part_text part.Second = codes "the second character of "
+
 -- what is wrong with a step, as far as the name of its word
 abbrev pub fault_text : Atlas → List Active → Finding → List ℕ
-fault_text a calls (Never address) = codes "nothing has set "
+fault_text a calls (Never unset address) = codes "nothing has set " ++ part_text unset
 fault_text a calls (Low address) = address_text address
 fault_text a calls (Index t address) = thing_text a calls t address
 fault_text a calls (Past address) = codes "a character after the end of "
@@ -188,7 +195,7 @@ fault_text a calls (Over address) = codes "a word of a call that is over: this i
 fault_text a calls (Wraps operator left right) = wrap_text operator left right
 
 abbrev pub address_of : Finding → Option ℕ
-address_of (Never address) = Some address
+address_of (Never unset address) = Some address
 address_of (Low address) = Some address
 address_of (Index t address) = Some address
 address_of (Past address) = Some address
@@ -205,7 +212,7 @@ finding_meaning a calls f = fault_text a calls f ++ fault_name a calls f
 
 -- the line of a finding
 abbrev pub careful_line : Finding → List ℕ
-careful_line (Never address) = codes "careful set\n"
+careful_line (Never unset address) = codes "careful set\n"
 careful_line (Low address) = codes "careful low\n"
 careful_line (Index t address) = codes "careful index\n"
 careful_line (Past address) = codes "careful index\n"

@@ -14,6 +14,8 @@ use Rattle.btools.specs.Functions.{Placed, entries_of, functions_of}
 use Rattle.btools.specs.declared.names.Frame.{Frame}
 use Rattle.bcareful.specs.declared.atlas as told
 use Rattle.bcareful.specs.declared.thing.Owner.{Owner}
+use Rattle.bcareful.specs.declared.thing.Part.{Part}
+use Rattle.bcareful.specs.declared.thing.Part.TheVariants as part
 use Rattle.bcareful.specs.declared.thing.Thing.{Thing}
 
 -- so many words of the frame of a call, from this address on
@@ -29,9 +31,10 @@ of_data start words is_cut = record { start = start; words = words; is_cut = is_
 abbrev pub is_outside : Thing → (address : ℕ) → Bool
 is_outside t address = nat_lt address t.start || nat_le t.words (address - t.start)
 
--- whether the second byte of the word there comes after a string's end
-abbrev pub is_past_end : Thing → (address : ℕ) → Bool
-is_past_end t address = t.is_cut && address - t.start + 1 == t.words
+-- whether a part of the word there comes after a string's end
+abbrev pub is_past_end : Thing → Part → (address : ℕ) → Bool
+is_past_end t part.Second address = t.is_cut && address - t.start + 1 == t.words
+is_past_end t other address = false
 
 -- A string ends with the word that has a byte 4.
 abbrev pub ends_string : ℕ → Bool

@@ -1,9 +1,9 @@
 //! What a step does to marks.
 ghost use Rattle.std.specs.Prelude.{◌≡◌};
-ghost use Rattle.bcareful.specs.Effects.{call_effect, combined, instr_effect, moment_of, operand};
+ghost use Rattle.bcareful.specs.Effects.{call_effect, combined, instr_effect, moment_of, operand, operands_taken};
 
 use crate::moment::Moment;
-use crate::thing::Mark;
+use crate::thing::{Mark, Part};
 use blang::Instr;
 use bword::BinOp;
 
@@ -16,10 +16,28 @@ pub enum Effect {
     Puts(usize, Mark),
     /// It takes so many, and puts the word that it stores at the address.
     Stores(usize, u16, Mark),
+    /// It takes so many, puts a plain one, and sets a character of the word at the address, which has this mark then.
+    Sets(usize, u16, Mark),
     /// It takes so many arguments and the callee below them, and a call begins.
     Begins(u16),
     /// It takes so many, puts one, and a call is over.
     Ends(usize, Mark),
+}
+
+impl Effect {
+    /// How many operands a step with this effect takes.
+    pub fn operands_taken(self) -> usize
+        ensures { result ≡ operands_taken self }
+    {
+        match self {
+            Effect::Begins(count) => usize::from(count) + 1,
+            Effect::Takes(count)
+            | Effect::Puts(count, _)
+            | Effect::Stores(count, ..)
+            | Effect::Sets(count, ..)
+            | Effect::Ends(count, _) => count,
+        }
+    }
 }
 
 // The mark of what an operator gives.
@@ -28,12 +46,13 @@ fn combined(operator: BinOp, left: Mark, right: Mark) -> Mark
 {
     match operator {
         BinOp::Add => match (left, right) {
-            (Mark::Of(thing), Mark::Unset | Mark::Plain) => Mark::Of(thing),
-            (Mark::Unset | Mark::Plain, Mark::Of(thing)) => Mark::Of(thing),
+            (Mark::Of(_), Mark::Of(_)) => Mark::Plain,
+            (Mark::Of(thing), _) | (_, Mark::Of(thing)) => Mark::Of(thing),
             _ => Mark::Plain,
         },
         BinOp::Sub => match (left, right) {
-            (Mark::Of(thing), Mark::Unset | Mark::Plain) => Mark::Of(thing),
+            (Mark::Of(_), Mark::Of(_)) => Mark::Plain,
+            (Mark::Of(thing), _) => Mark::Of(thing),
             _ => Mark::Plain,
         },
         _ => Mark::Plain,
@@ -87,7 +106,9 @@ fn call_effect(moment: &Moment<'_>, count: u16) -> Effect
     match moment.operand(arguments) {
         2 => {
             let address = moment.character_address(arguments);
-            Effect::Stores(arguments + 1, address, Mark::Plain)
+            let part = Part::at(moment.argument(arguments, 1));
+            let mark = moment.marks.word(address).with_part(part);
+            Effect::Sets(arguments + 1, address, mark)
         }
         0..=6 => Effect::Puts(arguments + 1, Mark::Plain),
         _ => Effect::Begins(count),

@@ -1,20 +1,21 @@
 //! What is found at a step.
 ghost use Rattle.std.specs.Prelude.{◌≡◌, false};
 ghost use Rattle.bcareful.specs.Effects.{mark, moment_of, operand};
-ghost use Rattle.bcareful.specs.Findings.{call_touch, counts_by, found_word, instr_finding, is_address, is_unset};
+ghost use Rattle.bcareful.specs.Findings.{call_touch, counts_by, found_word, instr_finding, is_address, unset_part};
 ghost use Rattle.bcareful.specs.Findings.{result_finding, thing_finding, touch, touch_finding, word_finding};
 ghost use Rattle.bcareful.specs.Findings.{wrap_finding, wraps};
 
+use crate::effect::instr_effect;
 use crate::moment::Moment;
-use crate::thing::{Mark, Thing};
+use crate::thing::{Mark, Part, Thing};
 use blang::{Increment, Instr};
 use bword::BinOp;
 
 /// What is wrong with a step.
 #[derive(Clone, Copy)]
 pub enum Finding {
-    /// It reads this word, which nothing has set.
-    Never(u16),
+    /// It reads this word, or a character of it, and nothing has set this part of the word.
+    Never(Part, u16),
     /// It reads or stores a word through an address that has left the thing of which it was made.
     Index(Thing, u16),
     /// It reads or stores one of the first words or one past the last frame.
@@ -34,8 +35,8 @@ pub struct Touched {
     /// The mark of its address.
     pub origin: Mark,
     pub reads: bool,
-    /// Whether it is a character, the second one of the word.
-    pub is_second: bool,
+    /// What of the word.
+    pub part: Part,
 }
 
 // The word of memory that an instruction reads or stores.
@@ -57,14 +58,14 @@ fn touch_through(moment: &Moment<'_>, above: usize, reads: bool) -> Touched
       address = operand (moment_of moment.now) above;
       origin = mark (moment_of moment.now) above;
       reads = reads;
-      is_second = false;
+      part = Part.Whole;
     } }
 {
     Touched {
         address: moment.operand(above),
         origin: moment.marks.operand(above),
         reads,
-        is_second: false,
+        part: Part::Whole,
     }
 }
 
@@ -77,17 +78,20 @@ fn call_touch(moment: &Moment<'_>, count: usize) -> Option<Touched>
             address: moment.character_address(count),
             origin: moment.argument_mark(count, 0),
             reads: callee == 1,
-            is_second: moment.argument(count, 1) % 2 == 1,
+            part: Part::at(moment.argument(count, 1)),
         })
     } else {
         None
     }
 }
 
-/// What is found at an instruction.
+/// What is found at an instruction; nothing where the machine is stuck for want of operands.
 pub fn instr_finding(moment: &Moment<'_>, instr: &Instr) -> Option<Finding>
     ensures { result ≡ instr_finding (moment_of moment.now) instr.now }
 {
+    if moment.operands.len() < instr_effect(moment, *instr).operands_taken() {
+        return None;
+    }
     found_word(moment, *instr).or(wrap_finding(moment, *instr))
 }
 
@@ -163,7 +167,7 @@ fn is_address(mark: Mark) -> bool
 {
     match mark {
         Mark::Of(_) => true,
-        Mark::Unset | Mark::Plain => false,
+        Mark::Unset | Mark::First | Mark::Second | Mark::Plain => false,
     }
 }
 
@@ -185,7 +189,7 @@ fn touch_finding(moment: &Moment<'_>, touch: Touched) -> Option<Finding>
 {
     match touch.origin {
         Mark::Of(thing) => thing_finding(moment, thing, touch),
-        Mark::Unset | Mark::Plain => {
+        Mark::Unset | Mark::First | Mark::Second | Mark::Plain => {
             if touch.address < 7 {
                 return Some(Finding::Low(touch.address));
             }
@@ -204,7 +208,7 @@ fn thing_finding(moment: &Moment<'_>, thing: Thing, touch: Touched) -> Option<Fi
     if thing.is_outside(touch.address) {
         return Some(Finding::Index(thing, touch.address));
     }
-    if touch.is_second && thing.is_past_end(touch.address) {
+    if thing.is_past_end(touch.part, touch.address) {
         return Some(Finding::Past(touch.address));
     }
     word_finding(moment, touch)
@@ -217,17 +221,23 @@ fn word_finding(moment: &Moment<'_>, touch: Touched) -> Option<Finding>
     if u64::from(touch.address) >= end {
         return Some(Finding::Low(touch.address));
     }
-    if touch.reads && is_unset(moment.marks.word(touch.address)) {
-        return Some(Finding::Never(touch.address));
+    if !touch.reads {
+        return None;
     }
-    None
+    match unset_part(touch.part, moment.marks.word(touch.address)) {
+        Some(part) => Some(Finding::Never(part, touch.address)),
+        None => None,
+    }
 }
 
-fn is_unset(mark: Mark) -> bool
-    ensures { result ≡ is_unset mark }
+// What of a word with this mark nothing has set, where this part of it is read.
+fn unset_part(part: Part, mark: Mark) -> Option<Part>
+    ensures { result ≡ unset_part part mark }
 {
-    match mark {
-        Mark::Unset => true,
-        Mark::Plain | Mark::Of(_) => false,
+    match (part, mark) {
+        (_, Mark::Unset) => Some(Part::Whole),
+        (Part::Whole | Part::Second, Mark::First) => Some(Part::Second),
+        (Part::Whole | Part::First, Mark::Second) => Some(Part::First),
+        _ => None,
     }
 }

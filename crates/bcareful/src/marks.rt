@@ -178,6 +178,11 @@ impl Marks {
                 self.operands.push(mark)?;
                 self.set(usize::from(address), mark);
             }
+            Effect::Sets(count, address, mark) => {
+                self.take(count);
+                self.operands.push(Mark::Plain)?;
+                self.set(usize::from(address), mark);
+            }
             Effect::Begins(count) => {
                 let arguments = usize::from(count);
                 self.grow(call.start, site.parts.frame)?;

@@ -5,13 +5,13 @@ ghost use Rattle.btrace.specs.RowTexts.{legend_of};
 ghost use Rattle.bcareful.specs.Things.{atlas_of};
 ghost use Rattle.bcareful.specs.Tellings.{Tells, TellsOver, address_of, address_text, extent_text, fault_text};
 ghost use Rattle.bcareful.specs.Tellings.{careful_line, finding_meaning, careful_text, found_place, sign, thing_text};
-ghost use Rattle.bcareful.specs.Tellings.{wrap_text};
+ghost use Rattle.bcareful.specs.Tellings.{part_text, wrap_text};
 ghost use Rattle.bwatch.specs.Sights.{sight_at};
 
 use crate::atlas::Atlas;
 use crate::finding::Finding;
 use crate::naming::word_name;
-use crate::thing::Thing;
+use crate::thing::{Part, Thing};
 use crate::watching::Found;
 use bendless::Endless;
 use blang::status::{self, Status};
@@ -69,7 +69,7 @@ fn careful_line(finding: Finding) -> &'static [u8]
     ensures { result.now ≡ careful_line finding }
 {
     match finding {
-        Finding::Never(_) => b"careful set\n",
+        Finding::Never(..) => b"careful set\n",
         Finding::Low(_) => b"careful low\n",
         Finding::Index(..) | Finding::Past(_) | Finding::Over(_) => b"careful index\n",
         Finding::Wraps(..) => b"careful wraps\n",
@@ -117,7 +117,7 @@ fn address_of(finding: Finding) -> Option<u16>
     ensures { result ≡ address_of finding }
 {
     match finding {
-        Finding::Never(address)
+        Finding::Never(_, address)
         | Finding::Low(address)
         | Finding::Index(_, address)
         | Finding::Past(address)
@@ -137,12 +137,25 @@ fn push_fault<S: Store + Drop>(
         ++ fault_text (atlas_of atlas.now) (active_of stepper.now.call ∷ map active_of stepper.now.below) finding) }
 {
     match finding {
-        Finding::Never(_) => text.push(b"nothing has set "),
+        Finding::Never(part, _) => {
+            text.push(b"nothing has set ")?;
+            text.push(part_text(part))
+        }
         Finding::Low(address) => push_address(text, address),
         Finding::Index(thing, address) => push_thing(text, atlas, stepper, thing, address),
         Finding::Past(_) => text.push(b"a character after the end of "),
         Finding::Over(_) => text.push(b"a word of a call that is over: this is "),
         Finding::Wraps(operator, left, right) => push_wrap(text, operator, left, right),
+    }
+}
+
+fn part_text(part: Part) -> &'static [u8]
+    ensures { result.now ≡ part_text part }
+{
+    match part {
+        Part::Whole => b"",
+        Part::First => b"the first character of ",
+        Part::Second => b"the second character of ",
     }
 }
 

@@ -2,6 +2,7 @@
 ghost use Rattle.std.specs.Prelude.{◌≡◌, ◌<◌, ◌^◌, ◌+◌, ◌%◌, ◌≤◌, drop, length, map};
 ghost use Rattle.bcareful.specs.Things.{ends_string, frame_thing, is_cut, is_outside, is_past_end, next_offset};
 ghost use Rattle.bcareful.specs.Things.{string_at, string_words};
+ghost use Rattle.bcareful.specs.Marks.{part_at, with_part};
 ghost use Rattle.bcareful.specs.Things.{owned, thing_among};
 ghost use Rattle.btools.specs.FrameNames.{word_seen};
 
@@ -47,15 +48,53 @@ impl Owner {
     }
 }
 
+/// A word, or one of its two characters.
+#[derive(Clone, Copy)]
+pub enum Part {
+    Whole,
+    First,
+    Second,
+}
+
+impl Part {
+    /// The character with this index.
+    pub fn at(index: u16) -> Part
+        ensures { result ≡ part_at index }
+    {
+        if index % 2 == 0 {
+            Part::First
+        } else {
+            Part::Second
+        }
+    }
+}
+
 /// What is known of a word beside its value.
 #[derive(Clone, Copy)]
 pub enum Mark {
     /// Nothing has set it.
     Unset,
+    /// Its first character alone was set.
+    First,
+    /// Its second character alone was set.
+    Second,
     /// It is no address, or one of which nobody knows what it was made of.
     Plain,
     /// It is an address that was made of this thing.
     Of(Thing),
+}
+
+impl Mark {
+    /// That of the word after a part of it was set.
+    pub fn with_part(self, part: Part) -> Mark
+        ensures { result ≡ with_part part self }
+    {
+        match (part, self) {
+            (Part::First, Mark::Unset | Mark::First) => Mark::First,
+            (Part::Second, Mark::Unset | Mark::Second) => Mark::Second,
+            _ => Mark::Plain,
+        }
+    }
 }
 
 impl Thing {
@@ -66,11 +105,16 @@ impl Thing {
         address < self.start || usize::from(address.saturating_sub(self.start)) >= self.words
     }
 
-    /// Whether the second byte of the word there comes after a string's end.
-    pub fn is_past_end(self, address: u16) -> bool
-        ensures { result ≡ is_past_end self address }
+    /// Whether a part of the word there comes after a string's end.
+    pub fn is_past_end(self, part: Part, address: u16) -> bool
+        ensures { result ≡ is_past_end self part address }
     {
-        self.is_cut && usize::from(address.saturating_sub(self.start)) + 1 == self.words
+        match part {
+            Part::Second => {
+                self.is_cut && usize::from(address.saturating_sub(self.start)) + 1 == self.words
+            }
+            Part::Whole | Part::First => false,
+        }
     }
 }
 

@@ -1,3 +1,4 @@
 pub mod Answered
+pub mod CoreDone
 mod ReadLibs
 pub mod Showing

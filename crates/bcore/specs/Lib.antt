@@ -1,4 +1,5 @@
 pub mod Blocks
+pub mod CoreJobs
 pub mod Processes
 pub mod Reading
 pub mod Serves

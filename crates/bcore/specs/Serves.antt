@@ -117,11 +117,15 @@ GoesFile shelf source steps ends status = HasNoFile (shelf.lacks source.file) en
     × GoesOff source.edition steps (unread (whole r)) (incoming_of following) ends status
     × Headline source.edition steps (unread (whole r)) (incoming_of following) ends status)
 
+-- the code text in a file was run
+abbrev pub RunsFile : Holdings → (file : Text) → (steps : ℕ) → RunEnds → ℕ → Type 0
+RunsFile shelf file steps ends status = HasNoFile (shelf.lacks file) ends status
+    ⊎ ((text : List ℕ) × shelf.holds file text × RunsText steps text ends status)
+
 -- what was asked for is done, for texts that the shelf holds under the names of the files; or it is left to the tools
 abbrev pub Does : ToolsDo → Holdings → Asked → RunEnds → ℕ → Type 0
 Does tools shelf (compile edition libs) ends status = CompilesInput shelf edition libs ends status
-Does tools shelf (run file steps) ends status = HasNoFile (shelf.lacks file) ends status
-    ⊎ ((text : List ℕ) × shelf.holds file text × RunsText steps text ends status)
+Does tools shelf (run file steps) ends status = RunsFile shelf file steps ends status
 Does tools shelf (go source steps) ends status = GoesFile shelf source steps ends status
 Does tools shelf migrate ends status =
     Migrates (rewriting ends.input ends.input_after ends.out ends.out_after) ends.line ends.line_after status

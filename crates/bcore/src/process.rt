@@ -5,6 +5,7 @@ ghost use Rattle.std.specs.Io.{ReadsAtMost, WritesAtMost};
 ghost use Rattle.std.specs.Io.KnownBytes.{Keeps, ReadConsumes, WriteAppends};
 ghost use Rattle.blang.specs.Reports.{RunEnds, run_ends};
 ghost use Rattle.bcore.specs.Blocks.{WasFinished, WasShown, WasTaken};
+ghost use Rattle.bcore.specs.CoreJobs.{AnswersCore};
 ghost use Rattle.bcore.specs.Processes.{AnswersWords, PerformsTask, ServesProcess};
 ghost use Rattle.bcore.specs.Shelves.{opened};
 
@@ -43,6 +44,35 @@ pub struct Served<O: Write + Drop, D: Write + Drop> {
 /// Does what the words of a command line ask for. Without words it refuses the command line. When it returns, all of
 /// the output was shown, or the status is that of a failed write.
 pub fn serve_process<T, R, I, O, D>(
+    tools: &T,
+    rt: &R,
+    words: Option<Vec<String>>,
+    streams: Streams<I, O, D>,
+) -> Served<O, D>
+where
+    T: Tools,
+    R: AllocGlobal + Files,
+    I: Read + Drop,
+    O: Write + Drop,
+    D: Write + Drop,
+    ensures serves { ServesProcess T.answers (opened R.File.remaining)
+        (option_map (λ v. map_each string_bytes v.items) words) (result.output ≢ None) (record {
+          input = I.remaining streams.input;
+          line = D.contents streams.diag;
+          line_after = D.contents result.diag;
+        }) result.status }
+    ensures core { PerformsTask (AnswersCore (opened R.File.remaining)
+        (option_map (λ v. map_each string_bytes v.items) words)) (result.output ≢ None) (record {
+          input = I.remaining streams.input;
+          line = D.contents streams.diag;
+          line_after = D.contents result.diag;
+        }) result.status }
+{
+    serve_streams(tools, rt, words, streams)
+}
+
+// Serves the words, by the one clause that says it of all jobs: `core` follows from it.
+fn serve_streams<T, R, I, O, D>(
     tools: &T,
     rt: &R,
     words: Option<Vec<String>>,

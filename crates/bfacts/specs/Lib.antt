@@ -1,4 +1,5 @@
 pub mod EngineRows
 pub mod FurtherRows
+pub mod PairRows
 pub mod RuleFacts
 pub mod UnitFacts

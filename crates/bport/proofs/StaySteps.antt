@@ -6,7 +6,7 @@ use Rattle.std.specs.List.{list_any, slice_get}
 use Rattle.std.proofs.lemmas.Bool.Decides.{nat_tests}
 use Rattle.std.proofs.lemmas.Option.{slice_get_past}
 use Rattle.bport.specs.Places.{places_of}
-use Rattle.bport.specs.Staying.{IsLeft, TellsOld, TellsOldUpTo, covers, refuses, is_of, is_old, is_old_at, is_told_at}
+use Rattle.bport.specs.Staying.{IsLeft, TellsOld, TellsOldUpTo, covers, is_of, is_old, is_old_at, is_right, is_told_at}
 use Rattle.bport.specs.declared.edit.Edit.{Edit}
 use Rattle.bport.specs.declared.row.Note.{Note}
 use Rattle.bport.specs.declared.within.Within.{Within}
@@ -91,5 +91,5 @@ left_told source places edits notes is told =
     inl (tells_all source edits notes (subst (λ p. TellsOldUpTo (length source) source p edits notes) is told))
 
 pub left_refused : (source : List ℕ) (edits : List Edit) (notes : List Note) → edits ≡ []
-    → list_any refuses notes ≡ true → IsLeft source edits notes
+    → list_any (is_right source) notes ≡ true → IsLeft source edits notes
 left_refused source edits notes none told = inr (none, told)

@@ -14,7 +14,7 @@ edited_between :
     edited (codes "abcdef") 0 (at 1 3 (codes "X") row.And ∷ at 3 3 (codes "Y") row.Or ∷ []) ≡ codes "aXYdef"
 edited_between = refl
 
-in_order : map (are_edits_of (codes "abc"))
+in_order : map (are_edits_of (codes ";;;"))
     ((at 0 1 [] row.And ∷ at 1 1 [] row.And ∷ at 1 3 [] row.And ∷ []) ∷ (at 1 2 [] row.And ∷ at 1 1 [] row.And ∷ [])
     ∷ (at 2 1 [] row.And ∷ []) ∷ (at 3 4 [] row.And ∷ []) ∷ [])
     ≡ true ∷ false ∷ false ∷ false ∷ []
@@ -54,6 +54,31 @@ octal_in_string : map (are_edits_of (codes "\"\\0123\""))
     ∷ (at 1 5 (codes "*n") row.Escape ∷ []) ∷ [])
     ≡ false ∷ false ∷ true ∷ []
 octal_in_string = refl
+
+-- a statement that goes, another one in its place, and all of the code
+deleted : map (are_edits_of (codes "f(x); g"))
+    ((at 0 4 [] row.And ∷ []) ∷ (at 0 4 (codes "h(y)") row.And ∷ []) ∷ (at 0 7 [] row.Type ∷ []) ∷ [])
+    ≡ false ∷ true ∷ false ∷ []
+deleted = refl
+
+-- what is in the brackets of a declaration, by one of its rows and by another one
+of_declarations : map (are_edits_of (codes "v[2 * N];"))
+    ((at 1 8 (codes " 8") row.Vector ∷ []) ∷ (at 1 8 [] row.External ∷ []) ∷ (at 1 8 [] row.And ∷ [])
+    ∷ (at 0 8 [] row.Vector ∷ []) ∷ [])
+    ≡ true ∷ true ∷ false ∷ false ∷ []
+of_declarations = refl
+
+-- code that goes, and comes again farther on, and that doesn't
+moved : map (are_edits_of (codes "for(;a;b++) c;"))
+    ((at 0 5 (codes "while(") row.For ∷ at 6 11 (codes ") {") row.For ∷ at 14 14 (codes " b++; }") row.For ∷ [])
+    ∷ (at 0 5 (codes "while(") row.For ∷ at 6 11 (codes ") {") row.For ∷ []) ∷ [])
+    ≡ true ∷ false ∷ []
+moved = refl
+
+types_alone : map (are_edits_of (codes "unsigned int n; m;"))
+    ((at 0 13 [] row.Type ∷ []) ∷ (at 0 14 [] row.Type ∷ []) ∷ (at 16 17 [] row.Type ∷ []) ∷ [])
+    ≡ true ∷ false ∷ false ∷ []
+types_alone = refl
 
 told_by_line : listed (codes "f") (codes "a\nb") 1 0 []
     (at 0 0 [] row.And ∷ at 0 1 [] row.Do ∷ at 1 1 [] row.And ∷ at 2 2 [] row.And ∷ [])

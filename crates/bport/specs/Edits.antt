@@ -12,6 +12,7 @@ use Rattle.btools.specs.declared.program.ProgramFault.{ProgramFault}
 use Rattle.btools.specs.declared.program.ProgramFault.TheVariants as why
 use Rattle.bport.specs.Escapes.{escape_for, is_cut_short}
 use Rattle.bport.specs.Places.{is_own_text, is_within_text, places_of}
+use Rattle.bport.specs.Words.{are_kept}
 use Rattle.bport.specs.declared.edit.Edit.{Edit}
 use Rattle.bport.specs.declared.row.Row.{Row}
 use Rattle.bport.specs.declared.row.Row.TheVariants as row
@@ -65,7 +66,7 @@ are_sound source places at (e ∷ es) =
     (nat_le at e.start && nat_le e.start e.end) && (fits source places e && are_sound source places e.end es)
 
 abbrev pub are_edits_of : List ℕ → List Edit → Bool
-are_edits_of source es = are_sound source (places_of within.Start source) 0 es
+are_edits_of source es = are_sound source (places_of within.Start source) 0 es && are_kept source 0 0 es
 
 -- why a source doesn't compile or load, but for want of memory
 abbrev pub is_reason : ProgramFault → Bool

@@ -4,5 +4,6 @@ pub mod Escapes
 pub mod Changes
 pub mod EditRows
 pub mod PlaceRows
+pub mod Words
 pub mod Staying
 pub mod StayRows

@@ -1,10 +1,11 @@
 -- Closed facts: which signs of other forms are told where they stay, and how.
 use Rattle.std.specs.Fmt.{digits}
-use Rattle.std.specs.Prelude.{◌≡◌, ℕ, true, false, Bool, List, [], ◌∷◌, codes, map, refl}
+use Rattle.std.specs.Prelude.{◌≡◌, ℕ, true, false, Bool, List, [], ◌∷◌, Some, codes, map, refl}
 use Rattle.bport.specs.Places.{places_of}
-use Rattle.bport.specs.Staying.{is_old_at, is_told_at, notes_text, refuses_kind}
+use Rattle.bport.specs.Staying.{is_old_at, is_right, is_told_at, is_uneven, notes_text, refuses_kind}
 use Rattle.bport.specs.declared.edit.Edit.{Edit}
 use Rattle.bport.specs.declared.row.Note.{Note}
+use Rattle.bport.specs.declared.row.NoteKind.{NoteKind}
 use Rattle.bport.specs.declared.row.NoteKind.TheVariants as kind
 use Rattle.bport.specs.declared.row.Row.TheVariants as row
 use Rattle.bport.specs.declared.within.Within.TheVariants as within
@@ -45,9 +46,39 @@ told_at : map (λ at. is_told_at at (edit ∷ []) (note ∷ [])) (2 ∷ 3 ∷ 4 
     ≡ true ∷ false ∷ true ∷ true ∷ false ∷ []
 told_at = refl
 
+-- nothing is edited, and one note is told of another place
+of_another_place : is_told_at 2 [] (record { start = 0; kind = kind.Bracket } ∷ []) ≡ false
+of_another_place = refl
+
+-- a note of such a place
+abbrev noted : ℕ → NoteKind → Note
+noted start kind = record { start = start; kind = kind }
+
+-- a bracket without another one, an accent, and an operator of fractions
+right : map (is_right (codes "f( `a` #+ 1;")) (noted 1 kind.Bracket ∷ noted 3 kind.Accent ∷ noted 7 kind.Fraction ∷ [])
+    ≡ true ∷ true ∷ true ∷ []
+right = refl
+
+-- at other bytes, in a comment, where all brackets fit, and of another kind
+wrong : map (is_right (codes "f(a); /* ` # */")) (noted 0 kind.Bracket ∷ noted 1 kind.Bracket ∷ noted 9 kind.Accent
+    ∷ noted 11 kind.Fraction ∷ noted 0 kind.Numbered ∷ noted 0 kind.Unfit ∷ [])
+    ≡ false ∷ false ∷ false ∷ false ∷ false ∷ false ∷ []
+wrong = refl
+
+-- a number before a line, and within it
+numbered : map (is_right (codes "10 a")) (noted 0 kind.Numbered ∷ noted 1 kind.Numbered ∷ noted 3 kind.Numbered ∷ [])
+    ≡ true ∷ false ∷ false ∷ []
+numbered = refl
+
+-- brackets in quotes and comments are none
+uneven : map (is_uneven within.Start 0 0)
+    (codes "f(a[1]){}" ∷ codes "f(a))" ∷ codes "$( $)" ∷ codes "'(' /* ( */ \"(\"" ∷ [])
+    ≡ false ∷ true ∷ false ∷ false ∷ []
+uneven = refl
+
 refusing : map refuses_kind
-    (kind.Bracket ∷ kind.Growth ∷ kind.Fraction ∷ kind.Numbered ∷ kind.Accent ∷ kind.Star ∷ kind.Escape ∷ [])
-    ≡ true ∷ true ∷ true ∷ true ∷ true ∷ false ∷ false ∷ []
+    (kind.Bracket ∷ kind.Fraction ∷ kind.Numbered ∷ kind.Accent ∷ kind.Unfit ∷ kind.Star ∷ kind.Escape ∷ [])
+    ≡ true ∷ true ∷ true ∷ true ∷ false ∷ false ∷ false ∷ []
 refusing = refl
 
 note_line : notes_text (codes "f") (codes "a\nb") (note ∷ [])

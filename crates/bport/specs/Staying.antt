@@ -1,11 +1,13 @@
 -- Promise: signs of other forms of the language that stay are told, and what is told of each note.
-use Rattle.std.specs.Prelude.{ℕ, ◌+◌, ◌<◌, ◌==◌, ◌&&◌, ◌||◌, Bool, true, false, List, [], ◌++◌, ◌≡◌, ◌⊎◌, Option, None}
-use Rattle.std.specs.Prelude.{Some, codes, decimal}
-use Rattle.std.specs.Prelude.{if◌then◌else◌, nat_le, nat_lt, not, slice_get}
+use Rattle.std.specs.Prelude.{ℕ, ◌+◌, ◌<◌, ◌==◌, ◌&&◌, ◌||◌, Bool, true, false, List, [], ◌∷◌, ◌++◌, ◌≡◌, ◌⊎◌}
+use Rattle.std.specs.Prelude.{Option, None, Some, codes, decimal}
+use Rattle.std.specs.Prelude.{if◌then◌else◌, min, nat_le, nat_lt, not, slice_get}
+use Rattle.std.specs.Int.{is_in_range}
 use Rattle.std.specs.List.{flat_map, list_any}
+use Rattle.bword.specs.ByteEnds.{most}
 use Rattle.btools.specs.Quoting.{file_text}
 use Rattle.bport.specs.Changes.{line_on}
-use Rattle.bport.specs.Places.{places_of}
+use Rattle.bport.specs.Places.{after, places_of}
 use Rattle.bport.specs.declared.edit.Edit.{Edit}
 use Rattle.bport.specs.declared.row.Note.{Note}
 use Rattle.bport.specs.declared.row.NoteKind.{NoteKind}
@@ -13,8 +15,8 @@ use Rattle.bport.specs.declared.row.NoteKind.TheVariants as kind
 use Rattle.bport.specs.declared.within.Within.{Within}
 use Rattle.bport.specs.declared.within.Within.TheVariants as within
 
--- Two bytes are an assignment operator with `=` last, `&&`, `||`, `$(` or `$)`, or the first one is `~`. Before a further
--- `=` the first of the three belongs to what stands before, but for `<<=` and `>>=`.
+-- Two bytes are an assignment operator with `=` last, `&&`, `||`, `$(` or `$)`, or the first one is `~`. Before a
+-- further `=` the first of the three belongs to what stands before, but for `<<=` and `>>=`.
 abbrev pub is_old_sign : (first second : ℕ) → (is_longer : Bool) → Bool
 is_old_sign a b is_longer =
     if b == 61 then (not is_longer && list_any (λ c. a == c) (codes "+-*/%&|^~"))
@@ -62,7 +64,6 @@ TellsOld source edits notes =
 
 -- a note that says that nothing is edited
 abbrev pub refuses_kind : NoteKind → Bool
-refuses_kind kind.Growth = true
 refuses_kind kind.Bracket = true
 refuses_kind kind.Fraction = true
 refuses_kind kind.Numbered = true
@@ -83,12 +84,10 @@ note_sentence kind.Pointer =
 note_sentence kind.Words = codes "this vector has a word for each character, and a string two in a word"
 note_sentence kind.Arguments = codes "a program gets no words: its parameters are 0"
 note_sentence kind.Macro = codes "this name stands for no value: write what it stands for where it is used"
-note_sentence kind.Comma = codes "a comma between expressions: write two statements"
 note_sentence kind.Escape = codes "this escape stands for no byte that quotes can have here"
 note_sentence kind.Characters = codes "a word holds two characters: the others need words of their own"
 note_sentence kind.Remark = codes "this comment has */ or stands among code that moves"
 note_sentence kind.Exclusive = codes "write (a | b) - (a & b) for a ^ b, with a and b evaluated before"
-note_sentence kind.Condition = codes "this && or || is too large to change"
 note_sentence kind.Loop = codes "this loop has a comment or a string in what would move, or no end"
 note_sentence kind.Large = codes "a word is at most 65535"
 note_sentence kind.Break = codes "break and default are in edition 2: b port --edition 2"
@@ -96,7 +95,7 @@ note_sentence kind.Number = codes "this number has letters or digits that none h
 note_sentence kind.Heap = codes "getvec gives 0 until main has called givevec"
 note_sentence kind.Backslash = codes "\\ in quotes is a character here, and the next one, too: *n is a newline"
 note_sentence kind.Ampersands = codes "&& is & before the address of what comes after it"
-note_sentence kind.Growth = codes "the ported source would have more than twice its size: nothing is changed"
+note_sentence kind.Unfit = codes "these changes don't fit one another: nothing is changed"
 note_sentence kind.Branches = codes "all lines up to #endif stay: take out those that aren't meant"
 note_sentence kind.Twice = codes "this name stands for its first value everywhere"
 note_sentence kind.Wrapped = codes "what stands for this name is in parentheses now"
@@ -121,7 +120,7 @@ note_sentence kind.Accent = codes "there are no constants between accents: port 
 note_sentence kind.Star = codes "*\" doesn't end a string: write **\" where it does"
 note_sentence kind.Pair =
     codes "a word has two characters of eight bits, the first one in its high byte: 'ab' is 97 * 256 + 98"
-note_sentence kind.Order = codes "arguments are evaluated from left to right: another order may be meant"
+note_sentence kind.Order = codes "operands and arguments are evaluated from left to right: another order may be meant"
 note_sentence kind.Octal = codes "%o writes the 16 bits of a number below 0, without a sign"
 note_sentence kind.Line = codes "puts(s) writes a newline after the string: write putstr(s); putchar('*n');"
 note_sentence kind.Stars = codes "* begins an escape in a string, as in *n and *(: write ** for a star"
@@ -135,7 +134,46 @@ note_text file source n =
 abbrev pub notes_text : (file source : List ℕ) → List Note → List ℕ
 notes_text file source notes = flat_map (note_text file source) notes
 
+-- a byte that stands in this is code
+abbrev pub is_code : Within → Bool
+is_code within.Start = true
+is_code within.Code = true
+is_code within.Slash = true
+is_code within.CharQuote = true
+is_code _ = false
+
+abbrev pub is_opening : ℕ → Bool
+is_opening b = (b == 40) || (b == 91) || (b == 123)
+
+abbrev pub is_closing : ℕ → Bool
+is_closing b = (b == 41) || (b == 93) || (b == 125)
+
+-- one more, if that is so of a byte of code
+abbrev pub one_more : (count : ℕ) → (is_so : Bool) → Within → ℕ
+one_more count is_so place = if is_so && is_code place then min (count + 1) most else count
+
+-- after so many of both, the brackets of code don't come to as many that open as that close
+abbrev pub is_uneven : Within → (opening closing : ℕ) → List ℕ → Bool
+is_uneven place opening closing [] = not (opening == closing)
+is_uneven place opening closing (b ∷ bs) =
+    is_uneven (after place b) (one_more opening (is_opening b) place) (one_more closing (is_closing b) place) bs
+
+-- A note that nothing is edited is right, by the byte at its place and in what that stands, and by whether the brackets
+-- are uneven.
+abbrev pub is_right_of : NoteKind → Option ℕ → Option Within → (uneven : Bool) → Bool
+is_right_of kind.Bracket (Some b) (Some place) uneven =
+    (is_opening b || is_closing b || b == 36) && (is_code place && uneven)
+is_right_of kind.Fraction (Some b) (Some place) uneven = (b == 35) && is_code place
+is_right_of kind.Accent (Some b) (Some place) uneven = (b == 96) && is_code place
+is_right_of kind.Numbered (Some b) (Some within.Start) uneven = is_in_range 48 57 b
+is_right_of _ _ _ uneven = false
+
+abbrev pub is_right : List ℕ → Note → Bool
+is_right source n =
+    is_right_of n.kind (slice_get source n.start) (slice_get (places_of within.Start source) n.start)
+    (is_uneven within.Start 0 0 source)
+
 -- what is left of a source that is no program: each of these signs is taken out or told, or nothing is edited, and a
--- note says so
+-- note that is right says so
 abbrev pub IsLeft : List ℕ → List Edit → List Note → Type 0
-IsLeft source edits notes = TellsOld source edits notes ⊎ ((edits ≡ []) × (list_any refuses notes ≡ true))
+IsLeft source edits notes = TellsOld source edits notes ⊎ ((edits ≡ []) × (list_any (is_right source) notes ≡ true))

@@ -3,7 +3,7 @@ ghost use Rattle.std.specs.Prelude.{◌≡◌, ◌++◌, IfOk};
 ghost use Rattle.bport.specs.Edits.{edited};
 
 use crate::edit::{Edit, between};
-use crate::source::Draft;
+use crate::source::{Draft, Source};
 use btools::Text;
 use std::alloc::{AllocError, Global};
 
@@ -53,4 +53,14 @@ pub(crate) fn render(
     }
     text.push(between(source, at, end))?;
     Ok(text)
+}
+
+/// The text from a token up to the end of another one, with the edits so far.
+pub(crate) fn rendered(
+    source: &Source<'_>,
+    draft: &Draft,
+    first: usize,
+    last: usize,
+) -> Result<Text, AllocError> {
+    render(draft, source.text, source.start(first), source.end(last))
 }

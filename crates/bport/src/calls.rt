@@ -130,7 +130,11 @@ fn ended(source: &Source<'_>, draft: &mut Draft, index: usize, row: Row) -> Resu
         return Ok(());
     }
     let unit = unit_of(source, index, source.partner(open));
-    if is_truth(source, unit) || is_test(source, unit, row) {
+    // No statement is a character of a string: between semicolons it is the test of a `for`.
+    let is_test = row == Row::StringEnd
+        && source.is(unit.first.wrapping_sub(1), b";")
+        && source.is(unit.last.wrapping_add(1), b";");
+    if is_test || is_truth(source, unit) {
         return alone(source, draft, unit, row);
     }
     compared(source, draft, unit.last, row, true)
@@ -176,22 +180,12 @@ fn is_truth(source: &Source<'_>, unit: Unit) -> bool {
     match source.word(before) {
         b"!" => true,
         b"&&" | b"||" => matches!(next, b")" | b"&&" | b"||" | b"?" | b":" | b";" | b","),
-        b"(" if is_condition(source, before) => matches!(next, b")" | b"&&" | b"||" | b"?"),
+        b"(" if matches!(source.head_word(before.wrapping_sub(1)), b"if" | b"while") => {
+            matches!(next, b")" | b"&&" | b"||" | b"?")
+        }
         b"(" | b"=" | b"," | b"?" | b":" => matches!(next, b"&&" | b"||" | b"?"),
         _ => false,
     }
-}
-
-// Whether a parenthesis begins the condition of a statement.
-fn is_condition(source: &Source<'_>, open: usize) -> bool {
-    matches!(source.head_word(open.wrapping_sub(1)), b"if" | b"while")
-}
-
-// Whether it is the test of a `for`: no statement is a character of a string.
-fn is_test(source: &Source<'_>, unit: Unit, row: Row) -> bool {
-    row == Row::StringEnd
-        && source.is(unit.first.wrapping_sub(1), b";")
-        && source.is(unit.last.wrapping_add(1), b";")
 }
 
 // Makes the comparison.

@@ -100,7 +100,7 @@ fn definition(
             draft.note(source, at, NoteKind::Structure)?;
             return Ok(after(source.semicolon(at)));
         }
-        b"manifest" if is_manifest(source, next) => {
+        b"manifest" if source.is_open_brace(next) || source.is(next.wrapping_add(1), b"=") => {
             return constant(source, draft, constants, found, at);
         }
         _ => {}
@@ -116,12 +116,6 @@ fn definition(
         b"=" if name == at => constant(source, draft, constants, found, at),
         _ => variables(source, draft, found, at, name),
     }
-}
-
-// Whether values with names come here, in braces or not.
-fn is_manifest(source: &Source<'_>, index: usize) -> bool {
-    let sign = index.wrapping_add(1);
-    source.is_open_brace(index) || source.is_name(index) && source.is(sign, b"=")
 }
 
 /// The token after one, if there is that one.

@@ -1,7 +1,7 @@
 //! Operators that are written otherwise here.
-use crate::apply::render;
+use crate::apply::{render, rendered};
 use crate::definitions::{after_types, types};
-use crate::names::{is_keyword, is_type};
+use crate::names::is_type;
 use crate::pointers::ends_operand;
 use crate::row::{NoteKind, Row};
 use crate::shape::is_opening;
@@ -10,6 +10,9 @@ use crate::table::NONE;
 use crate::tokens::TokenKind;
 use btools::Text;
 use std::alloc::AllocError;
+
+/// How many bytes the sides of an exclusive or have, which are evaluated twice, and what stands for a name.
+pub(crate) const MOST_BYTES: usize = 1000;
 
 /// Edits a sign.
 pub(crate) fn sign(source: &Source<'_>, draft: &mut Draft, index: usize) -> Result<(), AllocError> {
@@ -126,15 +129,13 @@ fn is_far(source: &Source<'_>, index: usize) -> bool {
     }
 }
 
-// Whether a product or a shift has no number on either side.
+// Whether a product or a shift has no number of one or two digits on either side.
 fn is_wide(source: &Source<'_>, index: usize) -> bool {
     let before = index.wrapping_sub(1);
-    let is_operand = match source.word(before) {
-        b")" => !source.is_head(before),
-        b"]" => true,
-        word => source.is_name(before) && !is_keyword(word),
-    };
-    is_operand && source.kind(index.wrapping_add(1)) != Some(TokenKind::Number)
+    let next = index.wrapping_add(1);
+    let is_small = source.kind(next) == Some(TokenKind::Number) && source.word(next).len() < 3;
+    let is_large = source.kind(before) == Some(TokenKind::Number) && source.word(before).len() > 2;
+    (ends_operand(source, before) || is_large) && !is_small
 }
 
 // `~x` is `(-x - 1)`.
@@ -204,6 +205,9 @@ pub(crate) fn exclusive_or(
     );
     let left = render(draft, source.text, start, before)?;
     let right = render(draft, source.text, after, end)?;
+    if left.as_slice().len().saturating_add(right.as_slice().len()) > MOST_BYTES {
+        return draft.note(source, found.sign, NoteKind::Exclusive);
+    }
     let mut text = Text::new(draft.alloc);
     text.push(b") - (")?;
     text.push(left.as_slice())?;
@@ -229,8 +233,8 @@ pub(crate) fn exclusive_assignment(
         return draft.note(source, sign, NoteKind::Exclusive);
     }
     let last = source.end(end.wrapping_sub(1));
-    let value = render(draft, source.text, source.start(first), last)?;
-    let word = render(draft, source.text, source.start(name), source.end(name))?;
+    let value = rendered(source, draft, first, end.wrapping_sub(1))?;
+    let word = rendered(source, draft, name, name)?;
     let mut head = Text::new(draft.alloc);
     head.push(b"= ((")?;
     head.push(word.as_slice())?;

@@ -35,7 +35,11 @@ pub(crate) fn variables(
         if index < next {
             continue;
         }
-        depth = depth_at(source, depth, index);
+        depth = match source.word(index) {
+            b"{" | b"$(" => depth.saturating_add(1),
+            b"}" | b"$)" => depth.saturating_sub(1),
+            _ => depth,
+        };
         let is_end = name != at && depth == 0 && source.is(index, b",");
         if is_end && !goes_on(source, own, index) {
             found.add(own, index)?;
@@ -47,15 +51,6 @@ pub(crate) fn variables(
     }
     found.add(own, last)?;
     Ok(after(last))
-}
-
-// Within how many braces a token stands, from that of the token before it.
-fn depth_at(source: &Source<'_>, depth: usize, index: usize) -> usize {
-    match source.word(index) {
-        b"{" | b"$(" => depth.saturating_add(1),
-        b"}" | b"$)" => depth.saturating_sub(1),
-        _ => depth,
-    }
 }
 
 // Whether another initial value comes after a comma, and no other name.
@@ -87,8 +82,8 @@ fn another(
     let open = name.wrapping_add(1);
     let close = source.partner(open);
     if source.is_open_paren(open) && matches!(source.word(close.wrapping_add(1)), b"," | b";") {
-        draft.put(source.start(comma), source.end(close), b"", Row::Prototype)?;
         found.take(comma, close);
+        draft.comment(source, comma, close, Row::Prototype)?;
         return Ok(close.wrapping_add(1));
     }
     draft.replace(source, comma, b";", Row::Type)?;

@@ -108,7 +108,9 @@ fn declarations(
             b";" => false,
             _ => is_listing,
         };
-        let is_outer = slot(&outline.owners, index) == NONE && begins(source, index);
+        let before = source.word(index.wrapping_sub(1));
+        let is_first = index == 0 || matches!(before, b";" | b"}" | b"$)");
+        let is_outer = is_first && slot(&outline.owners, index) == NONE;
         let is_own = slot(&found.roles, index) == NONE;
         if is_listing || outline.is_gone(index) {
             put(&mut found.roles, index, PARAMETER);
@@ -125,12 +127,6 @@ fn declarations(
         }
     }
     Ok(())
-}
-
-// Whether a token begins a definition without a type.
-fn begins(source: &Source<'_>, index: usize) -> bool {
-    let before = source.word(index.wrapping_sub(1));
-    index == 0 || matches!(before, b";" | b"}" | b"$)")
 }
 
 // Notes a declaration.

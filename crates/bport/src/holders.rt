@@ -190,7 +190,9 @@ fn find_uses(source: &Source<'_>, outline: &Outline, found: &mut Holders) -> boo
             continue;
         }
         let is_star = !declaring.has_names && is_star_call(source, index);
-        has_stars = has_stars || is_star && !is_known(found, pointer);
+        let is_known = slot(&found.pointers, pointer) != NONE
+            || slot(&found.names, pointer) != NONE;
+        has_stars = has_stars || is_star && !is_known;
         let first = slot(source.firsts, index);
         let name = slot(&found.names, first);
         let is_call = !declaring.has_names && pointed(source, index.wrapping_sub(2)) == index;
@@ -204,11 +206,6 @@ fn find_uses(source: &Source<'_>, outline: &Outline, found: &mut Holders) -> boo
         }
     }
     has_stars
-}
-
-// Whether a name is declared so, or is that of such an external.
-fn is_known(found: &Holders, first: usize) -> bool {
-    slot(&found.pointers, first) != NONE || slot(&found.names, first) != NONE
 }
 
 // Whether a call of what `*` gives begins with a parenthesis.

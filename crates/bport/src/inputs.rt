@@ -3,6 +3,7 @@ use crate::calls::compared;
 use crate::definitions::{Function, Outline};
 use crate::expressions::is_assignment;
 use crate::names::is_keyword;
+use crate::refusing::is_operand;
 use crate::row::{NoteKind, Row};
 use crate::source::{Draft, Source};
 use crate::table::{NONE, filled, put, slot};
@@ -17,6 +18,12 @@ struct Stores {
     others: Vec<usize>,
     /// For each name of an external any number.
     externals: Vec<usize>,
+    /// The same of what `char` gave.
+    strings: Vec<usize>,
+    /// The same of what any other call gave.
+    calls: Vec<usize>,
+    /// Where it is asked whether such a word is below 0.
+    signed: Vec<usize>,
     /// Whether what `getchar` gave is somewhere else, too.
     is_spread: bool,
 }
@@ -44,6 +51,9 @@ pub(crate) fn inputs(
         inputs: filled(alloc, count)?,
         others: filled(alloc, count)?,
         externals: filled(alloc, count)?,
+        strings: filled(alloc, count)?,
+        calls: filled(alloc, count)?,
+        signed: Vec::new(alloc),
         is_spread: false,
     };
     for external in &outline.variables {
@@ -56,6 +66,9 @@ pub(crate) fn inputs(
         comparisons(source, draft, &mut stores, &mut edited, function, number)?;
     }
     if stores.is_spread {
+        for sign in &stores.signed {
+            draft.note(source, *sign, NoteKind::Zero)?;
+        }
         tell(source, draft, &edited)?;
     }
     Ok(())
@@ -68,7 +81,14 @@ fn stores_in(source: &Source<'_>, stores: &mut Stores, function: Function, numbe
         if first == NONE {
             continue;
         }
-        if gets(source, index) {
+        let call = index.wrapping_add(2);
+        if gets(source, index, b"char") {
+            put(&mut stores.strings, first, number);
+        }
+        if source.is_call(call) && source.is(index.wrapping_add(1), b"=") {
+            put(&mut stores.calls, first, number);
+        }
+        if gets(source, index, b"getchar") {
             put(&mut stores.inputs, first, number);
         } else if index < function.body || is_set(source, index) && !is_character(source, index) {
             put(&mut stores.others, first, number);
@@ -77,12 +97,12 @@ fn stores_in(source: &Source<'_>, stores: &mut Stores, function: Function, numbe
     }
 }
 
-// Whether a name gets what `getchar` gives, and nothing is made of it before.
-fn gets(source: &Source<'_>, name: usize) -> bool {
+// Whether a name gets what a function gives, and nothing is made of it before.
+fn gets(source: &Source<'_>, name: usize, function: &[u8]) -> bool {
     let call = name.wrapping_add(2);
     let close = source.partner(call.wrapping_add(1));
     source.is(name.wrapping_add(1), b"=")
-        && source.is(call, b"getchar")
+        && source.is(call, function)
         && source.is_call(call)
         && matches!(
             source.word(close.wrapping_add(1)),
@@ -113,14 +133,6 @@ fn is_character(source: &Source<'_>, name: usize) -> bool {
         && matches!(source.word(last.wrapping_add(1)), b")" | b";" | b"," | b"]")
 }
 
-fn is_operand(source: &Source<'_>, index: usize) -> bool {
-    match source.kind(index) {
-        Some(TokenKind::Sign) => matches!(source.word(index), b")" | b"]"),
-        Some(_) => !source.is(index, b"return"),
-        None => false,
-    }
-}
-
 // Whether a call of `getchar` is a value of a function, a `switch` or a call, or is stored in what is no name.
 fn hands_on(source: &Source<'_>, index: usize) -> bool {
     if !source.is(index, b"getchar") || !source.is_call(index) {
@@ -130,7 +142,10 @@ fn hands_on(source: &Source<'_>, index: usize) -> bool {
     let head = before.wrapping_sub(1);
     match source.word(before) {
         b"return" | b"," => true,
-        b"(" => is_value_head(source, head) || source.is_name(head) && !is_plain_head(source, head),
+        b"(" => {
+            let is_other = !is_keyword(source.word(head)) && !source.is(head, b"putchar");
+            is_value_head(source, head) || source.is_name(head) && is_other
+        }
         b"=" => !source.is_name(head) || source.is(head.wrapping_sub(2), b"switch"),
         _ => false,
     }
@@ -147,8 +162,21 @@ fn comparisons(
 ) -> Result<(), AllocError> {
     for index in function.body..function.end.min(source.tokens.len()) {
         let first = slot(source.firsts, index);
-        if first == NONE || !stores.is_input(first, number) {
+        if first == NONE {
             continue;
+        }
+        let is_zero = is_zero_test(source, index);
+        if is_zero && slot(&stores.strings, first) == number {
+            draft.note_once(source, index, NoteKind::Ends)?;
+        }
+        if !stores.is_input(first, number) {
+            if slot(&stores.calls, first) == number && is_sign_test(source, index) {
+                stores.signed.push(index.wrapping_add(1))?;
+            }
+            continue;
+        }
+        if is_zero {
+            draft.note_once(source, index, NoteKind::Zero)?;
         }
         if stores.is_alone(first, number) {
             put(edited, index, 0);
@@ -165,11 +193,6 @@ fn comparisons(
     Ok(())
 }
 
-// Whether what stands in parentheses after a word goes nowhere else.
-fn is_plain_head(source: &Source<'_>, index: usize) -> bool {
-    is_keyword(source.word(index)) || source.is(index, b"putchar")
-}
-
 // Whether what stands in parentheses after a word is handed on.
 fn is_value_head(source: &Source<'_>, index: usize) -> bool {
     matches!(source.word(index), b"return" | b"switch")
@@ -181,8 +204,15 @@ fn is_sign_test(source: &Source<'_>, index: usize) -> bool {
     matches!(source.word(sign), b"<" | b">=") && source.is(sign.wrapping_add(1), b"0")
 }
 
-fn is_minus_one(source: &Source<'_>, first: usize) -> bool {
-    source.is(first, b"-") && source.is(first.wrapping_add(1), b"1")
+// Whether what ends with a token is compared with 0, or only its truth counts.
+fn is_zero_test(source: &Source<'_>, index: usize) -> bool {
+    let sign = index.wrapping_add(1);
+    match (source.word(index.wrapping_sub(1)), source.word(sign)) {
+        (_, b"==" | b"!=" | b">") => source.is(sign.wrapping_add(1), b"0"),
+        (b"!", _) | (b"(" | b"&&" | b"||", b"&&" | b"||" | b"?") | (b"&&" | b"||", b")") => true,
+        (b"(", b")") => source.is_head(sign),
+        _ => false,
+    }
 }
 
 // Tells each comparison with -1, and each case of it, that stays.
@@ -192,7 +222,8 @@ fn tell(source: &Source<'_>, draft: &mut Draft, edited: &[usize]) -> Result<(), 
         let next = index.wrapping_add(1);
         let stays = slot(edited, before) == NONE && !is_of_call(source, before);
         let is_compared = matches!(source.word(index), b"==" | b"!=") && stays;
-        if (is_compared || source.is(index, b"case")) && is_minus_one(source, next) {
+        let is_minus_one = source.is(next, b"-") && source.is(next.wrapping_add(1), b"1");
+        if (is_compared || source.is(index, b"case")) && is_minus_one {
             draft.note(source, index, NoteKind::Zero)?;
         }
     }

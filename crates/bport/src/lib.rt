@@ -37,6 +37,7 @@ mod taken;
 mod tokens;
 mod turned;
 mod within;
+mod words;
 
 pub use apply::joined;
 pub use edit::Edit;

@@ -1,5 +1,5 @@
 //! Vectors of functions that have lists of values.
-use crate::apply::render;
+use crate::apply::rendered;
 use crate::row::{NoteKind, Row};
 use crate::sizes::told_size;
 use crate::source::{Draft, Source};
@@ -120,17 +120,6 @@ fn push_values(
         }
     }
     Ok(())
-}
-
-// The text from a token to another one, with the edits so far.
-fn rendered(
-    source: &Source<'_>,
-    draft: &Draft,
-    first: usize,
-    last: usize,
-) -> Result<Text, AllocError> {
-    let (start, end) = (source.start(first), source.end(last));
-    render(draft, source.text, start, end)
 }
 
 fn push_value(values: &mut Text, name: &[u8], index: u64, value: &[u8]) -> Result<(), AllocError> {

@@ -30,13 +30,6 @@ impl Region {
             has_signs: false,
         }
     }
-
-    // Whether a semicolon ends it, and it is the test of a `for`.
-    fn is_test(&self, source: &Source<'_>, end: usize) -> bool {
-        source.is(end, b";")
-            && source.is(self.first.wrapping_sub(1), b";")
-            && source.is(self.open.wrapping_sub(1), b"for")
-    }
 }
 
 /// Edits these signs, and tells where an exclusive or is.
@@ -66,17 +59,12 @@ pub(crate) fn signs(
             };
         } else if matches!(word, b"&&" | b"||" | b"^") {
             region.has_signs = true;
-        } else if ends_region(word) && !is_typed_call(source, index) {
+        } else if ends_region(word) && !(is_type(word) && source.is_call(index)) {
             end_region(source, draft, &mut exclusives, region, index)?;
             region = Region::new(region.open, next);
         }
     }
     Ok(exclusives)
-}
-
-// Whether a function with the name of a type is called.
-fn is_typed_call(source: &Source<'_>, index: usize) -> bool {
-    is_type(source.word(index)) && source.is_call(index)
 }
 
 fn ends_region(word: &[u8]) -> bool {
@@ -194,9 +182,12 @@ fn logical(
         }
         return Ok(());
     }
-    let is_test = region.is_test(source, end);
+    let before = first.wrapping_sub(1);
+    let is_test = source.is(end, b";")
+        && source.is(before, b";")
+        && source.is(region.open.wrapping_sub(1), b"for");
     let is_truth = is_test || is_truth(source, first, end);
-    let is_filled = is_test || is_filled(source, first, end);
+    let is_filled = is_test || is_closing(source.word(end)) && source.partner(end) == before;
     disjunction(source, draft, signs, first, end, is_truth, is_filled)
 }
 
@@ -285,11 +276,6 @@ fn is_truth(source: &Source<'_>, first: usize, end: usize) -> bool {
         }
         _ => false,
     }
-}
-
-// Whether a region is all that its brackets have.
-fn is_filled(source: &Source<'_>, first: usize, end: usize) -> bool {
-    is_closing(source.word(end)) && source.partner(end) == first.wrapping_sub(1)
 }
 
 // `a || b` is `a ? 1 : b`.

@@ -1,5 +1,5 @@
 //! Loops, and what goes on with their next turn.
-use crate::apply::render;
+use crate::apply::rendered;
 use crate::logic::after_part;
 use crate::names::is_type;
 use crate::row::{NoteKind, Row};
@@ -195,42 +195,24 @@ struct Parts {
     second: usize,
     close: usize,
     end: usize,
-}
-
-impl Parts {
-    fn has_start(&self) -> bool {
-        self.first != self.open.wrapping_add(1)
-    }
-
-    fn has_test(&self) -> bool {
-        self.second != self.first.wrapping_add(1)
-    }
-
-    fn has_step(&self) -> bool {
-        self.close != self.second.wrapping_add(1)
-    }
-
-    // The head of the `while`, up to the test.
-    fn head(&self) -> &'static [u8] {
-        if self.has_test() {
-            b"while("
-        } else {
-            b"while(1"
-        }
-    }
+    has_start: bool,
+    has_step: bool,
 }
 
 fn parts_of(source: &Source<'_>, index: usize) -> Option<Parts> {
     let open = index.wrapping_add(1);
     let first = source.semicolon(open.wrapping_add(1));
     let second = source.semicolon(first.wrapping_add(1));
+    let close = source.partner(open);
     let parts = Parts {
         index,
         open,
         first,
         second,
-        close: source.partner(open),
+        close,
         end: source.statement_end(index),
+        has_start: first != open.wrapping_add(1),
+        has_step: close != second.wrapping_add(1),
     };
     let is_whole = source.is_open_paren(open)
         && parts.first < parts.second
@@ -259,6 +241,9 @@ pub(crate) fn for_loop(
     }
     for_head(source, draft, parts, loops.has_label(index))?;
     let text = for_tail(source, draft, loops, parts)?;
+    if text.as_slice().is_empty() {
+        return Ok(());
+    }
     let at = source.end(parts.end.wrapping_sub(1));
     draft.put_text(at, at, text, Row::For)
 }
@@ -270,8 +255,9 @@ fn for_head(
     has_label: bool,
 ) -> Result<(), AllocError> {
     let test = parts.first.wrapping_add(1);
-    let words = parts.head();
-    if parts.has_start() {
+    let has_test = parts.second != test;
+    let words: &[u8] = if has_test { b"while(" } else { b"while(1" };
+    if parts.has_start {
         draft.put(
             source.start(parts.index),
             source.end(parts.open),
@@ -288,7 +274,7 @@ fn for_head(
             Row::For,
         )?;
     }
-    let tail: &[u8] = if parts.has_step() || has_label {
+    let tail: &[u8] = if parts.has_step || has_label {
         b") {"
     } else {
         b")"
@@ -330,15 +316,15 @@ fn for_tail(
         loops.push_label(&mut text, parts.index)?;
         text.push(b":")?;
     }
-    if parts.has_step() {
+    if parts.has_step {
         push_steps(&mut text, source, draft, parts)?;
     } else if has_label {
         text.push(b" ;")?;
     }
-    if parts.has_step() || has_label {
+    if parts.has_step || has_label {
         text.push(b" }")?;
     }
-    if parts.has_start() {
+    if parts.has_start {
         text.push(b" }")?;
     }
     Ok(text)
@@ -376,8 +362,7 @@ fn push_step(
     first: usize,
     last: usize,
 ) -> Result<(), AllocError> {
-    let (start, end) = (source.start(first), source.end(last));
-    let step = render(draft, source.text, start, end)?;
+    let step = rendered(source, draft, first, last)?;
     text.push(b" ")?;
     text.push(step.as_slice().trim_ascii())?;
     text.push(b";")

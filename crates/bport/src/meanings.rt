@@ -2,11 +2,11 @@
 use crate::calls::defines;
 use crate::expressions::{is_assignment, is_callee, is_tight};
 use crate::logic::after_part;
-use crate::names::{is_keyword, is_type, value_of_number};
+use crate::names::{is_keyword, value_of_number};
 use crate::quotes::units_in;
 use crate::row::NoteKind;
-use crate::source::{Dialect, Draft, Quotes, Source};
-use crate::table::NONE;
+use crate::source::{Draft, Quotes, Source};
+use crate::table::{NONE, filled, put, slot};
 use crate::tokens::TokenKind;
 use std::alloc::AllocError;
 
@@ -19,7 +19,6 @@ const MOST_CALLS: usize = 4;
 /// What is known of a whole source.
 #[derive(Clone, Copy)]
 struct Facts {
-    has_types: bool,
     /// Whether its words may have more than 16 bits: it is of another form.
     is_wide: bool,
     /// Whether it defines these, or what comes after it does.
@@ -36,13 +35,19 @@ pub(crate) fn meanings(
     is_wide: bool,
 ) -> Result<(), AllocError> {
     let facts = Facts {
-        has_types: has_types(source),
         is_wide,
         has_puts: defines(source, b"puts") || defines(others, b"puts"),
         has_printf: defines(source, b"printf"),
         has_write: defines(source, b"write") || defines(others, b"write"),
     };
+    let mut texts = filled(draft.alloc, source.tokens.len())?;
     for index in 0..source.tokens.len() {
+        if source.kind(index) == Some(TokenKind::String) && source.is(index.wrapping_sub(1), b"=") {
+            put(&mut texts, slot(source.firsts, index.wrapping_sub(2)), 0);
+        }
+        if puts_word(source, &texts, index) {
+            draft.note_once(source, index, NoteKind::Pointer)?;
+        }
         if let Some(kind) = meaning(source, facts, index) {
             draft.note_once(source, index, kind)?;
         }
@@ -50,13 +55,18 @@ pub(crate) fn meanings(
     Ok(())
 }
 
-fn has_types(source: &Source<'_>) -> bool {
-    for index in 0..source.tokens.len() {
-        if is_type(source.word(index)) && !source.is_call(index) {
-            return true;
-        }
-    }
-    false
+// Whether a word of what got a string is written: of these names any number is kept.
+fn puts_word(source: &Source<'_>, texts: &[usize], index: usize) -> bool {
+    let first = index.wrapping_add(2);
+    let is_star = source.is(first, b"*");
+    let name = if is_star {
+        first.wrapping_add(1)
+    } else {
+        first
+    };
+    source.is(index, b"putchar")
+        && (is_star || source.is(name.wrapping_add(1), b"["))
+        && slot(texts, slot(source.firsts, name)) != NONE
 }
 
 fn meaning(source: &Source<'_>, facts: Facts, index: usize) -> Option<NoteKind> {
@@ -67,7 +77,7 @@ fn meaning(source: &Source<'_>, facts: Facts, index: usize) -> Option<NoteKind> 
         TokenKind::Char if units_in(source.quotes, word) == 2 && !is_written(source, index) => {
             Some(NoteKind::Pair)
         }
-        TokenKind::String if source.quotes == Quotes::Both && has_pair(word, b'*', b"nte0()") => {
+        TokenKind::String if source.quotes == Quotes::Both && has_pair(word, b'*', b"nte0()*") => {
             Some(NoteKind::Stars)
         }
         TokenKind::String if !facts.has_printf && is_form(source, index) => {
@@ -83,15 +93,15 @@ fn meaning(source: &Source<'_>, facts: Facts, index: usize) -> Option<NoteKind> 
 }
 
 fn sign_meaning(source: &Source<'_>, facts: Facts, index: usize) -> Option<NoteKind> {
+    let before = index.wrapping_sub(1);
     let is_nine = matches!(
         source.word(index.wrapping_add(1)),
         b"9" | b"011" | b"18" | b"022" | b"27" | b"033"
     );
     match source.word(index) {
         b"<<" | b">>" | b"=<<" | b"=>>" | b"<<=" | b">>=" if is_nine => Some(NoteKind::Pair),
-        b">>" | b"=>>" if facts.has_types || source.dialect == Dialect::Later => {
-            Some(NoteKind::Shift)
-        }
+        b">>" | b"=>>" if source.kind(before) != Some(TokenKind::Number) => Some(NoteKind::Shift),
+        b"*" if copies_string(source, index) => Some(NoteKind::Ends),
         b"=*" | b"*=" | b"=<<" | b"<<=" if !is_tight(source, index) => Some(NoteKind::Wraps),
         b"=+" | b"+=" if facts.is_wide && is_last_name(source, index) => Some(NoteKind::Wraps),
         b"+" if is_sum(source, facts, index) => Some(NoteKind::Wraps),
@@ -144,8 +154,8 @@ fn is_form(source: &Source<'_>, index: usize) -> bool {
         && has_pair(source.word(index), b'%', b"o")
 }
 
-// Whether one of these bytes comes after a mark.
-fn has_pair(word: &[u8], mark: u8, bytes: &[u8]) -> bool {
+/// Whether one of these bytes comes after a mark.
+pub(crate) fn has_pair(word: &[u8], mark: u8, bytes: &[u8]) -> bool {
     let mut is_marked = false;
     for byte in word {
         if is_marked && bytes.contains(byte) {
@@ -156,11 +166,25 @@ fn has_pair(word: &[u8], mark: u8, bytes: &[u8]) -> bool {
     false
 }
 
-// Whether a call gets in one argument what a token changes, and the same name in another one.
+// Whether `while(*` or `if(*` begins here, and one word is copied to another and compared with 0.
+fn copies_string(source: &Source<'_>, index: usize) -> bool {
+    let open = index.wrapping_sub(1);
+    let close = source.partner(open);
+    let is_test = source.is(open, b"(") && source.is_head(close);
+    let end = close.min(open.saturating_add(MOST_TOKENS));
+    is_test && has_word(source, open, end, b"=") && !has_word(source, open, end, b"!=")
+}
+
+// Whether a call gets in one argument what a token changes, and the same name in another one, or an expression has what
+// `++`, `--` or a call without arguments changes, and the same name once more.
 fn is_ordered(source: &Source<'_>, index: usize) -> bool {
     let name = changed(source, index);
     if !source.is_name(name) {
         return false;
+    }
+    let is_step = matches!(source.word(index), b"++" | b"--") || is_bare_call(source, index);
+    if is_step && is_repeated(source, name) {
+        return true;
     }
     let mut at = name;
     for _ in 0..MOST_CALLS {
@@ -181,9 +205,53 @@ fn changed(source: &Source<'_>, index: usize) -> usize {
         b"++" | b"--" if source.is_name(next) => next,
         b"++" | b"--" => before,
         b"getchar" | b"read" | b"getnum" | b"getc" if source.is_call(index) => index,
+        _ if is_bare_call(source, index) => index,
         word if is_assignment(word) => before,
         _ => NONE,
     }
+}
+
+fn is_bare_call(source: &Source<'_>, index: usize) -> bool {
+    let open = index.wrapping_add(1);
+    source.is_call(index) && source.partner(open) == open.wrapping_add(1)
+}
+
+// Whether the expression around a name has it again, as a call if it is one.
+fn is_repeated(source: &Source<'_>, name: usize) -> bool {
+    let is_call = is_bare_call(source, name);
+    for is_after in [false, true] {
+        let mut at = name;
+        for _ in 0..MOST_TOKENS {
+            at = if is_after {
+                at.wrapping_add(1)
+            } else {
+                at.wrapping_sub(1)
+            };
+            if ends_expression(source, at) {
+                break;
+            }
+            if source.word(at) == source.word(name) && is_bare_call(source, at) == is_call {
+                return true;
+            }
+        }
+    }
+    false
+}
+
+// Whether an expression ends with a token, or what was evaluated before is over.
+fn ends_expression(source: &Source<'_>, index: usize) -> bool {
+    let word = source.word(index);
+    match word {
+        b";" | b"{" | b"}" | b"$(" | b"$)" | b"&&" | b"||" | b"?" | b":" | b"," | b"" => true,
+        b"(" => is_over(source, source.partner(index)),
+        b")" => is_over(source, index),
+        _ => is_keyword(word),
+    }
+}
+
+// Whether a parenthesis ends the head of a statement, or stands before a name, as that of none here does.
+fn is_over(source: &Source<'_>, close: usize) -> bool {
+    source.is_head(close) || source.is_name(close.wrapping_add(1))
 }
 
 // The bracket that is open before a token.

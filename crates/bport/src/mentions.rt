@@ -24,18 +24,6 @@ impl Known {
         put(&mut self.declared, first, number);
         put(&mut self.ends, first, end);
     }
-
-    // Whether the name of a token is an external's and isn't declared by a function.
-    fn is_wanted(&self, first: usize, number: usize) -> bool {
-        slot(&self.externals, first) != NONE && slot(&self.declared, first) != number
-    }
-
-    // Whether it is an external's, and this function has declared it in braces that are over.
-    fn is_hidden(&self, first: usize, number: usize, index: usize) -> bool {
-        slot(&self.externals, first) != NONE
-            && slot(&self.declared, first) == number
-            && slot(&self.ends, first) < index
-    }
 }
 
 /// Lets each function name the externals of this source that it has without a declaration.
@@ -147,14 +135,15 @@ fn unnamed(
     };
     for index in function.body..function.end.min(source.tokens.len()) {
         let first = slot(source.firsts, index);
-        if known.is_hidden(first, number, index) {
-            draft.note_once(source, index, NoteKind::Scope)?;
-        }
-        let is_call = source.is_call(index);
-        if !known.is_wanted(first, number) || is_call || outline.is_gone(index) {
+        if slot(&known.externals, first) == NONE {
             continue;
         }
-        if is_keyword(source.word(index)) {
+        let is_declared = slot(&known.declared, first) == number;
+        if is_declared && slot(&known.ends, first) < index {
+            draft.note_once(source, index, NoteKind::Scope)?;
+        }
+        let is_other = source.is_call(index) || is_keyword(source.word(index));
+        if is_declared || is_other || outline.is_gone(index) {
             continue;
         }
         known.declare(first, number, NONE);

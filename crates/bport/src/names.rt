@@ -2,6 +2,7 @@
 use crate::apply::apply;
 use crate::calls::defines;
 use crate::definitions::Outline;
+use crate::expressions::MOST_BYTES;
 use crate::quotes::quoted;
 use crate::row::{NoteKind, Row};
 use crate::source::{Dialect, Draft, Quotes, Source};
@@ -64,15 +65,20 @@ impl Constants {
         name: &[u8],
         value: &[u8],
     ) -> Result<bool, AllocError> {
-        let ported = if matches!(name, b"EOF") {
-            Some(input_end(self.alloc)?)
+        let value: &[u8] = if matches!(name, b"EOF") {
+            b"'*e'"
         } else {
-            self.ported(value)?
+            value
         };
+        let ported = self.ported(value)?;
         let Some(Value { text, is_wrapped }) = ported else {
             draft.note_at(at, NoteKind::Macro)?;
             return Ok(false);
         };
+        if text.as_slice().len() > MOST_BYTES {
+            draft.note_at(at, NoteKind::Macro)?;
+            return Ok(false);
+        }
         match self.value_of(name) {
             Some(other) if other == text.as_slice() => Ok(false),
             Some(_) => {
@@ -181,15 +187,12 @@ fn is_value(source: &[u8], tokens: &[Token]) -> bool {
             b"-" | b"!" | b"*" | b"&" => false,
             b"+" | b"/" | b"%" | b"|" | b"<<" | b">>" | b"==" | b"!=" if is_operand => false,
             b"<" | b"<=" | b">" | b">=" | b"?" | b":" if is_operand => false,
-            _ if is_after_sign && is_operand_word(tokens[index].kind, word) => true,
+            _ if is_after_sign && tokens[index].kind != TokenKind::Sign && !is_keyword(word) =>
+                true,
             _ => return false,
         };
     }
     is_operand && depth == 0
-}
-
-fn is_operand_word(kind: TokenKind, word: &[u8]) -> bool {
-    kind != TokenKind::Sign && !is_keyword(word)
 }
 
 // Whether tokens are in parentheses as a whole.
@@ -206,15 +209,6 @@ fn is_closed(source: &[u8], tokens: &[Token]) -> bool {
         }
     }
     false
-}
-
-fn input_end(alloc: Global) -> Result<Value, AllocError> {
-    let mut text = Text::new(alloc);
-    text.push(b"'*e'")?;
-    Ok(Value {
-        text,
-        is_wrapped: false,
-    })
 }
 
 /// Edits a name: a constant, a name of the end of the input, or one with too many letters.
@@ -374,8 +368,8 @@ fn is_plain(base: u64, digits: &[u8]) -> bool {
     true
 }
 
-// The value of digits. An L or U after them says nothing.
-fn value_of(base: u64, digits: &[u8]) -> Option<u64> {
+/// The value of digits. An L or U after them says nothing.
+pub(crate) fn value_of(base: u64, digits: &[u8]) -> Option<u64> {
     let mut value: u64 = 0;
     let mut has_digit = false;
     let mut is_over = false;

@@ -1,5 +1,5 @@
 //! Names of words that hold functions, declared as `(*name)(..)`.
-use crate::apply::render;
+use crate::apply::rendered;
 use crate::definitions::{Function, Outline};
 use crate::expressions::is_cast;
 use crate::names::{is_keyword, is_type};
@@ -128,7 +128,8 @@ pub(crate) fn pointer(
 ) -> Result<(), AllocError> {
     let name = open.wrapping_add(2);
     let next = name.wrapping_add(1);
-    let sign = pointed_end(source, open).wrapping_add(1);
+    let close = pointed_end(source, open);
+    let sign = close.wrapping_add(1);
     let last = end.wrapping_sub(1);
     let mut text = Text::new(draft.alloc);
     if source.is(next, b"[") {
@@ -150,19 +151,9 @@ pub(crate) fn pointer(
         values.push(b" ")?;
         values.push(value.as_slice())?;
         values.push(b";")?;
+        draft.put(source.end(close), source.end(last), b"", Row::Value)?;
     }
-    draft.put_text(source.end(name), source.end(last), text, Row::Type)
-}
-
-// The text from a token to another one, with the edits so far.
-fn rendered(
-    source: &Source<'_>,
-    draft: &Draft,
-    first: usize,
-    last: usize,
-) -> Result<Text, AllocError> {
-    let (start, end) = (source.start(first), source.end(last));
-    render(draft, source.text, start, end)
+    draft.put_text(source.end(name), source.end(close), text, Row::Type)
 }
 
 /// Names by their first tokens: externals declared so, those that hold addresses of functions' words, and for each

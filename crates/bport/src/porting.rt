@@ -1,8 +1,9 @@
 //! Porting a source.
 ghost use Rattle.std.specs.Prelude.{◌≡◌, ◌++◌, [], IfOk, false, true};
-ghost use Rattle.std.specs.List.{list_any};
 ghost use Rattle.bport.specs.Edits.{EditsIfFaulty, IsFaultyAlone, are_edits_of, edited};
-ghost use Rattle.bport.specs.Staying.{IsLeft, refuses};
+ghost use Rattle.bport.specs.Places.{places_of};
+ghost use Rattle.bport.specs.Staying.{IsLeft};
+ghost use Rattle.bport.specs.declared.within.Within.TheVariants as within;
 
 use crate::apply::{apply, joined};
 use crate::calls::{calls, defines, stored_end, without_base};
@@ -15,9 +16,9 @@ use crate::grids::edit_grids;
 use crate::holders::{edit_holders, tell_holders};
 use crate::logic::signs;
 use crate::loops::loops_of;
-use crate::meanings::meanings;
+use crate::meanings::{has_pair, meanings};
 use crate::mentions::{heap, mentions};
-use crate::names::{Constants, name, number, short_names};
+use crate::names::{Constants, has_name, name, number, short_names};
 use crate::parts::SourceParts;
 use crate::pointers::pointer_calls;
 use crate::quotes::{quoted, tell_ends};
@@ -28,13 +29,14 @@ use crate::scopes::renames;
 use crate::shape::ends_of;
 use crate::source::{Dialect, Draft, Source, key_of};
 use crate::statements::statement;
-use crate::staying::{has_refused, tell_old};
+use crate::staying::{has_refused, has_right, tell_old};
 use crate::streams::streams;
 use crate::table::NONE;
 use crate::taken::Taken;
 use crate::tokens::TokenKind;
 use crate::turned::turned_head;
 use crate::within::{Within, places_of};
+use crate::words::are_kept;
 use btools::{Origin, ProgramFault, Text, read_program};
 use bword::Edition;
 use std::alloc::{AllocError, Global};
@@ -135,14 +137,6 @@ fn unchanged(alloc: Global, source: &[u8], is_program: bool) -> Result<Ported, A
 // What a source that stays as it is may not mean, each once.
 fn plain_notes(alloc: Global, source: &[u8], rest: &[u8]) -> Result<Vec<Note>, AllocError> {
     let mut draft = Draft::new(alloc);
-    let places = places_of(alloc, source)?;
-    let has_heap = has_word(source, b"givevec(");
-    for at in 0..source.len() {
-        let rest = source.get(at..).unwrap_or(&[]);
-        if let Some(kind) = plain_note(rest, places.get(at).copied(), has_heap) {
-            draft.note_first(at, kind)?;
-        }
-    }
     plain_tokens(alloc, source, rest, &mut draft)?;
     let Draft {
         alloc: _,
@@ -175,15 +169,11 @@ fn plain_tokens(
     if let Some(call) = without_base(&bare) {
         draft.note(&bare, call, NoteKind::Base)?;
     }
+    let has_heap = has_name(&bare, b"givevec");
     let has_stores = !defines(&bare, b"lchar");
     for index in 0..bare.tokens.len() {
-        if has_stores && bare.is(index, b"lchar") && stored_end(&bare, index) != NONE {
-            draft.note_once(&bare, index, NoteKind::Ends)?;
-        }
-        if bare.dialect != Dialect::Early && is_joined(&bare, index) {
-            draft.note_once(&bare, index, NoteKind::Signs)?;
-        } else if may_wrap(&bare, index) {
-            draft.note_once(&bare, index, NoteKind::Wraps)?;
+        if let Some(kind) = plain_note(&bare, index, has_heap, has_stores) {
+            draft.note_once(&bare, index, kind)?;
         }
     }
     Ok(())
@@ -193,28 +183,27 @@ fn in_order(notes: &mut Vec<Note>) -> Result<(), AllocError> {
     notes.sort_by_key(|note| note.start)
 }
 
-fn plain_note(rest: &[u8], place: Option<Within>, has_heap: bool) -> Option<NoteKind> {
-    match (rest, place) {
-        ([b'\\', b'n' | b't' | b'0' | b'"' | b'\\', ..], Some(Within::String | Within::Char)) =>
-            Some(NoteKind::Backslash),
-        ([b'&', b'&', ..], Some(Within::Code)) => Some(NoteKind::Ampersands),
-        ([b'g', ..], Some(Within::Code)) if !has_heap && rest.starts_with(b"getvec(") => {
-            Some(NoteKind::Heap)
+// What a token of it may not mean.
+fn plain_note(
+    source: &Source<'_>,
+    index: usize,
+    has_heap: bool,
+    has_stores: bool,
+) -> Option<NoteKind> {
+    match source.word(index) {
+        b"&&" => Some(NoteKind::Ampersands),
+        b"getvec" if !has_heap && source.is_call(index) => Some(NoteKind::Heap),
+        b"lchar" if has_stores && stored_end(source, index) != NONE => Some(NoteKind::Ends),
+        [b'"' | b'\'', ..] if has_pair(source.word(index), b'\\', b"nt0\"\\") => {
+            Some(NoteKind::Backslash)
         }
+        _ if source.dialect != Dialect::Early && is_joined(source, index) => Some(NoteKind::Signs),
+        _ if may_wrap(source, index) => Some(NoteKind::Wraps),
         _ => None,
     }
 }
 
-fn has_word(source: &[u8], word: &[u8]) -> bool {
-    for at in 0..source.len() {
-        if source.get(at..).unwrap_or(&[]).starts_with(word) {
-            return true;
-        }
-    }
-    false
-}
-
-// Makes the edits, and takes those that are sound, unless the source would grow too much.
+// Makes the edits, and takes them where they are sound.
 fn rewrite(
     alloc: Global,
     source: &[u8],
@@ -236,37 +225,61 @@ fn rewrite(
     } = draft_of(alloc, source, rest, edition)?;
     let edits = apart(source, &places, edits, &mut notes, alloc)?;
     in_order(&mut notes)?;
-    let text = apply(alloc, source, &edits)?;
-    let is_small = text.as_slice().len() / 2 <= source.len().saturating_add(SPARE);
-    if is_small && are_sound(source, &places, &edits) && !has_refused(notes.as_slice()) {
+    let is_sound = are_edits_of(alloc, source, &places, &edits)?;
+    if is_sound && !has_refused(notes.as_slice()) {
         tell_old(source, &places, &edits, &mut notes)?;
         return Ok(Ported {
-            text,
+            text: apply(alloc, source, &edits)?,
             edits,
             notes,
             is_program: false,
         });
     }
-    refused(alloc, source, notes)
+    refused(alloc, source, &places, notes)
 }
 
-// A source that stays, though it is no program: a note says so.
-fn refused(alloc: Global, source: &[u8], notes: Vec<Note>) -> Result<Ported, AllocError>
+// Whether edits are in order and apart, and each fits and keeps the words that no row names.
+fn are_edits_of(
+    alloc: Global,
+    source: &[u8],
+    places: &[Within],
+    edits: &[Edit],
+) -> Result<bool, AllocError>
+    requires { places.now ≡ places_of within.Start source.now }
+    ensures { IfOk result (λ fits. fits ≡ are_edits_of source.now edits.now) }
+{
+    if are_sound(source, places, edits) {
+        are_kept(alloc, source, edits)
+    } else {
+        Ok(false)
+    }
+}
+
+// A source that stays, though it is no program: a note says why, or each sign of another form is told.
+fn refused(
+    alloc: Global,
+    source: &[u8],
+    places: &[Within],
+    notes: Vec<Note>,
+) -> Result<Ported, AllocError>
+    requires { places.now ≡ places_of within.Start source.now }
     ensures text { IfOk result (λ p. p.text ≡ edited source.now 0 p.edits.items) }
     ensures edits { IfOk result (λ p. are_edits_of source.now p.edits.items ≡ true) }
-    ensures none { IfOk result (λ p. p.edits.items ≡ []) }
-    ensures told { IfOk result (λ p. list_any refuses p.notes.items ≡ true) }
+    ensures left { IfOk result (λ p. IsLeft source.now p.edits.items p.notes.items) }
     ensures program { IfOk result (λ p. p.is_program ≡ false) }
 {
     let mut kept = unchanged(alloc, source, false)?;
-    if has_refused(notes.as_slice()) {
-        kept.notes = notes;
+    kept.notes = notes;
+    if has_right(source, places, kept.notes.as_slice()) {
         return Ok(kept);
     }
-    kept.notes.push(Note {
-        start: 0,
-        kind: NoteKind::Growth,
-    })?;
+    if !has_refused(kept.notes.as_slice()) {
+        kept.notes.push(Note {
+            start: 0,
+            kind: NoteKind::Unfit,
+        })?;
+    }
+    tell_old(source, places, &kept.edits, &mut kept.notes)?;
     Ok(kept)
 }
 
@@ -414,9 +427,6 @@ fn token(
 
 /// How many exclusive ors there are in one another, at most.
 const MOST_LEVELS: usize = 200;
-
-/// How many bytes a small source may grow by beside twice its size.
-const SPARE: usize = 1024;
 
 // The edits in order, without those within what another one takes out, and those that would take out a comment, which
 // are told.

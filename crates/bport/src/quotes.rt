@@ -1,5 +1,6 @@
 //! Character constants and strings.
 use crate::edit::{between, escape_for, is_octal, octal_value};
+use crate::names::value_of;
 use crate::row::{NoteKind, Row};
 use crate::source::{Draft, Quotes, Source};
 use crate::table::NONE;
@@ -106,7 +107,7 @@ fn coded(
 // What an escape with a backslash stands for that has a number, or none here.
 fn code_of(unit: &[u8]) -> Option<u64> {
     match unit {
-        [b'\\', b'x', digits @ ..] => hexadecimal(digits),
+        [b'\\', b'x', digits @ ..] => value_of(16, digits),
         [b'\\', b'a'] => Some(7),
         [b'\\', b'b'] => Some(8),
         [b'\\', b'v'] => Some(11),
@@ -115,23 +116,6 @@ fn code_of(unit: &[u8]) -> Option<u64> {
         [b'\\', digits @ ..] => octal_value(digits),
         _ => None,
     }
-}
-
-fn hexadecimal(digits: &[u8]) -> Option<u64> {
-    let mut value: u64 = 0;
-    if digits.is_empty() || digits.len() > 2 {
-        return None;
-    }
-    for digit in digits {
-        let own = match *digit {
-            b'0'..=b'9' => *digit - b'0',
-            b'a'..=b'f' => *digit - b'a' + 10,
-            b'A'..=b'F' => *digit - b'A' + 10,
-            _ => return None,
-        };
-        value = value.saturating_mul(16).saturating_add(own as u64);
-    }
-    Some(value)
 }
 
 // How many bytes an escape after a backslash has.
@@ -202,6 +186,9 @@ fn escape(
             return draft.note_at(place, NoteKind::Backslash);
         }
         _ => {}
+    }
+    if matches!(text, b"*0") && source.kind(index) == Some(TokenKind::String) {
+        draft.note_once(source, index, NoteKind::Ends)?;
     }
     if !text.is_empty() {
         return draft.put(place, next, text, Row::Escape);

@@ -1,5 +1,6 @@
 //! Sources that are read wrongly as long as something in them is no code of any form: nothing of them is edited.
 use crate::expressions::is_assignment;
+use crate::meanings::has_pair;
 use crate::pointers::ends_operand;
 use crate::row::NoteKind;
 use crate::shape::{is_closing, is_opening};
@@ -44,22 +45,11 @@ fn unpaired(source: &Source<'_>, draft: &mut Draft) -> Result<(), AllocError> {
 fn longer(source: &Source<'_>, draft: &mut Draft) -> Result<(), AllocError> {
     for index in 0..source.tokens.len() {
         let is_string = source.kind(index) == Some(TokenKind::String);
-        if is_string && has_star(source.word(index)) {
+        if is_string && has_pair(source.word(index), b'*', b"\"") {
             return draft.note_once(source, index, NoteKind::Star);
         }
     }
     Ok(())
-}
-
-fn has_star(word: &[u8]) -> bool {
-    let mut before: u8 = 0;
-    for byte in word {
-        if before == b'*' && *byte == b'"' {
-            return true;
-        }
-        before = *byte;
-    }
-    false
 }
 
 // Whether a `#` is an operator of fractions: right before the sign of an operator that comes after an operand, or
@@ -76,7 +66,8 @@ fn is_fraction(source: &Source<'_>, index: usize) -> bool {
     is_operator(source.word(before)) && begins_operand(rest)
 }
 
-fn is_operand(source: &Source<'_>, index: usize) -> bool {
+/// Whether an operand of any kind ends with a token.
+pub(crate) fn is_operand(source: &Source<'_>, index: usize) -> bool {
     match source.kind(index) {
         Some(TokenKind::Number | TokenKind::Char | TokenKind::String) => true,
         _ => ends_operand(source, index),

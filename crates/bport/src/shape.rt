@@ -1,4 +1,5 @@
 //! Where the brackets and the statements of an old source end.
+use crate::definitions::after;
 use crate::source::Source;
 use crate::table::{NONE, filled, put, slot, word_of};
 use crate::tokens::Token;
@@ -100,24 +101,16 @@ pub(crate) fn ends_of(alloc: Global, source: &Source<'_>) -> Result<Vec<usize>, 
 fn end_of(source: &Source<'_>, ends: &[usize], index: usize) -> usize {
     let next = index.wrapping_add(1);
     match source.head_word(index) {
-        b"{" | b"$(" => next_of(source.partner(index)),
+        b"{" | b"$(" => after(source.partner(index)),
         b"}" | b"$)" => index,
         b"if" => after_else(source, ends, after_head(source, ends, next)),
         b"while" | b"for" | b"switch" => after_head(source, ends, next),
         b"do" => after_do(source, slot(ends, next)),
         b"else" => slot(ends, next),
         b"repeat" if source.is_open_brace(next) => slot(ends, next),
-        b"case" => slot(ends, next_of(case_colon(source, index))),
+        b"case" => slot(ends, after(case_colon(source, index))),
         _ if source.is(next, b":") && source.is_name(index) => slot(ends, next.wrapping_add(1)),
-        _ => next_of(source.semicolon(index)),
-    }
-}
-
-fn next_of(index: usize) -> usize {
-    if index == NONE {
-        NONE
-    } else {
-        index.wrapping_add(1)
+        _ => after(source.semicolon(index)),
     }
 }
 

@@ -6,48 +6,28 @@ use crate::table::NONE;
 use btools::Text;
 use std::alloc::AllocError;
 
-/// One number for the size of an external vector, where numbers and signs stand between its brackets.
-pub(crate) fn external_size(
+/// One number for the size of a vector, where several tokens stand between its brackets; in a function without these.
+pub(crate) fn one_size(
     source: &Source<'_>,
     draft: &mut Draft,
     open: usize,
+    is_local: bool,
 ) -> Result<(), AllocError> {
-    let found = several(source, draft, open)?;
-    let Some(size) = found else {
-        return Ok(());
+    let close = source.partner(open);
+    let told = told_size(source, draft, open)?;
+    let size = match told {
+        Some(size) if close > open.saturating_add(2) => size,
+        _ => return Ok(()),
     };
     let mut text = Text::new(draft.alloc);
-    text.push(b"[")?;
+    text.push(if is_local { b" " } else { b"[" })?;
     text.push_number(size)?;
-    text.push(b"]")?;
-    let (start, end) = (source.start(open), source.end(source.partner(open)));
-    draft.put_text(start, end, text, Row::Size)
-}
-
-/// One number for the size of a vector of a function, without brackets.
-pub(crate) fn local_size(
-    source: &Source<'_>,
-    draft: &mut Draft,
-    name: usize,
-) -> Result<(), AllocError> {
-    let open = name.wrapping_add(1);
-    let found = several(source, draft, open)?;
-    let Some(size) = found else {
-        return Ok(());
-    };
-    let mut text = Text::new(draft.alloc);
-    text.push(b" ")?;
-    text.push_number(size)?;
-    let (start, end) = (source.end(name), source.end(source.partner(open)));
-    draft.put_text(start, end, text, Row::Vector)
-}
-
-// The number that several tokens between brackets tell, if they tell one.
-fn several(source: &Source<'_>, draft: &Draft, open: usize) -> Result<Option<u64>, AllocError> {
-    if source.partner(open) <= open.saturating_add(2) {
-        return Ok(None);
+    if is_local {
+        let start = source.end(open.wrapping_sub(1));
+        return draft.put_text(start, source.end(close), text, Row::Vector);
     }
-    told_size(source, draft, open)
+    text.push(b"]")?;
+    draft.put_text(source.start(open), source.end(close), text, Row::Size)
 }
 
 /// The number that is told between brackets, with the edits so far, if one is.

@@ -3,7 +3,7 @@ use crate::edit::{Edit, between, is_free};
 use crate::row::{Note, NoteKind, Row};
 use crate::table::{NONE, slot, word_of};
 use crate::tokens::{Token, TokenKind};
-use crate::turned::{Turned, has_body};
+use crate::turned::Turned;
 use crate::within::Within;
 use btools::Text;
 use bword::Edition;
@@ -71,11 +71,6 @@ impl<'a> Source<'a> {
             b"unless" => self.turned.unless,
             _ => false,
         }
-    }
-
-    /// Whether parentheses come after a word, and then a statement.
-    pub(crate) fn has_body(&self, index: usize) -> bool {
-        has_body(self.text, self.tokens, self.partners, index)
     }
 
     pub(crate) fn is(&self, index: usize, word: &[u8]) -> bool {

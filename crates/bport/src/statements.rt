@@ -1,5 +1,5 @@
 //! Statements that are written otherwise here.
-use crate::apply::render;
+use crate::apply::rendered;
 use crate::definitions::{Outline, after_types, types};
 use crate::edit::is_free;
 use crate::externals::negative;
@@ -7,14 +7,15 @@ use crate::grids::is_grid;
 use crate::lists::listed;
 use crate::logic::after_part;
 use crate::loops::{Loops, do_loop, for_loop, repeat, turn, while_loop};
-use crate::names::is_type;
+use crate::names::{is_type, value_of};
 use crate::pointers::{pointed, pointer};
 use crate::row::{NoteKind, Row};
 use crate::shape::case_colon;
-use crate::sizes::{external_size, local_size};
+use crate::sizes::one_size;
 use crate::source::{Draft, Source};
 use crate::table::{NONE, slot};
 use crate::tokens::TokenKind;
+use crate::turned::has_body;
 use btools::Text;
 use bword::Edition;
 use std::alloc::AllocError;
@@ -44,9 +45,9 @@ pub(crate) fn statement(
                 source.partner(next).wrapping_add(1),
             )
         }
-        b"until" | b"unless" if source.has_body(index) && is_owned(outline, index) => {
-            draft.note(source, index, NoteKind::Negated)
-        }
+        b"until" | b"unless"
+            if has_body(source.text, source.tokens, source.partners, index)
+                && is_owned(outline, index) => { draft.note(source, index, NoteKind::Negated) }
         b"repeat" => repeat(source, draft, loops, index),
         b"continue" | b"next" => turn(source, draft, loops, index),
         b"switch" => switch(source, draft, index),
@@ -54,7 +55,7 @@ pub(crate) fn statement(
         b"break" | b"default" => newer(source, draft, index),
         b"extern" | b"extrn" => external(source, draft, index),
         b"auto" => locals(source, draft, next, next),
-        b"[" if !is_owned(outline, index) => external_size(source, draft, index),
+        b"[" if !is_owned(outline, index) => one_size(source, draft, index, false),
         b":" if source.is_close_brace(next) && ends_label(source, index) => {
             draft.insert(source.end(index), b" ;", Row::Empty)
         }
@@ -128,12 +129,12 @@ fn case(
     if !source.is(sign, b"::") || case_colon(source, index) == NONE {
         return Ok(());
     }
-    let from = rendered(source, draft, first)?;
-    let to = rendered(source, draft, last)?;
+    let from = constant(source, draft, first)?;
+    let to = constant(source, draft, last)?;
     let (Some(low), Some(high)) = (single(from.as_slice()), single(to.as_slice())) else {
         return draft.note(source, sign, NoteKind::Range);
     };
-    if high < low || high - low >= MOST_CASES {
+    if high <= low || high - low >= MOST_CASES {
         return draft.note(source, sign, NoteKind::Range);
     }
     let mut text = Text::new(draft.alloc);
@@ -150,28 +151,14 @@ fn single(word: &[u8]) -> Option<u64> {
         [b'\'', b'*' | b'\\', b'\''] => None,
         [b'\'', byte @ b' '..=b'~', b'\''] => Some(*byte as u64),
         [b'0', _, ..] => None,
-        _ => decimal(word),
+        _ => value_of(10, word),
     }
-}
-
-fn decimal(word: &[u8]) -> Option<u64> {
-    let mut value: u64 = 0;
-    for byte in word {
-        if !byte.is_ascii_digit() {
-            return None;
-        }
-        value = value
-            .saturating_mul(10)
-            .saturating_add((*byte - b'0') as u64);
-    }
-    Some(value)
 }
 
 // What stands here for a token: the value of a constant, if its name is one.
-fn rendered(source: &Source<'_>, draft: &Draft, index: usize) -> Result<Text, AllocError> {
-    let (start, end) = (source.start(index), source.end(index));
+fn constant(source: &Source<'_>, draft: &Draft, index: usize) -> Result<Text, AllocError> {
     if source.is_name(index) {
-        return render(draft, source.text, start, end);
+        return rendered(source, draft, index, index);
     }
     let mut text = Text::new(draft.alloc);
     text.push(source.word(index))?;
@@ -321,7 +308,7 @@ fn vector(
     let size = name.wrapping_add(2);
     let close = size.wrapping_add(1);
     if source.partner(name.wrapping_add(1)) != close {
-        return local_size(source, draft, name);
+        return one_size(source, draft, name.wrapping_add(1), true);
     }
     draft.put(source.end(name), source.start(size), b" ", Row::Vector)?;
     draft.replace(source, close, b"", Row::Vector)
@@ -340,7 +327,7 @@ fn value(
     if !source.is_plain(name, last) {
         return draft.note(source, name, NoteKind::Loop);
     }
-    let text = render(draft, source.text, source.start(name), source.end(last))?;
+    let text = rendered(source, draft, name, last)?;
     values.push(b" ")?;
     values.push(text.as_slice())?;
     values.push(b";")?;

@@ -1,8 +1,10 @@
 //! Signs of other forms of the language that stay.
 ghost use Rattle.std.specs.Prelude.{◌≡◌, ◌<◌, ℕ, OnOk, length, slice_get, true};
 ghost use Rattle.std.specs.List.{list_any};
-ghost use Rattle.bport.specs.Staying.{TellsOldUpTo, covers, is_of, is_old, is_old_at, is_old_sign, refuses};
-ghost use Rattle.bport.specs.Staying.{refuses_kind};
+ghost use Rattle.bport.specs.Places.{places_of};
+ghost use Rattle.bport.specs.Staying.{TellsOldUpTo, covers, is_closing, is_code, is_of, is_old, is_old_at, is_old_sign};
+ghost use Rattle.bport.specs.Staying.{is_opening, is_right, is_right_of, is_uneven, one_more, refuses, refuses_kind};
+ghost use Rattle.bport.specs.declared.within.Within.TheVariants as within;
 
 use crate::edit::Edit;
 use crate::row::{Note, NoteKind};
@@ -139,10 +141,80 @@ fn refuses_kind(kind: NoteKind) -> bool
 {
     matches!(
         kind,
-        NoteKind::Growth
-            | NoteKind::Bracket
-            | NoteKind::Fraction
-            | NoteKind::Numbered
-            | NoteKind::Accent
+        NoteKind::Bracket | NoteKind::Fraction | NoteKind::Numbered | NoteKind::Accent
     )
+}
+
+/// Whether one of these notes is right that nothing is edited.
+pub(crate) fn has_right(source: &[u8], places: &[Within], notes: &[Note]) -> bool
+    requires { places.now ≡ places_of within.Start source.now }
+    ensures { result ≡ list_any (is_right source.now) notes.now }
+{
+    let uneven = is_uneven(source);
+    notes.iter().any(|note| is_right_of(
+        note.kind,
+        byte_at(source, note.start),
+        place_at(places, note.start),
+        uneven,
+    ))
+}
+
+fn is_right_of(kind: NoteKind, byte: Option<u8>, place: Option<Within>, uneven: bool) -> bool
+    ensures { result ≡ is_right_of kind byte place uneven }
+{
+    match (kind, byte, place) {
+        (NoteKind::Bracket, Some(byte), Some(place)) => {
+            (is_opening(byte) || is_closing(byte) || byte == b'$') && (is_code(place) && uneven)
+        }
+        (NoteKind::Fraction, Some(byte), Some(place)) => byte == b'#' && is_code(place),
+        (NoteKind::Accent, Some(byte), Some(place)) => byte == b'`' && is_code(place),
+        (NoteKind::Numbered, Some(byte), Some(Within::Start)) => byte.is_ascii_digit(),
+        _ => false,
+    }
+}
+
+// Whether as many brackets of code open as close.
+fn is_uneven(source: &[u8]) -> bool
+    ensures { result ≡ is_uneven within.Start 0 0 source.now }
+{
+    let mut place = Within::Start;
+    let mut opening: u64 = 0;
+    let mut closing: u64 = 0;
+    for byte in source {
+        opening = one_more(opening, is_opening(*byte), place);
+        closing = one_more(closing, is_closing(*byte), place);
+        place = place.after(*byte);
+    }
+    opening != closing
+}
+
+fn one_more(count: u64, is_so: bool, place: Within) -> u64
+    ensures { result ≡ one_more count is_so place }
+{
+    if is_so && is_code(place) {
+        count.saturating_add(1)
+    } else {
+        count
+    }
+}
+
+fn is_code(place: Within) -> bool
+    ensures { result ≡ is_code place }
+{
+    matches!(
+        place,
+        Within::Start | Within::Code | Within::Slash | Within::CharQuote
+    )
+}
+
+fn is_opening(byte: u8) -> bool
+    ensures { result ≡ is_opening byte }
+{
+    matches!(byte, b'(' | b'[' | b'{')
+}
+
+fn is_closing(byte: u8) -> bool
+    ensures { result ≡ is_closing byte }
+{
+    matches!(byte, b')' | b']' | b'}')
 }

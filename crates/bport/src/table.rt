@@ -13,7 +13,7 @@ pub(crate) fn first_names(
     source: &[u8],
     tokens: &[Token],
 ) -> Result<Vec<usize>, AllocError> {
-    let size = table_size(tokens.len());
+    let size = tokens.len().saturating_mul(2).saturating_add(1);
     let mut table = filled(alloc, size)?;
     let mut firsts = Vec::new(alloc);
     for index in 0..tokens.len() {
@@ -45,10 +45,6 @@ pub(crate) fn put(slots: &mut Vec<usize>, index: usize, value: usize) {
 /// The value of a slot, or `NONE`.
 pub(crate) fn slot(slots: &[usize], index: usize) -> usize {
     slots.get(index).copied().unwrap_or(NONE)
-}
-
-fn table_size(count: usize) -> usize {
-    count.saturating_mul(2).saturating_add(1)
 }
 
 // The first token with the name of this one, which is kept where none is.

@@ -68,12 +68,12 @@ fn piece_at(source: &[u8], places: &[Within], at: usize) -> (Option<TokenKind>, 
         Some(_) if begins_number(rest) => {
             (
                 Some(TokenKind::Number),
-                at.saturating_add(number_length(rest)),
+                at.saturating_add(word_length(rest, true)),
             )
         }
         Some(byte) if is_letter(*byte) => (
             Some(TokenKind::Name),
-            at.saturating_add(name_length(rest)),
+            at.saturating_add(word_length(rest, false)),
         ),
         _ => (Some(TokenKind::Sign), at.saturating_add(sign_length(rest))),
     }
@@ -112,20 +112,12 @@ fn begins_number(rest: &[u8]) -> bool {
     }
 }
 
-fn name_length(rest: &[u8]) -> usize {
+// How long a name or a number is.
+fn word_length(rest: &[u8], is_number: bool) -> usize {
     for index in 0..rest.len() {
         let byte = rest[index];
-        if !is_letter(byte) && !byte.is_ascii_digit() {
-            return index.max(1);
-        }
-    }
-    rest.len()
-}
-
-fn number_length(rest: &[u8]) -> usize {
-    for index in 0..rest.len() {
-        let byte = rest[index];
-        if !byte.is_ascii_alphanumeric() && byte != b'.' {
+        let goes_on = byte.is_ascii_digit() || is_letter(byte) && !(is_number && byte == b'_');
+        if !goes_on {
             return index.max(1);
         }
     }

@@ -1,0 +1,6 @@
+main() {
+    auto s 3, t;
+    lchar(s, 2, 'h');
+    lchar(s, 2, 'i');
+    t = s[1];
+}

@@ -1,0 +1,2 @@
+10 REM
+20 PRINT PEEK()

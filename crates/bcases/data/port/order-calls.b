@@ -1,0 +1,2 @@
+main() printn(number() - number(), 10);
+number() return 1;

@@ -1,0 +1,6 @@
+main() {
+    auto v 3, i;
+    i = 0;
+    v[i] = i++;
+    return v[0];
+}

@@ -1,0 +1,6 @@
+main() {
+    auto a;
+    a = 1;
+    printn(a++ + a++, 10);
+    return a;
+}

@@ -1,0 +1,2 @@
+main() x("*** a\n");
+x(s) return(char(s, 0));

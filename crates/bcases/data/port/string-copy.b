@@ -1,0 +1,7 @@
+main() {
+    auto v[3];
+    copy(v, "abc");
+}
+copy(a, b) {
+    while(*a++ = *b++) ;
+}

@@ -1,0 +1,6 @@
+main() {
+    auto s, i;
+    s = "abcd";
+    i = 0;
+    while(i < 2) putchar(s[i++]);
+}
