@@ -6,7 +6,7 @@ const TABLE = Uint32Array.from({length: 256}, (_, n) => {
   return n;
 });
 
-function crc(bytes) {
+export function crc(bytes) {
   let sum = -1;
   for (const it of bytes) sum = TABLE[(sum ^ it) & 255] ^ sum >>> 8;
   return ~sum >>> 0;
