@@ -17,6 +17,8 @@ import time
 import zipfile
 from typing import NamedTuple
 
+import course
+
 TOP = pathlib.Path(__file__).resolve().parent.parent
 SHARE = TOP / "share/pack"
 SUMMARY = "proved compiler of the language B, and the machine that runs its code"
@@ -26,6 +28,8 @@ AMD64 = ("x86_64", "amd64", "x86_64-linux-gnu")
 ARM64 = ("aarch64", "arm64", "aarch64-linux-gnu")
 # In `share/python`, what is for authors of compilers in Python.
 FOR_AUTHORS = ("bcode.py", "pebble.py")
+# Of the exercises, what no pupil should read: the archive for teachers has it.
+FOR_TEACHERS = ("solutions", "drawn")
 # The oldest glibc for which a wheel can be told to be, 2.17.
 GLIBC = 17
 COPYRIGHT = """The owner of Zirpaune, the program b, hasn't chosen a licence yet. Ask before you hand it on.
@@ -116,9 +120,16 @@ def pack_zip(pack, folder, to, top=""):
     return to
 
 
+def pages(folder):
+    """The pages, and the exercises and the programs of the lessons, for pupils."""
+    copy(folder, TOP / "README.md", *(TOP / it for it in ("examples", "docs")))
+    shutil.copytree(TOP / "class", folder / "class", ignore=shutil.ignore_patterns(*FOR_TEACHERS))
+    course.write_programs(TOP, folder / "class/lessons")
+
+
 def texts(folder):
     """What goes with the program on each system."""
-    copy(folder, TOP / "README.md", *(TOP / it for it in ("examples", "class", "docs")))
+    pages(folder)
     copy(folder / "lib", *(TOP / "lib").glob("*.b"))
 
 
@@ -236,7 +247,7 @@ def deb(pack, processor):
     copy(usr / "share/b/lib", *(TOP / "lib").glob("*.b"))
     copy(usr / "share/b", *(TOP / "share" / it for it in ("kate", "lsp", "vim", "vscode")))
     copy(usr / "share/b/python", *(TOP / "share/python" / it for it in FOR_AUTHORS))
-    copy(doc, TOP / "README.md", *(TOP / it for it in ("examples", "class", "docs")))
+    pages(doc)
     if c:
         library(c, folder / "c")
         shutil.move(folder / "c/include", usr / "include")
@@ -447,6 +458,14 @@ def vsix(pack):
     return pack_zip(pack, folder, pack.out / f"b-{pack.version}.vsix")
 
 
+def teachers(pack):
+    """The exercises with their solutions, to stand in the place of those for pupils."""
+    folder = pack.begin(f"b-{pack.version}-teachers")
+    copy(folder, TOP / "class")
+    course.write_programs(TOP, folder / "class/lessons")
+    return pack_zip(pack, folder, pack.out / f"b-{pack.version}-teachers.zip")
+
+
 # Each archive, what it is for, and how it is made.
 ARCHIVES = [
     ("Linux, on both processors", linux),
@@ -458,5 +477,6 @@ ARCHIVES = [
     ("Node", npm),
     ("browsers", page),
     ("VS Code", vsix),
+    ("teachers, with solutions", teachers),
     ("macOS, as objects", macos),
 ]

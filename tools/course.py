@@ -2,6 +2,8 @@
 docs/CLASS.md, docs/CARD.md, docs/LIB.md, docs/LANGUAGE.md, docs/COMMANDS.md, and the exercises of class/ with their
 tests. `course(top)` gives all of it as one object for JSON; `tools/make-page` puts that into the page.
 
+  python3 tools/course.py DIR    writes the programs of the lessons and their inputs into DIR/lesson-1 and so on
+
 A chapter is HTML, with the programs of its text by their names. A code block is one of these:
 
 - a program or an input, where the sentence before it ends in "`NAME` be", or where all programs of the chapter have one
@@ -9,7 +11,9 @@ A chapter is HTML, with the programs of its text by their names. A code block is
 - commands, where it begins with "$ ./b": each with what it writes;
 - or plain text."""
 import html
+import pathlib
 import re
+import sys
 
 COMMAND = "$ ./b "
 NAMED = re.compile(r"`([\w.]+)` be$")
@@ -267,6 +271,22 @@ def sections(text):
     return [part.partition("\n")[::2] for part in re.split(r"^## ", text, flags=re.M)[1:]]
 
 
+def lessons(top, reader):
+    """The chapters of docs/TUTORIAL.md."""
+    for title, text in sections((top / "docs/TUTORIAL.md").read_text()):
+        number = title.split(".")[0]
+        if number.isdigit():
+            yield Chapter(f"lesson-{number}", title, f"## {title}\n{text}", reader)
+
+
+def write_programs(top, folder):
+    """Writes the programs of the lessons, and what they read, into a folder of each lesson."""
+    for it in lessons(top, Reader(Link({}, {}))):
+        (folder / it.name).mkdir(parents=True, exist_ok=True)
+        for name, text in (row for own in it.sets for row in own["files"].items()):
+            (folder / it.name / name).write_text(text)
+
+
 def course(top, start):
     """All that the page takes: chapters, exercises, the library and the examples."""
     docs = top / "docs"
@@ -276,11 +296,7 @@ def course(top, start):
     names = {"LIB.md": "library", "CARD.md": "card", "CLASS.md#mistakes": "mistakes", "TUTORIAL.md": "start",
              "LANGUAGE.md": "language", "COMMANDS.md": "commands"}
     reader = Reader(Link(names, {"swap.svg": "data:image/svg+xml," + picture}))
-    chapters = [Chapter("start", "Start here", start, reader)]
-    for title, text in sections((docs / "TUTORIAL.md").read_text()):
-        number = title.split(".")[0]
-        if number.isdigit():
-            chapters.append(Chapter(f"lesson-{number}", title, f"## {title}\n{text}", reader))
+    chapters = [Chapter("start", "Start here", start, reader), *lessons(top, reader)]
     mistakes = dict(sections((docs / "CLASS.md").read_text()))["Mistakes"]
     chapters += [
         Chapter("mistakes", "Mistakes", "## Mistakes\n" + mistakes, reader, only="x.b"),
@@ -299,3 +315,9 @@ def course(top, start):
         "libs": {it.stem: it.read_text() for it in sorted(top.glob("lib/*.b"))},
         "examples": {it.name: it.read_text() for it in sorted(top.glob("examples/*.b"))},
     }
+
+
+if __name__ == "__main__":
+    if len(sys.argv) != 2:
+        sys.exit(__doc__)
+    write_programs(pathlib.Path(__file__).resolve().parent.parent, pathlib.Path(sys.argv[1]))

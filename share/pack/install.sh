@@ -54,7 +54,8 @@ put() {
 copy() {
     for file in "$1"/*; do
         if [ -d "$file" ] && ! [ -h "$file" ]; then
-            copy "$file" "$2/${file##*/}"
+            # What is for teachers isn't copied to where pupils read.
+            case $file in class/*/solutions | class/*/drawn) ;; *) copy "$file" "$2/${file##*/}" ;; esac
         elif [ -e "$file" ]; then
             put "$file" "$2"
         fi

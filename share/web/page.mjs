@@ -1,6 +1,7 @@
 // The page that a student opens first: an editor with what `check` finds, Run, and the lessons. All of it runs here.
 /* global page */
 import {$, bytesOf, save, say, textOf} from './dom.mjs';
+import {openClass} from './classroom.mjs';
 import {newFile, putBack, readFile, removeFile, rename, showKept} from './devices.mjs';
 import {editor, example, findings, goTo, keepNow, layOut, openAll, openFile, pane, recheck, runs, setLib,
   show, showCourse} from './editing.mjs';
@@ -36,6 +37,7 @@ const ACTS = {
   print: () => printed('program'),
   'print-lesson': () => printed('lesson'),
   'hand-in': handIn,
+  'grade-class': openClass,
   'save-output': () => runs.saveOutput(files.program.name),
   'no-more': () => runs.noMore(),
   skip: () => goTo(files.current.name, {line: 1}),
@@ -160,7 +162,7 @@ page.started = start();
 page.started.catch(it => say(String(it), 'bad'));
 // For the script that tries the page.
 Object.assign(page, {
-  data, files, editor, runs, course, output, setLib, readFile, Grading,
+  data, files, editor, runs, course, output, setLib, readFile, Grading, openClass,
   open: given => openFile(files.find(given)),
   tester: testing,
   async checked() {

@@ -1,6 +1,7 @@
 // Links that hold a program, and what is printed.
 import {$, element, say} from './dom.mjs';
 import {addFile, nameFrom} from './devices.mjs';
+import {openClass} from './classroom.mjs';
 import {openAll, pane} from './editing.mjs';
 import {packed, unpacked} from './link.mjs';
 import {data, files} from './state.mjs';
@@ -19,6 +20,10 @@ export async function link() {
 export async function openLink(course) {
   const fragment = location.hash.slice(1);
   if (!fragment) return false;
+  if (fragment === 'grade') {
+    openClass();
+    return true;
+  }
   if (data.chapters.some(it => it.name === fragment)) {
     course.show(fragment, true);
     pane('course');

@@ -13,9 +13,11 @@ export const files = new Files(store), output = new Output($('out'));
 
 const module = page.module(), worker = URL.createObjectURL(new Blob([page.worker], {type: 'text/javascript'}));
 export const runner = new Machine(module, worker), checker = new Machine(module, worker);
+/** One more machine. */
+export const newMachine = () => new Machine(module, worker);
 let tester;
 /** The machine for the tests of exercises, which is made when it is wanted first. */
-export const testing = () => tester ??= new Machine(module, worker);
+export const testing = () => tester ??= newMachine();
 
 const NARROW = matchMedia('(max-width: 999px)');
 /** Whether there is room for one part of the page alone. */

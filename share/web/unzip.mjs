@@ -2,7 +2,7 @@
 // asked for. The files that systems add are left out.
 import {crc} from './archive.mjs';
 
-const MOST_FILES = 10_000, MOST_INDEX = 4 << 20; // files of an archive, and bytes of the list of them
+const MOST_FILES = 20_000, MOST_INDEX = 4 << 20; // files of an archive, and bytes of the list of them
 const MOST_BYTES = 16 << 20; // of a file, where no limit is given
 const PIECE = 16_384; // of packed bytes at a time, of which 16 MB may come
 const END = {mark: 0x06054b50, size: 22}, ENTRY = {mark: 0x02014b50, size: 46}, HEAD = {mark: 0x04034b50, size: 30};
@@ -55,14 +55,15 @@ function enlarged(view, from, size, fields) {
 /** The entries of an archive as its list tells them. */
 function* entriesOf({count, index}) {
   for (let at = 0; count-- > 0;) {
-    if (at + ENTRY.size > index.byteLength || index.getUint32(at, true) !== ENTRY.mark) throw new Error('it is damaged');
-    const [title, extra, comment] = [28, 30, 32].map(it => index.getUint16(at + it, true)), from = at + ENTRY.size;
-    if (from + title + extra + comment > index.byteLength) throw new Error('it is damaged');
+    const from = at + ENTRY.size, isEntry = from <= index.byteLength && index.getUint32(at, true) === ENTRY.mark;
+    const [title, extra, comment] = [28, 30, 32].map(it => isEntry ? index.getUint16(at + it, true) : 0);
+    if (!isEntry || from + title + extra + comment > index.byteLength) throw new Error('it is damaged');
     const [size, packed, start] = enlarged(index, from + title, extra,
       [24, 20, 42].map(it => index.getUint32(at + it, true)));
     yield {title: nameOf(new Uint8Array(index.buffer, from, title)), size, packed, start,
       isLocked: (index.getUint16(at + 8, true) & 1) === 1, method: index.getUint16(at + 10, true),
-      sum: index.getUint32(at + 16, true), isLink: index.getUint8(at + 5) === 3 && index.getUint8(at + 41) >> 4 === LINK};
+      isLink: index.getUint8(at + 5) === 3 && index.getUint8(at + 41) >> 4 === LINK,
+      sum: index.getUint32(at + 16, true)};
     at = from + title + extra + comment;
   }
 }
@@ -99,7 +100,8 @@ class Packed {
     Object.assign(this, {archive, before, entry, name: parts.join('/'), size: entry.size});
     this.isFolder = /[/\\]$/.test(entry.title) || !parts.length;
     this.isAdded = parts.some(it => it !== '..' && MADE_BY_SYSTEMS.test(it));
-    this.fault = parts.includes('..') ? 'its name leads out of the archive' : entry.isLink ? 'it is a link'
+    this.fault = parts.includes('..') ? 'its name leads out of the archive, or too deep into it'
+      : entry.isLink ? 'this is a link'
       : entry.isLocked ? 'it is locked by a password'
       : ![STORED, DEFLATED].includes(entry.method) ? `it is packed by the method ${entry.method}` : '';
   }
@@ -132,5 +134,6 @@ export const isAdded = name => MADE_BY_SYSTEMS.test(name);
  */
 export async function filesOf(blob) {
   const {count, index, before} = await indexOf(blob);
-  return [...entriesOf({count, index})].map(it => new Packed(blob, before, it)).filter(it => !it.isFolder && !it.isAdded);
+  const all = [...entriesOf({count, index})].map(it => new Packed(blob, before, it));
+  return all.filter(it => !it.isFolder && !it.isAdded);
 }
