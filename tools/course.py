@@ -18,6 +18,8 @@ import sys
 COMMAND = "$ ./b "
 NAMED = re.compile(r"`([\w.]+)` be$")
 FENCE = "```"
+SOURCES = (".b", ".code")
+SHOWN = (".html", ".svg")  # files that a command of a lesson makes, and that the page shows in their place
 OPTIONS = {"--edition": "edition", "--steps": "steps"}
 
 
@@ -140,20 +142,21 @@ class Reader:
 
 
 class Command:
-    """A line after a $, and what it wants: the words for b, its files, and the input."""
+    """A line after a $, and what it wants: the words for b, its files, the input, and a file for its output."""
 
     def __init__(self, line):
         self.line = line
-        words, _, given = line.removeprefix(COMMAND).partition(" < ")
+        words, _, self.out = line.removeprefix(COMMAND).partition(" > ")
+        words, _, given = words.partition(" < ")
         self.words, self.input = words.split(), given.strip()
         self.command = self.words[0]
-        self.file = next((it for it in self.words[1:] if it.endswith(".b")), "")
+        self.file = next((it for it in self.words[1:] if it.endswith(SOURCES)), "")
         self.libs = [after for word, after in zip(self.words, self.words[1:]) if word == "--with"]
 
     def is_runnable(self, files):
-        names = [it for it in [self.file, *self.libs] if it.endswith(".b")]
-        return ">" not in self.line and "|" not in self.line and bool(names) and all(it in files for it in names) and (
-            not self.input or self.input in files)
+        names = [it for it in [self.file, *self.libs] if it.endswith(SOURCES)]
+        return "|" not in self.line and bool(names) and all(it in files for it in names) and (
+            not self.input or self.input in files) and (not self.out or self.out.endswith(SHOWN))
 
 
 class Chapter:
@@ -208,7 +211,8 @@ class Chapter:
         start = self.starts.get(command.file)
         if not start or command.command == "go" != start["command"]:
             self.starts[command.file] = {"command": command.command, "libs": command.libs, "input": command.input}
-        self.parts.append(f'<figure class="command" data-set="{len(self.sets)}"><code>{line}</code>{out}</figure>\n')
+        kind = "shown" if command.out else "command"
+        self.parts.append(f'<figure class="{kind}" data-set="{len(self.sets)}"><code>{line}</code>{out}</figure>\n')
 
     def made(self):
         return {"name": self.name, "title": self.title, "html": "".join(self.parts), "sets": self.sets}
@@ -243,11 +247,13 @@ def rules_of(path):
 
 def exercise(folder, reader):
     """An exercise as class/grade reads it."""
-    made = {"name": folder.name, "edition": "1", "steps": 1000000, "libs": {}}
+    made = {"name": folder.name, "edition": "1", "steps": 1000000, "libs": {}, "taught": []}
     options = (folder / "options").read_text().split() if (folder / "options").exists() else []
     for word, value in zip(options[::2], options[1::2]):
         if word in OPTIONS:
             made[OPTIONS[word]] = int(value) if word == "--steps" else value
+        elif word == "--taught":
+            made["taught"].append(value)
         else:
             lib = folder.parent.parent / f"lib/{value}.b" if re.fullmatch(r"\w+", value) else folder / value
             made["libs"][lib.name] = latin(lib)

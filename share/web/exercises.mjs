@@ -1,8 +1,10 @@
 // The tests of an exercise, and what comes of them: the verdict is that of class/grade, word for word.
 import {bytesOf, bytesOfLatin} from './dom.mjs';
+import {optionsIn} from './files.mjs';
 import {parsed} from './findings.mjs';
 import {withoutMain} from './mains.mjs';
 import {endOf, findingOf} from './runs.mjs';
+import {t} from './words.mjs';
 
 const SOURCE_BYTES = 65536; // the longest hand-in
 const OUTPUT_BYTES = 65536; // how much more than the wanted output a run may write
@@ -11,6 +13,7 @@ const SHOWN = 100; // characters of a line
 const END_NAME = 'handedin.b', RULES = 'structure';
 const END = '/* The end of the hand-in. */\nhandedin() {\n}\n';
 const PLACE = /at +in (\w+) +place +\d+ +line +(\d+)(?: of (\w+\.b))? +step (\d+)\n(.*)\n +means: (.*)/;
+const LACKED = /^lib\/(\w+)\.b has it:/; // what check tells of a name that a file of the library has
 const BLANKS = /[ \t\n\r\v\f]+$/;
 
 const latin = bytes => Array.from(bytes, it => String.fromCharCode(it)).join('');
@@ -33,17 +36,23 @@ function firstDifference(output, wanted) {
   const got = linesOf(output), want = linesOf(wanted);
   const at = Array.from({length: Math.max(got.length, want.length)}, (_, k) => k).find(k => got[k] !== want[k]);
   if (at === undefined) return null;
-  const told = line => line === undefined ? '(no such line)' : plain(line) || '(an empty line)';
+  const told = line => line === undefined ? t`(no such line)` : plain(line) || t`(an empty line)`;
   return {line: at + 1, wrote: told(got[at]), wanted: told(want[at])};
 }
 
 /** The tests of an exercise: those that run the hand-in, and the rules that it has to fit. */
 export const testsOf = ({tests, structure}) => [...tests, ...structure];
 
-/** The grading of one hand-in, by a machine of its own. */
+/** Whether a file of the library has a function that the tests call: that one is for the hand-in to define. */
+function asksFor({tests}, lib) {
+  const called = new Set(tests.flatMap(it => [...(it.source ?? '').matchAll(/\w+(?=\()/g)].map(([name]) => name)));
+  return [...lib.matchAll(/^\w+(?=\()/gm)].some(([name]) => called.has(name));
+}
+
+/** The grading of one hand-in, by a machine of its own. `library` has the texts of the files of the library. */
 export class Grading {
-  constructor(machine, exercise, text) {
-    Object.assign(this, {machine, exercise, text, name: `${exercise.name}.b`});
+  constructor(machine, exercise, text, library = exercise.library ?? {}) {
+    Object.assign(this, {machine, exercise, text, library, name: `${exercise.name}.b`, libs: []});
     this.hasMains = exercise.tests.some(it => it.source);
     this.source = this.hasMains ? withoutMain(text) : text;
     this.files = {[this.name]: bytesOf(this.source), [END_NAME]: bytesOf(END)};
@@ -52,8 +61,11 @@ export class Grading {
     for (const it of exercise.tests) if (it.source) this.files[`${it.name}.b`] = bytesOfLatin(it.source);
   }
 
+  /** The files that come after the hand-in where it is alone. */
+  get ownLibs() { return [...Object.keys(this.exercise.libs), ...this.libs]; }
+
   words(command, options, test) {
-    const after = [...(test?.source ? [`${test.name}.b`] : []), ...Object.keys(this.exercise.libs)];
+    const after = [...(test?.source ? [`${test.name}.b`] : []), ...this.ownLibs];
     const withs = (after.length ? [END_NAME, ...after] : []).flatMap(it => ['--with', it]);
     return [command, ...options, `--edition=${this.exercise.edition}`, this.name, ...withs];
   }
@@ -64,10 +76,29 @@ export class Grading {
     const timer = setTimeout(() => this.machine.stop(), SECONDS * 1000);
     const ended = await this.machine.ask(words, {files: this.files, input: bytesOfLatin(test?.input ?? ''), most});
     clearTimeout(timer);
-    const why = ended.stopped ? `it took more than ${SECONDS} seconds` : ended.full ? `it wrote more than ${most} bytes`
-      : ended.failed;
+    const why = ended.stopped ? t`it took more than ${SECONDS} seconds`
+      : ended.full ? t`it wrote more than ${most} bytes` : ended.failed;
     return {...ended, why, told: ended.told ?? '', text: latin(ended.output ?? [])};
   }
+
+  /**
+   * Takes the files of the library that have what the hand-in calls, of those that its lessons taught or that its first
+   * line names; and keeps what no file has that may be taken.
+   */
+  async takeLibs() {
+    const checked = await this.run(this.words('check', ['--json'], this.firstTest)), {taught = []} = this.exercise;
+    const may = new Set([...taught, ...optionsIn(this.source)?.libs ?? []]);
+    for (const {message, fix = ''} of parsed(checked.text)) {
+      const lib = LACKED.exec(fix)?.[1], text = this.library[lib], file = `${lib}.b`;
+      if (this.libs.includes(file)) continue;
+      if (text && may.has(lib) && !asksFor(this.exercise, text)) {
+        this.libs.push(file);
+        this.files[file] = bytesOf(text);
+      } else if (text && !asksFor(this.exercise, text)) this.lacked ??= {name: message.split(' ').at(-1), lib};
+    }
+  }
+
+  get firstTest() { return this.hasMains ? this.exercise.tests[0] : null; }
 
   /** Ends the tests: there is no verdict then. */
   stop() {
@@ -78,21 +109,22 @@ export class Grading {
   /** What comes of each test. */
   async grade() {
     if (this.files[this.name].length > SOURCE_BYTES) {
-      return {refused: `the file has more than ${SOURCE_BYTES} bytes`, results: []};
+      return {refused: t`the file has more than ${SOURCE_BYTES} bytes`, results: []};
     }
-    const [first] = this.exercise.tests, results = [];
-    const checked = await this.run(this.words('check', ['--json'], this.hasMains ? first : null));
+    const results = [];
+    await this.takeLibs();
+    const checked = await this.run(this.words('check', ['--json'], this.firstTest));
     for (const test of testsOf(this.exercise)) {
       const look = 'says' in test ? it => this.lookFor(it) : it => this.tryTest(it);
       results.push(checked.status === 1 ? {test, result: 'fault'} : await look(test));
       if (this.isStopped) return null;
     }
-    return {results, note: this.source === this.text ? '' : 'Your main is left out: the tests have one of their own.'};
+    return {results, note: this.source === this.text ? '' : t`Your main is left out: the tests have one of their own.`};
   }
 
   /** Whether a rule fits in the hand-in as it has to. */
   async lookFor(test) {
-    const libs = Object.keys(this.exercise.libs).flatMap(it => ['--with', it]);
+    const libs = this.ownLibs.flatMap(it => ['--with', it]);
     const words = ['check', '--json', `--rules=${RULES}`, `--edition=${this.exercise.edition}`, this.name, ...libs];
     const found = parsed((await this.run(words)).text).find(it => it.code === test.name);
     return {test, result: !found === !test.isWanted ? 'ok' : 'structure', fits: found?.line, name: this.name};
@@ -106,9 +138,8 @@ export class Grading {
     if (ran.why) return {test, result: 'stopped', why: ran.why};
     if (!difference && ran.status === (test.status ?? 0)) return {test, result: found ? 'luck' : 'ok', found};
     const result = line ? plain(line) : difference ? 'wrong' : `status ${ran.status}`;
-    const libs = Object.keys(this.exercise.libs).map(it => `lib/${it}`).join(', ');
     const {steps} = this.exercise, place = line ? this.placeIn(ran.told) : null;
-    return {test, result, status: ran.status, difference, libs, place, steps, found};
+    return {test, result, status: ran.status, difference, lacked: this.lacked, place, steps, found};
   }
 
   foundIn(told) {
@@ -130,29 +161,48 @@ export const passes = ({result}) => result === 'ok' || result === 'luck';
 /** A sentence on a test that failed, or that has a finding. */
 export function sentence(it) {
   const {result, found} = it;
-  const finding = found && `${found.means}, in line ${found.line} of ${found.file}`;
-  if (result === 'luck') return `the output is right, but by luck: ${finding}`;
-  return finding ? `${failure(it)}; a careful run finds: ${finding}` : failure(it);
+  const finding = found && t`${found.means}, in line ${found.line} of ${found.file}`;
+  if (result === 'luck') return t`the output is right, but by luck: ${finding}`;
+  return finding ? t`${failure(it)}; a careful run finds: ${finding}` : failure(it);
 }
 
-function failure({test, result, why, difference, place, status, libs, steps, fits, name}) {
-  if (result === 'fault') return 'the program has a fault, which stands below the editor';
-  if (result === 'structure') return `${plain(test.says)}: it is ${fits ? `in line ${fits} of` : 'nowhere in'} ${name}`;
-  if (why) return why;
-  const given = inputOf(test.input ?? ''), start = test.source ? '' : given ? `for ${given} `
-    : test.input ? `for the input ${JSON.stringify(test.input)} ` : 'input' in test ? 'without an input ' : '';
-  if (place?.loop) return `${start}it never ends: the loop is in line ${place.loop.line} of ${place.loop.file ?? place.file}`;
-  if (place && result === 'limit') {
-    return `${start}it didn't end within ${steps} steps, which it made in line ${place.line} of ${place.file} last`;
+function failure(it) {
+  const {test, result, why, fits, name} = it;
+  if (result === 'fault') return t`the program has a fault, which stands below the editor`;
+  if (result === 'structure') {
+    return fits ? t`${plain(test.says)}: it is in line ${fits} of ${name}`
+      : t`${plain(test.says)}: it is nowhere in ${name}`;
   }
-  if (place) return `${start}it ends with ${result}, ${place.means}, in line ${place.line} of ${place.file}`;
-  if (/^rd main\b/.test(result)) return 'the tests have a main of their own, so take yours out';
-  if (result === 'load 4') return 'there is no function main, with which a run begins';
-  if (result === 'load 3') return `a name isn't defined: the tests put ${libs || 'no file'} after it`;
-  if (result !== 'wrong' && !result.startsWith('status')) return `it can't be run with the tests: ${result}`;
-  if (!difference) return `${start}it ends with status ${status}, and not ${test.status ?? 0}`;
+  if (why) return why;
+  const given = inputOf(test.input ?? ''), does = it.place ? endSentence(it) : otherwise(it);
+  if (test.source || !('input' in test) || !it.place && !isOutput(result)) return does;
+  return given ? t`for ${given} ${does}` : test.input ? t`for the input ${JSON.stringify(test.input)} ${does}`
+    : t`without an input ${does}`;
+}
+
+const isOutput = result => result === 'wrong' || result.startsWith('status');
+
+/** What a run came to that was ended by a trap or by the limit. */
+function endSentence({result, place, steps}) {
+  const {loop, line, file, means} = place;
+  if (loop) return t`it never ends: the loop is in line ${loop.line} of ${loop.file ?? file}`;
+  return result === 'limit'
+    ? t`it didn't end within ${steps} steps, which it made in line ${line} of ${file} last`
+    : t`it ends with ${result}, ${means}, in line ${line} of ${file}`;
+}
+
+function otherwise({test, result, difference, status, lacked}) {
+  if (/^rd main\b/.test(result)) return t`the tests have a main of their own, so take yours out`;
+  if (result.startsWith('rd ')) return t`${result.split(' ')[1]} is defined twice`;
+  if (result === 'load 4') return t`there is no function main, with which a run begins`;
+  if (result === 'load 3') {
+    return lacked ? t`${lacked.name} isn't defined: ${lacked.lib} has it, so tick ${lacked.lib} beside With`
+      : t`a name isn't defined, as told below the editor`;
+  }
+  if (!isOutput(result)) return t`it can't be run with the tests: ${result}`;
+  if (!difference) return t`it ends with status ${status}, and not ${test.status ?? 0}`;
   const {line, wrote, wanted} = difference;
   if (test.source && wrote.startsWith('wrong: ')) return wrote.slice(7);
-  const at = linesOf(test.out).length > 1 ? ` in line ${line}` : '';
-  return `${start}it writes ${wrote}${at}, wanted ${wanted}`;
+  return linesOf(test.out).length > 1 ? t`it writes ${wrote} in line ${line}, wanted ${wanted}`
+    : t`it writes ${wrote}, wanted ${wanted}`;
 }
