@@ -1,11 +1,13 @@
 // The lessons: chapters made of the pages of the repository, their programs with Run beside them, and the exercises.
 import {$, button, element} from './dom.mjs';
 import {passes, sentence, testsOf} from './exercises.mjs';
+import {isName} from './files.mjs';
+import {t} from './words.mjs';
 
-const plural = (n, what) => `${n} ${what}${n === 1 ? '' : 's'}`;
+const COMMAND = /^\$? ?(?:\.\/)?b (?=\w+ )/; // before the words of a command of a lesson
 
 export class Course {
-  /** `acts` has what a press of a button does: open, run, command, write, grade, stepThrough, handIn. */
+  /** `acts` has what a press of a button does: open, run, command, write, grade, step, stepThrough, handIn. */
   constructor(data, store, acts) {
     Object.assign(this, {data, store, acts});
     this.results = new Map(data.exercises.map(it => [it.name, store.get(`result:${it.name}`)]));
@@ -49,7 +51,8 @@ export class Course {
     const text = $('chapter-text');
     text.innerHTML = this.chapter.html;
     for (const it of text.querySelectorAll('figure.file')) this.dressFile(it);
-    for (const it of text.querySelectorAll('figure.command')) this.dressCommand(it);
+    for (const it of text.querySelectorAll('figure.command, figure.shown')) this.dressCommand(it);
+    for (const it of text.querySelectorAll('p > code, li > code')) this.dressWords(it);
     for (const it of text.querySelectorAll('a[data-chapter]')) it.onclick = event => this.follow(event, it);
     text.append(...this.exercisesOf(this.chapter).map(it => this.card(it)));
     if (at + 1 < chapters.length) text.append(this.onward(chapters[at + 1]));
@@ -64,7 +67,7 @@ export class Course {
   }
 
   onward(chapter) {
-    return element('p', {className: 'onward'}, button(`Next: ${chapter.title}`, () => this.show(chapter.name, true)));
+    return element('p', {className: 'onward'}, button(t`Next: ${chapter.title}`, () => this.show(chapter.name, true)));
   }
 
   setOf(figure) {
@@ -82,9 +85,10 @@ export class Course {
   dressFile(figure) {
     const set = this.setOf(figure), {file: name} = figure.dataset;
     const bar = element('figcaption', {}, element('b', {}, name));
-    if (name.endsWith('.b')) {
-      bar.append(button('Edit', () => this.acts.open(this.filesOf(set, name)), {title: `Opens ${name} in the editor`}),
-        button('Run', () => this.acts.run(this.filesOf(set, name)), {title: `Opens ${name} and runs it`}));
+    if (isName(name)) {
+      const all = () => this.filesOf(set, name);
+      bar.append(button(t`Edit`, () => this.acts.open(all()), {title: t`Opens ${name} in the editor`}),
+        button(t`Run`, () => this.acts.run(all()), {title: t`Opens ${name} and runs it`}));
     }
     figure.prepend(bar);
     figure.querySelector('pre').tabIndex = 0;
@@ -97,37 +101,52 @@ export class Course {
   }
 
   dressCommand(figure) {
-    const set = this.setOf(figure), line = figure.querySelector('code').textContent.replace(/^\$ b /, '');
-    const name = line.split(' ').find(it => it.endsWith('.b'));
-    const act = () => {
-      this.acts.open(this.filesOf(set, name));
-      this.acts.command(line, set);
-    };
-    figure.prepend(button('Run', act, {title: `Runs b ${line}`}));
+    figure.prepend(this.commandButton(figure.querySelector('code').textContent, this.setOf(figure)));
     const out = figure.querySelector('pre');
     if (out) out.tabIndex = 0;
+  }
+
+  /** A button beside a command in the words of a lesson, where its program stands in the chapter. */
+  dressWords(code) {
+    const words = code.textContent.split(' ');
+    const at = this.chapter.sets.findIndex(it => words.slice(2).some(word => isName(word) && word in it.files));
+    if (!COMMAND.test(code.textContent) || at < 0) return;
+    const place = this.chapter.sets.length > 1 ? `${this.chapter.name}.${at + 1}` : this.chapter.name;
+    code.after(' ', this.commandButton(code.textContent, {...this.chapter.sets[at], place}, 'within'));
+  }
+
+  /** What a command of a lesson does here: a page of steps is shown beside the program, and a picture as one. */
+  commandButton(text, set, className = '') {
+    const line = text.replace(COMMAND, ''), name = line.split(' ').find(it => isName(it) && it in set.files);
+    const isSteps = /^show\b.*> \S+\.html$/.test(line);
+    const act = () => {
+      this.acts.open(this.filesOf(set, name));
+      return isSteps ? this.acts.step() : this.acts.command(line, set);
+    };
+    return button(isSteps ? t`Step through` : t`Run`, act, {title: t`Does this with ${name}`, className});
   }
 
   card(exercise) {
     const {name} = exercise, count = testsOf(exercise).length;
     const box = element('section', {className: 'exercise', id: `exercise-${name}`});
     box.innerHTML = exercise.html;
-    box.prepend(element('h3', {}, 'Exercise ', element('em', {}, name)));
+    box.prepend(element('h3', {}, t`Exercise`, ' ', element('em', {}, name)));
     const result = element('div', {className: 'result', role: 'status'});
     box.append(element('p', {className: 'row'},
-      button(`${exercise.start ? 'Open' : 'Write'} ${name}.b`, () => this.acts.write(exercise)),
-      button(count === 1 ? 'Try the test' : `Try the ${count} tests`, () => this.acts.grade(exercise)),
-      ...exercise.asks ? [button('Step through it', () => this.acts.stepThrough(exercise))] : [],
-      button('Hand in ..', () => this.acts.handIn())), result);
+      button(exercise.start ? t`Open ${name}.b` : t`Write ${name}.b`, () => this.acts.write(exercise)),
+      button(count === 1 ? t`Try the test` : t`Try the ${count} tests`, () => this.acts.grade(exercise)),
+      ...exercise.asks ? [button(t`Step through it`, () => this.acts.stepThrough(exercise))] : [],
+      button(t`Hand in ..`, () => this.acts.handIn())), result);
     this.fill(result, exercise, this.results.get(name));
     return box;
   }
 
   fill(box, exercise, result) {
     if (!result) return;
-    const isRight = result.passed === result.of, when = result.isOld ? ' before the last change' : '';
-    const head = element('p', {className: isRight ? 'good' : 'bad'}, result.refused
-      ? `Not taken: ${result.refused}.` : `${result.passed} of ${plural(result.of, 'test')} passed${when}.`);
+    const {passed, of, refused, isOld} = result;
+    const told = refused ? t`Not taken: ${refused}.`
+      : isOld ? t`${passed} of ${of} tests passed before the last change.` : of === 1 ? t`${passed} of 1 test passed.` : t`${passed} of ${of} tests passed.`;
+    const head = element('p', {className: passed === of ? 'good' : 'bad'}, told);
     box.replaceChildren(head, element('ul', {}, ...result.failed.map(([test, text]) => element('li', {},
       element('b', {}, `${test}: `), text))));
   }

@@ -1,6 +1,6 @@
 // Questions of the page.
 import {$, element} from './dom.mjs';
-import {isName} from './files.mjs';
+import {isCode, isName} from './files.mjs';
 
 /** Asks in a dialog; whether the answer was yes. */
 export function dialog(title, yes, ...body) {
@@ -19,6 +19,6 @@ export async function askName(title, value) {
   const input = element('input', {value, required: true, pattern: '[A-Za-z0-9_][A-Za-z0-9_.\\-]{0,57}(\\.b)?',
     autocomplete: 'off', spellcheck: false, autocapitalize: 'off', title: 'letters, digits and _ . -'});
   const isYes = await dialog(title, 'OK', element('p', {}, element('label', {}, 'Name ', input)));
-  const name = input.value.trim().replace(/(\.b)?$/, '.b');
+  const typed = input.value.trim(), name = isCode(typed) ? typed : typed.replace(/(\.b)?$/, '.b');
   return isYes && isName(name) ? name : '';
 }

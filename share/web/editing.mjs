@@ -1,13 +1,16 @@
 // The editor with its tabs, the options of the program, what is found while one types, and the runs.
 import {$, button, bytesOf, element, say, textOf} from './dom.mjs';
-import {newFile} from './devices.mjs';
+import {copyOf, newFile} from './devices.mjs';
+import {dialog} from './dialogs.mjs';
 import {Editor} from './editor.mjs';
-import {optionsIn} from './files.mjs';
+import {isCode, optionsIn, withOptions} from './files.mjs';
 import {Findings} from './findings.mjs';
 import {check, programOf} from './programs.mjs';
 import {Runs} from './runs.mjs';
 import {checker, data, files, isNarrow, output, runner, store} from './state.mjs';
+import {Names} from './naming.mjs';
 import {exerciseOf, typedInto} from './trying.mjs';
+import {t} from './words.mjs';
 
 const BOXES = ['print', 'strings', 'input', 'vectors', 'numbers'];
 const WAIT = 250; // milliseconds after a key, before the program is checked
@@ -41,24 +44,25 @@ function tab(file) {
   const place = file.place && ` (${file.place.replace('-', ' ')})`;
   const open = button(file.name, () => openFile(file), {title: file.name + place});
   open.setAttribute('aria-current', isCurrent);
-  const close = button('\u00d7', () => closeFile(file), {title: `Closes ${file.name}`});
-  close.setAttribute('aria-label', `Close ${file.name}`);
+  const close = button('\u00d7', () => closeFile(file), {title: t`Closes ${file.name}`});
+  close.setAttribute('aria-label', t`Close ${file.name}`);
   return element('span', {className: isCurrent ? 'tab current' : 'tab'}, open, close);
 }
 
 function showTabs() {
-  const add = button('+', newFile, {title: 'New file', className: 'add'});
-  add.setAttribute('aria-label', 'New file');
+  const add = button('+', newFile, {title: t`New file`, className: 'add'});
+  add.setAttribute('aria-label', t`New file`);
   $('tabs').replaceChildren(...files.open.map(tab), add);
   $('tabs').querySelector('.current')?.scrollIntoView({block: 'nearest', inline: 'nearest'});
   const exercise = exerciseOf(files.current);
   $('try').hidden = !exercise;
   document.title = `${files.program.name} - B of 1972`;
-  $('run').title = `Runs ${files.program.name} (Ctrl+Enter)`;
+  $('run').title = t`Runs ${files.program.name} (Ctrl+Enter)`;
 }
 
 function showOptions() {
   const program = files.program;
+  $('options').hidden = isCode(program.name);
   $('edition').value = program.edition;
   const names = [...files.beside(program).map(it => it.name), ...BOXES, ...program.libs];
   const boxes = [...new Set(names)].map(name => {
@@ -66,7 +70,7 @@ function showOptions() {
     box.onchange = () => setLib(name, box.checked);
     return element('label', {}, box, ` ${name}`);
   });
-  $('libs').replaceChildren(element('legend', {}, 'With'), ...boxes);
+  $('libs').replaceChildren(element('legend', {}, t`With`), ...boxes);
   $('input').value = program.input;
   $('ends').checked = program.ends;
 }
@@ -74,8 +78,26 @@ function showOptions() {
 export function setLib(name, is) {
   const {program} = files;
   program.libs = is ? [...program.libs, name] : program.libs.filter(it => it !== name);
+  if (optionsIn(program.text) || is && lacksIn(exerciseOf(program), name)) {
+    const {libs} = program;
+    retext(program, withOptions(program.text, program));
+    program.libs = libs;
+  }
   files.keep(program);
   recheck(0);
+}
+
+/** Whether the tests of an exercise take a file of the library only where the first line of the hand-in names it. */
+function lacksIn(exercise, name) {
+  return exercise && name in data.libs && !exercise.taught.includes(name) && !(`${name}.b` in exercise.libs);
+}
+
+/** Puts another text into a file, shown or not. */
+export function retext(file, text) {
+  file.text = text;
+  editor.follow(file);
+  typedInto(file);
+  files.keep(file);
 }
 
 /** Shows a file of its own, its options, and what is found in it. */
@@ -85,6 +107,41 @@ export function openFile(file) {
   showTabs();
   showOptions();
   recheck(0);
+}
+
+// ---- What other windows of the page change
+
+files.heard = file => {
+  editor.follow(file);
+  typedInto(file);
+  if (file === files.program) showOptions();
+  recheck();
+};
+
+let isAsking = false;
+/** Two windows have changed a file: which text stays? The other one is kept under another name. */
+files.differs = async (file, other) => {
+  if (isAsking) return;
+  isAsking = true;
+  const copy = copyOf(file);
+  const isYes = await dialog(t`${file.name} was changed in another window, too`, t`Keep the text of this window`,
+    element('p', {}, t`The other window has another text.`, ' ', t`Cancel takes that one.`, ' ',
+      t`The one that goes is kept as ${copy.name}.`));
+  isAsking = false;
+  if (isYes) {
+    copy.text = other.text;
+    files.write(copy);
+    files.write(file);
+  } else {
+    retextFrom(file, other);
+  }
+  say(t`The other text is in ${copy.name}.`);
+};
+
+function retextFrom(file, other) {
+  Object.assign(file, other.toJSON());
+  files.write(file);
+  files.heard(file);
 }
 
 /** Opens files, the last one shown. What a chapter or an example opened before goes where nobody has changed it. */
@@ -148,6 +205,8 @@ function takeOptions(file) {
   showOptions();
 }
 
+export const names = new Names(data.words, data.libs);
+
 export const findings = new Findings({
   check,
   apply(edit, file) {
@@ -171,13 +230,25 @@ export function goTo(name, place) {
   editor.go(place);
 }
 
-export const editor = new Editor($('editor'), data.words, {changed, run: () => runs.run()});
+export const editor = new Editor($('editor'), data.words, {
+  changed, run: () => runs.run(), names,
+  use(lib) {
+    if (files.current === files.program && !files.program.libs.includes(lib)) {
+      setLib(lib, true);
+      showOptions();
+    }
+  },
+});
 
 export const runs = new Runs({
   machine: runner, output, editor, show, program: () => programOf(files.program),
   faults() {
     recheck(0);
     if (isNarrow()) pane('program');
+  },
+  forMain() {
+    const [first] = names.functions(files.program.text);
+    return first ? [button(t`Write a main that calls ${first.name}`, () => writeMain(first))] : [];
   },
   stopAt(name, line) {
     const file = [files.program, ...files.withs(files.program)].find(it => it.name === name);
@@ -186,16 +257,27 @@ export const runs = new Runs({
   },
 });
 
+/** Puts a function main after the program that calls a function, with a number for each parameter. */
+function writeMain({name, parameters}) {
+  const {program} = files, given = parameters.map((_, k) => k + 1).join(', ');
+  const main = `\nmain() {\n    printn(${name}(${given}), 10);\n    putchar('*n');\n}\n`;
+  if (program !== files.current) openFile(program);
+  retext(program, `${program.text.trimEnd()}\n${main}`);
+  recheck(0);
+  editor.go({line: editor.cm.lineCount() - 3, column: 12});
+  say(t`Change the numbers, and run it.`);
+}
+
 export async function layOut() {
   const file = files.current;
+  if (isCode(file.name)) return say(t`A code text has one item on each line.`);
   const words = ['format', `--edition=${file.edition}`, file.name];
   const ended = await checker.ask(words, {files: {[file.name]: bytesOf(file.text)}});
   if (ended.status !== 0) {
-    say(`${(ended.told ?? '').split('\n')[0]}: a program with a fault isn't laid out.`, 'bad');
     recheck(0);
-    return;
+    return say(t`A program with a fault isn't laid out.`, 'bad');
   }
   const text = textOf(ended.output), isSame = text === file.text;
   if (!isSame) editor.put(text);
-  say(isSame ? `${file.name} is laid out already.` : `${file.name} is laid out.`, 'good');
+  return say(isSame ? t`${file.name} is laid out already.` : t`${file.name} is laid out.`, 'good');
 }

@@ -1,6 +1,8 @@
 // The editor: CodeMirror with the colours of B, its marks of findings, and the line where a run stopped.
+// Ctrl+Space completes a name, and a title tells what it is.
 // `CodeMirror` is there already, from the library of Debian's package libjs-codemirror.
 /* global CodeMirror */
+import {isCode} from './files.mjs';
 
 const ESCAPES = /[0e()nt*'"]/;
 
@@ -74,8 +76,10 @@ export function unitOf(line, column) {
 }
 
 export class Editor {
-  constructor(box, words, {changed, run}) {
+  /** `names` tells what names mean, and `use` takes a file of the library that has a name. */
+  constructor(box, words, {changed, run, names, use}) {
     CodeMirror.defineMode('b', () => language(words));
+    Object.assign(this, {names, use});
     this.docs = new Map();
     this.marks = [];
     this.cm = CodeMirror(box, {
@@ -86,8 +90,10 @@ export class Editor {
       extraKeys: {
         Tab: false, 'Shift-Tab': false, 'Ctrl-Enter': run, 'Cmd-Enter': run, 'Ctrl-]': 'indentMore',
         'Ctrl-[': 'indentLess', 'Ctrl-/': cm => this.remark(cm), 'Cmd-/': cm => this.remark(cm),
+        'Ctrl-Space': () => this.complete(),
       },
     });
+    box.addEventListener('mouseover', ({target}) => this.title(target));
     this.cm.on('change', (cm, change) => {
       if (change.origin !== 'setValue') this.unmarkStop();
       changed(change);
@@ -99,9 +105,37 @@ export class Editor {
 
   /** Shows a file, with the places and the steps back that it had before. */
   show(file) {
-    if (!this.docs.has(file)) this.docs.set(file, CodeMirror.Doc(file.text, 'b'));
+    if (!this.docs.has(file)) this.docs.set(file, CodeMirror.Doc(file.text, isCode(file.name) ? null : 'b'));
     this.clear();
     this.cm.swapDoc(this.docs.get(file));
+  }
+
+  /** Puts the text of a file into the editor, where that has another one. */
+  follow(file) {
+    const doc = this.docs.get(file), isShown = doc === this.cm.getDoc();
+    if (!doc || doc.getValue('\n') === file.text) return;
+    if (isShown) this.put(file.text);
+    else doc.replaceRange(file.text, {line: 0, ch: 0}, {line: doc.lastLine()}, 'put');
+  }
+
+  /** Tells of a function, where the mouse is on its name, what it does. */
+  title(token) {
+    if (token.title || !/\bcm-(variable|builtin)\b/.test(token.className)) return;
+    const known = this.names.in(this.text).get(token.textContent);
+    if (known?.call.includes('(')) token.title = `${known.call}: ${known.says}`;
+  }
+
+  /** Shows the names that begin as the one before the cursor, to choose one. */
+  complete() {
+    CodeMirror.showHint(this.cm, () => {
+      const at = this.cm.getCursor(), before = /\w*$/.exec(this.cm.getLine(at.line).slice(0, at.ch))[0];
+      const fits = ({name}) => name.startsWith(before) && name !== before;
+      const known = [...this.names.in(this.text).values()].filter(fits);
+      const list = known.map(it => ({text: it.name, displayText: it.call, known: it}));
+      const hints = {list, from: {line: at.line, ch: at.ch - before.length}, to: at};
+      CodeMirror.on(hints, 'pick', ({known: {lib}}) => lib && this.use(lib));
+      return hints;
+    }, {completeSingle: true, closeCharacters: /[^\w]/});
   }
 
   forget(file) { this.docs.delete(file); }

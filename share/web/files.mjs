@@ -1,10 +1,11 @@
 // The files of a person: those that are open, the one that is shown, and the program that Run runs.
 // A file has a key, which is its place and its name: a lesson and an exercise may have files of one name.
 
-const NAME = /^[A-Za-z0-9_][\w.-]*\.b$/;
+const NAME = /^[A-Za-z0-9_][\w.-]*\.(?:b|code)$/;
 const OPTIONS = /^\/\* b:((?: --(?:edition [12]|with [\w./-]+))+) \*\//;
 
 export const isName = name => NAME.test(name) && name.length <= 60;
+export const isCode = name => name.endsWith('.code');
 
 /** The options that a comment in the first line of a source tells, as editors read it. */
 export function optionsIn(text) {
@@ -17,6 +18,15 @@ export function optionsIn(text) {
   return given && options;
 }
 
+/** A source with these options in its first line. */
+export function withOptions(text, {edition, libs}) {
+  const told = `${edition === '2' ? ' --edition 2' : ''}${libs.map(it => ` --with ${it}`).join('')}`;
+  const rest = text.replace(OPTIONS, '').replace(text.match(OPTIONS) ? /^\n/ : '', '');
+  return told ? `/* b:${told} */\n${rest}` : rest;
+}
+
+const KEPT = ['place', 'name', 'text', 'base', 'edition', 'libs', 'input', 'ends'];
+
 export class File {
   constructor({place = '', name, text = '', base = null, edition = '1', libs = [], input = '', ends = false}) {
     Object.assign(this, {place, name, text, base, edition, libs, input, ends});
@@ -26,21 +36,64 @@ export class File {
 
   get key() { return `${this.place}/${this.name}`; }
   get isChanged() { return this.text !== this.base; }
+  get isOwn() { return this.place === '' || this.place === 'exercise' || this.isChanged; }
+
+  toJSON() { return Object.fromEntries(KEPT.map(it => [it, this[it]])); }
+
+  /** What is kept of this file in the browser is as it is here. */
+  meets(kept) {
+    this.kept = kept;
+    this.met = JSON.stringify(this);
+  }
+
+  /** Whether something here isn't kept yet. */
+  get isAhead() { return this.met ? JSON.stringify(this) !== this.met : this.isChanged; }
+
+  /** Whether what is kept is what this window knows: what it saw, or wrote itself. */
+  knows(kept) { return kept === (this.kept ?? null) || kept === this.written; }
+}
+
+/** A file of what is kept; nothing where that is no file. */
+function fileOf(kept) {
+  let told;
+  try { told = JSON.parse(kept); } catch { return null; }
+  if (typeof told?.text !== 'string' || !isName(told.name ?? '')) return null;
+  return new File({...told, libs: Array.isArray(told.libs) ? told.libs : []});
 }
 
 export class Files {
+  /** `heard(file)` is called where another window of the page has changed a file, `differs` where both have. */
   constructor(store) {
     this.store = store;
     this.all = new Map();
     this.open = [];
     this.current = this.program = null;
-    for (const name of store.names('file:')) this.take(store.get(name));
+    this.heard = this.differs = () => {};
+    for (const name of store.names('file:')) this.take(store.text(name));
   }
 
   take(kept) {
-    if (typeof kept?.text !== 'string' || !isName(kept.name ?? '')) return;
-    const file = new File({...kept, libs: Array.isArray(kept.libs) ? kept.libs : []});
+    const file = fileOf(kept);
+    if (!file) return;
     this.all.set(file.key, file);
+    file.meets(kept);
+  }
+
+  /** What another window of the page has kept of a file. */
+  hear(key, kept) {
+    const file = this.all.get(key);
+    if (!file) this.take(kept);
+    else if (!file.isAhead) this.follow(file, kept);
+  }
+
+  /** Takes what another window has kept, where nothing was changed here. */
+  follow(file, kept) {
+    const newer = fileOf(kept);
+    if (!newer && !this.open.includes(file)) this.all.delete(file.key);
+    if (!newer || kept === file.kept) return;
+    Object.assign(file, newer.toJSON());
+    file.meets(kept);
+    this.heard(file);
   }
 
   /** Opens again what was open. */
@@ -66,7 +119,13 @@ export class Files {
     this.keep(file);
   }
 
+  /** What other windows have kept, where none of them could tell it. */
+  refresh() {
+    for (const name of this.store.names('file:')) this.hear(name.slice('file:'.length), this.store.text(name));
+  }
+
   close(file) {
+    this.hear(file.key, this.store.text(`file:${file.key}`));
     const at = this.open.indexOf(file);
     this.open = this.open.filter(it => it !== file);
     if (!file.isChanged) this.remove(file);
@@ -100,21 +159,32 @@ export class Files {
     return this.open.filter(it => places.has(it.place) && !names.has(it.name) && names.add(it.name));
   }
 
+  /** Keeps a file, and never writes over what another window has kept since: that one is taken, or else asked for. */
   keep(file) {
-    this.store.put(`file:${file.key}`, file);
+    const name = `file:${file.key}`, kept = this.store.text(name);
+    if (file.knows(kept) || fileOf(kept)?.text === file.text) this.write(file);
+    else if (!file.isAhead) this.follow(file, kept);
+    else if (!kept) this.write(file);
+    else this.differs(file, fileOf(kept));
     this.keepOpen();
+  }
+
+  write(file) {
+    file.written = JSON.stringify(file);
+    if (this.store.put(`file:${file.key}`, file)) file.meets(file.written);
   }
 
   keepOpen() {
     this.store.put('open', {open: this.open.map(it => it.key), current: this.current?.key});
   }
 
-  /** A name like this one that no file of the place has. */
-  freeName(name, place = '') {
-    const stem = name.replace(/\.b$/, '');
+  /** A name like this one that no file of the person has. */
+  freeName(name) {
+    const taken = new Set([...this.all.values()].filter(it => it.isOwn).map(it => it.name));
+    const [stem, ending] = /^(.*?)(\.\w+)$/.exec(name).slice(1);
     for (let k = 1; ; k++) {
-      const free = k === 1 ? name : `${stem}-${k}.b`;
-      if (!this.all.has(`${place}/${free}`)) return free;
+      const free = k === 1 ? name : `${stem}-${k}${ending}`;
+      if (!taken.has(free)) return free;
     }
   }
 }

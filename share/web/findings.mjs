@@ -2,7 +2,8 @@
 // program has tried the edits that it tells. Another one is tried before it is offered: with it the finding is gone, and
 // no other one came before its place.
 import {$, button, element, shown} from './dom.mjs';
-import {edited, edits, told} from './fixes.mjs';
+import {edited, edits, presented, told} from './fixes.mjs';
+import {t} from './words.mjs';
 
 const MOST = 30; // findings in the list
 const TRIED = 5; // findings for which edits are tried
@@ -61,23 +62,25 @@ export class Findings {
   show(found, program, text, offers) {
     const items = found.slice(0, MOST).map(it => this.item(it, program, text, offers.get(it) ?? []));
     $('findings').replaceChildren(...items);
-    if (found.length > MOST) $('findings').append(element('li', {}, `.. and ${found.length - MOST} more`));
+    if (found.length > MOST) $('findings').append(element('li', {}, t`.. and ${found.length - MOST} more`));
     $('findings').hidden = found.length === 0;
-    this.tell(found);
+    this.tell(found, program.name, text);
   }
 
-  tell(found) {
-    const [first] = found, count = found.length === 1 ? 'One finding' : `${found.length} findings`;
-    const text = first ? `${count}, line ${first.line}: ${first.message}` : '';
+  tell(found, name, source) {
+    const [first] = found, says = first && presented(first, first.file === name ? source : null).message;
+    const text = !first ? '' : found.length === 1 ? t`One finding, line ${first.line}: ${says}`
+      : t`${found.length} findings, line ${first.line}: ${says}`;
     if ($('found-said').textContent !== text) $('found-said').textContent = text;
   }
 
   item(it, program, text, offers) {
-    const where = it.file === program.name ? `Line ${it.line}` : `${it.file}, line ${it.line}`;
+    const where = it.file === program.name ? t`Line ${it.line}` : t`${it.file}, line ${it.line}`;
+    const says = presented(it, it.file === program.name ? text : null);
     const head = button('', () => this.go(it), {className: 'finding'});
-    head.append(element('b', {}, `${where}: `), shown(it.message));
-    const fix = element('small', {}, shown(it.fix ?? ''));
-    const buttons = offers.map(edit => button(`Fix: ${told(text, edit)}`, () => {
+    head.append(element('b', {}, `${where}: `), shown(says.message));
+    const fix = element('small', {}, shown(says.fix));
+    const buttons = offers.map(edit => button(t`Fix: ${told(text, edit)}`, () => {
       if (program.text === text) this.apply(edit, program);
       else this.update(program);
     }, {className: 'fix'}));

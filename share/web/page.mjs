@@ -2,17 +2,19 @@
 /* global page */
 import {$, bytesOf, save, say, textOf} from './dom.mjs';
 import {openClass} from './classroom.mjs';
-import {newFile, putBack, readFile, removeFile, rename, showKept} from './devices.mjs';
+import {newFile, putBack, readFile, removeFile, rename, saveAll, showKept} from './devices.mjs';
 import {editor, example, findings, goTo, keepNow, layOut, openAll, openFile, pane, recheck, runs, setLib,
   show, showCourse} from './editing.mjs';
 import {Grading} from './exercises.mjs';
+import {lookAt} from './looking.mjs';
+import {Replacing} from './replacing.mjs';
 import {findPattern, ownRules} from './searching.mjs';
 import {fillPrinted, link, openLink, printed} from './sharing.mjs';
 import {checker, data, files, isNarrow, onWidth, output, store, testing} from './state.mjs';
-import {begin, exerciseOf, grade, handIn, stopTests} from './trying.mjs';
+import {begin, exerciseOf, grade, handIn, hearResult, stopTests} from './trying.mjs';
 
 const IDLE = 500; // milliseconds after the page is ready
-const course = begin();
+const course = begin(), replacing = new Replacing(editor.cm);
 
 function colours(theme) {
   if (theme) document.documentElement.dataset.theme = theme;
@@ -28,6 +30,9 @@ const ACTS = {
   new: newFile,
   open: () => $('chosen').click(),
   save: () => save(files.current.name, [files.current.text]),
+  'save-all': saveAll,
+  'save-now': saveAll,
+  replacing: () => replacing.open(),
   rename,
   'put-back': putBack,
   delete: removeFile,
@@ -67,7 +72,19 @@ function wire() {
   window.addEventListener('beforeprint', fillPrinted);
   window.addEventListener('afterprint', () => delete document.body.dataset.print);
   window.addEventListener('hashchange', () => openLink(course));
+  wireKeeping();
+}
+
+/** What is typed is kept before the page goes, and what other windows of the page keep is heard. */
+function wireKeeping() {
   window.addEventListener('pagehide', keepNow);
+  document.addEventListener('visibilitychange', () => document.hidden ? keepNow() : files.refresh());
+  window.addEventListener('pageshow', ({persisted}) => persisted && files.refresh());
+  store.hear((name, text) => {
+    const [, kind, key] = /^(\w+):(.*)$/.exec(name) ?? [];
+    if (kind === 'file') files.hear(key, text);
+    if (kind === 'result') hearResult(key, store.get(name));
+  });
 }
 
 /** What belongs to a program: its edition and its input. */
@@ -97,8 +114,9 @@ function wireFiles() {
 /** On a narrow page, what is needed less often stands in the menu. */
 function place() {
   const rest = [$('layout'), document.querySelector('.example'), document.querySelector('.theme')];
-  if (isNarrow()) $('narrow').append(...rest);
+  if (isNarrow()) $('narrow').append($('look-menu'), ...rest);
   else {
+    $('file-menu').before($('look-menu'));
     document.querySelector('.actions').append(rest[0]);
     $('file-menu').after(rest[1], rest[2]);
   }
@@ -120,15 +138,36 @@ function wireMenus() {
   };
   $('file-menu').ontoggle = () => $('file-menu').open && showKept();
   document.addEventListener('click', event => {
-    if (!$('file-menu').contains(event.target)) $('file-menu').open = false;
+    for (const it of menus()) if (!it.contains(event.target)) it.open = false;
   });
   document.addEventListener('keydown', wireKeys);
+  for (const it of document.querySelectorAll('[data-look]')) {
+    it.onclick = () => {
+      for (const menu of menus()) menu.open = false;
+      lookAt(it.dataset.look);
+    };
+  }
+  for (const it of document.querySelectorAll('.stop')) it.onkeydown = typeOn;
+  editor.cm.addKeyMap({'Ctrl-F': () => replacing.open(), 'Cmd-F': () => replacing.open(),
+    'Ctrl-H': () => replacing.open(), 'Cmd-Alt-F': () => replacing.open()});
+}
+
+const menus = () => document.querySelectorAll('details.menu');
+
+/** A key right after Tab has left the editor is one for the editor. */
+function typeOn(event) {
+  const isText = event.key.length === 1 && !event.ctrlKey && !event.metaKey && !event.altKey;
+  if (!isText && !['Enter', 'Backspace', 'Delete'].includes(event.key) || event.ctrlKey) return;
+  event.preventDefault();
+  editor.cm.focus();
+  if (isText) editor.cm.replaceSelection(event.key);
 }
 
 function wireKeys(event) {
-  if (event.key === 'Escape' && $('file-menu').open) {
-    $('file-menu').open = false;
-    $('file-menu').querySelector('summary').focus();
+  const open = [...menus()].find(it => it.open);
+  if (event.key === 'Escape' && open) {
+    open.open = false;
+    open.querySelector('summary').focus();
   }
   if (event.key === 'Enter' && (event.ctrlKey || event.metaKey) && !event.defaultPrevented && !$('dialog').open) {
     event.preventDefault();

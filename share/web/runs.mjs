@@ -1,5 +1,6 @@
 // Run, Stop, Step through, Lay out, and the commands of the lessons.
 import {$, alsoSay, button, bytesOf, save, say, textOf} from './dom.mjs';
+import {t} from './words.mjs';
 
 const PLACE = /^at +in (\S+) +place +\d+ +line +(\d+)(?: of (\S+))? +step (\d+)$/m;
 const MEANS = /^ +means: (.*)$/m;
@@ -37,8 +38,8 @@ const seconds = ms => `${(ms / 1000).toFixed(2)} s`;
 
 export class Runs {
   /** `program()` gives what Run runs: its words after the options, its files, and the input. */
-  constructor({machine, output, editor, program, show, faults, stopAt}) {
-    Object.assign(this, {machine, output, editor, program, show, faults, stopAt});
+  constructor({machine, output, editor, program, show, faults, stopAt, forMain}) {
+    Object.assign(this, {machine, output, editor, program, show, faults, stopAt, forMain});
     this.session = null;
   }
 
@@ -125,8 +126,8 @@ export class Runs {
     else if (ended.status === 0) say(`Done, in ${seconds(ended.took)}.`, 'good');
     else if (end.loop) this.sayEndless(end, session);
     else if (place) this.sayPlace(line, means, place, session);
-    else if (ended.status === 1 && line) this.sayFault(line, 'the program has a fault, told below the editor', session);
-    else if (line.startsWith('load')) this.sayFault(line, "it can't be run, as told below the editor", session);
+    else if (ended.status === 1 && line) this.sayFault(line, t`The program has a fault: see below the editor.`, session);
+    else if (line.startsWith('load')) this.sayFault(line, t`It can't be run: see below the editor.`, session);
     else say(line ? `${line}.` : `Ended with status ${ended.status}, in ${seconds(ended.took)}.`, 'bad');
     this.readOut();
     if (!ended.failed) this.lookCarefully(session);
@@ -158,8 +159,8 @@ export class Runs {
   }
 
   sayFault(line, why, session) {
-    const text = line === 'load 4' ? `${session.name} has no function main` : why;
-    say(`${line}: ${text}.`, 'bad');
+    const isMain = line === 'load 4', told = isMain ? t`There is no function main in ${session.name}.` : why;
+    say(told, 'bad', ...isMain ? this.forMain() : []);
     this.faults();
   }
 

@@ -5,10 +5,15 @@ import {Files} from './files.mjs';
 import {Machine} from './machine.mjs';
 import {Output} from './output.mjs';
 import {Store} from './store.mjs';
+import {t} from './words.mjs';
 
 /** The lessons, the exercises, the library, the examples, and the words of the language. */
 export const {data} = page;
-export const store = new Store(() => say('This browser keeps nothing: save what you write as a file.', 'bad'));
+for (const it of data.exercises) it.library = data.libs;
+export const store = new Store(is => {
+  $('unkept').hidden = !is;
+  if (is) say(t`This browser keeps nothing: save what you write as a file.`, 'bad');
+});
 export const files = new Files(store), output = new Output($('out'));
 
 const module = page.module(), worker = URL.createObjectURL(new Blob([page.worker], {type: 'text/javascript'}));

@@ -5,6 +5,7 @@ import {Course} from './course.mjs';
 import {dialog} from './dialogs.mjs';
 import {editor, openAll, runs} from './editing.mjs';
 import {Grading, sentence} from './exercises.mjs';
+import {showPicture} from './looking.mjs';
 import {commandOf} from './programs.mjs';
 import {data, files, output, store, testing} from './state.mjs';
 
@@ -12,7 +13,8 @@ let grading, course;
 
 export const exerciseOf = file => file?.place === 'exercise' && data.exercises.find(it => `${it.name}.b` === file.name);
 
-function startOf(exercise) {
+/** The file of an exercise, as it begins. */
+export function startOf(exercise) {
   const text = exercise.start ?? `/* ${exercise.name} */\n`;
   const libs = Object.keys(exercise.libs).map(it => it.replace(/\.b$/, '')).filter(it => it !== 'test');
   return {place: 'exercise', name: `${exercise.name}.b`, text, base: text, edition: exercise.edition, libs};
@@ -96,7 +98,9 @@ export function begin() {
       openAll(given);
       await runs.run();
     },
-    command: (line, set) => runs.command(`b ${line}`, commandOf(line, set)),
+    command: (line, set) => / > \S+\.svg$/.test(line) ? showPicture(line.split(' > ')[0], commandOf(line, set))
+      : runs.command(line, commandOf(line, set)),
+    step: () => runs.step(),
     async stepThrough({name, asks}) {
       openAll([{place: 'asks', name: `${name}-asks.b`, text: asks, base: asks}]);
       await runs.step();
@@ -104,4 +108,10 @@ export function begin() {
     write, grade, handIn,
   });
   return course;
+}
+
+/** What came of the tests of an exercise elsewhere: in another window, or before this archive was made. */
+export function hearResult(name, result) {
+  const exercise = data.exercises.find(it => it.name === name);
+  if (exercise && Array.isArray(result?.failed)) course.keep(exercise, result);
 }
