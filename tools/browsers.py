@@ -15,6 +15,7 @@ import urllib.request
 
 SECONDS = 60
 ENTER, SHIFT, CONTROL, ESCAPE, TAB = "\ue007", "\ue008", "\ue009", "\ue00c", "\ue004"
+LEFT, RIGHT, HOME, END, F9 = "\ue012", "\ue014", "\ue011", "\ue010", "\ue039"
 ELEMENT = "element-6066-11e4-a52e-4f735466cecf"
 
 

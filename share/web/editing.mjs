@@ -28,7 +28,7 @@ export function show(what) {
   const isSteps = what === 'steps';
   document.body.classList.toggle('stepping', isSteps);
   $('steps').hidden = !isSteps;
-  if (isSteps) $('frame').focus();
+  if (!isSteps) runs.walk.close();
   pane(isSteps ? 'steps' : what);
 }
 
@@ -254,6 +254,11 @@ export const runs = new Runs({
     const file = [files.program, ...files.withs(files.program)].find(it => it.name === name);
     if (file && file !== files.current) openFile(file);
     if (file) editor.markStop(line);
+  },
+  docOf(name, isShown) {
+    const file = [files.program, ...files.withs(files.program)].find(it => it.name === name);
+    if (file && isShown && file !== files.current) openFile(file);
+    return editor.docs.get(file);
   },
 });
 

@@ -1,5 +1,7 @@
 // Run, Stop, Step through, Lay out, and the commands of the lessons.
-import {$, alsoSay, button, bytesOf, save, say, textOf} from './dom.mjs';
+import {$, alsoSay, button, bytesOf, save, say} from './dom.mjs';
+import {NoSteps, programText} from './recording.mjs';
+import {Walk} from './stepping.mjs';
 import {t} from './words.mjs';
 
 const PLACE = /^at +in (\S+) +place +\d+ +line +(\d+)(?: of (\S+))? +step (\d+)$/m;
@@ -38,9 +40,10 @@ const seconds = ms => `${(ms / 1000).toFixed(2)} s`;
 
 export class Runs {
   /** `program()` gives what Run runs: its words after the options, its files, and the input. */
-  constructor({machine, output, editor, program, show, faults, stopAt, forMain}) {
+  constructor({machine, output, editor, program, show, faults, stopAt, forMain, docOf}) {
     Object.assign(this, {machine, output, editor, program, show, faults, stopAt, forMain});
     this.session = null;
+    this.walk = new Walk({machine, editor, program, show, docOf, busy: is => this.busy(is)});
   }
 
   /** Runs the program from its start. Its output before was of another run. */
@@ -48,7 +51,9 @@ export class Runs {
     this.stop();
     const {name, words, files, input, ends} = this.program();
     this.typed = '';
-    this.session = {name, files, words: ['go', '--where', ...options, ...words], input, typed: '', closed: ends};
+    this.trouble = null;
+    this.session = {name, files, words: ['go', '--where', ...options, ...words], input, typed: '', closed: ends,
+      text: programText({words, files})};
     this.begin(name, 'It runs ..');
     await this.go();
   }
@@ -64,9 +69,13 @@ export class Runs {
   }
 
   ended(is) {
-    $('stop').disabled = is;
-    document.body.classList.toggle('running', !is);
+    this.busy(!is);
     if (is) $('ask').hidden = true;
+  }
+
+  busy(is) {
+    $('stop').disabled = !is;
+    document.body.classList.toggle('running', is);
   }
 
   /** Runs the session with the input that is there. Where a run is repeated, what it wrote before isn't shown again. */
@@ -91,19 +100,22 @@ export class Runs {
 
   /** A line that was typed for the program. */
   enter(text) {
+    if (this.walk.isOpen) return this.walk.enter(text);
     this.output.typed(`${text}\n`);
     this.session.typed += `${text}\n`;
-    this.go();
+    return this.go();
   }
 
   noMore() {
+    if (this.walk.isOpen) return this.walk.noMore();
     this.session.closed = true;
-    this.go();
+    return this.go();
   }
 
   stop() {
     const {session} = this;
     this.session = null;
+    this.walk.close();
     if (!session) return false;
     if (this.machine.busy) this.machine.stop();
     this.output.flush();
@@ -112,6 +124,7 @@ export class Runs {
   }
 
   stopped() {
+    if (this.walk.stop()) return;
     if (this.stop()) say('Stopped.', 'bad');
     $('run').focus();
   }
@@ -134,19 +147,21 @@ export class Runs {
   }
 
   /** Runs carefully what was run, and shows none of its output. A finding is said after how the run ended. */
-  async lookCarefully({name, files, words, input, typed}) {
+  async lookCarefully({name, files, words, input, typed, text}) {
     const own = words.slice(2).filter(it => it !== '--no-limit'), looked = this.looked = {};
     const ended = await this.machine.ask(['go', '--careful', `--steps=${CAREFUL_STEPS}`, ...own],
       {files, input: bytesOf(input + typed)});
     const found = findingOf(ended.told ?? '');
     if (!found || this.session || this.looked !== looked) return;
     const file = found.file ?? name;
+    this.trouble = {text, at: found.step, why: found.means};
     alsoSay(`A careful run finds, in line ${found.line} of ${file}, in ${found.where}: ${found.means}.`);
     this.stopAt(file, found.line);
   }
 
   sayPlace(line, means, place, session) {
     const file = place.file ?? session.name, why = `${line}: ${means.split(';')[0]}`;
+    if (line !== 'limit') this.trouble = {text: session.text, at: place.step + 1, why};
     const text = `${why}, in line ${place.line} of ${file}, in ${place.where}, at step ${place.step}.`;
     const more = line === 'limit' ? [button('Run without a limit', () => this.run(['--no-limit']))] : [];
     say(text, 'bad', ...more);
@@ -190,25 +205,25 @@ export class Runs {
     return ended;
   }
 
-  async step() {
-    const typed = this.session?.typed ?? this.typed ?? '';
+  /**
+   * Steps through the program beside the editor, from where its last run went wrong on; or shows the page of `b show`
+   * alone, for a program that asks what comes.
+   */
+  async step({isWhole = false} = {}) {
+    const typed = this.session?.typed ?? this.typed ?? '', {trouble} = this, program = this.program();
+    const isSame = !isWhole && trouble?.text === programText(program);
     this.stop();
-    const {name, words, files, input} = this.program();
-    const session = this.session = {};
-    this.ended(false);
-    say(`The steps of ${name} ..`);
-    const ended = await this.machine.ask(['show', ...words], {files, input: bytesOf(input + typed)});
-    if (this.session !== session) return;
-    this.session = null;
-    this.ended(true);
-    if (ended.status !== 0) {
-      say(`${(ended.told ?? '').split('\n')[0] || ended.failed}: there are no steps to show.`, 'bad');
+    this.looked = null;
+    say(t`The steps of ${program.name} ..`);
+    try {
+      await this.walk.begin({typed, isWhole, ...isSame ? {at: trouble.at, why: trouble.why} : {}});
+      say('');
+    } catch (it) {
+      if (!(it instanceof NoSteps)) throw it;
+      const why = it.message || t`${program.name} can't be run, as told below the editor`;
+      say(t`${why}: there are no steps to show.`, 'bad');
       this.faults();
-      return;
     }
-    $('frame').srcdoc = textOf(ended.output);
-    this.show('steps');
-    say('');
   }
 
   /** Waits until no run goes on, or one waits for input. */

@@ -103,7 +103,7 @@ export function begin() {
     step: () => runs.step(),
     async stepThrough({name, asks}) {
       openAll([{place: 'asks', name: `${name}-asks.b`, text: asks, base: asks}]);
-      await runs.step();
+      await runs.step({isWhole: true});
     },
     write, grade, handIn,
   });
