@@ -242,6 +242,7 @@ export const editor = new Editor($('editor'), data.words, {
 
 export const runs = new Runs({
   machine: runner, output, editor, show, program: () => programOf(files.program),
+  care: () => store.get('wraps') ? '--careful=wraps' : '--careful',
   faults() {
     recheck(0);
     if (isNarrow()) pane('program');

@@ -2,6 +2,7 @@
 // A file has a key, which is its place and its name: a lesson and an exercise may have files of one name.
 
 const NAME = /^[A-Za-z0-9_][\w.-]*\.(?:b|code)$/;
+export const MOST_LIBS = 20; // names that may come after a program
 const OPTIONS = /^\/\* b:((?: --(?:edition [12]|with [\w./-]+))+) \*\//;
 
 export const isName = name => NAME.test(name) && name.length <= 60;
@@ -13,7 +14,7 @@ export function optionsIn(text) {
   const words = given ? given[1].trim().split(' ') : [];
   for (let k = 0; k < words.length; k += 2) {
     if (words[k] === '--edition') options.edition = words[k + 1];
-    else options.libs.push(words[k + 1].replace(/^\.\//, ''));
+    else if (options.libs.length < MOST_LIBS) options.libs.push(words[k + 1].replace(/^\.\//, ''));
   }
   return given && options;
 }
@@ -58,7 +59,7 @@ function fileOf(kept) {
   let told;
   try { told = JSON.parse(kept); } catch { return null; }
   if (typeof told?.text !== 'string' || !isName(told.name ?? '')) return null;
-  return new File({...told, libs: Array.isArray(told.libs) ? told.libs : []});
+  return new File({...told, libs: Array.isArray(told.libs) ? told.libs.slice(0, MOST_LIBS) : []});
 }
 
 export class Files {

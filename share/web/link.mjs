@@ -1,4 +1,7 @@
 // A program as the fragment of a link. What is packed stays in the link, and goes to no server.
+import {MOST_LIBS} from './files.mjs';
+import {t} from './words.mjs';
+
 const MARK = 'p=';
 const MOST = 4_000_000; // characters of what a link holds
 const MOST_FILES = 20;
@@ -22,7 +25,7 @@ async function limited(response) {
     const {done, value} = await reader.read();
     if (done) return text + decoder.decode();
     text += decoder.decode(value, {stream: true});
-    if (text.length > MOST) throw new Error('it is too long');
+    if (text.length > MOST) throw new Error(t`it is too long`);
   }
 }
 
@@ -30,7 +33,8 @@ const isText = it => typeof it === 'string';
 function isProgram({files, input, edition, libs}) {
   const isFile = it => Array.isArray(it) && it.length === 2 && it.every(isText);
   return Array.isArray(files) && files.length > 0 && files.length <= MOST_FILES && files.every(isFile)
-    && isText(input) && ['1', '2'].includes(edition) && Array.isArray(libs) && libs.every(isText);
+    && isText(input) && ['1', '2'].includes(edition) && Array.isArray(libs) && libs.length <= MOST_LIBS
+    && libs.every(isText);
 }
 
 /** The program of a fragment; nothing where the fragment is none of a program. Throws where it is damaged. */
@@ -39,6 +43,6 @@ export async function unpacked(fragment) {
   const text = atob(fragment.slice(MARK.length).replaceAll('-', '+').replaceAll('_', '/'));
   const bytes = Uint8Array.from(text, it => it.charCodeAt(0));
   const program = JSON.parse(await limited(through([bytes], new DecompressionStream('deflate-raw'))));
-  if (!isProgram(program)) throw new Error('it has another form');
+  if (!isProgram(program)) throw new Error(t`it has another form`);
   return program;
 }

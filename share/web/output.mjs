@@ -1,6 +1,7 @@
 // The output of a run, as text. A part at its beginning is shown, and of a longer one the end as well; all of it can be
 // saved. It stands in blocks of some lines each, so that a long one is laid out only where it is looked at.
 import {element, shown} from './dom.mjs';
+import {language, t} from './words.mjs';
 
 const BLOCK = 4096; // characters of a block, after which the next line begins another one
 const LINE = 1000; // characters of a line in a block; a longer one goes on in the next block
@@ -77,7 +78,8 @@ export class Output {
       this.box.append(this.more.said, this.more.end);
     }
     const hidden = this.length - SHOWN - this.end.length;
-    this.more.said.textContent = hidden > 0 ? `.. ${hidden.toLocaleString('en')} characters aren't shown here ..` : '';
+    const count = hidden.toLocaleString(language);
+    this.more.said.textContent = hidden > 0 ? t`.. ${count} characters aren't shown here ..` : '';
     this.more.end.textContent = this.end;
   }
 

@@ -12,8 +12,10 @@ import {findPattern, ownRules} from './searching.mjs';
 import {fillPrinted, link, openLink, printed} from './sharing.mjs';
 import {checker, data, files, isNarrow, onWidth, output, store, testing} from './state.mjs';
 import {begin, exerciseOf, grade, handIn, hearResult, stopTests} from './trying.mjs';
+import {translatePage} from './words.mjs';
 
 const IDLE = 500; // milliseconds after the page is ready
+translatePage();
 const course = begin(), replacing = new Replacing(editor.cm);
 
 function colours(theme) {
@@ -122,6 +124,13 @@ function place() {
   }
 }
 
+/** Begins the page anew in another language, where the browser keeps what was chosen. */
+function speak(language) {
+  keepNow();
+  store.put('language', language);
+  if (store.get('language') === language) location.reload();
+}
+
 function wireMenus() {
   onWidth(place);
   place();
@@ -136,6 +145,10 @@ function wireMenus() {
     store.put('theme', $('theme').value);
     colours($('theme').value);
   };
+  $('language').value = store.get('language') ?? '';
+  $('language').onchange = () => speak($('language').value);
+  $('wraps').checked = store.get('wraps') ?? false;
+  $('wraps').onchange = () => store.put('wraps', $('wraps').checked);
   $('file-menu').ontoggle = () => $('file-menu').open && showKept();
   document.addEventListener('click', event => {
     for (const it of menus()) if (!it.contains(event.target)) it.open = false;
@@ -147,7 +160,7 @@ function wireMenus() {
       lookAt(it.dataset.look);
     };
   }
-  for (const it of document.querySelectorAll('.stop')) it.onkeydown = typeOn;
+  for (const it of document.querySelectorAll('.tab-left')) it.onkeydown = typeOn;
   editor.cm.addKeyMap({'Ctrl-F': () => replacing.open(), 'Cmd-F': () => replacing.open(),
     'Ctrl-H': () => replacing.open(), 'Cmd-Alt-F': () => replacing.open()});
 }

@@ -40,8 +40,8 @@ const seconds = ms => `${(ms / 1000).toFixed(2)} s`;
 
 export class Runs {
   /** `program()` gives what Run runs: its words after the options, its files, and the input. */
-  constructor({machine, output, editor, program, show, faults, stopAt, forMain, docOf}) {
-    Object.assign(this, {machine, output, editor, program, show, faults, stopAt, forMain});
+  constructor({machine, output, editor, program, show, faults, stopAt, forMain, docOf, care}) {
+    Object.assign(this, {machine, output, editor, program, show, faults, stopAt, forMain, care});
     this.session = null;
     this.walk = new Walk({machine, editor, program, show, docOf, busy: is => this.busy(is)});
   }
@@ -149,7 +149,7 @@ export class Runs {
   /** Runs carefully what was run, and shows none of its output. A finding is said after how the run ended. */
   async lookCarefully({name, files, words, input, typed, text}) {
     const own = words.slice(2).filter(it => it !== '--no-limit'), looked = this.looked = {};
-    const ended = await this.machine.ask(['go', '--careful', `--steps=${CAREFUL_STEPS}`, ...own],
+    const ended = await this.machine.ask(['go', this.care(), `--steps=${CAREFUL_STEPS}`, ...own],
       {files, input: bytesOf(input + typed)});
     const found = findingOf(ended.told ?? '');
     if (!found || this.session || this.looked !== looked) return;

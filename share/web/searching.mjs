@@ -4,38 +4,39 @@ import {dialog} from './dialogs.mjs';
 import {recheck, runs} from './editing.mjs';
 import {faultOf, programOf} from './programs.mjs';
 import {files, store} from './state.mjs';
+import {t} from './words.mjs';
 
-const HOLES = 'A hole $x is any expression, $x:name a name, $k:num a number, and $$s any statement. '
-  + 'Three dots are any arguments, and with a semicolon any statements.';
+const HOLES = [t`A hole $x is any expression, $x:name a name, $k:num a number, and $$s any statement.`,
+  t`Three dots are any arguments, and with a semicolon any statements.`].join(' ');
 const PLAIN = {autocomplete: 'off', spellcheck: false, autocapitalize: 'off'};
 
 /** Asks for a pattern, and shows each place of the program where it fits. */
 export async function findPattern() {
   const input = element('input', {value: store.get('pattern') ?? 'while($c) $$s', required: true, ...PLAIN});
-  const isYes = await dialog('Find by structure', 'Find',
-    element('p', {}, element('label', {}, 'Pattern ', input)), element('p', {}, HOLES));
+  const isYes = await dialog(t`Find by structure`, t`Find`,
+    element('p', {}, element('label', {}, t`Pattern`, ' ', input)), element('p', {}, HOLES));
   const pattern = input.value.trim();
   if (!isYes || !pattern) return;
   store.put('pattern', pattern);
   const {name, files: given} = programOf(files.program);
   const words = ['find', `--edition=${files.program.edition}`, '--', pattern, name];
   const ended = await runs.command(`find ${pattern}`, {words, files: given, input: ''});
-  if (ended?.status === 0) say('Found.', 'good');
-  else if (ended && !ended.told) say(`It fits nowhere in ${name}.`);
+  if (ended?.status === 0) say(t`Found.`, 'good');
+  else if (ended && !ended.told) say(t`It fits nowhere in ${name}.`);
 }
 
 /** Asks for rules, by which `check` looks at each program from then on. Rules with a fault are kept, and not used. */
 export async function ownRules() {
   const text = element('textarea', {value: store.get('rules-typed') ?? '', rows: 10, cols: 60, ...PLAIN,
     placeholder: 'rule NoGoto\n  find goto $x;\n  says no goto in this exercise'});
-  text.setAttribute('aria-label', 'Rules');
-  const isYes = await dialog('Rules of my own', 'Use them', element('p', {}, text),
-    element('p', {}, 'What they find stands below the editor, too. ', HOLES));
+  text.setAttribute('aria-label', t`Rules`);
+  const isYes = await dialog(t`Rules of my own`, t`Use them`, element('p', {}, text),
+    element('p', {}, t`What they find stands below the editor, too.`, ' ', HOLES));
   if (!isYes) return;
   const rules = text.value.trim() && `${text.value.trim()}\n`, fault = rules && await faultOf(rules);
   store.put('rules-typed', text.value);
   store.put('rules', fault ? '' : rules);
-  if (fault) say(`The rules aren't used: ${fault}`, 'bad');
-  else say(rules ? 'The rules are used.' : 'There are no rules of your own.', 'good');
+  if (fault) say(t`The rules aren't used: ${fault}`, 'bad');
+  else say(rules ? t`The rules are used.` : t`There are no rules of your own.`, 'good');
   recheck(0);
 }

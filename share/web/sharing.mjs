@@ -5,15 +5,21 @@ import {openClass} from './classroom.mjs';
 import {openAll, pane} from './editing.mjs';
 import {packed, unpacked} from './link.mjs';
 import {data, files} from './state.mjs';
+import {t} from './words.mjs';
+
+/** The names among those of With that a file of the library or of the program has. */
+const existing = (libs, names) => libs.filter(it => Object.hasOwn(data.libs, it) || names.includes(it));
 
 export async function link() {
   const {program} = files, {libs, edition, input, ends} = program;
   const all = [program, ...files.withs(program)].map(it => [it.name, it.text]);
-  const there = libs.filter(it => it in data.libs || all.some(([name]) => name === it));
+  const there = existing(libs, all.map(([name]) => name));
   const fragment = await packed({files: all, libs: there, edition, input, ends});
   history.replaceState(null, '', `#${fragment}`);
   const isCopied = await navigator.clipboard?.writeText(location.href).then(() => true, () => false);
-  say(`The link is in the address line${isCopied ? ', and copied' : ''}: ${location.href.length} characters.`, 'good');
+  const {length} = location.href;
+  say(isCopied ? t`The link is in the address line, and copied: ${length} characters.`
+    : t`The link is in the address line: ${length} characters.`, 'good');
 }
 
 /** Opens the program of the fragment, if there is one. */
@@ -31,15 +37,15 @@ export async function openLink(course) {
   }
   try {
     const program = await unpacked(fragment);
-    if (!program) throw new Error('it has another form');
+    if (!program) throw new Error(t`it has another form`);
     const [[name, text], ...more] = program.files, {edition, input, ends} = program;
     const names = new Map(more.map(([other, its]) => [other, addFile(nameFrom(other), its)]));
-    const libs = program.libs.map(it => names.get(it) ?? it);
+    const libs = existing(program.libs.map(it => names.get(it) ?? it), [...names.values()]);
     addFile(nameFrom(name), text, {edition, libs, input, ends: ends === true});
-    say(`${name} is from the link.`);
+    say(t`${name} is from the link.`);
   } catch (it) {
     openAll([{name: files.freeName('prog.b')}]);
-    say(`This link holds no program: ${it.message}. Here is an empty file.`, 'bad');
+    say(t`This link holds no program: ${it.message}. Here is an empty file.`, 'bad');
   }
   history.replaceState(null, '', location.pathname + location.search);
   return true;
@@ -57,6 +63,6 @@ export function fillPrinted() {
   const lines = text => text.replace(/\n$/, '').split('\n').map(line).join('\n');
   const parts = texts.flatMap(([name, text]) => [element('h2', {}, name), element('pre', {}, lines(text))]);
   const wrote = $('out').textContent;
-  if (wrote) parts.push(element('h2', {}, 'Output'), element('pre', {}, wrote));
+  if (wrote) parts.push(element('h2', {}, t`Output`), element('pre', {}, wrote));
   $('printed').replaceChildren(...parts);
 }

@@ -8,6 +8,7 @@ import {Grading, sentence} from './exercises.mjs';
 import {showPicture} from './looking.mjs';
 import {commandOf} from './programs.mjs';
 import {data, files, output, store, testing} from './state.mjs';
+import {t} from './words.mjs';
 
 let grading, course;
 
@@ -30,12 +31,12 @@ export async function grade(exercise) {
   const file = files.all.get(`exercise/${exercise.name}.b`);
   if (!file) {
     write(exercise);
-    say(exercise.start ? `Change ${exercise.name}.b first.` : `Write ${exercise.name}.b first.`);
+    say(exercise.start ? t`Change ${exercise.name}.b first.` : t`Write ${exercise.name}.b first.`);
     return;
   }
   if (grading) return;
   runs.stop();
-  runs.begin(`tests of ${exercise.name}`, 'They run ..');
+  runs.begin(t`tests of ${exercise.name}`, t`They run ..`);
   grading = new Grading(testing(), exercise, file.text);
   let graded;
   try {
@@ -45,13 +46,14 @@ export async function grade(exercise) {
     runs.ended(true);
   }
   if (graded) sayGraded(exercise, course.graded(exercise, graded), graded);
-  else say('Stopped.', 'bad');
+  else say(t`Stopped.`, 'bad');
 }
 
 function sayGraded(exercise, {passed, of, failed, refused}, {results, note = ''}) {
   const isRight = passed === of;
-  const first = failed[0] ? `: ${failed[0][1]}.` : isRight ? ': well done.' : '.';
-  say(refused ? `${exercise.name} isn't taken: ${refused}.` : `${passed} of ${of}${first}`, isRight ? 'good' : 'bad');
+  const verdict = failed[0] ? t`${passed} of ${of}: ${failed[0][1]}.` : isRight ? t`${passed} of ${of}: well done.`
+    : t`${passed} of ${of}.`;
+  say(refused ? t`${exercise.name} isn't taken: ${refused}.` : verdict, isRight ? 'good' : 'bad');
   const told = results.map(it => `${it.test.name}: ${it.result === 'ok' ? 'ok' : sentence(it)}\n`).join('');
   output.put(note ? `${note}\n${told}` : told);
 }
@@ -60,22 +62,22 @@ const exercises = () => data.exercises.map(it => files.all.get(`exercise/${it.na
 
 export async function handIn() {
   const done = exercises();
-  if (!done.length) return say('No exercise is written yet.', 'bad');
+  if (!done.length) return say(t`No exercise is written yet.`, 'bad');
   const name = element('input', {value: store.get('person') ?? '', required: true, maxLength: 60, autocomplete: 'off'});
   const rows = done.map(it => {
     const result = course.results.get(exerciseOf(it).name);
     const isKnown = result && !result.isOld;
-    return element('li', {}, it.name, isKnown ? `: ${result.passed} of ${result.of} tests` : ': not tried');
+    return element('li', {}, isKnown ? t`${it.name}: ${result.passed} of ${result.of} tests` : t`${it.name}: not tried`);
   });
-  const isYes = await dialog('Hand in exercises', 'Make the file',
-    element('p', {}, element('label', {}, 'Your name ', name)),
-    element('p', {}, 'The file has a folder of this name with:'), element('ul', {}, ...rows),
-    element('p', {}, 'Give it to your teacher. Nothing is sent from here.'));
+  const isYes = await dialog(t`Hand in exercises`, t`Make the file`,
+    element('p', {}, element('label', {}, t`Your name`, ' ', name)),
+    element('p', {}, t`The file has a folder of this name with:`), element('ul', {}, ...rows),
+    element('p', {}, t`Give it to your teacher. Nothing is sent from here.`));
   const person = name.value.trim().replace(/[^\p{L}\p{N}_. -]/gu, '_').replace(/^[. -]+/, '_');
   if (!isYes || !person) return undefined;
   store.put('person', name.value.trim());
   save(`${person}.zip`, zip(done.map(it => [`${person}/${it.name}`, it.text])));
-  return say(`${person}.zip has ${done.map(it => it.name).join(', ')}.`, 'good');
+  return say(t`${person}.zip has ${done.map(it => it.name).join(', ')}.`, 'good');
 }
 
 /** Ends the tests that run, if any do. */
