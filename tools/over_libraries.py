@@ -11,7 +11,7 @@ isn't proved again: rattle checks its own crate alone, which it does before each
 only each other. So a note of the stamp is put beside the latter. Where a source has changed since, or libraries with
 and without a stamp stand, those below CRATE are proved first, as `rt lib` does it.
 
-Other scripts import `kit`, `crate_of` and `build`."""
+Other scripts import `kit`, `crate_of`, `unproved` and `build`."""
 import os
 import pathlib
 import shutil
@@ -92,6 +92,13 @@ def note(rtlib):
 def are_of_ci(crates):
     """Whether all of these libraries stand as `rt ci` made them, of the sources as they are."""
     return all(is_of_ci(it) and noted(it).is_file() and noted(it).read_text() == it.stamp() for it in crates)
+
+
+def unproved(rtlib, names):
+    """The libraries below the crates of these names that don't stand proved, as the sources are."""
+    crates = [rtlib.crates_below(str(TOP / "crates" / it)) for it in names]
+    lacking = [it.name for *below, _ in crates if not are_of_ci(below) for it in below if not it.is_built()]
+    return list(dict.fromkeys(lacking))
 
 
 def prove(crates, flags):

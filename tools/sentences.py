@@ -1,8 +1,8 @@
-"""The sentences of the page for browsers, and its tables of them in other languages: `faults(folder)` tells which sentence
-of share/web has no row in a table, and which row no sentence. tools/make-page says it.
+"""The sentences of the page for browsers, and its tables of them in other languages: `faults(folder)` tells which
+sentence of share/web has no row in a table, and which row no sentence. tools/make-page says it.
 
-A sentence is a template string with the tag `t` in a script, or a text, title, label or placeholder of page.html. Its key
-has a number in braces for each value."""
+A sentence is a template string with the tag `t` in a script, or a text, title, label or placeholder of page.html. Its
+key has a number in braces for each value."""
 import html.parser
 import json
 import re

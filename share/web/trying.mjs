@@ -67,7 +67,8 @@ export async function handIn() {
   const rows = done.map(it => {
     const result = course.results.get(exerciseOf(it).name);
     const isKnown = result && !result.isOld;
-    return element('li', {}, isKnown ? t`${it.name}: ${result.passed} of ${result.of} tests` : t`${it.name}: not tried`);
+    return element('li', {}, isKnown ? t`${it.name}: ${result.passed} of ${result.of} tests`
+      : t`${it.name}: not tried`);
   });
   const isYes = await dialog(t`Hand in exercises`, t`Make the file`,
     element('p', {}, element('label', {}, t`Your name`, ' ', name)),

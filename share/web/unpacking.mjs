@@ -1,25 +1,17 @@
 // Unpacks what tools/make-page has packed: by LZMA, and then in letters.
 //
-// A text is the number of bytes, their sum by Adler, and letters. Two letters have 13 bits, or 14 where the lower 13
-// are below 89. A letter is a digit plus 35, or `!` in place of `<`.
-const BASE = 91, FIRST = 35, TURN = 2 ** 17; // bytes after which the page goes on
-
-function digitOf(code) {
-  return code === 33 ? 60 - FIRST : code - FIRST;
-}
+// A text is the number of bytes, their sum by Adler, and letters. A letter has two bytes, the lower one first. A unit
+// that a page in UTF-16 can't have comes after a mark, with its highest bit turned.
+const MARK = 33, TURNED = 0x8000, TURN = 2 ** 17; // bytes after which the page goes on
 
 /** The bytes of letters, and some more of which nobody asks. */
 function bytesOf(letters) {
-  const bytes = new Uint8Array(letters.length);
-  let count = 0, held = 0, bits = 0;
-  for (let at = 0; at < letters.length; at += 2) {
-    const pair = digitOf(letters.charCodeAt(at)) + BASE * digitOf(letters.charCodeAt(at + 1));
-    held |= pair << bits;
-    bits += (pair & 8191) > 88 ? 13 : 14;
-    for (; bits > 7; bits -= 8) {
-      bytes[count++] = held;
-      held >>>= 8;
-    }
+  const bytes = new Uint8Array(2 * letters.length);
+  let count = 0;
+  for (let at = 0; at < letters.length; at++) {
+    const code = letters.charCodeAt(at), unit = code === MARK ? letters.charCodeAt(++at) ^ TURNED : code;
+    bytes[count++] = unit;
+    bytes[count++] = unit >> 8;
   }
   return bytes;
 }
@@ -197,7 +189,8 @@ class Unpacking {
 
 /** The bytes of a packed text. The page goes on between two parts of it. */
 export async function unpacked(text) {
-  const [size, sum, letters] = text.split(' '), unpacking = new Unpacking(bytesOf(letters), Number(size));
+  const [head, size, sum] = /^(\d+) (\d+) /.exec(text), letters = text.slice(head.length);
+  const unpacking = new Unpacking(bytesOf(letters), Number(size));
   for (let count = TURN; unpacking.count < unpacking.out.length; count += TURN) {
     unpacking.upTo(Math.min(count, unpacking.out.length));
     await new Promise(done => setTimeout(done));
