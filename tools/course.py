@@ -311,10 +311,10 @@ def course(top, start):
             ("language", "The language", "LANGUAGE.md"), ("commands", "The commands", "COMMANDS.md")]),
     ]
     exercises = [exercise(it.parent, reader) for it in sorted(top.glob("class/*/task.md"))]
-    lessons = lessons_of((docs / "CLASS.md").read_text())
+    numbers = lessons_of((docs / "CLASS.md").read_text())
     for it in exercises:
-        it["lesson"] = lessons.get(it["name"], 0)
-    order = {name: at for at, name in enumerate(lessons)}
+        it["lesson"] = numbers.get(it["name"], 0)
+    order = {name: at for at, name in enumerate(numbers)}
     return {
         "chapters": [it.made() for it in chapters],
         "exercises": sorted(exercises, key=lambda it: order.get(it["name"], len(order))),
