@@ -9,7 +9,7 @@ import re
 
 TABLES = {"german.mjs": "German"}
 ATTRIBUTES = ("title", "aria-label", "placeholder")
-UNREAD = ("script", "style", "noscript")
+UNREAD, NAMES = ("script", "style", "noscript"), ("kbd", "b")
 TAG = re.compile(r"(?<![\w.$])t`")
 ESCAPED = re.compile(r"\\(u[0-9a-f]{4}|.)", re.S)
 
@@ -46,16 +46,17 @@ def template(text, at):
 
 
 class Static(html.parser.HTMLParser):
-    """The texts and attributes of a page that a person reads."""
+    """The texts and attributes of a page that a person reads. A paragraph with keys or names in its sentences is one text,
+    with these as its values."""
 
     def __init__(self, text):
         super().__init__()
-        self.keys, self.unread = set(), 0
+        self.keys, self.unread, self.parts, self.inner, self.count = set(), 0, None, 0, 0
         self.feed(text)
 
     def put(self, text):
         words = " ".join((text or "").split())
-        if re.search(r"[^\W\d_]{2}", words):
+        if not self.unread and re.search(r"[^\W\d_]{2}", words):
             self.keys.add(words)
 
     def handle_starttag(self, tag, attrs):
@@ -63,13 +64,26 @@ class Static(html.parser.HTMLParser):
         for name, value in attrs:
             if name in ATTRIBUTES:
                 self.put(value)
+        if tag == "p":
+            self.parts, self.count = [], 0
+        elif tag in NAMES and self.parts is not None:
+            self.parts.append(f"{{{self.count}}}")
+            self.count += 1
+            self.inner += 1
 
     def handle_endtag(self, tag):
+        if tag == "p":
+            for it in ["".join(self.parts)] if self.count else self.parts:
+                self.put(it)
+            self.parts = None
+        self.inner -= tag in NAMES and self.parts is not None
         self.unread -= tag in UNREAD
 
     def handle_data(self, data):
-        if not self.unread:
+        if self.parts is None or self.inner:
             self.put(data)
+        else:
+            self.parts.append(data)
 
 
 def sentences(folder):
@@ -85,7 +99,7 @@ def sentences(folder):
 
 
 def values(text):
-    return sorted(re.findall(r"\{\d\}", text))
+    return sorted(re.findall(r"\{\d+\}", text))
 
 
 def rows_of(text):

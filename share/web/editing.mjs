@@ -56,7 +56,7 @@ function showTabs() {
   $('tabs').querySelector('.current')?.scrollIntoView({block: 'nearest', inline: 'nearest'});
   const exercise = exerciseOf(files.current);
   $('try').hidden = !exercise;
-  document.title = `${files.program.name} - B of 1972`;
+  document.title = `${files.program.name} - ${t`B of 1972`}`;
   $('run').title = t`Runs ${files.program.name} (Ctrl+Enter)`;
 }
 

@@ -7,16 +7,18 @@ import {programOf} from './programs.mjs';
 import {checker, files, output} from './state.mjs';
 import {t} from './words.mjs';
 
-/** Of each look its title, before the name of the program. */
+const memory = name => t`The memory of ${name}`;
+/** The title of each look at a program. */
 const TITLES = {
-  list: t`The code of`, map: t`The memory of`, picture: t`The memory of`, count: t`The counts of`,
-  trace: t`The steps of`, compile: t`The code text of`, verify: t`The operands of`,
+  list: name => t`The code of ${name}`, map: memory, picture: memory, count: name => t`The counts of ${name}`,
+  trace: name => t`The steps of ${name}`, compile: name => t`The code text of ${name}`,
+  verify: name => t`The operands of ${name}`,
 };
 const codeName = name => name.replace(/\.b$/, '.code');
 
 /** Shows what a command tells of the program. */
 export async function lookAt(what) {
-  const {name, words, files: given, input} = programOf(files.program), title = `${TITLES[what]} ${name}`;
+  const {name, words, files: given, input} = programOf(files.program), title = TITLES[what](name);
   await findings.update(files.program);
   if (findings.found.some(it => it.severity === 'error')) return say(t`There is a fault: see below the editor.`, 'bad');
   if (what === 'picture') return showPicture(title, {words: ['map', '--svg', ...words], files: given});

@@ -1,7 +1,7 @@
 // The marks of a class: points of each student, the tests most failed, tables for Moodle, Canvas and spreadsheets, and
 // pages of students. Points are those of the exercises that were set: of one that wasn't handed in there are none.
 import {passes, sentence, testsOf} from './exercises.mjs';
-import {t} from './words.mjs';
+import {language, t} from './words.mjs';
 
 const MOST_COMMENT = 2000; // characters of what a table tells a student
 const MOST_LINES = 400; // of a source on a page
@@ -144,6 +144,6 @@ export function pageOf(row, exercises) {
   });
   const {passed, of} = pointsOf(row, exercises), name = escaped(row.label);
   const unread = row.unread.map(it => `<p>${escaped(it)}.</p>\n`).join('');
-  return `<!doctype html>\n<html lang="en"><meta charset="utf-8"><title>${name}</title>\n<style>\n${STYLE}\n</style>\n`
+  return `<!doctype html>\n<html lang="${language}"><meta charset="utf-8"><title>${name}</title>\n<style>\n${STYLE}\n</style>\n`
     + `<h1>${name}</h1>\n<p>${escaped(t`${passed} of ${of} points`)}</p>\n${unread}${sections.join('')}</html>\n`;
 }

@@ -30,10 +30,10 @@ export function findingOf(told) {
 
 /** What is said of a run that never ends, after what its limit means. */
 export function endlessText({means, loop, asks, idle}, name) {
-  const at = site => `line ${site.line} of ${site.file ?? name}, in ${site.where}`;
-  return [`${means[0].toUpperCase()}${means.slice(1)}.`, `The loop is in ${at(loop)}.`,
-    ...asks ? [`It asks for input in ${at(asks)}, and there is none left.`] : [],
-    ...idle.length ? [`Its conditions read ${idle.join(', ')}, and nothing in it changes that.`] : []].join(' ');
+  const at = site => t`line ${site.line} of ${site.file ?? name}, in ${site.where}`;
+  return [`${means[0].toUpperCase()}${means.slice(1)}.`, t`The loop is in ${at(loop)}.`,
+    ...asks ? [t`It asks for input in ${at(asks)}, and there is none left.`] : [],
+    ...idle.length ? [t`Its conditions read ${idle.join(', ')}, and nothing in it changes that.`] : []].join(' ');
 }
 
 const seconds = ms => `${(ms / 1000).toFixed(2)} s`;
@@ -54,7 +54,7 @@ export class Runs {
     this.trouble = null;
     this.session = {name, files, words: ['go', '--where', ...options, ...words], input, typed: '', closed: ends,
       text: programText({words, files})};
-    this.begin(name, 'It runs ..');
+    this.begin(name, t`It runs ..`);
     await this.go();
   }
 
@@ -91,7 +91,7 @@ export class Runs {
   }
 
   wants() {
-    say('The program waits for input.');
+    say(t`The program waits for input.`);
     $('ask').hidden = false;
     $('answer').value = '';
     $('answer').focus();
@@ -125,7 +125,7 @@ export class Runs {
 
   stopped() {
     if (this.walk.stop()) return;
-    if (this.stop()) say('Stopped.', 'bad');
+    if (this.stop()) say(t`Stopped.`, 'bad');
     $('run').focus();
   }
 
@@ -135,13 +135,13 @@ export class Runs {
     this.typed = session.typed;
     this.ended(true);
     const end = endOf(ended.told ?? ''), {line, means, place} = end;
-    if (ended.failed) say(`The program can't be run here: ${ended.failed}`, 'bad');
-    else if (ended.status === 0) say(`Done, in ${seconds(ended.took)}.`, 'good');
+    if (ended.failed) say(t`The program can't be run here: ${ended.failed}`, 'bad');
+    else if (ended.status === 0) say(t`Done, in ${seconds(ended.took)}.`, 'good');
     else if (end.loop) this.sayEndless(end, session);
     else if (place) this.sayPlace(line, means, place, session);
     else if (ended.status === 1 && line) this.sayFault(line, t`The program has a fault: see below the editor.`, session);
     else if (line.startsWith('load')) this.sayFault(line, t`It can't be run: see below the editor.`, session);
-    else say(line ? `${line}.` : `Ended with status ${ended.status}, in ${seconds(ended.took)}.`, 'bad');
+    else say(line ? `${line}.` : t`Ended with status ${ended.status}, in ${seconds(ended.took)}.`, 'bad');
     this.readOut();
     if (!ended.failed) this.lookCarefully(session);
   }
@@ -155,15 +155,15 @@ export class Runs {
     if (!found || this.session || this.looked !== looked) return;
     const file = found.file ?? name;
     this.trouble = {text, at: found.step, why: found.means};
-    alsoSay(`A careful run finds, in line ${found.line} of ${file}, in ${found.where}: ${found.means}.`);
+    alsoSay(t`A careful run finds, in line ${found.line} of ${file}, in ${found.where}: ${found.means}.`);
     this.stopAt(file, found.line);
   }
 
   sayPlace(line, means, place, session) {
     const file = place.file ?? session.name, why = `${line}: ${means.split(';')[0]}`;
     if (line !== 'limit') this.trouble = {text: session.text, at: place.step + 1, why};
-    const text = `${why}, in line ${place.line} of ${file}, in ${place.where}, at step ${place.step}.`;
-    const more = line === 'limit' ? [button('Run without a limit', () => this.run(['--no-limit']))] : [];
+    const text = t`${why}, in line ${place.line} of ${file}, in ${place.where}, at step ${place.step}.`;
+    const more = line === 'limit' ? [button(t`Run without a limit`, () => this.run(['--no-limit']))] : [];
     say(text, 'bad', ...more);
     this.stopAt(file, place.line);
   }
@@ -182,14 +182,14 @@ export class Runs {
   /** A screen reader hears the beginning of the output after the run, and not each part of it. */
   readOut() {
     const text = $('out').textContent;
-    $('out-said').textContent = text ? `Output: ${text.slice(0, 300)}` : 'No output.';
+    $('out-said').textContent = text ? t`Output: ${text.slice(0, 300)}` : t`No output.`;
   }
 
   /** A command of a lesson, such as `b trace --last 2 x.b`: what it writes goes to the output. */
   async command(line, {words, files, input}) {
     this.stop();
     const session = this.session = {};
-    this.begin(line, 'It runs ..');
+    this.begin(line, t`It runs ..`);
     const isRun = ['go', 'try'].includes(words[0]);
     $('out').classList.toggle('table', !isRun);
     const ended = await this.machine.ask(words, {files, input: bytesOf(input),
@@ -200,7 +200,7 @@ export class Runs {
     this.output.flush();
     this.output.put(ended.told ?? '', 'told');
     if (!isRun) $('out').scrollTop = 0;
-    say(ended.failed ?? `Ended with status ${ended.status}.`, ended.failed ? 'bad' : '');
+    say(ended.failed ?? t`Ended with status ${ended.status}.`, ended.failed ? 'bad' : '');
     this.readOut();
     return ended;
   }

@@ -3,7 +3,7 @@ import {german} from './german.mjs';
 import {Store} from './store.mjs';
 
 const TABLES = {de: german};
-const ATTRIBUTES = ['title', 'aria-label', 'placeholder'];
+const ATTRIBUTES = ['title', 'aria-label', 'placeholder'], UNREAD = ['SCRIPT', 'STYLE', 'NOSCRIPT'];
 
 /** The language that the page speaks. The lessons, and what the program itself tells, are English in each. */
 export const language = Object.keys(TABLES).find(it => it === wanted().slice(0, 2)) ?? 'en';
@@ -22,15 +22,32 @@ export function t(parts, ...values) {
 
 const said = text => table[text.trim().replace(/\s+/g, ' ')];
 
+/** Whether the sentences of a paragraph have keys or names in them. */
+const hasNames = it => it.nodeName === 'P' && !!it.querySelector(':scope > kbd, :scope > b');
+
+/** Translates such a paragraph: the elements in it are the values of its sentences. */
+function translateNames(paragraph) {
+  const values = [...paragraph.children];
+  const key = [...paragraph.childNodes].map(it => it.data ?? `{${values.indexOf(it)}}`).join('');
+  const parts = said(key)?.split(/\{(\d+)\}/);
+  if (parts) paragraph.replaceChildren(...parts.map((it, k) => k % 2 ? values[it] : it));
+}
+
+function translateAttributes(it) {
+  for (const name of ATTRIBUTES) {
+    const made = said(it.getAttribute(name) ?? '');
+    if (made) it.setAttribute(name, made);
+  }
+}
+
 /** Puts the words of the page as it was loaded into the language: its texts, titles, labels and placeholders. */
 export function translatePage() {
   document.documentElement.lang = language;
-  const skips = it => ['SCRIPT', 'STYLE', 'NOSCRIPT'].includes(it.nodeName);
   const walker = document.createTreeWalker(document.documentElement, NodeFilter.SHOW_ELEMENT | NodeFilter.SHOW_TEXT,
-    it => skips(it) ? NodeFilter.FILTER_REJECT : NodeFilter.FILTER_ACCEPT);
+    it => UNREAD.includes(it.nodeName) ? NodeFilter.FILTER_REJECT : NodeFilter.FILTER_ACCEPT);
   for (let it = walker.nextNode(); it; it = walker.nextNode()) {
     if (it.nodeType === Node.TEXT_NODE) it.data = it.data.replace(/\S(?:[^]*\S)?/, text => said(text) ?? text);
-    else for (const name of ATTRIBUTES.filter(one => it.hasAttribute(one)))
-      it.setAttribute(name, said(it.getAttribute(name)) ?? it.getAttribute(name));
+    else if (hasNames(it)) translateNames(it);
+    else translateAttributes(it);
   }
 }
