@@ -157,7 +157,8 @@ export class Files {
   beside(program) {
     const names = new Set([program.name]), places = new Set([program.place, '', 'exercise']);
     places.delete('examples');
-    return this.open.filter(it => places.has(it.place) && !names.has(it.name) && names.add(it.name));
+    const sources = this.open.filter(it => places.has(it.place) && !isCode(it.name));
+    return sources.filter(it => !names.has(it.name) && names.add(it.name));
   }
 
   /** Keeps a file, and never writes over what another window has kept since: that one is taken, or else asked for. */

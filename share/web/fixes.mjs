@@ -10,7 +10,7 @@ const LIBS = [
 const OUTSIDE = /^(?:outside of functions|this statement is outside)/; // of a statement that no function has
 const FUNCTION = new RegExp('^(?!(?:if|while|switch|return)\\b)\\w+[ \\t]*\\((?:[A-Za-z_][\\w\\s,]*)?\\)'
   + '\\s*(?:\\{|(?:auto|extrn|if|while|switch|return|goto)\\b)', 'm');
-const NO_PRINT = /^there is no \w+: printn writes a number/;
+const NO_PRINT = /^there is no \w+: printn writes a number|^nothing defines print: did you mean printn/;
 const OF_TEXT = /^\w+\s*\(\s*("(?:\*.|[^"*\n])*")\s*\)/, OF_NUMBER = /^\w+\s*\(([^()",]+)\)/;
 
 /** Whether a statement stands alone, in a source that has no function yet. */

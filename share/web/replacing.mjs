@@ -40,6 +40,7 @@ export class Replacing {
 
   close() {
     $('search').hidden = true;
+    this.mark?.clear();
     this.cm.refresh();
     this.cm.focus();
   }
@@ -64,7 +65,9 @@ export class Replacing {
 
   select(all, at) {
     const found = all[at];
+    this.mark?.clear();
     if (found) {
+      this.mark = this.cm.markText(found.from, found.to, {className: 'found'});
       this.cm.setSelection(found.from, found.to);
       this.cm.scrollIntoView(found, 60);
     }

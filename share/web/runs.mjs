@@ -174,9 +174,9 @@ export class Runs {
   }
 
   sayFault(line, why, session) {
-    const isMain = line === 'load 4', told = isMain ? t`There is no function main in ${session.name}.` : why;
-    say(told, 'bad', ...isMain ? this.forMain() : []);
-    this.faults();
+    if (line === 'load 4') return say(t`There is no function main in ${session.name}.`, 'bad', ...this.forMain());
+    say(why, 'bad');
+    return this.faults();
   }
 
   /** A screen reader hears the beginning of the output after the run, and not each part of it. */
