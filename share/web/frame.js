@@ -12,7 +12,7 @@
   function owner(name, of) {
     for (let call = running(); call; call = call.below) {
       const own = (!of || call.name === of) && functions.get(call.name)?.names.find(it => it[0] === name);
-      if (own) return { call, address: unsigned(call.start + own[1]) };
+      if (own) return { call, own: call, address: unsigned(call.start + own[1]) };
     }
     const spot = !of && spots.find(it => it.name === name && !it.isFunction);
     return spot ? { address: spot.from } : null;
@@ -22,21 +22,24 @@
   function meantBy(text) {
     const [, address, name, index, of] = NAME.exec(text) ?? [];
     if (address) return { address: unsigned(Number(address)) };
-    const own = name && owner(name, of);
-    if (!own || index === undefined) return own;
-    return { address: unsigned((words.get(own.address) ?? 0) + Number(index)) };
+    const found = name && owner(name, of);
+    if (!found || index === undefined) return found;
+    return { call: found.call, address: unsigned((words.get(found.address) ?? 0) + Number(index)) };
   }
 
-  function watch(texts, before) {
-    const values = {};
+  // The words are marked that have changed since the position before, which may have been in another frame.
+  let seen = { at: null };
+  function watch(texts, given) {
+    if (seen.at !== at) seen = { at, before: seen.values ?? given };
+    const { before } = seen, values = seen.values = {};
     watched.replaceChildren(...texts.map(text => {
       const found = meantBy(text);
       if (!found) return element("span", `${text} isn't here`);
-      const { address, call } = found, value = words.get(address) ?? 0;
+      const { address, call, own } = found, value = words.get(address) ?? 0;
       values[text] = value;
       const isChanged = text in before && before[text] !== value;
       const name = call && call !== running() && !text.includes(" of ") ? `${text} of ${call.name}` : text;
-      return word(address, name, new Set(isChanged ? [address] : []), { call });
+      return word(address, name, new Set(isChanged ? [address] : []), { call: own });
     }));
     return values;
   }

@@ -166,9 +166,10 @@ export class Recorder {
   /** A step shortly before the first one after these that is made in one of the lines; null where there is none. */
   async nextIn(places, from) {
     const before = await this.count(places, from), isMade = async to => (await this.count(places, to)) > before;
-    let to = from, size = ROWS;
-    do to = Math.min(MOST_STEPS, from + (size *= 8)); while (!(await isMade(to)) && to < MOST_STEPS);
-    if (to === MOST_STEPS && !(await isMade(to))) return null;
-    return bisected(from, to, CLOSE, isMade);
+    for (let size = 8 * ROWS; ; size *= 8) {
+      const to = Math.min(MOST_STEPS, from + size);
+      if (await isMade(to)) return bisected(from, to, CLOSE, isMade);
+      if (to === MOST_STEPS) return null;
+    }
   }
 }

@@ -150,12 +150,18 @@ export class Walk {
       const found = part.next(from, is);
       if (found) return found;
       if (part.isOver || part.last === this.recorder.waits) return part.last;
-      const near = isStop ? await this.recorder.nextIn(this.places(), part.last) : part.last;
-      if (near === null) return this.found('last');
+      const near = isStop ? await this.nextStop(part.last) : part.last;
+      if (near === null) return Math.max(position, await this.found('last'));
       from = Math.max(part.last, near - 1);
       size = Math.min(size * 8, MOST_ROWS);
       part = this.ahead = await this.recorder.record(from, from + size);
     }
+  }
+
+  /** A step shortly before the next one in a line with a stop, if there is one. */
+  async nextStop(from) {
+    const places = this.places();
+    return places.size ? this.recorder.nextIn(places, from) : null;
   }
 
   async backward(position) {
@@ -189,14 +195,14 @@ export class Walk {
     for (const it of before) it.remove();
     frame.id = 'frame';
     frame.className = '';
-    Object.assign(this, {part, ahead: part, isShown: true});
+    Object.assign(this, {part, ahead: part, isShown: true, before: this.values});
     this.post({beside: !this.isWhole});
     if (!this.isWhole) this.move(Math.min(part.last, Math.max(part.first, position)));
   }
 
   move(position) {
     const since = this.at !== null && this.part.has(this.at) ? this.at - this.part.first : null;
-    Object.assign(this, {since, before: this.values, at: position});
+    Object.assign(this, {since, at: position});
     this.tell();
     this.draw();
   }
