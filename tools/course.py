@@ -277,7 +277,7 @@ def sections(text):
     return [part.partition("\n")[::2] for part in re.split(r"^## ", text, flags=re.M)[1:]]
 
 
-def lessons(top, reader):
+def lesson_chapters(top, reader):
     """The chapters of docs/TUTORIAL.md."""
     for title, text in sections((top / "docs/TUTORIAL.md").read_text()):
         number = title.split(".")[0]
@@ -287,7 +287,7 @@ def lessons(top, reader):
 
 def write_programs(top, folder):
     """Writes the programs of the lessons, and what they read, into a folder of each lesson."""
-    for it in lessons(top, Reader(Link({}, {}))):
+    for it in lesson_chapters(top, Reader(Link({}, {}))):
         (folder / it.name).mkdir(parents=True, exist_ok=True)
         for name, text in (row for own in it.sets for row in own["files"].items()):
             (folder / it.name / name).write_text(text)
@@ -302,7 +302,7 @@ def course(top, start):
     names = {"LIB.md": "library", "CARD.md": "card", "CLASS.md#mistakes": "mistakes", "TUTORIAL.md": "start",
              "LANGUAGE.md": "language", "COMMANDS.md": "commands"}
     reader = Reader(Link(names, {"swap.svg": "data:image/svg+xml," + picture}))
-    chapters = [Chapter("start", "Start here", start, reader), *lessons(top, reader)]
+    chapters = [Chapter("start", "Start here", start, reader), *lesson_chapters(top, reader)]
     mistakes = dict(sections((docs / "CLASS.md").read_text()))["Mistakes"]
     chapters += [
         Chapter("mistakes", "Mistakes", "## Mistakes\n" + mistakes, reader, only="x.b"),

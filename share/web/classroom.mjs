@@ -285,13 +285,14 @@ class Classroom {
     const {passed, of, isWhole} = pointsOf(row, exercises), by = row.number ? ` ${row.number}` : '';
     const name = button(row.label, () => this.showStudent(row, true), {className: 'name'});
     return element('tr', {}, element('th', {scope: 'row'}, name, element('small', {}, by)),
-      element('td', {className: isWhole ? '' : 'bad'}, t`${passed} of ${of}`),
-      ...exercises.map(it => this.cellOf(row.works.get(it.name), testsOf(it).length)),
-      element('td', {}, firstOf(row, exercises)));
+      element('td', {className: isWhole ? 'sum' : 'sum bad'}, t`${passed} of ${of}`),
+      ...exercises.map(it => this.cellOf(row.works.get(it.name), testsOf(it).length, row.unread.length)),
+      element('td', {className: 'note'}, firstOf(row, exercises)));
   }
 
-  cellOf(graded, of) {
+  cellOf(graded, of, isUnread) {
     if (!graded) return element('td', {title: t`not graded yet`}, '..');
+    if (graded.isMissing && isUnread) return element('td', {title: t`it may be in what isn't read`}, '?');
     if (graded.isMissing) return element('td', {title: t`nothing is handed in`}, '\u2013');
     if (graded.refused) return element('td', {className: 'bad', title: graded.refused}, t`not taken`);
     const passed = graded.results.filter(passes).length;
@@ -313,7 +314,7 @@ class Classroom {
       ...this.exercises.flatMap(it => this.partOf(row, it))] : []);
     if (!isAsked) return;
     this.parts.student.scrollTop = 0;
-    this.parts.student.scrollIntoView({block: 'nearest'});
+    this.parts.student.scrollIntoView({block: 'start'});
     this.parts.student.focus({preventScroll: true});
   }
 
@@ -338,12 +339,18 @@ export function openClass() {
   return classroom;
 }
 
-function closeClass() {
+/** Leaves the part for a teacher, if it is shown. */
+export function closeClass() {
+  if (!isOpen()) return;
   document.body.classList.remove('grading');
   $('grading').hidden = true;
   if (location.hash === '#grade') history.replaceState(null, '', location.pathname + location.search);
   $('file-menu').querySelector('summary').focus();
 }
+
+document.addEventListener('keydown', event => {
+  if (isOpen() && event.key === 'Enter' && (event.ctrlKey || event.metaKey)) event.preventDefault(); // it runs nothing
+}, true);
 
 document.addEventListener('drop', event => {
   if (!isOpen()) return;

@@ -1,10 +1,12 @@
 // What a class hands in: folders and archives of students, as they name them, or as Moodle and Canvas give them. A
 // student has files, and of those that aren't read it is known why. class/grade reads the same.
 import {filesOf, isAdded, isZip} from './unzip.mjs';
+import {t} from './words.mjs';
 
 const MOST_DEPTH = 20; // of folders and archives, one within the other
 const MOST_PACKED = 64 << 20; // bytes of an archive within another one
-const MOST_FILES = 20_000; // of one student, or of an archive
+const MOST_FILES = 20_000; // of an archive, with those in it
+const MOST_OF_ALL = 200_000; // of one student, or of the archive of a class
 const SOURCE_BYTES = 65536; // the longest hand-in
 const OTHER_ARCHIVES = /\.(7z|bz2|gz|rar|tar|tgz|xz|zipx)$/i;
 // What a copy adds to the name of a file: a number, the word copy, a second ending.
@@ -32,36 +34,46 @@ export function plainSource(bytes) {
   return new TextDecoder(coding).decode(bytes).replace(/\r\n?/g, '\n');
 }
 
-/** What is read of the files that were dropped, archives within archives too. An item has `items`, a file, or `why`. */
+/**
+ * What is read of the files that were dropped, archives within archives too. An item has `items`, a file, or `why`. What
+ * isn't read doesn't count, so no archive takes the room of another one.
+ */
 class Reading {
   constructor() {
     this.count = this.size = 0;
+    this.most = MOST_OF_ALL;
   }
 
   counted() {
-    if (++this.count > MOST_FILES) throw new Error(`it has more than ${MOST_FILES} files`);
+    const most = this.most < MOST_OF_ALL ? MOST_FILES : MOST_OF_ALL;
+    if (++this.count > this.most) throw new Error(t`it has more than ${most} files`);
   }
 
   async item(name, file, depth = 0) {
     this.counted();
     if (isZip(name)) return this.archive(name, file, depth);
-    const why = OTHER_ARCHIVES.test(name) ? 'it is an archive, and no zip' : file.fault;
+    const why = OTHER_ARCHIVES.test(name) ? t`it is an archive, and no zip` : file.fault;
     return {name: name.normalize('NFC'), file, why};
   }
 
   async archive(name, file, depth) {
+    const {count, size, most} = this;
+    this.most = file instanceof Blob ? most : Math.min(most, count + MOST_FILES);
     try {
-      if (depth > MOST_DEPTH) throw new Error('it lies too deep');
+      if (depth > MOST_DEPTH) throw new Error(t`it lies too deep`);
       const blob = file instanceof Blob ? file : await this.blobOf(file);
       return {name: name.normalize('NFC'), items: await this.itemsOf(blob, depth)};
     } catch (it) {
+      Object.assign(this, {count, size});
       return {name: name.normalize('NFC'), why: it.message};
+    } finally {
+      this.most = most;
     }
   }
 
   async blobOf(file) {
     this.size += file.size;
-    if (this.size > 4 * MOST_PACKED) throw new Error('it has more bytes than are read here, or those before it have');
+    if (this.size > 8 * MOST_PACKED) throw new Error(t`it has more bytes than are read here, or those before it have`);
     return new Blob([await file.bytes(MOST_PACKED)]);
   }
 
@@ -70,7 +82,7 @@ class Reading {
     const top = {items: []}, folders = new Map([['', top]]);
     for (const file of await filesOf(blob)) {
       const parts = file.name.split('/'), isDeep = depth + parts.length > MOST_DEPTH, name = parts.at(-1);
-      if (isDeep) file.fault = 'its name leads out of the archive, or too deep into it';
+      if (isDeep) file.fault = t`its name leads out of the archive, or too deep into it`;
       const folder = folderIn(folders, isDeep ? ['..'] : parts.slice(0, -1));
       folder.items.push(await this.item(name, file, depth + parts.length));
     }
@@ -108,7 +120,7 @@ class Student {
     const own = alike.filter(it => baseOf(it.path) === `${exercise}.b`), found = own.length ? own : alike;
     const nearest = found.filter(it => it.depth === Math.min(...found.map(one => one.depth)));
     if (nearest.length < 2) return nearest[0] ?? null;
-    throw new Error(`several files could be ${exercise}.b: ${nearest.map(it => it.path).join(', ')}`);
+    throw new Error(t`several files could be ${exercise}.b: ${nearest.map(it => it.path).join(', ')}`);
   }
 
   /** The source of an exercise, or nothing where none is handed in. Throws where it can't be taken. */
@@ -117,13 +129,13 @@ class Student {
     if (!found) return null;
     if (found.why) throw new Error(found.why);
     const {file} = found;
-    if (file.size > SOURCE_BYTES) throw new Error(`the file has more than ${SOURCE_BYTES} bytes`);
+    if (file.size > SOURCE_BYTES) throw new Error(t`the file has more than ${SOURCE_BYTES} bytes`);
     return plainSource(new Uint8Array(await file.arrayBuffer()));
   }
 
   /** What isn't read: an archive, in which something may be handed in. */
   get unread() {
-    return this.files.filter(it => it.why && !isSource(it.path)).map(it => `${it.path} isn't read: ${it.why}`);
+    return this.files.filter(it => it.why && !isSource(it.path)).map(it => t`${it.path} isn't read: ${it.why}`);
   }
 }
 
@@ -177,7 +189,7 @@ function withinAlone(items, exercises) {
 async function dropped(reading, entry, depth = 0) {
   if (entry.file) return reading.item(entry.name, entry.file, depth);
   const items = [];
-  if (depth > MOST_DEPTH) return {name: entry.name, why: 'it lies too deep'};
+  if (depth > MOST_DEPTH) return {name: entry.name, why: t`it lies too deep`};
   for (const it of await entry.entries()) if (!isAdded(it.name)) items.push(await dropped(reading, it, depth + 1));
   return {name: entry.name.normalize('NFC'), items};
 }

@@ -1,7 +1,7 @@
 // Links that hold a program, and what is printed.
 import {$, element, say} from './dom.mjs';
 import {addFile, nameFrom} from './devices.mjs';
-import {openClass} from './classroom.mjs';
+import {closeClass, openClass} from './classroom.mjs';
 import {openAll, pane} from './editing.mjs';
 import {packed, unpacked} from './link.mjs';
 import {data, files} from './state.mjs';
@@ -30,6 +30,7 @@ export async function openLink(course) {
     openClass();
     return true;
   }
+  closeClass();
   if (data.chapters.some(it => it.name === fragment)) {
     course.show(fragment, true);
     pane('course');

@@ -1,6 +1,7 @@
 // Reads zip archives, whoever made them. Of a file no more is unpacked than its limit, and nothing is where it isn't
 // asked for. The files that systems add are left out.
 import {crc} from './archive.mjs';
+import {t} from './words.mjs';
 
 const MOST_FILES = 20_000, MOST_INDEX = 4 << 20; // files of an archive, and bytes of the list of them
 const MOST_BYTES = 16 << 20; // of a file, where no limit is given
@@ -16,7 +17,7 @@ const PAGE_437 = 'ÇüéâäàåçêëèïîìÄÅÉæÆôöòûùÿÖÜ¢£¥�
   + 'αßΓπΣσµτΦΘΩδ∞φε∩≡±≥≤⌠⌡÷≈°∙·√ⁿ²■\u00a0';
 
 async function viewOf(blob, from, size) {
-  if (from < 0 || from + size > blob.size) throw new Error('it is cut off');
+  if (from < 0 || from + size > blob.size) throw new Error(t`it is cut off`);
   return new DataView(await blob.slice(from, from + size).arrayBuffer());
 }
 
@@ -25,11 +26,10 @@ async function indexOf(blob) {
   const size = Math.min(blob.size, END.size + 0xffff), end = await viewOf(blob, blob.size - size, size);
   let at = size - END.size;
   while (at >= 0 && end.getUint32(at, true) !== END.mark) at--;
-  if (at < 0) throw new Error('it is no zip archive, or it is cut off');
-  const count = end.getUint16(at + 10, true), length = end.getUint32(at + 12, true);
-  if (count > MOST_FILES || length > MOST_INDEX) throw new Error(`it has more than ${MOST_FILES} files`);
-  const from = blob.size - size + at - length;
-  return {count, index: await viewOf(blob, from, length), before: from - end.getUint32(at + 16, true)};
+  if (at < 0) throw new Error(t`it is no zip archive, or it is cut off`);
+  const length = end.getUint32(at + 12, true), from = blob.size - size + at - length;
+  if (length > MOST_INDEX) throw new Error(t`it has more than ${MOST_FILES} files`);
+  return {index: await viewOf(blob, from, length), before: from - end.getUint32(at + 16, true)};
 }
 
 /** A name in UTF-8, or else in the code page 437. */
@@ -52,12 +52,13 @@ function enlarged(view, from, size, fields) {
   return fields;
 }
 
-/** The entries of an archive as its list tells them. */
-function* entriesOf({count, index}) {
-  for (let at = 0; count-- > 0;) {
+/** The entries of an archive as its list tells them, to the end of the list, whatever number is told beside it. */
+function* entriesOf(index) {
+  for (let at = 0, count = 1; at < index.byteLength; count++) {
+    if (count > MOST_FILES) throw new Error(t`it has more than ${MOST_FILES} files`);
     const from = at + ENTRY.size, isEntry = from <= index.byteLength && index.getUint32(at, true) === ENTRY.mark;
     const [title, extra, comment] = [28, 30, 32].map(it => isEntry ? index.getUint16(at + it, true) : 0);
-    if (!isEntry || from + title + extra + comment > index.byteLength) throw new Error('it is damaged');
+    if (!isEntry || from + title + extra + comment > index.byteLength) throw new Error(t`it is damaged`);
     const [size, packed, start] = enlarged(index, from + title, extra,
       [24, 20, 42].map(it => index.getUint32(at + it, true)));
     yield {title: nameOf(new Uint8Array(index.buffer, from, title)), size, packed, start,
@@ -87,7 +88,7 @@ async function unpacked(blob, most) {
     size += value.length;
     if (size > most) {
       await reader.cancel();
-      throw new Error('it is damaged');
+      throw new Error(t`it is damaged`);
     }
     parts.push(value);
   }
@@ -100,9 +101,9 @@ class Packed {
     Object.assign(this, {archive, before, entry, name: parts.join('/'), size: entry.size});
     this.isFolder = /[/\\]$/.test(entry.title) || !parts.length;
     this.isAdded = parts.some(it => it !== '..' && MADE_BY_SYSTEMS.test(it));
-    this.fault = parts.includes('..') ? 'its name leads out of the archive, or too deep into it'
-      : entry.isLink ? 'this is a link'
-      : entry.isLocked ? 'it is locked by a password'
+    this.fault = parts.includes('..') ? t`its name leads out of the archive, or too deep into it`
+      : entry.isLink ? t`this is a link`
+      : entry.isLocked ? t`it is locked by a password`
       : ![STORED, DEFLATED].includes(entry.method) ? `it is packed by the method ${entry.method}` : '';
   }
 
@@ -110,15 +111,15 @@ class Packed {
   async bytes(most = MOST_BYTES) {
     const {size, packed, start, method, sum} = this.entry, at = this.before + start;
     if (this.fault) throw new Error(this.fault);
-    if (size > most) throw new Error(`it has more than ${most} bytes`);
+    if (size > most) throw new Error(t`it has more than ${most} bytes`);
     const head = await viewOf(this.archive, at, HEAD.size);
-    if (head.getUint32(0, true) !== HEAD.mark) throw new Error('it is damaged');
+    if (head.getUint32(0, true) !== HEAD.mark) throw new Error(t`it is damaged`);
     const from = at + HEAD.size + head.getUint16(26, true) + head.getUint16(28, true);
-    if (from + packed > this.archive.size) throw new Error('it is cut off');
+    if (from + packed > this.archive.size) throw new Error(t`it is cut off`);
     const body = this.archive.slice(from, from + packed);
     const bytes = method === STORED ? new Uint8Array(await body.arrayBuffer())
-      : await unpacked(body, size).catch(() => { throw new Error('it is damaged'); });
-    if (bytes.length !== size || crc(bytes) !== sum) throw new Error('it is damaged');
+      : await unpacked(body, size).catch(() => { throw new Error(t`it is damaged`); });
+    if (bytes.length !== size || crc(bytes) !== sum) throw new Error(t`it is damaged`);
     return bytes;
   }
 
@@ -133,7 +134,6 @@ export const isAdded = name => MADE_BY_SYSTEMS.test(name);
  * by `arrayBuffer()` or `bytes(most)`. These throw where the file can't be read, and this one where the archive can't.
  */
 export async function filesOf(blob) {
-  const {count, index, before} = await indexOf(blob);
-  const all = [...entriesOf({count, index})].map(it => new Packed(blob, before, it));
+  const {index, before} = await indexOf(blob), all = [...entriesOf(index)].map(it => new Packed(blob, before, it));
   return all.filter(it => !it.isFolder && !it.isAdded);
 }
