@@ -51,6 +51,7 @@ export class Runs {
     this.stop();
     const {name, words, files, input, ends} = this.program();
     this.typed = '';
+    this.isEnded = false;
     this.trouble = null;
     this.session = {name, files, words: ['go', '--where', ...options, ...words], input, typed: '', closed: ends,
       text: programText({words, files})};
@@ -133,6 +134,7 @@ export class Runs {
     const {session} = this;
     this.session = null;
     this.typed = session.typed;
+    this.isEnded = session.closed;
     this.ended(true);
     const end = endOf(ended.told ?? ''), {line, means, place} = end;
     if (ended.failed) say(t`The program can't be run here: ${ended.failed}`, 'bad');
@@ -210,14 +212,14 @@ export class Runs {
    * alone, for a program that asks what comes.
    */
   async step({isWhole = false} = {}) {
-    const typed = this.session?.typed ?? this.typed ?? '', {trouble} = this, program = this.program();
+    const typed = this.session?.typed ?? this.typed ?? '', {trouble, isEnded} = this, program = this.program();
     const isSame = !isWhole && trouble?.text === programText(program);
     this.stop();
     this.looked = null;
     say(t`The steps of ${program.name} ..`);
     try {
-      await this.walk.begin({typed, isWhole, ...isSame ? {at: trouble.at, why: trouble.why} : {}});
-      say('');
+      await this.walk.begin({typed, isEnded, isWhole, ...isSame ? {at: trouble.at, why: trouble.why} : {}});
+      if (this.walk.isOpen) say('');
     } catch (it) {
       if (!(it instanceof NoSteps)) throw it;
       const why = it.message || t`${program.name} can't be run, as told below the editor`;

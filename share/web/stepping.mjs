@@ -50,19 +50,21 @@ export class Walk {
     };
     for (const name of ['watch', 'single', 'arrows']) $(name).oninput = () => this.draw();
     $('ask-me').onclick = () => this.askMe();
-    $('anew').onclick = () => this.begin({typed: this.typed});
+    $('anew').onclick = () => this.begin({typed: this.typed, isEnded: this.recorder.isClosed});
   }
 
   // ---- Beginning and ending
 
   /** Steps through the program after so much input, from a position on; or shows the page of `b show` alone. */
-  async begin({typed = '', at = 1, why = '', isWhole = false}) {
+  async begin({typed = '', isEnded = false, at = 1, why = '', isWhole = false}) {
     const {input, ends, ...of} = this.program();
     this.close();
     while (this.isGoing) await new Promise(done => setTimeout(done));
     Object.assign(this, {of, typed, why, isWhole, startsAt: at, values: {}, before: {}, at: null, part: null});
-    this.recorder = new Recorder(this.machine, {...of, input: input + typed, isClosed: ends || isWhole});
+    this.recorder = new Recorder(this.machine, {...of, input: input + typed,
+      isClosed: ends || isEnded || isWhole});
     this.editor.unmarkStop();
+    this.say('');
     await this.working(async () => {
       const part = await this.recorder.record(Math.max(1, at - ROWS / 2), isWhole ? ROWS : at + ROWS / 2);
       this.isOpen = true;
@@ -81,6 +83,7 @@ export class Walk {
     this.ask(false);
     $('frames').replaceChildren();
     this.frame = null;
+    this.ready?.();
     document.body.classList.remove('whole');
   }
 
@@ -192,6 +195,7 @@ export class Walk {
     this.frame = frame;
     $('frames').append(frame);
     await new Promise(done => { this.ready = done; });
+    if (this.frame !== frame) return;
     for (const it of before) it.remove();
     frame.id = 'frame';
     frame.className = '';
