@@ -57,6 +57,12 @@
     tell({ values: watch(texts, before), names: names() });
   }
 
+  // Beside the editor nothing is asked, also where comments of the program choose lines.
+  function beside() {
+    document.body.classList.add("beside");
+    $("asks").checked = false;
+  }
+
   function ask({ stops: chosen, at: to }) {
     askAt(chosen);
     $("asks").checked = true;
@@ -66,7 +72,7 @@
   addEventListener("message", ({ data, source }) => {
     if (source !== parent) return;
     document.documentElement.dataset.theme = data.theme;
-    if (data.beside) document.body.classList.add("beside");
+    if (data.beside) beside();
     if (data.go) go(data.go);
     if (data.ask) ask(data.ask);
     if (data.press) document.dispatchEvent(new KeyboardEvent("keydown", data.press));

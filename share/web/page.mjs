@@ -27,7 +27,7 @@ function colours(theme) {
 const ACTS = {
   run: () => runs.run(),
   stop: () => stopTests() || runs.stopped(),
-  step: () => runs.step(),
+  step: () => runs.step({isWhole: files.program.place === 'asks'}),
   layout: layOut,
   new: newFile,
   open: () => $('chosen').click(),
