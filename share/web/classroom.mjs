@@ -114,7 +114,7 @@ async function firstFinding(grading) {
 
 class Classroom {
   constructor(box) {
-    Object.assign(this, {entries: [], rows: [], set: new Set(), queue: new Queue(), isGrading: false, shown: null});
+    Object.assign(this, {entries: [], rows: [], set: new Set(), queue: new Queue(), serial: 0, shown: null});
     this.said = element('p', {role: 'status'});
     this.bar = element('progress', {max: 1, value: 0, hidden: true});
     this.bar.setAttribute('aria-label', t`How much is graded`);
@@ -152,7 +152,9 @@ class Classroom {
   }
 
   async clear() {
+    this.serial++;
     this.stop();
+    await this.going;
     Object.assign(this, {entries: [], rows: [], shown: null});
     this.set.clear();
     this.show();
@@ -162,8 +164,16 @@ class Classroom {
   /** Takes what was dropped, beside what is there. */
   async take(entries) {
     this.stop();
-    this.entries.push(...await entries);
     this.say(t`The hand-ins are read ..`);
+    try {
+      this.entries.push(...await entries);
+      await this.read();
+    } catch (it) {
+      this.say(t`The hand-ins can't be read: ${it.message}`, 'bad');
+    }
+  }
+
+  async read() {
     const students = await studentsOf(this.entries, data.exercises.map(it => it.name));
     const names = plainNames(students.map(it => it.name));
     this.rows = students.map((student, k) => ({student, label: names[k], number: student.number, by: student.by,
@@ -174,20 +184,22 @@ class Classroom {
 
   get exercises() { return data.exercises.filter(it => this.set.has(it.name)); }
 
-  /** Grades what isn't graded yet. */
+  /** Grades what isn't graded yet. Of calls that overlap the last one goes on. */
   async grade() {
-    const jobs = this.rows.flatMap(row => this.exercises.filter(it => !row.works.has(it.name)).map(exercise =>
-      ({row, exercise})));
-    this.show();
-    if (this.isGrading) return;
-    Object.assign(this, {isGrading: true, done: 0, count: jobs.length, looked: 0});
+    const serial = ++this.serial;
+    this.stop();
+    await this.going;
+    if (serial !== this.serial) return;
+    const lacking = row => this.exercises.filter(it => !row.works.has(it.name));
+    const jobs = this.rows.flatMap(row => lacking(row).map(exercise => ({row, exercise})));
+    Object.assign(this, {done: 0, count: jobs.length, looked: 0});
     Object.assign(this.bar, {hidden: false, max: jobs.length || 1, value: 0});
     this.stopper.disabled = false;
-    await this.queue.run(jobs, job => this.told(job));
-    this.isGrading = false;
+    this.show();
+    await (this.going = this.queue.run(jobs, job => this.told(job)));
     this.bar.hidden = this.stopper.disabled = true;
     this.show();
-    this.sayEnd();
+    if (serial === this.serial) this.sayEnd();
   }
 
   told({row, exercise}) {
@@ -208,7 +220,7 @@ class Classroom {
     else this.say(t`${count} students are graded.`, 'good');
   }
 
-  stop() { if (this.isGrading) this.queue.stop(); }
+  stop() { this.queue.stop(); }
 
   show() {
     this.showOptions();
@@ -262,7 +274,7 @@ class Classroom {
       button(t`Save all pages`, () => this.savePages()),
       ...has('moodle') ? [add(t`Save for Moodle`, 'moodle.csv', moodleOf)] : [],
       ...has('canvas') ? [add(t`Save for Canvas`, 'canvas.csv', canvasOf)] : [],
-      ...has('moodle') || has('canvas') ? [element('label', {}, t`Points there`, ' ', most)] : []);
+      ...has('moodle') || has('canvas') ? [element('label', {}, t`Points there at most`, ' ', most)] : []);
   }
 
   savePages() {
