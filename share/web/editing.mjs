@@ -94,7 +94,8 @@ function lacksIn(exercise, name) {
 
 /** Puts another text into a file, shown or not. */
 export function retext(file, text) {
-  file.text = text;
+  const told = optionsIn(text);
+  Object.assign(file, {text}, told && {edition: told.edition ?? file.edition, libs: told.libs});
   editor.follow(file);
   typedInto(file);
   files.keep(file);
@@ -113,7 +114,6 @@ export function openFile(file) {
 
 files.heard = file => {
   editor.follow(file);
-  typedInto(file);
   if (file === files.program) showOptions();
   recheck();
 };
@@ -184,7 +184,7 @@ export function recheck(wait = WAIT) {
 }
 
 function changed(change) {
-  if (change.origin === 'setValue') return;
+  if (['setValue', 'follow'].includes(change.origin)) return;
   const file = files.current;
   file.text = editor.text;
   if (typed !== file) keepNow();
@@ -211,11 +211,11 @@ export const findings = new Findings({
   check,
   apply(edit, file) {
     if (file !== files.current) openFile(file);
+    if (edit.text !== undefined) editor.edit(edit);
     if (edit.lib && !file.libs.includes(edit.lib)) {
       setLib(edit.lib, true);
       showOptions();
     }
-    if (edit.text !== undefined) editor.edit(edit);
     recheck(0);
   },
   go: it => goTo(it.file, it),

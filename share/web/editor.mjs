@@ -114,8 +114,8 @@ export class Editor {
   follow(file) {
     const doc = this.docs.get(file), isShown = doc === this.cm.getDoc();
     if (!doc || doc.getValue('\n') === file.text) return;
-    if (isShown) this.put(file.text);
-    else doc.replaceRange(file.text, {line: 0, ch: 0}, {line: doc.lastLine()}, 'put');
+    if (isShown) this.put(file.text, 'follow');
+    else doc.replaceRange(file.text, {line: 0, ch: 0}, {line: doc.lastLine()}, 'follow');
   }
 
   /** Tells of a function, where the mouse is on its name, what it does. */
@@ -143,10 +143,10 @@ export class Editor {
   get text() { return this.cm.getValue('\n'); }
 
   /** Puts another text in place, as one step back. */
-  put(text) {
+  put(text, origin = 'put') {
     const {left, top} = this.cm.getScrollInfo(), at = this.cm.getCursor();
     this.cm.operation(() => {
-      this.cm.replaceRange(text, {line: 0, ch: 0}, {line: this.cm.lastLine()}, 'put');
+      this.cm.replaceRange(text, {line: 0, ch: 0}, {line: this.cm.lastLine()}, origin);
       this.cm.setCursor(at);
     });
     this.cm.scrollTo(left, top);
