@@ -13,6 +13,7 @@ A chapter is HTML, with the programs of its text by their names. A code block is
 import html
 import pathlib
 import re
+import shlex
 import sys
 
 COMMAND = "$ ./b "
@@ -148,14 +149,14 @@ class Command:
         self.line = line
         words, _, self.out = line.removeprefix(COMMAND).partition(" > ")
         words, _, given = words.partition(" < ")
-        self.words, self.input = words.split(), given.strip()
+        self.words, self.input = shlex.split(words), given.strip()
         self.command = self.words[0]
         self.file = next((it for it in self.words[1:] if it.endswith(SOURCES)), "")
         self.libs = [after for word, after in zip(self.words, self.words[1:]) if word == "--with"]
 
     def is_runnable(self, files):
-        names = [it for it in [self.file, *self.libs] if it.endswith(SOURCES)]
-        return "|" not in self.line and bool(names) and all(it in files for it in names) and (
+        names = [it for it in self.words[1:] if re.fullmatch(r"[\w/.-]+\.\w+", it)]
+        return "|" not in self.line and bool(self.file) and all(it in files for it in names) and (
             not self.input or self.input in files) and (not self.out or self.out.endswith(SHOWN))
 
 

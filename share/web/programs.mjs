@@ -70,7 +70,8 @@ export async function check(file, change) {
 
 /** The words of a command of a lesson, and the files of its chapter, as they are now. */
 export function commandOf(line, set) {
-  const [told, input] = line.split(' > ')[0].split(' < '), words = told.split(' '), given = {};
+  const [told, input] = line.split(' > ')[0].split(' < '), given = {};
+  const words = told.match(/'[^']*'|\S+/g).map(it => it.replace(/^'(.*)'$/, '$1'));
   const text = name => files.all.get(`${set.place}/${name}`)?.text ?? set.files[name];
   words.forEach((word, k) => {
     if (words[k - 1] === '--with') words[k] = pathOf(word);
