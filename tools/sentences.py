@@ -46,8 +46,8 @@ def template(text, at):
 
 
 class Static(html.parser.HTMLParser):
-    """The texts and attributes of a page that a person reads. A paragraph with keys or names in its sentences is one text,
-    with these as its values."""
+    """The texts and attributes of a page that a person reads. A paragraph with keys or names in its sentences is one
+    text, with these as its values."""
 
     def __init__(self, text):
         super().__init__()

@@ -145,7 +145,8 @@ export class Course {
     if (!result) return;
     const {passed, of, refused, isOld} = result;
     const told = refused ? t`Not taken: ${refused}.`
-      : isOld ? t`${passed} of ${of} tests passed before the last change.` : of === 1 ? t`${passed} of 1 test passed.` : t`${passed} of ${of} tests passed.`;
+      : isOld ? t`${passed} of ${of} tests passed before the last change.`
+        : of === 1 ? t`${passed} of 1 test passed.` : t`${passed} of ${of} tests passed.`;
     const head = element('p', {className: passed === of ? 'good' : 'bad'}, told);
     box.replaceChildren(head, element('ul', {}, ...result.failed.map(([test, text]) => element('li', {},
       element('b', {}, `${test}: `), text))));

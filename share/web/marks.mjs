@@ -144,6 +144,7 @@ export function pageOf(row, exercises) {
   });
   const {passed, of} = pointsOf(row, exercises), name = escaped(row.label);
   const unread = row.unread.map(it => `<p>${escaped(it)}.</p>\n`).join('');
-  return `<!doctype html>\n<html lang="${language}"><meta charset="utf-8"><title>${name}</title>\n<style>\n${STYLE}\n</style>\n`
+  return `<!doctype html>\n<html lang="${language}"><meta charset="utf-8"><title>${name}</title>\n`
+    + `<style>\n${STYLE}\n</style>\n`
     + `<h1>${name}</h1>\n<p>${escaped(t`${passed} of ${of} points`)}</p>\n${unread}${sections.join('')}</html>\n`;
 }

@@ -127,8 +127,7 @@ function place() {
 /** Begins the page anew in another language, where the browser keeps what was chosen. */
 function speak(language) {
   keepNow();
-  store.put('language', language);
-  if (store.get('language') === language) location.reload();
+  if (store.put('language', language)) location.reload();
 }
 
 function wireMenus() {

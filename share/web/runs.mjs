@@ -141,8 +141,9 @@ export class Runs {
     else if (ended.status === 0) say(t`Done, in ${seconds(ended.took)}.`, 'good');
     else if (end.loop) this.sayEndless(end, session);
     else if (place) this.sayPlace(line, means, place, session);
-    else if (ended.status === 1 && line) this.sayFault(line, t`The program has a fault: see below the editor.`, session);
-    else if (line.startsWith('load')) this.sayFault(line, t`It can't be run: see below the editor.`, session);
+    else if (ended.status === 1 && line) {
+      this.sayFault(line, t`The program has a fault: see below the editor.`, session);
+    } else if (line.startsWith('load')) this.sayFault(line, t`It can't be run: see below the editor.`, session);
     else say(line ? `${line}.` : t`Ended with status ${ended.status}, in ${seconds(ended.took)}.`, 'bad');
     this.readOut();
     if (!ended.failed) this.lookCarefully(session);
