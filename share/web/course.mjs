@@ -2,7 +2,7 @@
 import {$, button, element} from './dom.mjs';
 import {passes, sentence, testsOf} from './exercises.mjs';
 import {isName} from './files.mjs';
-import {t} from './words.mjs';
+import {nameHere, t} from './words.mjs';
 
 const COMMAND = /^\$? ?(?:\.\/)?b (?=\w+ )/; // before the words of a command of a lesson
 
@@ -52,6 +52,7 @@ export class Course {
     text.innerHTML = this.chapter.html;
     for (const it of text.querySelectorAll('figure.file')) this.dressFile(it);
     for (const it of text.querySelectorAll('figure.command, figure.shown')) this.dressCommand(it);
+    for (const it of text.querySelectorAll('p code, li code')) it.textContent = nameHere(it.textContent);
     for (const it of text.querySelectorAll('p > code, li > code')) this.dressWords(it);
     for (const it of text.querySelectorAll('a[data-chapter]')) it.onclick = event => this.follow(event, it);
     text.append(...this.exercisesOf(this.chapter).map(it => this.card(it)));

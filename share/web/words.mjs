@@ -22,6 +22,9 @@ export function t(parts, ...values) {
 
 const said = text => table[text.trim().replace(/\s+/g, ' ')];
 
+/** The name of a button or a menu, which a lesson tells in English. */
+export const nameHere = name => said(name) ?? name;
+
 /** Whether the sentences of a paragraph have keys or names in them. */
 const hasNames = it => it.nodeName === 'P' && !!it.querySelector(':scope > kbd, :scope > b');
 
