@@ -9,12 +9,13 @@ import {data, newMachine} from './state.mjs';
 import {t} from './words.mjs';
 
 const MOST_MACHINES = 4, MOST_TOLD = 12;
-const GAP = 100; // milliseconds between two looks of the page at what goes on
+const GAP = 300; // milliseconds between two looks of the page at what goes on
 
 /** What is dropped, as entries: folders give theirs in parts, and have to be asked at once. */
 function droppedOf(transfer) {
-  const entries = [...transfer.items ?? []].map(it => it.webkitGetAsEntry?.()).filter(Boolean);
-  return entries.length ? Promise.all(entries.map(entryOf)) : chosenOf([...transfer.files]);
+  const dropped = [...transfer.items ?? []].map(it => [it.webkitGetAsEntry?.(), it.getAsFile()]);
+  return Promise.all(dropped.filter(([folder, file]) => folder?.isDirectory || file).map(([folder, file]) =>
+    folder?.isDirectory ? entryOf(folder) : {name: file.name, file}));
 }
 
 async function entryOf(entry) {
@@ -176,8 +177,7 @@ class Classroom {
   async read() {
     const students = await studentsOf(this.entries, data.exercises.map(it => it.name));
     const names = plainNames(students.map(it => it.name));
-    this.rows = students.map((student, k) => ({student, label: names[k], number: student.number, by: student.by,
-      folder: student.folder, unread: student.unread, works: new Map()}));
+    this.rows = students.map((student, k) => ({student, label: names[k], works: new Map()}));
     for (const {name} of data.exercises) if (students.some(it => it.hasWork(name))) this.set.add(name);
     await this.grade();
   }
@@ -213,7 +213,7 @@ class Classroom {
 
   sayEnd() {
     const isStopped = this.queue.isStopped, count = this.rows.length;
-    const unread = this.rows.filter(it => it.unread.length || [...it.works.values()].some(one => one.refused));
+    const unread = this.rows.filter(it => it.student.unread.length || [...it.works.values()].some(one => one.refused));
     const names = unread.map(it => it.label).join(', ');
     if (isStopped) this.say(t`Stopped: ${this.done} of ${this.count} are graded.`, 'bad');
     else if (unread.length) this.say(t`${count} students. These have what can't be read: ${names}.`, 'bad');
@@ -225,6 +225,7 @@ class Classroom {
   show() {
     this.showOptions();
     this.showTable();
+    this.showFailed();
     this.showStudent(this.shown);
   }
 
@@ -268,7 +269,7 @@ class Classroom {
     const of = this.exercises.reduce((sum, it) => sum + testsOf(it).length, 0);
     const most = element('input', {type: 'number', min: 1, value: this.most ?? of, className: 'points'});
     most.onchange = () => { this.most = Number(most.value) > 0 ? Number(most.value) : undefined; };
-    const has = by => this.rows.some(it => it.by === by), points = () => Number(most.value) || of;
+    const has = by => this.rows.some(it => it.student.by === by), points = () => Number(most.value) || of;
     const add = (text, name, made) => button(text, () => save(name, [made(this.rows, this.exercises, points())]));
     return element('p', {className: 'row'}, add(t`Save the table`, 'grades.csv', tableOf),
       button(t`Save all pages`, () => this.savePages()),
@@ -278,7 +279,7 @@ class Classroom {
   }
 
   savePages() {
-    const {rows, exercises} = this, folder = it => it.folder ? `${it.folder}/` : '';
+    const {rows, exercises} = this, folder = ({student}) => student.folder ? `${student.folder}/` : '';
     const page = it => [`${folder(it)}${it.label}.html`, pageOf(it, exercises)];
     save('grades.zip', zip([['grades.csv', tableOf(rows, exercises)], ...rows.map(page)]));
   }
@@ -290,15 +291,14 @@ class Classroom {
     const table = element('table', {}, element('thead', {}, head),
       element('tbody', {}, ...rows.map(it => this.rowOf(it, exercises))));
     this.parts.table.replaceChildren(...rows.length ? [table] : []);
-    this.showFailed();
   }
 
   rowOf(row, exercises) {
-    const {passed, of, isWhole} = pointsOf(row, exercises), by = row.number ? ` ${row.number}` : '';
+    const {passed, of, isWhole} = pointsOf(row, exercises), {number, unread} = row.student;
     const name = button(row.label, () => this.showStudent(row, true), {className: 'name'});
-    return element('tr', {}, element('th', {scope: 'row'}, name, element('small', {}, by)),
+    return element('tr', {}, element('th', {scope: 'row'}, name, number ? element('small', {}, ` ${number}`) : ''),
       element('td', {className: isWhole ? 'sum' : 'sum bad'}, t`${passed} of ${of}`),
-      ...exercises.map(it => this.cellOf(row.works.get(it.name), testsOf(it).length, row.unread.length)),
+      ...exercises.map(it => this.cellOf(row.works.get(it.name), testsOf(it).length, unread.length)),
       element('td', {className: 'note'}, firstOf(row, exercises)));
   }
 
@@ -322,7 +322,7 @@ class Classroom {
   showStudent(row, isAsked = false) {
     this.shown = row;
     this.parts.student.replaceChildren(...row ? [element('h3', {}, row.label),
-      ...row.unread.map(it => element('p', {className: 'bad'}, `${it}.`)),
+      ...row.student.unread.map(it => element('p', {className: 'bad'}, `${it}.`)),
       ...this.exercises.flatMap(it => this.partOf(row, it))] : []);
     if (!isAsked) return;
     this.parts.student.scrollTop = 0;

@@ -341,6 +341,7 @@ export const german = {
   "{0} isn't defined: {1} has it, so tick {2} beside With":
     "{0} ist nicht definiert: {1} hat es, also kreuze {2} neben Mit an",
   "{0} isn't opened: {1}.": "{0} wird nicht geöffnet: {1}.",
+  "{0} isn't read: its exercise isn't chosen yet": "{0} wird nicht gelesen: ihre Aufgabe ist noch nicht gewählt",
   "{0} isn't read: {1}": "{0} wird nicht gelesen: {1}",
   "{0} isn't taken: {1}.": "{0} wird nicht angenommen: {1}.",
   "{0} of 1 test passed.": "{0} von 1 Test bestanden.",

@@ -35,8 +35,8 @@ export function plainSource(bytes) {
 }
 
 /**
- * What is read of the files that were dropped, archives within archives too. An item has `items`, a file, or `why`. What
- * isn't read doesn't count, so no archive takes the room of another one.
+ * What is read of the files that were dropped, archives within archives too. An item has `items`, a file, or `why`.
+ * What isn't read doesn't count, so no archive takes the room of another one.
  */
 class Reading {
   constructor() {
@@ -133,8 +133,9 @@ class Student {
     return plainSource(new Uint8Array(await file.arrayBuffer()));
   }
 
-  /** What isn't read: an archive, in which something may be handed in. */
+  /** What isn't read: an archive, in which something may be handed in, or a file of which nobody said what it is. */
   get unread() {
+    if (this.isFile && !this.exercise) return [t`${this.files[0].path} isn't read: its exercise isn't chosen yet`];
     return this.files.filter(it => it.why && !isSource(it.path)).map(it => t`${it.path} isn't read: ${it.why}`);
   }
 }
@@ -185,16 +186,17 @@ function withinAlone(items, exercises) {
   return items;
 }
 
+const byName = (a, b) => a.name < b.name ? -1 : a.name > b.name ? 1 : 0;
+
 /** A folder or a file that was dropped, as an item. `children(folder)` gives what is in a folder. */
 async function dropped(reading, entry, depth = 0) {
   if (entry.file) return reading.item(entry.name, entry.file, depth);
   const items = [];
   if (depth > MOST_DEPTH) return {name: entry.name, why: t`it lies too deep`};
-  for (const it of await entry.entries()) if (!isAdded(it.name)) items.push(await dropped(reading, it, depth + 1));
+  const within = (await entry.entries()).filter(it => !isAdded(it.name)).sort(byName);
+  for (const it of within) items.push(await dropped(reading, it, depth + 1));
   return {name: entry.name.normalize('NFC'), items};
 }
-
-const byName = (a, b) => a.name < b.name ? -1 : a.name > b.name ? 1 : 0;
 
 /** The students of what was dropped: entries with a name and a file, or with `entries()`, which gives those within. */
 export async function studentsOf(entries, exercises) {

@@ -20,20 +20,20 @@ export function plainNames(names) {
 }
 
 /** The points of a student in the exercises that were set. They aren't whole where something isn't read or graded. */
-export function pointsOf({works, unread}, exercises) {
+export function pointsOf({works, student}, exercises) {
   const graded = exercises.map(it => works.get(it.name));
   const passed = graded.map(it => it?.results?.filter(passes).length ?? 0);
   const of = exercises.map(it => testsOf(it).length), sum = numbers => numbers.reduce((a, b) => a + b, 0);
   return {each: passed, passed: sum(passed), of: sum(of),
-    isWhole: !unread.length && graded.every(it => it && !it.refused)};
+    isWhole: !student.unread.length && graded.every(it => it && !it.refused)};
 }
 
 /** What came of a test that failed, in a sentence. */
 export const why = (it, {finding}) => it.result === 'fault' && finding ? finding : sentence(it);
 
 /** What a student should know first. */
-export function firstOf({works, unread}, exercises) {
-  const graded = exercises.map(it => [it.name, works.get(it.name)]);
+export function firstOf({works, student}, exercises) {
+  const {unread} = student, graded = exercises.map(it => [it.name, works.get(it.name)]);
   const missing = graded.filter(([, it]) => it?.isMissing).map(([name]) => name);
   const found = graded.find(([, it]) => it?.refused || it?.finding), told = found?.[1];
   if (unread.length) return t`not taken: ${unread[0]}`;
@@ -89,21 +89,25 @@ function commentOf(row, exercises) {
     const head = t`${name}: ${graded.results.filter(passes).length} of ${graded.results.length} tests passed`;
     return [head, ...failed.slice(0, 3).map(it => `${it.test.name}: ${why(it, graded)}`)];
   });
-  return [...row.unread, ...lines].join('; ').slice(0, MOST_COMMENT);
+  return [...row.student.unread, ...lines].join('; ').slice(0, MOST_COMMENT);
 }
+
+const nameOf = ({student}) => plainNames([student.name])[0];
 
 /** What Moodle takes by `Upload grading worksheet` of an assignment: it knows a student by the number alone. */
 export function moodleOf(rows, exercises, most) {
   const head = ['Identifier', 'Full name', 'Grade', 'Maximum grade', 'Last modified (grade)', 'Feedback comments'];
-  return csv([head, ...rows.filter(it => it.by === 'moodle').map(it => [`Participant ${it.number}`, it.label,
-    gradeOf(it, exercises, most), most, '-', commentOf(it, exercises)])]);
+  const own = rows.filter(it => it.student.by === 'moodle').map(it => [`Participant ${it.student.number}`, nameOf(it),
+    gradeOf(it, exercises, most), most, '-', commentOf(it, exercises)]);
+  return csv([head, ...own]);
 }
 
 /** What the Gradebook of Canvas takes by `Import`: the number of the student is the ID, and a title the last column. */
 export function canvasOf(rows, exercises, most) {
   const head = ['Student', 'ID', 'SIS User ID', 'SIS Login ID', 'Section', t`Exercises in B`];
-  return csv([head, ['    Points Possible', '', '', '', '', most], ...rows.filter(it => it.by === 'canvas').map(it =>
-    [it.label, it.number, '', '', '', gradeOf(it, exercises, most)])]);
+  const own = rows.filter(it => it.student.by === 'canvas').map(it => [nameOf(it), it.student.number, '', '', '',
+    gradeOf(it, exercises, most)]);
+  return csv([head, ['    Points Possible', '', '', '', '', most], ...own]);
 }
 
 /** The lines of a source where something came that is told. */
@@ -143,8 +147,8 @@ export function pageOf(row, exercises) {
     return `<section><h2>${escaped(head)}</h2>${list}${pre}</section>\n`;
   });
   const {passed, of} = pointsOf(row, exercises), name = escaped(row.label);
-  const unread = row.unread.map(it => `<p>${escaped(it)}.</p>\n`).join('');
+  const unread = row.student.unread.map(it => `<p>${escaped(it)}.</p>\n`).join('');
   return `<!doctype html>\n<html lang="${language}"><meta charset="utf-8"><title>${name}</title>\n`
-    + `<style>\n${STYLE}\n</style>\n`
-    + `<h1>${name}</h1>\n<p>${escaped(t`${passed} of ${of} points`)}</p>\n${unread}${sections.join('')}</html>\n`;
+    + `<style>\n${STYLE}\n</style>\n<h1>${name}</h1>\n`
+    + `<p>${escaped(t`${passed} of ${of} points`)}</p>\n${unread}${sections.join('')}</html>\n`;
 }
