@@ -3,6 +3,7 @@
 import {filesOf, isAdded, isZip} from './unzip.mjs';
 import {t} from './words.mjs';
 
+const MOST_NAME = 255; // characters of a name in an archive
 const MOST_DEPTH = 20; // of folders and archives, one within the other
 const MOST_PACKED = 64 << 20; // bytes of an archive within another one
 const MOST_FILES = 20_000; // of an archive, with those in it
@@ -10,14 +11,15 @@ const MOST_OF_ALL = 200_000; // of one student, or of the archive of a class
 const SOURCE_BYTES = 65536; // the longest hand-in
 const OTHER_ARCHIVES = /\.(7z|bz2|gz|rar|tar|tgz|xz|zipx)$/i;
 // What a copy adds to the name of a file: a number, the word copy, a second ending.
-const COPIED = /[\s_-]*(\(\d+\)|- ?cop(y|ie)|copy( \d+)?)|-\d+(?=\.b)|\.txt$|\s/gi;
+const COPIED = /[\s_-]{0,3}(\(\d+\)|- ?cop(y|ie)|copy( \d+)?)|-\d+(?=\.b)|\.txt$|\s/gi;
 // How Moodle and Canvas name what is handed in: the student, the number of the student, and the file.
 const SENT = {moodle: /^(.+?)_(\d+)_assignsubmission_[a-z]+_?(.*)$/is,
-  canvas: /^(.+?)(?:_LATE)?_(\d+)_\d+_(.+\.(?:b|txt|zip))$/is};
+  canvas: /^(?=.*\.(?:b|txt|zip)$)(.+?)(?:_LATE)?_(\d+)_\d+_(.+)$/is};
 
 export const isSource = name => /\.b(\.txt)?$/i.test(name);
 const baseOf = path => path.slice(path.lastIndexOf('/') + 1);
-const isCopy = (name, exercise) => name.replace(COPIED, '').toLowerCase() === `${exercise}.b`;
+const plainName = name => name.replace(COPIED, '').toLowerCase();
+const isCopy = (name, exercise) => plainName(name) === `${exercise}.b`;
 /** The parts of a name that Moodle or Canvas gave, if it is one. */
 function sent(name) {
   for (const [by, form] of Object.entries(SENT)) {
@@ -81,7 +83,8 @@ class Reading {
   async itemsOf(blob, depth) {
     const top = {items: []}, folders = new Map([['', top]]);
     for (const file of await filesOf(blob)) {
-      const parts = file.name.split('/'), isDeep = depth + parts.length > MOST_DEPTH, name = parts.at(-1);
+      const parts = file.name.split('/'), name = parts.at(-1).slice(-MOST_NAME);
+      const isDeep = depth + parts.length > MOST_DEPTH || parts.some(it => it.length > MOST_NAME);
       if (isDeep) file.fault = t`its name leads out of the archive, or too deep into it`;
       const folder = folderIn(folders, isDeep ? ['..'] : parts.slice(0, -1));
       folder.items.push(await this.item(name, file, depth + parts.length));
@@ -141,7 +144,8 @@ class Student {
 }
 
 function worksIn(item, exercises) {
-  if (!item.items) return exercises.filter(it => isCopy(item.name, it));
+  const plain = plainName(item.name);
+  if (!item.items) return exercises.filter(it => `${it}.b` === plain);
   return [...new Set(item.items.flatMap(it => worksIn(it, exercises)))];
 }
 
