@@ -31,13 +31,17 @@ function linesOf(output) {
   return text ? text.split('\n').map(it => it.replace(BLANKS, '')) : [];
 }
 
+/** How many lines an output has, with empty ones at its end. */
+const countOf = output => output ? output.split(/\n(?!$)/).length : 0;
+
 /** The first line that differs: its number, and what is there on both sides. */
 function firstDifference(output, wanted) {
   const got = linesOf(output), want = linesOf(wanted);
   const at = Array.from({length: Math.max(got.length, want.length)}, (_, k) => k).find(k => got[k] !== want[k]);
   if (at === undefined) return null;
-  const told = line => line === undefined ? t`(no such line)` : plain(line) || t`(an empty line)`;
-  return {line: at + 1, wrote: told(got[at]), wanted: told(want[at])};
+  const told = (lines, text) => at < lines.length || at < countOf(text) ? plain(lines[at] ?? '') || t`(an empty line)`
+    : t`(no such line)`;
+  return {line: at + 1, wrote: told(got, output), wanted: told(want, wanted)};
 }
 
 /** The tests of an exercise: those that run the hand-in, and the rules that it has to fit. */

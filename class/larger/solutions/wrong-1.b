@@ -1,5 +1,5 @@
 /* Wrong: the condition has read both digits, so a third and a fourth are written. */
-/* Told: wrote  (no such line) */
+/* Told: wrote  (an empty line) */
 main() {
     if(getchar() > getchar())
         putchar(getchar());
