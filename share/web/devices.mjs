@@ -19,16 +19,19 @@ const COPIED = /[\s_-]*(\(\d+\)|- ?cop(y|ie)|copy( \d+)?)$/i; // what a copy add
 export async function newFile() {
   const name = await askName(t`New file`, files.freeName('prog.b'));
   if (!name) return;
-  if (files.all.has(`/${name}`)) say(t`${name} was there already.`);
-  openAll([{name}]);
+  const given = givenFor(name);
+  if (here(given)) say(t`${name} was there already.`);
+  openAll([given]);
   editor.cm.focus();
 }
 
 export async function rename() {
   const file = files.current, name = await askName(t`Rename ${file.name}`, file.name);
   if (!name || name === file.name) return;
-  if (files.all.has(`/${name}`)) return say(t`There is a file ${name} already.`, 'bad');
-  const made = new File({...file, place: '', name, base: null});
+  const given = {place: '', base: null, ...givenFor(name)}, libs = new Set([...given.libs ?? [], ...file.libs]);
+  if (here(given)) return say(t`There is a file ${name} already.`, 'bad');
+  keepNow();
+  const made = new File({...file, ...given, text: file.text, libs: [...libs]});
   files.all.set(made.key, made);
   files.open = files.open.map(it => it === file ? made : it);
   editor.forget(file);
@@ -89,10 +92,16 @@ function knownOf({place, name, base, edition, libs, input, ends} = {}) {
     libs: Array.isArray(libs) ? libs.filter(isText).slice(0, MOST_FILES) : [], input: isText(input) ? input : ''};
 }
 
-/** What is opened of a source from elsewhere: an exercise by its name, or a file of one's own. */
+/** A file of a name, as it begins: an exercise, where one has this name, or a file of one's own. */
+function givenFor(name) {
+  const exercise = data.exercises.find(it => `${it.name}.b` === name);
+  return exercise ? startOf(exercise) : {name};
+}
+
+/** What is opened of a source from elsewhere. */
 function givenOf(path, text, kept) {
-  const name = nameFrom(path.split('/').at(-1)), exercise = data.exercises.find(it => `${it.name}.b` === name);
-  return {...knownOf(kept) ?? (exercise ? startOf(exercise) : {name}), text: text.replaceAll('\r\n', '\n')};
+  const name = nameFrom(path.split('/').at(-1));
+  return {...knownOf(kept) ?? givenFor(name), text: text.replaceAll('\r\n', '\n')};
 }
 
 async function readArchive(archive) {
@@ -143,13 +152,16 @@ export function copyOf(file) {
   return copy;
 }
 
-/** Opens a text as a file of its own, under another name where one of the person's has this one; the name it has. */
+/** Whether a file is as another one would be, under its name or under that with a number. */
+const isLike = (file, other) => [file.name, file.name.replace(/-\d+(?=\.\w+$)/, '')].includes(other.name)
+  && ['text', ...OPTIONS].every(it => String(file[it]) === String(other[it]));
+
+/** Opens a text as a file, under another name where one of the person's has this one and differs; the name it has. */
 export function addFile(name, text, options = {}) {
-  const made = new File({name, text, ...options}), there = files.all.get(made.key);
-  const isSame = there && JSON.stringify(there) === JSON.stringify(made);
-  const free = isSame ? name : files.freeName(name);
-  openAll([{name: free, text, ...options}]);
-  return free;
+  const made = new File({...givenFor(name), text, ...options}), free = files.freeName(name);
+  const there = [...files.all.values()].find(it => it.isOwn && isLike(it, made));
+  openAll([there ?? (free === name ? made : {name: free, text, ...options})]);
+  return files.current.name;
 }
 
 /** Gives the device one archive with all that was written. It opens here again, as it was, and anywhere as texts. */

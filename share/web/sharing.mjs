@@ -2,7 +2,7 @@
 import {$, element, say} from './dom.mjs';
 import {addFile, nameFrom} from './devices.mjs';
 import {closeClass, openClass} from './classroom.mjs';
-import {openAll, pane} from './editing.mjs';
+import {openAll, pane, show, showCourse} from './editing.mjs';
 import {packed, unpacked} from './link.mjs';
 import {data, files} from './state.mjs';
 import {t} from './words.mjs';
@@ -31,7 +31,9 @@ export async function openLink(course) {
     return true;
   }
   closeClass();
+  show('program');
   if (data.chapters.some(it => it.name === fragment)) {
+    showCourse(true);
     course.show(fragment, true);
     pane('course');
     return true;
@@ -42,8 +44,8 @@ export async function openLink(course) {
     const [[name, text], ...more] = program.files, {edition, input, ends} = program;
     const names = new Map(more.map(([other, its]) => [other, addFile(nameFrom(other), its)]));
     const libs = existing(program.libs.map(it => names.get(it) ?? it), [...names.values()]);
-    addFile(nameFrom(name), text, {edition, libs, input, ends: ends === true});
-    say(t`${name} is from the link.`);
+    const its = addFile(nameFrom(name), text, {edition, libs, input, ends: ends === true});
+    say(t`${its} is from the link.`);
   } catch (it) {
     openAll([{name: files.freeName('prog.b')}]);
     say(t`This link holds no program: ${it.message}. Here is an empty file.`, 'bad');
