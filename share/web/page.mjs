@@ -80,6 +80,10 @@ function wire() {
 /** What is typed is kept before the page goes, and what other windows of the page keep is heard. */
 function wireKeeping() {
   window.addEventListener('pagehide', keepNow);
+  window.addEventListener('beforeunload', event => {
+    keepNow();
+    if (store.isFull && [...files.all.values()].some(it => it.isAhead)) event.preventDefault();
+  });
   document.addEventListener('visibilitychange', () => document.hidden ? keepNow() : files.refresh());
   window.addEventListener('pageshow', ({persisted}) => persisted && files.refresh());
   store.hear((name, text) => {
