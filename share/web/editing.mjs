@@ -13,6 +13,7 @@ import {exerciseOf, typedInto} from './trying.mjs';
 import {t} from './words.mjs';
 
 const BOXES = ['print', 'strings', 'input', 'vectors', 'numbers'];
+const MOST_BOXES = 3; // of open files that aren't ticked, beside those that a press shows
 const WAIT = 250; // milliseconds after a key, before the program is checked
 const KEEPING = 400; // and before it is kept
 
@@ -49,15 +50,24 @@ function tab(file) {
   return element('span', {className: isCurrent ? 'tab current' : 'tab'}, open, close);
 }
 
+const seeTab = () => $('tabs').querySelector('.current')?.scrollIntoView({block: 'nearest', inline: 'nearest'});
+new ResizeObserver(seeTab).observe($('tabs'));
+
 function showTabs() {
   const add = button('+', newFile, {title: t`New file`, className: 'add'});
   add.setAttribute('aria-label', t`New file`);
   $('tabs').replaceChildren(...files.open.map(tab), add);
-  $('tabs').querySelector('.current')?.scrollIntoView({block: 'nearest', inline: 'nearest'});
-  const exercise = exerciseOf(files.current);
-  $('try').hidden = !exercise;
+  $('try').hidden = !exerciseOf(files.current);
+  seeTab();
   document.title = `${files.program.name} - ${t`B of 1972`}`;
   $('run').title = t`Runs ${files.program.name} (Ctrl+Enter)`;
+}
+
+/** The box of a file that may come after the program. */
+function boxOf(name) {
+  const box = element('input', {type: 'checkbox', checked: files.program.libs.includes(name)});
+  box.onchange = () => setLib(name, box.checked);
+  return element('label', {}, box, ` ${name}`);
 }
 
 function showOptions() {
@@ -65,12 +75,10 @@ function showOptions() {
   $('options').hidden = isCode(program.name);
   $('edition').value = program.edition;
   const names = [...files.beside(program).map(it => it.name), ...BOXES, ...program.libs];
-  const boxes = [...new Set(names)].map(name => {
-    const box = element('input', {type: 'checkbox', checked: program.libs.includes(name)});
-    box.onchange = () => setLib(name, box.checked);
-    return element('label', {}, box, ` ${name}`);
-  });
-  $('libs').replaceChildren(element('legend', {}, t`With`), ...boxes);
+  const others = names.filter(it => !BOXES.includes(it) && !program.libs.includes(it)).slice(MOST_BOXES);
+  const boxes = [...new Set(names)].filter(it => !others.includes(it)).map(boxOf);
+  const more = element('details', {}, element('summary', {}, t`${others.length} more`), ...others.map(boxOf));
+  $('libs').replaceChildren(element('legend', {}, t`With`), ...boxes, ...others.length ? [more] : []);
   $('input').value = program.input;
   $('ends').checked = program.ends;
 }
@@ -211,11 +219,13 @@ export const findings = new Findings({
   check,
   apply(edit, file) {
     if (file !== files.current) openFile(file);
+    const after = file.text.length - edit.to;
     if (edit.text !== undefined) editor.edit(edit);
     if (edit.lib && !file.libs.includes(edit.lib)) {
       setLib(edit.lib, true);
       showOptions();
     }
+    editor.goToIndex(file.text.length - after);
     recheck(0);
   },
   go: it => goTo(it.file, it),

@@ -154,6 +154,10 @@ export class Editor {
 
   edit({from, to, text}) {
     this.cm.replaceRange(text, this.cm.posFromIndex(from), this.cm.posFromIndex(to), 'fix');
+  }
+
+  goToIndex(index) {
+    this.cm.setCursor(this.cm.posFromIndex(index));
     this.cm.focus();
   }
 

@@ -4,6 +4,7 @@
 const NAME = /^[A-Za-z0-9_][\w.-]*\.(?:b|code)$/;
 export const MOST_LIBS = 20; // names that may come after a program
 const OPTIONS = /^\/\* b:((?: --(?:edition [12]|with [\w./-]+))+) \*\//;
+const UNREAD = /^\s*\/\*\s*b:.*--\w/; // what looks like them
 
 export const isName = name => NAME.test(name) && name.length <= 60;
 export const isCode = name => name.endsWith('.code');
@@ -17,6 +18,13 @@ export function optionsIn(text) {
     else if (options.libs.length < MOST_LIBS) options.libs.push(words[k + 1].replace(/^\.\//, ''));
   }
   return given && options;
+}
+
+/** Where a source has options that nobody reads: in another line than the first one, or in another form. */
+export function unreadOptions(text) {
+  const isUnread = (line, k) => UNREAD.test(line) && (k > 0 || !OPTIONS.test(line));
+  const at = text.split('\n').findIndex(isUnread);
+  return at < 0 ? null : {line: at + 1, isFirst: at === 0};
 }
 
 /** A source with these options in its first line. */

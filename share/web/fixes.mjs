@@ -65,5 +65,6 @@ export function told(text, {from, to, text: put, lib, does}) {
   if (put === undefined) return t`take ${lib} of the library`;
   const old = text.slice(from, to).trim(), line = text.slice(0, from).split('\n').length;
   if (!put) return t`take ${old} out`;
+  if (!put.trim()) return t`put a blank in line ${line}`;
   return old ? t`put ${put.trim()} for ${old}` : t`put ${put.trim()} in line ${line}`;
 }

@@ -1,6 +1,6 @@
 // What a command gets of a program: its words, its files and its input.
 import {bytesOf, textOf} from './dom.mjs';
-import {isCode} from './files.mjs';
+import {isCode, unreadOptions} from './files.mjs';
 import {parsed} from './findings.mjs';
 import {checker, data, files, store} from './state.mjs';
 import {t} from './words.mjs';
@@ -27,6 +27,14 @@ function codeOf({name, text, input, ends}) {
 function testedWith(file) {
   const exercise = file.place === 'exercise' && data.exercises.find(it => `${it.name}.b` === file.name);
   return (exercise && exercise.tests[0].source || '').match(/^\w+(?=\()/gm) ?? [];
+}
+
+/** What is found of options in a comment that count for nothing. */
+function unread(name, text) {
+  const {line, isFirst} = unreadOptions(text) ?? {};
+  const message = isFirst ? t`these options aren't read: tick the files beside With`
+    : t`options count in the first line alone: tick the files beside With`;
+  return line ? [{file: name, line, column: 1, end: 200, severity: 'warning', message}] : [];
 }
 
 const RULES = 'own.rules';
@@ -64,8 +72,9 @@ async function checkCode({name, text}) {
 export async function check(file, change) {
   if (isCode(file.name)) return checkCode(file);
   const ended = await checked(file, store.get('rules') ?? '', change), known = testedWith(file);
+  const options = unread(file.name, change?.text ?? file.text);
   const lacks = it => /^nothing defines (\w+)$/.exec(it.message)?.[1];
-  return ended.output ? parsed(textOf(ended.output)).filter(it => !known.includes(lacks(it))) : null;
+  return ended.output ? [...options, ...parsed(textOf(ended.output))].filter(it => !known.includes(lacks(it))) : null;
 }
 
 /** The words of a command of a lesson, and the files of its chapter, as they are now. */

@@ -10,6 +10,7 @@ import {commandOf} from './programs.mjs';
 import {data, files, output, store, testing} from './state.mjs';
 import {t} from './words.mjs';
 
+const ASKS = /^answers\(\)/m; // in the start of an exercise that asks what comes
 let grading, course;
 
 export const exerciseOf = file => file?.place === 'exercise' && data.exercises.find(it => `${it.name}.b` === file.name);
@@ -37,6 +38,11 @@ export async function grade(exercise) {
   if (grading) return;
   runs.stop();
   runs.begin(t`tests of ${exercise.name}`, t`They run ..`);
+  if (!file.isChanged && ASKS.test(exercise.start)) {
+    runs.ended(true);
+    say(t`Nothing is answered in ${file.name} yet.`, 'bad');
+    return;
+  }
   grading = new Grading(testing(), exercise, file.text);
   let graded;
   try {
