@@ -214,6 +214,7 @@ export const german = {
   "The other window has another text.": "Das andere Fenster hat einen anderen Text.",
   "The program can't be run here: {0}": "Das Programm lässt sich hier nicht ausführen: {0}",
   "The program has a fault: see below the editor.": "Das Programm hat einen Fehler: siehe unter dem Editor.",
+  "The older steps stay. {0}.": "Die älteren Schritte bleiben. {0}.",
   "The program has changed: these are the steps of its older text.":
     "Das Programm hat sich geändert: Das sind die Schritte des älteren Texts.",
   "The program runs up to there ..": "Das Programm läuft bis dorthin ..",
@@ -365,6 +366,7 @@ export const german = {
   "{0} students. These have what can't be read: {1}.": "{0} Lernende. Diese haben, was nicht lesbar ist: {1}.",
   "{0} was changed in another window, too": "{0} wurde auch in einem anderen Fenster geändert",
   "{0} was there already.": "{0} war schon da.",
+  "{0}, called in line {1} of {2}": "{0}, aufgerufen in Zeile {1} von {2}",
   "{0}, in line {1} of {2}": "{0}, in Zeile {1} von {2}",
   "{0}, in line {1} of {2}, in {3}, at step {4}.": "{0}, in Zeile {1} von {2}, in {3}, bei Schritt {4}.",
   "{0}, line {1}": "{0}, Zeile {1}",

@@ -53,6 +53,18 @@ export class Recording {
     return 0;
   }
 
+  /** The rows that called the function of a row, the nearest one first, as far as this part has them. */
+  callers(row) {
+    const found = [];
+    let {depth} = row;
+    for (let k = row.step - this.first - 1; k >= 0 && depth > 0; k--) {
+      if (this.rows[k].depth >= depth) continue;
+      found.push(this.rows[k]);
+      ({depth} = this.rows[k]);
+    }
+    return found;
+  }
+
   /** Whether another line begins at a row, or another call goes on. */
   isVisit(k) {
     const row = this.rows[k], before = this.rows[k - 1];
@@ -101,7 +113,12 @@ async function bisected(from, to, close, test) {
 
 /** What a run throws that was stopped, and one without steps. */
 export class Stopped extends Error {}
-export class NoSteps extends Error {}
+export class NoSteps extends Error {
+  constructor(message, fault) {
+    super(message);
+    this.fault = fault;
+  }
+}
 
 /** A program with its input so far. Where the input isn't closed, the run waits at the step that asks for more. */
 export class Recorder {
@@ -128,8 +145,14 @@ export class Recorder {
 
   async page(...words) {
     const ended = await this.ask(['show', ...words]);
-    if (ended.status !== 0) throw new NoSteps(ended.failed);
+    if (ended.status !== 0) throw new NoSteps(ended.failed, await this.fault());
     return new Recording(textOf(ended.output));
+  }
+
+  /** The first fault of the program, if it has one. */
+  async fault() {
+    const found = textOf((await this.ask(['check', '--json'])).output).split('\n').filter(Boolean);
+    return found.map(it => JSON.parse(it)).find(it => it.severity === 'error');
   }
 
   /** The part with the steps from one to another, or that before the end or the wait where that comes before. */

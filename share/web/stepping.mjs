@@ -2,6 +2,7 @@
 // memory at a step, in a frame. Where a step isn't in the part of the run that it has, another part is recorded.
 /* global page */
 import {$, element, say} from './dom.mjs';
+import {presented} from './fixes.mjs';
 import {NoSteps, ROWS, Recorder, Stopped, placeText, programText} from './recording.mjs';
 import {Stops} from './stops.mjs';
 import {t} from './words.mjs';
@@ -58,16 +59,16 @@ export class Walk {
   /** Steps through the program after so much input, from a position on; or shows the page of `b show` alone. */
   async begin({typed = '', isEnded = false, at = 1, why = '', isWhole = false}) {
     const {input, ends, ...of} = this.program();
-    this.close();
+    this.stop();
     while (this.isGoing) await new Promise(done => setTimeout(done));
-    Object.assign(this, {of, typed, why, isWhole, startsAt: at, values: {}, before: {}, at: null, part: null});
-    this.recorder = new Recorder(this.machine, {...of, input: input + typed,
-      isClosed: ends || isEnded || isWhole});
-    this.editor.unmarkStop();
-    this.say('');
+    const recorder = new Recorder(this.machine, {...of, input: input + typed, isClosed: ends || isEnded || isWhole});
     await this.working(async () => {
-      const part = await this.recorder.record(Math.max(1, at - ROWS / 2), isWhole ? ROWS : at + ROWS / 2);
-      this.isOpen = true;
+      const part = await recorder.record(Math.max(1, at - ROWS / 2), isWhole ? ROWS : at + ROWS / 2);
+      this.clear();
+      Object.assign(this, {of, typed, why, isWhole, recorder, isOpen: true, startsAt: at, at: null, part: null,
+        next: null, values: {}, before: {}});
+      this.editor.unmarkStop();
+      this.say('');
       document.body.classList.toggle('whole', isWhole);
       this.show('steps');
       await this.put(part, at);
@@ -76,7 +77,11 @@ export class Walk {
   }
 
   close() {
-    if (this.isGoing) this.machine.stop();
+    this.stop();
+    this.clear();
+  }
+
+  clear() {
     if (!this.isOpen) return;
     this.isOpen = false;
     this.unmark();
@@ -89,6 +94,7 @@ export class Walk {
 
   /** Stops a run for a step that is far. */
   stop() {
+    this.next = null;
     if (!this.isGoing) return false;
     this.machine.stop();
     return true;
@@ -110,19 +116,35 @@ export class Walk {
       await act();
     } catch (it) {
       if (it instanceof NoSteps && !this.isOpen) throw it;
-      if (this.isOpen && recorder === this.recorder) this.say(it instanceof Stopped ? t`Stopped.` : it.message);
+      if (this.isOpen && recorder === this.recorder) this.say(this.failure(it), 'bad');
     } finally {
       clearTimeout(timer);
       this.isGoing = false;
       this.busy(false);
     }
+    const {next} = this;
+    this.next = null;
+    if (next) await this.go(...next);
+  }
+
+  /** Why nothing new is shown: of a program without steps its first fault. */
+  failure(error) {
+    if (error instanceof Stopped) return t`Stopped.`;
+    if (!(error instanceof NoSteps)) return error.message;
+    const {fault} = error, why = fault && t`${fault.file}, line ${fault.line}: ${presented(fault, null).message}`;
+    return t`The older steps stay. ${why ?? error.message}.`;
   }
 
   // ---- Going to a position
 
-  /** Goes a way, so many times, or to a position. */
+  /** Goes a way, so many times, or to a position. What is chosen while it goes comes next: the last of it. */
   async go(way, times = 1) {
     if (!this.isOpen || this.isWhole || !way) return;
+    if (this.isGoing) {
+      if (way === 'first' || typeof way === 'number') this.stop();
+      this.next = [way, times];
+      return;
+    }
     await this.working(async () => {
       this.wanted = way;
       let position = this.at;
@@ -226,31 +248,44 @@ export class Walk {
 
   /** Says where the run stands, and marks it in the editor. */
   tell() {
-    const {part, at} = this, row = part.at(at), before = part.at(at - 1), isOld = this.isOld;
+    const {part, at} = this, row = part.at(at), before = part.at(at - 1), here = row ?? before, isOld = this.isOld;
     $('old').hidden = !isOld;
     $('step-number').value = at;
     this.unmark();
     const kind = row ? 'step-next' : part.isStopped ? 'step-stopped' : 'step-made';
-    const isMarked = !isOld && this.mark(row ?? before, kind, true);
+    const isMarked = !isOld && this.mark(here, kind, true);
     if (row && before && isMarked) this.mark(before, 'step-made', false);
+    const callers = isOld || isMarked || !here ? [] : part.callers(here);
+    const caller = callers.find(it => this.mark(it, 'step-call', true));
     if (this.isShown !== isMarked) {
       this.isShown = isMarked;
       if (this.frame?.id) this.draw();
     }
     const isWaiting = at === this.recorder.waits;
-    this.say(this.text(row, isWaiting));
+    this.say(this.text(row, caller, isWaiting));
     this.ask(isWaiting);
   }
 
-  text(row, isWaiting) {
-    if (!row) return this.part.sentence;
-    const {file, line} = this.part.place(row.line), where = t`line ${line} of ${file}, in ${row.name}`;
+  text(row, caller, isWaiting) {
+    if (!row) return `${this.of.name}: ${this.part.sentence}`;
+    const where = this.where(row, caller);
     if (isWaiting) return t`The program waits for input: step ${row.step}, ${where}.`;
     if (this.at === this.startsAt && this.why) return t`Before step ${row.step}, ${where}: ${this.why}.`;
     return t`Before step ${row.step}: ${where}.`;
   }
 
-  say(text) { $('step-said').textContent = text; }
+  /** The place of a row, and that in the editor which called its function, where its file isn't there. */
+  where(row, caller) {
+    const {file, line} = this.part.place(row.line), where = t`line ${line} of ${file}, in ${row.name}`;
+    if (!caller) return where;
+    const called = this.part.place(caller.line);
+    return t`${where}, called in line ${called.line} of ${called.file}`;
+  }
+
+  say(text, kind = '') {
+    $('step-said').className = kind;
+    $('step-said').textContent = text;
+  }
 
   /** Marks the line of a row in the editor, if its file is there. */
   mark(row, kind, isSeen) {
