@@ -1,10 +1,12 @@
 // The part of the page for a teacher: hand-ins are dropped, graded beside the page, and told as tables and pages.
 import {$, button, element, save} from './dom.mjs';
 import {zip} from './archive.mjs';
-import {Grading, passes, testsOf} from './exercises.mjs';
+import {dialog} from './dialogs.mjs';
+import {Grading, passes, sentence, testsOf} from './exercises.mjs';
 import {parsed} from './findings.mjs';
 import {studentsOf} from './handins.mjs';
-import {canvasOf, firstOf, moodleOf, mostFailed, pageOf, partOf, plainNames, pointsOf, tableOf} from './marks.mjs';
+import {canvasOf, firstOf, luckIn, moodleOf, mostFailed, pageOf, partOf, plainNames, pointsOf, tableOf, untaken}
+  from './marks.mjs';
 import {data, newMachine} from './state.mjs';
 import {t} from './words.mjs';
 
@@ -149,7 +151,13 @@ class Classroom {
     const text = t`Drop the hand-ins here: archives and folders, as students, Moodle or Canvas name them.`;
     return element('div', {className: 'drop'}, element('p', {}, text, ' ', t`They stay on this device.`),
       element('p', {className: 'row'}, button(t`Choose files ..`, () => files.click()),
-        button(t`Choose a folder ..`, () => folder.click()), button(t`Begin anew`, () => this.clear())), files, folder);
+        button(t`Choose a folder ..`, () => folder.click()), button(t`Begin anew`, () => this.beginAnew())),
+      files, folder);
+  }
+
+  async beginAnew() {
+    const text = t`This takes the table and the hand-ins off the page.`;
+    if (!this.entries.length || await dialog(t`Begin anew`, t`Begin anew`, element('p', {}, text))) await this.clear();
   }
 
   async clear() {
@@ -307,7 +315,8 @@ class Classroom {
     if (graded.isMissing && isUnread) return element('td', {title: t`it may be in what isn't read`}, '?');
     if (graded.isMissing) return element('td', {title: t`nothing is handed in`}, '\u2013');
     if (graded.refused) return element('td', {className: 'bad', title: graded.refused}, t`not taken`);
-    const passed = graded.results.filter(passes).length;
+    const passed = graded.results.filter(passes).length, luck = luckIn(graded);
+    if (luck) return element('td', {className: 'some', title: sentence(luck)}, `${passed}/${of} `, t`luck`);
     return element('td', {className: passed === of ? 'good' : passed ? 'some' : 'bad'}, `${passed}/${of}`);
   }
 
@@ -322,7 +331,7 @@ class Classroom {
   showStudent(row, isAsked = false) {
     this.shown = row;
     this.parts.student.replaceChildren(...row ? [element('h3', {}, row.label),
-      ...row.student.unread.map(it => element('p', {className: 'bad'}, `${it}.`)),
+      ...untaken(row, this.exercises).map(it => element('p', {className: 'bad'}, `${it}.`)),
       ...this.exercises.flatMap(it => this.partOf(row, it))] : []);
     if (!isAsked) return;
     this.parts.student.scrollTop = 0;

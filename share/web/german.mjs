@@ -197,6 +197,8 @@ export const german = {
   "The counts of {0}": "Die Zahlen von {0}",
   "The file has a folder of this name with:": "Die Datei hat einen Ordner dieses Namens mit:",
   "The first 1000 steps": "Die ersten 1000 Schritte",
+  "This takes the table and the hand-ins off the page.":
+    "Das nimmt die Tabelle und die Abgaben von der Seite.",
   "The hand-ins are read ..": "Die Abgaben werden gelesen ..",
   "The hand-ins can't be read: {0}": "Die Abgaben lassen sich nicht lesen: {0}",
   "The input ends after it, and no more is asked for": "Danach endet die Eingabe, und mehr wird nicht erfragt",
@@ -307,6 +309,7 @@ export const german = {
   "not graded yet": "noch nicht bewertet",
   "not taken": "nicht angenommen",
   "not taken: {0}": "nicht angenommen: {0}",
+  "luck": "Glück",
   "nothing is handed in": "nichts ist abgegeben",
   "nothing is handed in of {0}": "von {0} ist nichts abgegeben",
   "nowhere": "nirgends",
@@ -350,6 +353,8 @@ export const german = {
   "{0} isn't opened: {1}.": "{0} wird nicht geöffnet: {1}.",
   "{0} isn't read: its exercise isn't chosen yet": "{0} wird nicht gelesen: ihre Aufgabe ist noch nicht gewählt",
   "{0} isn't read: {1}": "{0} wird nicht gelesen: {1}",
+  "{0} isn't taken: its name doesn't end in .b":
+    "{0} wird nicht angenommen: der Name endet nicht auf .b",
   "{0} isn't taken: {1}.": "{0} wird nicht angenommen: {1}.",
   "{0} more": "{0} weitere",
   "{0} of 1 test passed.": "{0} von 1 Test bestanden.",

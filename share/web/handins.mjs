@@ -82,9 +82,14 @@ class Reading {
   /** What lies at the top of an archive, with all that is in it. */
   async itemsOf(blob, depth) {
     const top = {items: []}, folders = new Map([['', top]]);
-    for (const file of await filesOf(blob)) {
+    for (const file of await filesOf(blob, true)) {
       const parts = file.name.split('/'), name = parts.at(-1).slice(-MOST_NAME);
       const isDeep = depth + parts.length > MOST_DEPTH || parts.some(it => it.length > MOST_NAME);
+      if (file.isFolder) {
+        this.counted();
+        if (!isDeep && !parts.includes('..')) folderIn(folders, parts);
+        continue;
+      }
       if (isDeep) file.fault = t`its name leads out of the archive, or too deep into it`;
       const folder = folderIn(folders, isDeep ? ['..'] : parts.slice(0, -1));
       folder.items.push(await this.item(name, file, depth + parts.length));
@@ -141,6 +146,9 @@ class Student {
     if (this.isFile && !this.exercise) return [t`${this.files[0].path} isn't read: its exercise isn't chosen yet`];
     return this.files.filter(it => it.why && !isSource(it.path)).map(it => t`${it.path} isn't read: ${it.why}`);
   }
+
+  /** The names of files of another kind, such as power.docx. */
+  get others() { return this.files.filter(it => !it.why && !isSource(it.path)).map(it => baseOf(it.path)); }
 }
 
 function worksIn(item, exercises) {
@@ -202,6 +210,13 @@ async function dropped(reading, entry, depth = 0) {
   return {name: entry.name.normalize('NFC'), items};
 }
 
+/** Students by their names, without marks on letters, and those of one name by their numbers. */
+function inOrder(students) {
+  const plain = name => name.normalize('NFD').replace(/\p{M}/gu, '').toLowerCase();
+  const keyed = students.map(it => ({name: plain(it.name), number: Number(it.number), it}));
+  return keyed.sort((a, b) => byName(a, b) || a.number - b.number).map(({it}) => it);
+}
+
 /** The students of what was dropped: entries with a name and a file, or with `entries()`, which gives those within. */
 export async function studentsOf(entries, exercises) {
   const items = [], students = new Map();
@@ -213,5 +228,5 @@ export async function studentsOf(entries, exercises) {
     }
   }
   putStudents(students, withinAlone(items.sort(byName), exercises), exercises);
-  return [...students.values()];
+  return inOrder([...students.values()]);
 }

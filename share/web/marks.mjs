@@ -10,7 +10,7 @@ const MOST_LINES = 400; // of a source on a page
 export function plainNames(names) {
   const taken = new Set();
   return names.map(name => {
-    const some = [...name].map(it => /[\p{L}\p{N}_. -]/u.test(it) ? it : '_').slice(0, 60).join('');
+    const some = [...name].map(it => /[\p{L}\p{N}_. '\u2019-]/u.test(it) ? it : '_').slice(0, 60).join('');
     const plain = some.replace(/^[ .]+|[ .]+$/g, '').replace(/^[-_. ]*$|^-/, '_');
     let own = plain;
     for (let k = 2; taken.has(own.toLowerCase()); k++) own = `${plain}-${k}`;
@@ -31,16 +31,43 @@ export function pointsOf({works, student}, exercises) {
 /** What came of a test that failed, in a sentence. */
 export const why = (it, {finding}) => it.result === 'fault' && finding ? finding : sentence(it);
 
+/** The first test that is right by luck. */
+export const luckIn = graded => graded?.results?.find(it => it.result === 'luck');
+
 /** What a student should know first. */
-export function firstOf({works, student}, exercises) {
-  const {unread} = student, graded = exercises.map(it => [it.name, works.get(it.name)]);
-  const missing = graded.filter(([, it]) => it?.isMissing).map(([name]) => name);
-  const found = graded.find(([, it]) => it?.refused || it?.finding), told = found?.[1];
+export function firstOf(row, exercises) {
+  const {unread} = row.student;
   if (unread.length) return t`not taken: ${unread[0]}`;
-  if (told) return `${found[0]}: ${told.refused ? t`not taken: ${told.refused}` : told.finding}`;
-  if (missing.length === exercises.length) return t`nothing is handed in`;
-  return missing.length ? t`nothing is handed in of ${missing.join(', ')}` : '';
+  for (const {name} of exercises) {
+    const graded = row.works.get(name), luck = luckIn(graded);
+    if (graded?.refused) return `${name}: ${t`not taken: ${graded.refused}`}`;
+    if (graded?.finding || luck) return `${name}: ${graded.finding ?? sentence(luck)}`;
+  }
+  return lackOf(row, exercises);
 }
+
+const missingOf = ({works}, exercises) => exercises.filter(it => works.get(it.name)?.isMissing).map(it => it.name);
+
+/** What a student didn't hand in, and what isn't taken in its place. */
+function lackOf(row, exercises) {
+  const missing = missingOf(row, exercises), isAll = missing.length === exercises.length;
+  if (row.student.unread.length || !missing.length && !isAll) return '';
+  const lack = isAll ? t`nothing is handed in` : t`nothing is handed in of ${missing.join(', ')}`;
+  return [lack, ...othersOf(row, exercises)].join('; ');
+}
+
+/** A file of another kind, such as power.docx, where something isn't handed in. */
+function othersOf(row, exercises) {
+  const [name] = row.student.others, isWhole = exercises.length && !missingOf(row, exercises).length;
+  return name && !isWhole ? [t`${name} isn't taken: its name doesn't end in .b`] : [];
+}
+
+/** What of all that a student hands in isn't read or taken. */
+export const untaken = (row, exercises) => [...row.student.unread, ...othersOf(row, exercises)];
+
+/** What came of the tests that failed: a fault of the source once, and not for each test. */
+const failuresOf = graded => [...new Set(graded.results.filter(it => it.result !== 'ok').map(it =>
+  it.result === 'fault' && graded.finding ? graded.finding : `${it.test.name}: ${why(it, graded)}`))];
 
 /** The tests that failed most often, each with the sentence that comes most often. */
 export function mostFailed(rows, exercises, most) {
@@ -63,16 +90,22 @@ export function mostFailed(rows, exercises, most) {
   return rowsOf.map(it => ({...it, why: [...it.whys].sort((a, b) => b[1] - a[1])[0][0]}));
 }
 
-const field = it => /[",\r\n]/.test(`${it}`) ? `"${`${it}`.replaceAll('"', '""')}"` : `${it}`;
+/** A field of a table. A text that a spreadsheet would reckon as a formula has an apostrophe before it. */
+function field(it) {
+  const text = typeof it === 'string' && /^[=+@\t\r-]./s.test(it) && isNaN(it) ? `'${it}` : `${it}`;
+  return /[",\r\n]/.test(text) ? `"${text.replaceAll('"', '""')}"` : text;
+}
+
 const csv = rows => rows.map(row => `${row.map(field).join(',')}\r\n`).join('');
 
-/** The table that class/grade writes. */
+/** The table that class/grade writes, with a mark of UTF-8, which spreadsheets need. */
 export function tableOf(rows, exercises) {
-  const head = ['name', 'passed', 'of', 'first finding', ...exercises.map(it => `${it.name} (${testsOf(it).length})`)];
-  return csv([head, ...rows.map(row => {
+  const ids = rows.some(it => it.student.number) ? it => [it] : () => [];
+  const tests = exercises.map(it => `${it.name} (${testsOf(it).length})`);
+  return `\ufeff${csv([['name', ...ids('id'), 'passed', 'of', 'first finding', ...tests], ...rows.map(row => {
     const {each, passed, of} = pointsOf(row, exercises);
-    return [row.label, passed, of, firstOf(row, exercises), ...each];
-  })]);
+    return [row.label, ...ids(row.student.number), passed, of, firstOf(row, exercises), ...each];
+  })])}`;
 }
 
 /** The points of a student for a course, of so many: none where they aren't whole. */
@@ -84,28 +117,26 @@ function gradeOf(row, exercises, most) {
 
 function commentOf(row, exercises) {
   const lines = exercises.flatMap(({name}) => {
-    const graded = row.works.get(name), failed = graded?.results?.filter(it => it.result !== 'ok') ?? [];
+    const graded = row.works.get(name);
     if (!graded?.results) return graded?.refused ? [`${name}: ${t`not taken: ${graded.refused}`}`] : [];
     const head = t`${name}: ${graded.results.filter(passes).length} of ${graded.results.length} tests passed`;
-    return [head, ...failed.slice(0, 3).map(it => `${it.test.name}: ${why(it, graded)}`)];
+    return [head, ...failuresOf(graded).slice(0, 3)];
   });
-  return [...row.student.unread, ...lines].join('; ').slice(0, MOST_COMMENT);
+  return [...row.student.unread, ...lines, lackOf(row, exercises)].filter(Boolean).join('; ').slice(0, MOST_COMMENT);
 }
-
-const nameOf = ({student}) => plainNames([student.name])[0];
 
 /** What Moodle takes by `Upload grading worksheet` of an assignment: it knows a student by the number alone. */
 export function moodleOf(rows, exercises, most) {
   const head = ['Identifier', 'Full name', 'Grade', 'Maximum grade', 'Last modified (grade)', 'Feedback comments'];
-  const own = rows.filter(it => it.student.by === 'moodle').map(it => [`Participant ${it.student.number}`, nameOf(it),
-    gradeOf(it, exercises, most), most, '-', commentOf(it, exercises)]);
+  const own = rows.filter(it => it.student.by === 'moodle').map(it => [`Participant ${it.student.number}`,
+    it.student.name, gradeOf(it, exercises, most), most, '-', commentOf(it, exercises)]);
   return csv([head, ...own]);
 }
 
 /** What the Gradebook of Canvas takes by `Import`: the number of the student is the ID, and a title the last column. */
 export function canvasOf(rows, exercises, most) {
   const head = ['Student', 'ID', 'SIS User ID', 'SIS Login ID', 'Section', t`Exercises in B`];
-  const own = rows.filter(it => it.student.by === 'canvas').map(it => [nameOf(it), it.student.number, '', '', '',
+  const own = rows.filter(it => it.student.by === 'canvas').map(it => [it.student.name, it.student.number, '', '', '',
     gradeOf(it, exercises, most)]);
   return csv([head, ['    Points Possible', '', '', '', '', most], ...own]);
 }
@@ -128,8 +159,7 @@ export function partOf(graded, exercise) {
   if (!graded) return {head, told: [t`This isn't graded yet.`], lines: []};
   if (graded.isMissing) return {head, told: [t`Nothing is handed in.`], lines: []};
   if (graded.refused) return {head, told: [t`This hand-in isn't taken: ${graded.refused}.`], lines: []};
-  const failed = results.filter(it => it.result !== 'ok').map(it => `${it.test.name}: ${why(it, graded)}`);
-  const told = [...new Set([graded.note, graded.finding, ...failed].filter(Boolean))];
+  const told = [...new Set([graded.note, graded.finding, ...failuresOf(graded)].filter(Boolean))];
   const marked = linesOf(graded, `${name}.b`);
   const lines = graded.source.split('\n').slice(0, MOST_LINES).map((text, k) => ({text, isMarked: marked.has(k + 1)}));
   return {head, told, lines};
@@ -147,7 +177,7 @@ export function pageOf(row, exercises) {
     return `<section><h2>${escaped(head)}</h2>${list}${pre}</section>\n`;
   });
   const {passed, of} = pointsOf(row, exercises), name = escaped(row.label);
-  const unread = row.student.unread.map(it => `<p>${escaped(it)}.</p>\n`).join('');
+  const unread = untaken(row, exercises).map(it => `<p>${escaped(it)}.</p>\n`).join('');
   return `<!doctype html>\n<html lang="${language}"><meta charset="utf-8"><title>${name}</title>\n`
     + `<style>\n${STYLE}\n</style>\n<h1>${name}</h1>\n`
     + `<p>${escaped(t`${passed} of ${of} points`)}</p>\n${unread}${sections.join('')}</html>\n`;

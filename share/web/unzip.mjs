@@ -130,10 +130,11 @@ export const isZip = name => /\.zip$/i.test(name);
 export const isAdded = name => MADE_BY_SYSTEMS.test(name);
 
 /**
- * The files of an archive, without its folders: each has a `name`, which is its path there, a `size`, and what it holds
- * by `arrayBuffer()` or `bytes(most)`. These throw where the file can't be read, and this one where the archive can't.
+ * The files of an archive, and its folders where they are asked for: each has a `name`, which is its path there, a
+ * `size`, and what it holds by `arrayBuffer()` or `bytes(most)`. These throw where the file can't be read, and this one
+ * where the archive can't.
  */
-export async function filesOf(blob) {
+export async function filesOf(blob, hasFolders = false) {
   const {index, before} = await indexOf(blob), all = [...entriesOf(index)].map(it => new Packed(blob, before, it));
-  return all.filter(it => !it.isFolder && !it.isAdded);
+  return all.filter(it => it.name && !it.isAdded && (hasFolders || !it.isFolder));
 }
