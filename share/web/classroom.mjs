@@ -129,7 +129,7 @@ class Classroom {
     box.append(element('div', {className: 'bar'}, button(t`Back to the program`, closeClass),
       element('h2', {}, t`Grade a class`), this.said, this.bar, this.stopper));
     const left = element('div', {}, this.dropped(), options, table, failed);
-    box.append(element('div', {className: 'class'}, left, student));
+    box.append(element('div', {className: 'class alone'}, left, student));
     this.say(t`Nothing is handed in here yet.`);
   }
 
@@ -330,6 +330,7 @@ class Classroom {
   /** The page of a student. */
   showStudent(row, isAsked = false) {
     this.shown = row;
+    this.parts.student.parentElement.classList.toggle('alone', !row);
     this.parts.student.replaceChildren(...row ? [element('h3', {}, row.label),
       ...untaken(row, this.exercises).map(it => element('p', {className: 'bad'}, `${it}.`)),
       ...this.exercises.flatMap(it => this.partOf(row, it))] : []);
