@@ -34,14 +34,14 @@ class Browser:
         self.command("open", {"url": url})
 
     def run(self, script, *arguments):
-        """The answer of a script in the page, which may wait."""
+        """The answer of a script in the page, which may wait; None where the page went away meanwhile."""
         text = ("const done = arguments[arguments.length - 1]; "
                 f"(async (...given) => {{ {script} }})(...[...arguments].slice(0, -1)).then("
                 "it => done({value: it === undefined ? null : it}), it => done({error: `${it}\n${it.stack ?? ''}`}))")
         answer = self.command("run", {"script": text, "args": list(arguments)})
-        if "error" in answer:
+        if answer and "error" in answer:
             raise AssertionError(f"{self.name}: {answer['error']}")
-        return answer["value"]
+        return answer["value"] if answer else None
 
     def until(self, script, *arguments, seconds=SECONDS):
         end = time.monotonic() + seconds
