@@ -8,7 +8,7 @@ use Rattle.blang.specs.declared.status.TheConstants.{MEMORY}
 use Rattle.bcommand.specs.CommandLine.{Asked, ask, asked_in, check_by, compile, contradiction, fault_in, find, go}
 use Rattle.bcommand.specs.CommandLine.{locate_code, migrate, run, verify}
 use Rattle.bcore.specs.CoreJobs.{AnswersCore, DoesCore}
-use Rattle.bcore.specs.Processes.{AnswersWords, KnownStreams, Performed, PerformsTask, ServesProcess}
+use Rattle.bcore.specs.Processes.{AnswersWords}
 use Rattle.bcore.specs.Serves.{Does, SaysNothing, Serves, ToolsDo, did, no_memory, refused}
 use Rattle.bcore.specs.Shelves.{Holdings}
 
@@ -29,24 +29,9 @@ of_no_fault : (k : ErrorKind) (faults : List ErrorKind) → IsAmong k faults →
 of_no_fault k [] among none = among
 of_no_fault k (x ∷ xs) among none = cc
 
-words_done : (tools : ToolsDo) (shelf : Holdings) (words : Option (List Text)) (ends : RunEnds) (status : ℕ)
+pub words_done : (tools : ToolsDo) (shelf : Holdings) (words : Option (List Text)) (ends : RunEnds) (status : ℕ)
     → AnswersWords tools shelf words ends status → AnswersCore shelf words ends status
 words_done tools shelf None ends status answers = tt
 words_done tools shelf (Some words) ends status (did right does) = λ none. inl (core_done tools shelf (asked_in words) ends status does)
 words_done tools shelf (Some words) ends status (refused k among refuses) = λ none. absurd (of_no_fault k (fault_in words) among none)
 words_done tools shelf (Some words) ends status (no_memory silent) = λ none. inr silent
-
--- the same of a process
-pub core_answered : (tools : ToolsDo) (shelf : Holdings) (words : Option (List Text)) (shown : Type 0) (known : KnownStreams) (status : ℕ)
-    → ServesProcess tools shelf words shown known status → PerformsTask (AnswersCore shelf words) shown known status
-core_answered tools shelf words shown known status (inl it) = inl (record {
-  ends = it.ends;
-  told = it.told;
-  input = it.input;
-  out = it.out;
-  line = it.line;
-  line_after = it.line_after;
-  did = words_done tools shelf words it.ends it.told it.did;
-  status_is = it.status_is;
-})
-core_answered tools shelf words shown known status (inr silent) = inr silent

@@ -44,8 +44,3 @@ pub record Performed (does : RunEnds → ℕ → Type 0) (shown : Type 0) (known
 abbrev pub PerformsTask : (does : RunEnds → ℕ → Type 0) → (shown : Type 0) → KnownStreams → ℕ → Type 0
 PerformsTask does shown known status =
     Performed does shown known status ⊎ (known.line_after ≡ known.line) × (status ≡ MEMORY)
-
--- the words of a process were served over these files, or memory for its streams was refused
-abbrev pub ServesProcess : ToolsDo → Holdings → Option (List Text) → (shown : Type 0) → KnownStreams → ℕ → Type 0
-ServesProcess tools files words shown known status =
-    PerformsTask (AnswersWords tools files words) shown known status

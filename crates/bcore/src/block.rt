@@ -11,39 +11,39 @@ use std::marker::Model;
 // The bytes of output that are written at once.
 const BLOCK_LEN: usize = 8192;
 
-// What keeps bytes back until they are shown.
-//
-// No contract knows what is in a cell. So what shares a buffer through a cell is generic over it: that a buffer took
-// some bytes, or showed them, can then only come from a call of its own.
-pub(crate) trait Buffered {
-    // What a call does that takes all of these bytes.
+/// What keeps bytes back until they are shown.
+///
+/// No contract knows what is in a cell. So what shares a buffer through a cell is generic over it: that a buffer took
+/// some bytes, or showed them, can then only come from a call of its own.
+pub trait Buffered {
+    /// What a call does that takes all of these bytes.
     ghost takes: { Self → List ℕ → Self → Type 0 };
 
-    // What a call does that shows all that was kept.
+    /// What a call does that shows all that was kept.
     ghost shows: { Self → Self → Type 0 };
 
-    // Takes bytes, and shows some where it can't keep them.
+    /// Takes bytes, and shows some where it can't keep them.
     fn take(&mut self, bytes: &[u8]) -> io::Result<()>
         ensures takes { OnOk result (takes self.old bytes.now self.new) };
 
-    // Shows what is kept. What can't be shown isn't tried again.
+    /// Shows what is kept. What can't be shown isn't tried again.
     fn show(&mut self) -> io::Result<()>
         ensures shows { OnOk result (shows self.old self.new) };
 }
 
-// A buffer of which its writer is left in the end.
-pub(crate) trait Finish<W> {
-    // What a call does that shows all that was kept.
+/// A buffer of which its writer is left in the end.
+pub trait Finish<W> {
+    /// What a call does that shows all that was kept.
     ghost finishes: { Self → W → Type 0 };
 
-    // Shows what is kept, for the last time: no buffer is left that could take more.
+    /// Shows what is kept, for the last time: no buffer is left that could take more.
     fn finish(self) -> io::Result<W>
         ensures finishes { IfOk result (finishes self) };
 }
 
-// A buffer of fixed length. Where that is 0, each piece is shown at once.
+/// A buffer of 8192 bytes, or of none, which shows each piece at once.
 #[derive(Drop)]
-pub(crate) struct Block<W: Write + Drop> {
+pub struct Block<W: Write + Drop> {
     writer: W,
     bytes: Vec<u8>,
     filled: usize,
@@ -65,7 +65,8 @@ impl<W: Write + Drop> Model for Block<W> {
 }
 
 impl<W: Write + Drop> Block<W> {
-    pub(crate) fn new(alloc: Global, writer: W, at_once: bool) -> Result<Self, AllocError>
+    /// A buffer before a writer, which keeps nothing yet, and where it shows all at once never does.
+    pub fn new(alloc: Global, writer: W, at_once: bool) -> Result<Self, AllocError>
         ensures { IfOk result (λ block. block ≡ record {
           shown = W.contents writer;
           kept = [];

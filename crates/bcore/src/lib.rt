@@ -8,7 +8,10 @@ mod shelf;
 mod sources;
 mod tools;
 
-pub use process::{Served, Streams, serve_host, serve_process};
+pub use block::{Block, Buffered, Finish};
+pub use process::{
+    Answering, Output, Served, Streams, Task, core_is_answered, serve_host, serve_process,
+};
 pub use serving::{name_file, refuse_words, serve, serve_with};
 pub use shelf::{FileFault, MemFile, Shelf, SystemFiles};
 pub use sources::{NamedFault, Unread, Whole, read_source};

@@ -1,13 +1,14 @@
 //! The streams of a process, kept in order: what was written is shown before more input is fetched, and before a line
 //! is written beside it.
-ghost use Rattle.std.specs.Prelude.{◌≡◌, ◌≢◌, ℕ, IfOk, None, OnOk, length, map as map_each, option_map, string_bytes};
+ghost use Rattle.std.specs.Prelude.{◌≡◌, ℕ, IfOk, List, None, OnOk, Option, length, map as map_each, option_map, string_bytes};
 ghost use Rattle.std.specs.Io.{ReadsAtMost, WritesAtMost};
 ghost use Rattle.std.specs.Io.KnownBytes.{Keeps, ReadConsumes, WriteAppends};
 ghost use Rattle.blang.specs.Reports.{RunEnds, run_ends};
 ghost use Rattle.bcore.specs.Blocks.{WasFinished, WasShown, WasTaken};
 ghost use Rattle.bcore.specs.CoreJobs.{AnswersCore};
-ghost use Rattle.bcore.specs.Processes.{AnswersWords, PerformsTask, ServesProcess};
+ghost use Rattle.bcore.specs.Processes.{AnswersWords, PerformsTask};
 ghost use Rattle.bcore.specs.Shelves.{opened};
+ghost use Rattle.clap.specs.Words.{Text};
 
 use crate::block::{Block, Buffered, Finish};
 use crate::serving::{refuse_words, serve};
@@ -21,15 +22,13 @@ use std::io::{self, BufReader, ErrorKind, IsTerminal, Read, Write};
 use std::process::ExitCode;
 use std::rt::Files;
 
-/// What a process reads and writes.
+/// What a process reads and writes. Its output goes through a buffer, which shows it to a writer.
 #[derive(Drop)]
-pub struct Streams<I: Read + Drop, O: Write + Drop, D: Write + Drop> {
+pub struct Streams<I: Read + Drop, B: Buffered + Drop, D: Write + Drop> {
     pub input: I,
-    pub output: O,
+    pub output: B,
     /// Gets the lines of faults, traps and wrong command lines.
     pub diag: D,
-    /// Whether each piece of output is shown at once.
-    pub at_once: bool,
 }
 
 /// The status of a process, and its writers as they were left.
@@ -41,90 +40,25 @@ pub struct Served<O: Write + Drop, D: Write + Drop> {
     pub diag: D,
 }
 
-/// Does what the words of a command line ask for. Without words it refuses the command line. When it returns, all of
-/// the output was shown, or the status is that of a failed write.
-pub fn serve_process<T, R, I, O, D>(
-    tools: &T,
-    rt: &R,
-    words: Option<Vec<String>>,
-    streams: Streams<I, O, D>,
-) -> Served<O, D>
-where
-    T: Tools,
-    R: AllocGlobal + Files,
-    I: Read + Drop,
-    O: Write + Drop,
-    D: Write + Drop,
-    ensures serves { ServesProcess T.answers (opened R.File.remaining)
-        (option_map (λ v. map_each string_bytes v.items) words) (result.output ≢ None) (record {
-          input = I.remaining streams.input;
-          line = D.contents streams.diag;
-          line_after = D.contents result.diag;
-        }) result.status }
-    ensures core { PerformsTask (AnswersCore (opened R.File.remaining)
-        (option_map (λ v. map_each string_bytes v.items) words)) (result.output ≢ None) (record {
-          input = I.remaining streams.input;
-          line = D.contents streams.diag;
-          line_after = D.contents result.diag;
-        }) result.status }
-{
-    serve_streams(tools, rt, words, streams)
-}
-
-// Serves the words, by the one clause that says it of all jobs: `core` follows from it.
-fn serve_streams<T, R, I, O, D>(
-    tools: &T,
-    rt: &R,
-    words: Option<Vec<String>>,
-    streams: Streams<I, O, D>,
-) -> Served<O, D>
-where
-    T: Tools,
-    R: AllocGlobal + Files,
-    I: Read + Drop,
-    O: Write + Drop,
-    D: Write + Drop,
-    ensures serves { ServesProcess T.answers (opened R.File.remaining)
-        (option_map (λ v. map_each string_bytes v.items) words) (result.output ≢ None) (record {
-          input = I.remaining streams.input;
-          line = D.contents streams.diag;
-          line_after = D.contents result.diag;
-        }) result.status }
-{
-    let Streams {
-        input,
-        output,
-        diag,
-        at_once,
-    } = streams;
-    let alloc = rt.alloc();
-    match Block::new(alloc, output, at_once) {
-        Ok(block) => {
-            let task = Answering { tools, rt, words };
-            perform_task(alloc, task, Output::new(block), input, diag)
-        }
-        Err(_) => Served {
-            status: status::MEMORY,
-            output: None,
-            diag,
-        },
-    }
-}
-
-/// Answers the words of the process that runs on this system, over its own streams.
+/// Answers the words of the process that runs on this system, over its own streams. Output to a terminal is shown at
+/// once.
 pub fn serve_host<T: Tools>(tools: &T, rt: &HostRuntime) -> ExitCode {
     let words = match words(rt) {
         Ok(words) => Some(words),
         Err(error) if error.kind() == ErrorKind::InvalidData => None,
         Err(_) => return ExitCode::from(status::MEMORY),
     };
+    let alloc = rt.alloc();
+    let Ok(output) = Block::new(alloc, rt.stdout(), rt.stdout().is_terminal()) else {
+        return ExitCode::from(status::MEMORY);
+    };
     let streams = Streams {
         input: rt.stdin(),
-        output: rt.stdout(),
+        output,
         diag: rt.stderr(),
-        at_once: rt.stdout().is_terminal(),
     };
-    ExitCode::from(serve_process(tools, rt, words, streams).status)
+    let task = Answering { tools, rt, words };
+    ExitCode::from(serve_process(alloc, task, streams).status)
 }
 
 // The words of the command line, where all are UTF-8.
@@ -132,12 +66,13 @@ fn words(rt: &HostRuntime) -> io::Result<Vec<String>> {
     Ok(env::args(rt)?.collect::<Vec<String>>(rt.alloc())?)
 }
 
-// What is done over the ends of a process. As with a buffer, that it was done can only come from a call. What it
-// writes goes to a buffer of this type, and only the caller of `perform_task` has one.
-trait Task<B: Buffered + Drop> {
-    // What it does to the ends, with its status.
+/// What is done over the ends of a process. As with a buffer, that it was done can only come from a call. What it
+/// writes goes to a buffer of this type, and only the caller of `serve_process` has one.
+pub trait Task<B: Buffered + Drop> {
+    /// What it does to the ends, with its status.
     ghost does: { Self → RunEnds → ℕ → Type 0 };
 
+    /// Does it.
     fn perform<I: ByteIn, D: ByteOut>(
         self,
         input: &mut I,
@@ -149,12 +84,13 @@ trait Task<B: Buffered + Drop> {
             (D.outgoing diag.old) (D.outgoing diag.new)) result };
 }
 
-// Answering the words of a process.
+/// The task to do what the words of a command line ask for. Without words it refuses the command line.
 #[derive(Drop)]
-struct Answering<'a, T, R> {
-    tools: &'a T,
-    rt: &'a R,
-    words: Option<Vec<String>>,
+pub struct Answering<'a, T, R> {
+    pub tools: &'a T,
+    pub rt: &'a R,
+    /// None where a word isn't UTF-8.
+    pub words: Option<Vec<String>>,
 }
 
 impl<T: Tools, R: AllocGlobal + Files, B: Buffered + Drop> Task<B> for Answering<'_, T, R> {
@@ -175,13 +111,19 @@ impl<T: Tools, R: AllocGlobal + Files, B: Buffered + Drop> Task<B> for Answering
     }
 }
 
-// Performs a task over the streams of a process, and then shows what is held of the output.
-fn perform_task<T, B, I, O, D>(
+/// What is done for words that ask to compile or to run, whatever the tools are.
+pub fn core_is_answered<T: Tools, R: Files>(_tools: &T, _rt: &R)
+    ensures core { (words : Option (List Text)) (ends : RunEnds) (status : ℕ)
+        → AnswersWords T.answers (opened R.File.remaining) words ends status
+        → AnswersCore (opened R.File.remaining) words ends status }
+{}
+
+/// Performs a task over the streams of a process, and then shows what is held of the output. When it returns, all of
+/// the output was shown, or the status is that of a failed write.
+pub fn serve_process<T, B, I, O, D>(
     alloc: Global,
     task: T,
-    output: Output<B>,
-    input: I,
-    diag: D,
+    streams: Streams<I, B, D>,
 ) -> Served<O, D>
 where
     T: Task<B> + Drop,
@@ -190,11 +132,17 @@ where
     O: Write + Drop,
     D: Write + Drop,
     ensures performs { PerformsTask (T.does task) (WasFinished B.finishes result.output) (record {
-      input = I.remaining input;
-      line = D.contents diag;
+      input = I.remaining streams.input;
+      line = D.contents streams.diag;
       line_after = D.contents result.diag;
     }) result.status }
 {
+    let Streams {
+        input,
+        output,
+        diag,
+    } = streams;
+    let output = Output::new(output);
     let asking = ReadAfterOutput {
         reader: input,
         output: &output,
@@ -233,9 +181,9 @@ where
     }
 }
 
-// Output that streams share.
+/// Output that streams share.
 #[derive(Drop)]
-struct Output<B: Buffered + Drop> {
+pub struct Output<B: Buffered + Drop> {
     buffer: RefCell<B>,
 }
 

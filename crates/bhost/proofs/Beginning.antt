@@ -13,10 +13,10 @@ use Rattle.blang.specs.declared.run.Outcome.TheVariants as outcome
 use Rattle.blang.specs.declared.run.Trap.TheVariants as trap
 use Rattle.blang.specs.Layout.{Shape, World, address_in, addresses, data_end, defined_names, duplicate_after, first_some, first_undefined, first_world, is_main, label_count, load_fault, names_in, refusal, shape_of, some_if, spot_after, spots_after, store_words}
 use Rattle.blang.specs.Machine.{Image, Loaded, image_of, loaded_at, machine_started, main_begun}
-use Rattle.blang.specs.Reports.{state_outcome}
+use Rattle.blang.specs.Reports.{Shows, state_outcome}
 use Rattle.bmach.specs.Resolved.{IsLoadedFrom, resolved_function}
-use Rattle.bmach.specs.Stepping.{HasEnd}
-use Rattle.bsession.specs.Sessions.{StartsNot}
+use Rattle.bmach.specs.Stepping.{BeginsNot, HasEnd, ShowsFirst}
+use Rattle.bsession.specs.Sessions.{BeginsSession, SessionView}
 use Rattle.bhost.specs.Deeds.{LacksRoom}
 
 no_fault : (a b c : Option LoadFault) (m : Bool) → first_some (a ∷ b ∷ c ∷ some_if (not m) fault.NoMain ∷ []) ≡ None → m ≡ true
@@ -75,8 +75,12 @@ over_for_room image (Some f) w why some end is = ⊎_elim
     (room_of (image.data_end + f.frame))
 
 -- why a run that has a main function doesn't begin
-pub lacks_room : (image : Image) (why : Outcome) → IsSome image.main → StartsNot image why → LacksRoom why
-lacks_room image why some (inl memory) = inl memory
-lacks_room image why some (inr (inl refused)) = inl refused.0
-lacks_room image why some (inr (inr over)) =
+pub lacks_room : (image : Image) (why : Outcome) → IsSome image.main → BeginsNot image why → LacksRoom why
+lacks_room image why some (inl refused) = inl refused.0
+lacks_room image why some (inr over) =
     inr (over_for_room image image.main (first_world image []) why some over.0 (over.1 []).outcome)
+
+-- a session that has begun has a first step
+pub goes_first : (image : Image) (h : SessionView) → BeginsSession image h → ShowsFirst image outcome.Limit
+goes_first image h begins input =
+    subst (Shows outcome.Limit input []) (sym (begins.unstarted.first input)) (record { outcome = refl; left = refl; written = refl })

@@ -1,4 +1,5 @@
 pub mod Hosting
+pub mod FindingFunctions
 pub mod Refusing
 pub mod Boxes
 pub mod Loading

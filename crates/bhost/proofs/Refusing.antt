@@ -1,5 +1,5 @@
 -- Bytes that weren't fed for want of memory, as no bytes were fed: they were refused, or the input was closed.
-use Rattle.std.proofs.Common.{◌∙◌, ℕ, List, [], Option, Some, None, ap, refl}
+use Rattle.std.proofs.Common.{◌∙◌, ◌≢◌, ℕ, List, [], Option, Some, None, ap, refl}
 use Rattle.std.specs.Prelude.{⊤}
 use Rattle.std.proofs.lemmas.List.{append-nil}
 use Rattle.bsession.specs.Sessions.{SessionView}
@@ -11,18 +11,18 @@ use Rattle.bhost.specs.declared.desk.Answer.TheVariants as answer
 use Rattle.bhost.specs.declared.desk.Deed.TheVariants as deed
 
 pub refused : (program : Option LoadedValue) (old new : Option SessionView) (bytes after : List ℕ) (told : Answer)
-    → Acts deed.Feed [] program old new after told
+    → bytes ≢ [] → Acts deed.Feed [] program old new after told
     → Answers deed.Feed bytes program old new (unfed_status told) (λ _ _. ⊤)
-refused (Some loaded) (Some h) (Some k) bytes after answer.Done fed =
+refused (Some loaded) (Some h) (Some k) bytes after answer.Done some fed =
     let same = fed.1.1 ∙ ap (λ (u : List ℕ). record h { unread = u }) (append-nil h.unread) in
-    (bytes, answer.Refused, (refl, (fed.1.0, same)), refl, tt)
-refused (Some loaded) (Some h) (Some k) bytes after answer.Closed fed = (bytes, answer.Closed, (refl, fed.1), refl, tt)
-refused (Some loaded) (Some h) (Some k) bytes after answer.Refused fed = (bytes, answer.Refused, (refl, fed.1), refl, tt)
-refused (Some loaded) (Some h) (Some k) bytes after (answer.Ended why) fed = absurd fed.1
-refused (Some loaded) (Some h) (Some k) bytes after (answer.Unbegun why) fed = absurd fed.1
-refused (Some loaded) (Some h) (Some k) bytes after answer.Missing fed = absurd fed.1
-refused (Some loaded) (Some h) (Some k) bytes after (answer.Stands there) fed = absurd fed.1
-refused (Some loaded) (Some h) (Some k) bytes after (answer.Word word) fed = absurd fed.1
-refused (Some loaded) (Some h) None bytes after told fed = absurd fed
-refused (Some loaded) None new bytes after told fed = absurd fed
-refused None old new bytes after told fed = absurd fed
+    (bytes, answer.Refused, (refl, (fed.1.0, some, same)), refl, tt)
+refused (Some loaded) (Some h) (Some k) bytes after answer.Closed some fed = (bytes, answer.Closed, (refl, fed.1), refl, tt)
+refused (Some loaded) (Some h) (Some k) bytes after answer.Refused some fed = absurd (fed.1.1 refl)
+refused (Some loaded) (Some h) (Some k) bytes after (answer.Ended why) some fed = absurd fed.1
+refused (Some loaded) (Some h) (Some k) bytes after (answer.Unbegun why) some fed = absurd fed.1
+refused (Some loaded) (Some h) (Some k) bytes after answer.Missing some fed = absurd fed.1
+refused (Some loaded) (Some h) (Some k) bytes after (answer.Stands there) some fed = absurd fed.1
+refused (Some loaded) (Some h) (Some k) bytes after (answer.Word word) some fed = absurd fed.1
+refused (Some loaded) (Some h) None bytes after told some fed = absurd fed
+refused (Some loaded) None new bytes after told some fed = absurd fed
+refused None old new bytes after told some fed = absurd fed

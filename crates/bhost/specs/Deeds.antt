@@ -1,7 +1,8 @@
 -- Promise: what is done with a session that is held with its program.
-use Rattle.std.specs.Prelude.{◌≡◌, ◌⊎◌, ⊤, ℕ, List, [], ◌++◌, drop, take, false, true, IsSome, Option, Some, None}
-use Rattle.bsession.specs.Sessions.{BeginsSession, GoesOnWithin, IsThere, KeepsLimits, SessionContinues, SessionView}
-use Rattle.bsession.specs.Sessions.{StartsNot, call_in, callers_in, stored_in, word_in}
+use Rattle.std.specs.Prelude.{◌≡◌, ◌≢◌, ◌⊎◌, ⊤, ℕ, List, [], ◌++◌, drop, take, false, true, IsSome, Option, Some, None}
+use Rattle.bmach.specs.Stepping.{BeginsNot, ShowsFirst}
+use Rattle.bsession.specs.Sessions.{AsksForRoom, BeginsSession, GoesOnWithin, IsThere, KeepsLimits, SessionContinues, SessionView}
+use Rattle.bsession.specs.Sessions.{call_in, callers_in, stored_in, word_in}
 use Rattle.bsession.specs.declared.session.SliceEnd.{SliceEnd}
 use Rattle.bmach.specs.declared.machine.Active.{Active}
 use Rattle.blang.specs.Machine.{Image}
@@ -26,31 +27,33 @@ Allows other run = IsSome run
 abbrev pub LacksRoom : Outcome → Type 0
 LacksRoom why = (why ≡ outcome.Memory) ⊎ (why ≡ outcome.Trap trap.NoRoom)
 
--- a run has begun, or hasn't, since its first frame has no room or memory was refused
+-- A run has begun; or it hasn't, since memory was refused where it has a first step, or its first frame has no room.
 abbrev pub Begins : Image → (new : Option SessionView) → Answer → Type 0
 Begins image (Some h) told = BeginsSession image h × (told ≡ answer.Done)
 Begins image None told =
-    (told ≡ answer.Refused) ⊎ ((why : Outcome) × (told ≡ answer.Unbegun why) × StartsNot image why × LacksRoom why)
+    ((told ≡ answer.Refused) × ShowsFirst image outcome.Limit)
+    ⊎ ((why : Outcome) × (told ≡ answer.Unbegun why) × BeginsNot image why × LacksRoom why)
 
--- the bytes come after those that were fed, or none where memory is refused; an input that was closed takes none
+-- The bytes come after those that were fed, or none where memory is refused for some. An input that was closed takes
+-- none.
 abbrev pub IsFed : (old new : SessionView) → (bytes : List ℕ) → Answer → Type 0
 IsFed old new bytes answer.Done = (old.is_closed ≡ false) × (new ≡ record old { unread = old.unread ++ bytes })
 IsFed old new bytes answer.Closed = (old.is_closed ≡ true) × (new ≡ old)
-IsFed old new bytes answer.Refused = (old.is_closed ≡ false) × (new ≡ old)
+IsFed old new bytes answer.Refused = (old.is_closed ≡ false) × (bytes ≢ []) × (new ≡ old)
 IsFed old new bytes other = ⊥
 
--- so many bytes of the output were taken, or none, where memory is refused
+-- so many bytes of the output were taken, or none, where memory is refused for some
 abbrev pub IsTaken : (old new : SessionView) → (count : ℕ) → (taken : List ℕ) → Answer → Type 0
 IsTaken old new count taken answer.Done =
     (taken ≡ take count old.output) × (new ≡ record old { output = drop count old.output })
-IsTaken old new count taken answer.Refused = (taken ≡ []) × (new ≡ old)
+IsTaken old new count taken answer.Refused = (taken ≡ []) × (take count old.output ≢ []) × (new ≡ old)
 IsTaken old new count taken other = ⊥
 
--- a word is stored, unless memory is refused or the session is lost
+-- a word is stored, unless memory is refused for it or the session is lost
 abbrev pub IsStored : (old new : SessionView) → (address word : ℕ) → Answer → Type 0
 IsStored old new address word answer.Done =
     IsThere old.state × (new ≡ record old { state = stored_in old.state address word })
-IsStored old new address word answer.Refused = new ≡ old
+IsStored old new address word answer.Refused = AsksForRoom old.state address word × (new ≡ old)
 IsStored old new address word other = ⊥
 
 -- where a run stands, with the line of the next instruction and its column; a lost one stands nowhere
@@ -74,19 +77,15 @@ stands_at loaded h =
     stands_with (kept_at loaded loaded.program.names.lines.items) (kept_at loaded loaded.program.columns.items)
     (call_in h.state) (callers_in h.state) h.steps
 
--- that is told, unless memory is refused
-abbrev pub TellsPlace : LoadedValue → SessionView → Answer → Type 0
-TellsPlace loaded h told = (told ≡ stands_at loaded h) ⊎ (told ≡ answer.Refused)
-
 -- the function whose string words begin there
 abbrev pub placed_at : LoadedValue → (strings : ℕ) → Option Placed
 placed_at loaded strings = function_with (functions_of loaded.program.definitions.items) strings
 
--- The name of a function is told, or that there is none; or memory is refused.
+-- The name of a function is told, or memory is refused for it; or it is told that there is none.
 abbrev pub NamesFunction : Option Placed → (name : List ℕ) → Answer → Type 0
 NamesFunction found name answer.Done = IsSome found × (name ≡ name_in found)
 NamesFunction found name answer.Missing = (found ≡ None) × (name ≡ [])
-NamesFunction found name answer.Refused = name ≡ []
+NamesFunction found name answer.Refused = IsSome found × (name ≡ [])
 NamesFunction found name other = ⊥
 
 abbrev pub word_told : Option ℕ → Answer
@@ -101,7 +100,7 @@ DoesTo (deed.Continue steps) loaded old new bytes told =
 DoesTo (deed.Limit limits) loaded old new bytes told = (new ≡ record old { limits = limits }) × (told ≡ answer.Done)
 DoesTo deed.Feed loaded old new bytes told = IsFed old new bytes told
 DoesTo deed.Close loaded old new bytes told = (new ≡ record old { is_closed = true }) × (told ≡ answer.Done)
-DoesTo deed.Look loaded old new bytes told = (new ≡ old) × TellsPlace loaded old told
+DoesTo deed.Look loaded old new bytes told = (new ≡ old) × (told ≡ stands_at loaded old)
 DoesTo (deed.Read address) loaded old new bytes told = (new ≡ old) × (told ≡ word_told (word_in old.state address))
 DoesTo (deed.Store address word) loaded old new bytes told = IsStored old new address word told
 DoesTo other loaded old new bytes told = new ≡ old

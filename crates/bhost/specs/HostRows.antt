@@ -1,6 +1,6 @@
 -- Closed facts: what is no answer of a session that is held with its program, and the statuses of all answers.
-use Rattle.std.specs.Prelude.{◌≡◌, ℕ, ◌+◌, [], ◌∷◌, map, false, true, None, Some, refl}
-use Rattle.std.proofs.Common.{ap, arith, inl, inr}
+use Rattle.std.specs.Prelude.{◌≡◌, ℕ, ◌+◌, [], ◌∷◌, map, false, true, None, Option, Some, refl, slice_index}
+use Rattle.std.proofs.Common.{◌∙◌, ap, arith, inl, inr, sym}
 use Rattle.blang.specs.Machine.{Image}
 use Rattle.blang.specs.declared.run.LoadFault.TheVariants as load
 use Rattle.blang.specs.declared.run.Outcome.TheVariants as outcome
@@ -10,7 +10,9 @@ use Rattle.blang.specs.declared.token.Diagnostic.{Diagnostic}
 use Rattle.bmach.specs.declared.machine.Active.{Active}
 use Rattle.bauthor.specs.declared.fault.LineWanted.TheVariants as line_wanted
 use Rattle.bauthor.specs.declared.fault.Wanted.TheVariants as wanted
-use Rattle.bsession.specs.Sessions.{Lost, SessionView}
+use Rattle.bmach.specs.Stepping.{Paused, ShowsFirst}
+use Rattle.bsession.specs.Sessions.{Goes, Lost, SessionView}
+use Rattle.btools.specs.Functions.{Placed}
 use Rattle.bsession.specs.declared.session.Held.TheVariants as held
 use Rattle.bsession.specs.declared.session.Limits.{Limits}
 use Rattle.bsession.specs.declared.session.SliceEnd.TheVariants as end
@@ -40,14 +42,19 @@ not_ended ended = ended
 
 -- a run that doesn't begin is over by no other trap than that its first frame has no room, and by no other end
 no_other_trap : (image : Image) (kind : Trap) → Begins image None (answer.Unbegun (outcome.Trap kind)) → kind ≡ trap.NoRoom
-no_other_trap image kind (inl refused) = cc
+no_other_trap image kind (inl refused) = let told = refused.0 in cc
 no_other_trap image kind (inr (why, told, starts, inl memory)) = cc
 no_other_trap image kind (inr (why, told, starts, inr room)) = cc
 
 no_exit : (image : Image) (status : ℕ) → Begins image None (answer.Unbegun (outcome.Exit status)) → ⊥
-no_exit image status (inl refused) = cc
+no_exit image status (inl refused) = let told = refused.0 in cc
 no_exit image status (inr (why, told, starts, inl memory)) = cc
 no_exit image status (inr (why, told, starts, inr room)) = cc
+
+-- memory isn't refused where the first frame has no room
+room_comes_first : (image : Image) → ShowsFirst image (outcome.Trap trap.NoRoom) → Begins image None answer.Refused → ⊥
+room_comes_first image shown (inl refused) = let goes = sym (shown []).outcome ∙ (refused.1 []).outcome in cc
+room_comes_first image shown (inr (why, told, begins, lacks)) = cc
 
 -- no word is stored in a session that is lost
 nothing_stored : IsStored lost lost 0 9 answer.Done → ⊥
@@ -63,6 +70,21 @@ closed_is_told fed = let closed = fed.0 in cc
 -- bytes that were fed are there
 fed_comes_after : IsFed (record lost { is_closed = false }) lost (6 ∷ []) answer.Done → ⊥
 fed_comes_after fed = let same = fed.1 in cc
+
+-- no memory is asked for where no bytes are fed or taken, or the word is there, or no function is
+nothing_to_feed : IsFed (record lost { is_closed = false }) (record lost { is_closed = false }) [] answer.Refused → ⊥
+nothing_to_feed fed = fed.1 refl
+
+nothing_to_take : IsTaken lost lost 0 [] answer.Refused → ⊥
+nothing_to_take taken = taken.1 refl
+
+word_is_there : (p : Paused)
+    → IsStored (record lost { state = Goes p }) (record lost { state = Goes p }) 4 (slice_index p.store 4) answer.Refused
+    → ⊥
+word_is_there p stored = stored.0 refl
+
+no_function_there : NamesFunction None [] answer.Refused → ⊥
+no_function_there named = let some = named.0 in cc
 
 -- what is taken is the beginning of the output; and where memory is refused, nothing is
 taken_is_there : IsTaken lost lost 1 (8 ∷ []) answer.Done → ⊥
@@ -96,8 +118,8 @@ no_name named = let none = named.1 in cc
 not_there : NamesFunction None [] answer.Done → ⊥
 not_there named = let is = named.0 in cc
 
-half_a_name : NamesFunction None (7 ∷ []) answer.Refused → ⊥
-half_a_name named = cc
+half_a_name : (found : Option Placed) → NamesFunction found (7 ∷ []) answer.Refused → ⊥
+half_a_name found named = let none = named.1 in cc
 
 -- where a run stands
 abbrev call : Active

@@ -1,12 +1,12 @@
 //! What is done with a session.
 ghost use Rattle.std.specs.Prelude.{◌≡◌, Some};
-ghost use Rattle.bhost.specs.Deeds.{Acts, Allows, Begins, Does, IsFed, NamesFunction, TellsPlace, IsStored, IsTaken, placed_at};
+ghost use Rattle.bhost.specs.Deeds.{Acts, Allows, Begins, Does, IsFed, NamesFunction, IsStored, IsTaken, placed_at, stands_at};
 
 use crate::desk::{Answer, Deed, Desk, Standing};
+use crate::found::{column_at, function_at, line_at};
 use crate::loaded::LoadedProgram;
 use crate::place::Place;
 use bsession::{FeedFault, Session};
-use btools::{Tables, name_of};
 use std::alloc::Global;
 
 /// Does with a session what is asked for on the desk.
@@ -32,7 +32,7 @@ pub(crate) fn act_on<'a>(
             (Place::none(desk.alloc), desk)
         }
         Deed::Name(strings) => {
-            desk.answer = tell_name(loaded, strings, desk.alloc, &mut desk.bytes);
+            desk.answer = tell_name(loaded, strings, &mut desk.bytes);
             (place, desk)
         }
         Deed::Continue(_)
@@ -75,7 +75,7 @@ fn act_within(session: &mut Session<'_>, loaded: &LoadedProgram, desk: &mut Desk
         }
         Deed::Feed => feed(session, desk.bytes.as_slice()),
         Deed::Take(count) => take(session, desk.alloc, count, &mut desk.bytes),
-        Deed::Look => look(session, loaded, desk.alloc),
+        Deed::Look => look(session, loaded),
         Deed::Read(address) => match session.word(address) {
             Some(word) => Answer::Word(word),
             None => Answer::Refused,
@@ -107,7 +107,7 @@ fn take(session: &mut Session<'_>, alloc: Global, count: usize, bytes: &mut Vec<
     bytes.clear();
     let output = session.output();
     let taken = &output[..output.len().min(count)];
-    if bytes.extend_from_slice(taken).is_err() {
+    if !taken.is_empty() && bytes.extend_from_slice(taken).is_err() {
         return Answer::Refused;
     }
     session.take_output(alloc, count);
@@ -115,39 +115,32 @@ fn take(session: &mut Session<'_>, alloc: Global, count: usize, bytes: &mut Vec<
 }
 
 // Tells where a run stands.
-fn look(session: &Session<'_>, loaded: &LoadedProgram, alloc: Global) -> Answer
-    ensures { TellsPlace loaded.now session.now result }
+fn look(session: &Session<'_>, loaded: &LoadedProgram) -> Answer
+    ensures { result ≡ stands_at loaded.now session.now }
 {
     let Some(call) = session.call() else {
         return Answer::Refused;
     };
-    let Ok(tables) = Tables::new(alloc, &loaded.program) else {
-        return Answer::Refused;
-    };
-    let entry = tables.entry(call.strings);
+    let found = function_at(&loaded.program, call.strings);
     Answer::Stands(Standing {
         strings: call.strings,
         place: call.place,
         callers: session.callers(),
         steps: session.steps(),
-        line: tables.line(entry, call.place),
-        column: tables.column(entry, call.place),
+        line: line_at(found, call.place),
+        column: column_at(found, call.place),
     })
 }
 
 // Puts the name of a function on the desk.
-fn tell_name(loaded: &LoadedProgram, strings: u32, alloc: Global, bytes: &mut Vec<u8>) -> Answer
+fn tell_name(loaded: &LoadedProgram, strings: u32, bytes: &mut Vec<u8>) -> Answer
     ensures { NamesFunction (placed_at loaded.now strings) bytes.new.items result }
 {
     bytes.clear();
-    let Ok(tables) = Tables::new(alloc, &loaded.program) else {
-        return Answer::Refused;
-    };
-    let entry = tables.entry(strings);
-    if entry.is_none() {
+    let Some(found) = function_at(&loaded.program, strings) else {
         return Answer::Missing;
-    }
-    match bytes.extend_from_slice(name_of(entry)) {
+    };
+    match bytes.extend_from_slice(found.parts.name.as_bytes()) {
         Ok(()) => Answer::Done,
         Err(_) => Answer::Refused,
     }

@@ -1,5 +1,5 @@
 //! Calls for a session with its program, which tell a status.
-ghost use Rattle.std.specs.Prelude.{◌≡◌, ◌≤◌, ⊤, ℕ, IsSome, List, MatchResult, None, [], drop, length, take};
+ghost use Rattle.std.specs.Prelude.{◌≡◌, ◌≢◌, ◌≤◌, ⊤, ℕ, IsSome, List, MatchResult, None, [], drop, length, take};
 ghost use Rattle.bhost.specs.Deeds.{Acts};
 ghost use Rattle.bhost.specs.Statuses.{Answers, HoldsProgramOf, Loads, LoadsTelling, answer_callers, answer_column, answer_function, answer_line, answer_place, answer_status, answer_steps, answer_value, answer_word, end_status, end_value, fault_status, held_number, name_status, trap_number, unfed_status};
 ghost use Rattle.bhost.specs.declared.desk.Answer.{Answer};
@@ -194,7 +194,7 @@ pub fn feed(alloc: Global, host: &mut Host, bytes: &[u8]) -> Status
     ensures feeds { Answers deed.Feed bytes.now host.old.read host.old.run host.new.run result (λ _ _. ⊤) }
 {
     let mut fed = Vec::new(alloc);
-    if fed.extend_from_slice(bytes).is_err() {
+    if !bytes.is_empty() && fed.extend_from_slice(bytes).is_err() {
         return feed_nothing(alloc, host);
     }
     let desk = host.ask(alloc, Deed::Feed, fed);
@@ -206,7 +206,7 @@ fn feed_nothing(alloc: Global, host: &mut Host) -> Status
     requires program { IsSome host.old.read }
     requires run { IsSome host.old.run }
     ensures program { host.new.read ≡ host.old.read }
-    ensures feeds { (bytes : List ℕ)
+    ensures feeds { (bytes : List ℕ) → bytes ≢ []
         → Answers deed.Feed bytes host.old.read host.old.run host.new.run result (λ _ _. ⊤) }
 {
     let desk = host.ask(alloc, Deed::Feed, Vec::new(alloc));

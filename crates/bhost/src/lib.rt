@@ -4,6 +4,7 @@
 mod acting;
 pub mod calls;
 mod desk;
+mod found;
 mod host;
 mod loaded;
 mod place;

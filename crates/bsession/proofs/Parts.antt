@@ -1,5 +1,5 @@
 -- Two parts of a slice, one after the other, are one.
-use Rattle.std.proofs.Common.{◌≡◌, ◌∙◌, ◌⊎◌, ℕ, ◌+◌, ◌*◌, ◌<◌, ◌≤◌, true, false, None, List, [], ◌++◌, append-nil, append_assoc, ap, arith, inl, inr, length, min, refl, subst, sym}
+use Rattle.std.proofs.Common.{◌≡◌, ◌∙◌, ◌⊎◌, ℕ, ◌+◌, ◌*◌, ◌≤◌, true, false, None, List, [], ◌++◌, append-nil, append_assoc, ap, arith, inl, inr, length, min, refl, subst, sym}
 use Rattle.std.proofs.lemmas.Bool.{cases_lt}
 use Rattle.blang.specs.declared.run.Outcome.{Outcome}
 use Rattle.blang.specs.declared.run.Outcome.TheVariants as outcome
@@ -137,9 +137,10 @@ not_limit r is limit = cc
 pub not_over : (r : Outcome) → can_go_on r ≡ false → r ≡ outcome.Limit → ⊥
 not_over r is limit = cc
 
--- before the first part
-pub nothing_made : (p : Paused) (h : SessionView) (n : ℕ) (what : Held) → h.state ≡ Goes p → SliceMade p h h n (end.Holds what)
-nothing_made p h n what is = record {
+-- where no step was made
+pub none_made : (p : Paused) (h : SessionView) (n : ℕ) (why : SliceEnd) → h.state ≡ Goes p → EndsFor p h h n 0 why
+    → SliceMade p h h n why
+none_made p h n why is ends = record {
   made = 0;
   within = omega arith;
   counted = omega arith;
@@ -153,8 +154,12 @@ nothing_made p h n what is = record {
   comes = λ rest before may.
       subst (λ t. IsStateOf t (h.unread ++ rest) (before ++ []) (machine_at p (h.unread ++ rest) before)) (sym is)
       (ap (machine_at p (h.unread ++ rest)) (sym (append-nil before)));
-  ends = (p, is, inl (0, omega arith));
+  ends = ends;
 }
+
+-- before the first part
+pub nothing_made : (p : Paused) (h : SessionView) (n : ℕ) (what : Held) → h.state ≡ Goes p → SliceMade p h h n (end.Holds what)
+nothing_made p h n what is = none_made p h n (end.Holds what) is (p, is, inl (0, omega arith))
 
 -- what the machine held at each look, up to so many steps
 abbrev pub KeptUpTo : Paused → SessionView → (steps : ℕ) → Type 0
@@ -171,7 +176,7 @@ kept_there p q old mid n why g stands none rest may =
     subst (λ t. IsStateOf t (mid.unread ++ rest) (old.output ++ g.written) (after_pause p g.made (old.unread ++ rest) old.output)) stands (g.comes rest old.output may) in
     subst (KeepsWithin old.limits) (sym there)
     (subst (λ l. KeepsWithin l (machine_at q (mid.unread ++ rest) (old.output ++ g.written))) g.limits
-    (holds.operands, subst (λ o. length o ≤ mid.limits.output) g.output holds.output))
+    (record { operands = holds.operands; pages = holds.pages; output = subst (λ o. length o ≤ mid.limits.output) g.output holds.output }))
 
 -- and the same after a part more
 pub kept_further : (p q : Paused) (old mid : SessionView) (n : ℕ) (why : SliceEnd) (g : SliceMade p old mid n why)
@@ -189,9 +194,9 @@ kept_further p q old mid n why g stands none parts before made is kept k le rest
 
 -- before the first part
 pub kept_first : (p : Paused) (h : SessionView) → PassesAt h.state h None → h.state ≡ Goes p → KeptUpTo p h h.steps
-unfolding nothing_made
+unfolding none_made
 kept_first p h none is k le rest may =
-    let g = nothing_made p h 0 held.Output is in
+    let g = none_made p h 0 (end.Holds held.Output) is (p, is, inl (0, omega arith)) in
     let first : k * PART_STEPS ≡ 0 = omega (arith, le) in
     subst (λ m. KeepsWithin h.limits (after_pause p m (h.unread ++ rest) h.output)) (sym first)
     (kept_there p p h h 0 (end.Holds held.Output) g is none rest may)

@@ -1,5 +1,5 @@
 -- What a slice of a run makes of a session.
-use Rattle.std.proofs.Common.{◌≡◌, ◌∙◌, ℕ, zero, suc, ◌+◌, ◌<◌, ◌≤◌, min, Bool, true, false, List, [], ◌∷◌, ◌++◌, Option, Some, None, append_assoc, ap, arith, drop, length, refl, sym, ⊎_elim}
+use Rattle.std.proofs.Common.{◌≡◌, ◌∙◌, ℕ, zero, suc, ◌+◌, ◌-◌, ◌<◌, ◌≤◌, min, Bool, true, false, List, [], ◌∷◌, ◌++◌, Option, Some, None, append_assoc, ap, arith, drop, length, refl, sym, ⊎_elim}
 use Rattle.std.specs.Prelude.{if◌then◌else◌}
 use Rattle.std.proofs.lemmas.List.{length-append}
 use Rattle.std.specs.Io.KnownBytes.{Appends, Consumes, Keeps}
@@ -15,7 +15,7 @@ use Rattle.bmach.specs.Turns.{MovesOn}
 use Rattle.bmach.specs.declared.machine.Stop.{Stop}
 use Rattle.bmach.proofs.Running.{one_more}
 use Rattle.bsession.specs.declared.session.Limits.{Limits}
-use Rattle.bsession.specs.Sessions.{Fed, SliceComesTo, Goes, SliceMade, SessionView, IsSessionOver, IsLostAfter, Over, EndsFor, allowed, closed_mark, fed_incoming, end_of, state_after}
+use Rattle.bsession.specs.Sessions.{Fed, SliceComesTo, Goes, SliceMade, SessionView, IsSessionOver, IsLostAfter, Over, EndsFor, allowed, closed_mark, counted, fed_incoming, end_of, state_after}
 
 read_before : (f g : Fed) (m : Option (List ℕ)) (taken : List ℕ) → Consumes (Some f.unread) m taken → Keeps m (Some g.unread)
     → f.unread ≡ taken ++ g.unread
@@ -89,7 +89,7 @@ module _ (p q : Paused) (f g : Fed) (o w : Kept) (taken made n : ℕ) (limits : 
     unread = g.unread;
     is_closed = g.is_closed;
     output = drop (min taken (length w.bytes)) w.bytes;
-    steps = made + stop.steps;
+    steps = made + counted r stop.steps (allowed old n);
     limits = limits;
   }
 
@@ -136,12 +136,13 @@ module _ (p q : Paused) (f g : Fed) (o w : Kept) (taken made n : ℕ) (limits : 
       none = let grew = a.fails.counted in known.failed (omega (arith, grew))
 
   over_gives : (r : Outcome) → stop.outcome ≡ r → state_after r stop q ≡ Over stop q
+      → counted r stop.steps (allowed old n) ≡ stop.steps
       → IsOverWithin p q (allowed old n) (fed_incoming f) (fed_incoming g) (outgoing_of o) (outgoing_of w) stop r
       → EndsFor p old (new r) n stop.steps (end_of r) → SliceMade p old (new r) n (end_of r)
-  over_gives r is stands a ends = record {
+  over_gives r is stands all a ends = record {
     made = stop.steps;
     within = let less = a.within in let made = a.made in omega (arith, less, made);
-    counted = refl;
+    counted = ap (λ m. made + m) all;
     taken = a.goes.taken;
     read = a.goes.took.bytes;
     written = a.goes.output;
@@ -188,14 +189,14 @@ module _ (p q : Paused) (f g : Fed) (o w : Kept) (taken made n : ℕ) (limits : 
   }
 
   -- memory was refused, and nothing of the output is lost
-  lost_gives : stop.steps ≤ allowed old n
+  lost_gives : 0 < allowed old n
       → BrokenAfter p (allowed old n) (fed_incoming f) (fed_incoming g) (outgoing_of o) (outgoing_of w)
       → IsLostAfter p old (new outcome.Memory) n
-  lost_gives few a = record {
+  lost_gives some a = record {
     lost = refl;
     same = same;
     limits = refl;
-    counted = (stop.steps, few, refl);
+    counted = (min stop.steps (allowed old n - 1), omega (arith, some), refl);
     taken = a.taken;
     read = a.took.bytes;
     made = a.made;
@@ -226,11 +227,11 @@ module _ (p q : Paused) (f g : Fed) (o w : Kept) (taken made n : ℕ) (limits : 
       can : (rest : List ℕ) → (f.is_closed ≡ true → rest ≡ []) → g.is_over ≡ true → g.unread ++ rest ≡ []
       can rest may = none_left g known rest (λ closed. may (sym same ∙ closed))
 
-  pub slice_gives : (r : Outcome) → stop.outcome ≡ r → stop.steps ≤ allowed old n
+  pub slice_gives : (r : Outcome) → stop.outcome ≡ r → 0 < allowed old n
       → SliceGives p q (allowed old n) (fed_incoming f) (fed_incoming g) (outgoing_of o) (outgoing_of w) stop r
       → SliceComesTo p old (new r) n (end_of r)
-  slice_gives outcome.Limit is few h = limit_gives h
-  slice_gives outcome.Device is few h = ⊎_elim wait_gives (λ failed. let grew = failed.0 in absurd (omega (arith, grew))) h
-  slice_gives (outcome.Exit status) is few h = over_gives (outcome.Exit status) is refl h (over_by (outcome.Exit status) is refl h)
-  slice_gives (outcome.Trap kind) is few h = over_gives (outcome.Trap kind) is refl h (over_by (outcome.Trap kind) is refl h)
-  slice_gives outcome.Memory is few h = lost_gives few h
+  slice_gives outcome.Limit is some h = limit_gives h
+  slice_gives outcome.Device is some h = ⊎_elim wait_gives (λ failed. let grew = failed.0 in absurd (omega (arith, grew))) h
+  slice_gives (outcome.Exit status) is some h = over_gives (outcome.Exit status) is refl refl h (over_by (outcome.Exit status) is refl h)
+  slice_gives (outcome.Trap kind) is some h = over_gives (outcome.Trap kind) is refl refl h (over_by (outcome.Trap kind) is refl h)
+  slice_gives outcome.Memory is some h = lost_gives some h

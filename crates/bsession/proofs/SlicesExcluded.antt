@@ -1,6 +1,5 @@
 -- What no slice of a program gives that halts with 0 in its second step, and reads nothing.
-use Rattle.std.proofs.Common.{◌≡◌, ◌∙◌, ℕ, zero, suc, ◌+◌, ◌*◌, ◌/◌, ◌<◌, ◌≤◌, false, None, List, [], ◌∷◌, ◌++◌, Some, ap, arith, refl, subst, sym, ⊎_elim}
-use Rattle.std.specs.FinSet as set
+use Rattle.std.proofs.Common.{◌≡◌, ◌∙◌, ℕ, zero, suc, ◌+◌, ◌*◌, ◌<◌, ◌≤◌, false, None, List, [], ◌∷◌, ◌++◌, Some, ap, arith, refl, subst, sym, ⊎_elim}
 use Rattle.std.specs.Prelude.{slice_index}
 use Rattle.blang.specs.declared.code.Instr.TheVariants as instr
 use Rattle.blang.specs.declared.run.Outcome.TheVariants as outcome
@@ -13,15 +12,12 @@ use Rattle.bmach.specs.Stepping.{Paused, machine_at, operands_held}
 use Rattle.bmach.specs.Stops.{RunsCall}
 use Rattle.bmach.specs.declared.machine.Active.{Active}
 use Rattle.bmach.proofs.Running.{over_stays}
-use Rattle.bpages.specs.Pages.{get_or-words_below}
-use Rattle.bpages.specs.PagedStores.{paged_words, pages_of}
-use Rattle.bpages.specs.declared.paged_store.PagedStore.{PagedStore}
-use Rattle.bpages.proofs.PageLemmas.{len-made_below, word_at-none}
 use Rattle.bsession.specs.Sessions.{Goes, GoesOnWithin, HoldsMore, HoldsNoMore, IsStateOf, KeepsLimits, PassesAt, SessionContinues, SessionView, WaitsAt, allowed}
 use Rattle.bsession.specs.declared.session.Held.{Held}
 use Rattle.bsession.specs.declared.session.Held.TheVariants as held
 use Rattle.bsession.specs.declared.session.SliceEnd.TheVariants as end
 use Rattle.bsession.specs.declared.session.TheConstants.{PART_STEPS}
+use Rattle.bsession.proofs.HeldPages.{few_pages, no_pages, some_page}
 
 abbrev main : Loaded
 main = record {
@@ -141,10 +137,10 @@ output_within keeps = let few = keeps.output in omega (arith, few)
 
 -- and makes no step where it holds more of it
 pub no_step_over_operands : (new : SessionView) → GoesOnWithin (Goes three) (holds 2 2) new → new.steps ≡ 0
-no_step_over_operands new within = none_of new.steps (λ some. let few = (within 0 some [] (λ closed. refl)).0 in omega (arith, few))
+no_step_over_operands new within = none_of new.steps (λ some. let few = (within 0 some [] (λ closed. refl)).operands in omega (arith, few))
 
 pub no_step_over_output : (new : SessionView) → GoesOnWithin (Goes three) (holds 3 1) new → new.steps ≡ 0
-no_step_over_output new within = none_of new.steps (λ some. let few = (within 0 some [] (λ closed. refl)).1 in omega (arith, few))
+no_step_over_output new within = none_of new.steps (λ some. let few = (within 0 some [] (λ closed. refl)).output in omega (arith, few))
 
 pub no_stop_for_operands : KeepsLimits (holds 3 0) (end.Holds held.Operands) → ⊥
 no_stop_for_operands more = omega (arith, more)
@@ -152,32 +148,41 @@ no_stop_for_operands more = omega (arith, more)
 pub no_stop_for_output : KeepsLimits (holds 0 2) (end.Holds held.Output) → ⊥
 no_stop_for_output more = omega (arith, more)
 
--- without a page all words are 0
-no_word : (store : PagedStore) (address : ℕ) → address < 65536 → set.len (pages_of store) ≡ 0
-    → slice_index (paged_words store) address ≡ 0
-no_word store address below none =
-    let size = store.paged.size in
-    let within = store.paged.within (address / 256) in
-    let start : slice_index store.starts (address / 256) ≡ 0 = omega (arith, size, within, none) in
-    get_or-words_below store.starts store.list.items 65536 address below
-    ∙ word_at-none store.starts store.list.items address store.paged start
-
 -- a session with another word than 0 has a page
 pub pages_within : (p : Paused) (h : SessionView) (address : ℕ) → h.state ≡ Goes p → address < 65536
     → (slice_index p.store address ≡ 0 → ⊥) → h.limits.pages ≡ 0 → KeepsLimits h end.Limit → ⊥
 pages_within p h address stands below some none keeps =
     let holds : HoldsNoMore p h = subst (λ t. PassesAt t h None) stands keeps in
-    let has = holds.pages.1 in
-    let count = has.2 in
-    let few = holds.pages.2 in
-    some (ap (λ ws. slice_index ws address) (sym has.1) ∙ no_word has.0 address below (omega (arith, count, few, none)))
+    let few = holds.pages in
+    let more = some_page p.store 256 address (omega (arith, below)) some in
+    omega (arith, few, none, more)
+
+-- and makes no step where it may have none
+pub no_step_over_pages : (h new : SessionView) → h.limits.pages ≡ 0 → h.is_closed ≡ false → h.steps ≡ 0
+    → GoesOnWithin (Goes (record three { store = 5 ∷ [] })) h new → new.steps ≡ 0
+no_step_over_pages h new none is_open first within = none_of new.steps (λ some.
+    let few = (within 0 (omega (arith, some, first)) [] (λ closed. refl)).pages in
+    let more = some_page (5 ∷ []) 256 0 (omega arith) (λ blank. omega (arith, blank)) in
+    omega (arith, few, none, more))
+
+-- where all words are 0 it ends for no page, whatever it may have
+pub no_stop_for_zeros : (p : Paused) (h : SessionView) → h.state ≡ Goes p → ((address : ℕ) → slice_index p.store address ≡ 0)
+    → KeepsLimits h (end.Holds held.Pages) → ⊥
+no_stop_for_zeros p h stands blank stops =
+    let more : HoldsMore p h held.Pages = subst (λ t. PassesAt t h (Some held.Pages)) stands stops in
+    let none = no_pages p.store 256 blank in
+    omega (arith, more, none)
 
 -- and none has more than 256
 pub no_stop_for_pages : (p : Paused) (h : SessionView) → h.state ≡ Goes p → 256 ≤ h.limits.pages
     → KeepsLimits h (end.Holds held.Pages) → ⊥
 no_stop_for_pages p h stands all stops =
     let more : HoldsMore p h held.Pages = subst (λ t. PassesAt t h (Some held.Pages)) stands stops in
-    let count = more.1.2 in
-    let few = len-made_below more.1.0.starts 256 in
-    let over = more.2 in
-    omega (arith, few, count, over, all)
+    let few = few_pages p.store 256 in
+    omega (arith, few, more, all)
+
+-- it isn't lost where all its steps are counted
+pub not_lost_at_the_end : (p : Paused) (old new : SessionView) (n : ℕ) → new.steps ≡ old.steps + allowed old n
+    → SessionContinues (Goes p) old new n end.Memory → ⊥
+not_lost_at_the_end p old new n all lost =
+    let few = lost.counted.1 in let counted = lost.counted.2 in omega (arith, all, few, counted)

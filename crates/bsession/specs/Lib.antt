@@ -1,3 +1,4 @@
 pub mod Sessions
 pub mod SessionRuns
+pub mod Zeros
 mod RunRows

@@ -1,9 +1,11 @@
 -- Closed facts: the machine into which words are stored, and what a session may hold at first.
-use Rattle.std.specs.Prelude.{◌≡◌, ℕ, List, [], ◌∷◌, map, Some, refl}
+use Rattle.std.specs.Prelude.{◌≡◌, ℕ, List, [], ◌∷◌, ◌++◌, false, true, map, replicate, Some, refl}
 use Rattle.blang.specs.Layout.{Exited, World}
 use Rattle.blang.specs.Machine.{Halted, Image, Loaded, Running, State, Stuck}
 use Rattle.blang.specs.declared.code.Instr.TheVariants as instr
-use Rattle.bsession.specs.Sessions.{no_limits}
+use Rattle.blang.specs.declared.run.Outcome.{Outcome}
+use Rattle.blang.specs.declared.run.Outcome.TheVariants as outcome
+use Rattle.bsession.specs.Sessions.{counted, has_word, no_limits, pages_with_words}
 use Rattle.bsession.specs.SessionRuns.{StoredWord, WasClosed, WasFed, WasStored, all_stored, run_with, with_word_in}
 use Rattle.bsession.specs.declared.session.TheConstants.{PART_STEPS}
 
@@ -71,3 +73,24 @@ over_with_word = refl
 -- how many steps a session makes at most between two looks at what it holds
 steps_of_a_part : PART_STEPS ≡ 65536
 steps_of_a_part = refl
+
+-- A page is held by any word but 0: its first, its last, none, and one of the page after it.
+abbrev blank : (count : ℕ) → List ℕ
+blank count = replicate count 0
+
+words_there : map (λ (p : ℕ × ℕ). has_word (blank 2 ++ 7 ∷ []) p.0 p.1)
+    ((0, 0) ∷ (0, 2) ∷ (0, 3) ∷ (2, 1) ∷ (3, 5) ∷ []) ≡ (false ∷ false ∷ true ∷ true ∷ false ∷ [])
+unfolding has_word
+words_there = refl
+
+pages_counted : map (λ words. pages_with_words words 3)
+    ([] ∷ (1 ∷ []) ∷ (blank 255 ++ 1 ∷ []) ∷ (1 ∷ blank 255 ++ 1 ∷ []) ∷ (blank 767 ++ 65535 ∷ 1 ∷ []) ∷ blank 768 ∷ [])
+    ≡ (0 ∷ 1 ∷ 1 ∷ 2 ∷ 1 ∷ 0 ∷ [])
+unfolding has_word pages_with_words
+pages_counted = refl
+
+-- A step in which memory was refused isn't counted.
+steps_counted : map (λ (p : Outcome × ℕ). counted p.0 p.1 5)
+    ((outcome.Limit, 5) ∷ (outcome.Device, 4) ∷ (outcome.Memory, 5) ∷ (outcome.Memory, 4) ∷ (outcome.Memory, 0) ∷ [])
+    ≡ (5 ∷ 4 ∷ 4 ∷ 4 ∷ 0 ∷ [])
+steps_counted = refl

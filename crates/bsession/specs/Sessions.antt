@@ -1,21 +1,19 @@
 -- Promise: a program that runs in slices, between which its input is fed and its output is taken.
-use Rattle.std.specs.Prelude.{◌≡◌, ◌⊎◌, ℕ, ◌+◌, ◌-◌, ◌*◌, ◌<◌, ◌≤◌, min, Bool, true, false, List, [], ◌∷◌, ◌++◌, drop, if◌then◌else◌, length, Option, Some, None}
-use Rattle.std.specs.Prelude.{slice_index, ⊤}
-use Rattle.std.specs.FinSet as set
+use Rattle.std.specs.Prelude.{◌≡◌, ◌≢◌, ◌⊎◌, ℕ, ◌+◌, ◌-◌, ◌*◌, ◌<◌, ◌≤◌, min, Bool, true, false, List, [], ◌∷◌, ◌++◌, drop, if◌then◌else◌, length, Option, Some, None}
+use Rattle.std.specs.Prelude.{◌==◌, ◌||◌, not, slice_index, suc, zero, ⊤}
 use Rattle.std.proofs.Common.{arith}
 use Rattle.bword.specs.ByteEnds.{Incoming, most}
+use Rattle.bword.specs.Words.{flag_of}
 use Rattle.blang.specs.declared.run.Outcome.{Outcome}
 use Rattle.blang.specs.declared.run.Outcome.TheVariants as outcome
 use Rattle.blang.specs.Machine.{Image, Running, State, state_world, steps}
 use Rattle.blang.specs.Reports.{AsksForByte, Shows}
 use Rattle.bmach.specs.Slices.{after_pause, output_after, with_word_at}
-use Rattle.bmach.specs.Stepping.{BeginsNot, IsUnstarted, Paused, machine_at, operand_sum, operands_held}
+use Rattle.bmach.specs.Stepping.{IsUnstarted, Paused, machine_at, operand_sum, operands_held}
 use Rattle.bmach.specs.Stops.{RunsCall, active_of}
 use Rattle.bmach.specs.declared.advance.TheConstants.{MOST_STEPS}
 use Rattle.bmach.specs.declared.machine.Active.{Active}
 use Rattle.bmach.specs.declared.machine.Stop.{Stop}
-use Rattle.bpages.specs.PagedStores.{paged_words, pages_of}
-use Rattle.bpages.specs.declared.paged_store.PagedStore.{PagedStore}
 use Rattle.bsession.specs.declared.session.FeedFault.{FeedFault}
 use Rattle.bsession.specs.declared.session.FeedFault.TheVariants as feed_fault
 use Rattle.bsession.specs.declared.session.Held.{Held}
@@ -95,10 +93,6 @@ pub record BeginsSession (image : Image) (h : SessionView) : Type 0 where
   pub steps : h.steps ≡ 0
   pub limits : h.limits ≡ no_limits
 
--- a program has no first step, or memory was refused
-abbrev pub StartsNot : Image → Outcome → Type 0
-StartsNot image result = (result ≡ outcome.Memory) ⊎ BeginsNot image result
-
 -- these bytes may still come after those that were fed
 abbrev pub MayCome : SessionView → List ℕ → Type 0
 MayCome h rest = h.is_closed ≡ true → rest ≡ []
@@ -177,12 +171,12 @@ abbrev pub BeginsWith : (whole part : List ℕ) → Type 0
 BeginsWith whole part = (more : List ℕ) × (whole ≡ part ++ more)
 
 -- A session was lost in the step after so many. All of the output is there that the steps before it write, and of what it
--- writes itself a beginning at most. Some of the input was read, and no more steps are counted than it may make.
+-- writes itself a beginning at most. Some of the input was read, and fewer steps are counted than it may make.
 pub record IsLostAfter (p : Paused) (old new : SessionView) (n : ℕ) : Type 0 where
   pub lost : new.state ≡ Lost
   pub same : new.is_closed ≡ old.is_closed
   pub limits : new.limits ≡ old.limits
-  pub counted : (more : ℕ) × (more ≤ allowed old n) × (new.steps ≡ old.steps + more)
+  pub counted : (more : ℕ) × (more < allowed old n) × (new.steps ≡ old.steps + more)
   pub taken : List ℕ
   pub read : old.unread ≡ taken ++ new.unread
   pub made : ℕ
@@ -204,6 +198,11 @@ state_after outcome.Limit stop p = Goes p
 state_after outcome.Device stop p = Goes p
 state_after outcome.Memory stop p = Lost
 
+-- how many steps of a part are counted: the one in which memory was refused isn't
+abbrev pub counted : Outcome → (steps part : ℕ) → ℕ
+counted outcome.Memory steps part = min steps (part - 1)
+counted other steps part = steps
+
 -- whether all steps were made of a run that came to this
 abbrev pub is_limit : Outcome → Bool
 is_limit outcome.Limit = true
@@ -215,10 +214,10 @@ can_go_on outcome.Limit = true
 can_go_on outcome.Device = true
 can_go_on other = false
 
--- an input that is closed takes no bytes, and tells it
-abbrev pub TellsClosed : FeedFault → (is_closed : Bool) → Type 0
-TellsClosed feed_fault.Closed is_closed = is_closed ≡ true
-TellsClosed feed_fault.Memory is_closed = is_closed ≡ false
+-- an input that is closed takes no bytes, and tells it; memory is asked for where there are some
+abbrev pub IsUnfed : FeedFault → (is_closed : Bool) → (bytes : List ℕ) → Type 0
+IsUnfed feed_fault.Closed is_closed bytes = is_closed ≡ true
+IsUnfed feed_fault.Memory is_closed bytes = (is_closed ≡ false) × (bytes ≢ [])
 
 -- the answer of a session that is over
 abbrev pub end_of : Outcome → SliceEnd
@@ -243,20 +242,30 @@ SessionContinues Lost old new n why = (new ≡ old) × (why ≡ end.Memory)
 abbrev pub IsGoing : SessionState → Type 0
 IsGoing state = (p : Paused) × (state ≡ Goes p)
 
--- a store with these words has so many pages
-abbrev pub HasPages : Paused → ℕ → Type 0
-HasPages p count = (store : PagedStore) × (paged_words store ≡ p.store) × (set.len (pages_of store) ≡ count)
+-- whether one of so many words from an address on is another one than 0
+unfoldable pub has_word : List ℕ → (first count : ℕ) → Bool
+has_word words first zero = false
+has_word words first (suc n) = has_word words first n || not (slice_index words (first + n) == 0)
+
+-- how many of so many pages of 256 words have one
+unfoldable pub pages_with_words : List ℕ → (count : ℕ) → ℕ
+pages_with_words words zero = 0
+pages_with_words words (suc n) = pages_with_words words n + flag_of (has_word words (256 * n) 256)
+
+-- how many pages of a store do
+abbrev pub pages_held : List ℕ → ℕ
+pages_held words = pages_with_words words 256
 
 -- A session that stands there holds no more than it may.
 pub record HoldsNoMore (p : Paused) (h : SessionView) : Type 0 where
   pub operands : operands_held p ≤ h.limits.operands
-  pub pages : (count : ℕ) × HasPages p count × (count ≤ h.limits.pages)
+  pub pages : pages_held p.store ≤ h.limits.pages
   pub output : length h.output ≤ h.limits.output
 
 -- it holds more of this than it may
 abbrev pub HoldsMore : Paused → SessionView → Held → Type 0
 HoldsMore p h held.Operands = h.limits.operands < operands_held p
-HoldsMore p h held.Pages = (count : ℕ) × HasPages p count × (h.limits.pages < count)
+HoldsMore p h held.Pages = h.limits.pages < pages_held p.store
 HoldsMore p h held.Output = h.limits.output < length h.output
 
 -- what of a session that can go on is more than it may hold
@@ -277,9 +286,11 @@ abbrev pub operands_in : State → ℕ
 operands_in (Running call below w) = operand_sum (call ∷ below)
 operands_in other = 0
 
--- The machine has no more operands there, and no more output, than it may.
-abbrev pub KeepsWithin : Limits → State → Type 0
-KeepsWithin limits s = (operands_in s ≤ limits.operands) × (length (state_world s).output ≤ limits.output)
+-- The machine has no more of anything there than it may.
+pub record KeepsWithin (limits : Limits) (s : State) : Type 0 where
+  pub operands : operands_in s ≤ limits.operands
+  pub pages : pages_held (state_world s).store ≤ limits.pages
+  pub output : length (state_world s).output ≤ limits.output
 
 -- A slice goes on, before its first step and after each part, only where the machine has no more than it may.
 abbrev pub GoesOnWithin : SessionState → (old new : SessionView) → Type 0
@@ -309,6 +320,10 @@ word_in Lost address = None
 abbrev pub IsThere : SessionState → Type 0
 IsThere Lost = ⊥
 IsThere other = ⊤
+
+-- Memory for a word is asked for only where the word there is another one.
+abbrev pub AsksForRoom : SessionState → (address word : ℕ) → Type 0
+AsksForRoom state address word = word_in state address ≢ Some word
 
 -- a session with a word stored
 abbrev pub stored_in : SessionState → (address word : ℕ) → SessionState

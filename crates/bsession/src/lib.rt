@@ -3,7 +3,9 @@
 
 mod feed;
 mod law;
+mod pages;
 mod session;
+mod unstarted;
 
 pub use law::{slices_are_one_run, two_slices_are_one};
 pub use session::{FeedFault, Held, Limits, Session, SliceEnd};

@@ -1,10 +1,12 @@
 //! A program that runs in slices.
-ghost use Rattle.std.specs.Prelude.{◌≡◌, ◌++◌, ◌-◌, ◌^◌, IfErr, MatchResult, OnErr, OnOk, drop, false, length, min, true};
-ghost use Rattle.bmach.specs.Stepping.{Paused};
-ghost use Rattle.bsession.specs.Sessions.{BeginsSession, Goes, GoesOnWithin, IsGoing, IsThere, KeepsLimits, PassesAt, SessionContinues, SliceComesTo, StartsNot, TellsClosed, call_in, callers_in, can_go_on, end_of, is_limit, state_after, state_of, stored_in, word_in};
+ghost use Rattle.std.specs.Prelude.{◌≡◌, ◌<◌, ◌≤◌, ◌++◌, ◌-◌, ◌^◌, IfErr, MatchResult, OnErr, OnOk, drop, false, length, min, true};
+ghost use Rattle.bmach.specs.Stepping.{BeginsNot, Paused};
+ghost use Rattle.bsession.specs.Sessions.{BeginsSession, Goes, GoesOnWithin, IsGoing, IsThere, KeepsLimits, PassesAt, SessionContinues, SliceComesTo, IsUnfed, AsksForRoom, call_in, callers_in, can_go_on, counted, end_of, is_limit, state_after, state_of, stored_in, word_in};
 ghost use Rattle.bsession.specs.declared.session.SliceEnd.TheVariants as end;
 
 use crate::feed::Feed;
+use crate::pages::pages_held;
+use crate::unstarted::without_store;
 use blang::{Outcome, Trap};
 use bmach::{Active, Image, MOST_STEPS, Stepper, Stop};
 use bpages::PagedStore;
@@ -35,7 +37,7 @@ pub enum SliceEnd {
 pub enum Held {
     /// The operands of all active calls.
     Operands,
-    /// The pages of its store, of 256 words each.
+    /// The pages of its store, of 256 words each, that have another word than 0.
     Pages,
     /// The bytes of its output that weren't taken.
     Output,
@@ -110,10 +112,10 @@ impl<'a> Model for Session<'a> {
 impl<'a> Session<'a> {
     /// A session before the first step of a program, with no input yet; or why the program has no first step.
     pub fn start(alloc: Global, image: &'a Image) -> Result<Session<'a>, Outcome>
-        ensures { MatchResult result (BeginsSession image.now) (StartsNot image.now) }
+        ensures { MatchResult result (BeginsSession image.now) (BeginsNot image.now) }
     {
         let Ok(store) = PagedStore::new(alloc) else {
-            return Err(Outcome::Memory);
+            return Err(without_store(alloc, image));
         };
         match Stepper::begin(alloc, image, store) {
             Err(outcome) => Err(outcome),
@@ -186,13 +188,16 @@ impl<'a> Session<'a> {
         ensures { (p : Paused) → self.old.state ≡ Goes p → SliceComesTo p self.old self.new steps (end_of result) }
     {
         let most = steps.min(MOST_STEPS).min(u64::MAX - self.steps);
+        if most == 0 {
+            return Outcome::Limit;
+        }
         let Stand::Goes(stepper) = &mut self.stand else {
             return Outcome::Memory;
         };
         let stop = stepper.slice(&mut self.input, &mut self.out, most);
         self.input.known();
         self.taken = taken_of(self.taken, &self.out);
-        self.steps += stop.steps;
+        self.steps += counted(stop, most);
         end_part(&mut self.stand, stop);
         stop.outcome
     }
@@ -207,7 +212,8 @@ impl<'a> Session<'a> {
         if stepper.operand_count() > self.limits.operands {
             return Some(Held::Operands);
         }
-        if stepper.store().made() > self.limits.pages {
+        let store = stepper.store();
+        if store.made() > self.limits.pages && pages_held(store) > self.limits.pages {
             return Some(Held::Pages);
         }
         if self.output().len() > self.limits.output {
@@ -221,10 +227,13 @@ impl<'a> Session<'a> {
         ensures fed { OnOk result ((self.old.is_closed ≡ false)
             × (self.new ≡ record self.old { unread = self.old.unread ++ bytes.now })) }
         ensures unchanged { OnErr result (self.new ≡ self.old) }
-        ensures closed { IfErr result (λ fault. TellsClosed fault self.old.is_closed) }
+        ensures unfed { IfErr result (λ fault. IsUnfed fault self.old.is_closed bytes.now) }
     {
         if self.input.is_closed() {
             return Err(FeedFault::Closed);
+        }
+        if bytes.is_empty() {
+            return Ok(());
         }
         match self.input.add(bytes) {
             Ok(()) => Ok(()),
@@ -317,7 +326,11 @@ impl<'a> Session<'a> {
         ensures there { OnOk result (IsThere self.old.state) }
         ensures stored { OnOk result (self.new ≡ record self.old { state = stored_in self.old.state address word }) }
         ensures unchanged { OnErr result (self.new ≡ self.old) }
+        ensures refused { OnErr result (AsksForRoom self.old.state address word) }
     {
+        if self.word(address) == Some(word) {
+            return Ok(());
+        }
         match mem::replace(&mut self.stand, Stand::Lost) {
             Stand::Goes(mut stepper) => {
                 let stored = stepper.set_word(address, word);
@@ -331,6 +344,18 @@ impl<'a> Session<'a> {
             }
             Stand::Lost => Err(NoMemory),
         }
+    }
+}
+
+// How many steps are counted of a part: the one in which memory was refused isn't.
+fn counted(stop: Stop, most: u64) -> u64
+    requires some { 0 < most }
+    requires within { stop.steps ≤ most }
+    ensures { result ≡ counted stop.outcome stop.steps most }
+{
+    match stop.outcome {
+        Outcome::Memory => stop.steps.min(most - 1),
+        _ => stop.steps,
     }
 }
 
