@@ -51,14 +51,14 @@ first_rules count =
     }
 
 -- the rule of !x == 3, and its token
-said_of_two : map (λ (n : Notice). n.rule ∷ n.token ∷ []) (notices_by tree (first_rules 8)) ≡ (6 ∷ 14 ∷ []) ∷ []
+said_of_two : map (λ (n : Notice). n.rule ∷ n.token ∷ []) (notices_by tree (first_rules 9)) ≡ (7 ∷ 14 ∷ []) ∷ []
 said_of_two = refl
 
 abbrev notice : (rule token : ℕ) → Notice
 notice rule token = record { rule = rule; token = token; named = None; beside = None }
 
 -- of a token with no notice, with one, and with two of which the later one has the lower number; and past the table
-firsts : map (λ n. warning_of (first_notice (notice 5 1 ∷ notice 6 2 ∷ notice 0 2 ∷ notice 65535 3 ∷ []) n)) (0 ∷ 1 ∷ 2 ∷ 3 ∷ [])
+firsts : map (λ n. warning_of (first_notice (notice 6 1 ∷ notice 7 2 ∷ notice 0 2 ∷ notice 65535 3 ∷ []) n)) (0 ∷ 1 ∷ 2 ∷ 3 ∷ [])
     ≡ None ∷ Some warning.ComparesTwice ∷ Some warning.NotCompared ∷ None ∷ []
 firsts = refl
 

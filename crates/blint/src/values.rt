@@ -7,6 +7,7 @@ use crate::tree::Branch;
 use crate::warnings::{Slip, Warning};
 use blex::Lexeme;
 use btree::Node;
+use bword::BinOp;
 
 /// The most items of a form that are looked at.
 const MOST_ITEMS: u64 = 8;
@@ -27,6 +28,7 @@ fn kind_of(look: &Look<'_>, value: &Branch) -> Kind {
         (Node::Constant, Lexeme::Character(_)) => Kind::Character,
         (Node::Constant, Lexeme::Number(1..=255)) => Kind::Number,
         (Node::Text, _) => Kind::String,
+        (Node::Binary(BinOp::Mul | BinOp::Div | BinOp::Rem), _) => Kind::Number,
         (Node::Called, _) if tree.is_call_of(value, "char") => Kind::Character,
         (Node::Called, _) if tree.is_call_of(value, "getchar") => Kind::Character,
         (Node::Name, _) => match look.locals.of(tree, value) {

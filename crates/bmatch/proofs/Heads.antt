@@ -26,7 +26,10 @@ pub no_head : (s : Sight) (n : ℕ) (is : List Step) (begin end : ℕ) (rows : L
 no_head s n [] begin end rows b h = refl
 no_head s (suc n) (i ∷ is) begin end rows b h = no_head s n is begin end rows b h
 no_head s zero (step.Tree k told ∷ is) begin end rows b h =
-    let none : inner_of s k begin end ≡ None = cond-false _ _ _ (and_right (nat_lt begin end) _ h) in
+    let none : inner_of s k k begin end ≡ None = cond-false _ _ _ (and_right (nat_lt begin end) _ h) in
+    ap (λ i. go_in i (λ inner. fits_in s zero is inner.begin inner.end (span_of begin (start_of s.tree.rows.now end) ∷ rows) (with_told b told (branch_at s.tree.rows.now inner.end).token))) none
+no_head s zero (step.Range k last told ∷ is) begin end rows b h =
+    let none : inner_of s k last begin end ≡ None = cond-false _ _ _ (and_right (nat_lt begin end) _ h) in
     ap (λ i. go_in i (λ inner. fits_in s zero is inner.begin inner.end (span_of begin (start_of s.tree.rows.now end) ∷ rows) (with_told b told (branch_at s.tree.rows.now inner.end).token))) none
 no_head s zero (step.Either n ∷ is) begin end rows b h =
     let hs = or_parts (may_begin s zero is end) (may_begin s n is end) h in

@@ -1,5 +1,5 @@
 -- Promise: how the steps of a pattern fit a row of branches, and what holes stand for then.
-use Rattle.std.specs.Prelude.{ℕ, zero, suc, ◌-◌, ◌==◌, ◌&&◌, ◌||◌, Bool, true, false, not, if◌then◌else◌, nat_lt, List}
+use Rattle.std.specs.Prelude.{ℕ, zero, suc, ◌-◌, ◌==◌, ◌&&◌, ◌||◌, Bool, true, false, not, if◌then◌else◌, nat_le, nat_lt, List}
 use Rattle.std.specs.Prelude.{[], ◌∷◌, ◌++◌, Option, None, Some, take}
 use Rattle.std.specs.List.{flat_map}
 use Rattle.std.specs.Str.{bytes_eq}
@@ -95,19 +95,28 @@ ends_of rows (suc n) begin end = end ∷ (if nat_lt begin end then ends_of rows 
 abbrev pub span_of : (begin end : ℕ) → Span
 span_of begin end = record { begin = begin; end = end }
 
--- the branches in the last one of a row, if it is of this kind
-abbrev pub inner_of : Sight → Kind → (begin end : ℕ) → Option Span
-inner_of s k begin end =
-    let index = seen_at s (is_grouped k) end in
+-- a kind from the first one to the last, by their numbers
+abbrev pub is_between : (first last kind : Kind) → Bool
+is_between first last k = nat_le (kind_number first) (kind_number k) && nat_le (kind_number k) (kind_number last)
+
+-- the branches in the last one of a row, if it is of such a kind
+abbrev pub inner_of : Sight → (first last : Kind) → (begin end : ℕ) → Option Span
+inner_of s first last begin end =
+    let index = seen_at s (is_grouped first) end in
     let branch = branch_at s.tree.rows.now index in
-    if nat_lt begin end && kind_number k == kind_number branch.kind then Some (span_of branch.begin index) else None
+    if nat_lt begin end && is_between first last branch.kind then Some (span_of branch.begin index) else None
+
+-- the last branch that ends here is of such a kind
+abbrev pub is_seen : Sight → (first last : Kind) → (end : ℕ) → Bool
+is_seen s first last end =
+    is_between first last (branch_at s.tree.rows.now (seen_at s (is_grouped first) end)).kind
 
 -- Steps whose first one asks for another kind than the last branch that ends here fit nothing there.
 abbrev pub may_begin : Sight → (passed : ℕ) → List Step → (end : ℕ) → Bool
 may_begin s n [] end = false
 may_begin s (suc n) (i ∷ is) end = may_begin s n is end
-may_begin s zero (step.Tree k told ∷ is) end =
-    kind_number k == kind_number (branch_at s.tree.rows.now (seen_at s (is_grouped k) end)).kind
+may_begin s zero (step.Tree k told ∷ is) end = is_seen s k k end
+may_begin s zero (step.Range k last told ∷ is) end = is_seen s k last end
 may_begin s zero (step.Either n ∷ is) end = may_begin s zero is end || may_begin s n is end
 may_begin s zero (step.Jump n ∷ is) end = may_begin s n is end
 may_begin s zero (step.Done ∷ is) end = true
@@ -165,7 +174,11 @@ fits_in s zero (step.Done ∷ is) begin end [] b = if nat_lt begin end then [] e
 fits_in s zero (step.Done ∷ is) begin end (row ∷ rows) b =
     if nat_lt begin end then [] else fits_in s zero is row.begin row.end rows b
 fits_in s zero (step.Tree k told ∷ is) begin end rows b =
-    go_in (inner_of s k begin end) (λ inner.
+    go_in (inner_of s k k begin end) (λ inner.
+    fits_in s zero is inner.begin inner.end (span_of begin (start_of s.tree.rows.now end) ∷ rows)
+    (with_told b told (branch_at s.tree.rows.now inner.end).token))
+fits_in s zero (step.Range k last told ∷ is) begin end rows b =
+    go_in (inner_of s k last begin end) (λ inner.
     fits_in s zero is inner.begin inner.end (span_of begin (start_of s.tree.rows.now end) ∷ rows)
     (with_told b told (branch_at s.tree.rows.now inner.end).token))
 fits_in s zero (step.Leaf l told ∷ is) begin end rows b =

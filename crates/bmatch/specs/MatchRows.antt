@@ -49,7 +49,7 @@ use Rattle.bmatch.specs.Asking.{sign_number, size_by, size_declared, size_define
 use Rattle.bmatch.specs.Binds.{hole_of, nothing_bound, with_hole, with_told}
 use Rattle.bmatch.specs.Changes.{change_before, changed_by}
 use Rattle.bmatch.specs.Counting.{blanks_at}
-use Rattle.bmatch.specs.Fits.{ends_of, is_word, span_of}
+use Rattle.bmatch.specs.Fits.{ends_of, is_word, may_begin, span_of}
 use Rattle.bmatch.specs.Growing.{lexemes_of, program_rows}
 use Rattle.bmatch.specs.Holds.{fits_at, holds_in, is_within, loop_around, scope_span}
 use Rattle.bmatch.specs.Notices.{first_token, notices_by}
@@ -164,6 +164,31 @@ same_fits : map (λ (is : List Step). at true is 16)
     ∷ (binary op.Add false ∷ step.Leaf (leaf.Value 2) true ∷ hole 0 sort.Name false ∷ step.Done ∷ step.Done ∷ []) ∷ [])
     ≡ [] ∷ [] ∷ ((Some 14, None, Some 22) ∷ []) ∷ [] ∷ []
 same_fits = refl
+
+-- a range of kinds with +, the operator told: + alone, one that begins with it, one that ends with it, one around it; and
+-- those that end before it, begin after it, or end before they begin
+abbrev in_range : (first last : BinOp) → List Step
+in_range first last = step.Range (kind.Node (node.Binary first)) (kind.Node (node.Binary last)) true
+    ∷ hole 1 sort.Any false ∷ hole 0 sort.Any false ∷ step.Done ∷ step.Done ∷ []
+
+ranges_fit : map (λ (pair : BinOp × BinOp). at true (in_range pair.0 pair.1) 16)
+    ((op.Add, op.Add) ∷ (op.Add, op.Rem) ∷ (op.Sub, op.Add) ∷ (op.Sub, op.Rem) ∷ (op.Shr, op.Sub) ∷ (op.Rem, op.Div)
+    ∷ (op.Rem, op.Sub) ∷ [])
+    ≡ replicate 4 ((Some 14, Some 15, Some 21) ∷ []) ++ replicate 3 []
+ranges_fit = refl
+
+-- the same by the heads of steps; and from the first operator to the loop what is between: loop, +, block, definition
+ranges_begin : map (λ (pair : BinOp × BinOp). may_begin (sight true) 0 (in_range pair.0 pair.1) 17)
+    ((op.Add, op.Add) ∷ (op.Add, op.Rem) ∷ (op.Sub, op.Add) ∷ (op.Sub, op.Rem) ∷ (op.Shr, op.Sub) ∷ (op.Rem, op.Div)
+    ∷ (op.Rem, op.Sub) ∷ [])
+    ≡ true ∷ true ∷ true ∷ true ∷ false ∷ false ∷ false ∷ []
+ranges_begin = refl
+
+range_of_two : flat_map (at true (step.Range (kind.Node (node.Binary op.Or)) (kind.Construct construct.While) true
+    ∷ step.Dots ∷ step.Done ∷ step.Done ∷ [])) (range_with_len 0 22)
+    ≡ map (λ token. (None, None, Some token)) (5 ∷ 21 ∷ 4 ∷ 0 ∷ [])
+unfolding ends_of
+range_of_two = refl
 
 -- $0 = $0 + .., where what stands left and right is the same name
 assigned_fits : at true (step.Tree (kind.Node (node.Assigned None)) false ∷ binary op.Add false

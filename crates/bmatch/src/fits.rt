@@ -3,7 +3,7 @@ ghost use Rattle.std.specs.List.{flat_map};
 ghost use Rattle.std.specs.Prelude.{◌≡◌, ◌∷◌, ◌++◌, IfOk, take};
 ghost use Rattle.bmatch.specs.Fits.{changes_hole, ends_of, fits_in, inner_of, is_grouped, is_name_of, is_named, is_number, is_sort, is_word};
 ghost use Rattle.bmatch.specs.Fits.{is_word_alone};
-ghost use Rattle.bmatch.specs.Fits.{is_value_of, leaf_binds, may_begin, rows_left, seen_at, start_of, with_leaf, with_same};
+ghost use Rattle.bmatch.specs.Fits.{is_between, is_seen, is_value_of, leaf_binds, may_begin, rows_left, seen_at, start_of, with_leaf, with_same};
 ghost use Rattle.bmatch.specs.Trees.{branch_at};
 ghost use Rattle.bmatch.specs.declared.pattern.Step.TheVariants as step;
 
@@ -62,7 +62,15 @@ pub(crate) fn fits(
     };
     match *step {
         Step::Done => fits_left(sight, more, span, left, binds, found),
-        Step::Tree(kind, is_told) => match inner(sight, kind, span) {
+        Step::Tree(kind, is_told) => match inner(sight, kind, kind, span) {
+            Some(inner) => {
+                let row = Left::Row(before(sight, span), &*left);
+                let binds = binds.telling(is_told, token_at(sight, inner.end));
+                fits(sight, more, inner, &row, binds, found)
+            }
+            None => Ok(()),
+        },
+        Step::Range(first, last, is_told) => match inner(sight, first, last, span) {
             Some(inner) => {
                 let row = Left::Row(before(sight, span), &*left);
                 let binds = binds.telling(is_told, token_at(sight, inner.end));
@@ -116,10 +124,8 @@ pub(crate) fn may_begin(sight: &Sight<'_>, steps: &[Step], end: usize) -> bool
         return false;
     };
     match *step {
-        Step::Tree(kind, _) => {
-            let seen = seen_at(sight, is_grouped(kind), end);
-            kind_number(kind) == kind_number(kind_at(sight.tree.rows, seen))
-        }
+        Step::Tree(kind, _) => is_seen(sight, kind, kind, end),
+        Step::Range(first, last, _) => is_seen(sight, first, last, end),
         Step::Either(count) => {
             may_begin(sight, more, end) || may_begin(sight, steps_from(more, count), end)
         }
@@ -128,13 +134,28 @@ pub(crate) fn may_begin(sight: &Sight<'_>, steps: &[Step], end: usize) -> bool
     }
 }
 
-// The branches in the last one of a row, if it is of this kind.
-fn inner(sight: &Sight<'_>, kind: Kind, span: Span) -> Option<Span>
-    ensures { result ≡ inner_of sight.now kind span.begin span.end }
+// Whether the last branch that ends here is of a kind from the first one to the last.
+fn is_seen(sight: &Sight<'_>, first: Kind, last: Kind, end: usize) -> bool
+    ensures { result ≡ is_seen sight.now first last end }
 {
-    let index = seen_at(sight, is_grouped(kind), span.end);
+    let seen = seen_at(sight, is_grouped(first), end);
+    is_between(first, last, kind_at(sight.tree.rows, seen))
+}
+
+fn is_between(first: Kind, last: Kind, kind: Kind) -> bool
+    ensures { result ≡ is_between first last kind }
+{
+    let number = kind_number(kind);
+    kind_number(first) <= number && number <= kind_number(last)
+}
+
+// The branches in the last one of a row, if it is of a kind from the first one to the last.
+fn inner(sight: &Sight<'_>, first: Kind, last: Kind, span: Span) -> Option<Span>
+    ensures { result ≡ inner_of sight.now first last span.begin span.end }
+{
+    let index = seen_at(sight, is_grouped(first), span.end);
     let branch = branch_at(sight.tree.rows, index);
-    if span.begin < span.end && kind_number(kind) == kind_number(branch.kind) {
+    if span.begin < span.end && is_between(first, last, branch.kind) {
         Some(Span {
             begin: branch.begin,
             end: index,

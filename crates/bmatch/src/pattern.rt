@@ -22,6 +22,8 @@ pub enum Step {
     /// A branch of this kind. The steps for what is in it come next, up to their `Done`, and then those for what is
     /// before it. Where this is `true`, its token is told.
     Tree(Kind, bool),
+    /// The same for each kind from the first one to the last, in the order of their numbers.
+    Range(Kind, Kind, bool),
     /// A branch that is this. Where this is `true`, its first token is told.
     Leaf(Leaf, bool),
     /// Any branches.

@@ -1,15 +1,11 @@
 //! Reads a text of rules into the rules that the engine knows.
 #![tactic(auto)]
 
-#[cfg(test)]
-mod check_rules;
 mod classes;
 mod cleaning;
 mod conditions;
 mod cutting;
 mod drawing;
-#[cfg(test)]
-mod examples;
 mod faults;
 mod holes;
 mod patterns;

@@ -1,22 +1,6 @@
 //! Texts of rules.
-use crate::check_rules::CHECK_RULES;
 use crate::{FaultReason, read_rules};
 use std::alloc::{AllocError, Global};
-
-#[test]
-fn reads_the_rules(rt: HostRuntime) -> Result<(), AllocError> {
-    match read_rules(rt.alloc(), CHECK_RULES.as_bytes())? {
-        Ok(read) => {
-            assert!(rt; read.rules.len() == read.names.len());
-            match read.names.first() {
-                Some(name) => assert!(rt; name.as_bytes() == b"AndAnd".as_slice()),
-                None => assert!(rt; false),
-            }
-        }
-        Err(_) => assert!(rt; false),
-    }
-    Ok(())
-}
 
 // The line, the column and the reason of what is wrong in a text.
 fn fault(alloc: Global, text: &[u8]) -> Result<Option<(u64, u64, FaultReason)>, AllocError> {

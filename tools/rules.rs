@@ -1,13 +1,14 @@
-//! The examples of the rules of `b check`: each finds what it says, or is silent.
+//! A test that tools/rules adds to crates/brulefile, with the text of the rules of `b check` and their table: each example
+//! finds what it says, or is silent.
 use crate::check_rules::CHECK_RULES;
-use crate::{Rules, read_rules};
+use crate::made::{CLAIMS, NAMES, RULES, STEPS};
 use blex::{Lexeme, Scanner};
-use bmatch::{TokenPlace, Tree, grown, notices_of};
+use bmatch::{RuleTable, TokenPlace, Tree, grown, notices_of};
 use bword::Edition;
 use std::alloc::{AllocError, Global};
 
 // Whether a rule of this name tells something of a source.
-fn tells(alloc: Global, rules: &Rules<'_>, name: &[u8], text: &[u8]) -> Result<bool, AllocError> {
+fn tells(alloc: Global, name: &[u8], text: &[u8]) -> Result<bool, AllocError> {
     let mut lexemes = Vec::new(alloc);
     let mut places = Vec::new(alloc);
     let mut scanner = Scanner::new(text, Edition::Two);
@@ -35,10 +36,14 @@ fn tells(alloc: Global, rules: &Rules<'_>, name: &[u8], text: &[u8]) -> Result<b
         places: places.as_slice(),
         rows: rows.as_slice(),
     };
-    let found = notices_of(alloc, &tree, &rules.table())?;
+    let table = RuleTable {
+        steps: &STEPS,
+        claims: &CLAIMS,
+        rules: &RULES,
+    };
+    let found = notices_of(alloc, &tree, &table)?;
     for notice in &found {
-        let rule = notice.rule;
-        if let Some(told) = rules.names.get(rule) {
+        if let Some(told) = NAMES.get(notice.rule) {
             if told.as_bytes() == name {
                 return Ok(true);
             }
@@ -61,30 +66,11 @@ fn program_of(alloc: Global, example: &[u8]) -> Result<Vec<u8>, AllocError> {
 }
 
 #[test]
-fn examples_of_check_are_told(rt: HostRuntime) -> Result<(), AllocError> {
-    assert_eq!(rt; wrong_examples(&rt, CHECK_RULES.as_bytes())?, 0);
-    Ok(())
-}
-
-// How many examples of rules are told otherwise than they say, each of which is printed.
-fn wrong_examples(rt: &HostRuntime, all: &[u8]) -> Result<u64, AllocError> {
+fn examples_are_told(rt: HostRuntime) -> Result<(), AllocError> {
     let alloc = rt.alloc();
-    let rules = match read_rules(alloc, all)? {
-        Ok(rules) => rules,
-        Err(fault) => {
-            println!(rt;
-                "{}:{}: {}",
-                fault.line,
-                fault.column,
-                fault.reason.sentence()
-            )
-            .unwrap_or(());
-            return Ok(1);
-        }
-    };
     let mut name: &[u8] = b"";
     let mut wrong = 0_u64;
-    for line in all.split(|byte| *byte == b'\n') {
+    for line in CHECK_RULES.as_bytes().split(|byte| *byte == b'\n') {
         let text = line.trim_ascii();
         if let Some(rest) = text.strip_prefix(b"rule ") {
             name = rest;
@@ -92,7 +78,7 @@ fn wrong_examples(rt: &HostRuntime, all: &[u8]) -> Result<u64, AllocError> {
         for (word, wanted) in [(b"found ".as_slice(), true), (b"silent ".as_slice(), false)] {
             if let Some(example) = text.strip_prefix(word) {
                 let source = program_of(alloc, example)?;
-                if tells(alloc, &rules, name, source.as_slice())? != wanted {
+                if tells(alloc, name, source.as_slice())? != wanted {
                     println!(rt;
                         "{}: {}",
                         std::str::from_utf8(name).unwrap_or(""),
@@ -104,5 +90,6 @@ fn wrong_examples(rt: &HostRuntime, all: &[u8]) -> Result<u64, AllocError> {
             }
         }
     }
-    Ok(wrong)
+    assert_eq!(rt; wrong, 0);
+    Ok(())
 }
