@@ -55,6 +55,7 @@ use Rattle.bcheck.specs.Sections.{at_fault, sections}
 use Rattle.bcheck.specs.declared.finding.TheConstants.{MOST_FINDINGS}
 use Rattle.bcheck.specs.CheckExcluded.{BeginsWith, ComesTo, Excluded, IsTold, Never, NeverOf, file_at, file_of}
 use Rattle.bcheck.proofs.NearerFault.{no_nearer}
+use Rattle.bcheck.proofs.RightSteps.{done_definitions}
 use Rattle.bcheck.specs.CheckExcluded.{HasLines, IsCount, IsCountOf, outcome_in, has_no_colon, is_printed, newlines}
 use Rattle.bcheck.specs.Tokens.{has_token_on, is_in_token}
 use Rattle.bcheck.specs.UndefinedNames.{Tells, told_subjects}
@@ -452,30 +453,13 @@ odd_lines c line status text to t wrong h =
     let w = told_in c line status text to t h in
     wrong (length (all_of w)) (has_lines c (comes_to c line status to) line status text w)
 
-with_none : (f : Option Diagnostic) (text : List ℕ) (later : Compilation) → (compilation_with f text later).stop ≡ None → later.stop ≡ None
-with_none None text later e = e
-with_none (Some f) text later e = let g : Some f ≡ None = e in cc
-
-stop_none : (names : Defined) (ds : List Tree) (stop : Option Diagnostic) → (compilation_of names ds stop).stop ≡ None → stop ≡ None
-stop_none names [] stop e = e
-stop_none names (d ∷ ds) stop e =
-    let after = names ++ (identifier_of d).text ∷ [] in stop_none after ds stop (with_none (fault_of names d) (compiled_text d) (compilation_of after ds stop) e)
-
 clean_stop : (stop : Option Diagnostic) (f : Option LoadFault) (line : List ℕ) → told_first stop f ≡ (line, DONE) → stop ≡ None
 clean_stop None f line e = refl
 clean_stop (Some d) f line e = absurd (let g : 1 ≡ 0 = ap (λ (p : List ℕ × ℕ). p.1) e in cc)
 
 is_definitions : (c : Check) (line : List ℕ) → ComesTo c line DONE → (ds : List Tree) × AllFormed ds × IsSource c.edition c.source ds
 is_definitions c line to =
-    let g = to.goes in
-    let clean = clean_stop to.outcome.stop (load_fault (map code_of g.definitions)) line to.told in
-    let none : g.stop ≡ None = stop_none [] g.definitions g.stop (sym (ap (λ (r : Compilation). r.stop) g.outcome_is) ∙ clean) in
-    let p = g.parted in
-    let stops = subst (StopsAt (map bare p.before) p.at) none p.stops in (
-      stops.1.definitions,
-      stops.1.formed,
-      record { before = p.before; end = p.at; none = p.following; split = p.split; ends = stops.0; spelled = stops.1.spelled },
-    )
+    done_definitions c.edition c.source to.outcome to.goes (clean_stop to.outcome.stop (load_fault (map code_of to.goes.definitions)) line to.told)
 
 one_told : {P : List ℕ × List ℕ → Type 0} {Q : Type 0} {source : List ℕ} (f : FindingForm) (first text all : ℕ) (ps : List (FindingParts source)) → Any P (map told_at ps) ⊎ ((100 ≤ length (map told_at ps)) × Q)
     → length ps ≤ all → first + all * least_lines f ≤ text → text < least_lines f → ⊥

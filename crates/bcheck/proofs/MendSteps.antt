@@ -23,7 +23,7 @@ use Rattle.bcheck.specs.declared.verdict.Verdict.{Verdict}
 use Rattle.bcheck.specs.declared.verdict.Verdict.TheVariants as verdict
 
 -- what a source with this verdict comes to
-abbrev StopIs : Verdict → Option Diagnostic → Type 0
+abbrev pub StopIs : Verdict → Option Diagnostic → Type 0
 StopIs (verdict.Faulty line d) stop = stop ≡ Some d
 StopIs v stop = stop ≡ None
 
@@ -35,7 +35,7 @@ none_stops line status None f other e = refl
 none_stops line status (Some d) f other e = absurd (other (ap (λ (p : List ℕ × ℕ). p.1) e))
 
 module _ (edition : Edition) (source : List ℕ) (r : Compilation) (g : CompilesTo [] (tokens_from edition 1 source) r) where
-  stop_is : (v : Verdict) → Judged edition source v → IsStopOf edition source v → StopIs v r.stop
+  pub stop_is : (v : Verdict) → Judged edition source v → IsStopOf edition source v → StopIs v r.stop
   stop_is verdict.Clean j s = none_stops [] 0 r.stop (load_fault (map code_of g.definitions)) (λ no. absurd (omega (arith, no))) (j r g)
   stop_is (verdict.Faulty line d) j s = s r g
   stop_is (verdict.Unloaded f) j s = none_stops (verdict_line (verdict.Unloaded f)) 132 r.stop (load_fault (map code_of g.definitions)) (λ no. absurd (omega (arith, no))) (j r g)

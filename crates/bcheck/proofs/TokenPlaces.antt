@@ -50,7 +50,7 @@ token_no_end : (l : Option Lexeme) → is_token l ≡ true → l ≢ Some lexeme
 token_no_end l e is = let f : false ≡ true = ap is_token (sym is) ∙ e in cc
 
 module _ (edition : Edition) (source : List ℕ) where
-  abbrev next : ℕ → PlacedPiece
+  abbrev pub next : ℕ → PlacedPiece
   next at = next_piece edition source at
 
   pub end_within : (at : ℕ) → at ≤ length source → piece_end edition source (after_blanks source at) ≤ length source
@@ -80,10 +80,13 @@ module _ (edition : Edition) (source : List ℕ) where
       by true e again = step_end m at e ∙ sym (step_end n at e)
       by false e again = step_more m at e ∙ ap (λ ps. next at ∷ ps) (again (grows at e)) ∙ sym (step_more n at e)
 
-  abbrev coming : ℕ → List PlacedPiece
+  abbrev pub coming : ℕ → List PlacedPiece
   coming at = pieces_from edition (suc (length source)) source at
 
-  coming_more : (at : ℕ) → at ≤ length source → ends (next at).lexeme ≡ false → coming at ≡ next at ∷ coming (next at).end
+  pub coming_end : (at : ℕ) → ends (next at).lexeme ≡ true → coming at ≡ next at ∷ []
+  coming_end at e = step_end (length source) at e
+
+  pub coming_more : (at : ℕ) → at ≤ length source → ends (next at).lexeme ≡ false → coming at ≡ next at ∷ coming (next at).end
   coming_more at w e =
       step_more (length source) at e
       ∙ ap (λ ps. next at ∷ ps) (same_pieces (length source) (suc (length source)) (next at).end (end_within at w) (omega (arith, grows at e)) (omega arith))

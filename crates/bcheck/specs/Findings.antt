@@ -1,6 +1,6 @@
 -- Promise: what is known of a finding before it is told.
 use Rattle.std.specs.Prelude.{◌≡◌, ℕ, ◌+◌, ◌<◌, ◌⊎◌, ◌&&◌, Bool, IsTrue, true, false, List, [], ◌∷◌, ◌++◌, codes, drop}
-use Rattle.std.specs.Prelude.{map}
+use Rattle.std.specs.Prelude.{map, not}
 use Rattle.std.specs.Prelude.{Option, Some, None, IfSome, Result, Ok, Err, MatchResult, ◌≤◌, ◌-◌, length, min, nat_lt}
 use Rattle.std.specs.Prelude.{take}
 use Rattle.bword.specs.declared.edition.Edition.{Edition}
@@ -17,7 +17,7 @@ use Rattle.bcheck.specs.Checks.{StandsOn, TellsAll, change_line, edit_object, me
 use Rattle.bcheck.specs.Checks.{with_newline}
 use Rattle.bcheck.specs.Pieces.{change_text, edit_text, line_text}
 use Rattle.bplaces.specs.Columns.{column_after}
-use Rattle.bcheck.specs.Checks.{diagnostic_code, fault_in, finding_text, is_in_line, is_of_several}
+use Rattle.bcheck.specs.Checks.{diagnostic_code, fault_in, finding_text, is_in_line, is_of_several, is_on_line}
 use Rattle.bcheck.specs.UndefinedNames.{IsAtName, beginnings, ends_name, name_in, told_subjects}
 use Rattle.bcheck.specs.declared.change.Change.{Change}
 use Rattle.bcheck.specs.declared.verdict.Judgement.{Judgement}
@@ -36,6 +36,7 @@ use Rattle.bcheck.specs.RuleWarnings.{TellsWarnings, warning_code}
 use Rattle.btools.specs.Programs.{HasFault, IsCodeOf}
 use Rattle.bcheck.specs.declared.compiled.Compiled.{Compiled}
 use Rattle.bcheck.specs.declared.edit.Edit.{Edit}
+use Rattle.bcheck.specs.declared.edit.Proposal.{Proposal}
 use Rattle.bcheck.specs.declared.excerpt.Excerpt.{Excerpt}
 use Rattle.bcheck.specs.declared.finding.Finding.{Finding}
 use Rattle.bcheck.specs.declared.finding.SecondPlace.{SecondPlace}
@@ -207,6 +208,16 @@ pub record IsEdit (files : Files) (source new : List ℕ) (e : Edit) : Type 0 wh
   pub start : e.start ≡ length (parts.before ++ parts.left)
   pub len : e.len ≡ length parts.old
   pub text : e.text.now ≡ parts.text
+
+-- the edit stands where it was proposed, and puts that text there
+abbrev pub IsPlaced : List ℕ → Proposal → Edit → Type 0
+IsPlaced source p e =
+    (e.start ≡ length (take p.start source)) × (e.len ≡ length (take p.len (drop p.start source)))
+    × (e.text.now ≡ p.text)
+
+-- a text in the place of these bytes of a line changes something there, and can be printed
+abbrev pub changes_line : (old text : List ℕ) → Bool
+changes_line old text = (is_in_line old && is_on_line text) && not (same_name text old)
 
 -- what comes of a text is better than what comes of a source
 abbrev pub Improves : Edition → (source new : List ℕ) → Type 0

@@ -7,7 +7,10 @@ pub mod Counts
 pub mod Findings
 pub mod Mentions
 pub mod Pieces
+pub mod Right
 pub mod RuleWarnings
+mod SeamRows
+pub mod Seams
 pub mod SectionRows
 pub mod Sections
 pub mod Spares

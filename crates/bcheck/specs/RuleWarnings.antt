@@ -1,5 +1,5 @@
 -- Promise: what is told of what is due of a source, each finding by its place and its code.
-use Rattle.std.specs.Prelude.{ℕ, ◌≤◌, IsTrue, List, [], ◌∷◌, codes, length, take}
+use Rattle.std.specs.Prelude.{ℕ, ◌≤◌, Bool, IsTrue, List, [], ◌∷◌, codes, length, take}
 use Rattle.std.specs.List.{list_any}
 use Rattle.bword.specs.declared.edition.Edition.{Edition}
 use Rattle.bword.specs.Words.{same_name}
@@ -174,11 +174,16 @@ warning_code warning.OwnResultDropped = codes "no"
 warning_code (warning.Slip s) = slip_code s
 
 -- codes that rules alone give
+abbrev pub rule_codes : List (List ℕ)
+rule_codes =
+    codes "and" ∷ codes "op" ∷ codes "if" ∷ codes "em" ∷ codes "sg" ∷ codes "en" ∷ codes "st" ∷ codes "no" ∷ codes "bs"
+    ∷ codes "pr" ∷ codes "rt" ∷ codes "us" ∷ codes "ed" ∷ codes "tr" ∷ codes "di" ∷ codes "es" ∷ []
+
+abbrev pub is_rule_code : List ℕ → Bool
+is_rule_code code = list_any (same_name code) rule_codes
+
 abbrev pub IsOfRules : List ℕ → Type 0
-IsOfRules code =
-    IsTrue (list_any (same_name code)
-    (codes "and" ∷ codes "op" ∷ codes "if" ∷ codes "em" ∷ codes "sg" ∷ codes "en" ∷ codes "st" ∷ codes "no" ∷ codes "bs"
-    ∷ codes "pr" ∷ codes "rt" ∷ codes "us" ∷ codes "ed" ∷ codes "tr" ∷ codes "di" ∷ codes "es" ∷ []))
+IsOfRules code = IsTrue (is_rule_code code)
 
 -- What is due of a source that is definitions is told, and nothing else with the codes of rules alone: each finding with
 -- the bytes before it, and its code.

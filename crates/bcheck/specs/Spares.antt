@@ -1,16 +1,22 @@
 -- Promise: what a change that needs no choice keeps of a source.
-use Rattle.std.specs.Prelude.{◌≡◌, ℕ, zero, suc, ◌==◌, ◌&&◌, ◌||◌, Bool, true, false, not, nat_le, if◌then◌else◌, slice_range}
+use Rattle.std.specs.Prelude.{◌≡◌, ℕ, zero, suc, ◌+◌, ◌==◌, ◌&&◌, ◌||◌, Bool, true, false, not, nat_le, nat_lt}
+use Rattle.std.specs.Prelude.{if◌then◌else◌, is_none, position, slice_range}
 use Rattle.std.specs.Prelude.{List, [], ◌∷◌, ◌++◌, codes, count_by, drop, length, reverse, take, Option, Some, None}
-use Rattle.std.specs.List.{list_all, list_any}
+use Rattle.std.specs.List.{flat_map, list_all, list_any}
 use Rattle.std.specs.Str.{bytes_eq}
 use Rattle.bword.specs.declared.edition.Edition.{Edition}
+use Rattle.bword.specs.declared.operators.BinOp.TheVariants as operator
 use Rattle.bword.specs.Words.{same_name}
+use Rattle.blang.specs.declared.token.Keyword.TheVariants as keyword
 use Rattle.blex.specs.declared.lexeme.Lexeme.{Lexeme}
 use Rattle.blex.specs.declared.lexeme.Lexeme.TheVariants as lexeme
 use Rattle.blex.specs.declared.scanner.PlacedPiece.{PlacedPiece}
 use Rattle.blex.specs.Places.{next_piece}
 use Rattle.bcheck.specs.declared.change.Change.{Change}
 use Rattle.bcheck.specs.declared.spares.Both.{Both}
+use Rattle.bcheck.specs.declared.spares.Class.{Class}
+use Rattle.bcheck.specs.declared.spares.Class.TheVariants as class
+use Rattle.bcheck.specs.declared.spares.Trial.{Trial}
 use Rattle.bcheck.specs.Sections.{is_end}
 use Rattle.bcheck.specs.UndefinedNames.{heading_words, type_words}
 
@@ -75,38 +81,103 @@ rest_back p =
     let n = alike p.source p.olds p.new p.news in
     record { source = p.source; olds = reverse (drop n p.olds); new = p.new; news = reverse (drop n p.news) }
 
+-- those before that, from the last one back
+abbrev pub before_back : Pair → List PlacedPiece
+before_back p = reverse (take (alike p.source p.olds p.new p.news) p.olds)
+
 -- those without the last ones that are the same, too: what changes
 abbrev pub changed_pair : Edition → (source new : List ℕ) → Pair
 changed_pair edition source new = rest_back (rest_back (whole_pair edition source new))
 
--- what is never taken out and never another one: comments, strings, keywords and braces
+-- A change: all pieces, those that change, those before them, from the last one back, and the bytes that it takes out,
+-- with their pieces.
+pub record Swap : Type 0 where
+  pub whole : Pair
+  pub changed : Pair
+  pub before : List PlacedPiece
+  pub taken : List ℕ
+  pub pieces : List PlacedPiece
+
+-- that of the program
+abbrev pub swap_of : Trial → Swap
+swap_of t = record {
+  whole = pair_of t.whole;
+  changed = pair_of t.changed;
+  before = t.before.now;
+  taken = t.taken.now;
+  pieces = t.pieces.now;
+}
+
+-- comments and strings
 abbrev pub is_quoted : Option Lexeme → Bool
 is_quoted None = true
 is_quoted (Some lexeme.String) = true
 is_quoted l = false
 
-abbrev pub is_firm : Option Lexeme → Bool
-is_firm (Some (lexeme.Keyword k)) = true
-is_firm (Some lexeme.OpenBrace) = true
-is_firm (Some lexeme.CloseBrace) = true
-is_firm l = is_quoted l
-
 -- words of other languages, which may be taken out
 abbrev pub other_words : List (List ℕ)
-other_words = codes "and" ∷ codes "or" ∷ codes "not" ∷ codes "then" ∷ codes "do" ∷ []
+other_words = codes "then" ∷ codes "do" ∷ []
 
 unfoldable pub is_other_word : List ℕ → Bool
 is_other_word name =
-    list_any (same_name name) type_words || (list_any (same_name name) heading_words || list_any (same_name name) other_words)
+    list_any (same_name name) type_words
+    || (list_any (same_name name) heading_words || list_any (same_name name) other_words)
 
--- names, constants and parentheses, of which one may be another one
-unfoldable pub is_word : Option Lexeme → Bool
-is_word (Some (lexeme.Name name)) = not (is_other_word name)
-is_word (Some (lexeme.Number n)) = true
-is_word (Some (lexeme.Character c)) = true
-is_word (Some lexeme.OpenParen) = true
-is_word (Some lexeme.CloseParen) = true
-is_word l = false
+abbrev pub is_other : Option Lexeme → Bool
+is_other (Some (lexeme.Name name)) = is_other_word name
+is_other l = false
+
+-- Signs that may be taken out: brackets but for braces, what stands between, and what other languages double.
+abbrev pub is_sign : Option Lexeme → Bool
+is_sign (Some lexeme.Comma) = true
+is_sign (Some lexeme.Semicolon) = true
+is_sign (Some lexeme.Colon) = true
+is_sign (Some lexeme.OpenParen) = true
+is_sign (Some lexeme.CloseParen) = true
+is_sign (Some lexeme.OpenBracket) = true
+is_sign (Some lexeme.CloseBracket) = true
+is_sign (Some (lexeme.Assign None)) = true
+is_sign (Some (lexeme.Operator operator.And)) = true
+is_sign (Some (lexeme.Operator operator.Or)) = true
+is_sign (Some (lexeme.Operator operator.Div)) = true
+is_sign l = false
+
+-- keywords with which a function or a loop is left
+abbrev pub is_leaving : Option Lexeme → Bool
+is_leaving (Some (lexeme.Keyword keyword.Goto)) = true
+is_leaving (Some (lexeme.Keyword keyword.Return)) = true
+is_leaving (Some (lexeme.Keyword keyword.Break)) = true
+is_leaving l = false
+
+abbrev pub is_name : Option Lexeme → Bool
+is_name (Some (lexeme.Name name)) = true
+is_name l = false
+
+abbrev pub is_call : Option Lexeme → Bool
+is_call (Some lexeme.OpenParen) = true
+is_call l = false
+
+-- what is counted: what is neither a sign nor such a word, signs, such keywords, names, and what opens a call
+unfoldable pub is_of_class : Class → PlacedPiece → Bool
+is_of_class class.Bound p = not (is_sign p.lexeme || is_other p.lexeme)
+is_of_class class.Sign p = is_sign p.lexeme
+is_of_class class.WayOut p = is_leaving p.lexeme
+is_of_class class.Name p = is_name p.lexeme
+is_of_class class.Call p = is_call p.lexeme
+
+abbrev pub count_of : Class → List PlacedPiece → ℕ
+count_of c ps = count_by (is_of_class c) ps
+
+-- no more of a class are there afterwards
+abbrev pub adds_none : Class → Pair → Bool
+adds_none c p = nat_le (count_of c p.news) (count_of c p.olds)
+
+-- the pieces are among others, in their order
+abbrev pub are_in : (source : List ℕ) → List PlacedPiece → (new : List ℕ) → List PlacedPiece → Bool
+are_in source [] new qs = true
+are_in source (p ∷ ps) new [] = false
+are_in source (p ∷ ps) new (q ∷ qs) =
+    if is_same_piece source p new q then are_in source ps new qs else are_in source (p ∷ ps) new qs
 
 -- how often a piece of the first source is among pieces of a source
 abbrev pub times : (source : List ℕ) → PlacedPiece → (new : List ℕ) → List PlacedPiece → ℕ
@@ -116,30 +187,186 @@ times source p new qs = count_by (is_same_piece source p new) qs
 abbrev pub stays : Pair → PlacedPiece → Bool
 stays pair p = nat_le (times pair.source p pair.source pair.olds) (times pair.source p pair.new pair.news)
 
-unfoldable pub is_word_piece : PlacedPiece → Bool
-is_word_piece p = is_word p.lexeme
+-- quotes and backslashes; bytes that are no blanks; and those that are none of these and no star
+abbrev pub is_quote : ℕ → Bool
+is_quote b = (b == 34) || ((b == 39) || (b == 92))
 
-abbrev pub words_in : List PlacedPiece → ℕ
-words_in ps = count_by is_word_piece ps
+abbrev pub is_letter : ℕ → Bool
+is_letter b = nat_lt 32 b
 
--- a word that is among the new ones less often
-unfoldable pub is_lost : Pair → PlacedPiece → Bool
-is_lost pair p = is_word_piece p && not (stays pair p)
+abbrev pub star : ℕ
+star = 42
 
-abbrev pub lost_words : Pair → ℕ
-lost_words pair = count_by (is_lost pair) pair.olds
+abbrev pub is_plain : ℕ → Bool
+is_plain b = is_letter b && not (is_quote b || (b == star))
 
--- the words of what changes stay, but for one that another one stands for
-abbrev pub keeps_words : Pair → Bool
-keeps_words pair =
-    nat_le (lost_words pair) 1
-    && nat_le (words_in pair.olds) (words_in pair.news)
+-- a piece that is a name stands in the source
+unfoldable pub is_known : (whole : Pair) → (new : List ℕ) → PlacedPiece → Bool
+is_known whole new q = not (is_name q.lexeme) || nat_lt 0 (times new q whole.source whole.olds)
 
-abbrev pub keeps_firm : Pair → Bool
-keeps_firm pair = list_all (λ p. not (is_firm p.lexeme) || stays pair p) pair.olds
+abbrev pub knows : (whole p : Pair) → Bool
+knows whole p = list_all (is_known whole p.new) p.news
 
-abbrev pub keeps_quoted : Pair → Bool
-keeps_quoted pair = list_all (λ p. not (is_quoted p.lexeme) || stays pair p) pair.olds
+-- of what a declaration consists
+abbrev pub is_declaring : Option Lexeme → Bool
+is_declaring (Some (lexeme.Name name)) = true
+is_declaring (Some (lexeme.Keyword keyword.Auto)) = true
+is_declaring (Some (lexeme.Keyword keyword.Extrn)) = true
+is_declaring (Some lexeme.Comma) = true
+is_declaring (Some lexeme.Semicolon) = true
+is_declaring l = false
+
+-- The kinds of changes. One puts pieces in, and all that were stay: nothing but quotes and stars, or three pieces at most,
+-- and a name only in a declaration or alone, if it stands in the source.
+abbrev pub are_declaring : List PlacedPiece → Bool
+are_declaring ps = list_all (λ p. is_declaring p.lexeme) ps
+
+abbrev pub puts_few : (whole p : Pair) → Bool
+puts_few whole p =
+    nat_le (length p.news) (length p.olds + 3)
+    && (adds_none class.Name p || (are_declaring p.news && knows whole p))
+
+abbrev pub puts : (whole p : Pair) → Bool
+puts whole p =
+    are_in p.source p.olds p.new p.news
+    && (nat_le (count_by is_plain p.new) (count_by is_plain p.source) || puts_few whole p)
+
+-- Another one takes out one or two signs, and words of other languages.
+abbrev pub takes : Pair → Bool
+takes p =
+    are_in p.new p.news p.source p.olds
+    && (nat_le (count_of class.Bound p.olds) (count_of class.Bound p.news)
+    && nat_le (count_of class.Sign p.olds) (count_of class.Sign p.news + 2))
+
+-- the token with which pieces begin
+abbrev pub first_lexeme : List PlacedPiece → Option Lexeme
+first_lexeme [] = None
+first_lexeme (p ∷ ps) = p.lexeme
+
+-- pieces of a source begin with this word or sign
+abbrev pub begins : List ℕ → (source : List ℕ) → List PlacedPiece → Bool
+begins word source [] = false
+begins word source (p ∷ ps) = bytes_eq (slice_range source p.first p.end) word
+
+-- Pieces assign a list in brackets to a name.
+abbrev pub assigns_list : (source : List ℕ) → List PlacedPiece → Bool
+assigns_list source ps =
+    is_name (first_lexeme ps) && (begins (codes "=") source (drop 1 ps) && begins (codes "[") source (drop 2 ps))
+
+-- A declaration of another language becomes one of this: types, signs and stars go, and values move. It is one by the
+-- word with which what changes begins, or by what is taken out. Neither names that are new nor calls are put in.
+abbrev pub begins_declaration : (olds : List PlacedPiece) → (taken : List ℕ) → (pieces : List PlacedPiece) → Bool
+begins_declaration olds taken pieces =
+    is_other (first_lexeme olds) || (begins (codes "auto") taken pieces || assigns_list taken pieces)
+
+abbrev pub is_star : Option Lexeme → Bool
+is_star (Some (lexeme.Operator operator.Mul)) = true
+is_star l = false
+
+unfoldable pub stays_declared : Pair → PlacedPiece → Bool
+stays_declared pair p = (not (is_of_class class.Bound p) || is_star p.lexeme) || stays pair p
+
+abbrev pub keeps_declared : Pair → Bool
+keeps_declared pair = list_all (stays_declared pair) pair.olds
+
+abbrev pub turns_declaration : (whole p : Pair) → (taken : List ℕ) → (pieces : List PlacedPiece) → Bool
+turns_declaration whole p taken pieces =
+    begins_declaration p.olds taken pieces && (keeps_declared p && (knows whole p && adds_none class.Call p))
+
+-- A sign stands for another one, and a sign or a constant for a word of another language: these, without blanks.
+abbrev pub stand_rows : List (List ℕ × List ℕ)
+stand_rows =
+    (codes "==", codes "=") ∷ (codes "=", codes "==") ∷ (codes "=<", codes "<=") ∷ (codes "=>", codes ">=") ∷
+    (codes "+=", codes "=+") ∷ (codes "-=", codes "=-") ∷ (codes "*=", codes "=*") ∷ (codes "/=", codes "=/") ∷
+    (codes "%=", codes "=%") ∷ (codes "&=", codes "=&") ∷ (codes "|=", codes "=|") ∷ (codes "<>", codes "!=") ∷
+    (codes ":=", codes "=") ∷ (codes ";", codes ",") ∷ (codes ",", codes ";") ∷ (codes ":", codes ";") ∷
+    (codes ";", codes ":") ∷ (codes ")", codes "]") ∷ (codes "]", codes ")") ∷ (codes "and", codes "&") ∷
+    (codes "or", codes "|") ∷ (codes "not", codes "!") ∷ (codes "True", codes "1") ∷ (codes "true", codes "1") ∷
+    (codes "TRUE", codes "1") ∷ (codes "False", codes "0") ∷ (codes "false", codes "0") ∷
+    (codes "FALSE", codes "0") ∷ (codes "None", codes "0") ∷ (codes "NULL", codes "0") ∷ (codes "nil", codes "0") ∷
+    (codes "null", codes "0") ∷ (codes "EOF", codes "'*e'") ∷ (codes "-1", codes "'*e'") ∷
+    (codes ">-1", codes "!='*e'") ∷ (codes ">=0", codes "!='*e'") ∷ (codes "<=-1", codes "=='*e'") ∷
+    (codes "<0", codes "=='*e'") ∷ (codes "-1<", codes "'*e'!=") ∷ (codes "0<=", codes "'*e'!=") ∷
+    (codes "-1>=", codes "'*e'==") ∷ (codes "0>", codes "'*e'==") ∷ []
+
+abbrev pub is_row : (old new : List ℕ) → (List ℕ × List ℕ) → Bool
+is_row old new row = bytes_eq old row.0 && bytes_eq new row.1
+
+-- Pieces, from the last one back, are a word that a statement begins with: a name, `*` and a name, or a name with an
+-- index of one piece or of three; and a `++` or `--` after these.
+abbrev pub ends_part : (source : List ℕ) → List PlacedPiece → Bool
+ends_part source ps =
+    begins (codes ";") source ps || (begins (codes "{") source ps || (begins (codes "}") source ps
+    || (begins (codes ")") source ps || begins (codes "else") source ps)))
+
+abbrev pub sets_name : (source : List ℕ) → List PlacedPiece → Bool
+sets_name source ps =
+    is_name (first_lexeme ps)
+    && (ends_part source (drop 1 ps) || (begins (codes "*") source (drop 1 ps) && ends_part source (drop 2 ps)))
+
+abbrev pub sets_index : (source : List ℕ) → List PlacedPiece → Bool
+sets_index source ps = begins (codes "[") source ps && sets_name source (drop 1 ps)
+
+abbrev pub sets_place : (source : List ℕ) → List PlacedPiece → Bool
+sets_place source ps =
+    sets_name source ps
+    || (begins (codes "]") source ps && (sets_index source (drop 2 ps) || sets_index source (drop 4 ps)))
+
+abbrev pub sets_word : (source : List ℕ) → List PlacedPiece → Bool
+sets_word source ps =
+    sets_place source ps
+    || ((begins (codes "++") source ps || begins (codes "--") source ps) && sets_place source (drop 1 ps))
+
+-- `==` becomes `=` only after such a word, and `=` becomes `==` only elsewhere.
+abbrev pub fits_sign : (source : List ℕ) → (before : List PlacedPiece) → (old : List ℕ) → Bool
+fits_sign source before old =
+    if bytes_eq old (codes "==") then sets_word source before
+    else not (bytes_eq old (codes "=") && sets_word source before)
+
+abbrev pub stands : (source : List ℕ) → (before : List PlacedPiece) → (old new : List ℕ) → Bool
+stands source before old new = list_any (is_row old new) stand_rows && fits_sign source before old
+
+-- A name stands for one with nearly the same letters, which has at least one of them.
+abbrev pub letters_apart : (name other : List ℕ) → ℕ
+letters_apart name other = count_by (λ b. not (list_any (λ c. c == b) other)) name
+
+abbrev pub are_near : (name other : List ℕ) → Bool
+are_near name other =
+    (nat_le (length name) (length other + 1) && nat_le (length other) (length name + 1))
+    && ((nat_le (letters_apart name other) 1 && nat_lt (letters_apart name other) (length name))
+    && nat_le (letters_apart other name) 1)
+
+abbrev pub are_one_name : List PlacedPiece → Bool
+are_one_name [] = false
+are_one_name (p ∷ ps) = nat_le (length ps) 0 && is_name p.lexeme
+
+-- A `[` parts a name from an index.
+abbrev pub open_bracket : ℕ
+open_bracket = 91
+
+abbrev pub opens_at : Option ℕ → (old new : List ℕ) → Bool
+opens_at None old new = false
+opens_at (Some n) old new = bytes_eq (take n old) (take n new) && bytes_eq (drop n old) (drop (n + 1) new)
+
+abbrev pub opens : (old new : List ℕ) → Bool
+opens old new = opens_at (position (λ b. b == open_bracket) new) old new
+
+-- the bytes of pieces of a source, without what is between them
+abbrev pub joined : List ℕ → List PlacedPiece → List ℕ
+joined source ps = flat_map (λ p. slice_range source p.first p.end) ps
+
+-- What stands for a name alone is another name, or an index.
+abbrev pub renames : Pair → (old new : List ℕ) → Bool
+renames p old new = are_one_name p.olds && (are_one_name p.news && are_near old new || opens old new)
+
+abbrev pub fits_kind : Swap → (old new : List ℕ) → Bool
+fits_kind s old new =
+    let p = s.changed in
+    (((puts s.whole p || takes p) || turns_declaration s.whole p s.taken s.pieces)
+    || stands p.source s.before old new) || renames p old new
+
+abbrev pub is_of_kind : Swap → Bool
+is_of_kind s = fits_kind s (joined s.changed.source s.changed.olds) (joined s.changed.new s.changed.news)
 
 -- bytes begin with this one
 abbrev pub begins_with : ℕ → List ℕ → Bool
@@ -170,41 +397,69 @@ abbrev pub is_type : Option Lexeme → Bool
 is_type (Some (lexeme.Name name)) = is_type_word name
 is_type l = false
 
-abbrev pub begins_type : List PlacedPiece → Bool
-begins_type [] = false
-begins_type (p ∷ ps) = is_type p.lexeme
-
 abbrev pub are_of_prototype : List PlacedPiece → Bool
 are_of_prototype ps = list_all (λ p. is_of_prototype p.lexeme) ps
 
 abbrev pub is_prototype : List PlacedPiece → Bool
-is_prototype ps = begins_type ps && are_of_prototype ps
+is_prototype ps = is_type (first_lexeme ps) && are_of_prototype ps
 
 -- these pieces, which change, are in such bytes or such tokens alone, which are taken out
 abbrev pub is_foreign : (taken : List ℕ) → (pieces olds : List PlacedPiece) → Bool
 is_foreign taken pieces olds =
     (begins_foreign taken || is_prototype pieces) && nat_le (length olds) (length pieces)
 
--- quotes and backslashes
-abbrev pub is_quote : ℕ → Bool
-is_quote b = (b == 34) || ((b == 39) || (b == 92))
+-- What stands for it: a comment with each letter and its own four, a number, the name and the value of a `#define`, or
+-- nothing.
+abbrev pub are_comment : (new : List ℕ) → List PlacedPiece → (taken : List ℕ) → Bool
+are_comment new [] taken = false
+are_comment new (p ∷ ps) taken =
+    nat_le (length ps) 0
+    && (is_none p.lexeme
+    && nat_le (count_by is_letter taken + 2) (count_by is_letter (slice_range new p.first p.end)))
 
--- What changes is small, and loses no quote. Of what stands there the comments and strings stay, and the keywords, the
--- braces and the words, unless they are of another language.
+abbrev pub is_number : Option Lexeme → Bool
+is_number (Some (lexeme.Number n)) = true
+is_number l = false
+
+abbrev pub are_number : List PlacedPiece → Bool
+are_number [] = false
+are_number (p ∷ ps) = nat_le (length ps) 0 && is_number p.lexeme
+
+abbrev pub translates : Pair → (taken : List ℕ) → Bool
+translates p taken =
+    are_comment p.new p.news taken
+    || (if begins_with 48 taken then are_number p.news
+    else (if begins (codes "define") p.source p.olds
+    then are_in p.source (drop 1 p.olds) p.new p.news && nat_le (length p.news) (length p.olds)
+    else nat_le (length p.news) 0))
+
+-- What changes is small, and loses no quote, no comment and no string. No way out of a function or a loop is put in.
+-- It is of such a kind, or of another language.
 abbrev pub most_changed : ℕ
 most_changed = 256
 
-abbrev pub keeps : Pair → (is_foreign : Bool) → Bool
-keeps pair is_foreign =
-    nat_le (count_by is_quote pair.source) (count_by is_quote pair.new)
-    && (nat_le (length pair.olds) most_changed
-    && (keeps_quoted pair && (is_foreign || (keeps_firm pair && keeps_words pair))))
+abbrev pub keeps_quoted : Pair → Bool
+keeps_quoted pair = list_all (λ p. not (is_quoted p.lexeme) || stays pair p) pair.olds
+
+abbrev pub keeps : Swap → Bool
+keeps s =
+    let p = s.changed in
+    (nat_le (count_by is_quote p.source) (count_by is_quote p.new)
+    && (nat_le (length p.olds) most_changed
+    && (keeps_quoted p && adds_none class.WayOut p)))
+    && (is_foreign s.taken s.pieces p.olds && translates p s.taken || is_of_kind s)
 
 -- A change that takes out these bytes of a source and makes another one of it needs no choice.
 abbrev pub spares : Edition → (source new taken : List ℕ) → Bool
 spares edition source new taken =
-    let pair = changed_pair edition source new in
-    keeps pair (is_foreign taken (right_pieces edition taken) pair.olds)
+    let whole = whole_pair edition source new in
+    keeps (record {
+      whole = whole;
+      changed = changed_pair edition source new;
+      before = before_back whole;
+      taken = taken;
+      pieces = right_pieces edition taken;
+    })
 
 -- the same of a text in the place of so many bytes from here on
 abbrev pub spares_at : Edition → (source : List ℕ) → (start len : ℕ) → (text : List ℕ) → Bool

@@ -1,13 +1,19 @@
 //! A `{` or a `}` that is missing, where the layout of the lines shows its place.
 use crate::around::opener_of;
 use crate::draft::Draft;
+use crate::kinds::is_comparison;
 use crate::mends::Site;
 use crate::name_mends::body_of;
+use crate::near::near_keyword;
 use crate::own_parts::indent_at;
 use crate::syntax_mends::{after_brackets, statement_of};
+use crate::warning_mends::is_function;
 use blang::Keyword;
 use blex::Lexeme;
 use std::alloc::AllocError;
+
+/// How many letters an `if` has that is mistyped, at most.
+const LONGEST_IF: usize = 3;
 
 /// A `{` after the head of the function before, or after a heading in it, whose lines stand farther in and end with a
 /// `}`. Whether there is such a place.
@@ -65,7 +71,8 @@ pub(crate) fn may_define(draft: &Draft<'_>, site: Site, token: usize) -> bool {
     false
 }
 
-/// Whether what ends before a token may be a heading: a brace comes after it, or a line that stands farther in.
+/// Whether what ends before a token may be a heading: a brace comes after it, or a line that stands farther in, or it
+/// calls what nothing defines, which may be a keyword mistyped.
 pub(crate) fn is_heading(draft: &Draft<'_>, token: usize) -> bool {
     let closer = token.wrapping_sub(1);
     if draft.at(closer) != Lexeme::CloseParen {
@@ -75,10 +82,35 @@ pub(crate) fn is_heading(draft: &Draft<'_>, token: usize) -> bool {
         return false;
     };
     let name = opener.wrapping_sub(1);
-    let begins = statement_of(draft, token) == name
-        || draft.at(name.wrapping_sub(1)) == Lexeme::Keyword(Keyword::Else);
+    let before = draft.at(name.wrapping_sub(1));
+    let begins = statement_of(draft, token) == name || before == Lexeme::Keyword(Keyword::Else);
+    let follows = begins || matches!(before, Lexeme::CloseParen | Lexeme::Colon);
     let is_inner = begins_line(draft, token) && indent_of(draft, token) > indent_of(draft, name);
-    draft.at(token) == Lexeme::OpenBrace || begins && is_inner
+    draft.at(token) == Lexeme::OpenBrace
+        || begins && is_inner
+        || follows && may_be_keyword(draft, name, token)
+}
+
+// Whether a name may be a keyword mistyped: nothing defines what it calls up to a token, and it is spelt almost so, the
+// call compares, or it is as short as `if`, with the token on its line.
+fn may_be_keyword(draft: &Draft<'_>, callee: usize, token: usize) -> bool {
+    let Lexeme::Name(name) = draft.at(callee) else {
+        return false;
+    };
+    let ends = matches!(draft.at(token), Lexeme::CloseBrace | Lexeme::End);
+    let is_short = name.as_bytes().len() <= LONGEST_IF && !begins_line(draft, token);
+    let is_like = near_keyword(&name).is_some() || compares(draft, callee, token);
+    !ends && (is_like || is_short) && !is_function(draft, callee)
+}
+
+// Whether a comparison stands between two tokens.
+fn compares(draft: &Draft<'_>, first: usize, end: usize) -> bool {
+    for token in first..end {
+        if is_comparison(&draft.at(token)) {
+            return true;
+        }
+    }
+    false
 }
 
 // The `)` of the head of the function before.

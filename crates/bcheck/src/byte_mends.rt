@@ -1,6 +1,7 @@
 //! Edits for bytes that begin no token, and for wrong constants.
 use crate::bytes::{Byte, Constant};
 use crate::draft::{Draft, Part};
+use crate::own_parts::line_start;
 use blex::Lexeme;
 use btools::Text;
 use std::alloc::AllocError;
@@ -36,7 +37,7 @@ fn has_quote(source: &[u8], place: usize) -> bool {
     for back in 0..end {
         match source.get(end.saturating_sub(back).saturating_sub(1)) {
             Some(b'\n') => return false,
-            Some(b'"' | b'\'') => return !trimmed(rest).is_empty(),
+            Some(b'"' | b'\'') => return !rest.trim_ascii().is_empty(),
             _ => {}
         }
     }
@@ -57,32 +58,6 @@ fn line_end(source: &[u8], start: usize) -> usize {
     source.len()
 }
 
-// Bytes without the blanks at both of their ends.
-fn trimmed(bytes: &[u8]) -> &[u8] {
-    let mut from: usize = 0;
-    for byte in bytes {
-        if *byte != b' ' && *byte != b'\t' {
-            break;
-        }
-        from = from.saturating_add(1);
-    }
-    let rest = bytes.get(from..).unwrap_or(&[]);
-    rest.get(..ended(rest)).unwrap_or(&[])
-}
-
-// How many bytes come before the blanks at the end.
-fn ended(bytes: &[u8]) -> usize {
-    let mut count = bytes.len();
-    for index in 0..bytes.len() {
-        let at = bytes.len().saturating_sub(index).saturating_sub(1);
-        if !matches!(bytes.get(at), Some(b' ' | b'\t')) {
-            break;
-        }
-        count = at;
-    }
-    count
-}
-
 /// A remark to the end of its line, which begins with so many bytes.
 pub(crate) fn remark(draft: &mut Draft<'_>, start: usize, count: usize) -> Result<(), AllocError> {
     let end = line_end(draft.source, start);
@@ -95,7 +70,7 @@ pub(crate) fn remark(draft: &mut Draft<'_>, start: usize, count: usize) -> Resul
         end,
         &[
             Part::Words(b"/* "),
-            Part::Words(trimmed(words)),
+            Part::Words(words.trim_ascii()),
             Part::Words(b" */"),
         ],
     )
@@ -135,7 +110,7 @@ fn definition(draft: &mut Draft<'_>, start: usize) -> Result<(), AllocError> {
         Some(words) => draft.put(
             start,
             end,
-            &[Part::Words(trimmed(words)), Part::Words(b";")],
+            &[Part::Words(words.trim_ascii()), Part::Words(b";")],
         ),
         None => draft.put(start, end, &[]),
     }
@@ -193,7 +168,8 @@ fn digits(draft: &mut Draft<'_>, line: &[u8], start: usize) -> Result<(), AllocE
     draft.put(start, start.saturating_add(zeros), &[])
 }
 
-// A string in the place of a constant of many characters. Up to four that are no argument may be meant as a word.
+// A string in the place of a constant of many characters. Up to four that are no argument may be meant as a word, and
+// where an odd number of quotes is left on the line, this isn't the one that closes it.
 fn as_string(draft: &mut Draft<'_>, line: &[u8], token: usize) -> Result<(), AllocError> {
     let start = draft.start(token);
     let words = line.get(1..).unwrap_or(&[]);
@@ -205,7 +181,10 @@ fn as_string(draft: &mut Draft<'_>, line: &[u8], token: usize) -> Result<(), All
         if words.get(index) == Some(&b'\'') {
             let end = start.saturating_add(index).saturating_add(2);
             let inner = words.get(..index).unwrap_or(&[]);
-            if !is_argument && inner.len() <= WORD_LETTERS {
+            let rest = words.get(index.saturating_add(1)..).unwrap_or(&[]);
+            let is_word = !is_argument && inner.len() <= WORD_LETTERS;
+            let quotes = rest.iter().filter(|byte| **byte == b'\'').count();
+            if is_word || quotes % 2 == 1 {
                 return Ok(());
             }
             return draft.put(
@@ -218,14 +197,21 @@ fn as_string(draft: &mut Draft<'_>, line: &[u8], token: usize) -> Result<(), All
     Ok(())
 }
 
-// A quote before what ends a line, as `);` does, or before a comma after which values come: as many as the form before it
-// asks for, where `printf` gets it. Where a `;` stands before it, it is a choice.
+// A quote before what ends a line, as `);` does, or before a comma after which values come: as many as the form before
+// it asks for, where `printf` gets it. Where a `;` stands before it, it is a choice. So it is where a single star may be
+// meant as two, which comes first.
 fn closed(draft: &mut Draft<'_>, line: &[u8], start: usize) -> Result<(), AllocError> {
+    let star = single_star(draft.source, start);
+    if let Some(place) = star {
+        draft.is_choice = true;
+        draft.put(place, place, &[Part::Words(b"*")])?;
+    }
     let quote = line.get(..1).unwrap_or(&[]);
     let end = closing_place(line, open_at(draft.source, start));
-    let is_form = line.starts_with(b"\"") && is_after_printf(draft.source, start);
+    let before = draft.source.get(..start).unwrap_or(&[]);
+    let is_form = line.starts_with(b"\"") && before.ends_with(b"printf(");
     let (mut values, mut depth): (usize, usize) = (0, 0);
-    draft.is_choice = line.get(..end).unwrap_or(&[]).contains(&b';');
+    draft.is_choice = star.is_some() || line.get(..end).unwrap_or(&[]).contains(&b';');
     for back in 0..end.min(LONGEST_VALUES) {
         let place = end.saturating_sub(back);
         match line.get(place) {
@@ -245,10 +231,30 @@ fn closed(draft: &mut Draft<'_>, line: &[u8], start: usize) -> Result<(), AllocE
     Ok(())
 }
 
+// Where a quote stands on the line of a place that a single star before it makes a character, though what comes after a
+// string comes after it, as in `"*");`.
+fn single_star(source: &[u8], place: usize) -> Option<usize> {
+    let mut opener = None;
+    let mut is_escaped = false;
+    for at in line_start(source, place)..line_end(source, place) {
+        let byte = source.get(at).copied();
+        let next = source.get(at.saturating_add(1));
+        match byte {
+            Some(b'"' | b'\'') if opener.is_none() => opener = byte,
+            _ if opener.is_none() || byte != opener => {}
+            _ if !is_escaped => opener = None,
+            _ if matches!(next, Some(b')' | b']' | b',' | b';')) => return Some(at),
+            _ => {}
+        }
+        is_escaped = !is_escaped && opener.is_some() && byte == Some(b'*');
+    }
+    None
+}
+
 // Where what ends a line begins, as `);` does, with as many parentheses as are open before. Blanks before it are not
 // part of it.
 fn closing_place(line: &[u8], open: usize) -> usize {
-    let whole = line.get(..ended(line)).unwrap_or(&[]);
+    let whole = line.trim_ascii();
     let mut last = whole.len();
     let mut left = open.max(1);
     for index in 0..whole.len() {
@@ -282,13 +288,8 @@ fn open_at(source: &[u8], place: usize) -> usize {
     open
 }
 
-// Whether the beginning of a call of `printf` is before a place.
-fn is_after_printf(source: &[u8], place: usize) -> bool {
-    source.get(..place).unwrap_or(&[]).ends_with(b"printf(")
-}
-
-// How many values a form asks for.
-fn items_in(form: &[u8]) -> usize {
+/// How many values a form asks for.
+pub(crate) fn items_in(form: &[u8]) -> usize {
     let mut count: usize = 0;
     let mut is_begun = false;
     for byte in form {

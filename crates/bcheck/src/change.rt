@@ -4,6 +4,7 @@ ghost use Rattle.std.specs.Prelude.{◌≡◌, IfOk, IfSome};
 ghost use Rattle.bsources.specs.Files.{files_shown};
 ghost use Rattle.bcheck.specs.Checks.{Judged};
 ghost use Rattle.bcheck.specs.Findings.{IsChange, IsChanged, IsCompiled, IsMilestone, IsStopOf};
+ghost use Rattle.bcheck.specs.Right.{IsRight};
 ghost use Rattle.bcheck.specs.Spares.{IsSpared, spares_at};
 
 use crate::advice::Matter;
@@ -15,10 +16,12 @@ use crate::mending::{Bench, TRIED_BYTES, only_edit};
 use crate::mends::{proposals, token_at, tokens_of};
 use crate::pieces::push_change;
 use crate::places::{milestones, parts};
+use crate::right::is_of_rules;
 use crate::semicolon_mends::{is_of_assignment, semicolons};
 use crate::spans::{SourceText, Spans, lexeme_at};
 use crate::spares::spares;
 use crate::verdict::judge;
+use blang::status;
 use blex::Lexeme;
 use blint::Warning;
 use bsources::SourceFiles;
@@ -54,6 +57,7 @@ pub fn next_change(
 ) -> Result<Option<Change>, AllocError>
     ensures change { IfOk result (λ found. IfSome found (IsChange edition (files_shown files.now) source.now)) }
     ensures spared { IfOk result (λ found. IfSome found (IsSpared edition source.now)) }
+    ensures wrong { IfOk result (λ found. IfSome found (λ c. IsRight edition (files_shown files.now) source.now → ⊥)) }
 {
     let text = SourceText {
         text: source,
@@ -71,9 +75,10 @@ pub fn next_change(
         budget: TRIED_BYTES,
     };
     let tokens = tokens_of(alloc, &bench)?;
+    let is_clean = judgement.verdict.status() == status::DONE;
     let mut left = LOOKED_BYTES;
     for finding in findings.as_slice() {
-        if left == 0 || !is_certain(&tokens, finding) {
+        if left == 0 || !is_certain(&tokens, finding) || is_clean && !is_of_rules(finding) {
             continue;
         }
         let change = change_for(alloc, &bench, &tokens, finding, within)?;
@@ -199,7 +204,7 @@ fn only_change(
     if edit.start.saturating_add(edit.len) > within {
         return Ok(None);
     }
-    let spared = is_spared(alloc, bench, &edit)?;
+    let spared = is_spared(alloc, bench.source, &edit)?;
     if spared {
         let change = change_of(alloc, &edit)?;
         Ok(Some(change))
@@ -208,22 +213,26 @@ fn only_change(
     }
 }
 
-// Whether an edit of a source needs no choice.
-fn is_spared(alloc: Global, bench: &Bench<'_>, edit: &Edit<'_>) -> Result<bool, AllocError>
-    ensures { IfOk result (λ is. is ≡ spares_at bench.now.source.edition bench.now.source.text.now edit.now.start
-        edit.now.len edit.now.text.now) }
+/// Whether an edit of a source needs no choice.
+pub(crate) fn is_spared(
+    alloc: Global,
+    source: SourceText<'_>,
+    edit: &Edit<'_>,
+) -> Result<bool, AllocError>
+    ensures { IfOk result (λ is. is ≡ spares_at source.entry.edition source.entry.text.now edit.now.start edit.now.len
+        edit.now.text.now) }
 {
-    let source = bench.source.text;
-    let (before, rest) = parts(source, edit.start);
+    let (before, rest) = parts(source.text, edit.start);
     let (taken, after) = parts(rest, edit.len);
     let mut new = Text::new(alloc);
     new.push(before)?;
     new.push(edit.text)?;
     new.push(after)?;
-    spares(alloc, bench.source.edition, source, new.as_slice(), taken)
+    spares(alloc, source.edition, source.text, new.as_slice(), taken)
 }
 
-fn change_of(alloc: Global, edit: &Edit<'_>) -> Result<Change, AllocError>
+/// The change that an edit is.
+pub(crate) fn change_of(alloc: Global, edit: &Edit<'_>) -> Result<Change, AllocError>
     ensures { IfOk result (IsChanged edit.now) }
 {
     let mut text = Text::new(alloc);

@@ -1,7 +1,7 @@
 //! Declarations of other languages in the words of this one.
 use crate::draft::Draft;
 use crate::foreign::heading_word;
-use crate::kinds::{is_ended, is_type_name};
+use crate::kinds::{depth_after, is_ended, is_type_name};
 use blang::Keyword;
 use blex::Lexeme;
 use btools::Text;
@@ -89,12 +89,6 @@ fn push_names(
     for token in first..end {
         let lexeme = draft.at(token);
         match lexeme {
-            Lexeme::OpenParen | Lexeme::OpenBracket | Lexeme::OpenBrace => {
-                depth = depth.saturating_add(1);
-            }
-            Lexeme::CloseParen | Lexeme::CloseBracket | Lexeme::CloseBrace => {
-                depth = depth.saturating_sub(1);
-            }
             Lexeme::Comma if depth == 0 => is_value = false,
             Lexeme::Assign(_) => is_value = true,
             Lexeme::Name(_) if !is_value && !is_left_out(&lexeme) => {
@@ -108,7 +102,7 @@ fn push_names(
                 text.push(b" ")?;
                 text.push(draft.bytes(token, token))?;
             }
-            _ => {}
+            _ => depth = depth_after(depth, &lexeme),
         }
     }
     Ok(())
@@ -125,13 +119,8 @@ fn push_values(
     let mut from = None;
     let mut depth: u64 = 0;
     for token in first..end.saturating_add(1) {
-        match draft.at(token) {
-            Lexeme::OpenParen | Lexeme::OpenBracket | Lexeme::OpenBrace => {
-                depth = depth.saturating_add(1);
-            }
-            Lexeme::CloseParen | Lexeme::CloseBracket | Lexeme::CloseBrace => {
-                depth = depth.saturating_sub(1);
-            }
+        let lexeme = draft.at(token);
+        match lexeme {
             Lexeme::Assign(_) if from.is_none() => from = Some(token.saturating_add(1)),
             Lexeme::Comma | Lexeme::Semicolon if depth == 0 => {
                 if let Some(value) = from {
@@ -140,7 +129,7 @@ fn push_values(
                 from = None;
             }
             Lexeme::Name(_) if from.is_none() && depth == 0 => name = token,
-            _ => {}
+            _ => depth = depth_after(depth, &lexeme),
         }
     }
     Ok(())

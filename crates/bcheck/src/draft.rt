@@ -1,5 +1,6 @@
 //! Edits as they are put together, of words and of tokens of the source.
 use crate::edit::Proposal;
+use crate::kinds::Like;
 use crate::spans::{Spans, lexeme_at};
 use blex::Lexeme;
 use btools::Text;
@@ -13,6 +14,27 @@ pub(crate) enum Part<'a> {
     /// What stands in the source from this token to that one.
     Tokens(usize, usize),
     Number(u64),
+}
+
+/// Where the words of a row go, among its tokens.
+#[derive(Clone, Copy)]
+pub(crate) enum Spot {
+    Before(usize),
+    After(usize),
+    /// For the tokens from one to another.
+    For(usize, usize),
+}
+
+/// An edit by the kinds of tokens.
+#[derive(Clone, Copy)]
+pub(crate) struct Row {
+    /// How many of these come before the one that is told.
+    pub back: usize,
+    /// Those of tokens in a row.
+    pub kinds: [Like; 5],
+    pub spot: Spot,
+    /// In these `%` and a digit stand for a token.
+    pub words: &'static str,
 }
 
 /// Proposals for a source with these tokens.
@@ -172,6 +194,64 @@ impl<'a> Draft<'a> {
     pub(crate) fn after(&mut self, token: usize, words: &[u8]) -> Result<(), AllocError> {
         let end = self.end(token);
         self.put(end, end, &[Part::Words(words)])
+    }
+
+    /// Proposes what the first row says whose tokens are there.
+    pub(crate) fn by_rows(&mut self, token: usize, rows: &[Row]) -> Result<(), AllocError> {
+        for row in rows {
+            let first = token.wrapping_sub(row.back);
+            if Like::fit(&row.kinds, &self.window(first)) {
+                let text = self.filled(first, row.words)?;
+                let (start, end) = self.place_of(first, row.spot);
+                return self.put_text(start, end, text);
+            }
+        }
+        Ok(())
+    }
+
+    // The five tokens from one on.
+    fn window(&self, first: usize) -> [Lexeme; 5] {
+        [
+            self.at(first),
+            self.at(first.wrapping_add(1)),
+            self.at(first.wrapping_add(2)),
+            self.at(first.wrapping_add(3)),
+            self.at(first.wrapping_add(4)),
+        ]
+    }
+
+    // Words with tokens from one on in the places for them.
+    fn filled(&self, first: usize, words: &str) -> Result<Text, AllocError> {
+        let mut text = self.text();
+        let mut is_token = false;
+        for byte in words.as_bytes() {
+            if is_token {
+                let token = first.wrapping_add(usize::from(byte.wrapping_sub(b'0')));
+                text.push(self.bytes(token, token))?;
+            } else if *byte != b'%' {
+                text.push(&[*byte])?;
+            }
+            is_token = *byte == b'%';
+        }
+        Ok(text)
+    }
+
+    // From where to where the words go of a row whose first token this is.
+    fn place_of(&self, first: usize, spot: Spot) -> (usize, usize) {
+        match spot {
+            Spot::Before(at) => {
+                let place = self.start(first.wrapping_add(at));
+                (place, place)
+            }
+            Spot::After(at) => {
+                let place = self.end(first.wrapping_add(at));
+                (place, place)
+            }
+            Spot::For(one, other) => (
+                self.start(first.wrapping_add(one)),
+                self.end(first.wrapping_add(other)),
+            ),
+        }
     }
 
     /// Proposes to take tokens out, with the blanks after them.

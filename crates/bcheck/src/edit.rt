@@ -1,11 +1,11 @@
 //! Edits of a source, and where each stands.
 ghost use Rattle.std.specs.List.{All};
-ghost use Rattle.std.specs.Prelude.{◌≡◌, ◌+◌, ◌<◌, ◌++◌, IfSome, drop, min, not, take};
+ghost use Rattle.std.specs.Prelude.{◌≡◌, ◌+◌, ◌<◌, ◌++◌, IfSome, drop, is_some, min, not, take, true};
 ghost use Rattle.bword.specs.ByteEnds.{most};
 ghost use Rattle.bsources.specs.Files.{files_shown};
 ghost use Rattle.bcheck.specs.Checks.{goes_on, is_in_line, is_on_line};
 ghost use Rattle.bword.specs.Words.{same_name};
-ghost use Rattle.bcheck.specs.Findings.{IsEdit, IsMilestone};
+ghost use Rattle.bcheck.specs.Findings.{IsEdit, IsMilestone, IsPlaced, changes_line};
 
 use crate::excerpt::line_length;
 use crate::places::{Milestone, parts, position};
@@ -71,9 +71,12 @@ pub(crate) fn edit_of<'a>(
     proposal: &'a Proposal,
 ) -> Option<Edit<'a>>
     requires { All (IsMilestone source.now) milestones.now }
-    ensures { IfSome result (IsEdit (files_shown files.now) source.now
+    ensures edit { IfSome result (IsEdit (files_shown files.now) source.now
         (take proposal.now.start source.now
         ++ (proposal.now.text ++ drop proposal.now.len (drop proposal.now.start source.now)))) }
+    ensures places { IfSome result (IsPlaced source.now proposal.now) }
+    ensures some { changes_line (take proposal.now.len (drop proposal.now.start source.now)) proposal.now.text ≡ true
+        → is_some result ≡ true }
 {
     let (before, rest) = parts(source, proposal.start);
     let (old, after) = parts(rest, proposal.len);

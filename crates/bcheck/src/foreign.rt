@@ -140,16 +140,6 @@ impl Foreign {
             Foreign::Clock => ("there is no @: a program has no clock", "read the time from the input"),
         }
     }
-
-    // Whether it stands between or before operands.
-    fn is_operator(self) -> bool {
-        matches!(self, Foreign::And | Foreign::Or | Foreign::Not)
-    }
-
-    // Whether it has a condition and then a statement.
-    fn has_statement(self) -> bool {
-        matches!(self, Foreign::ElseIf | Foreign::Loop)
-    }
 }
 
 /// What a name is for in another language.
@@ -187,13 +177,20 @@ pub(crate) fn word_at_fault(spans: &Spans, around: &Around) -> Option<(usize, Fo
             return Some(found);
         }
     }
-    if may_follow_word(&lexeme_at(spans, token)) {
+    let next = lexeme_at(spans, token);
+    let may_follow = is_operand(&next)
+        || matches!(
+            next,
+            Lexeme::Keyword(_) | Lexeme::OpenBrace | Lexeme::CloseBrace
+        );
+    if may_follow {
         if let Some(found) = head_word(spans, before) {
             return Some(found);
         }
     }
     let (word, meaning) = head_word(spans, first)?;
-    let is_headed = meaning.has_statement() && lexeme_at(spans, before) == Lexeme::CloseParen;
+    let is_headed = matches!(meaning, Foreign::ElseIf | Foreign::Loop)
+        && lexeme_at(spans, before) == Lexeme::CloseParen;
     if is_headed || name_at(spans, first.wrapping_add(1)).is_some() {
         return Some((word, meaning));
     }
@@ -203,10 +200,11 @@ pub(crate) fn word_at_fault(spans: &Spans, around: &Around) -> Option<(usize, Fo
 // The first token between two that is the word of an operator.
 fn operator_word(spans: &Spans, first: usize, last: usize) -> Option<(usize, Foreign)> {
     for token in first..last.saturating_add(1) {
-        if let Some(word) = word_at(spans, token) {
-            if word.is_operator() {
-                return Some((token, word));
-            }
+        let Some(name) = name_at(spans, token) else {
+            continue;
+        };
+        if let Some(word @ (Foreign::And | Foreign::Or | Foreign::Not)) = foreign_word(&name) {
+            return Some((token, word));
         }
     }
     None
@@ -215,17 +213,4 @@ fn operator_word(spans: &Spans, first: usize, last: usize) -> Option<(usize, For
 fn head_word(spans: &Spans, token: usize) -> Option<(usize, Foreign)> {
     let word = heading_word(&name_at(spans, token)?)?;
     Some((token, word))
-}
-
-fn word_at(spans: &Spans, token: usize) -> Option<Foreign> {
-    foreign_word(&name_at(spans, token)?)
-}
-
-// Whether what another language has after such a word may begin with this token.
-fn may_follow_word(lexeme: &Lexeme) -> bool {
-    is_operand(lexeme)
-        || matches!(
-            lexeme,
-            Lexeme::Keyword(_) | Lexeme::OpenBrace | Lexeme::CloseBrace
-        )
 }

@@ -21,6 +21,7 @@ pub(crate) enum Like {
     /// A name that C has for a type.
     Type,
     Name,
+    Number,
     /// A number or a character.
     Constant,
     /// A name, a constant or a string.
@@ -28,6 +29,7 @@ pub(crate) enum Like {
     /// The last token of an operand.
     Ended,
     Keyword,
+    Op(BinOp),
     Operator,
     /// `=`, with an operator or alone.
     Assigns,
@@ -68,10 +70,12 @@ impl Like {
             Like::Word(word) => is_word(lexeme, word),
             Like::Type => is_type(lexeme),
             Like::Name => matches!(lexeme, Lexeme::Name(_)),
+            Like::Number => matches!(lexeme, Lexeme::Number(_)),
             Like::Constant => matches!(lexeme, Lexeme::Number(_) | Lexeme::Character(_)),
             Like::Operand => is_operand(lexeme),
             Like::Ended => is_ended(lexeme),
             Like::Keyword => matches!(lexeme, Lexeme::Keyword(_)),
+            Like::Op(op) => *lexeme == Lexeme::Operator(*op),
             Like::Operator => matches!(lexeme, Lexeme::Operator(_)),
             Like::Assigns => matches!(lexeme, Lexeme::Assign(_)),
             Like::Waits => waits(lexeme),
@@ -175,6 +179,17 @@ fn closes(lexeme: &Lexeme) -> bool {
             | Lexeme::Semicolon
             | Lexeme::Colon
     )
+}
+
+/// How many brackets are open after a token, if so many were before it.
+pub(crate) fn depth_after(depth: u64, lexeme: &Lexeme) -> u64 {
+    if opens_bracket(lexeme) {
+        depth.saturating_add(1)
+    } else if closes_bracket(lexeme) {
+        depth.saturating_sub(1)
+    } else {
+        depth
+    }
 }
 
 /// Whether a bracket opens.

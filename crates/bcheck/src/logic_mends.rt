@@ -1,7 +1,9 @@
 //! Edits for `&&` and `||`, and for the words `and` and `or`. Each means the same as these do in other languages.
 use crate::around::opener_of;
 use crate::draft::{Draft, Part};
-use crate::kinds::{Like, closes_bracket, is_comparison, is_ended, is_word, opens_bracket};
+use crate::kinds::{
+    Like, closes_bracket, depth_after, is_comparison, is_ended, is_word, opens_bracket,
+};
 use crate::syntax_mends::after_brackets;
 use blang::Keyword;
 use blex::Lexeme;
@@ -201,11 +203,7 @@ fn right_of(draft: &Draft<'_>, logic: Logic, last: usize) -> usize {
         if depth == 0 && (is_end || logic == Logic::And && Logic::Or.is_at(draft, token)) {
             return token.saturating_sub(1);
         }
-        if opens_bracket(&lexeme) {
-            depth = depth.saturating_add(1);
-        } else if closes_bracket(&lexeme) {
-            depth = depth.saturating_sub(1);
-        }
+        depth = depth_after(depth, &lexeme);
     }
     last
 }
@@ -285,11 +283,7 @@ fn has_at_level(draft: &Draft<'_>, from: usize, last: usize, lexeme: Lexeme) -> 
         if depth == 0 && here == lexeme {
             return true;
         }
-        if opens_bracket(&here) {
-            depth = depth.saturating_add(1);
-        } else if closes_bracket(&here) {
-            depth = depth.saturating_sub(1);
-        }
+        depth = depth_after(depth, &here);
     }
     false
 }

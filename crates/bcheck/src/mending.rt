@@ -104,12 +104,7 @@ pub(crate) fn only_edit<'a>(
 }
 
 fn has_choice(proposals: &[Proposal]) -> bool {
-    for proposal in proposals {
-        if proposal.is_choice {
-            return true;
-        }
-    }
-    false
+    proposals.iter().any(|proposal| proposal.is_choice)
 }
 
 // The first edit, or the other one where there is none.
@@ -339,13 +334,10 @@ fn are_fewer(new: &[Finding], old: &[Finding]) -> bool {
 
 // How many findings are that a loop doesn't see the end of the input.
 fn endless_in(findings: &[Finding]) -> usize {
-    let mut count: usize = 0;
-    for finding in findings {
-        if is_endless(finding) {
-            count = count.saturating_add(1);
-        }
-    }
-    count
+    findings
+        .iter()
+        .filter(|finding| is_endless(finding))
+        .count()
 }
 
 // The next place of findings from one on that isn't such a one.

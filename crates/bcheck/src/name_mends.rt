@@ -3,13 +3,13 @@ use crate::around::opener_of;
 use crate::declared_mends::local;
 use crate::draft::{Draft, Part};
 use crate::finding::Finding;
-use crate::kinds::is_word;
+use crate::kinds::{is_comparison, is_word};
 use crate::mends::{Site, token_at};
 use crate::near::near_name;
 use crate::syntax_mends::{after_brackets, opener_before, statement_of, word_here};
 use crate::undefined::UndefinedName;
 use crate::unknown::{Lvalue, Unknown};
-use crate::warning_mends::{and_and, bracketed, compares, takes_arguments};
+use crate::warning_mends::{and_and, arguments_asked, arguments_between, bracketed, compares};
 use blang::Keyword;
 use blex::Lexeme;
 use bword::Name;
@@ -35,6 +35,7 @@ pub(crate) fn of_lvalue(
     finding: &Finding,
 ) -> Result<(), AllocError> {
     match (lvalue, finding.name) {
+        (_, _) if assigns_comparison(&draft.at(site.token)) => compares(draft, site.token),
         (Lvalue::AndAnd, _) => and_and(draft, site.token),
         (Lvalue::Constant, _) => compares(draft, site.token),
         (Lvalue::Character, _) => stored(draft, site.token),
@@ -64,7 +65,7 @@ pub(crate) fn of_unknown(
         Unknown::External => declare(draft, site, Keyword::Extrn, &name),
         Unknown::Function | Unknown::Library => {
             draft.after(site.token, b"()")?;
-            if takes_arguments(draft, &name) {
+            if arguments_asked(draft, &name).unwrap_or(0) > 0 {
                 declare(draft, site, Keyword::Extrn, &name)?;
             }
             Ok(())
@@ -136,7 +137,7 @@ fn near_or_declared(
     };
     let (uses, others) = (mentions(draft, site, name), mentions(draft, site, known));
     draft.is_choice = uses > 1 && others > 1 || is_near_another(draft, site, name, known);
-    match declared_in(draft, site, known) {
+    match declared_by(draft, site, known, true) {
         Some(declared) if uses > 1 && others == 1 => draft.rename(declared, name.as_bytes())?,
         _ => draft.rename(site.token, known.as_bytes())?,
     }
@@ -170,6 +171,14 @@ fn mentions(draft: &Draft<'_>, site: Site, name: &Name) -> u64 {
         }
     }
     count
+}
+
+// Whether a token assigns what is compared with the same signs.
+fn assigns_comparison(lexeme: &Lexeme) -> bool {
+    match lexeme {
+        Lexeme::Assign(Some(op)) => is_comparison(&Lexeme::Operator(*op)),
+        _ => false,
+    }
 }
 
 // A word of a vector in the place of a call of it before an assignment, or a comparison in the place of that.
@@ -222,14 +231,27 @@ fn stored(draft: &mut Draft<'_>, token: usize) -> Result<(), AllocError> {
 }
 
 // A declaration of a name as a word of the function. Where another function names it, too, it is rather an external.
-// What stands once may be another name mistyped, and is a choice.
+// What stands once may be another name mistyped: it is a choice, or none where the function has others.
 fn declare_either(draft: &mut Draft<'_>, site: Site, name: &Name) -> Result<(), AllocError> {
-    draft.is_choice = draft.is_choice || mentions(draft, site, name) == 1;
+    let is_once = mentions(draft, site, name) == 1;
+    draft.is_choice = draft.is_choice || is_once;
     after_declaration(draft, site, name)?;
     if is_elsewhere(draft, site, name) {
         declare(draft, site, Keyword::Extrn, name)?;
+    } else if is_once && has_words(draft, site) {
+        return Ok(());
     }
     declare(draft, site, Keyword::Auto, name)
+}
+
+// Whether a function has a parameter, or a declaration before a token.
+fn has_words(draft: &Draft<'_>, site: Site) -> bool {
+    for token in site.first..site.token {
+        if let Lexeme::Keyword(Keyword::Auto | Keyword::Extrn) = draft.at(token) {
+            return true;
+        }
+    }
+    arguments_between(draft, site.first.saturating_add(1)) > 0
 }
 
 // Whether another function names a word without calling it, and none has it as a parameter.
@@ -346,11 +368,7 @@ pub(crate) fn declared_at(draft: &Draft<'_>, site: Site, name: &Name) -> Option<
     declared_by(draft, site, name, false)
 }
 
-// The same of an `extrn`, too.
-fn declared_in(draft: &Draft<'_>, site: Site, name: &Name) -> Option<usize> {
-    declared_by(draft, site, name, true)
-}
-
+// The same, of an `extrn`, too, where any will do.
 fn declared_by(draft: &Draft<'_>, site: Site, name: &Name, is_any: bool) -> Option<usize> {
     let mut is_declared = false;
     for token in site.first..site.token {

@@ -1,8 +1,10 @@
 //! Edits for numbers, for comparisons and for loops that are probably mistakes.
-use crate::draft::{Draft, Part};
+use crate::draft::{Draft, Part, Row, Spot};
 use crate::finding::Finding;
 use crate::further_mends::enlarged;
-use crate::kinds::{closes_bracket, is_comparison, is_operand, opens_bracket};
+use crate::kinds::{
+    ANY, CLOSE_PAREN, Like, closes_bracket, is_comparison, is_operand, opens_bracket,
+};
 use crate::mends::{Site, token_at};
 use crate::slip_mends::of_slip;
 use crate::syntax_mends::{after_brackets, opener_before};
@@ -13,6 +15,46 @@ use std::alloc::AllocError;
 
 /// How many tokens before a loop are looked at.
 const NEAR: usize = 32;
+
+/// A condition that asks for the end of the input, too, after its `!=`.
+#[rattlefmt::skip]
+const OR_END: [Row; 1] = [
+    Row { back: 1, kinds: [Like::Name, ANY, ANY, ANY, ANY], spot: Spot::After(2), words: " & %0 != '*e'" },
+];
+
+/// A call of `printn` in the place of another one, whose argument is one token.
+#[rattlefmt::skip]
+pub(crate) const WRITTEN: [Row; 1] = [
+    Row { back: 2, kinds: [ANY, ANY, ANY, CLOSE_PAREN, ANY], spot: Spot::For(0, 3), words: "printn(%2, 10)" },
+];
+
+/// The number of the digit that a name has.
+#[rattlefmt::skip]
+const DIGIT: [Row; 2] = [
+    Row {
+        back: 1,
+        kinds: [
+            Like::Op(BinOp::Add), ANY, Like::Either(Lexeme::Semicolon, Lexeme::CloseParen), ANY, ANY,
+        ],
+        spot: Spot::After(1),
+        words: " - '0'",
+    },
+    Row { back: 0, kinds: [ANY, ANY, ANY, ANY, ANY], spot: Spot::For(0, 0), words: "(%0 - '0')" },
+];
+
+/// An assignment to the name with which a sum or a difference begins that is a statement.
+#[rattlefmt::skip]
+const STORED: [Row; 1] = [
+    Row {
+        back: 0,
+        kinds: [
+            Like::Name, Like::Either(Lexeme::Operator(BinOp::Add), Lexeme::Operator(BinOp::Sub)), Like::Number,
+            Like::Is(Lexeme::Semicolon), ANY,
+        ],
+        spot: Spot::Before(0),
+        words: "%0 = ",
+    },
+];
 
 /// What may mend a number, a comparison or a loop.
 pub(crate) fn of_numbers(
@@ -32,15 +74,15 @@ pub(crate) fn of_numbers(
         Warning::LoopPastVector => below(draft, finding),
         Warning::CountPastVector if is_called_once(draft, token) => below(draft, finding),
         Warning::InnerOnce => set_before(draft, token),
-        Warning::InputEndless => or_end(draft, token),
-        Warning::NumberPut => written(draft, token),
+        Warning::InputEndless => draft.by_rows(token, &OR_END),
+        Warning::NumberPut => draft.by_rows(token, &WRITTEN),
         Warning::SlashEscape => star(draft, token),
-        Warning::NoEffect => stored(draft, token),
+        Warning::NoEffect => draft.by_rows(token, &STORED),
         Warning::WordOfString => character_of(draft, token),
         Warning::ValueForAddress => draft.before(token, b"&"),
         Warning::Slip(Slip::RoomTooSmall) => enlarged(draft, site, finding),
         Warning::Slip(slip) => of_slip(draft, token, slip),
-        Warning::CharacterCounted => digit(draft, token),
+        Warning::CharacterCounted => draft.by_rows(token, &DIGIT),
         Warning::AssignsNot => draft.replace(token, token.wrapping_add(1), &[Part::Words(b"!=")]),
         Warning::DigitForCharacter => draft.around(token, token, b"'", b"'"),
         _ => Ok(()),
@@ -238,41 +280,6 @@ pub(crate) fn set_before(draft: &mut Draft<'_>, keyword: usize) -> Result<(), Al
     }
 }
 
-// A condition that asks for the end of the input, too. The token is its `!=`.
-fn or_end(draft: &mut Draft<'_>, token: usize) -> Result<(), AllocError> {
-    let (name, constant) = (token.wrapping_sub(1), token.wrapping_add(1));
-    if !matches!(draft.at(name), Lexeme::Name(_)) {
-        return Ok(());
-    }
-    let end = draft.end(constant);
-    draft.put(
-        end,
-        end,
-        &[
-            Part::Words(b" & "),
-            Part::Tokens(name, name),
-            Part::Words(b" != '*e'"),
-        ],
-    )
-}
-
-/// A call of `printn` in the place of another one, whose argument is this token alone.
-pub(crate) fn written(draft: &mut Draft<'_>, token: usize) -> Result<(), AllocError> {
-    let (callee, closer) = (token.wrapping_sub(2), token.wrapping_add(1));
-    if draft.at(closer) != Lexeme::CloseParen {
-        return Ok(());
-    }
-    draft.replace(
-        callee,
-        closer,
-        &[
-            Part::Words(b"printn("),
-            Part::Tokens(token, token),
-            Part::Words(b", 10)"),
-        ],
-    )
-}
-
 // A character of a string in the place of a word of it by an index. The token is the string's name.
 fn character_of(draft: &mut Draft<'_>, name: usize) -> Result<(), AllocError> {
     let opener = name.wrapping_add(1);
@@ -296,18 +303,6 @@ fn character_of(draft: &mut Draft<'_>, name: usize) -> Result<(), AllocError> {
     )
 }
 
-// The number of the digit that a name has.
-fn digit(draft: &mut Draft<'_>, name: usize) -> Result<(), AllocError> {
-    let before = draft.at(name.wrapping_sub(1));
-    let after = draft.at(name.wrapping_add(1));
-    let is_last = before == Lexeme::Operator(BinOp::Add)
-        && matches!(after, Lexeme::Semicolon | Lexeme::CloseParen);
-    if is_last {
-        return draft.after(name, b" - '0'");
-    }
-    draft.around(name, name, b"(", b" - '0')")
-}
-
 // A character constant with a star in the place of its slash.
 fn star(draft: &mut Draft<'_>, token: usize) -> Result<(), AllocError> {
     let slash = draft.start(token).saturating_add(1);
@@ -315,24 +310,6 @@ fn star(draft: &mut Draft<'_>, token: usize) -> Result<(), AllocError> {
         return Ok(());
     }
     draft.put(slash, slash.saturating_add(1), &[Part::Words(b"*")])
-}
-
-// An assignment to the name with which a sum or a difference begins that is a statement.
-fn stored(draft: &mut Draft<'_>, name: usize) -> Result<(), AllocError> {
-    let (sign, constant) = (name.wrapping_add(1), name.wrapping_add(2));
-    let is_sum = matches!(draft.at(name), Lexeme::Name(_))
-        && matches!(draft.at(sign), Lexeme::Operator(BinOp::Add | BinOp::Sub))
-        && matches!(draft.at(constant), Lexeme::Number(_))
-        && draft.at(constant.wrapping_add(1)) == Lexeme::Semicolon;
-    if !is_sum {
-        return Ok(());
-    }
-    let start = draft.start(name);
-    draft.put(
-        start,
-        start,
-        &[Part::Tokens(name, name), Part::Words(b" = ")],
-    )
 }
 
 // Whether the function of a call, of which this token is an argument, is called nowhere else.

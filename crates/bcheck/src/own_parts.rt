@@ -49,7 +49,7 @@ fn comment_end(alloc: Global, source: &[u8], start: usize) -> Result<Option<Text
 
 // What a product begins with, where a name of so many bytes is multiplied.
 fn product(alloc: Global, rest: &[u8], len: usize) -> Result<Option<Text>, AllocError> {
-    let next = trimmed(rest.get(len..).unwrap_or(&[]));
+    let next = rest.get(len..).unwrap_or(&[]).trim_ascii();
     if next.get(0) != Some(&b'*') && next.get(..2) != Some(b"=*") {
         return Ok(None);
     }
@@ -63,8 +63,8 @@ fn product(alloc: Global, rest: &[u8], len: usize) -> Result<Option<Text>, Alloc
 // What a quotient of two numbers is, whose sign is at this place.
 fn quotient(alloc: Global, source: &[u8], sign: usize) -> Result<Option<Text>, AllocError> {
     let line = source.get(line_start(source, sign)..sign).unwrap_or(&[]);
-    let dividend = digits_at_end(trimmed(line));
-    let divisor = digits(trimmed(source.get(sign.saturating_add(1)..).unwrap_or(&[])));
+    let dividend = digits_at_end(line.trim_ascii());
+    let divisor = digits(after(source, sign));
     let (Some(one), Some(other)) = (value_of(dividend), value_of(divisor)) else {
         return Ok(None);
     };
@@ -117,12 +117,13 @@ fn digits_at_end(bytes: &[u8]) -> &[u8] {
 
 // An assignment of what a call gives, to the name that is its first argument.
 fn kept(alloc: Global, rest: &[u8]) -> Result<Option<Text>, AllocError> {
-    let (Some(opener), Some(arguments)) = (place_of_opener(rest), in_parentheses(rest)) else {
+    let opener = rest.iter().position(|byte| *byte == b'(');
+    let (Some(opener), Some(arguments)) = (opener, in_parentheses(rest)) else {
         return Ok(None);
     };
     let first = match place_of(arguments, b',') {
         Some(comma) => up_to(arguments, comma),
-        None => trimmed(arguments),
+        None => arguments.trim_ascii(),
     };
     if Name::from_bytes(first).is_none() {
         return Ok(None);
@@ -139,15 +140,6 @@ fn kept(alloc: Global, rest: &[u8]) -> Result<Option<Text>, AllocError> {
         text.push(part)?;
     }
     Ok(Some(text))
-}
-
-fn place_of_opener(rest: &[u8]) -> Option<usize> {
-    for index in 0..rest.len() {
-        if rest.get(index) == Some(&b'(') {
-            return Some(index);
-        }
-    }
-    None
 }
 
 // How two characters of a string are swapped, of which the second one is stored by this call.
@@ -218,27 +210,14 @@ fn place_of(bytes: &[u8], wanted: u8) -> Option<usize> {
 }
 
 fn up_to(bytes: &[u8], end: usize) -> &[u8] {
-    trimmed(bytes.get(..end).unwrap_or(bytes))
+    bytes.get(..end).unwrap_or(bytes).trim_ascii()
 }
 
 fn after(bytes: &[u8], place: usize) -> &[u8] {
-    trimmed(bytes.get(place.saturating_add(1)..).unwrap_or(&[]))
-}
-
-// The bytes without blanks before and after them.
-fn trimmed(bytes: &[u8]) -> &[u8] {
-    let (mut first, mut end) = (0, 0);
-    let mut is_begun = false;
-    for index in 0..bytes.len() {
-        if !matches!(bytes.get(index), Some(b' ' | b'\t')) {
-            if !is_begun {
-                first = index;
-            }
-            is_begun = true;
-            end = index.saturating_add(1);
-        }
-    }
-    bytes.get(first..end).unwrap_or(&[])
+    bytes
+        .get(place.saturating_add(1)..)
+        .unwrap_or(&[])
+        .trim_ascii()
 }
 
 // A loop of the three parts of the header of a `for`.
@@ -326,13 +305,10 @@ fn untyped(begin: &[u8]) -> &[u8] {
         return begin;
     };
     match Name::from_bytes(up_to(begin, blank)) {
-        Some(name) if is_type_name(&name) || is_declaring(name.as_str()) => after(begin, blank),
+        Some(name) if is_type_name(&name) => after(begin, blank),
+        Some(name) if matches!(name.as_str(), "var" | "let" | "auto") => after(begin, blank),
         _ => begin,
     }
-}
-
-fn is_declaring(word: &str) -> bool {
-    matches!(word, "var" | "let" | "auto")
 }
 
 // A loop that counts, of `for i in range(a, b)`.
@@ -340,7 +316,7 @@ fn loop_of_range(alloc: Global, rest: &[u8]) -> Result<Option<Text>, AllocError>
     let Some(range) = in_parentheses(rest) else {
         return Ok(None);
     };
-    let head = trimmed(rest.get(3..).unwrap_or(&[]));
+    let head = after(rest, 2);
     let Some(blank) = place_of(head, b' ') else {
         return Ok(None);
     };
@@ -364,7 +340,7 @@ fn loop_of_range(alloc: Global, rest: &[u8]) -> Result<Option<Text>, AllocError>
         b"; while(",
         name,
         b" < ",
-        trimmed(last),
+        last.trim_ascii(),
         b") { .. ",
         name,
         b"++; }",
@@ -416,7 +392,7 @@ pub(crate) fn body_end(source: &[u8], brace: usize) -> Option<(u64, usize)> {
             if blanks_at(source, start) <= own {
                 return found;
             }
-            found = Some((count, start.saturating_add(length_of(line))));
+            found = Some((count, start.saturating_add(line.trim_ascii_end().len())));
         }
         start = next;
     }
@@ -425,22 +401,12 @@ pub(crate) fn body_end(source: &[u8], brace: usize) -> Option<(u64, usize)> {
 
 // Whether a line is blank, a comment or a label, which stand anywhere.
 fn is_loose(line: &[u8]) -> bool {
-    let words = trimmed(line.get(..length_of(line)).unwrap_or(&[]));
+    let words = line.trim_ascii();
     words.is_empty() || words.get(..2) == Some(b"/*") || words.last() == Some(&b':')
 }
 
-// How long a line is without the blanks and the newline at its end.
-fn length_of(line: &[u8]) -> usize {
-    let mut length = 0;
-    for index in 0..line.len() {
-        if !matches!(line.get(index), Some(b' ' | b'\t' | b'\r' | b'\n')) {
-            length = index.saturating_add(1);
-        }
-    }
-    length
-}
-
-fn line_start(source: &[u8], place: usize) -> usize {
+/// Where the line of a place begins.
+pub(crate) fn line_start(source: &[u8], place: usize) -> usize {
     for back in 0..place {
         let at = place.saturating_sub(back);
         if source.get(at.saturating_sub(1)) == Some(&b'\n') {

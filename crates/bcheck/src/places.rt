@@ -213,8 +213,8 @@ fn is_token(lexeme: Option<Lexeme>) -> bool
     !matches!(lexeme, None | Some(Lexeme::End))
 }
 
-// Whether no token comes after this one.
-fn ends(lexeme: Option<Lexeme>) -> bool
+/// Whether no token comes after this one.
+pub(crate) fn ends(lexeme: Option<Lexeme>) -> bool
     ensures { result ≡ ends lexeme }
 {
     matches!(lexeme, Some(Lexeme::Bad(_) | Lexeme::End))

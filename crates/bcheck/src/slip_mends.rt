@@ -1,7 +1,8 @@
 //! Edits for slips of order, of kinds of values and of turns of a loop.
-use crate::draft::{Draft, Part};
+use crate::draft::{Draft, Part, Row, Spot};
 use crate::further_mends::{divisor_added, not_of_all};
-use crate::number_mends::{set_before, written};
+use crate::kinds::{ANY, Like};
+use crate::number_mends::{WRITTEN, set_before};
 use crate::syntax_mends::{after_brackets, statement_of};
 use blang::Keyword;
 use blex::Lexeme;
@@ -9,12 +10,27 @@ use blint::Slip;
 use bword::BinOp;
 use std::alloc::AllocError;
 
+/// Parentheses around `*` and a name, before a `++` or `--`.
+#[rattlefmt::skip]
+const WORD_COUNTED: [Row; 1] = [
+    Row { back: 2, kinds: [ANY, ANY, ANY, ANY, ANY], spot: Spot::For(0, 1), words: "(%0%1)" },
+];
+
+/// `<` in the place of `>`, and the other way round.
+#[rattlefmt::skip]
+const OTHER_SIGN: [Row; 4] = [
+    Row { back: 0, kinds: [Like::Op(BinOp::Lt), ANY, ANY, ANY, ANY], spot: Spot::For(0, 0), words: ">" },
+    Row { back: 0, kinds: [Like::Op(BinOp::Le), ANY, ANY, ANY, ANY], spot: Spot::For(0, 0), words: ">=" },
+    Row { back: 0, kinds: [Like::Op(BinOp::Gt), ANY, ANY, ANY, ANY], spot: Spot::For(0, 0), words: "<" },
+    Row { back: 0, kinds: [Like::Op(BinOp::Ge), ANY, ANY, ANY, ANY], spot: Spot::For(0, 0), words: "<=" },
+];
+
 /// What may mend a slip. The token is the one that is told.
 pub(crate) fn of_slip(draft: &mut Draft<'_>, token: usize, slip: Slip) -> Result<(), AllocError> {
     let next = token.wrapping_add(1);
     match slip {
         Slip::NeverAgain => set_before(draft, token),
-        Slip::NumberForString => written(draft, token),
+        Slip::NumberForString => draft.by_rows(token, &WRITTEN),
         Slip::CharacterForString => put_character(draft, token),
         Slip::WordStored => character_stored(draft, token),
         Slip::WordForAddress | Slip::ValueKept => draft.before(token, b"&"),
@@ -24,34 +40,19 @@ pub(crate) fn of_slip(draft: &mut Draft<'_>, token: usize, slip: Slip) -> Result
         Slip::ProductOfZero | Slip::BaseOfZero => draft.rename(token, b"1"),
         Slip::DividedByOne => draft.rename(token, b"2"),
         Slip::ZeroEnd => draft.rename(token, b"'*e'"),
-        Slip::MovesAddress => word_counted(draft, token),
-        Slip::OtherExtreme => other_sign(draft, token),
+        Slip::MovesAddress => draft.by_rows(token, &WORD_COUNTED),
+        Slip::OtherExtreme => draft.by_rows(token, &OTHER_SIGN),
         Slip::NotKept => turned_round(draft, token),
         Slip::AfterLast if draft.at(next) == Lexeme::Operator(BinOp::Sub) => {
             draft.after(token, b" - 1")
         }
-        Slip::PopsAbove if is_returned(draft, token) => draft.replace(
-            token,
-            next,
-            &[Part::Words(b"--"), Part::Tokens(token, token)],
-        ),
-        _ => Ok(()),
-    }
-}
-
-// Parentheses around `*` and the name, before the `++` or `--`.
-fn word_counted(draft: &mut Draft<'_>, sign: usize) -> Result<(), AllocError> {
-    let name = sign.wrapping_sub(1);
-    draft.around(name.wrapping_sub(1), name, b"(", b")")
-}
-
-// `<` in the place of `>`, and the other way round.
-fn other_sign(draft: &mut Draft<'_>, token: usize) -> Result<(), AllocError> {
-    match draft.at(token) {
-        Lexeme::Operator(BinOp::Lt) => draft.rename(token, b">"),
-        Lexeme::Operator(BinOp::Le) => draft.rename(token, b">="),
-        Lexeme::Operator(BinOp::Gt) => draft.rename(token, b"<"),
-        Lexeme::Operator(BinOp::Ge) => draft.rename(token, b"<="),
+        Slip::PopsAbove
+            if draft.at(statement_of(draft, token)) == Lexeme::Keyword(Keyword::Return) =>
+            draft.replace(
+                token,
+                next,
+                &[Part::Words(b"--"), Part::Tokens(token, token)],
+            ),
         _ => Ok(()),
     }
 }
@@ -77,11 +78,6 @@ fn turned_round(draft: &mut Draft<'_>, first: usize) -> Result<(), AllocError> {
             Part::Tokens(first, sign.wrapping_sub(1)),
         ],
     )
-}
-
-// Whether a token is in the value of a return.
-fn is_returned(draft: &Draft<'_>, token: usize) -> bool {
-    draft.at(statement_of(draft, token)) == Lexeme::Keyword(Keyword::Return)
 }
 
 // A string in the place of a character, or `putchar` in the place of the function that it is handed to.

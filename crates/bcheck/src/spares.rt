@@ -1,27 +1,96 @@
 //! What a change that needs no choice keeps of a source.
-ghost use Rattle.std.specs.Prelude.{◌≡◌, ◌<◌, ◌≤◌, ◌++◌, IfOk, OnOk, count_by, drop, length, reverse, slice_range};
+ghost use Rattle.std.specs.Prelude.{◌≡◌, ◌<◌, ◌≤◌, ◌+◌, ◌==◌, ◌++◌, IfOk, OnOk, count_by, drop, length};
+ghost use Rattle.std.specs.Prelude.{if◌then◌else◌, position, reverse, slice_range};
 ghost use Rattle.std.specs.List.{list_any};
 ghost use Rattle.bword.specs.Words.{same_name};
 ghost use Rattle.bcheck.specs.ChangesExcluded.{WrongChanges};
-ghost use Rattle.bcheck.specs.Spares.{alike, are_of_prototype, begins_alike, begins_foreign, begins_type, begins_with, is_firm, is_foreign};
-ghost use Rattle.bcheck.specs.Spares.{is_of_prototype, is_other_word, is_prototype, is_quote, is_quoted, is_same_piece};
-ghost use Rattle.bcheck.specs.Spares.{is_type, is_word, is_wrong, keeps, keeps_firm, keeps_quoted, keeps_words, lost_words};
-ghost use Rattle.bcheck.specs.Spares.{other_words, pair_of, rest_back, right_piece, right_pieces, spares, stays, times};
-ghost use Rattle.bcheck.specs.Spares.{is_lost, is_word_piece, words_in};
+ghost use Rattle.bcheck.specs.Spares.{adds_none, alike, are_comment, are_declaring, are_in, are_near, are_number, are_of_prototype};
+ghost use Rattle.bcheck.specs.Spares.{are_one_name, assigns_list, before_back, begins, begins_alike};
+ghost use Rattle.bcheck.specs.Spares.{begins_declaration, begins_foreign, begins_with, count_of, ends_part};
+ghost use Rattle.bcheck.specs.Spares.{first_lexeme, fits_kind, fits_sign, is_call, is_declaring, is_foreign, is_known};
+ghost use Rattle.bcheck.specs.Spares.{is_leaving, is_letter, is_name, is_number, is_of_class, is_of_kind};
+ghost use Rattle.bcheck.specs.Spares.{is_of_prototype, is_other, is_other_word, is_plain, is_prototype, is_quote};
+ghost use Rattle.bcheck.specs.Spares.{is_quoted, is_row, is_same_piece, is_sign, is_star, is_type, is_wrong, joined};
+ghost use Rattle.bcheck.specs.Spares.{keeps, keeps_declared, keeps_quoted, knows, letters_apart, open_bracket, opens};
+ghost use Rattle.bcheck.specs.Spares.{opens_at, other_words, pair_of, puts, puts_few, renames};
+ghost use Rattle.bcheck.specs.Spares.{rest_back, right_piece, right_pieces, sets_index, sets_name, sets_place, sets_word, spares};
+ghost use Rattle.bcheck.specs.Spares.{stand_rows, stands, stays, stays_declared, swap_of, takes, times, translates};
+ghost use Rattle.bcheck.specs.Spares.{turns_declaration};
 
 use crate::foreign::heading_word;
 use crate::further::is_end;
 use crate::kinds::{is_among, is_type_name};
 use crate::places::parts;
+use blang::Keyword;
 use blex::{Lexeme, PlacedPiece, Scanner};
-use bword::{Edition, Name};
+use btools::Text;
+use bword::{BinOp, Edition, Name};
 use std::alloc::{AllocError, Global};
 
 /// The most comments and tokens that a change takes out.
 const MOST_CHANGED: usize = 256;
 
 /// Words of other languages that a change may take out.
-const OTHER_WORDS: [&str; 5] = ["and", "or", "not", "then", "do"];
+const OTHER_WORDS: [&str; 2] = ["then", "do"];
+
+/// What stands here for a sign or a word of another language, each without blanks.
+const STAND_ROWS: [(&str, &str); 42] = [
+    ("==", "="),
+    ("=", "=="),
+    ("=<", "<="),
+    ("=>", ">="),
+    ("+=", "=+"),
+    ("-=", "=-"),
+    ("*=", "=*"),
+    ("/=", "=/"),
+    ("%=", "=%"),
+    ("&=", "=&"),
+    ("|=", "=|"),
+    ("<>", "!="),
+    (":=", "="),
+    (";", ","),
+    (",", ";"),
+    (":", ";"),
+    (";", ":"),
+    (")", "]"),
+    ("]", ")"),
+    ("and", "&"),
+    ("or", "|"),
+    ("not", "!"),
+    ("True", "1"),
+    ("true", "1"),
+    ("TRUE", "1"),
+    ("False", "0"),
+    ("false", "0"),
+    ("FALSE", "0"),
+    ("None", "0"),
+    ("NULL", "0"),
+    ("nil", "0"),
+    ("null", "0"),
+    ("EOF", "'*e'"),
+    ("-1", "'*e'"),
+    (">-1", "!='*e'"),
+    (">=0", "!='*e'"),
+    ("<=-1", "=='*e'"),
+    ("<0", "=='*e'"),
+    ("-1<", "'*e'!="),
+    ("0<=", "'*e'!="),
+    ("-1>=", "'*e'=="),
+    ("0>", "'*e'=="),
+];
+
+/// What is counted of pieces.
+#[derive(Clone, Copy)]
+enum Class {
+    /// What is neither a sign that may be taken out nor a word of another language.
+    Bound,
+    Sign,
+    /// A keyword with which a function or a loop is left.
+    WayOut,
+    Name,
+    /// The `(` of a call.
+    Call,
+}
 
 /// Two sources, and pieces of each.
 #[derive(Clone, Copy)]
@@ -30,6 +99,17 @@ struct Both<'a> {
     olds: &'a [PlacedPiece],
     new: &'a [u8],
     news: &'a [PlacedPiece],
+}
+
+/// A change of a source: all pieces, those that change, those before them, from the last one back, and the bytes that
+/// it takes out, with their pieces.
+#[derive(Clone, Copy)]
+struct Trial<'a> {
+    whole: Both<'a>,
+    changed: Both<'a>,
+    before: &'a [PlacedPiece],
+    taken: &'a [u8],
+    pieces: &'a [PlacedPiece],
 }
 
 /// Whether a change that takes these bytes of a source out, and makes another one of it, needs no choice.
@@ -44,39 +124,431 @@ pub(crate) fn spares(
 {
     let olds = pieces(alloc, edition, source)?;
     let news = pieces(alloc, edition, new)?;
-    let foreign = pieces(alloc, edition, taken)?;
+    let out = pieces(alloc, edition, taken)?;
     let whole = Both {
         source,
         olds: olds.as_slice(),
         new,
         news: news.as_slice(),
     };
+    let before = before_back(alloc, &whole)?;
     let (first_olds, first_news) = rest_back(alloc, &whole)?;
     let rest = Both {
-        source,
         olds: first_olds.as_slice(),
-        new,
         news: first_news.as_slice(),
+        ..whole
     };
     let (last_olds, last_news) = rest_back(alloc, &rest)?;
     let changed = Both {
-        source,
         olds: last_olds.as_slice(),
-        new,
         news: last_news.as_slice(),
+        ..whole
     };
-    let is_foreign = is_foreign(taken, foreign.as_slice(), last_olds.as_slice());
-    Ok(keeps(&changed, is_foreign))
+    let trial = Trial {
+        whole,
+        changed,
+        before: before.as_slice(),
+        taken,
+        pieces: out.as_slice(),
+    };
+    keeps(alloc, &trial)
 }
 
 // Whether what changes needs no choice.
-fn keeps(both: &Both<'_>, is_foreign: bool) -> bool
-    ensures { result ≡ keeps (pair_of both.now) is_foreign }
+fn keeps(alloc: Global, trial: &Trial<'_>) -> Result<bool, AllocError>
+    ensures { IfOk result (λ is. is ≡ keeps (swap_of trial.now)) }
 {
-    quotes(both.source) <= quotes(both.new)
+    let both = &trial.changed;
+    let is_kept = quotes(both.source) <= quotes(both.new)
         && both.olds.len() <= MOST_CHANGED
         && keeps_quoted(both)
-        && (is_foreign || keeps_firm(both) && keeps_words(both))
+        && adds_none(both, Class::WayOut);
+    if !is_kept {
+        return Ok(false);
+    }
+    if is_foreign(trial.taken, trial.pieces, both.olds) && translates(both, trial.taken) {
+        return Ok(true);
+    }
+    is_of_kind(alloc, trial)
+}
+
+// Whether a change is of a kind that needs no choice.
+fn is_of_kind(alloc: Global, trial: &Trial<'_>) -> Result<bool, AllocError>
+    ensures { IfOk result (λ is. is ≡ is_of_kind (swap_of trial.now)) }
+{
+    let old = joined(alloc, trial.changed.source, trial.changed.olds)?;
+    let new = joined(alloc, trial.changed.new, trial.changed.news)?;
+    Ok(fits_kind(trial, old.as_slice(), new.as_slice()))
+}
+
+// Whether it is, where these are the bytes of the pieces that change.
+fn fits_kind(trial: &Trial<'_>, old: &[u8], new: &[u8]) -> bool
+    ensures { result ≡ fits_kind (swap_of trial.now) old.now new.now }
+{
+    let both = &trial.changed;
+    puts(&trial.whole, both)
+        || takes(both)
+        || turns_declaration(&trial.whole, both, trial.taken, trial.pieces)
+        || stands(both.source, trial.before, old, new)
+        || renames(both, old, new)
+}
+
+// Whether all pieces stay, in their order, and no more are put in than quotes and stars, or a few.
+fn puts(whole: &Both<'_>, both: &Both<'_>) -> bool
+    ensures { result ≡ puts (pair_of whole.now) (pair_of both.now) }
+{
+    are_in(both) && (plain_bytes(both.new) <= plain_bytes(both.source) || puts_few(whole, both))
+}
+
+// Whether three pieces are put in at most, and no name but one that is known.
+fn puts_few(whole: &Both<'_>, both: &Both<'_>) -> bool
+    ensures { result ≡ puts_few (pair_of whole.now) (pair_of both.now) }
+{
+    both.news.len() <= both.olds.len().saturating_add(3)
+        && (adds_none(both, Class::Name) || are_declaring(both.news) && knows(whole, both))
+}
+
+// Whether all pieces are of a declaration.
+fn are_declaring(pieces: &[PlacedPiece]) -> bool
+    ensures { result ≡ are_declaring pieces.now }
+{
+    pieces.iter().all(|piece| is_declaring(piece.lexeme))
+}
+
+// Whether each name among the new pieces stands in the source.
+fn knows(whole: &Both<'_>, both: &Both<'_>) -> bool
+    ensures { result ≡ knows (pair_of whole.now) (pair_of both.now) }
+{
+    both.news
+        .iter()
+        .all(|piece| is_known(whole, both.new, piece))
+}
+
+#[tactic(auto, unfolding(crate::specs::Spares::is_known))]
+fn is_known(whole: &Both<'_>, new: &[u8], piece: &PlacedPiece) -> bool
+    ensures { result ≡ is_known (pair_of whole.now) new.now piece.now }
+{
+    !is_name(piece.lexeme) || 0 < times(new, piece, whole.source, whole.olds)
+}
+
+// Whether a declaration consists of such tokens.
+fn is_declaring(lexeme: Option<Lexeme>) -> bool
+    ensures { result ≡ is_declaring lexeme }
+{
+    matches!(
+        lexeme,
+        Some(
+            Lexeme::Name(_)
+                | Lexeme::Keyword(Keyword::Auto | Keyword::Extrn)
+                | Lexeme::Comma
+                | Lexeme::Semicolon,
+        )
+    )
+}
+
+// Whether none but one or two signs and words of other languages are taken out.
+fn takes(both: &Both<'_>) -> bool
+    ensures { result ≡ takes (pair_of both.now) }
+{
+    let back = Both {
+        source: both.new,
+        olds: both.news,
+        new: both.source,
+        news: both.olds,
+    };
+    are_in(&back)
+        && count_of(both.olds, Class::Bound) <= count_of(both.news, Class::Bound)
+        && count_of(both.olds, Class::Sign) <= count_of(both.news, Class::Sign).saturating_add(2)
+}
+
+// Whether a declaration of another language, which is taken out or a part of what is, becomes one of this.
+fn turns_declaration(
+    whole: &Both<'_>,
+    both: &Both<'_>,
+    taken: &[u8],
+    pieces: &[PlacedPiece],
+) -> bool
+    ensures { result ≡ turns_declaration (pair_of whole.now) (pair_of both.now) taken.now pieces.now }
+{
+    begins_declaration(both.olds, taken, pieces)
+        && keeps_declared(both)
+        && knows(whole, both)
+        && adds_none(both, Class::Call)
+}
+
+fn keeps_declared(both: &Both<'_>) -> bool
+    ensures { result ≡ keeps_declared (pair_of both.now) }
+{
+    both.olds.iter().all(|piece| stays_declared(both, piece))
+}
+
+#[tactic(auto, unfolding(crate::specs::Spares::stays_declared))]
+fn stays_declared(both: &Both<'_>, piece: &PlacedPiece) -> bool
+    ensures { result ≡ stays_declared (pair_of both.now) piece.now }
+{
+    !is_of_class(Class::Bound, piece) || is_star(piece.lexeme) || stays(both, piece)
+}
+
+// Whether a declaration is taken out, or an assignment of a list, or what changes begins with a type.
+fn begins_declaration(olds: &[PlacedPiece], taken: &[u8], pieces: &[PlacedPiece]) -> bool
+    ensures { result ≡ begins_declaration olds.now taken.now pieces.now }
+{
+    is_other(first_lexeme(olds)) || begins("auto", taken, pieces) || assigns_list(taken, pieces)
+}
+
+fn assigns_list(source: &[u8], pieces: &[PlacedPiece]) -> bool
+    ensures { result ≡ assigns_list source.now pieces.now }
+{
+    is_name(first_lexeme(pieces))
+        && begins("=", source, rest_from(pieces, 1))
+        && begins("[", source, rest_from(pieces, 2))
+}
+
+fn first_lexeme(pieces: &[PlacedPiece]) -> Option<Lexeme>
+    ensures { result ≡ first_lexeme pieces.now }
+{
+    match pieces {
+        [first, ..] => first.lexeme,
+        [] => None,
+    }
+}
+
+// Whether pieces of a source begin with a word or a sign.
+fn begins(word: &str, source: &[u8], pieces: &[PlacedPiece]) -> bool
+    ensures { result ≡ begins word.now source.now pieces.now }
+{
+    match pieces {
+        [first, ..] => text_of(source, first) == word.as_bytes(),
+        [] => false,
+    }
+}
+
+fn rest_from(pieces: &[PlacedPiece], count: usize) -> &[PlacedPiece]
+    ensures { result.now ≡ drop count pieces.now }
+{
+    if count < pieces.len() {
+        pieces.split_at(count).1
+    } else {
+        &[]
+    }
+}
+
+fn is_star(lexeme: Option<Lexeme>) -> bool
+    ensures { result ≡ is_star lexeme }
+{
+    matches!(lexeme, Some(Lexeme::Operator(BinOp::Mul)))
+}
+
+// Whether these bytes stand for those of a sign or of a word, after such pieces of a source.
+fn stands(source: &[u8], before: &[PlacedPiece], old: &[u8], new: &[u8]) -> bool
+    ensures { result ≡ stands source.now before.now old.now new.now }
+{
+    is_among_rows(old, new, &STAND_ROWS) && fits_sign(source, before, old)
+}
+
+// Whether `==`, if it changes, is the sign of a statement that sets a word, and `=` isn't.
+fn fits_sign(source: &[u8], before: &[PlacedPiece], old: &[u8]) -> bool
+    ensures { result ≡ fits_sign source.now before.now old.now }
+{
+    if old == b"==".as_slice() {
+        sets_word(source, before)
+    } else {
+        !(old == b"=".as_slice() && sets_word(source, before))
+    }
+}
+
+// Whether pieces, from the last one back, are a word that a statement begins with, or one that is counted then.
+fn sets_word(source: &[u8], before: &[PlacedPiece]) -> bool
+    ensures { result ≡ sets_word source.now before.now }
+{
+    sets_place(source, before)
+        || (begins("++", source, before) || begins("--", source, before))
+            && sets_place(source, rest_from(before, 1))
+}
+
+// Whether they are one of these names, or one with an index of one piece or of three.
+fn sets_place(source: &[u8], before: &[PlacedPiece]) -> bool
+    ensures { result ≡ sets_place source.now before.now }
+{
+    sets_name(source, before)
+        || begins("]", source, before)
+            && (sets_index(source, rest_from(before, 2))
+                || sets_index(source, rest_from(before, 4)))
+}
+
+fn sets_index(source: &[u8], before: &[PlacedPiece]) -> bool
+    ensures { result ≡ sets_index source.now before.now }
+{
+    begins("[", source, before) && sets_name(source, rest_from(before, 1))
+}
+
+// Whether they are a name, or `*` and a name.
+fn sets_name(source: &[u8], before: &[PlacedPiece]) -> bool
+    ensures { result ≡ sets_name source.now before.now }
+{
+    let rest = rest_from(before, 1);
+    is_name(first_lexeme(before))
+        && (ends_part(source, rest)
+            || begins("*", source, rest) && ends_part(source, rest_from(before, 2)))
+}
+
+// Whether a statement may begin after them.
+fn ends_part(source: &[u8], before: &[PlacedPiece]) -> bool
+    ensures { result ≡ ends_part source.now before.now }
+{
+    begins(";", source, before)
+        || begins("{", source, before)
+        || begins("}", source, before)
+        || begins(")", source, before)
+        || begins("else", source, before)
+}
+
+fn is_among_rows(old: &[u8], new: &[u8], rows: &[(&str, &str)]) -> bool
+    ensures { result ≡ list_any (λ row. is_row old.now new.now (row.0.now, row.1.now)) rows.now }
+{
+    for (one, other) in rows {
+        if old == one.as_bytes() && new == other.as_bytes() {
+            return true;
+        }
+    }
+    false
+}
+
+// Whether a name stands for one with nearly the same letters, or a `[` parts it from an index.
+fn renames(both: &Both<'_>, old: &[u8], new: &[u8]) -> bool
+    ensures { result ≡ renames (pair_of both.now) old.now new.now }
+{
+    are_one_name(both.olds) && (are_one_name(both.news) && are_near(old, new) || opens(old, new))
+}
+
+fn are_one_name(pieces: &[PlacedPiece]) -> bool
+    ensures { result ≡ are_one_name pieces.now }
+{
+    match pieces {
+        [piece] => is_name(piece.lexeme),
+        _ => false,
+    }
+}
+
+fn is_name(lexeme: Option<Lexeme>) -> bool
+    ensures { result ≡ is_name lexeme }
+{
+    matches!(lexeme, Some(Lexeme::Name(_)))
+}
+
+fn are_near(name: &[u8], other: &[u8]) -> bool
+    ensures { result ≡ are_near name.now other.now }
+{
+    name.len() <= other.len().saturating_add(1)
+        && other.len() <= name.len().saturating_add(1)
+        && letters_apart(name, other) <= 1
+        && letters_apart(name, other) < name.len()
+        && letters_apart(other, name) <= 1
+}
+
+// How many letters of a name another one doesn't have.
+fn letters_apart(name: &[u8], other: &[u8]) -> usize
+    ensures { result ≡ letters_apart name.now other.now }
+{
+    name.iter().filter(|byte| !has_byte(other, **byte)).count()
+}
+
+fn has_byte(bytes: &[u8], byte: u8) -> bool
+    ensures { result ≡ list_any (λ c. c == byte) bytes.now }
+{
+    bytes.iter().any(|other| *other == byte)
+}
+
+// Whether a `[` parts a name.
+fn opens(old: &[u8], new: &[u8]) -> bool
+    ensures { result ≡ opens old.now new.now }
+{
+    opens_at(bracket_place(new), old, new)
+}
+
+fn bracket_place(text: &[u8]) -> Option<usize>
+    ensures { result ≡ position (λ b. b == open_bracket) text.now }
+{
+    text.iter().position(|byte| *byte == b'[')
+}
+
+fn opens_at(place: Option<usize>, old: &[u8], new: &[u8]) -> bool
+    ensures { result ≡ opens_at place old.now new.now }
+{
+    let Some(place) = place else {
+        return false;
+    };
+    let (name, index) = parts(old, place);
+    let (first, rest) = parts(new, place);
+    let (_, second) = parts(rest, 1);
+    name == first && index == second
+}
+
+// The bytes of pieces, without what is between them.
+fn joined(alloc: Global, source: &[u8], pieces: &[PlacedPiece]) -> Result<Text, AllocError>
+    ensures { IfOk result (λ text. text ≡ joined source.now pieces.now) }
+{
+    let mut text = Text::new(alloc);
+    for piece in pieces {
+        text.push(text_of(source, piece))?;
+    }
+    Ok(text)
+}
+
+// Whether what stands for what is of another language is all of it that is meant.
+fn translates(both: &Both<'_>, taken: &[u8]) -> bool
+    ensures { result ≡ translates (pair_of both.now) taken.now }
+{
+    if are_comment(both.new, both.news, taken) {
+        return true;
+    }
+    if begins_with(taken, b'0') {
+        return are_number(both.news);
+    }
+    if begins("define", both.source, both.olds) {
+        let rest = Both {
+            olds: rest_from(both.olds, 1),
+            ..*both
+        };
+        are_in(&rest) && both.news.len() <= both.olds.len()
+    } else {
+        both.news.is_empty()
+    }
+}
+
+// Whether these are one comment, with each letter that was taken out.
+fn are_comment(new: &[u8], pieces: &[PlacedPiece], taken: &[u8]) -> bool
+    ensures { result ≡ are_comment new.now pieces.now taken.now }
+{
+    match pieces {
+        [piece] => {
+            piece.lexeme.is_none()
+                && letters(taken).saturating_add(2) <= letters(text_of(new, piece))
+        }
+        _ => false,
+    }
+}
+
+// How many bytes of a text are no blanks.
+fn letters(text: &[u8]) -> usize
+    ensures { result ≡ count_by is_letter text.now }
+{
+    text.iter().filter(|byte| **byte > b' ').count()
+}
+
+fn are_number(pieces: &[PlacedPiece]) -> bool
+    ensures { result ≡ are_number pieces.now }
+{
+    match pieces {
+        [piece] => is_number(piece.lexeme),
+        _ => false,
+    }
+}
+
+fn is_number(lexeme: Option<Lexeme>) -> bool
+    ensures { result ≡ is_number lexeme }
+{
+    matches!(lexeme, Some(Lexeme::Number(_)))
 }
 
 // Whether pieces that change are in what was taken out alone, which is of another language.
@@ -126,24 +598,27 @@ fn rest_back(
     ensures news { IfOk result (λ rest. rest.1.items ≡ (rest_back (pair_of both.now)).news) }
 {
     let count = alike(both);
-    let olds = back_from(alloc, both.olds, count)?;
-    let news = back_from(alloc, both.news, count)?;
+    let olds = reversed(alloc, &both.olds[count..])?;
+    let news = reversed(alloc, &both.news[count..])?;
     Ok((olds, news))
 }
 
-// Pieces from a place on, from the last one back.
-fn back_from(
-    alloc: Global,
-    pieces: &[PlacedPiece],
-    count: usize,
-) -> Result<Vec<PlacedPiece>, AllocError>
-    requires { count ≤ length pieces.now }
-    ensures { IfOk result (λ rest. rest.items ≡ reverse (drop count pieces.now)) }
+// The first pieces that are the same, from the last one back.
+fn before_back(alloc: Global, both: &Both<'_>) -> Result<Vec<PlacedPiece>, AllocError>
+    ensures { IfOk result (λ before. before.items ≡ before_back (pair_of both.now)) }
 {
-    let mut rest = Vec::new(alloc);
-    rest.extend_from_slice(&pieces[count..])?;
-    rest.reverse();
-    Ok(rest)
+    let count = alike(both);
+    reversed(alloc, &both.olds[..count])
+}
+
+// Pieces from the last one back.
+fn reversed(alloc: Global, pieces: &[PlacedPiece]) -> Result<Vec<PlacedPiece>, AllocError>
+    ensures { IfOk result (λ back. back.items ≡ reverse pieces.now) }
+{
+    let mut back = Vec::new(alloc);
+    back.extend_from_slice(pieces)?;
+    back.reverse();
+    Ok(back)
 }
 
 // How many pieces are the same, from the first ones on.
@@ -153,21 +628,21 @@ fn alike(both: &Both<'_>) -> usize
     ensures news { result ≤ length both.now.news.now }
 {
     for index in 0..both.olds.len() {
-        if !is_same_at(both, index) {
+        if !is_same_at(both, index, index) {
             return index;
         }
     }
     both.olds.len()
 }
 
-// Whether the pieces at a place are the same.
-fn is_same_at(both: &Both<'_>, index: usize) -> bool
-    requires { index < length both.now.olds.now }
-    ensures { result ≡ begins_alike both.now.source.now (drop index both.now.olds.now) both.now.new.now
-        (drop index both.now.news.now) }
+// Whether an old piece and a new one are there and the same.
+fn is_same_at(both: &Both<'_>, old: usize, new: usize) -> bool
+    ensures { result ≡ begins_alike both.now.source.now (drop old both.now.olds.now) both.now.new.now
+        (drop new both.now.news.now) }
 {
-    index < both.news.len()
-        && is_same_piece(both.source, &both.olds[index], both.new, &both.news[index])
+    old < both.olds.len()
+        && new < both.news.len()
+        && is_same_piece(both.source, &both.olds[old], both.new, &both.news[new])
 }
 
 fn is_same_piece(source: &[u8], piece: &PlacedPiece, new: &[u8], other: &PlacedPiece) -> bool
@@ -210,85 +685,102 @@ fn keeps_quoted(both: &Both<'_>) -> bool
         .all(|piece| !is_quoted(piece.lexeme) || stays(both, piece))
 }
 
-fn keeps_firm(both: &Both<'_>) -> bool
-    ensures { result ≡ keeps_firm (pair_of both.now) }
+// Whether the old pieces are among the new ones, in their order.
+fn are_in(both: &Both<'_>) -> bool
+    ensures { result ≡ are_in both.now.source.now both.now.olds.now both.now.new.now both.now.news.now }
 {
-    both.olds
-        .iter()
-        .all(|piece| !is_firm(piece.lexeme) || stays(both, piece))
+    let mut count = 0;
+    for index in 0..both.news.len() {
+        count = passed(both, count, index);
+    }
+    count == both.olds.len()
 }
 
-fn keeps_words(both: &Both<'_>) -> bool
-    ensures { result ≡ keeps_words (pair_of both.now) }
+// How many of the old pieces are found after a new one, where so many were before.
+fn passed(both: &Both<'_>, count: usize, index: usize) -> usize
+    requires { count ≤ length both.now.olds.now }
+    ensures { result ≡ (if begins_alike both.now.source.now (drop count both.now.olds.now) both.now.new.now
+        (drop index both.now.news.now) then count + 1 else count) }
 {
-    lost_words(both) <= 1 && words_in(both.olds) <= words_in(both.news)
+    if is_same_at(both, count, index) {
+        count + 1
+    } else {
+        count
+    }
 }
 
-// How many words are among the new ones less often than among the old ones.
-fn lost_words(both: &Both<'_>) -> usize
-    ensures { result ≡ lost_words (pair_of both.now) }
+// Whether no more of a class are there afterwards.
+fn adds_none(both: &Both<'_>, class: Class) -> bool
+    ensures { result ≡ adds_none class (pair_of both.now) }
 {
-    both.olds
+    count_of(both.news, class) <= count_of(both.olds, class)
+}
+
+// How many pieces are of a class.
+fn count_of(pieces: &[PlacedPiece], class: Class) -> usize
+    ensures { result ≡ count_of class pieces.now }
+{
+    pieces
         .iter()
-        .filter(|piece| is_lost(both, piece))
+        .filter(|piece| is_of_class(class, piece))
         .count()
 }
 
-// Whether a piece is a word that is among the new ones less often.
-#[tactic(auto, unfolding(crate::specs::Spares::is_lost))]
-fn is_lost(both: &Both<'_>, piece: &PlacedPiece) -> bool
-    ensures { result ≡ is_lost (pair_of both.now) piece.now }
+#[tactic(auto, unfolding(crate::specs::Spares::is_of_class))]
+fn is_of_class(class: Class, piece: &PlacedPiece) -> bool
+    ensures { result ≡ is_of_class class piece.now }
 {
-    is_word_piece(piece) && !stays(both, piece)
-}
-
-fn words_in(pieces: &[PlacedPiece]) -> usize
-    ensures { result ≡ words_in pieces.now }
-{
-    let mut count = 0;
-    for piece in pieces {
-        if is_word_piece(piece) {
-            count += 1;
-        }
+    match class {
+        Class::Bound => !(is_sign(piece.lexeme) || is_other(piece.lexeme)),
+        Class::Sign => is_sign(piece.lexeme),
+        Class::WayOut => is_leaving(piece.lexeme),
+        Class::Name => is_name(piece.lexeme),
+        Class::Call => matches!(piece.lexeme, Some(Lexeme::OpenParen)),
     }
-    count
 }
 
-#[tactic(auto, unfolding(crate::specs::Spares::is_word_piece))]
-fn is_word_piece(piece: &PlacedPiece) -> bool
-    ensures { result ≡ is_word_piece piece.now }
+fn is_leaving(lexeme: Option<Lexeme>) -> bool
+    ensures { result ≡ is_leaving lexeme }
 {
-    is_word(piece.lexeme)
+    matches!(
+        lexeme,
+        Some(Lexeme::Keyword(Keyword::Goto | Keyword::Return | Keyword::Break))
+    )
+}
+
+// Whether it is a sign that may be taken out.
+fn is_sign(lexeme: Option<Lexeme>) -> bool
+    ensures { result ≡ is_sign lexeme }
+{
+    matches!(
+        lexeme,
+        Some(
+            Lexeme::Comma
+                | Lexeme::Semicolon
+                | Lexeme::Colon
+                | Lexeme::OpenParen
+                | Lexeme::CloseParen
+                | Lexeme::OpenBracket
+                | Lexeme::CloseBracket
+                | Lexeme::Assign(None)
+                | Lexeme::Operator(BinOp::And | BinOp::Or | BinOp::Div),
+        )
+    )
+}
+
+fn is_other(lexeme: Option<Lexeme>) -> bool
+    ensures { result ≡ is_other lexeme }
+{
+    match &lexeme {
+        Some(Lexeme::Name(name)) => is_other_word(name),
+        _ => false,
+    }
 }
 
 fn is_quoted(lexeme: Option<Lexeme>) -> bool
     ensures { result ≡ is_quoted lexeme }
 {
     matches!(lexeme, None | Some(Lexeme::String))
-}
-
-// What is never taken out.
-fn is_firm(lexeme: Option<Lexeme>) -> bool
-    ensures { result ≡ is_firm lexeme }
-{
-    matches!(
-        lexeme,
-        None | Some(Lexeme::String | Lexeme::Keyword(_) | Lexeme::OpenBrace | Lexeme::CloseBrace,)
-    )
-}
-
-// Whether it is a name, a constant or a parenthesis.
-#[tactic(auto, unfolding(crate::specs::Spares::is_word))]
-fn is_word(lexeme: Option<Lexeme>) -> bool
-    ensures { result ≡ is_word lexeme }
-{
-    match &lexeme {
-        Some(Lexeme::Name(name)) => !is_other_word(name),
-        _ => matches!(
-            lexeme,
-            Some(Lexeme::Number(_) | Lexeme::Character(_) | Lexeme::OpenParen | Lexeme::CloseParen,)
-        ),
-    }
 }
 
 // Whether a name is a word of another language.
@@ -319,22 +811,13 @@ fn begins_foreign(bytes: &[u8]) -> bool
 fn is_prototype(pieces: &[PlacedPiece]) -> bool
     ensures { result ≡ is_prototype pieces.now }
 {
-    begins_type(pieces) && are_of_prototype(pieces)
+    is_type(first_lexeme(pieces)) && are_of_prototype(pieces)
 }
 
 fn are_of_prototype(pieces: &[PlacedPiece]) -> bool
     ensures { result ≡ are_of_prototype pieces.now }
 {
     pieces.iter().all(|piece| is_of_prototype(piece.lexeme))
-}
-
-fn begins_type(pieces: &[PlacedPiece]) -> bool
-    ensures { result ≡ begins_type pieces.now }
-{
-    match pieces.first() {
-        Some(piece) => is_type(piece.lexeme),
-        None => false,
-    }
 }
 
 #[tactic(auto, unfolding(crate::specs::Spares::is_type_word))]
@@ -371,6 +854,15 @@ fn begins_with(bytes: &[u8], byte: u8) -> bool
         Some(first) => *first == byte,
         None => false,
     }
+}
+
+// How many bytes of a text are neither blanks nor quotes, backslashes or stars.
+fn plain_bytes(text: &[u8]) -> usize
+    ensures { result ≡ count_by is_plain text.now }
+{
+    text.iter()
+        .filter(|byte| **byte > b' ' && !matches!(**byte, b'"' | b'\'' | b'\\' | b'*'))
+        .count()
 }
 
 // How many quotes and backslashes a text has.

@@ -576,10 +576,11 @@ fn holds(condition: If, source: &[u8], spans: &Spans, around: &Around) -> bool {
         If::BraceMeant => is_next_line(spans, before) && around.is_in(spans, Lexeme::OpenBrace),
         If::Divides => divides(spans, around.token),
         If::BraceOpen => around.is_in(spans, Lexeme::OpenBrace),
-        If::IfBrace => around.is_in(spans, Lexeme::OpenBrace) && is_after_if(spans, around.head()),
+        If::IfBrace => around.is_in(spans, Lexeme::OpenBrace)
+            && is_after(spans, around.head(), &IF),
         If::For => around.is_call_of(spans, "for"),
         If::Prototype => is_prototype(spans, around.token),
-        If::Else => is_after_else(spans, before),
+        If::Else => is_after(spans, before, &ELSE),
         If::Tight => is_joined(spans, before) && is_joined(spans, around.token),
         If::Indexed => around.is_in(spans, Lexeme::OpenBracket)
             && CLOSE_BRACKET.fits(&lexeme_at(spans, around.token.wrapping_add(2))),
@@ -651,7 +652,10 @@ fn closing_from(spans: &Spans, token: usize) -> u64 {
 fn divides(spans: &Spans, token: usize) -> bool {
     let (first, before) = (token.wrapping_sub(1), token.wrapping_sub(2));
     let next = token.saturating_add(1);
-    if is_heading_end(spans, before) || !is_joined(spans, first) || is_next_line(spans, token) {
+    if is_after(spans, before, &IF_WHILE)
+        || !is_joined(spans, first)
+        || is_next_line(spans, token)
+    {
         return false;
     }
     let mut is_after = false;
@@ -677,12 +681,12 @@ fn divides(spans: &Spans, token: usize) -> bool {
     false
 }
 
-// Whether a token is the `)` of a condition.
-fn is_heading_end(spans: &Spans, closer: usize) -> bool {
+// Whether a token is the `)` of a parenthesis right after such a keyword.
+fn is_after(spans: &Spans, closer: usize, keyword: &Like) -> bool {
     lexeme_at(spans, closer) == Lexeme::CloseParen
         && matches!(
             opener_of(spans, closer),
-            Some(opener) if IF_WHILE.fits(&lexeme_at(spans, opener.wrapping_sub(1)))
+            Some(opener) if keyword.fits(&lexeme_at(spans, opener.wrapping_sub(1)))
         )
 }
 
@@ -704,22 +708,6 @@ fn is_prototype(spans: &Spans, token: usize) -> bool {
         }
     }
     false
-}
-
-// Whether the condition of an `if` ends with this token.
-fn is_after_if(spans: &Spans, closer: usize) -> bool {
-    matches!(
-        opener_of(spans, closer),
-        Some(opener) if IF.fits(&lexeme_at(spans, opener.wrapping_sub(1)))
-    )
-}
-
-// Whether a token is the `)` of a parenthesis right after an `else`.
-fn is_after_else(spans: &Spans, closer: usize) -> bool {
-    matches!(
-        opener_of(spans, closer),
-        Some(opener) if ELSE.fits(&lexeme_at(spans, opener.wrapping_sub(1)))
-    )
 }
 
 // Whether a `)` that no parenthesis from a token on opens comes before a `;`.

@@ -1,13 +1,13 @@
 //! Edits for a token with which no program goes on.
 use crate::around::opener_of;
 use crate::brace_mends::{brace_by_lines, indent_of, is_heading, is_outdented, may_define};
-use crate::byte_mends::remark;
+use crate::byte_mends::{items_in, remark};
 use crate::declared_mends::{definition, head, local, names_alone, push_each};
-use crate::draft::{Draft, Part};
+use crate::draft::{Draft, Part, Row, Spot};
 use crate::finding::Finding;
 use crate::foreign::Foreign;
 use crate::further_mends::assigned_left;
-use crate::kinds::{closes_bracket, is_comparison, is_ended, is_operand, is_word, opens_bracket};
+use crate::kinds::{ANY, Like, depth_after, is_comparison, is_ended, is_word};
 use crate::logic_mends::{Logic, mend_logic};
 use crate::mends::{Site, token_at};
 use crate::name_mends::body_of;
@@ -15,14 +15,58 @@ use crate::near::near_keyword;
 use crate::own_parts::body_end;
 use crate::semicolon_mends::may_begin;
 use crate::syntax::Syntax;
-use crate::warning_mends::{as_character, is_function};
+use crate::warning_mends::{arguments_asked, arguments_between, as_character, is_function};
 use blang::Keyword;
 use blex::Lexeme;
-use bword::BinOp;
+use bword::{BinOp, Name};
 use std::alloc::AllocError;
 
 /// How many tokens before a `]` are looked at for its `[`.
 const MOST_INDEX: usize = 8;
+
+/// One comparison in the place of its sign and an `=` after it.
+#[rattlefmt::skip]
+const COMPARED: [Row; 4] = [
+    Row { back: 0, kinds: [Like::Op(BinOp::Eq), ANY, ANY, ANY, ANY], spot: Spot::For(0, 1), words: "==" },
+    Row { back: 0, kinds: [Like::Op(BinOp::Ne), ANY, ANY, ANY, ANY], spot: Spot::For(0, 1), words: "!=" },
+    Row {
+        back: 0,
+        kinds: [
+            Like::Either(Lexeme::Operator(BinOp::Lt), Lexeme::Operator(BinOp::Le)), ANY, ANY, ANY, ANY,
+        ],
+        spot: Spot::For(0, 1),
+        words: "<=",
+    },
+    Row {
+        back: 0,
+        kinds: [
+            Like::Either(Lexeme::Operator(BinOp::Gt), Lexeme::Operator(BinOp::Ge)), ANY, ANY, ANY, ANY,
+        ],
+        spot: Spot::For(0, 1),
+        words: ">=",
+    },
+];
+
+/// The name that the comparison before an operator compares, before the sign that comes after that.
+#[rattlefmt::skip]
+const COMPARED_AGAIN: [Row; 2] = [
+    Row { back: 4, kinds: [Like::Name, Like::Compares, Like::Operand, ANY, ANY], spot: Spot::Before(4), words: "%0 " },
+    Row { back: 4, kinds: [Like::Name, Like::Relates, Like::Operand, ANY, ANY], spot: Spot::Before(4), words: "%0 " },
+];
+
+/// One `==` for two `=`, and no brackets without an index.
+#[rattlefmt::skip]
+const WITHOUT_OPERAND: [Row; 2] = [
+    Row {
+        back: 1,
+        kinds: [
+            Like::Is(Lexeme::Assign(None)), Like::Is(Lexeme::Assign(None)), ANY, ANY, ANY,
+        ],
+        spot: Spot::For(0, 1),
+        words: "==",
+    },
+    Row { back: 1, kinds: [Like::Is(Lexeme::OpenBracket), ANY, ANY, ANY, ANY], spot: Spot::For(0, 1), words: "" },
+];
 
 /// What may mend a token with which no program goes on.
 pub(crate) fn of_syntax(
@@ -164,7 +208,9 @@ fn of_statement(draft: &mut Draft<'_>, site: Site, syntax: Syntax) -> Result<(),
         Syntax::CallParens if is_outdented(draft, site, token) => {
             draft.before(statement_of(draft, token), b"} ")
         }
-        Syntax::SemicolonMissing if has_keyword(draft, token) => keyword(draft, token),
+        Syntax::SemicolonMissing | Syntax::TwoOperands if has_keyword(draft, token) => keyword(
+            draft, token,
+        ),
         Syntax::SemicolonMissing
         | Syntax::SemicolonBefore
         | Syntax::NoStatement
@@ -226,32 +272,61 @@ fn of_expression(draft: &mut Draft<'_>, site: Site, syntax: Syntax) -> Result<()
         Syntax::QuoteEscaped => quotes(draft, before),
         Syntax::QuoteInside => quotes_inside(draft, token),
         Syntax::NumberName => number(draft, token),
-        Syntax::CompareSigns => compared(draft, token),
+        Syntax::CompareSigns => draft.by_rows(token, &COMPARED),
         Syntax::LessGreater => draft.replace(token, next, &[Part::Words(b"!=")]),
         Syntax::ColonEquals => draft.replace(token, next, &[Part::Words(b"=")]),
         Syntax::OperandMissing if draft.at(before) == Lexeme::Comma => draft.remove(before, before),
-        Syntax::OperandMissing if is_comparison(&draft.at(token)) => compared_again(draft, token),
-        Syntax::OperandMissing if are_equals(draft, before, token) => {
-            draft.replace(before, token, &[Part::Words(b"==")])
-        }
-        Syntax::OperandMissing if draft.at(before) == Lexeme::OpenBracket => {
-            draft.replace(before, token, &[])
-        }
+        Syntax::OperandMissing if is_comparison(&draft.at(token)) => draft.by_rows(
+            token,
+            &COMPARED_AGAIN,
+        ),
+        Syntax::OperandMissing => draft.by_rows(token, &WITHOUT_OPERAND),
         Syntax::AssignLeft => assigned_left(draft, token),
         Syntax::Unopened | Syntax::OtherBracket if index_opened(draft, token)? => Ok(()),
         Syntax::Unopened => {
             draft.is_choice = draft.at(token) == Lexeme::CloseBracket
-                && !is_ended_twice(draft, token);
+                && draft.at(token) != draft.at(token.wrapping_sub(1));
             opened(draft, token)?;
             draft.remove(token, token)
         }
         Syntax::OtherBracket => other_bracket(draft, token),
-        Syntax::TwoOperands if opener_before(draft, token).is_some() => draft.after(before, b","),
-        Syntax::TwoOperands if may_begin(draft, token) && !is_heading(draft, token) => {
-            draft.after(before, b";")
-        }
+        Syntax::TwoOperands => match opener_before(draft, token) {
+            Some(opener) => argument_apart(draft, opener, token),
+            None if may_begin(draft, token) && !is_heading(draft, token) => {
+                draft.after(before, b";")
+            }
+            None => Ok(()),
+        },
         _ => Ok(()),
     }
+}
+
+// A comma between two arguments of a call, of which this token begins the second one. Where the call has as many as are
+// asked for, an operator lacks. Where one may lack, since more are asked for or nobody knows, and neither is a string,
+// the comma is a choice.
+fn argument_apart(draft: &mut Draft<'_>, opener: usize, token: usize) -> Result<(), AllocError> {
+    let before = token.wrapping_sub(1);
+    let Lexeme::Name(name) = draft.at(opener.wrapping_sub(1)) else {
+        return Ok(());
+    };
+    let count = arguments_between(draft, opener);
+    let asked = arguments_of(draft, opener, &name);
+    let has_string = draft.at(before) == Lexeme::String || draft.at(token) == Lexeme::String;
+    if draft.at(opener) != Lexeme::OpenParen || asked.unwrap_or(u64::MAX) <= count {
+        return Ok(());
+    }
+    draft.is_choice = !has_string && asked != Some(count.saturating_add(1));
+    draft.after(before, b",")
+}
+
+// How many arguments a call asks for: of `printf` as many as its form has places, and the form.
+fn arguments_of(draft: &Draft<'_>, opener: usize, name: &Name) -> Option<u64> {
+    let form = opener.saturating_add(1);
+    if name.as_str() == "printf" && draft.at(form) == Lexeme::String {
+        let values = items_in(draft.bytes(form, form)) as u64;
+        return Some(values.saturating_add(1));
+    }
+    arguments_asked(draft, name)
 }
 
 // A `[` in the name before a `]` on its line that is two words which stand elsewhere, or one and a number. Where there
@@ -268,12 +343,14 @@ fn index_opened(draft: &mut Draft<'_>, closer: usize) -> Result<bool, AllocError
             break;
         }
         let word = draft.bytes(token, token);
-        if !is_name(&draft.at(token)) {
+        if !Like::Name.fits(&draft.at(token)) {
             continue;
         }
         for length in 1..word.len() {
             let (name, index) = word.split_at(length);
-            if stands(draft, name) && (is_digits(index) || stands(draft, index)) {
+            if stands(draft, name)
+                && (index.iter().all(|byte| byte.is_ascii_digit()) || stands(draft, index))
+            {
                 let place = draft.start(token).saturating_add(length);
                 draft.is_choice = !draft.all.is_empty();
                 draft.put(place, place, &[Part::Words(b"[")])?;
@@ -283,37 +360,25 @@ fn index_opened(draft: &mut Draft<'_>, closer: usize) -> Result<bool, AllocError
     Ok(!draft.all.is_empty())
 }
 
-// Whether a bracket stands twice.
-fn is_ended_twice(draft: &Draft<'_>, closer: usize) -> bool {
-    draft.at(closer) == draft.at(closer.wrapping_sub(1))
-}
-
 // Whether a name has these letters.
 fn stands(draft: &Draft<'_>, word: &[u8]) -> bool {
     for token in 0..draft.spans.end() {
-        if is_name(&draft.at(token)) && draft.bytes(token, token) == word {
+        if Like::Name.fits(&draft.at(token)) && draft.bytes(token, token) == word {
             return true;
         }
     }
     false
 }
 
-fn is_digits(word: &[u8]) -> bool {
-    word.iter().all(|byte| byte.is_ascii_digit())
-}
-
 // A parenthesis that is missing after the name of a function, where a `)` comes right after it, and another one.
 fn opened(draft: &mut Draft<'_>, token: usize) -> Result<(), AllocError> {
     let name = token.wrapping_sub(2);
-    let is_called = is_closing(draft, token) && is_closing(draft, token.wrapping_sub(1));
+    let is_called = draft.at(token) == Lexeme::CloseParen
+        && draft.at(token.wrapping_sub(1)) == Lexeme::CloseParen;
     if is_called && is_function(draft, name) {
         draft.after(name, b"(")?;
     }
     Ok(())
-}
-
-fn is_closing(draft: &Draft<'_>, token: usize) -> bool {
-    draft.at(token) == Lexeme::CloseParen
 }
 
 // The bracket that closes the one which is open before a token, in the place of another one.
@@ -331,26 +396,12 @@ fn other_bracket(draft: &mut Draft<'_>, token: usize) -> Result<(), AllocError> 
 
 /// The innermost bracket that is open before a token, if no brace is.
 pub(crate) fn opener_before(draft: &Draft<'_>, token: usize) -> Option<usize> {
-    let mut depth: u64 = 0;
-    for back in 0..token {
-        let at = token.saturating_sub(back).saturating_sub(1);
-        let lexeme = draft.at(at);
-        if matches!(
-            lexeme,
-            Lexeme::OpenBrace | Lexeme::CloseBrace | Lexeme::Semicolon
-        ) {
-            return None;
-        }
-        if closes_bracket(&lexeme) {
-            depth = depth.saturating_add(1);
-        } else if opens_bracket(&lexeme) {
-            if depth == 0 {
-                return Some(at);
-            }
-            depth = depth.saturating_sub(1);
-        }
+    let opener = opener_of(draft.spans, token)?;
+    if statement_of(draft, token) <= opener {
+        Some(opener)
+    } else {
+        None
     }
-    None
 }
 
 /// The token after the bracket that an opening one is closed by, or after the last one of its line.
@@ -358,11 +409,7 @@ pub(crate) fn after_brackets(draft: &Draft<'_>, opener: usize) -> usize {
     let mut depth: u64 = 0;
     for token in opener..draft.spans.end() {
         let lexeme = draft.at(token);
-        if opens_bracket(&lexeme) {
-            depth = depth.saturating_add(1);
-        } else if closes_bracket(&lexeme) {
-            depth = depth.saturating_sub(1);
-        }
+        depth = depth_after(depth, &lexeme);
         if depth == 0 || lexeme == Lexeme::End {
             return token.saturating_add(1);
         }
@@ -382,7 +429,7 @@ fn is_headed(draft: &Draft<'_>, token: usize) -> bool {
 fn is_between_statements(draft: &Draft<'_>, comma: usize) -> bool {
     let next = comma.wrapping_add(1);
     let after = draft.at(next.wrapping_add(1));
-    let begins = is_name(&draft.at(next))
+    let begins = Like::Name.fits(&draft.at(next))
         && (does_something(&after) || after == Lexeme::OpenBracket);
     if is_headed(draft, comma) || !begins {
         return false;
@@ -398,10 +445,6 @@ pub(crate) fn does_before(draft: &Draft<'_>, token: usize) -> bool {
         }
     }
     false
-}
-
-fn is_name(lexeme: &Lexeme) -> bool {
-    matches!(lexeme, Lexeme::Name(_))
 }
 
 fn does_something(lexeme: &Lexeme) -> bool {
@@ -427,7 +470,8 @@ pub(crate) fn statement_of(draft: &Draft<'_>, token: usize) -> usize {
 
 // A closing bracket for the one that is open: after a call whose value is assigned and compared, before an assignment
 // or a comparison, right before the token, or before a comma. An index is no comparison. Where an operator stands
-// between, and what is open is no heading and no statement, it is a choice.
+// between, and what is open is no heading and no statement, it is a choice. Before a `?` after that its place can't be
+// seen, nor right before the token, if an operator stands in the parentheses that end there, but for a heading's.
 fn closing(draft: &mut Draft<'_>, token: usize) -> Result<(), AllocError> {
     let Some(opener) = opener_before(draft, token) else {
         return Ok(());
@@ -449,14 +493,15 @@ fn closing(draft: &mut Draft<'_>, token: usize) -> Result<(), AllocError> {
             Lexeme::Operator(_) if depth == 0 && is_ended(&draft.at(at.wrapping_sub(1))) => {
                 is_joined = true;
             }
-            _ if opens_bracket(&lexeme) => depth = depth.saturating_add(1),
-            _ if closes_bracket(&lexeme) => depth = depth.saturating_sub(1),
-            _ => {}
+            Lexeme::Question if depth == 0 && is_joined => return Ok(()),
+            _ => depth = depth_after(depth, &lexeme),
         }
     }
-    draft.is_choice = is_joined && !is_whole_statement(draft, opener)
-        || !is_index && has_operator(draft, token.wrapping_sub(1));
-    draft.after(token.wrapping_sub(1), closer)?;
+    let is_split = !is_index && has_operator(draft, token.wrapping_sub(1));
+    draft.is_choice = is_split || is_joined && !is_whole_statement(draft, opener);
+    if !is_split || matches!(draft.at(opener.wrapping_sub(1)), Lexeme::Keyword(_)) {
+        draft.after(token.wrapping_sub(1), closer)?;
+    }
     before_commas(draft, opener, token, closer)
 }
 
@@ -618,7 +663,10 @@ fn one_by_one(draft: &mut Draft<'_>, opener: usize) -> Result<(), AllocError> {
         return Ok(());
     };
     let closer = end.wrapping_sub(1);
-    if !is_name(&draft.at(name)) || after_brackets(draft, opener) != end || closer <= opener {
+    if !Like::Name.fits(&draft.at(name))
+        || after_brackets(draft, opener) != end
+        || closer <= opener
+    {
         return Ok(());
     }
     let mut text = draft.text();
@@ -703,19 +751,6 @@ fn quotes_inside(draft: &mut Draft<'_>, token: usize) -> Result<(), AllocError> 
     )
 }
 
-// The name that the comparison before an operator compares, before the sign that comes after that.
-fn compared_again(draft: &mut Draft<'_>, token: usize) -> Result<(), AllocError> {
-    let name = token.wrapping_sub(4);
-    let is_compared = is_name(&draft.at(name))
-        && is_comparison(&draft.at(name.wrapping_add(1)))
-        && is_operand(&draft.at(name.wrapping_add(2)));
-    if !is_compared {
-        return Ok(());
-    }
-    let start = draft.start(token);
-    draft.put(start, start, &[Part::Tokens(name, name), Part::Words(b" ")])
-}
-
 // The digits of a hexadecimal number, whose name begins with `x`, to the base 10; a number without a letter after it;
 // or a product with a name that stands before, too.
 fn number(draft: &mut Draft<'_>, token: usize) -> Result<(), AllocError> {
@@ -734,10 +769,6 @@ fn number(draft: &mut Draft<'_>, token: usize) -> Result<(), AllocError> {
         _ if is_named_before(draft, token) => draft.after(before, b" * "),
         _ => Ok(()),
     }
-}
-
-fn are_equals(draft: &Draft<'_>, one: usize, other: usize) -> bool {
-    draft.at(one) == Lexeme::Assign(None) && draft.at(other) == Lexeme::Assign(None)
 }
 
 fn is_named_before(draft: &Draft<'_>, token: usize) -> bool {
@@ -765,19 +796,6 @@ fn hexadecimal(digits: &[u8]) -> Option<u64> {
     } else {
         Some(value)
     }
-}
-
-// One comparison in the place of its sign and an `=` after it.
-fn compared(draft: &mut Draft<'_>, token: usize) -> Result<(), AllocError> {
-    let next = token.wrapping_add(1);
-    let words: &[u8] = match draft.at(token) {
-        Lexeme::Operator(BinOp::Eq) => b"==",
-        Lexeme::Operator(BinOp::Ne) => b"!=",
-        Lexeme::Operator(BinOp::Lt | BinOp::Le) => b"<=",
-        Lexeme::Operator(BinOp::Gt | BinOp::Ge) => b">=",
-        _ => return Ok(()),
-    };
-    draft.replace(token, next, &[Part::Words(words)])
 }
 
 // What stands here for a word of another language.

@@ -1,8 +1,8 @@
 //! Edits for code that compiles and is probably a mistake.
 use crate::byte_mends::escapes;
-use crate::draft::{Draft, Part};
+use crate::draft::{Draft, Part, Row, Spot};
 use crate::finding::Finding;
-use crate::kinds::{is_comparison, is_operand, is_word};
+use crate::kinds::{ANY, COMMA, Like, depth_after, is_comparison, is_operand, is_word};
 use crate::logic_mends::{Logic, mend_logic};
 use crate::mends::{Site, token_at};
 use crate::name_mends::{body_of, declared_at};
@@ -14,6 +14,110 @@ use blex::Lexeme;
 use blint::Warning;
 use bword::{BinOp, Name};
 use std::alloc::AllocError;
+
+/// The operand between two comparisons once more, where it is one token.
+#[rattlefmt::skip]
+const AGAIN: [Row; 1] = [
+    Row { back: 1, kinds: [ANY, ANY, ANY, ANY, ANY], spot: Spot::After(0), words: " & %0" },
+];
+
+/// `!=` in the place of `==`, and no `!` before the operand.
+#[rattlefmt::skip]
+const NOT_EQUAL: [Row; 2] = [
+    Row {
+        back: 0,
+        kinds: [
+            Like::Is(Lexeme::Not), ANY, Like::Op(BinOp::Eq), ANY, ANY,
+        ],
+        spot: Spot::For(0, 2),
+        words: "%1 !=",
+    },
+    Row { back: 2, kinds: [ANY, ANY, Like::Op(BinOp::Eq), ANY, ANY], spot: Spot::For(0, 2), words: "%1 !=" },
+];
+
+/// Two arguments of one token, of which the first one is told, in the other order.
+#[rattlefmt::skip]
+const SWAPPED: [Row; 1] = [
+    Row {
+        back: 1,
+        kinds: [
+            Like::Either(Lexeme::OpenParen, Lexeme::Comma), ANY, COMMA, ANY,
+            Like::Either(Lexeme::CloseParen, Lexeme::Comma),
+        ],
+        spot: Spot::For(1, 3),
+        words: "%3, %1",
+    },
+];
+
+/// The end of the input in the place of a -1 or a 0. What is above -1, or not below 0, is no end.
+#[rattlefmt::skip]
+const INPUT_END: [Row; 9] = [
+    Row {
+        back: 1,
+        kinds: [
+            Like::Op(BinOp::Gt), Like::Op(BinOp::Sub), ANY, ANY, ANY,
+        ],
+        spot: Spot::For(0, 2),
+        words: "!= '*e'",
+    },
+    Row {
+        back: 1,
+        kinds: [
+            Like::Op(BinOp::Ge), Like::Is(Lexeme::Number(0)), ANY, ANY, ANY,
+        ],
+        spot: Spot::For(0, 1),
+        words: "!= '*e'",
+    },
+    Row {
+        back: 1,
+        kinds: [
+            Like::Op(BinOp::Le), Like::Op(BinOp::Sub), ANY, ANY, ANY,
+        ],
+        spot: Spot::For(0, 2),
+        words: "== '*e'",
+    },
+    Row {
+        back: 1,
+        kinds: [
+            Like::Op(BinOp::Lt), Like::Is(Lexeme::Number(0)), ANY, ANY, ANY,
+        ],
+        spot: Spot::For(0, 1),
+        words: "== '*e'",
+    },
+    Row {
+        back: 0,
+        kinds: [
+            Like::Op(BinOp::Sub), ANY, Like::Op(BinOp::Lt), ANY, ANY,
+        ],
+        spot: Spot::For(0, 2),
+        words: "'*e' !=",
+    },
+    Row {
+        back: 0,
+        kinds: [
+            Like::Is(Lexeme::Number(0)), Like::Op(BinOp::Le), ANY, ANY, ANY,
+        ],
+        spot: Spot::For(0, 1),
+        words: "'*e' !=",
+    },
+    Row {
+        back: 0,
+        kinds: [
+            Like::Op(BinOp::Sub), ANY, Like::Op(BinOp::Ge), ANY, ANY,
+        ],
+        spot: Spot::For(0, 2),
+        words: "'*e' ==",
+    },
+    Row {
+        back: 0,
+        kinds: [
+            Like::Is(Lexeme::Number(0)), Like::Op(BinOp::Gt), ANY, ANY, ANY,
+        ],
+        spot: Spot::For(0, 1),
+        words: "'*e' ==",
+    },
+    Row { back: 0, kinds: [Like::Op(BinOp::Sub), ANY, ANY, ANY, ANY], spot: Spot::For(0, 1), words: "'*e'" },
+];
 
 /// What may mend what is probably a mistake.
 pub(crate) fn of_warning(
@@ -39,8 +143,8 @@ fn of_operators(draft: &mut Draft<'_>, site: Site, warning: Warning) -> Result<(
         Warning::AssignsComparison => around_assignment(draft, token),
         Warning::AssignsCompared => draft.rename(token, turned(draft.bytes(token, token))),
         Warning::BitsCompared => around_bits(draft, token),
-        Warning::ComparesTwice => again(draft, token),
-        Warning::NotCompared => not_equal(draft, token),
+        Warning::ComparesTwice => draft.by_rows(token, &AGAIN),
+        Warning::NotCompared => draft.by_rows(token, &NOT_EQUAL),
         Warning::ComparesAlone if draft.at(token) == Lexeme::Operator(BinOp::Eq) => {
             draft.rename(token, b"=")
         }
@@ -66,7 +170,7 @@ fn of_operands(
             draft, token,
         ),
         Warning::LibraryArguments => base_ten(draft, token),
-        Warning::SwappedArguments => swap_with_next(draft, token),
+        Warning::SwappedArguments => draft.by_rows(token, &SWAPPED),
         Warning::VectorCalled => bracketed(draft, token.wrapping_add(1)),
         Warning::PastVector => whole_vector(draft, token),
         Warning::Unset => unset(draft, site, finding),
@@ -200,36 +304,6 @@ fn around_bits(draft: &mut Draft<'_>, token: usize) -> Result<(), AllocError> {
     draft.around(first, last, b"(", b")")
 }
 
-// The operand between two comparisons once more, where it is one token.
-fn again(draft: &mut Draft<'_>, token: usize) -> Result<(), AllocError> {
-    let operand = token.wrapping_sub(1);
-    let end = draft.end(operand);
-    draft.put(
-        end,
-        end,
-        &[Part::Words(b" & "), Part::Tokens(operand, operand)],
-    )
-}
-
-// `!=` in the place of `==`, and no `!` before the operand.
-fn not_equal(draft: &mut Draft<'_>, token: usize) -> Result<(), AllocError> {
-    let not = if draft.at(token) == Lexeme::Not {
-        token
-    } else {
-        token.wrapping_sub(2)
-    };
-    let operand = not.wrapping_add(1);
-    let operator = not.wrapping_add(2);
-    match draft.at(operator) {
-        Lexeme::Operator(BinOp::Eq) => draft.replace(
-            not,
-            operator,
-            &[Part::Tokens(operand, operand), Part::Words(b" !=")],
-        ),
-        _ => Ok(()),
-    }
-}
-
 // The end of a string or of the input, in the place of a 0.
 fn end_for_zero(draft: &mut Draft<'_>, token: usize) -> Result<(), AllocError> {
     for at in token..token.saturating_add(4) {
@@ -240,44 +314,19 @@ fn end_for_zero(draft: &mut Draft<'_>, token: usize) -> Result<(), AllocError> {
     Ok(())
 }
 
-// The end of the input in the place of a -1 or a 0. What is above -1, or not below 0, is no end. Where the name that is
-// compared holds something else, too, it is a choice.
+// The end of the input in the place of a -1 or a 0. Where the name that is compared holds something else, too, it is a
+// choice.
 fn end_for_minus_one(draft: &mut Draft<'_>, site: Site) -> Result<(), AllocError> {
     let token = site.token;
     let is_zero = draft.at(token) == Lexeme::Number(0);
-    let (before, last) = (
-        token.wrapping_sub(1),
-        if is_zero {
-            token
-        } else {
-            token.wrapping_add(1)
-        },
-    );
-    let next = last.wrapping_add(1);
-    let (left, right) = (draft.at(before), draft.at(next));
-    let is_first = is_comparison(&right);
-    let name = if is_first {
+    let next = token.wrapping_add(if is_zero { 1 } else { 2 });
+    let name = if is_comparison(&draft.at(next)) {
         next.wrapping_add(1)
     } else {
-        before.wrapping_sub(1)
+        token.wrapping_sub(2)
     };
     draft.is_choice = holds_others(draft, site, &draft.at(name));
-    match (is_zero, left, right) {
-        (false, Lexeme::Operator(BinOp::Gt), _) | (true, Lexeme::Operator(BinOp::Ge), _) => {
-            draft.replace(before, last, &[Part::Words(b"!= '*e'")])
-        }
-        (false, Lexeme::Operator(BinOp::Le), _) | (true, Lexeme::Operator(BinOp::Lt), _) => {
-            draft.replace(before, last, &[Part::Words(b"== '*e'")])
-        }
-        (false, _, Lexeme::Operator(BinOp::Lt)) | (true, _, Lexeme::Operator(BinOp::Le)) => {
-            draft.replace(token, next, &[Part::Words(b"'*e' !=")])
-        }
-        (false, _, Lexeme::Operator(BinOp::Ge)) | (true, _, Lexeme::Operator(BinOp::Gt)) => {
-            draft.replace(token, next, &[Part::Words(b"'*e' ==")])
-        }
-        (false, _, _) => draft.replace(token, last, &[Part::Words(b"'*e'")]),
-        (true, _, _) => Ok(()),
-    }
+    draft.by_rows(token, &INPUT_END)
 }
 
 // Whether a name of a function may hold something else than what `getchar` gives: it is a parameter, or is set otherwise.
@@ -289,7 +338,7 @@ fn holds_others(draft: &Draft<'_>, site: Site, name: &Lexeme) -> bool {
         let next = token.saturating_add(1);
         let value = draft.at(next.saturating_add(1));
         let is_set = match draft.at(next) {
-            Lexeme::Assign(None) => !is_constant(&value) && !is_word(&value, "getchar"),
+            Lexeme::Assign(None) => !Like::Constant.fits(&value) && !is_word(&value, "getchar"),
             Lexeme::Assign(_) | Lexeme::Increment | Lexeme::Decrement => true,
             _ => token < brace,
         };
@@ -298,10 +347,6 @@ fn holds_others(draft: &Draft<'_>, site: Site, name: &Lexeme) -> bool {
         }
     }
     false
-}
-
-fn is_constant(lexeme: &Lexeme) -> bool {
-    matches!(lexeme, Lexeme::Number(_) | Lexeme::Character(_))
 }
 
 /// Single quotes around a string of one or two characters, in the place of its own.
@@ -351,31 +396,6 @@ fn read_into(draft: &mut Draft<'_>, token: usize) -> Result<(), AllocError> {
         &[
             Part::Tokens(argument, argument),
             Part::Words(b" = getchar()"),
-        ],
-    )
-}
-
-// Two arguments of one token, of which this is the first, in the other order.
-fn swap_with_next(draft: &mut Draft<'_>, token: usize) -> Result<(), AllocError> {
-    let second = token.wrapping_add(2);
-    let begins = matches!(
-        draft.at(token.wrapping_sub(1)),
-        Lexeme::OpenParen | Lexeme::Comma
-    );
-    let ends = matches!(
-        draft.at(second.wrapping_add(1)),
-        Lexeme::CloseParen | Lexeme::Comma
-    );
-    if !begins || !ends || draft.at(token.wrapping_add(1)) != Lexeme::Comma {
-        return Ok(());
-    }
-    draft.replace(
-        token,
-        second,
-        &[
-            Part::Tokens(second, second),
-            Part::Words(b", "),
-            Part::Tokens(token, token),
         ],
     )
 }
@@ -441,8 +461,12 @@ fn unset(draft: &mut Draft<'_>, site: Site, finding: &Finding) -> Result<(), All
     begun(draft, site, &name)
 }
 
-// A 0 for a word, or a 1 for a product, after the declarations in which it is.
+// A 0 for a word, or a 1 for a product, after the declarations in which it is. A statement that compares it may be meant
+// to set it.
 fn begun(draft: &mut Draft<'_>, site: Site, name: &Name) -> Result<(), AllocError> {
+    if is_compared_alone(draft, site, name) {
+        return Ok(());
+    }
     let Some(declared) = declared_at(draft, site, name) else {
         return Ok(());
     };
@@ -453,11 +477,11 @@ fn begun(draft: &mut Draft<'_>, site: Site, name: &Name) -> Result<(), AllocErro
         return Ok(());
     }
     let place = draft.end(end);
-    let value: &[u8] = if is_multiplied(draft, site.token) {
-        b" = 1;"
-    } else {
-        b" = 0;"
-    };
+    let is_multiplied = matches!(
+        draft.at(site.token.wrapping_add(1)),
+        Lexeme::Operator(BinOp::Mul) | Lexeme::Assign(Some(BinOp::Mul))
+    );
+    let value: &[u8] = if is_multiplied { b" = 1;" } else { b" = 0;" };
     draft.put(
         place,
         place,
@@ -469,12 +493,23 @@ fn begun(draft: &mut Draft<'_>, site: Site, name: &Name) -> Result<(), AllocErro
     )
 }
 
-// Whether the first use of a name multiplies it.
-fn is_multiplied(draft: &Draft<'_>, token: usize) -> bool {
-    matches!(
-        draft.at(token.wrapping_add(1)),
-        Lexeme::Operator(BinOp::Mul) | Lexeme::Assign(Some(BinOp::Mul))
-    )
+// Whether a statement of a function begins with a name and a `==`.
+fn is_compared_alone(draft: &Draft<'_>, site: Site, name: &Name) -> bool {
+    let Some(brace) = body_of(draft, site) else {
+        return false;
+    };
+    for token in brace..after_brackets(draft, brace) {
+        let begins = matches!(
+            draft.at(token.wrapping_sub(1)),
+            Lexeme::Semicolon | Lexeme::OpenBrace | Lexeme::CloseBrace | Lexeme::CloseParen
+        );
+        let is_compared = draft.at(token) == Lexeme::Name(*name)
+            && draft.at(token.wrapping_add(1)) == Lexeme::Operator(BinOp::Eq);
+        if begins && is_compared {
+            return true;
+        }
+    }
+    false
 }
 
 // A last index for a word in its declaration.
@@ -507,48 +542,59 @@ pub(crate) fn is_function(draft: &Draft<'_>, token: usize) -> bool {
     let Lexeme::Name(name) = draft.at(token) else {
         return false;
     };
-    if library_arguments(&name).is_some() {
-        return true;
-    }
-    for at in 0..draft.spans.end() {
-        let is_head = draft.at(at) == Lexeme::Name(name)
-            && draft.at(at.saturating_add(1)) == Lexeme::OpenParen;
-        if begins_definition(draft, at) && is_head && is_definition(draft, at) {
-            return true;
-        }
-    }
-    false
+    arguments_asked(draft, &name).is_some()
 }
 
-// Whether a body comes after the parentheses that follow a name.
-fn is_definition(draft: &Draft<'_>, name: usize) -> bool {
-    draft.at(after_brackets(draft, name.saturating_add(1))) != Lexeme::Semicolon
-}
-
-/// Whether a function asks for arguments, of the library or of the source.
-pub(crate) fn takes_arguments(draft: &Draft<'_>, name: &Name) -> bool {
+/// How many arguments a function asks for, of the library or one that the source defines.
+pub(crate) fn arguments_asked(draft: &Draft<'_>, name: &Name) -> Option<u64> {
     if let Some(count) = library_arguments(name) {
-        return count > 0;
+        return Some(count);
     }
-    for at in 0..draft.spans.end() {
-        let opener = at.saturating_add(1);
-        let is_head = draft.at(at) == Lexeme::Name(*name)
-            && draft.at(opener) == Lexeme::OpenParen
-            && begins_definition(draft, at)
-            && is_definition(draft, at);
-        if is_head {
-            return draft.at(opener.saturating_add(1)) != Lexeme::CloseParen;
+    let mut depth: u64 = 0;
+    for token in 0..draft.spans.end() {
+        match draft.at(token) {
+            Lexeme::OpenBrace => depth = depth.saturating_add(1),
+            Lexeme::CloseBrace => depth = depth.saturating_sub(1),
+            _ if depth == 0 && is_head(draft, token, name) => {
+                return Some(arguments_between(draft, token.saturating_add(1)));
+            }
+            _ => {}
         }
     }
-    false
+    None
 }
 
-fn begins_definition(draft: &Draft<'_>, token: usize) -> bool {
-    token == 0
+// Whether the definition of a function of this name begins with a token: a body comes after its parentheses.
+fn is_head(draft: &Draft<'_>, token: usize, name: &Name) -> bool {
+    let opener = token.saturating_add(1);
+    let begins = token == 0
         || matches!(
             draft.at(token.wrapping_sub(1)),
             Lexeme::CloseBrace | Lexeme::Semicolon
-        )
+        );
+    begins
+        && draft.at(token) == Lexeme::Name(*name)
+        && draft.at(opener) == Lexeme::OpenParen
+        && draft.at(after_brackets(draft, opener)) != Lexeme::Semicolon
+}
+
+/// How many arguments or parameters a parenthesis has.
+pub(crate) fn arguments_between(draft: &Draft<'_>, opener: usize) -> u64 {
+    let first = opener.saturating_add(1);
+    let closer = after_brackets(draft, opener).saturating_sub(1);
+    let (mut commas, mut depth): (u64, u64) = (0, 0);
+    for token in first..closer {
+        let lexeme = draft.at(token);
+        depth = depth_after(depth, &lexeme);
+        if depth == 0 && lexeme == Lexeme::Comma {
+            commas = commas.saturating_add(1);
+        }
+    }
+    if first < closer {
+        commas.saturating_add(1)
+    } else {
+        0
+    }
 }
 
 /// A declaration by `auto` without a word that is declared already, as a parameter or by `auto`, and not as a vector.

@@ -1,5 +1,5 @@
 -- What the contract of a fix excludes.
-use Rattle.std.proofs.Common.{◌≡◌, ◌∙◌, ◌<◌, ℕ, zero, suc, Bool, true, false, IsTrue, List, [], ◌∷◌, ◌++◌, ap, arith, map}
+use Rattle.std.proofs.Common.{◌≡◌, ◌∙◌, ◌<◌, ℕ, zero, suc, Bool, true, false, IsTrue, List, [], ◌∷◌, ◌++◌, ap, arith, length, map}
 use Rattle.std.proofs.Common.{inl, inr, refl, subst, sym}
 use Rattle.std.specs.Prelude.{if◌then◌else◌}
 use Rattle.std.specs.Str.{bytes_eq}
@@ -15,6 +15,7 @@ use Rattle.blang.specs.declared.status.TheConstants.{DEVICE, DONE}
 use Rattle.bgrammar.proofs.GoesLaws.{each_source_comes}
 use Rattle.bsources.specs.Files.{Files}
 use Rattle.bcheck.specs.Checks.{EachOutcome, EditParts, Mends, outcome_of}
+use Rattle.bcheck.specs.Right.{IsRight}
 use Rattle.bfix.proofs.LeftSteps.{told_left}
 use Rattle.bfix.specs.Fixes as fixes
 use Rattle.bfix.specs.Fixes.{Changes, Fixed, Fixes, Lead, all_lines}
@@ -98,6 +99,13 @@ module _ (edition : Edition) (files : Files) (rest : List ℕ) where
   stays_by old [] new h none = h
   stays_by old (line ∷ lines) new h none = let c = h.1 in absurd (none c.edit c.mends)
 
+module _ (edition : Edition) (files : Files) (rest : List ℕ) where
+  -- what is right stays
+  right_by : (old : List ℕ) (lines : List (List ℕ)) (new : List ℕ) → Lead edition files rest old lines new
+      → IsRight edition files (old ++ rest) → new ≡ old
+  right_by old [] new h right = h
+  right_by old (line ∷ lines) new h right = let c = h.1 in absurd (c.wrong right)
+
 -- a status below those of refused writes is that of a text that was written
 refused_status : (fault : EndFault) (result : ℕ) → result ≡ status_of fault → 132 < result
 refused_status end_fault.Device result e = let is : result ≡ 133 = e in omega (arith, is)
@@ -126,7 +134,7 @@ text_written text out after (suc n) told status line line_after result less (inr
     let below : result < 133 = less in absurd (omega (arith, more, is, below))
 
 pub wrong_fixes : WrongFixes
-wrong_fixes f (fixes.fixed text t written w tells) less =
+wrong_fixes f (fixes.fixed text t written w tells finished) less =
     let some = each_source_comes [] f.edition 1 (text ++ rest_in f) in (
       text,
       (text_written text f.out f.out_after written _ _ f.line f.line_after f.status less w (tells some.0 some.1).2).0,
@@ -134,6 +142,8 @@ wrong_fixes f (fixes.fixed text t written w tells) less =
         kept = kept_by f.edition f.files (rest_in f) (own_in f) t.lines text t.lead;
         small = t.small;
         unmended = λ none. stays_by f.edition f.files (rest_in f) (own_in f) t.lines text t.lead none;
+        right = λ right. right_by f.edition f.files (rest_in f) (own_in f) t.lines text t.lead right;
+        finished = (length t.lines, finished);
         status =
             λ r g. (text_written text f.out f.out_after written _ _ f.line f.line_after f.status less w (tells r g).2).2;
         left = λ r g.

@@ -14,6 +14,7 @@ use Rattle.bsources.specs.Files.{Files, files_shown}
 use Rattle.bcheck.specs.Checks.{EditParts, mended}
 use Rattle.bcheck.specs.Checks.{change_line}
 use Rattle.bcheck.specs.Findings.{IsChange}
+use Rattle.bcheck.specs.Right.{IsRight}
 use Rattle.bcheck.specs.Spares.{IsSpared, spares, spares_at}
 use Rattle.bcheck.specs.declared.change.Change.{Change}
 use Rattle.blang.specs.Code.{code_of}
@@ -88,13 +89,13 @@ module _ (old rest words : List ℕ) (start len : ℕ) (e : EditParts (old ++ re
 -- what one change makes
 pub made_by : (frame : Frame) (old whole new : List ℕ) (change : Change) (words line : List ℕ) (start len : ℕ)
     → (led : Led) → whole ≡ old ++ frame.rest.now → IsChange frame.edition (files_shown frame.files) whole change
-    → IsSpared frame.edition whole change
+    → IsSpared frame.edition whole change → (IsRight frame.edition (files_shown frame.files) whole → ⊥)
     → start ≡ change.start → len ≡ change.len → words ≡ change.text → line ≡ change.line → start + len ≤ length old
     → led.text ≡ take start old ++ (words ++ drop (start + len) old) → led.lines ≡ line
     → new ≡ led.text ++ frame.rest.now
     → length led.text ≤ frame.most → IsTrue (are_among (kept_of frame.edition whole) (kept_of frame.edition new))
     → IsMade frame old led
-made_by frame old whole new change words line start len led is h spared es el ew en within text lines joined small keeps =
+made_by frame old whole new change words line start len led is h spared wrong es el ew en within text lines joined small keeps =
     let c : IsChange frame.edition (files_shown frame.files) (old ++ frame.rest.now) change =
     subst (λ w. IsChange frame.edition (files_shown frame.files) w change) is h in
     let one : spares_at frame.edition (old ++ frame.rest.now) start len words ≡ true =
@@ -118,6 +119,7 @@ made_by frame old whole new change words line start len led is h spared es el ew
             subst (λ n. spares frame.edition (old ++ frame.rest.now) n c.edit.old ≡ true) makes
             (spared_by old frame.rest.now words start len c.edit (es ∙ c.start) (el ∙ c.len) (ew ∙ c.text) within
             frame.edition one);
+        wrong = subst (λ w. IsRight frame.edition (files_shown frame.files) w → ⊥) is wrong;
       };
       line = lines ∙ en ∙ c.line;
       small = small;
@@ -125,12 +127,12 @@ made_by frame old whole new change words line start len led is h spared es el ew
 
 -- one change more
 module _ (edition : Edition) (files : Files) (rest : List ℕ) where
-  lead_one : (old mid new line : List ℕ) → mid ≡ old → (c : Changes edition rest mid new)
+  lead_one : (old mid new line : List ℕ) → mid ≡ old → (c : Changes edition files rest mid new)
       → line ≡ change_line files c.edit → Lead edition files rest old (line ∷ []) new
   lead_one old mid new line e c is = subst (λ x. Lead edition files rest x (line ∷ []) new) e (new, c, is, refl)
 
   pub lead_more : (old : List ℕ) (lines : List (List ℕ)) (mid new line : List ℕ) → Lead edition files rest old lines mid
-      → (c : Changes edition rest mid new) → line ≡ change_line files c.edit
+      → (c : Changes edition files rest mid new) → line ≡ change_line files c.edit
       → Lead edition files rest old (lines ++ line ∷ []) new
   lead_more old [] mid new line h c is = lead_one old mid new line h c is
   lead_more old (first ∷ lines) mid new line h c is = (h.0, h.1, h.2, lead_more h.0 lines mid new line h.3 c is)
@@ -139,7 +141,7 @@ module _ (edition : Edition) (files : Files) (rest : List ℕ) where
 pub record Follows (frame : Frame) (own text told : List ℕ) (count : ℕ) : Type 0 where
   pub lines : List (List ℕ)
   pub lead : Lead frame.edition (files_shown frame.files) frame.rest.now own lines text
-  pub few : length lines ≤ count
+  pub few : length lines ≡ count
   pub tells : told ≡ all_lines lines
   pub small : length own ≤ frame.most → length text ≤ frame.most
 
@@ -147,7 +149,7 @@ pub follows_from : (frame : Frame) (own text told : List ℕ) → text ≡ own �
 follows_from frame own text told e f = record {
   lines = [];
   lead = e;
-  few = omega arith;
+  few = refl;
   tells = f;
   small = λ s. subst (λ t. length t ≤ frame.most) (sym e) s;
 }
@@ -315,4 +317,4 @@ fixes_of f own rest x e g h t =
       told.1,
       subst (λ s. TellsAfter t.0 (all_told i.fixed.lines o told.0) s f.line f.line_after f.status) told.3
           (subst (λ d. TellsAfter t.0 d x.status f.line f.line_after f.status) told.2 t.2),
-    ))
+    )) i.finished

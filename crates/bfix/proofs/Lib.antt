@@ -3,3 +3,4 @@ mod FixSteps
 mod Kept
 mod LeftSteps
 mod PortSteps
+pub mod DueSteps

@@ -4,7 +4,9 @@ use Rattle.bword.specs.ByteEnds.{Writes}
 use Rattle.blang.specs.declared.status.TheConstants.{DEVICE}
 use Rattle.bcheck.specs.Checks.{EachOutcome, EditParts, Mends, outcome_status}
 use Rattle.bcheck.specs.Counts.{IsTally}
-use Rattle.bfix.specs.Fixes.{Fixes}
+use Rattle.bcheck.specs.Right.{IsRight}
+use Rattle.bfix.specs.Due.{IsFinished}
+use Rattle.bfix.specs.Fixes.{Fixes, own_setting}
 use Rattle.bfix.specs.Keeping.{are_among, kept_of}
 use Rattle.bfix.specs.LeftText.{left_text}
 use Rattle.bfix.specs.OwnText.{Replacing, own_in, rest_in}
@@ -25,6 +27,10 @@ pub record IsSound (f : Replacing) (text : List ℕ) : Type 0 where
   -- of a source that no edit mends, another text than the source
   pub unmended : ((e : EditParts (source_in f)) → EachOutcome f.edition (source_in f) (λ o. Mends o e) → ⊥)
       → text ≡ own_in f
+  -- of a source that is right, another text than the source
+  pub right : IsRight f.edition f.files (source_in f) → text ≡ own_in f
+  -- one that a `;` is all that lacks, unless as many changes were made as may be
+  pub finished : (count : ℕ) × IsFinished (own_setting f) (own_in f) count text
   -- another status than that of what was written
   pub status : EachOutcome f.edition (with_text f text) (λ o. f.status ≡ outcome_status o)
   -- beside it nothing last of what a check tells of that, or another number

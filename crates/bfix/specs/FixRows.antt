@@ -11,11 +11,14 @@ use Rattle.bword.specs.ByteEnds.{Outgoing}
 use Rattle.blang.specs.Reports.{Reported}
 use Rattle.blang.specs.declared.run.LoadFault.TheVariants as faults
 use Rattle.btools.specs.declared.program.ProgramFault.TheVariants as why
+use Rattle.bfix.specs.Due.{are_all}
 use Rattle.bfix.specs.Fixes.{Lead, all_lines}
 use Rattle.bfix.specs.LeftText.{left_text}
 use Rattle.bfix.specs.OwnText.{TellsAfter, own_length}
 use Rattle.bfix.specs.Ports.{verdict_status, verdict_text}
 use Rattle.bfix.specs.Keeping.{are_among, is_kept, is_over, kept_from, kept_of}
+use Rattle.bfix.specs.declared.due.TheConstants.{TRIED_BYTES}
+use Rattle.bfix.specs.declared.fixing.TheConstants.{LOOKED_BYTES, MOST_CHANGES}
 
 -- the end of a source, a comment, a string, and another token
 ends : map is_over (Some lexeme.End ∷ None ∷ Some lexeme.String ∷ Some lexeme.Comma ∷ [])
@@ -90,3 +93,15 @@ load_faults = refl
 
 load_statuses : map verdict_status (why.Unloaded faults.TooLarge ∷ why.Unloaded faults.NoMain ∷ []) ≡ 132 ∷ 132 ∷ []
 load_statuses = refl
+
+-- how many changes are all that are made: a thousand, or those after which so many bytes were looked at
+limits : MOST_CHANGES ∷ LOOKED_BYTES ∷ TRIED_BYTES ∷ [] ≡ 1000 ∷ 16777216 ∷ 2097152 ∷ []
+limits = refl
+
+all_made : are_all 1000 0 ∷ are_all 1000 1 ∷ are_all 0 16777217 ∷ are_all 1 8388609 ∷ are_all 999 16778 ∷ []
+    ≡ true ∷ true ∷ true ∷ true ∷ true ∷ []
+all_made = refl
+
+some_left : are_all 0 0 ∷ are_all 0 16777216 ∷ are_all 1 8388608 ∷ are_all 999 16777 ∷ are_all 1001 0 ∷ []
+    ≡ false ∷ false ∷ false ∷ false ∷ false ∷ []
+some_left = refl

@@ -1,3 +1,4 @@
+pub mod Due
 pub mod FixExcluded
 mod FixRows
 pub mod Fixes

@@ -1,13 +1,15 @@
 //! The changes of a source, one after another.
-ghost use Rattle.std.specs.Prelude.{◌≡◌, ◌≤◌, ◌++◌, IfOk, IfSome, OnOk};
+ghost use Rattle.std.specs.Prelude.{◌≡◌, ◌≤◌, ◌++◌, IfOk, IfSome, None, OnOk, false, true};
 ghost use Rattle.bcheck.specs.Checks.{status_told};
 ghost use Rattle.bsources.specs.Files.{files_shown};
 ghost use Rattle.bfix.specs.FixExcluded.{WrongFixes};
 ghost use Rattle.bfix.specs.declared.fixing.TheConstants.{MOST_CHANGES};
-ghost use Rattle.bfix.specs.Fixes.{Fixes, IsFixed, IsLed, IsMade};
+ghost use Rattle.bfix.specs.Due.{IsSettled, are_all};
+ghost use Rattle.bfix.specs.Fixes.{Fixes, IsFixed, IsFollowed, IsMade, setting_of};
 ghost use Rattle.bfix.specs.LeftText.{left_text, left_words};
 ghost use Rattle.bfix.specs.OwnText.{TellsBoth};
 
+use crate::due::due;
 use crate::edits::{edited, own_length};
 use crate::keeping::keeps;
 use bcheck::{Change, Tally, next_change, tally_on};
@@ -22,7 +24,7 @@ use std::alloc::{AllocError, Global};
 pub const MOST_CHANGES: usize = 1000;
 
 /// How many bytes are looked at for one source, at most, each byte once for each change.
-const LOOKED_BYTES: usize = 16777216;
+pub const LOOKED_BYTES: usize = 16777216;
 
 /// A text that was fixed.
 #[derive(Drop)]
@@ -48,6 +50,8 @@ pub(crate) struct Frame<'a> {
     pub files: SourceFiles<'a>,
     pub rest: &'a [u8],
     pub most: usize,
+    /// Whether it is what an old source became, in which what looks like a call may be a statement.
+    pub is_ported: bool,
 }
 
 /// Mends the first file of a source wherever that needs no choice, and writes it. The changes are told beside it, and
@@ -115,6 +119,7 @@ pub fn fixed(
         files: *files,
         rest,
         most: own.len().saturating_mul(2),
+        is_ported: false,
     };
     let Led { text, lines } = follow(alloc, &frame, own)?;
     let whole = joined(alloc, text.as_slice(), rest)?;
@@ -155,7 +160,7 @@ fn left_words(status: Status, count: usize) -> &'static [u8]
 
 /// Makes the changes of a text in turn.
 pub(crate) fn follow(alloc: Global, frame: &Frame<'_>, own: &[u8]) -> Result<Led, AllocError>
-    ensures { IfOk result (IsLed frame.now own.now) }
+    ensures { IfOk result (IsFollowed frame.now own.now) }
 {
     let mut text = Text::new(alloc);
     text.push(own)?;
@@ -164,7 +169,7 @@ pub(crate) fn follow(alloc: Global, frame: &Frame<'_>, own: &[u8]) -> Result<Led
         let _ = count;
         let found = made(alloc, frame, text.as_slice())?;
         let Some(next) = found else {
-            break;
+            return Ok(Led { text, lines });
         };
         lines.push(next.lines.as_slice())?;
         text = next.text;
@@ -174,13 +179,27 @@ pub(crate) fn follow(alloc: Global, frame: &Frame<'_>, own: &[u8]) -> Result<Led
 
 // How many changes are made of a text of so many bytes, at most.
 fn most_changes(len: usize) -> usize
-    ensures { result ≤ MOST_CHANGES }
+    ensures most { result ≤ MOST_CHANGES }
+    ensures all { are_all result len ≡ true }
 {
     MOST_CHANGES.min(LOOKED_BYTES / len.max(1))
 }
 
-// What the next change makes of a text, and its line. No comment and no string is lost by it.
+// What the next change makes of a text, and its line.
 fn made(alloc: Global, frame: &Frame<'_>, old: &[u8]) -> Result<Option<Led>, AllocError>
+    ensures made { IfOk result (λ made. IfSome made (IsMade frame.now old.now)) }
+    ensures settled { IfOk result (λ made. frame.now.is_ported ≡ false → made ≡ None
+        → IsSettled (setting_of frame.now) old.now) }
+{
+    let found = changed(alloc, frame, old)?;
+    if found.is_some() || frame.is_ported {
+        return Ok(found);
+    }
+    due(alloc, frame, old)
+}
+
+// What the next change that a finding asks for makes of a text. No comment and no string is lost by it.
+fn changed(alloc: Global, frame: &Frame<'_>, old: &[u8]) -> Result<Option<Led>, AllocError>
     ensures { IfOk result (λ made. IfSome made (IsMade frame.now old.now)) }
 {
     let whole = joined(alloc, old, frame.rest)?;
@@ -214,7 +233,7 @@ fn made(alloc: Global, frame: &Frame<'_>, old: &[u8]) -> Result<Option<Led>, All
 }
 
 /// What no fix writes: a text that has lost a comment or a string, that is more than twice as long, or that is another
-/// one than the source where no edit mends it. And no fix ends with another status than that of what it wrote, or is
+/// one than the source where no edit mends it, or where it is right. And no fix ends with another status than that of what it wrote, or is
 /// silent of what is left.
 pub fn wrong_fixes_are_excluded()
     ensures { WrongFixes }

@@ -1,6 +1,7 @@
 //! Mending a source wherever that needs no choice, also an old one that is ported.
 #![tactic(auto)]
 
+mod due;
 mod edits;
 mod fixing;
 mod keeping;

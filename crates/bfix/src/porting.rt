@@ -65,6 +65,7 @@ fn ported_text(
         files: *files,
         rest,
         most: ported.text.as_slice().len().saturating_mul(2),
+        is_ported: true,
     };
     let Led { text, lines } = led_on(alloc, &frame, &ported)?;
     let changes = joined(alloc, edits.as_slice(), lines.as_slice())?;

@@ -10,8 +10,8 @@ use Rattle.bcheck.proofs.OnLine.{both}
 use Rattle.bcheck.proofs.PlaceSteps.{several_is}
 use Rattle.bcheck.proofs.edit.edit_of.Goals as goal
 
-pub returns : goal.returns
-returns c =
+pub returns-clause-edit : goal.returns-clause-edit
+returns-clause-edit c =
     let source = c.args.source.now in
     let files = files_shown c.args.files.now in
     let start = c.args.proposal.now.start in

@@ -1,7 +1,8 @@
-use Rattle.std.proofs.Common.{◌∙◌, ◌≡◌, ◌≤◌, ◌++◌, ℕ, List, ap, arith, length, subst}
+use Rattle.std.proofs.Common.{◌∙◌, ◌≡◌, ◌≤◌, ◌*◌, ◌++◌, ℕ, List, ap, arith, length, refl, subst}
 use Rattle.bsources.specs.Files.{files_shown}
 use Rattle.bcheck.specs.Checks.{EachOutcome, Judged}
 use Rattle.bcheck.specs.Counts.{IsTally}
+use Rattle.bfix.specs.Due.{IsFinished}
 use Rattle.bfix.specs.Fixes.{all_lines}
 use Rattle.bfix.proofs.LeftSteps.{told_so}
 use Rattle.bfix.proofs.fixing.fixed.Goals as goal
@@ -9,7 +10,8 @@ use Rattle.bfix.proofs.fixing.fixed.Goals as goal
 pub returns : goal.returns
 returns c =
     let led = c.in_ok-text.field-0 in
-    let l = c.in_ok-text.ensures in
+    let followed = c.in_ok-text.ensures in
+    let l = followed.0 in
     let rest = c.args.rest.now in
     let edition = c.args.edition in
     let files = files_shown c.args.files.now in
@@ -24,6 +26,7 @@ returns c =
     let most : length c.args.own.now ≤ c.saturating_mul.result =
     omega (arith, c.saturating_mul.ensures, c.type_inv.own) in
     let small = l.small most in
+    let twice : c.saturating_mul.result ≡ 2 * length c.args.own.now = omega (arith, c.saturating_mul.ensures, c.type_inv.own) in
     record {
       fixed = record {
         lines = l.lines;
@@ -31,6 +34,10 @@ returns c =
         few = l.few;
         small = omega (arith, small, c.saturating_mul.ensures);
       };
+      finished =
+          subst
+          (λ n. IsFinished (record { edition = edition; files = files; rest = rest; most = n }) c.args.own.now
+          (length l.lines) led.text) twice (followed.1 refl);
       told = λ r g.
           let j = judged r g in
           let status = ap (λ (p : List ℕ × ℕ). p.1) j in (

@@ -11,4 +11,4 @@ returns-then-stays c =
 pub returns : goal.returns
 returns c =
     goes_led c.args.frame.now c.args.ported.now c.in_ok-led-2.led (sym c.stays-stays.ensures ∙ c.if-stays.false)
-    (subst (λ t. IsLed c.args.frame.now t c.in_ok-led-2.led) c.as_slice-2.ensures c.in_ok-led-2.ensures)
+    (subst (λ t. IsLed c.args.frame.now t c.in_ok-led-2.led) c.as_slice-2.ensures c.in_ok-led-2.ensures.0)
