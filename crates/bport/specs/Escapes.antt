@@ -1,6 +1,6 @@
 -- Promise: which escape of this language stands for one of an old source.
-use Rattle.std.specs.Prelude.{ℕ, ◌+◌, ◌*◌, ◌-◌, ◌==◌, ◌&&◌, Bool, false, List, [], ◌∷◌, Option, Some, None}
-use Rattle.std.specs.Prelude.{if◌then◌else◌, is_some, length, nat_lt}
+use Rattle.std.specs.Prelude.{ℕ, ◌+◌, ◌*◌, ◌-◌, ◌==◌, ◌&&◌, Bool, true, false, List, [], ◌∷◌, ◌++◌, Option}
+use Rattle.std.specs.Prelude.{Some, None, if◌then◌else◌, is_some, length, nat_lt}
 use Rattle.std.specs.Int.{is_in_range}
 
 -- a byte is a digit of an octal number
@@ -52,12 +52,17 @@ capital_escape b =
     else (if b == 84 then 42 ∷ 116 ∷ []
     else (if b == 69 then 42 ∷ 101 ∷ [] else (if b == 42 then 42 ∷ 42 ∷ 42 ∷ 42 ∷ [] else [])))
 
--- What stands here for a `*` and these bytes: one that begins no escape stands for itself by another one, and so does
--- each of two.
+-- an escape, after two stars for one that stands for itself
+abbrev pub escaped : (is_starred : Bool) → List ℕ → List ℕ
+escaped is_starred [] = []
+escaped is_starred (b ∷ bs) = (if is_starred then 42 ∷ 42 ∷ [] else []) ++ b ∷ bs
+
+-- What stands here for a `*` and these bytes: one that begins no escape stands for itself by another one, also before
+-- an escape with a backslash, and so does each of two.
 abbrev pub star_escape : List ℕ → List ℕ
 star_escape [] = 42 ∷ 42 ∷ []
 star_escape (b ∷ []) = capital_escape b
-star_escape _ = []
+star_escape (b ∷ bs) = if b == 92 then escaped true (backslash_escape bs) else []
 
 -- the escape that stands here for these bytes in quotes
 abbrev pub escape_for : List ℕ → List ℕ
@@ -65,8 +70,13 @@ escape_for [] = []
 escape_for (mark ∷ escape) =
     if mark == 92 then backslash_escape escape else (if mark == 42 then star_escape escape else [])
 
--- the byte after these is one more digit of their number
-abbrev pub is_cut_short : (old : List ℕ) → (next : Option ℕ) → Bool
-is_cut_short (mark ∷ digits) (Some next) =
+-- the byte after these is one more digit of the number that they are
+abbrev pub is_cut_number : (old : List ℕ) → (next : ℕ) → Bool
+is_cut_number [] next = false
+is_cut_number (mark ∷ digits) next =
     (mark == 92) && (is_octal next && (nat_lt (length digits) 3 && is_some (octal_value digits)))
+
+-- the same, also after a `*` that stands for itself
+abbrev pub is_cut_short : (old : List ℕ) → (next : Option ℕ) → Bool
+is_cut_short (mark ∷ rest) (Some next) = is_cut_number (if mark == 42 then rest else mark ∷ rest) next
 is_cut_short old next = false

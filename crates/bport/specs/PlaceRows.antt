@@ -59,6 +59,11 @@ star_escapes : map escape_for (codes "*N" ∷ codes "*T" ∷ codes "*E" ∷ code
     ≡ codes "*n" ∷ codes "*t" ∷ codes "*e" ∷ codes "****" ∷ [] ∷ [] ∷ []
 star_escapes = refl
 
+-- a star before an escape with a backslash, and before another backslash
+starred_escapes : map escape_for (codes "*\\n" ∷ codes "*\\012" ∷ codes "*\\\\" ∷ codes "*\\q" ∷ codes "*\\" ∷ [])
+    ≡ codes "***n" ∷ codes "***n" ∷ codes "**\\" ∷ [] ∷ [] ∷ []
+starred_escapes = refl
+
 -- other bytes, four digits, and a digit that is none
 no_octal_escapes : map escape_for (codes "\\101" ∷ codes "\\0012" ∷ codes "\\018" ∷ codes "\\8" ∷ [])
     ≡ [] ∷ [] ∷ [] ∷ [] ∷ []
@@ -66,8 +71,8 @@ no_octal_escapes = refl
 
 -- one more digit
 cut_short : map (λ old. is_cut_short old (Some 49))
-    (codes "\\0" ∷ codes "\\01" ∷ codes "\\012" ∷ codes "\\n" ∷ codes "*" ∷ [])
-    ≡ true ∷ true ∷ false ∷ false ∷ false ∷ []
+    (codes "\\0" ∷ codes "\\01" ∷ codes "\\012" ∷ codes "\\n" ∷ codes "*" ∷ codes "*\\0" ∷ [])
+    ≡ true ∷ true ∷ false ∷ false ∷ false ∷ true ∷ []
 cut_short = refl
 
 not_cut_short : map (is_cut_short (codes "\\0")) (None ∷ Some 56 ∷ Some 34 ∷ []) ≡ false ∷ false ∷ false ∷ []

@@ -2,7 +2,7 @@
 use Rattle.std.specs.Fmt.{digits}
 use Rattle.std.specs.Prelude.{◌≡◌, ℕ, true, false, Bool, List, [], ◌∷◌, Some, codes, map, refl}
 use Rattle.bport.specs.Places.{places_of}
-use Rattle.bport.specs.Staying.{is_old_at, is_right, is_told_at, is_uneven, notes_text, refuses_kind}
+use Rattle.bport.specs.Staying.{is_foreign, is_old_at, is_right, is_told_at, is_uneven, notes_text, refuses_kind}
 use Rattle.bport.specs.declared.edit.Edit.{Edit}
 use Rattle.bport.specs.declared.row.Note.{Note}
 use Rattle.bport.specs.declared.row.NoteKind.{NoteKind}
@@ -54,9 +54,13 @@ of_another_place = refl
 abbrev noted : ℕ → NoteKind → Note
 noted start kind = record { start = start; kind = kind }
 
--- a bracket without another one, an accent, and an operator of fractions
-right : map (is_right (codes "f( `a` #+ 1;")) (noted 1 kind.Bracket ∷ noted 3 kind.Accent ∷ noted 7 kind.Fraction ∷ [])
-    ≡ true ∷ true ∷ true ∷ []
+-- whether a note of this kind is right at each of these places
+abbrev right_at : NoteKind → List ℕ → List ℕ → List Bool
+right_at kind source places_looked = map (λ at. is_right source (noted at kind)) places_looked
+
+-- a bracket without another one, and an accent
+right : map (is_right (codes "f( `a`;")) (noted 1 kind.Bracket ∷ noted 3 kind.Accent ∷ [])
+    ≡ true ∷ true ∷ []
 right = refl
 
 -- at other bytes, in a comment, where all brackets fit, and of another kind
@@ -65,20 +69,45 @@ wrong : map (is_right (codes "f(a); /* ` # */")) (noted 0 kind.Bracket ∷ noted
     ≡ false ∷ false ∷ false ∷ false ∷ false ∷ false ∷ []
 wrong = refl
 
--- a number before a line, and within it
-numbered : map (is_right (codes "10 a")) (noted 0 kind.Numbered ∷ noted 1 kind.Numbered ∷ noted 3 kind.Numbered ∷ [])
-    ≡ true ∷ false ∷ false ∷ []
+-- bytes of no form, and others
+foreign : map is_foreign (96 ∷ 64 ∷ 0 ∷ 8 ∷ 11 ∷ 31 ∷ 127 ∷ 195 ∷ 9 ∷ 10 ∷ 12 ∷ 13 ∷ 32 ∷ 35 ∷ 92 ∷ 126 ∷ [])
+    ≡ true ∷ true ∷ true ∷ true ∷ true ∷ true ∷ true ∷ true
+    ∷ false ∷ false ∷ false ∷ false ∷ false ∷ false ∷ false ∷ false ∷ []
+foreign = refl
+
+-- operators of fractions: with one operand, between two, and of comparisons
+fractions : right_at kind.Fraction (codes "x = # i\ny#+a\na #<=(b)\nc==#d\ne #==f") (4 ∷ 9 ∷ 15 ∷ 25 ∷ 30 ∷ [])
+    ≡ true ∷ true ∷ true ∷ true ∷ true ∷ []
+fractions = refl
+
+-- lines for a preprocessor, also after a comment, and a `#` before an operator that begins a line
+no_directives : right_at kind.Fraction (codes "#define N 5\n#if x\n/**/#define M\n #+ 1") (0 ∷ 12 ∷ 22 ∷ 33 ∷ [])
+    ≡ false ∷ false ∷ false ∷ false ∷ []
+no_directives = refl
+
+-- comments after code: words, a line of signs, and a sign after a semicolon
+no_remarks : right_at kind.Fraction (codes "f(a) # a\ng()#---\nx=1; #- b\na #===") (5 ∷ 12 ∷ 22 ∷ 29 ∷ [])
+    ≡ false ∷ false ∷ false ∷ false ∷ []
+no_remarks = refl
+
+-- the number of each line, and any other digit
+numbered : right_at kind.Numbered (codes "10 a\n\n 20 b\n") (0 ∷ 1 ∷ 3 ∷ 7 ∷ []) ≡ true ∷ false ∷ false ∷ true ∷ []
 numbered = refl
 
+-- one line has no number, or is a comment
+not_numbered : map (λ source. is_right source (noted 0 kind.Numbered))
+    (codes "10 a\nb" ∷ codes "10 a\n/* b */" ∷ codes "1;\n}" ∷ []) ≡ false ∷ false ∷ false ∷ []
+not_numbered = refl
+
 -- brackets in quotes and comments are none
-uneven : map (is_uneven within.Start 0 0)
+uneven : map (λ source. is_uneven source (places_of within.Start source))
     (codes "f(a[1]){}" ∷ codes "f(a))" ∷ codes "$( $)" ∷ codes "'(' /* ( */ \"(\"" ∷ [])
     ≡ false ∷ true ∷ false ∷ false ∷ []
 uneven = refl
 
 refusing : map refuses_kind
-    (kind.Bracket ∷ kind.Fraction ∷ kind.Numbered ∷ kind.Accent ∷ kind.Unfit ∷ kind.Star ∷ kind.Escape ∷ [])
-    ≡ true ∷ true ∷ true ∷ true ∷ false ∷ false ∷ false ∷ []
+    (kind.Bracket ∷ kind.Fraction ∷ kind.Numbered ∷ kind.Accent ∷ kind.Unfit ∷ kind.Star ∷ kind.Sign ∷ kind.Escape ∷ [])
+    ≡ true ∷ true ∷ true ∷ true ∷ true ∷ true ∷ false ∷ false ∷ []
 refusing = refl
 
 note_line : notes_text (codes "f") (codes "a\nb") (note ∷ [])

@@ -1,13 +1,16 @@
 -- Promise: signs of other forms of the language that stay are told, and what is told of each note.
 use Rattle.std.specs.Prelude.{ℕ, ◌+◌, ◌<◌, ◌==◌, ◌&&◌, ◌||◌, Bool, true, false, List, [], ◌∷◌, ◌++◌, ◌≡◌, ◌⊎◌}
-use Rattle.std.specs.Prelude.{Option, None, Some, codes, decimal}
-use Rattle.std.specs.Prelude.{if◌then◌else◌, min, nat_le, nat_lt, not, slice_get}
+use Rattle.std.specs.Prelude.{Option, None, Some, codes, count_by, decimal, drop, take}
+use Rattle.std.specs.Prelude.{if◌then◌else◌, nat_eq, nat_le, nat_lt, not, reverse, slice_get}
+use Rattle.std.specs.Char.{is_ascii_digit, is_ascii_whitespace}
 use Rattle.std.specs.Int.{is_in_range}
-use Rattle.std.specs.List.{flat_map, list_any}
-use Rattle.bword.specs.ByteEnds.{most}
+use Rattle.std.specs.List.{find, flat_map, list_all, list_any, starts_with, zip}
+use Rattle.std.specs.Option.{option_map_or}
+use Rattle.std.specs.Str.{bytes_eq}
 use Rattle.btools.specs.Quoting.{file_text}
 use Rattle.bport.specs.Changes.{line_on}
-use Rattle.bport.specs.Places.{after, places_of}
+use Rattle.bport.specs.Places.{places_of}
+use Rattle.bport.specs.Words.{is_of_word}
 use Rattle.bport.specs.declared.edit.Edit.{Edit}
 use Rattle.bport.specs.declared.row.Note.{Note}
 use Rattle.bport.specs.declared.row.NoteKind.{NoteKind}
@@ -68,6 +71,8 @@ refuses_kind kind.Bracket = true
 refuses_kind kind.Fraction = true
 refuses_kind kind.Numbered = true
 refuses_kind kind.Accent = true
+refuses_kind kind.Star = true
+refuses_kind kind.Unfit = true
 refuses_kind _ = false
 
 abbrev pub refuses : Note → Bool
@@ -116,14 +121,16 @@ note_sentence kind.Fewer = codes "the words of this vector that have no value ar
 note_sentence kind.Shift = codes ">> puts zeros in: a word below 0 becomes a large one"
 note_sentence kind.Fraction = codes "# is an operator of fractions, which aren't here: port changes nothing"
 note_sentence kind.Numbered = codes "lines have no numbers before them: port changes nothing until these go"
-note_sentence kind.Accent = codes "there are no constants between accents: port changes nothing until these go"
-note_sentence kind.Star = codes "*\" doesn't end a string: write **\" where it does"
-note_sentence kind.Pair =
-    codes "a word has two characters of eight bits, the first one in its high byte: 'ab' is 97 * 256 + 98"
+note_sentence kind.Accent = codes "no form of the language has this byte in code: port changes nothing until it goes"
+note_sentence kind.Star = codes "*\" doesn't end a string: port changes nothing until **\" stands where one ends"
+note_sentence kind.Pair = codes "a word has two characters of eight bits: 'ab' is 97 * 256 + 98, and 040040 writes '@ '"
 note_sentence kind.Order = codes "operands and arguments are evaluated from left to right: another order may be meant"
 note_sentence kind.Octal = codes "%o writes the 16 bits of a number below 0, without a sign"
 note_sentence kind.Line = codes "puts(s) writes a newline after the string: write putstr(s); putchar('*n');"
 note_sentence kind.Stars = codes "* begins an escape in a string, as in *n and *(: write ** for a star"
+note_sentence kind.Form = codes "printf knows d, u, o, x, c and s after a %, and writes what has others as it is"
+note_sentence kind.End = codes "'*e' is 4, and as a value the same as the number 4, which EOF wasn't"
+note_sentence kind.Status = codes "the value that main returns is no status: exit(n) ends a program with one"
 
 -- what is told of a note: the file, the line, and the sentence
 abbrev pub note_text : (file source : List ℕ) → Note → List ℕ
@@ -143,35 +150,90 @@ is_code within.CharQuote = true
 is_code _ = false
 
 abbrev pub is_opening : ℕ → Bool
-is_opening b = (b == 40) || (b == 91) || (b == 123)
+is_opening b = list_any (λ c. b == c) (codes "([{")
 
 abbrev pub is_closing : ℕ → Bool
-is_closing b = (b == 41) || (b == 93) || (b == 125)
+is_closing b = list_any (λ c. b == c) (codes ")]}")
 
--- one more, if that is so of a byte of code
-abbrev pub one_more : (count : ℕ) → (is_so : Bool) → Within → ℕ
-one_more count is_so place = if is_so && is_code place then min (count + 1) most else count
+-- no form of the language has this byte in its code: an accent, `@`, and bytes that are no character of it
+abbrev pub is_foreign : ℕ → Bool
+is_foreign b =
+    list_any (λ c. b == c) (codes "`@") || is_in_range 0 8 b || (b == 11) || is_in_range 14 31 b || nat_le 127 b
 
--- after so many of both, the brackets of code don't come to as many that open as that close
-abbrev pub is_uneven : Within → (opening closing : ℕ) → List ℕ → Bool
-is_uneven place opening closing [] = not (opening == closing)
-is_uneven place opening closing (b ∷ bs) =
-    is_uneven (after place b) (one_more opening (is_opening b) place) (one_more closing (is_closing b) place) bs
+-- how many of such bytes are code, each of which stands in the place beside it
+abbrev pub count_in_code : (ℕ → Bool) → List ℕ → List Within → ℕ
+count_in_code test source places = count_by (λ x. test x.0 && is_code x.1) (zip source places)
 
--- A note that nothing is edited is right, by the byte at its place and in what that stands, and by whether the brackets
--- are uneven.
-abbrev pub is_right_of : NoteKind → Option ℕ → Option Within → (uneven : Bool) → Bool
-is_right_of kind.Bracket (Some b) (Some place) uneven =
-    (is_opening b || is_closing b || b == 36) && (is_code place && uneven)
-is_right_of kind.Fraction (Some b) (Some place) uneven = (b == 35) && is_code place
-is_right_of kind.Accent (Some b) (Some place) uneven = (b == 96) && is_code place
-is_right_of kind.Numbered (Some b) (Some within.Start) uneven = is_in_range 48 57 b
-is_right_of _ _ _ uneven = false
+-- not as many brackets of code open as close
+abbrev pub is_uneven : List ℕ → List Within → Bool
+is_uneven source places =
+    not (count_in_code is_opening source places == count_in_code is_closing source places)
+
+-- a byte may stand in a listing with numbered lines: each line that has more than blanks begins with a digit
+abbrev pub is_of_listing : ℕ × Within → Bool
+is_of_listing (b, within.Start) = is_ascii_digit b || is_ascii_whitespace b
+is_of_listing (b, place) = true
+
+abbrev pub is_listing : List ℕ → List Within → Bool
+is_listing source places = list_all is_of_listing (zip source places)
+
+-- the first of these bytes that is no blank
+abbrev pub first_sign : List ℕ → Option ℕ
+first_sign bytes = find (λ b. not (is_ascii_whitespace b)) bytes
+
+-- the last byte before a place that is no blank
+abbrev pub sign_before : List ℕ → ℕ → Option ℕ
+sign_before source at = first_sign (reverse (take at source))
+
+-- an operand begins or ends with such a byte, and an operator has it
+abbrev pub begins_operand : ℕ → Bool
+begins_operand b = is_of_word b || list_any (λ c. b == c) (codes "(-*#")
+
+abbrev pub ends_operand : ℕ → Bool
+ends_operand b = is_of_word b || list_any (λ c. b == c) (codes ")]'\"")
+
+abbrev pub is_of_operator : ℕ → Bool
+is_of_operator b = list_any (λ c. b == c) (codes "+-*/%<>=!")
+
+-- these bytes begin with an operator that fractions have, too, and with no line of signs
+abbrev pub begins_operator : List ℕ → Bool
+begins_operator (a ∷ b ∷ bs) =
+    if b == 61 then list_any (λ c. a == c) (codes "<>=!") && not (bytes_eq (take 1 bs) (codes "="))
+    else list_any (λ c. a == c) (codes "+-*/<>") && (is_of_word b || list_any (λ c. b == c) (codes " (#"))
+begins_operator _ = false
+
+-- a word after the `#` of a line for a preprocessor
+abbrev pub directives : List (List ℕ)
+directives = codes "define" ∷ codes "undef" ∷ codes "if" ∷ codes "else" ∷ codes "endif" ∷ codes "include"
+    ∷ codes "pragma" ∷ []
+
+abbrev pub begins_directive : List ℕ → Bool
+begins_directive bytes = list_any (starts_with nat_eq bytes) directives
+
+-- With this byte before these begin with a `#` that is an operator of fractions: right before the sign of one that
+-- comes after an operand, or between an operator and an operand.
+abbrev pub is_fraction : (before : Option ℕ) → List ℕ → Bool
+is_fraction (Some c) (b ∷ after) =
+    (b == 35) && (if ends_operand c then begins_operator after
+    else is_of_operator c && option_map_or begins_operand (first_sign after) false && not (begins_directive after))
+is_fraction _ _ = false
+
+-- A note that nothing is edited is right, by the byte at its place and in what that stands: brackets are uneven, a `#`
+-- that doesn't begin its line is an operator of fractions, a foreign byte is code, and each line begins with a number.
+abbrev pub is_right_of : NoteKind → List ℕ → List Within → (at : ℕ) → Option ℕ → Option Within → Bool
+is_right_of kind.Numbered source places at (Some b) (Some within.Start) = is_ascii_digit b && is_listing source places
+is_right_of kind.Fraction source places at (Some b) (Some within.Start) = false
+is_right_of kind.Fraction source places at (Some b) (Some place) =
+    is_code place && is_fraction (sign_before source at) (drop at source)
+is_right_of kind.Bracket source places at (Some b) (Some place) =
+    list_any (λ c. b == c) (codes "([{)]}$") && is_code place && is_uneven source places
+is_right_of kind.Accent source places at (Some b) (Some place) = is_foreign b && is_code place
+is_right_of _ source places at b place = false
 
 abbrev pub is_right : List ℕ → Note → Bool
 is_right source n =
-    is_right_of n.kind (slice_get source n.start) (slice_get (places_of within.Start source) n.start)
-    (is_uneven within.Start 0 0 source)
+    let places = places_of within.Start source in
+    is_right_of n.kind source places n.start (slice_get source n.start) (slice_get places n.start)
 
 -- what is left of a source that is no program: each of these signs is taken out or told, or nothing is edited, and a
 -- note that is right says so

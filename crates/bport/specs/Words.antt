@@ -2,6 +2,7 @@
 use Rattle.std.specs.Prelude.{ℕ, ◌+◌, ◌-◌, ◌==◌, ◌&&◌, ◌||◌, Bool, true, false, List, [], ◌∷◌, ◌++◌, codes}
 use Rattle.std.specs.Prelude.{drop, if◌then◌else◌, min, nat_le, not, take}
 use Rattle.std.specs.Int.{is_in_range}
+use Rattle.std.specs.List.{list_any}
 use Rattle.std.specs.Str.{bytes_eq}
 use Rattle.bword.specs.ByteEnds.{most}
 use Rattle.bport.specs.declared.edit.Edit.{Edit}
@@ -38,11 +39,18 @@ moves row.For = true
 moves row.Value = true
 moves _ = false
 
+-- a bracket of an index, of a call or of a group
+abbrev pub opens : ℕ → Bool
+opens b = list_any (λ c. b == c) (codes "([")
+
+abbrev pub closes : ℕ → Bool
+closes b = list_any (λ c. b == c) (codes ")]")
+
 -- within how many brackets the next byte stands, if that counts
 abbrev pub depth_after : (is_counted : Bool) → (depth b : ℕ) → ℕ
 depth_after false depth b = depth
 depth_after true depth b =
-    if (b == 40) || (b == 91) then min (depth + 1) most else (if (b == 41) || (b == 93) then depth - 1 else depth)
+    if opens b then min (depth + 1) most else (if closes b then depth - 1 else depth)
 
 -- one more, where a word that is no type ends outside of brackets
 abbrev pub counted : (depth count : ℕ) → (word : List ℕ) → ℕ

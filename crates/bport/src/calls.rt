@@ -1,9 +1,11 @@
 //! Calls of the library that mean something else here.
+use crate::comparisons::{Comparison, EndValue, comparison_of};
 use crate::definitions::Outline;
+use crate::expressions::is_callee;
 use crate::inputs::inputs;
+use crate::logic::at_level;
 use crate::row::{NoteKind, Row};
 use crate::source::{Draft, Source};
-use crate::table::NONE;
 use std::alloc::{AllocError, Global};
 
 /// How many parentheses after a call are looked past.
@@ -40,27 +42,16 @@ fn is_defined(source: &Source<'_>, others: &Source<'_>, name: &[u8]) -> bool {
     defines(source, name) || defines(others, name)
 }
 
-/// Whether a call of `lchar` stores 0: the token of this 0.
-pub(crate) fn stored_end(source: &Source<'_>, index: usize) -> usize {
+// A 0 that `lchar` stores is `'*e'`.
+fn stored(source: &Source<'_>, draft: &mut Draft, index: usize) -> Result<(), AllocError> {
     let open = index.wrapping_add(1);
     let value = source.partner(open).wrapping_sub(1);
-    if source.is_open_paren(open)
-        && source.is(value, b"0")
-        && source.is(value.wrapping_sub(1), b",")
-    {
-        value
-    } else {
-        NONE
+    let is_zero = source.end_value(value) == Some(EndValue::Zero);
+    let is_last = is_zero && source.is(value.wrapping_sub(1), b",");
+    if source.is_open_paren(open) && is_last {
+        return draft.replace(source, value, b"'*e'", Row::StringEnd);
     }
-}
-
-// A 0 at the end of a string is `'*e'`.
-fn stored(source: &Source<'_>, draft: &mut Draft, index: usize) -> Result<(), AllocError> {
-    let value = stored_end(source, index);
-    if value == NONE {
-        return Ok(());
-    }
-    draft.replace(source, value, b"'*e'", Row::StringEnd)
+    Ok(())
 }
 
 /// Whether a source defines a function.
@@ -90,20 +81,6 @@ pub(crate) fn has_one(source: &Source<'_>, open: usize) -> bool {
         }
     }
     close != open.wrapping_add(1)
-}
-
-/// The first call of `printn` without a base.
-pub(crate) fn without_base(source: &Source<'_>) -> Option<usize> {
-    if defines(source, b"printn") {
-        return None;
-    }
-    for index in 0..source.tokens.len() {
-        let open = index.wrapping_add(1);
-        if source.is(index, b"printn") && source.is_open_paren(open) && has_one(source, open) {
-            return Some(index);
-        }
-    }
-    None
 }
 
 fn base(source: &Source<'_>, draft: &mut Draft, index: usize) -> Result<(), AllocError> {
@@ -137,24 +114,25 @@ fn ended(source: &Source<'_>, draft: &mut Draft, index: usize, row: Row) -> Resu
     if is_test || is_truth(source, unit) {
         return alone(source, draft, unit, row);
     }
-    compared(source, draft, unit.last, row, true)
+    compared(source, draft, (unit.first, unit.last), row, true)
 }
 
 fn unit_of(source: &Source<'_>, index: usize, close: usize) -> Unit {
-    let name = index.wrapping_sub(2);
-    let open = name.wrapping_sub(1);
+    let open = source.partner(close.wrapping_add(1));
+    let first = open.wrapping_add(1);
     let is_bare = source.is(index.wrapping_sub(1), b"=")
         && source.is_open_paren(open)
-        && source.partner(open) == close.wrapping_add(1);
+        && at_level(source, first, index, b",") == index;
     let mut unit = Unit {
-        first: if is_bare { name } else { index },
+        first: if is_bare { first } else { index },
         last: close,
         is_bare,
     };
     for _ in 0..MOST_PARENTHESES {
         let open = unit.first.wrapping_sub(1);
         let last = unit.last.wrapping_add(1);
-        if is_grouping(source, open) && source.partner(open) == last {
+        let is_group = source.is_open_paren(open) && source.partner(open) == last;
+        if is_group && !is_callee(source, open.wrapping_sub(1)) {
             unit = Unit {
                 first: open,
                 last,
@@ -163,14 +141,6 @@ fn unit_of(source: &Source<'_>, index: usize, close: usize) -> Unit {
         }
     }
     unit
-}
-
-// Whether a parenthesis is no call's and no statement's.
-fn is_grouping(source: &Source<'_>, open: usize) -> bool {
-    let before = open.wrapping_sub(1);
-    source.is_open_paren(open)
-        && !source.is_name(before)
-        && !matches!(source.word(before), b")" | b"]")
 }
 
 // Whether only the truth of its value counts.
@@ -202,34 +172,49 @@ fn alone(source: &Source<'_>, draft: &mut Draft, unit: Unit, row: Row) -> Result
     draft.insert(source.end(unit.last), words, row)
 }
 
-/// Edits a comparison with -1, or with 0, that comes after a token.
+/// Edits a comparison with -1, or with 0, of what stands between two tokens.
 pub(crate) fn compared(
     source: &Source<'_>,
     draft: &mut Draft,
-    last: usize,
+    (first, last): (usize, usize),
     row: Row,
     is_value: bool,
 ) -> Result<(), AllocError> {
-    let sign = last.wrapping_add(1);
-    let first = sign.wrapping_add(1);
-    let is_zero = source.is(first, b"0");
-    let is_negative = source.is(first, b"-") && source.is(first.wrapping_add(1), b"1");
-    let is_end = is_negative || is_zero && is_value;
-    if is_zero && !is_value && matches!(source.word(sign), b"==" | b"!=") {
-        return draft.note_once(source, sign, NoteKind::Zero);
+    let Some(found) = comparison_of(source, first, last) else {
+        return Ok(());
+    };
+    let is_zero = found.word.value == EndValue::Zero;
+    if is_zero && !is_value && matches!(found.operator, b"==" | b"!=") {
+        return draft.note_once(source, found.sign, NoteKind::Zero);
     }
+    let is_end = is_value || !is_zero;
     let is_least = is_zero && row == Row::InputEnd;
-    let words: &[u8] = match source.word(sign) {
-        b"==" if is_end => b"== '*e'",
-        b"!=" | b">" if is_end => b"!= '*e'",
-        b">=" if is_least => b"!= '*e'",
-        b"<" if is_least => b"== '*e'",
+    let is_equal = match found.operator {
+        b"==" | b"<=" if is_end => true,
+        b"!=" | b">" if is_end => false,
+        b">=" if is_least => false,
+        b"<" if is_least => true,
         _ => return Ok(()),
     };
-    let end = if is_negative {
-        first.wrapping_add(1)
-    } else {
-        first
+    end_test(source, draft, found, is_equal, row)
+}
+
+// Makes a comparison with `'*e'` of one with another value.
+fn end_test(
+    source: &Source<'_>,
+    draft: &mut Draft,
+    found: Comparison<'_>,
+    is_equal: bool,
+    row: Row,
+) -> Result<(), AllocError> {
+    let (sign, word) = (found.sign, found.word);
+    let words: &[u8] = match (word.first > sign, is_equal) {
+        (true, true) => b"== '*e'",
+        (true, false) => b"!= '*e'",
+        (false, true) => b"'*e' ==",
+        (false, false) => b"'*e' !=",
     };
-    draft.put(source.start(sign), source.end(end), words, row)
+    let start = source.start(sign.min(word.first));
+    let end = source.end(sign.max(word.last));
+    draft.put(start, end, words, row)
 }

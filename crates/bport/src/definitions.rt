@@ -96,6 +96,7 @@ fn definition(
     match source.word(at) {
         b"%" => return included(source, draft, found, at),
         b"extern" | b"extrn" => return elsewhere(source, draft, found, at),
+        b"{" | b"$(" if source.is_open_brace(at) => return Ok(after(source.partner(at))),
         b"struct" | b"union" | b"typedef" => {
             draft.note(source, at, NoteKind::Structure)?;
             return Ok(after(source.semicolon(at)));

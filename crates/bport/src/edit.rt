@@ -4,9 +4,8 @@ ghost use Rattle.std.specs.Prelude.{◌≡◌, ◌-◌, ◌≤◌, drop, not, ta
 ghost use Rattle.std.specs.List.{list_all};
 ghost use Rattle.bport.specs.Places.{is_own_text};
 ghost use Rattle.bport.specs.Edits.{are_sound, fits, is_escape, is_in_quotes, opens_comment, stands_apart};
-ghost use Rattle.bport.specs.Escapes.{backslash_escape, byte_escape, escape_for, escape_of, is_cut_short, letter_escape};
-ghost use Rattle.bport.specs.Escapes.{star_escape};
-ghost use Rattle.bport.specs.Escapes.{octal_number, octal_value};
+ghost use Rattle.bport.specs.Escapes.{backslash_escape, byte_escape, escape_for, escape_of, escaped, is_cut_number};
+ghost use Rattle.bport.specs.Escapes.{is_cut_short, letter_escape, octal_number, octal_value, star_escape};
 
 use crate::row::Row;
 use crate::within::Within;
@@ -146,7 +145,7 @@ pub(crate) fn escape_for(old: &[u8]) -> &'static [u8]
     ensures { result.now ≡ escape_for old.now }
 {
     match old {
-        [b'\\', escape @ ..] => backslash_escape(escape),
+        [b'\\', escape @ ..] => backslash_escape(escape, false),
         [b'*', escape @ ..] => star_escape(escape),
         _ => b"",
     }
@@ -162,49 +161,59 @@ fn star_escape(escape: &[u8]) -> &'static [u8]
         [b'T'] => b"*t",
         [b'E'] => b"*e",
         [b'*'] => b"****",
+        [_] => b"",
+        [b'\\', rest @ ..] => backslash_escape(rest, true),
         _ => b"",
     }
 }
 
-// The same for what comes after a backslash.
-fn backslash_escape(escape: &[u8]) -> &'static [u8]
-    ensures { result.now ≡ backslash_escape escape.now }
+// The same for what comes after a backslash, and for a `*` before this that stands for itself.
+fn backslash_escape(escape: &[u8], is_starred: bool) -> &'static [u8]
+    ensures { result.now ≡ escaped is_starred (backslash_escape escape.now) }
 {
     match octal_value(escape) {
-        Some(code) => byte_escape(code),
-        None => letter_escape(escape),
+        Some(code) => byte_escape(code, is_starred),
+        None => letter_escape(escape, is_starred),
     }
 }
 
-fn byte_escape(code: u64) -> &'static [u8]
-    ensures { result.now ≡ byte_escape code }
+fn byte_escape(code: u64, is_starred: bool) -> &'static [u8]
+    ensures { result.now ≡ escaped is_starred (byte_escape code) }
 {
-    match code {
-        10 => b"*n",
-        9 => b"*t",
-        0 => b"*0",
+    match (code, is_starred) {
+        (10, false) => b"*n",
+        (10, true) => b"***n",
+        (9, false) => b"*t",
+        (9, true) => b"***t",
+        (0, false) => b"*0",
+        (0, true) => b"***0",
         _ => b"",
     }
 }
 
-fn letter_escape(escape: &[u8]) -> &'static [u8]
-    ensures { result.now ≡ letter_escape escape.now }
+fn letter_escape(escape: &[u8], is_starred: bool) -> &'static [u8]
+    ensures { result.now ≡ escaped is_starred (letter_escape escape.now) }
 {
     match escape {
-        [letter] => escape_of(*letter),
+        [letter] => escape_of(*letter, is_starred),
         _ => b"",
     }
 }
 
-fn escape_of(byte: u8) -> &'static [u8]
-    ensures { result.now ≡ escape_of byte }
+fn escape_of(byte: u8, is_starred: bool) -> &'static [u8]
+    ensures { result.now ≡ escaped is_starred (escape_of byte) }
 {
-    match byte {
-        b'n' => b"*n",
-        b't' => b"*t",
-        b'"' => b"*\"",
-        b'\'' => b"*'",
-        b'\\' => b"\\",
+    match (byte, is_starred) {
+        (b'n', false) => b"*n",
+        (b'n', true) => b"***n",
+        (b't', false) => b"*t",
+        (b't', true) => b"***t",
+        (b'"', false) => b"*\"",
+        (b'"', true) => b"***\"",
+        (b'\'', false) => b"*'",
+        (b'\'', true) => b"***'",
+        (b'\\', false) => b"\\",
+        (b'\\', true) => b"**\\",
         _ => b"",
     }
 }
@@ -244,12 +253,22 @@ pub(crate) fn is_octal(byte: u8) -> bool
     matches!(byte, b'0'..=b'7')
 }
 
-// Whether an octal number in quotes goes on after these bytes.
+// Whether an octal number in quotes goes on after these bytes, also after a `*` that stands for itself.
 fn is_cut_short(old: &[u8], next: Option<u8>) -> bool
     ensures { result ≡ is_cut_short old.now next }
 {
     match (old, next) {
-        ([b'\\', digits @ ..], Some(next)) => {
+        ([b'*', rest @ ..], Some(next)) => is_cut_number(rest, next),
+        (_, Some(next)) => is_cut_number(old, next),
+        (_, None) => false,
+    }
+}
+
+fn is_cut_number(old: &[u8], next: u8) -> bool
+    ensures { result ≡ is_cut_number old.now next }
+{
+    match old {
+        [b'\\', digits @ ..] => {
             is_octal(next) && digits.len() < 3 && octal_value(digits).is_some()
         }
         _ => false,

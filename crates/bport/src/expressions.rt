@@ -254,18 +254,8 @@ pub(crate) fn exclusive_assignment(
     draft.put_text(last, last, tail, Row::Exclusive)
 }
 
-/// Whether no token from one up to another calls, stores or may end the run.
-pub(crate) fn is_pure(source: &Source<'_>, first: usize, end: usize) -> bool {
-    for index in first..end.min(source.tokens.len()) {
-        if matches!(source.word(index), b"/" | b"%") {
-            return false;
-        }
-    }
-    is_quiet(source, first, end)
-}
-
-// Whether no token from one up to another calls or stores.
-fn is_quiet(source: &Source<'_>, first: usize, end: usize) -> bool {
+/// Whether no token from one up to another calls or stores.
+pub(crate) fn is_quiet(source: &Source<'_>, first: usize, end: usize) -> bool {
     for index in first..end.min(source.tokens.len()) {
         let before = index.wrapping_sub(1);
         match source.word(index) {

@@ -140,7 +140,8 @@ fn declare(
     let width = told_size(source, draft, second(source, name))?;
     let size = told_size(source, draft, name.wrapping_add(1))?;
     let role = slot(&found.roles, name);
-    let is_sized = role == PARAMETER || words_of(size, width).is_some();
+    let words = words_of(size, width);
+    let is_sized = role == PARAMETER || words.is_some();
     let own = match width {
         Some(width @ 1..=32767) if is_sized => width as usize,
         _ => NONE,
@@ -150,7 +151,7 @@ fn declare(
         put(&mut found.declared, first, name);
         put(&mut found.widths, first, if own == NONE { 0 } else { own });
     }
-    if own == NONE || !is_same || !has_values(source, name, role, own) {
+    if own == NONE || !is_same || !has_values(source, name, role, (own as u64, words)) {
         put(&mut found.odd, first, name);
     }
     Ok(())
@@ -165,7 +166,12 @@ fn words_of(size: Option<u64>, width: Option<u64>) -> Option<u64> {
 }
 
 // Whether the initial values of a name, if it has some, fill its words one after the other.
-fn has_values(source: &Source<'_>, name: usize, role: usize, width: usize) -> bool {
+fn has_values(
+    source: &Source<'_>,
+    name: usize,
+    role: usize,
+    (width, words): (u64, Option<u64>),
+) -> bool {
     let sign = source.partner(second(source, name)).wrapping_add(1);
     let open = if source.is(sign, b"=") {
         sign.wrapping_add(1)
@@ -175,15 +181,28 @@ fn has_values(source: &Source<'_>, name: usize, role: usize, width: usize) -> bo
     match source.word(sign) {
         b"," | b";" | b")" => true,
         b"[" => false,
-        _ => role == EXTERNAL && are_rows(source, open, width as u64),
+        _ if role != EXTERNAL => false,
+        b"=" | b"{" | b"$(" => are_rows(source, open, width),
+        _ => words.map(|last| last.saturating_add(1)) == Some(values_from(source, open)),
     }
 }
 
-// Whether values come from a token on, or rows between braces that have as many as there are in a vector.
+// How many values come from a token on, up to the end of a definition.
+fn values_from(source: &Source<'_>, first: usize) -> u64 {
+    let mut count: u64 = 1;
+    for index in first..source.semicolon(first).min(source.tokens.len()) {
+        if source.is(index, b",") {
+            count = count.saturating_add(1);
+        }
+    }
+    count
+}
+
+// Whether rows between braces have as many values as there are in a vector, or there are no rows.
 fn are_rows(source: &Source<'_>, open: usize, width: u64) -> bool {
     let close = source.partner(open);
     if !source.is_open_brace(open) || close == NONE {
-        return source.kind(open) == Some(TokenKind::Number);
+        return false;
     }
     let mut has_rows = false;
     let mut has_words = false;

@@ -1,8 +1,8 @@
 //! Externals whose initial values are names of functions: the addresses of the functions' words.
 use crate::calls::defines;
-use crate::definitions::{External, Outline, outline_of};
+use crate::definitions::{External, Outline};
 use crate::expressions::is_assignment;
-use crate::names::{Constants, is_library};
+use crate::names::is_library;
 use crate::pointers::{Declaring, after_index, pointed, takes_addresses};
 use crate::row::{NoteKind, Row};
 use crate::sizes::told_size;
@@ -29,7 +29,14 @@ struct Holders {
     pointers: Vec<usize>,
 }
 
-/// Puts `*` before what they hold wherever it is used, or tells it. Gives the names of all.
+/// The names of such externals, and for each token before which `*` is put any number.
+#[derive(Drop)]
+pub(crate) struct Held {
+    pub names: Vec<usize>,
+    pub starred: Vec<usize>,
+}
+
+/// Puts `*` before what they hold wherever it is used, or tells it.
 pub(crate) fn edit_holders(
     alloc: Global,
     source: &Source<'_>,
@@ -37,11 +44,14 @@ pub(crate) fn edit_holders(
     draft: &mut Draft,
     outline: &Outline,
     short: &[Option<Text>],
-) -> Result<Vec<usize>, AllocError> {
+) -> Result<Held, AllocError> {
     let mut found = found_in(alloc, source, others, draft, outline)?;
     let has_addresses = takes_addresses(alloc, source, outline)?;
     let has_stars = find_uses(source, outline, &mut found) || has_addresses;
-    let mut names = Vec::new(alloc);
+    let mut held = Held {
+        names: Vec::new(alloc),
+        starred: filled(alloc, source.tokens.len())?,
+    };
     for index in 0..source.tokens.len() {
         let first = slot(source.firsts, index);
         let value = slot(&found.values, first);
@@ -50,16 +60,17 @@ pub(crate) fn edit_holders(
         }
         let is_mended = !has_stars && slot(&found.odd, first) == NONE;
         if slot(&found.names, first) == index {
-            names.push(index)?;
+            held.names.push(index)?;
             if !is_mended && slot(&found.direct, first) != NONE {
                 draft.note(source, value, NoteKind::Held)?;
             }
         }
         if is_mended && slot(&found.uses, index) != NONE {
+            put(&mut held.starred, index, 0);
             starred(source, draft, short, index)?;
         }
     }
-    Ok(names)
+    Ok(held)
 }
 
 /// Tells those of a source that stays as it is.
@@ -68,12 +79,10 @@ pub(crate) fn tell_holders(
     source: &Source<'_>,
     others: &Source<'_>,
     draft: &mut Draft,
+    outline: &Outline,
 ) -> Result<(), AllocError> {
-    let mut unused = Draft::new(alloc);
-    let mut constants = Constants::new(alloc, source.text.len())?;
-    let outline = outline_of(alloc, source, &mut unused, &mut constants)?;
-    let mut found = found_in(alloc, source, others, &unused, &outline)?;
-    let _ = find_uses(source, &outline, &mut found);
+    let mut found = found_in(alloc, source, others, draft, outline)?;
+    let _ = find_uses(source, outline, &mut found);
     for external in &outline.variables {
         let first = slot(source.firsts, external.name);
         let value = slot(&found.values, first);
@@ -137,7 +146,8 @@ fn values_of(
     }
     put(&mut found.names, first, name);
     put(&mut found.values, first, value);
-    if has_others || !is_filled(source, draft, name, count)? {
+    let is_function = slot(functions, first) != NONE;
+    if has_others || is_function || !is_filled(source, draft, name, count)? {
         put(&mut found.odd, first, name);
     }
     Ok(())

@@ -1,5 +1,6 @@
 //! Words that hold what `getchar` gave, and what they are compared with.
 use crate::calls::compared;
+use crate::comparisons::{EndValue, comparison_after, comparison_before, comparison_of, end_word};
 use crate::definitions::{Function, Outline};
 use crate::expressions::is_assignment;
 use crate::names::is_keyword;
@@ -29,10 +30,6 @@ struct Stores {
 }
 
 impl Stores {
-    fn is_input(&self, first: usize, number: usize) -> bool {
-        slot(&self.inputs, first) == number
-    }
-
     // Whether a word of a function holds nothing but that.
     fn is_alone(&self, first: usize, number: usize) -> bool {
         slot(&self.others, first) != number && slot(&self.externals, first) == NONE
@@ -67,7 +64,7 @@ pub(crate) fn inputs(
     }
     if stores.is_spread {
         for sign in &stores.signed {
-            draft.note(source, *sign, NoteKind::Zero)?;
+            draft.note_once(source, *sign, NoteKind::Zero)?;
         }
         tell(source, draft, &edited)?;
     }
@@ -169,9 +166,11 @@ fn comparisons(
         if is_zero && slot(&stores.strings, first) == number {
             draft.note_once(source, index, NoteKind::Ends)?;
         }
-        if !stores.is_input(first, number) {
-            if slot(&stores.calls, first) == number && is_sign_test(source, index) {
-                stores.signed.push(index.wrapping_add(1))?;
+        if slot(&stores.inputs, first) != number {
+            if slot(&stores.calls, first) == number {
+                if let Some(sign) = sign_test(source, index) {
+                    stores.signed.push(sign)?;
+                }
             }
             continue;
         }
@@ -180,13 +179,13 @@ fn comparisons(
         }
         if stores.is_alone(first, number) {
             put(edited, index, 0);
-            compared(source, draft, index, Row::InputEnd, false)?;
-        } else if is_sign_test(source, index) {
-            draft.note(source, index, NoteKind::Zero)?;
+            compared(source, draft, (index, index), Row::InputEnd, false)?;
+        } else if sign_test(source, index).is_some() {
+            draft.note_once(source, index, NoteKind::Zero)?;
         }
         let before = source.word(index.wrapping_sub(1));
-        let is_given = matches!(before, b"(") && is_value_head(source, index.wrapping_sub(2));
-        if is_given || matches!(before, b"return") || !stores.is_alone(first, number) {
+        let is_handed = matches!(before, b"(") && is_value_head(source, index.wrapping_sub(2));
+        if is_handed || matches!(before, b"return") || !stores.is_alone(first, number) {
             stores.is_spread = true;
         }
     }
@@ -198,43 +197,97 @@ fn is_value_head(source: &Source<'_>, index: usize) -> bool {
     matches!(source.word(index), b"return" | b"switch")
 }
 
-// Whether it is asked whether what ends with a token is below 0, as the end of the input was.
-fn is_sign_test(source: &Source<'_>, index: usize) -> bool {
-    let sign = index.wrapping_add(1);
-    matches!(source.word(sign), b"<" | b">=") && source.is(sign.wrapping_add(1), b"0")
+// The sign by which it is asked whether a word is below 0, as the end of the input was.
+fn sign_test(source: &Source<'_>, index: usize) -> Option<usize> {
+    let found = comparison_of(source, index, index)?;
+    if found.is_of_sign() {
+        Some(found.sign)
+    } else {
+        None
+    }
 }
 
-// Whether what ends with a token is compared with 0, or only its truth counts.
+// Whether a word is compared with 0, or only its truth counts.
 fn is_zero_test(source: &Source<'_>, index: usize) -> bool {
+    if let Some(found) = comparison_of(source, index, index) {
+        return found.is_of_zero();
+    }
     let sign = index.wrapping_add(1);
     match (source.word(index.wrapping_sub(1)), source.word(sign)) {
-        (_, b"==" | b"!=" | b">") => source.is(sign.wrapping_add(1), b"0"),
         (b"!", _) | (b"(" | b"&&" | b"||", b"&&" | b"||" | b"?") | (b"&&" | b"||", b")") => true,
-        (b"(", b")") => source.is_head(sign),
+        (b"(", b")") => source.is_head(sign) && !source.is(index.wrapping_sub(2), b"switch"),
         _ => false,
     }
 }
 
-// Tells each comparison with -1, and each case of it, that stays.
+// Tells what stays: each comparison with -1, each case of it, and each test of what a call has given for what is
+// below 0.
 fn tell(source: &Source<'_>, draft: &mut Draft, edited: &[usize]) -> Result<(), AllocError> {
     for index in 0..source.tokens.len() {
-        let before = index.wrapping_sub(1);
-        let next = index.wrapping_add(1);
-        let stays = slot(edited, before) == NONE && !is_of_call(source, before);
-        let is_compared = matches!(source.word(index), b"==" | b"!=") && stays;
-        let is_minus_one = source.is(next, b"-") && source.is(next.wrapping_add(1), b"1");
-        if (is_compared || source.is(index, b"case")) && is_minus_one {
-            draft.note(source, index, NoteKind::Zero)?;
+        if is_case(source, index) || is_test(source, edited, index) {
+            draft.note_once(source, index, NoteKind::Zero)?;
         }
     }
     Ok(())
 }
 
+fn is_case(source: &Source<'_>, index: usize) -> bool {
+    let value = end_word(source, index.wrapping_add(1)).map(|word| word.value);
+    source.is(index, b"case") && value == Some(EndValue::MinusOne)
+}
+
+// Whether a sign compares with -1, or with 0 what a call has given, and stays.
+fn is_test(source: &Source<'_>, edited: &[usize], sign: usize) -> bool {
+    let (before, next) = (sign.wrapping_sub(1), sign.wrapping_add(1));
+    if let Some(found) = comparison_after(source, sign) {
+        let stays = slot(edited, before) == NONE && !is_of_call(source, before);
+        let is_signed = found.is_of_sign() && is_given(source, before);
+        let is_zero = found.is_of_zero() && is_stored_call(source, before);
+        return stays && (found.is_of_minus_one() || is_signed || is_zero);
+    }
+    match comparison_before(source, sign) {
+        Some(found) => {
+            let stays = slot(edited, next) == NONE && !is_of_call(source, call_end(source, next));
+            stays && found.is_of_minus_one()
+        }
+        None => false,
+    }
+}
+
+// The last parenthesis of a call, or of a group, that begins with a token.
+fn call_end(source: &Source<'_>, first: usize) -> usize {
+    if source.is_open_paren(first) {
+        source.partner(first)
+    } else {
+        source.partner(first.wrapping_add(1))
+    }
+}
+
+// Whether a call without arguments ends with a parenthesis, or a parenthesis in which a word gets what one gives.
+fn is_given(source: &Source<'_>, close: usize) -> bool {
+    is_bare_call(source, close) || is_stored_call(source, close)
+}
+
+fn is_stored_call(source: &Source<'_>, close: usize) -> bool {
+    is_stored(source, close) && is_bare_call(source, close.wrapping_sub(1))
+}
+
+fn is_bare_call(source: &Source<'_>, close: usize) -> bool {
+    let open = source.partner(close);
+    source.is_call(open.wrapping_sub(1)) && open.wrapping_add(1) == close
+}
+
+// Whether a parenthesis ends in which the value of a call is stored.
+fn is_stored(source: &Source<'_>, close: usize) -> bool {
+    let call = source.partner(close.wrapping_sub(1)).wrapping_sub(1);
+    source.is_call(call) && source.is(call.wrapping_sub(1), b"=")
+}
+
 // Whether the value of `getchar` is compared itself.
 fn is_of_call(source: &Source<'_>, close: usize) -> bool {
-    let call = source.partner(close).wrapping_sub(1);
-    let open = source.partner(close);
-    let inner = open.wrapping_add(3);
-    source.is(call, b"getchar")
-        || source.is(inner, b"getchar") && source.is(open.wrapping_add(2), b"=")
+    is_input(source, close) || is_stored(source, close) && is_input(source, close.wrapping_sub(1))
+}
+
+fn is_input(source: &Source<'_>, close: usize) -> bool {
+    source.is(source.partner(close).wrapping_sub(1), b"getchar")
 }

@@ -3,6 +3,7 @@
 
 mod apply;
 mod calls;
+mod comparisons;
 mod definitions;
 mod edit;
 mod expressions;

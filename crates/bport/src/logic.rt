@@ -1,6 +1,6 @@
 //! `&&` and `||`.
 use crate::definitions::Outline;
-use crate::expressions::{Exclusive, is_assignment, is_pure};
+use crate::expressions::{Exclusive, is_assignment, is_quiet};
 use crate::names::{is_keyword, is_one_of, is_type};
 use crate::row::{NoteKind, Row};
 use crate::shape::{is_closing, is_opening};
@@ -59,16 +59,15 @@ pub(crate) fn signs(
             };
         } else if matches!(word, b"&&" | b"||" | b"^") {
             region.has_signs = true;
-        } else if ends_region(word) && !(is_type(word) && source.is_call(index)) {
+        } else if (matches!(word, b"," | b";" | b"?" | b":" | b"::")
+            || is_assignment(word)
+            || is_keyword(word) && !(is_type(word) && source.is_call(index)))
+        {
             end_region(source, draft, &mut exclusives, region, index)?;
             region = Region::new(region.open, next);
         }
     }
     Ok(exclusives)
-}
-
-fn ends_region(word: &[u8]) -> bool {
-    matches!(word, b"," | b";" | b"?" | b":" | b"::") || is_assignment(word) || is_keyword(word)
 }
 
 fn end_region(
@@ -107,7 +106,7 @@ fn exclusive(
     let Some(sign) = signs.get(0) else {
         return Ok(());
     };
-    if signs.len() != 1 || has_at_level(source, first, end, b"|") {
+    if signs.len() != 1 || at_level(source, first, end, b"|") != end {
         return draft.note(source, *sign, NoteKind::Exclusive);
     }
     exclusives.push(Exclusive {
@@ -149,18 +148,19 @@ pub(crate) fn after_part(source: &Source<'_>, index: usize) -> usize {
     }
 }
 
-fn has_at_level(source: &Source<'_>, first: usize, end: usize, word: &[u8]) -> bool {
+/// The first token from one on that is this word, outside of brackets that open there; or the end.
+pub(crate) fn at_level(source: &Source<'_>, first: usize, end: usize, word: &[u8]) -> usize {
     let mut next = first;
     for index in first..end.min(source.tokens.len()) {
         if index < next {
             continue;
         }
         if source.is(index, word) {
-            return true;
+            return index;
         }
         next = after_part(source, index);
     }
-    false
+    end
 }
 
 // Edits the `&&` and `||` of a region.
@@ -203,20 +203,14 @@ fn are_comparisons(source: &Source<'_>, signs: &[usize], first: usize, end: usiz
     is_comparison(source, from, end)
 }
 
+// A word that is read by its address may be one that another operand has to see to, and a division may end the run.
 fn is_comparison(source: &Source<'_>, first: usize, end: usize) -> bool {
-    is_pure(source, first, end)
-        && !reads_elsewhere(source, first, end)
+    is_quiet(source, first, end)
+        && !source.has(first, end, b"[")
+        && !source.has(first, end, b"*")
+        && !source.has(first, end, b"/")
+        && !source.has(first, end, b"%")
         && is_boolean(source, first, end)
-}
-
-// Whether a word is read by its address, which another operand may have to see to.
-fn reads_elsewhere(source: &Source<'_>, first: usize, end: usize) -> bool {
-    for index in first..end.min(source.tokens.len()) {
-        if matches!(source.word(index), b"[" | b"*") {
-            return true;
-        }
-    }
-    false
 }
 
 // Whether the value is 1 or 0.
@@ -365,7 +359,8 @@ fn valued(
     if is_truth || is_boolean(source, first, end) {
         return Ok(());
     }
-    let is_loose = has_at_level(source, first, end, b"&") || has_at_level(source, first, end, b"|");
+    let is_loose = at_level(source, first, end, b"&") != end
+        || at_level(source, first, end, b"|") != end;
     if is_loose {
         draft.insert(source.start(first), b"(", row)?;
         return draft.insert(source.end(end.wrapping_sub(1)), b") != 0", row);

@@ -1,5 +1,6 @@
 //! What compiles here, and may have meant another thing where it was written: each is told once.
 use crate::calls::defines;
+use crate::edit::between;
 use crate::expressions::{is_assignment, is_callee, is_tight};
 use crate::logic::after_part;
 use crate::names::{is_keyword, value_of_number};
@@ -19,7 +20,7 @@ const MOST_CALLS: usize = 4;
 /// What is known of a whole source.
 #[derive(Clone, Copy)]
 struct Facts {
-    /// Whether its words may have more than 16 bits: it is of another form.
+    /// Whether its words may have more than 16 bits: it is of another form, or a comment tells another size.
     is_wide: bool,
     /// Whether it defines these, or what comes after it does.
     has_puts: bool,
@@ -35,7 +36,7 @@ pub(crate) fn meanings(
     is_wide: bool,
 ) -> Result<(), AllocError> {
     let facts = Facts {
-        is_wide,
+        is_wide: is_wide || tells_size(source.text),
         has_puts: defines(source, b"puts") || defines(others, b"puts"),
         has_printf: defines(source, b"printf"),
         has_write: defines(source, b"write") || defines(others, b"write"),
@@ -48,11 +49,33 @@ pub(crate) fn meanings(
         if puts_word(source, &texts, index) {
             draft.note_once(source, index, NoteKind::Pointer)?;
         }
+        if !facts.has_printf && is_form(source, index) && has_other(source.word(index)) {
+            draft.note_once(source, index, NoteKind::Form)?;
+        }
         if let Some(kind) = meaning(source, facts, index) {
             draft.note_once(source, index, kind)?;
         }
     }
     Ok(())
+}
+
+// Whether a text tells a size of words, as 18 or 36 bits.
+fn tells_size(text: &[u8]) -> bool {
+    for at in 0..text.len() {
+        let is_size = match between(text, at, at.saturating_add(6)) {
+            [tens, units, b' ' | b'-', b'b', b'i', b't'] => {
+                matches!(
+                    (*tens, *units),
+                    (b'1', b'8') | (b'2', b'4') | (b'3', b'2' | b'6')
+                )
+            }
+            _ => false,
+        };
+        if is_size {
+            return true;
+        }
+    }
+    false
 }
 
 // Whether a word of what got a string is written: of these names any number is kept.
@@ -72,15 +95,18 @@ fn puts_word(source: &Source<'_>, texts: &[usize], index: usize) -> bool {
 fn meaning(source: &Source<'_>, facts: Facts, index: usize) -> Option<NoteKind> {
     let word = source.word(index);
     match source.kind(index)? {
-        TokenKind::Number if !facts.has_write && is_nine_bits(word) && !is_written(source, index) =>
-            { Some(NoteKind::Pair) }
+        TokenKind::Number
+            if !facts.has_write && is_nine_bits(word) && !is_argument(source, index, b"write") => {
+            Some(NoteKind::Pair)
+        }
         TokenKind::Char if units_in(source.quotes, word) == 2 && !is_written(source, index) => {
             Some(NoteKind::Pair)
         }
         TokenKind::String if source.quotes == Quotes::Both && has_pair(word, b'*', b"nte0()*") => {
             Some(NoteKind::Stars)
         }
-        TokenKind::String if !facts.has_printf && is_form(source, index) => {
+        TokenKind::String
+            if !facts.has_printf && is_form(source, index) && has_pair(word, b'%', b"o") => {
             Some(NoteKind::Octal)
         }
         TokenKind::Name if matches!(word, b"puts") && !facts.has_puts && source.is_call(index) => {
@@ -142,16 +168,37 @@ fn is_nine_bits(word: &[u8]) -> bool {
 // Whether a constant is all that is written by a call.
 fn is_written(source: &Source<'_>, index: usize) -> bool {
     matches!(source.word(index), b"'$('" | b"'$)'")
-        || matches!(source.word(index.wrapping_sub(2)), b"putchar" | b"write")
-            && source.is(index.wrapping_sub(1), b"(")
-            && source.is(index.wrapping_add(1), b")")
+        || is_argument(source, index, b"putchar")
+        || is_argument(source, index, b"write")
 }
 
-// Whether a string is a form in which a number is written to the base 8.
-fn is_form(source: &Source<'_>, index: usize) -> bool {
-    source.is(index.wrapping_sub(2), b"printf")
+// Whether a token is all that a function with this name gets.
+fn is_argument(source: &Source<'_>, index: usize, name: &[u8]) -> bool {
+    source.is(index.wrapping_sub(2), name)
         && source.is(index.wrapping_sub(1), b"(")
-        && has_pair(source.word(index), b'%', b"o")
+        && source.is(index.wrapping_add(1), b")")
+}
+
+// Whether a string is the form by which `printf` writes.
+fn is_form(source: &Source<'_>, index: usize) -> bool {
+    source.kind(index) == Some(TokenKind::String)
+        && source.is(index.wrapping_sub(2), b"printf")
+        && source.is(index.wrapping_sub(1), b"(")
+}
+
+// Whether a form has an item that `printf` of the library doesn't have.
+fn has_other(form: &[u8]) -> bool {
+    let mut is_item = false;
+    for byte in form {
+        is_item = match *byte {
+            b'%' => !is_item,
+            b'-' | b'0'..=b'9' => is_item,
+            b'd' | b'u' | b'o' | b'x' | b'c' | b's' => false,
+            b'a'..=b'z' | b'A'..=b'Z' | b'.' | b'+' if is_item => return true,
+            _ => false,
+        };
+    }
+    false
 }
 
 /// Whether one of these bytes comes after a mark.
@@ -172,7 +219,7 @@ fn copies_string(source: &Source<'_>, index: usize) -> bool {
     let close = source.partner(open);
     let is_test = source.is(open, b"(") && source.is_head(close);
     let end = close.min(open.saturating_add(MOST_TOKENS));
-    is_test && has_word(source, open, end, b"=") && !has_word(source, open, end, b"!=")
+    is_test && source.has(open, end, b"=") && !source.has(open, end, b"!=")
 }
 
 // Whether a call gets in one argument what a token changes, and the same name in another one, or an expression has what
@@ -280,21 +327,12 @@ fn is_elsewhere(source: &Source<'_>, open: usize, name: usize) -> bool {
         }
         if at == end || source.is(at, b",") {
             let is_own = first <= name && name < at;
-            if !is_own && has_word(source, first, at, source.word(name)) {
+            if !is_own && source.has(first, at, source.word(name)) {
                 return true;
             }
             first = at.saturating_add(1);
         }
         next = after_part(source, at);
-    }
-    false
-}
-
-fn has_word(source: &Source<'_>, first: usize, end: usize, word: &[u8]) -> bool {
-    for index in first..end {
-        if source.is(index, word) {
-            return true;
-        }
     }
     false
 }

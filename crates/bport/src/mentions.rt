@@ -1,10 +1,10 @@
 //! Externals that a function has without saying so.
 use crate::definitions::{Function, Outline, after_types};
+use crate::logic::at_level;
 use crate::names::{has_name, is_keyword, is_type};
 use crate::pointers::is_typed;
 use crate::row::{NoteKind, Row};
 use crate::source::{Draft, Source};
-use crate::statements::declarator_end;
 use crate::table::{NONE, filled, put, slot};
 use btools::Text;
 use std::alloc::{AllocError, Global};
@@ -16,6 +16,8 @@ struct Known {
     externals: Vec<usize>,
     declared: Vec<usize>,
     ends: Vec<usize>,
+    /// For each token that is called by a `*` now any number.
+    starred: Vec<usize>,
 }
 
 impl Known {
@@ -28,16 +30,18 @@ impl Known {
 
 /// Lets each function name the externals of this source that it has without a declaration.
 pub(crate) fn mentions(
-    alloc: Global,
     source: &Source<'_>,
     draft: &mut Draft,
     outline: &Outline,
     short: &[Option<Text>],
+    starred: Vec<usize>,
 ) -> Result<(), AllocError> {
+    let alloc = draft.alloc;
     let mut known = Known {
         externals: filled(alloc, source.tokens.len())?,
         declared: filled(alloc, source.tokens.len())?,
         ends: filled(alloc, source.tokens.len())?,
+        starred,
     };
     for name in &outline.externals {
         put(&mut known.externals, slot(source.firsts, *name), 0);
@@ -102,7 +106,7 @@ fn declarators(source: &Source<'_>, known: &mut Known, index: usize, number: usi
                 number,
                 if is_external { NONE } else { end },
             );
-            next = declarator_end(source, at, last).wrapping_add(1);
+            next = at_level(source, at, last, b",").wrapping_add(1);
         }
     }
 }
@@ -142,7 +146,8 @@ fn unnamed(
         if is_declared && slot(&known.ends, first) < index {
             draft.note_once(source, index, NoteKind::Scope)?;
         }
-        let is_other = source.is_call(index) || is_keyword(source.word(index));
+        let is_called = source.is_call(index) && slot(&known.starred, index) == NONE;
+        let is_other = is_called || is_keyword(source.word(index));
         if is_declared || is_other || outline.is_gone(index) {
             continue;
         }
@@ -179,7 +184,12 @@ pub(crate) fn heap(
                 Row::Heap,
             )?;
             let last = source.text.len();
-            draft.put(last, last, b"\nvecpool[9999];\n", Row::Heap)?;
+            let words: &[u8] = if source.text.contains(&b'\r') {
+                b"\r\nvecpool[9999];\r\n"
+            } else {
+                b"\nvecpool[9999];\n"
+            };
+            draft.put(last, last, words, Row::Heap)?;
             break;
         }
     }

@@ -1,7 +1,9 @@
 //! Names and numbers that are written otherwise here.
 use crate::apply::apply;
 use crate::calls::defines;
+use crate::comparisons::EndValue;
 use crate::definitions::Outline;
+use crate::edit::between;
 use crate::expressions::MOST_BYTES;
 use crate::quotes::quoted;
 use crate::row::{NoteKind, Row};
@@ -10,7 +12,7 @@ use crate::table::{NONE, filled, place_in, put, slot, word_of};
 use crate::taken::{NAME_LETTERS, Taken};
 use crate::tokens::{Token, TokenKind, tokens_of};
 use crate::turned::Turned;
-use crate::within::places_of;
+use crate::within::{Within, places_of};
 use btools::Text;
 use bword::Edition;
 use std::alloc::{AllocError, Global};
@@ -104,9 +106,10 @@ impl Constants {
 
     // What a value is here, if it is one.
     fn ported(&self, value: &[u8]) -> Result<Option<Value>, AllocError> {
+        let value = without_remarks(self.alloc, value)?;
         let places = places_of(self.alloc, value)?;
         let tokens = tokens_of(self.alloc, value, &places)?;
-        if !is_value(value, &tokens) {
+        if has_remark(&places) || !is_value(value, &tokens) {
             return Ok(None);
         }
         let source = Source {
@@ -117,6 +120,7 @@ impl Constants {
             semicolons: &[],
             ends: &[],
             firsts: &[],
+            end_values: &[],
             edition: Edition::One,
             dialect: Dialect::Either,
             quotes: Quotes::Both,
@@ -165,6 +169,46 @@ impl Constants {
         let place = place_in(&self.slots, &self.names, name);
         Some(self.values.get(slot(&self.slots, place))?.as_slice())
     }
+}
+
+/// For each first token with a name, whether that is a constant that ends an input or a string.
+pub(crate) fn end_values(
+    alloc: Global,
+    source: &Source<'_>,
+    constants: &Constants,
+) -> Result<Vec<Option<EndValue>>, AllocError> {
+    let mut values: Vec<Option<EndValue>> = Vec::new(alloc);
+    for index in 0..source.tokens.len() {
+        let is_first = slot(source.firsts, index) == index;
+        values.push(match constants.value_of(source.word(index)) {
+            Some(value) if is_first => end_value(value),
+            _ => None,
+        })?;
+    }
+    Ok(values)
+}
+
+fn end_value(value: &[u8]) -> Option<EndValue> {
+    match value {
+        b"0" => Some(EndValue::Zero),
+        b"(-1)" => Some(EndValue::MinusOne),
+        _ => None,
+    }
+}
+
+// A value without comments before it and after it.
+fn without_remarks(alloc: Global, value: &[u8]) -> Result<&[u8], AllocError> {
+    let places = places_of(alloc, value)?;
+    let tokens = tokens_of(alloc, value, &places)?;
+    let start = tokens.first().map_or(0, |token| token.start);
+    let end = tokens.last().map_or(0, |token| token.end);
+    Ok(between(value, start, end))
+}
+
+fn has_remark(places: &[Within]) -> bool {
+    places
+        .iter()
+        .any(|place| matches!(place, Within::Comment | Within::Line))
 }
 
 // Whether tokens are an expression whose signs are those of this language, and whose brackets fit.
@@ -224,11 +268,13 @@ pub(crate) fn name(
     if let Some(Some(text)) = short.get(slot(renamed, index)) {
         return draft.replace(source, index, text.as_slice(), Row::Scope);
     }
+    if matches!(word, b"EOF") {
+        return end_name(source, draft, index);
+    }
     if let Some(value) = constants.value_of(word) {
         return draft.replace(source, index, value, Row::Constant);
     }
     match word {
-        b"EOF" => draft.replace(source, index, b"'*e'", Row::InputEnd),
         b"NULL" => draft.replace(source, index, b"0", Row::Constant),
         _ => match short.get(slot(source.firsts, index)) {
             Some(Some(text)) => {
@@ -242,6 +288,27 @@ pub(crate) fn name(
             _ => Ok(()),
         },
     }
+}
+
+// The name of the end of the input, which was below each character.
+fn end_name(source: &Source<'_>, draft: &mut Draft, index: usize) -> Result<(), AllocError> {
+    let sign = index.wrapping_sub(1);
+    let words: &[u8] = match source.word(sign) {
+        b">" => b"!= '*e'",
+        b"<=" => b"== '*e'",
+        _ => {
+            if !is_test(source, sign) && !is_test(source, index.wrapping_add(1)) {
+                draft.note_once(source, index, NoteKind::End)?;
+            }
+            return draft.replace(source, index, b"'*e'", Row::InputEnd);
+        }
+    };
+    draft.put(source.start(sign), source.end(index), words, Row::InputEnd)
+}
+
+// Whether a token compares.
+fn is_test(source: &Source<'_>, index: usize) -> bool {
+    matches!(source.word(index), b"==" | b"!=" | b"case")
 }
 
 /// For each token that is the first one with a name of too many letters, of letters that none has, or of a function
@@ -333,7 +400,7 @@ pub(crate) fn number(
     if value > 65535 {
         return draft.note(source, index, NoteKind::Large);
     }
-    if base == 10 && value > 32767 {
+    if base != 8 && value > 32767 {
         draft.note_once(source, index, NoteKind::Wraps)?;
     }
     if base == 16 || !is_plain(base, digits) {

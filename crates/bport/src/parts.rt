@@ -1,8 +1,10 @@
 //! What is known of a source before anything of it is edited.
+use crate::edit::between;
+use crate::quotes::has_backslash;
 use crate::shape::{partners_of, semicolons_of};
 use crate::source::{Dialect, Quotes, Source};
 use crate::table::{first_names, word_of};
-use crate::tokens::{Token, tokens_of};
+use crate::tokens::{Token, TokenKind, tokens_of};
 use crate::turned::Turned;
 use crate::within::{Within, places_of};
 use bword::Edition;
@@ -44,34 +46,47 @@ impl SourceParts {
             semicolons: &self.semicolons,
             ends: &[],
             firsts: &self.firsts,
+            end_values: &[],
             edition,
             dialect: dialect_of(text, &self.tokens),
-            quotes: quotes_of(text, &self.places),
+            quotes: quotes_of(text, &self.places, &self.tokens),
             turned: Turned::of(text, &self.tokens, &self.partners),
         }
     }
 }
 
-// By its escapes with a backslash, and by comments up to the end of a line.
-fn quotes_of(text: &[u8], places: &[Within]) -> Quotes {
-    let mut has_backslash = false;
-    let mut has_remark = false;
-    for at in 0..text.len() {
-        let rest = text.get(at..).unwrap_or(&[]);
-        match (rest, places.get(at)) {
-            ([b'\\', b'n' | b't' | b'0' | b'"' | b'\'', ..], Some(Within::String | Within::Char)) =>
-                {
-                    has_backslash = true;
-                }
-            ([b'/', ..], Some(Within::Slash)) => has_remark = true,
+// By its escapes with a backslash, in whose place others come, and by types and comments up to the end of a line.
+fn quotes_of(text: &[u8], places: &[Within], tokens: &[Token]) -> Quotes {
+    if !tokens.iter().any(|token| is_escaped(text, token)) {
+        return Quotes::Stars;
+    }
+    let has_remark = text
+        .iter()
+        .zip(places.iter())
+        .any(|(byte, place)| *byte == b'/' && *place == Within::Slash);
+    if has_remark || has_types(text, tokens) {
+        Quotes::Backslashes
+    } else {
+        Quotes::Both
+    }
+}
+
+fn is_escaped(text: &[u8], token: &Token) -> bool {
+    matches!(token.kind, TokenKind::Char | TokenKind::String)
+        && has_backslash(between(text, token.start, token.end))
+}
+
+// Whether types are there, and no constant of one character that a `*` escapes.
+fn has_types(text: &[u8], tokens: &[Token]) -> bool {
+    let mut is_typed = false;
+    for index in 0..tokens.len() {
+        match word_of(text, tokens, index) {
+            b"int" => is_typed = true,
+            [b'\'', b'*', _, b'\''] => return false,
             _ => {}
         }
     }
-    match (has_backslash, has_remark) {
-        (true, true) => Quotes::Backslashes,
-        (true, false) => Quotes::Both,
-        _ => Quotes::Stars,
-    }
+    is_typed
 }
 
 // By its assignment operators. Where types are there, nothing early is certain.

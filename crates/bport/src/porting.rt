@@ -6,7 +6,7 @@ ghost use Rattle.bport.specs.Staying.{IsLeft};
 ghost use Rattle.bport.specs.declared.within.Within.TheVariants as within;
 
 use crate::apply::{apply, joined};
-use crate::calls::{calls, defines, stored_end, without_base};
+use crate::calls::calls;
 use crate::definitions::{Outline, outline_of};
 use crate::edit::{Edit, are_sound, fits};
 use crate::expressions::{
@@ -18,20 +18,19 @@ use crate::logic::signs;
 use crate::loops::loops_of;
 use crate::meanings::{has_pair, meanings};
 use crate::mentions::{heap, mentions};
-use crate::names::{Constants, has_name, name, number, short_names};
+use crate::names::{Constants, end_values, has_name, name, number, short_names};
 use crate::parts::SourceParts;
 use crate::pointers::pointer_calls;
 use crate::quotes::{quoted, tell_ends};
 use crate::refusing::refuse;
 use crate::remarks::remarks;
-use crate::row::{Note, NoteKind};
+use crate::row::{Note, NoteKind, Row};
 use crate::scopes::renames;
 use crate::shape::ends_of;
 use crate::source::{Dialect, Draft, Source, key_of};
 use crate::statements::statement;
 use crate::staying::{has_refused, has_right, tell_old};
 use crate::streams::streams;
-use crate::table::NONE;
 use crate::taken::Taken;
 use crate::tokens::TokenKind;
 use crate::turned::turned_head;
@@ -134,27 +133,8 @@ fn unchanged(alloc: Global, source: &[u8], is_program: bool) -> Result<Ported, A
     })
 }
 
-// What a source that stays as it is may not mean, each once.
-fn plain_notes(alloc: Global, source: &[u8], rest: &[u8]) -> Result<Vec<Note>, AllocError> {
-    let mut draft = Draft::new(alloc);
-    plain_tokens(alloc, source, rest, &mut draft)?;
-    let Draft {
-        alloc: _,
-        edits: _,
-        mut notes,
-        ordered: _,
-        told: _,
-    } = draft;
-    in_order(&mut notes)?;
-    Ok(notes)
-}
-
-fn plain_tokens(
-    alloc: Global,
-    text: &[u8],
-    rest: &[u8],
-    draft: &mut Draft,
-) -> Result<(), AllocError> {
+// What a source that stays as it is may not mean.
+fn plain_notes(alloc: Global, text: &[u8], rest: &[u8]) -> Result<Vec<Note>, AllocError> {
     let parts = SourceParts::of(alloc, text)?;
     let others = SourceParts::of(alloc, rest)?;
     let bare = parts.source(text, Edition::One);
@@ -164,17 +144,49 @@ fn plain_tokens(
         ..bare
     };
     let others = others.source(rest, Edition::One);
-    tell_holders(alloc, &source, &others, draft)?;
-    meanings(&bare, &others, draft, false)?;
-    if let Some(call) = without_base(&bare) {
-        draft.note(&bare, call, NoteKind::Base)?;
-    }
+    let mut constants = Constants::new(alloc, text.len())?;
+    let outline = outline_of(alloc, &source, &mut Draft::new(alloc), &mut constants)?;
+    let mut draft = Draft::new(alloc);
+    tell_holders(alloc, &source, &others, &mut draft, &outline)?;
+    plain_calls(alloc, &source, &others, &mut draft, &outline)?;
+    meanings(&bare, &others, &mut draft, false)?;
     let has_heap = has_name(&bare, b"givevec");
-    let has_stores = !defines(&bare, b"lchar");
     for index in 0..bare.tokens.len() {
-        if let Some(kind) = plain_note(&bare, index, has_heap, has_stores) {
+        if let Some(kind) = plain_note(&bare, index, has_heap) {
             draft.note_once(&bare, index, kind)?;
         }
+    }
+    in_order(&mut draft.notes)?;
+    let Draft {
+        alloc: _,
+        edits: _,
+        notes,
+        ordered: _,
+        told: _,
+    } = draft;
+    Ok(notes)
+}
+
+// Tells the calls that would be edited in another source.
+fn plain_calls(
+    alloc: Global,
+    source: &Source<'_>,
+    others: &Source<'_>,
+    draft: &mut Draft,
+    outline: &Outline,
+) -> Result<(), AllocError> {
+    let mut made = Draft::new(alloc);
+    calls(alloc, source, others, &mut made, outline)?;
+    for edit in &made.edits {
+        let kind = match edit.row {
+            Row::Base => NoteKind::Base,
+            Row::StringEnd => NoteKind::Ends,
+            _ => NoteKind::Zero,
+        };
+        draft.note_new(source, edit.start, kind)?;
+    }
+    for note in &made.notes {
+        draft.note_new(source, note.start, note.kind)?;
     }
     Ok(())
 }
@@ -184,16 +196,10 @@ fn in_order(notes: &mut Vec<Note>) -> Result<(), AllocError> {
 }
 
 // What a token of it may not mean.
-fn plain_note(
-    source: &Source<'_>,
-    index: usize,
-    has_heap: bool,
-    has_stores: bool,
-) -> Option<NoteKind> {
+fn plain_note(source: &Source<'_>, index: usize, has_heap: bool) -> Option<NoteKind> {
     match source.word(index) {
         b"&&" => Some(NoteKind::Ampersands),
         b"getvec" if !has_heap && source.is_call(index) => Some(NoteKind::Heap),
-        b"lchar" if has_stores && stored_end(source, index) != NONE => Some(NoteKind::Ends),
         [b'"' | b'\'', ..] if has_pair(source.word(index), b'\\', b"nt0\"\\") => {
             Some(NoteKind::Backslash)
         }
@@ -301,23 +307,19 @@ fn draft_of(
     if refuse(&source, &mut draft)? {
         return Ok(draft);
     }
-    draft_rows(alloc, &source, rest, &mut draft)?;
+    let others = SourceParts::of(alloc, rest)?;
+    let others = others.source(rest, edition);
+    let mut constants = Constants::new(alloc, text.len())?;
+    remarks(&mut draft, &mut constants, text, source.places)?;
+    let mut outline = outline_of(alloc, &source, &mut draft, &mut constants)?;
+    let named = end_values(alloc, &source, &constants)?;
+    let source = Source {
+        end_values: &named,
+        ..source
+    };
+    draft_words(alloc, &source, &others, &mut draft, &constants, &outline)?;
+    draft_statements(alloc, &source, &mut draft, &mut outline)?;
     Ok(draft)
-}
-
-fn draft_rows(
-    alloc: Global,
-    source: &Source<'_>,
-    rest: &[u8],
-    draft: &mut Draft,
-) -> Result<(), AllocError> {
-    let parts = SourceParts::of(alloc, rest)?;
-    let others = parts.source(rest, source.edition);
-    let mut constants = Constants::new(alloc, source.text.len())?;
-    remarks(draft, &mut constants, source.text, source.places)?;
-    let mut outline = outline_of(alloc, source, draft, &mut constants)?;
-    draft_words(alloc, source, &others, draft, &constants, &outline)?;
-    draft_statements(alloc, source, draft, &mut outline)
 }
 
 // Edits what is one word, and calls, beside the other files.
@@ -333,6 +335,7 @@ fn draft_words(
     let mut short = short_names(alloc, source, others, outline, &mut names)?;
     let renamed = renames(alloc, source, outline, &mut names, &mut short)?;
     let held = edit_holders(alloc, source, others, draft, outline, &short)?;
+    calls(alloc, source, others, draft, outline)?;
     for index in 0..source.tokens.len() {
         if !outline.is_gone(index) {
             token(source, draft, constants, &short, &renamed, index)?;
@@ -340,13 +343,12 @@ fn draft_words(
     }
     tell_ends(source, draft)?;
     meanings(source, others, draft, true)?;
-    calls(alloc, source, others, draft, outline)?;
     streams(source, others, draft)?;
-    pointer_calls(alloc, source, draft, outline, &held)?;
+    pointer_calls(alloc, source, draft, outline, &held.names)?;
     draft.order()?;
     edit_grids(alloc, source, draft, outline)?;
     draft.ordered = None;
-    mentions(alloc, source, draft, outline, &short)?;
+    mentions(source, draft, outline, &short, held.starred)?;
     heap(source, others, draft, outline)
 }
 

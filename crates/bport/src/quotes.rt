@@ -1,6 +1,8 @@
 //! Character constants and strings.
 use crate::edit::{between, escape_for, is_octal, octal_value};
+use crate::expressions::is_callee;
 use crate::names::value_of;
+use crate::refusing::is_operand;
 use crate::row::{NoteKind, Row};
 use crate::source::{Draft, Quotes, Source};
 use crate::table::NONE;
@@ -26,8 +28,8 @@ pub(crate) fn quoted(
     }
     let inner = between(word, 1, word.len().saturating_sub(1));
     if let (Some(TokenKind::Char), Some(code)) = (source.kind(index), code_of(inner)) {
-        let is_end = code == 0 && !is_plain_zero(source, index);
-        if is_end || escape_for(inner).is_empty() {
+        let ends_string = code == 0 && !is_plain_zero(source, index);
+        if ends_string || escape_for(inner).is_empty() {
             return coded(source, draft, index, code);
         }
     }
@@ -48,29 +50,65 @@ pub(crate) fn quoted(
     Ok(())
 }
 
-// Whether a character 0 is written, or stored in a word of a vector or compared with one, and ends no string.
+// Whether a character 0 is written, or stored in a word that has an address or compared with one, and ends no
+// string.
 fn is_plain_zero(source: &Source<'_>, index: usize) -> bool {
     let sign = index.wrapping_sub(1);
     let before = index.wrapping_sub(2);
     source.is(before, b"putchar")
-        || source.is(before, b"]") && matches!(source.word(sign), b"=" | b"==" | b"!=")
+        || is_word_end(source, before) && matches!(source.word(sign), b"=" | b"==" | b"!=")
 }
 
-/// Tells the first character 0 that is the end of a string now, where a word of a vector is compared with 0, too.
-pub(crate) fn tell_ends(source: &Source<'_>, draft: &mut Draft) -> Result<(), AllocError> {
-    let mut made = NONE;
-    let mut is_tested = false;
-    for index in 0..source.tokens.len() {
-        if made == NONE && is_zero(source, index) && !is_plain_zero(source, index) {
-            made = index;
-        }
-        is_tested = is_tested || is_zero(source, index) && source.is(index.wrapping_sub(2), b"]");
-        is_tested = is_tested || is_word_test(source, index);
+// Whether a word that has an address ends with a token: `v[i]`, `*p` or `*p++`, also one that is stored between
+// parentheses.
+fn is_word_end(source: &Source<'_>, last: usize) -> bool {
+    let before = source.partner(last).wrapping_sub(1);
+    let is_group = source.is(last, b")") && !is_callee(source, before);
+    let end = if is_group { last.wrapping_sub(1) } else { last };
+    word_start(source, end) != NONE
+}
+
+// The first token of such a word that ends with this one.
+fn word_start(source: &Source<'_>, last: usize) -> usize {
+    match source.word(last) {
+        b"]" => source.partner(last).wrapping_sub(1),
+        b"++" | b"--" => star_before(source, last.wrapping_sub(1)),
+        _ => star_before(source, last),
     }
-    if made == NONE || !is_tested {
+}
+
+// The `*` before a name that takes the word at the address in it.
+fn star_before(source: &Source<'_>, name: usize) -> usize {
+    let star = name.wrapping_sub(1);
+    let is_pointer = source.is(star, b"*") && !is_operand(source, star.wrapping_sub(1));
+    if source.is_name(name) && is_pointer {
+        star
+    } else {
+        NONE
+    }
+}
+
+/// Tells each character 0 that is the end of a string now, where a word of a vector is compared with 0, too.
+pub(crate) fn tell_ends(source: &Source<'_>, draft: &mut Draft) -> Result<(), AllocError> {
+    if !tests_words(source) {
         return Ok(());
     }
-    draft.note_once(source, made, NoteKind::Ends)
+    for index in 0..source.tokens.len() {
+        if is_zero(source, index) && !is_plain_zero(source, index) {
+            draft.note_once(source, index, NoteKind::Ends)?;
+        }
+    }
+    Ok(())
+}
+
+fn tests_words(source: &Source<'_>) -> bool {
+    for index in 0..source.tokens.len() {
+        let is_compared = is_zero(source, index) && is_word_end(source, index.wrapping_sub(2));
+        if is_compared || is_word_test(source, index) {
+            return true;
+        }
+    }
+    false
 }
 
 fn is_zero(source: &Source<'_>, index: usize) -> bool {
@@ -79,14 +117,13 @@ fn is_zero(source: &Source<'_>, index: usize) -> bool {
     source.kind(index) == Some(TokenKind::Char) && code_of(inner) == Some(0)
 }
 
-// Whether the truth of a word of a vector is a condition, and its brackets end with a token.
-fn is_word_test(source: &Source<'_>, close: usize) -> bool {
-    let name = source.partner(close).wrapping_sub(1);
-    let next = close.wrapping_add(1);
-    source.is(close, b"]")
-        && source.is(next, b")")
+// Whether the truth of a word that has an address, and ends with a token, is a condition.
+fn is_word_test(source: &Source<'_>, last: usize) -> bool {
+    let before = word_start(source, last).wrapping_sub(1);
+    let next = last.wrapping_add(1);
+    source.is(next, b")")
         && source.is_head(next)
-        && matches!(source.word(name.wrapping_sub(1)), b"(" | b"!" | b"=")
+        && matches!(source.word(before), b"(" | b"!" | b"=" | b"&&" | b"||")
 }
 
 // Writes a character by its number, or as the end of a string.
@@ -97,11 +134,21 @@ fn coded(
     code: u64,
 ) -> Result<(), AllocError> {
     if code == 0 {
+        if !is_end(source, index) {
+            draft.note_once(source, index, NoteKind::Ends)?;
+        }
         return draft.replace(source, index, b"'*e'", Row::StringEnd);
     }
     let mut text = Text::new(draft.alloc);
     text.push_number(code)?;
     draft.replace_text(source, index, text, Row::Code)
+}
+
+// Whether a character 0 can only be the end of a string: it is compared, or stored by `lchar`.
+fn is_end(source: &Source<'_>, index: usize) -> bool {
+    let call = source.partner(index.wrapping_add(1)).wrapping_sub(1);
+    matches!(source.word(index.wrapping_sub(1)), b"==" | b"!=" | b"case")
+        || source.is(call, b"lchar")
 }
 
 // What an escape with a backslash stands for that has a number, or none here.
@@ -155,6 +202,9 @@ fn unit_at(quotes: Quotes, word: &[u8], at: usize) -> &[u8] {
             between(rest, 0, escape_length(escape).saturating_add(1))
         }
         [b'*', b'*', _, ..] => rest.get(..2).unwrap_or(&[]),
+        [b'*', b'\\', escape @ .., _] if is_starred(rest, escape) => {
+            between(rest, 0, escape_length(escape).saturating_add(2))
+        }
         [b'*', ..] if quotes == Quotes::Backslashes => rest.get(..1).unwrap_or(&[]),
         [b'*', b'N' | b'T' | b'E', _, ..] if quotes == Quotes::Stars => rest
             .get(..2)
@@ -167,6 +217,31 @@ fn unit_at(quotes: Quotes, word: &[u8], at: usize) -> &[u8] {
         ] => { rest.get(..2).unwrap_or(&[]) }
         _ => rest.get(..1).unwrap_or(&[]),
     }
+}
+
+// Whether a `*` that stands for itself comes before an escape with a backslash that stands for another one here.
+fn is_starred(rest: &[u8], escape: &[u8]) -> bool {
+    !escape.is_empty()
+        && !escape_for(between(rest, 0, escape_length(escape).saturating_add(2))).is_empty()
+}
+
+/// Whether quotes have an escape with a backslash in whose place another one comes.
+pub(crate) fn has_backslash(word: &[u8]) -> bool {
+    let inner = between(word, 1, word.len().saturating_sub(1));
+    if word.starts_with(b"'") && code_of(inner).is_some() {
+        return true;
+    }
+    let mut next: usize = 1;
+    for at in 1..word.len().saturating_sub(1) {
+        if at >= next {
+            let unit = unit_at(Quotes::Both, word, at);
+            if unit.contains(&b'\\') && escape_for(unit).starts_with(b"*") {
+                return true;
+            }
+            next = at.saturating_add(unit.len());
+        }
+    }
+    false
 }
 
 // Edits what isn't written so here. A backslash that would begin an escape in what comes out is told.
@@ -182,12 +257,12 @@ fn escape(
     let text = escape_for(unit);
     match unit {
         b"**" if source.quotes != Quotes::Backslashes => return Ok(()),
-        [b'\\', b'\\'] if !is_apart(source, index, next) => {
+        [b'\\', b'\\'] | [b'*', b'\\', b'\\'] if !is_apart(source, index, next) => {
             return draft.note_at(place, NoteKind::Backslash);
         }
         _ => {}
     }
-    if matches!(text, b"*0") && source.kind(index) == Some(TokenKind::String) {
+    if matches!(text, b"*0" | b"***0") && source.kind(index) == Some(TokenKind::String) {
         draft.note_once(source, index, NoteKind::Ends)?;
     }
     if !text.is_empty() {

@@ -1,23 +1,28 @@
 //! Sources that are read wrongly as long as something in them is no code of any form: nothing of them is edited.
-use crate::expressions::is_assignment;
+use crate::edit::between;
 use crate::meanings::has_pair;
+use crate::names::is_keyword;
 use crate::pointers::ends_operand;
 use crate::row::NoteKind;
 use crate::shape::{is_closing, is_opening};
 use crate::source::{Draft, Source};
+use crate::staying::is_foreign;
 use crate::table::NONE;
 use crate::tokens::TokenKind;
+use crate::within::Within;
 use std::alloc::AllocError;
 
-/// Tells why nothing of a source is edited, if nothing is: numbers before its lines, constants between accents,
-/// operators of fractions, or a bracket without the other one of its pair.
+/// Tells why nothing of a source is edited, if nothing is: numbers before its lines, bytes of no form, operators
+/// of fractions, a bracket without the other one of its pair, or a string that goes on to the end of its line.
 pub(crate) fn refuse(source: &Source<'_>, draft: &mut Draft) -> Result<bool, AllocError> {
-    if source.kind(0) == Some(TokenKind::Number) {
-        draft.note(source, 0, NoteKind::Numbered)?;
-        return Ok(true);
+    for index in 0..source.tokens.len() {
+        if is_line_number(source, index) {
+            draft.note(source, index, NoteKind::Numbered)?;
+            return Ok(true);
+        }
     }
     for index in 0..source.tokens.len() {
-        if source.is(index, b"`") {
+        if matches!(source.word(index), [byte] if is_foreign(*byte)) {
             draft.note_once(source, index, NoteKind::Accent)?;
         } else if is_fraction(source, index) {
             draft.note(source, index, NoteKind::Fraction)?;
@@ -26,7 +31,22 @@ pub(crate) fn refuse(source: &Source<'_>, draft: &mut Draft) -> Result<bool, All
     if draft.notes.is_empty() {
         unpaired(source, draft)?;
     }
+    if draft.notes.is_empty() && has_open_string(source) {
+        star_string(source, draft)?;
+    }
     Ok(!draft.notes.is_empty())
+}
+
+// Whether a number stands before all else, or before a word at the beginning of a line.
+fn is_line_number(source: &Source<'_>, index: usize) -> bool {
+    let is_number = source.kind(index) == Some(TokenKind::Number);
+    if !is_number || index == 0 {
+        return is_number;
+    }
+    let next = index.wrapping_add(1);
+    let is_first = source.places.get(source.start(index)) == Some(&Within::Start);
+    let after = between(source.text, source.end(index), source.start(next));
+    is_first && source.is_name(next) && !after.contains(&b'\n')
 }
 
 // Tells the first bracket without the other one of its pair, and a string that may have gone on to it.
@@ -35,14 +55,25 @@ fn unpaired(source: &Source<'_>, draft: &mut Draft) -> Result<(), AllocError> {
         let word = source.word(index);
         if (is_opening(word) || is_closing(word)) && source.partner(index) == NONE {
             draft.note(source, index, NoteKind::Bracket)?;
-            return longer(source, draft);
+            return star_string(source, draft);
         }
     }
     Ok(())
 }
 
+// Whether a string goes on to the end of its line.
+fn has_open_string(source: &Source<'_>) -> bool {
+    for index in 0..source.tokens.len() {
+        let is_string = source.kind(index) == Some(TokenKind::String);
+        if is_string && source.word(index).ends_with(b"\n") {
+            return true;
+        }
+    }
+    false
+}
+
 // Tells the first string with `*"` in it, where other escapes begin with a backslash.
-fn longer(source: &Source<'_>, draft: &mut Draft) -> Result<(), AllocError> {
+fn star_string(source: &Source<'_>, draft: &mut Draft) -> Result<(), AllocError> {
     for index in 0..source.tokens.len() {
         let is_string = source.kind(index) == Some(TokenKind::String);
         if is_string && has_pair(source.word(index), b'*', b"\"") {
@@ -52,18 +83,10 @@ fn longer(source: &Source<'_>, draft: &mut Draft) -> Result<(), AllocError> {
     Ok(())
 }
 
-// Whether a `#` is an operator of fractions: right before the sign of an operator that comes after an operand, or
-// between an operator and an operand.
+// Whether a `#` is an operator of fractions, and comes after no keyword and no head of a statement.
 fn is_fraction(source: &Source<'_>, index: usize) -> bool {
     let before = index.wrapping_sub(1);
-    if !source.is(index, b"#") || index == 0 {
-        return false;
-    }
-    let rest = source.text.get(source.end(index)..).unwrap_or(&[]);
-    if is_operand(source, before) {
-        return begins_operator(rest);
-    }
-    is_operator(source.word(before)) && begins_operand(rest)
+    source.is(index, b"#") && !is_keyword(source.word(before)) && !source.is_head(before)
 }
 
 /// Whether an operand of any kind ends with a token.
@@ -72,34 +95,4 @@ pub(crate) fn is_operand(source: &Source<'_>, index: usize) -> bool {
         Some(TokenKind::Number | TokenKind::Char | TokenKind::String) => true,
         _ => ends_operand(source, index),
     }
-}
-
-// An operator, and no line of the same signs.
-fn begins_operator(rest: &[u8]) -> bool {
-    match rest {
-        [b'=', b'=', next, ..] => *next != b'=',
-        [b'!', b'=', ..] | [b'<' | b'>', b'=', ..] => true,
-        [b'+' | b'-' | b'*' | b'/' | b'<' | b'>', next, ..] => {
-            matches!(*next, b' ' | b'(' | b'#' | b'.') || next.is_ascii_alphanumeric()
-        }
-        _ => false,
-    }
-}
-
-fn begins_operand(rest: &[u8]) -> bool {
-    for byte in rest {
-        if !matches!(*byte, b' ' | b'\t') {
-            return byte.is_ascii_alphanumeric()
-                || matches!(*byte, b'(' | b'.' | b'#' | b'-' | b'*' | b'_');
-        }
-    }
-    false
-}
-
-fn is_operator(word: &[u8]) -> bool {
-    is_assignment(word)
-        || matches!(
-            word,
-            b"+" | b"-" | b"*" | b"/" | b"%" | b"<" | b">" | b"<=" | b">=" | b"==" | b"!="
-        )
 }

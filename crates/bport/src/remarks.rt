@@ -3,6 +3,7 @@ use crate::edit::between;
 use crate::names::Constants;
 use crate::row::{NoteKind, Row};
 use crate::source::{Draft, has_mark};
+use crate::staying::is_code;
 use crate::tokens::is_letter;
 use crate::within::Within;
 use std::alloc::AllocError;
@@ -14,10 +15,13 @@ pub(crate) fn remarks(
     source: &[u8],
     places: &[Within],
 ) -> Result<(), AllocError> {
+    let mut is_first = true;
     for at in 0..source.len() {
         let next = places.get(at.saturating_add(1));
         match (places.get(at), source[at], next) {
-            (Some(Within::Start), b'#', _) => line(draft, constants, source, at)?,
+            (Some(place), b'#', _) if is_first && is_code(*place) => {
+                line(draft, constants, source, at)?;
+            }
             (Some(Within::Code | Within::Slash | Within::CharQuote), b'#', _) => {
                 remark(draft, source, at, 1)?;
             }
@@ -26,8 +30,18 @@ pub(crate) fn remarks(
             }
             _ => {}
         }
+        is_first = source[at] == b'\n' || is_first && is_passed(source[at], places, at);
     }
     Ok(())
+}
+
+// Whether a byte is a blank, or one of a comment between marks, so that a line for a preprocessor may come after it.
+fn is_passed(byte: u8, places: &[Within], at: usize) -> bool {
+    match (places.get(at), byte) {
+        (Some(Within::Comment | Within::Star), _) | (Some(Within::Slash), b'*') => true,
+        (_, b'/') => places.get(at.saturating_add(2)) == Some(&Within::Comment),
+        _ => byte.is_ascii_whitespace(),
+    }
 }
 
 // Puts the marks of a comment around a line whose mark has so many bytes.
@@ -128,7 +142,7 @@ fn before_comment(source: &[u8], at: usize, end: usize) -> usize {
             quote = if byte == quote { 0 } else { quote };
         } else if byte == b'"' || byte == b'\'' {
             quote = byte;
-        } else if matches!(rest, [b'/', b'*' | b'/', ..]) {
+        } else if matches!(rest, [b'/', b'*' | b'/', ..]) || byte == b'#' && place > at {
             return place;
         }
     }
@@ -157,12 +171,11 @@ fn define(
     let after = between(text, first_word(text).len(), text.len()).trim_ascii_start();
     let name = first_word(after);
     let value = between(after, name.len(), after.len());
-    if value.starts_with(b"(") || between(source, at, end).ends_with(b"\\") {
+    let is_value = !value.trim_ascii().is_empty() && !value.starts_with(b"(");
+    if !is_value || between(source, at, end).ends_with(b"\\") {
         draft.note_at(at, NoteKind::Macro)?;
-    } else if !value.trim_ascii().is_empty() {
-        if constants.keep(draft, at, name, value.trim_ascii())? {
-            draft.note_at(at, NoteKind::Wrapped)?;
-        }
+    } else if constants.keep(draft, at, name, value.trim_ascii())? {
+        draft.note_at(at, NoteKind::Wrapped)?;
     }
     directive(draft, source, at, end)
 }

@@ -160,9 +160,20 @@ pub enum NoteKind {
     Octal,
     Line,
     Stars,
+    Form,
+    Status,
+    End,
 }
 
 impl NoteKind {
+    /// Whether it is told in each line, and not only in the first one.
+    pub(crate) fn is_of_each(self) -> bool {
+        matches!(
+            self,
+            NoteKind::Shift | NoteKind::Ends | NoteKind::Zero | NoteKind::End
+        )
+    }
+
     /// One sentence on it.
     #[rattlefmt::skip]
     pub(crate) fn sentence(self) -> &'static [u8]
@@ -210,14 +221,16 @@ impl NoteKind {
             NoteKind::Shift => b">> puts zeros in: a word below 0 becomes a large one",
             NoteKind::Fraction => b"# is an operator of fractions, which aren't here: port changes nothing",
             NoteKind::Numbered => b"lines have no numbers before them: port changes nothing until these go",
-            NoteKind::Accent => b"there are no constants between accents: port changes nothing until these go",
-            NoteKind::Star => b"*\" doesn't end a string: write **\" where it does",
-            NoteKind::Pair =>
-                b"a word has two characters of eight bits, the first one in its high byte: 'ab' is 97 * 256 + 98",
+            NoteKind::Accent => b"no form of the language has this byte in code: port changes nothing until it goes",
+            NoteKind::Star => b"*\" doesn't end a string: port changes nothing until **\" stands where one ends",
+            NoteKind::Pair => b"a word has two characters of eight bits: 'ab' is 97 * 256 + 98, and 040040 writes '@ '",
             NoteKind::Order => b"operands and arguments are evaluated from left to right: another order may be meant",
             NoteKind::Octal => b"%o writes the 16 bits of a number below 0, without a sign",
             NoteKind::Line => b"puts(s) writes a newline after the string: write putstr(s); putchar('*n');",
             NoteKind::Stars => b"* begins an escape in a string, as in *n and *(: write ** for a star",
+            NoteKind::Form => b"printf knows d, u, o, x, c and s after a %, and writes what has others as it is",
+            NoteKind::End => b"'*e' is 4, and as a value the same as the number 4, which EOF wasn't",
+            NoteKind::Status => b"the value that main returns is no status: exit(n) ends a program with one",
         }
     }
 }

@@ -1,8 +1,8 @@
 //! Names that inner braces of a function declare once more.
 use crate::definitions::{Function, Outline, after_types};
+use crate::logic::at_level;
 use crate::mentions::declaration_end;
 use crate::source::Source;
-use crate::statements::declarator_end;
 use crate::table::{NONE, filled, put, slot};
 use crate::taken::Taken;
 use btools::Text;
@@ -88,7 +88,7 @@ fn declare(
             rename(source, scopes, (name, end), short.len().wrapping_sub(1));
         }
         put(&mut scopes.declared, first, number);
-        next = declarator_end(source, at, last).wrapping_add(1);
+        next = at_level(source, at, last, b",").wrapping_add(1);
     }
     Ok(())
 }

@@ -37,10 +37,15 @@ fn pair(
     let Some(open) = opens.pop() else {
         return;
     };
-    if closes(
+    let fits = match (
         word_of(source, tokens, open),
         word_of(source, tokens, index),
     ) {
+        (b"(", close) => matches!(close, b")"),
+        (b"[", close) => matches!(close, b"]"),
+        (_, close) => matches!(close, b"}" | b"$)"),
+    };
+    if fits {
         put(partners, open, index);
         put(partners, index, open);
     }
@@ -52,14 +57,6 @@ pub(crate) fn is_opening(word: &[u8]) -> bool {
 
 pub(crate) fn is_closing(word: &[u8]) -> bool {
     matches!(word, b")" | b"]" | b"}" | b"$)")
-}
-
-fn closes(open: &[u8], close: &[u8]) -> bool {
-    match open {
-        b"(" => matches!(close, b")"),
-        b"[" => matches!(close, b"]"),
-        _ => matches!(close, b"}" | b"$)"),
-    }
 }
 
 /// For each token the next semicolon at its level.
@@ -103,10 +100,18 @@ fn end_of(source: &Source<'_>, ends: &[usize], index: usize) -> usize {
     match source.head_word(index) {
         b"{" | b"$(" => after(source.partner(index)),
         b"}" | b"$)" => index,
-        b"if" => after_else(source, ends, after_head(source, ends, next)),
+        b"if" => {
+            let end = after_head(source, ends, next);
+            if source.is(end, b"else") {
+                slot(ends, end.wrapping_add(1))
+            } else {
+                end
+            }
+        }
         b"while" | b"for" | b"switch" => after_head(source, ends, next),
         b"do" => after_do(source, slot(ends, next)),
         b"else" => slot(ends, next),
+        b"auto" | b"extrn" | b"extern" => slot(ends, after(source.semicolon(index))),
         b"repeat" if source.is_open_brace(next) => slot(ends, next),
         b"case" => slot(ends, after(case_colon(source, index))),
         _ if source.is(next, b":") && source.is_name(index) => slot(ends, next.wrapping_add(1)),
@@ -125,14 +130,6 @@ fn after_head(source: &Source<'_>, ends: &[usize], open: usize) -> usize {
         slot(ends, brace)
     } else {
         NONE
-    }
-}
-
-fn after_else(source: &Source<'_>, ends: &[usize], end: usize) -> usize {
-    if source.is(end, b"else") {
-        slot(ends, end.wrapping_add(1))
-    } else {
-        end
     }
 }
 

@@ -1,4 +1,5 @@
 //! An old source, its tokens, and the edits that are made of it.
+use crate::comparisons::EndValue;
 use crate::edit::{Edit, between, is_free};
 use crate::row::{Note, NoteKind, Row};
 use crate::table::{NONE, slot, word_of};
@@ -8,6 +9,11 @@ use crate::within::Within;
 use btools::Text;
 use bword::Edition;
 use std::alloc::{AllocError, Global};
+
+/// How many notes, and bytes before them, are looked through for one of the same line.
+const MOST_NOTES: usize = 64;
+
+const MOST_BYTES: usize = 1000;
 
 /// An old source, as far as it is known.
 #[derive(Clone, Copy)]
@@ -23,6 +29,8 @@ pub(crate) struct Source<'a> {
     pub ends: &'a [usize],
     /// For each name the first token with it.
     pub firsts: &'a [usize],
+    /// For each first token with a name, whether that is a constant that ends an input or a string.
+    pub end_values: &'a [Option<EndValue>],
     pub edition: Edition,
     pub dialect: Dialect,
     pub quotes: Quotes,
@@ -77,6 +85,16 @@ impl<'a> Source<'a> {
         self.word(index) == word
     }
 
+    /// Whether a token from one up to another is this word.
+    pub(crate) fn has(&self, first: usize, end: usize, word: &[u8]) -> bool {
+        for index in first..end.min(self.tokens.len()) {
+            if self.is(index, word) {
+                return true;
+            }
+        }
+        false
+    }
+
     pub(crate) fn kind(&self, index: usize) -> Option<TokenKind> {
         Some(self.tokens.get(index)?.kind)
     }
@@ -112,6 +130,14 @@ impl<'a> Source<'a> {
     /// The token after the statement that begins with this one.
     pub(crate) fn statement_end(&self, index: usize) -> usize {
         slot(self.ends, index)
+    }
+
+    /// Which of these values a token is: 0, or a constant that is 0 or -1.
+    pub(crate) fn end_value(&self, index: usize) -> Option<EndValue> {
+        if matches!(self.word(index), b"0" | b"'*0'") {
+            return Some(EndValue::Zero);
+        }
+        *self.end_values.get(slot(self.firsts, index))?
     }
 
     pub(crate) fn is_open_paren(&self, index: usize) -> bool {
@@ -275,7 +301,8 @@ impl Draft {
         last: usize,
         row: Row,
     ) -> Result<(), AllocError> {
-        if has_mark(between(source.text, source.start(first), source.end(last))) {
+        let (start, end) = (source.start(first), source.end(last));
+        if has_mark(between(source.text, start, end)) || has_line(source.places, start, end) {
             return self.note(source, first, NoteKind::Remark);
         }
         self.insert(source.start(first), b"/* ", row)?;
@@ -296,22 +323,39 @@ impl Draft {
         self.note_at(source.start(index), kind)
     }
 
-    /// Tells what was told of no token before.
+    /// Tells what was told of no token before, or of none in its line where each place matters.
     pub(crate) fn note_once(
         &mut self,
         source: &Source<'_>,
         index: usize,
         kind: NoteKind,
     ) -> Result<(), AllocError> {
-        self.note_first(source.start(index), kind)
+        self.note_new(source, source.start(index), kind)
     }
 
-    /// Tells what was told of no place before.
-    pub(crate) fn note_first(&mut self, start: usize, kind: NoteKind) -> Result<(), AllocError> {
-        if self.is_told(kind) {
+    /// The same of a place.
+    pub(crate) fn note_new(
+        &mut self,
+        source: &Source<'_>,
+        start: usize,
+        kind: NoteKind,
+    ) -> Result<(), AllocError> {
+        if self.is_told(kind) && !(kind.is_of_each() && self.is_new(source, start, kind)) {
             return Ok(());
         }
         self.note_at(start, kind)
+    }
+
+    // Whether none of the last notes tells this of the line of a place.
+    fn is_new(&self, source: &Source<'_>, start: usize, kind: NoteKind) -> bool {
+        for note in self.notes.iter().rev().take(MOST_NOTES) {
+            if note.kind == kind {
+                let (first, last) = (start.min(note.start), start.max(note.start));
+                return last.saturating_sub(first) > MOST_BYTES
+                    || between(source.text, first, last).contains(&b'\n');
+            }
+        }
+        true
     }
 
     pub(crate) fn note_at(&mut self, start: usize, kind: NoteKind) -> Result<(), AllocError> {
@@ -344,6 +388,12 @@ fn first_from(edits: &[Edit], start: usize) -> usize {
         }
     }
     low
+}
+
+// Whether a comment up to the end of its line stands between two places.
+fn has_line(places: &[Within], start: usize, end: usize) -> bool {
+    let stood = places.get(start..end).unwrap_or(&[]);
+    stood.iter().any(|place| *place == Within::Line)
 }
 
 // Whether a sign is one of another form.

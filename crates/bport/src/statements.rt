@@ -1,11 +1,12 @@
 //! Statements that are written otherwise here.
 use crate::apply::rendered;
+use crate::comparisons::EndValue;
 use crate::definitions::{Outline, after_types, types};
 use crate::edit::is_free;
 use crate::externals::negative;
 use crate::grids::is_grid;
 use crate::lists::listed;
-use crate::logic::after_part;
+use crate::logic::at_level;
 use crate::loops::{Loops, do_loop, for_loop, repeat, turn, while_loop};
 use crate::names::{is_type, value_of};
 use crate::pointers::{pointed, pointer};
@@ -33,7 +34,12 @@ pub(crate) fn statement(
 ) -> Result<(), AllocError> {
     let next = index.wrapping_add(1);
     match source.head_word(index) {
-        b"return" => return_value(source, draft, index),
+        b"return" => {
+            if ends_main(source, outline, index) {
+                draft.note_once(source, index, NoteKind::Status)?;
+            }
+            return_value(source, draft, index)
+        }
         b"for" => for_loop(source, draft, loops, index),
         b"do" => do_loop(source, draft, loops, index),
         b"while" if !loops.is_tail(index) => {
@@ -52,7 +58,9 @@ pub(crate) fn statement(
         b"continue" | b"next" => turn(source, draft, loops, index),
         b"switch" => switch(source, draft, index),
         b"case" => case(source, draft, outline, index),
-        b"break" | b"default" => newer(source, draft, index),
+        b"break" | b"default" if source.edition == Edition::One => {
+            draft.note_once(source, index, NoteKind::Break)
+        }
         b"extern" | b"extrn" => external(source, draft, index),
         b"auto" => locals(source, draft, next, next),
         b"[" if !is_owned(outline, index) => one_size(source, draft, index, false),
@@ -75,11 +83,20 @@ fn ends_label(source: &Source<'_>, colon: usize) -> bool {
     is_label || source.is(before.wrapping_sub(1), b"case")
 }
 
-fn newer(source: &Source<'_>, draft: &mut Draft, index: usize) -> Result<(), AllocError> {
-    if source.edition == Edition::Two {
-        return Ok(());
-    }
-    draft.note_once(source, index, NoteKind::Break)
+// Whether a `return` of `main` has another value than 0.
+fn ends_main(source: &Source<'_>, outline: &Outline, index: usize) -> bool {
+    let Some(function) = outline.functions.get(slot(&outline.owners, index)) else {
+        return false;
+    };
+    let next = index.wrapping_add(1);
+    let value = if source.is(next, b"(") {
+        next.wrapping_add(1)
+    } else {
+        next
+    };
+    source.is(function.name, b"main")
+        && !source.is(next, b";")
+        && source.end_value(value) != Some(EndValue::Zero)
 }
 
 // The value of a return, unless it is in parentheses as a whole.
@@ -245,7 +262,7 @@ fn locals(
         if at < next {
             continue;
         }
-        let end = declarator_end(source, at, last);
+        let end = at_level(source, at, last, b",");
         local(source, draft, &mut values, at, end)?;
         next = end.wrapping_add(1);
     }
@@ -254,21 +271,6 @@ fn locals(
         return Ok(());
     }
     draft.put_text(place, place, values, Row::Value)
-}
-
-/// The comma or the semicolon after a name with its brackets and its value.
-pub(crate) fn declarator_end(source: &Source<'_>, from: usize, last: usize) -> usize {
-    let mut next = from;
-    for index in from..last {
-        if index < next {
-            continue;
-        }
-        if source.is(index, b",") {
-            return index;
-        }
-        next = after_part(source, index);
-    }
-    last
 }
 
 fn local(

@@ -1,14 +1,17 @@
 //! Signs of other forms of the language that stay.
-ghost use Rattle.std.specs.Prelude.{◌≡◌, ◌<◌, ℕ, OnOk, length, slice_get, true};
+ghost use Rattle.std.specs.Prelude.{◌≡◌, ◌<◌, ◌+◌, ◌==◌, ℕ, OnOk, codes, drop, length, slice_get, true};
 ghost use Rattle.std.specs.List.{list_any};
 ghost use Rattle.bport.specs.Places.{places_of};
-ghost use Rattle.bport.specs.Staying.{TellsOldUpTo, covers, is_closing, is_code, is_of, is_old, is_old_at, is_old_sign};
-ghost use Rattle.bport.specs.Staying.{is_opening, is_right, is_right_of, is_uneven, one_more, refuses, refuses_kind};
+ghost use Rattle.bport.specs.Staying.{TellsOldUpTo, begins_directive, begins_operand, begins_operator, count_in_code};
+ghost use Rattle.bport.specs.Staying.{covers, ends_operand, first_sign, is_closing, is_code, is_foreign, is_fraction};
+ghost use Rattle.bport.specs.Staying.{is_listing, is_of, is_of_listing, is_of_operator, is_old, is_old_at, is_old_sign};
+ghost use Rattle.bport.specs.Staying.{is_opening, is_right, is_right_of, is_uneven, refuses, refuses_kind, sign_before};
 ghost use Rattle.bport.specs.declared.within.Within.TheVariants as within;
 
-use crate::edit::Edit;
+use crate::edit::{Edit, between};
 use crate::row::{Note, NoteKind};
 use crate::within::Within;
+use crate::words::is_of_word;
 use std::alloc::AllocError;
 
 /// How many notes are looked through for one of the same place.
@@ -141,7 +144,12 @@ fn refuses_kind(kind: NoteKind) -> bool
 {
     matches!(
         kind,
-        NoteKind::Bracket | NoteKind::Fraction | NoteKind::Numbered | NoteKind::Accent
+        NoteKind::Bracket
+            | NoteKind::Fraction
+            | NoteKind::Numbered
+            | NoteKind::Accent
+            | NoteKind::Star
+            | NoteKind::Unfit
     )
 }
 
@@ -150,55 +158,185 @@ pub(crate) fn has_right(source: &[u8], places: &[Within], notes: &[Note]) -> boo
     requires { places.now ≡ places_of within.Start source.now }
     ensures { result ≡ list_any (is_right source.now) notes.now }
 {
-    let uneven = is_uneven(source);
     notes.iter().any(|note| is_right_of(
         note.kind,
+        source,
+        places,
+        note.start,
         byte_at(source, note.start),
         place_at(places, note.start),
-        uneven,
     ))
 }
 
-fn is_right_of(kind: NoteKind, byte: Option<u8>, place: Option<Within>, uneven: bool) -> bool
-    ensures { result ≡ is_right_of kind byte place uneven }
+fn is_right_of(
+    kind: NoteKind,
+    source: &[u8],
+    places: &[Within],
+    at: usize,
+    byte: Option<u8>,
+    place: Option<Within>,
+) -> bool
+    ensures { result ≡ is_right_of kind source.now places.now at byte place }
 {
-    match (kind, byte, place) {
-        (NoteKind::Bracket, Some(byte), Some(place)) => {
-            (is_opening(byte) || is_closing(byte) || byte == b'$') && (is_code(place) && uneven)
+    let (Some(byte), Some(place)) = (byte, place) else {
+        return false;
+    };
+    match kind {
+        NoteKind::Numbered => {
+            place == Within::Start && byte.is_ascii_digit() && is_listing(source, places)
         }
-        (NoteKind::Fraction, Some(byte), Some(place)) => byte == b'#' && is_code(place),
-        (NoteKind::Accent, Some(byte), Some(place)) => byte == b'`' && is_code(place),
-        (NoteKind::Numbered, Some(byte), Some(Within::Start)) => byte.is_ascii_digit(),
+        NoteKind::Fraction if place != Within::Start => {
+            is_code(place) && is_fraction_at(source, at)
+        }
+        NoteKind::Bracket => is_bracket(byte) && is_code(place) && is_uneven(source, places),
+        NoteKind::Accent => is_foreign(byte) && is_code(place),
         _ => false,
     }
 }
 
-// Whether as many brackets of code open as close.
-fn is_uneven(source: &[u8]) -> bool
-    ensures { result ≡ is_uneven within.Start 0 0 source.now }
+/// Whether no form of the language has a byte in its code.
+pub(crate) fn is_foreign(byte: u8) -> bool
+    ensures { result ≡ is_foreign byte }
 {
-    let mut place = Within::Start;
-    let mut opening: u64 = 0;
-    let mut closing: u64 = 0;
-    for byte in source {
-        opening = one_more(opening, is_opening(*byte), place);
-        closing = one_more(closing, is_closing(*byte), place);
-        place = place.after(*byte);
-    }
-    opening != closing
+    matches!(byte, b'`' | b'@' | 0..=8 | 11 | 14..=31 | 127..)
 }
 
-fn one_more(count: u64, is_so: bool, place: Within) -> u64
-    ensures { result ≡ one_more count is_so place }
+fn is_bracket(byte: u8) -> bool
+    ensures { result ≡ list_any (λ c. byte == c) (codes "([{)]}$") }
 {
-    if is_so && is_code(place) {
-        count.saturating_add(1)
-    } else {
-        count
+    matches!(byte, b'(' | b'[' | b'{' | b')' | b']' | b'}' | b'$')
+}
+
+// Whether not as many brackets of code open as close.
+fn is_uneven(source: &[u8], places: &[Within]) -> bool
+    ensures { result ≡ is_uneven source.now places.now }
+{
+    openings(source, places) != closings(source, places)
+}
+
+fn openings(source: &[u8], places: &[Within]) -> usize
+    ensures { result ≡ count_in_code is_opening source.now places.now }
+{
+    source
+        .iter()
+        .zip(places.iter())
+        .filter(|(byte, place)| is_opening(**byte) && is_code(**place))
+        .count()
+}
+
+fn closings(source: &[u8], places: &[Within]) -> usize
+    ensures { result ≡ count_in_code is_closing source.now places.now }
+{
+    source
+        .iter()
+        .zip(places.iter())
+        .filter(|(byte, place)| is_closing(**byte) && is_code(**place))
+        .count()
+}
+
+// Whether each line that has more than blanks begins with a number.
+fn is_listing(source: &[u8], places: &[Within]) -> bool
+    ensures { result ≡ is_listing source.now places.now }
+{
+    source
+        .iter()
+        .zip(places.iter())
+        .all(|(byte, place)| is_of_listing(*byte, *place))
+}
+
+fn is_of_listing(byte: u8, place: Within) -> bool
+    ensures { result ≡ is_of_listing (byte, place) }
+{
+    place != Within::Start || byte.is_ascii_digit() || byte.is_ascii_whitespace()
+}
+
+/// Whether a `#` at a place is an operator of fractions: right before the sign of an operator that comes after an
+/// operand, or between an operator and an operand.
+pub(crate) fn is_fraction_at(source: &[u8], at: usize) -> bool
+    ensures { result ≡ is_fraction (sign_before source.now at) (drop at source.now) }
+{
+    match (sign_before(source, at), between(source, at, source.len())) {
+        (Some(before), [b'#', after @ ..]) => {
+            if ends_operand(before) {
+                begins_operator(after)
+            } else {
+                is_of_operator(before)
+                    && first_sign(after).map_or(false, begins_operand)
+                    && !begins_directive(after)
+            }
+        }
+        _ => false,
     }
 }
 
-fn is_code(place: Within) -> bool
+fn sign_before(source: &[u8], at: usize) -> Option<u8>
+    ensures { result ≡ sign_before source.now at }
+{
+    let before = between(source, 0, at);
+    before
+        .iter()
+        .rev()
+        .copied()
+        .find(|byte| !byte.is_ascii_whitespace())
+}
+
+fn first_sign(bytes: &[u8]) -> Option<u8>
+    ensures { result ≡ first_sign bytes.now }
+{
+    bytes
+        .iter()
+        .copied()
+        .find(|byte| !byte.is_ascii_whitespace())
+}
+
+fn begins_operand(byte: u8) -> bool
+    ensures { result ≡ begins_operand byte }
+{
+    is_of_word(byte) || matches!(byte, b'(' | b'-' | b'*' | b'#')
+}
+
+fn ends_operand(byte: u8) -> bool
+    ensures { result ≡ ends_operand byte }
+{
+    is_of_word(byte) || matches!(byte, b')' | b']' | b'\'' | b'"')
+}
+
+fn is_of_operator(byte: u8) -> bool
+    ensures { result ≡ is_of_operator byte }
+{
+    matches!(
+        byte,
+        b'+' | b'-' | b'*' | b'/' | b'%' | b'<' | b'>' | b'=' | b'!'
+    )
+}
+
+fn begins_operator(bytes: &[u8]) -> bool
+    ensures { result ≡ begins_operator bytes.now }
+{
+    match bytes {
+        [b'<' | b'>' | b'=' | b'!', b'=', b'=', ..] => false,
+        [b'<' | b'>' | b'=' | b'!', b'=', ..] => true,
+        [b'+' | b'-' | b'*' | b'/' | b'<' | b'>', next, ..] => {
+            is_of_word(*next) || matches!(*next, b' ' | b'(' | b'#')
+        }
+        _ => false,
+    }
+}
+
+fn begins_directive(bytes: &[u8]) -> bool
+    ensures { result ≡ begins_directive bytes.now }
+{
+    bytes.starts_with(b"define")
+        || bytes.starts_with(b"undef")
+        || bytes.starts_with(b"if")
+        || bytes.starts_with(b"else")
+        || bytes.starts_with(b"endif")
+        || bytes.starts_with(b"include")
+        || bytes.starts_with(b"pragma")
+}
+
+/// Whether a byte that stands in this is code.
+pub(crate) fn is_code(place: Within) -> bool
     ensures { result ≡ is_code place }
 {
     matches!(

@@ -1,4 +1,6 @@
 //! The tokens of an old source.
+use crate::edit::between;
+use crate::staying::is_fraction_at;
 use crate::within::Within;
 use std::alloc::{AllocError, Global};
 
@@ -52,7 +54,7 @@ pub(crate) fn tokens_of(
     Ok(tokens)
 }
 
-// What begins at a place, and where it ends; nothing for blanks and comments.
+// What begins at a place, and where it ends; nothing for blanks, comments and what begins these.
 fn piece_at(source: &[u8], places: &[Within], at: usize) -> (Option<TokenKind>, usize) {
     let rest = source.get(at..).unwrap_or(&[]);
     let next = at.saturating_add(1);
@@ -63,7 +65,7 @@ fn piece_at(source: &[u8], places: &[Within], at: usize) -> (Option<TokenKind>, 
         Some(b'"') => (Some(TokenKind::String), end_of_quotes(source, places, next)),
         Some(b'\'') => (Some(TokenKind::Char), end_of_quotes(source, places, next)),
         Some(b'/') if matches!(rest.get(1), Some(b'*' | b'/')) => (None, at.saturating_add(2)),
-        Some(b'#') if places.get(at) == Some(&Within::Start) => (None, next),
+        Some(b'#') if is_remark(source, places, at) => (None, next),
         Some(b' ' | b'\t' | b'\n' | b'\r' | 0x0C) => (None, next),
         Some(_) if begins_number(rest) => {
             (
@@ -85,6 +87,14 @@ fn is_within(places: &[Within], at: usize) -> bool {
         Some(Within::Start | Within::Code | Within::Slash | Within::CharQuote) | None => false,
         Some(_) => true,
     }
+}
+
+// Whether a `#` begins a comment or a line for a preprocessor: it begins its line, comes after a comment, or is no
+// operator.
+fn is_remark(source: &[u8], places: &[Within], at: usize) -> bool {
+    let before = between(source, 0, at).trim_ascii_end().len();
+    let is_after = places.get(before.wrapping_sub(1)) == Some(&Within::Star);
+    places.get(at) == Some(&Within::Start) || is_after || !is_fraction_at(source, at)
 }
 
 // The place after quotes whose first byte is before this place.

@@ -1,6 +1,6 @@
 //! In what the bytes of an old source stand.
 ghost use Rattle.std.specs.Prelude.{◌≡◌, ◌==◌, IfOk, if◌then◌else◌};
-ghost use Rattle.bport.specs.Places.{after, is_own_text, is_within_text, places_of};
+ghost use Rattle.bport.specs.Places.{after, after_quoted, is_own_text, is_within_text, places_of};
 ghost use Rattle.bport.specs.declared.within.Within.TheVariants as within;
 
 use std::alloc::{AllocError, Global};
@@ -36,13 +36,13 @@ impl Within {
         ensures { result ≡ after self byte }
     {
         match self {
-            Within::Comment => in_comment(byte, Within::Comment),
             Within::Star if byte == b'/' => Within::Code,
-            Within::Star => in_comment(byte, Within::Comment),
+            Within::Comment | Within::Star if byte == b'*' => Within::Star,
+            Within::Comment | Within::Star => Within::Comment,
             Within::Line => in_line(byte, Within::Line),
-            Within::String => in_string(byte),
+            Within::String => in_quotes(byte, b'"', Within::StringEscape, Within::String),
             Within::StringEscape => in_line(byte, Within::String),
-            Within::Char => in_char(byte),
+            Within::Char => in_quotes(byte, b'\'', Within::CharEscape, Within::Char),
             Within::CharEscape if byte == b'\'' => Within::CharQuote,
             Within::CharEscape => in_line(byte, Within::Char),
             Within::CharQuote if byte == b'\'' => Within::Code,
@@ -88,16 +88,6 @@ fn in_code(byte: u8) -> Within
     }
 }
 
-fn in_comment(byte: u8, otherwise: Within) -> Within
-    ensures { result ≡ (if byte == 42 then within.Star else otherwise) }
-{
-    if byte == b'*' {
-        Within::Star
-    } else {
-        otherwise
-    }
-}
-
 fn in_line(byte: u8, otherwise: Within) -> Within
     ensures { result ≡ (if byte == 10 then within.Start else otherwise) }
 {
@@ -108,25 +98,14 @@ fn in_line(byte: u8, otherwise: Within) -> Within
     }
 }
 
-fn in_string(byte: u8) -> Within
-    ensures { result ≡ after within.String byte }
+fn in_quotes(byte: u8, quote: u8, escape: Within, otherwise: Within) -> Within
+    ensures { result ≡ after_quoted quote escape otherwise byte }
 {
     match byte {
         b'\n' => Within::Start,
-        b'"' => Within::Code,
-        b'*' | b'\\' => Within::StringEscape,
-        _ => Within::String,
-    }
-}
-
-fn in_char(byte: u8) -> Within
-    ensures { result ≡ after within.Char byte }
-{
-    match byte {
-        b'\n' => Within::Start,
-        b'\'' => Within::Code,
-        b'*' | b'\\' => Within::CharEscape,
-        _ => Within::Char,
+        _ if byte == quote => Within::Code,
+        b'*' | b'\\' => escape,
+        _ => otherwise,
     }
 }
 

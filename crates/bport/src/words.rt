@@ -1,7 +1,7 @@
 //! How many words edits take out of a source, and how many they put in.
 ghost use Rattle.std.specs.Prelude.{◌≡◌, [], IfOk};
-ghost use Rattle.bport.specs.Words.{are_kept, counted, declares, depth_after, is_of_word, is_type_word, moves};
-ghost use Rattle.bport.specs.Words.{words_on};
+ghost use Rattle.bport.specs.Words.{are_kept, closes, counted, declares, depth_after, is_of_word, is_type_word, moves};
+ghost use Rattle.bport.specs.Words.{opens, words_on};
 
 use crate::edit::{Edit, between};
 use crate::row::Row;
@@ -71,7 +71,8 @@ fn words_in(alloc: Global, bytes: &[u8], is_counted: bool) -> Result<u64, AllocE
     Ok(counted(depth, count, word.as_slice()))
 }
 
-fn is_of_word(byte: u8) -> bool
+/// Whether a byte is a letter, a digit, `_` or `.`.
+pub(crate) fn is_of_word(byte: u8) -> bool
     ensures { result ≡ is_of_word byte }
 {
     matches!(byte, b'a'..=b'z' | b'A'..=b'Z' | b'0'..=b'9' | b'_' | b'.')
@@ -80,11 +81,25 @@ fn is_of_word(byte: u8) -> bool
 fn depth_after(is_counted: bool, depth: u64, byte: u8) -> u64
     ensures { result ≡ depth_after is_counted depth byte }
 {
-    match byte {
-        b'(' | b'[' if is_counted => depth.saturating_add(1),
-        b')' | b']' if is_counted => depth.saturating_sub(1),
-        _ => depth,
+    if is_counted && opens(byte) {
+        depth.saturating_add(1)
+    } else if is_counted && closes(byte) {
+        depth.saturating_sub(1)
+    } else {
+        depth
     }
+}
+
+fn opens(byte: u8) -> bool
+    ensures { result ≡ opens byte }
+{
+    matches!(byte, b'(' | b'[')
+}
+
+fn closes(byte: u8) -> bool
+    ensures { result ≡ closes byte }
+{
+    matches!(byte, b')' | b']')
 }
 
 fn counted(depth: u64, count: u64, word: &[u8]) -> u64
