@@ -128,7 +128,7 @@ module _ (edition : Edition) (text : List ℕ) (d : Diagnostic) (faulty : HasFau
   by_careful_page care asked ends (first.shown ds image frames stop meaning taken left has suits named finds read ran took shows) = absurd (no_program ds image has)
   by_careful_page care asked ends (first.unkept ds image frames stop meaning has suits named finds nothing) = absurd (no_program ds image has)
   by_careful_page care asked ends (first.unread ds image frames stop meaning has suits named finds device nothing) = absurd (no_program ds image has)
-  by_careful_page care asked ends (first.not_begun ds image result has suits never shows) = absurd (no_program ds image has)
+  by_careful_page care asked ends (first.not_begun ds image result has suits never ran shows) = absurd (no_program ds image has)
   by_careful_page care asked ends (first.stopped why quiet) = why_told asked.files ends.line ends.line_after why
   by_careful_page care asked ends (first.no_memory ds image has suits read nothing) = absurd (no_program ds image has)
 

@@ -43,7 +43,7 @@ use Rattle.bcommand.specs.declared.job.Care.{Care}
 use Rattle.bcommand.specs.declared.job.Care.TheVariants as care
 use Rattle.bcommand.specs.declared.job.Rows.{Rows}
 use Rattle.bcommand.specs.declared.job.Rows.TheVariants as which
-use Rattle.bcore.specs.Processes.{KnownStreams, ServesProcess as ServesProcessWith}
+use Rattle.bcore.specs.Processes.{AnswersWords, KnownStreams, PerformsTask}
 use Rattle.bcore.specs.Serves.{Does as DoesWith, NamesFile, NamesLibOf, Reads, Serves as ServesWith, whole}
 use Rattle.bcore.specs.Shelves.{Holdings}
 use Rattle.bcli.specs.Explains.{LocatesAndExplains}
@@ -256,6 +256,6 @@ Does shelf asked ends status = DoesWith UsesTool shelf asked ends status
 abbrev pub Serves : Holdings → (words : List Text) → RunEnds → ℕ → Type 0
 Serves shelf words ends status = ServesWith UsesTool shelf words ends status
 
--- so do those of a process
+-- so do those of a process, whose streams are kept in order
 abbrev pub ServesProcess : Holdings → Option (List Text) → (shown : Type 0) → KnownStreams → ℕ → Type 0
-ServesProcess files words shown known status = ServesProcessWith UsesTool files words shown known status
+ServesProcess files words shown known status = PerformsTask (AnswersWords UsesTool files words) shown known status

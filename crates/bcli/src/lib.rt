@@ -7,8 +7,8 @@ mod origins;
 mod serving;
 mod trying;
 
-pub use bcore::{FileFault, MemFile, Served, Shelf, Streams, SystemFiles};
+pub use bcore::{FileFault, MemFile, Shelf, SystemFiles};
 pub use serving::{
-    AllTools, files_are_read, serve, serve_process, serve_with, wrong_answers_are_excluded,
+    AllTools, files_are_read, serve, serve_with, wrong_answers_are_excluded,
     wrong_processes_are_excluded,
 };

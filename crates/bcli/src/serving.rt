@@ -1,5 +1,5 @@
 //! What the tools do, and the whole program with them.
-ghost use Rattle.std.specs.Prelude.{◌≡◌, ◌≢◌, None, map as map_each, option_map, string_bytes};
+ghost use Rattle.std.specs.Prelude.{◌≡◌, map as map_each, option_map, string_bytes};
 ghost use Rattle.blang.specs.Reports.{run_ends};
 ghost use Rattle.bcommand.specs.CommandLine.{ask, question_of, source_shown};
 ghost use Rattle.bcommand.specs.CommandLine.{origin_shown as asked_origin};
@@ -8,7 +8,7 @@ ghost use Rattle.bcore.specs.Shelves.{opened};
 ghost use Rattle.bshow.specs.Shows.{asked_of as page_of};
 ghost use Rattle.bsources.specs.Files.{file_shown, files_shown};
 ghost use Rattle.btools.specs.Origins.{origin_shown};
-ghost use Rattle.bcli.specs.Serves.{Answers, AnswersOf, Serves, ServesProcess, ShowsBy, ShowsRun, UsesTool, care_taken};
+ghost use Rattle.bcli.specs.Serves.{Answers, AnswersOf, Serves, ShowsBy, ShowsRun, UsesTool, care_taken};
 ghost use Rattle.bcli.specs.Serves.{form_of, origin_of, page_asked, style_of, traced_rows};
 
 use crate::explaining::locate_and_explain;
@@ -18,9 +18,7 @@ use crate::trying::{Attempt, try_source};
 use bcareful::{CarefulRequest, go_careful};
 use bcheck::{FindingForm, Request, check};
 use bcommand::{Care, Display, OriginNames, Question, Rows, SourceNames, Walk};
-use bcore::{
-    MemFile, Served, Shelf, Streams, ToolJob, Tools, Unread, Whole, name_file, read_source,
-};
+use bcore::{MemFile, Shelf, ToolJob, Tools, Unread, Whole, name_file, read_source};
 use bcount::{CountStyle, Counting, count};
 use bdraw::draw;
 use bfix::{fix, port};
@@ -36,7 +34,6 @@ use bverify::verify_text;
 use bwhere::locate_code;
 use bword::{ByteIn, ByteOut, Edition, MemIn};
 use std::alloc::Global;
-use std::io::{Read, Write};
 use std::rt::Files;
 
 /// The tools of the program.
@@ -110,27 +107,6 @@ pub fn serve_with<S: Shelf, I: ByteIn, O: ByteOut, D: ByteOut>(
     ensures diag_lender { D.lender diag.new ≡ D.lender diag.old }
 {
     bcore::serve_with(&AllTools, alloc, shelf, words, input, out, diag)
-}
-
-/// Does what the words of a process ask for, over its streams, as `bcore::serve_process` does with these tools.
-pub fn serve_process<R, I, O, D>(
-    rt: &R,
-    words: Option<Vec<String>>,
-    streams: Streams<I, O, D>,
-) -> Served<O, D>
-where
-    R: AllocGlobal + Files,
-    I: Read + Drop,
-    O: Write + Drop,
-    D: Write + Drop,
-    ensures serves { ServesProcess (opened R.File.remaining)
-        (option_map (λ v. map_each string_bytes v.items) words) (result.output ≢ None) (record {
-          input = I.remaining streams.input;
-          line = D.contents streams.diag;
-          line_after = D.contents result.diag;
-        }) result.status }
-{
-    bcore::serve_process(&AllTools, rt, words, streams)
 }
 
 // Answers what is asked of the source in a file.

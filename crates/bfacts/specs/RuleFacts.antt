@@ -1,6 +1,6 @@
 -- Closed facts: what the first rules of `check` find in small programs, at which token, and where two meet there.
 use Rattle.std.specs.Prelude.{◌≡◌, ℕ, zero, suc, ◌+◌, codes, List, [], ◌∷◌, ◌++◌, length, None, Option}
-use Rattle.std.specs.Prelude.{Some, refl, replicate, take}
+use Rattle.std.specs.Prelude.{Some, drop, refl, replicate, take}
 use Rattle.std.specs.List.{flat_map, range_with_len}
 use Rattle.bword.specs.declared.operators.BinOp.TheVariants as op
 use Rattle.blang.specs.Trees.{Address, Another, Assigned, Binary, Break, Called, Compound, Conditional, Definition}
@@ -20,20 +20,21 @@ use Rattle.blint.specs.declared.warnings.Warning.{Warning}
 use Rattle.blint.specs.declared.warnings.Warning.TheVariants as warning
 use Rattle.blint.specs.Noticed.{first_notice, warning_of}
 
--- The rules that are asked here come first. So what they say of a token counts before all others.
-abbrev count : ℕ
-count = 38
+-- The rules that are asked here come first, but for the last of them. So what they say of a token counts before all others.
+abbrev asked : {A : Type 0} → List A → List A
+asked all = take 44 all ++ take 1 (drop 75 all)
 
-first_warnings : take count WARNINGS
+first_warnings : asked WARNINGS
     ≡ warning.AndAnd ∷ warning.OperatorAssigns ∷ warning.Backslash ∷ warning.BitsCompared ∷ warning.BitsCompared ∷
-    warning.ComparesTwice ∷ warning.NotCompared ∷ warning.NotCompared ∷ warning.OrConstant ∷ warning.StringsAdded ∷
-    warning.StringForCharacter ∷ warning.StringCompared ∷ warning.NegativeNumber ∷ warning.StringEnd ∷
+    warning.BitsCompared ∷ warning.ComparesTwice ∷ warning.NotCompared ∷ warning.NotCompared ∷ warning.OrConstant ∷
+    warning.StringsAdded ∷ warning.StringForCharacter ∷ warning.NegativeNumber ∷ warning.StringEnd ∷
     warning.StringEnd ∷ warning.InputEnd ∷ warning.InputZero ∷ warning.InputZero ∷ warning.AssignsItself ∷
     warning.PassesOldValue ∷ warning.AssignsComparison ∷ warning.AssignsComparison ∷ warning.AssignsComparison ∷
-    warning.ConditionAssigns ∷ warning.ConditionAssigns ∷ warning.ConditionAssigns ∷ warning.ConditionAssigns ∷
-    warning.AssignsCompared ∷ warning.EmptyIf ∷ warning.EmptyLoop ∷ warning.EmptyLoop ∷ warning.EndlessLoop ∷
-    warning.NameAlone ∷ warning.ComparesAlone ∷ warning.ValueDropped ∷ warning.ValueDropped ∷ warning.ValueDropped ∷
-    warning.NoEffect ∷ []
+    warning.AssignsComparison ∷ warning.ConditionAssigns ∷ warning.ConditionAssigns ∷ warning.ConditionAssigns ∷
+    warning.ConditionAssigns ∷ warning.ConditionAssigns ∷ warning.AssignsCompared ∷ warning.AssignsCompared ∷
+    warning.AssignsCompared ∷ warning.EmptyIf ∷ warning.EmptyLoop ∷ warning.EmptyLoop ∷ warning.EmptyLoop ∷
+    warning.EndlessLoop ∷ warning.NoReturn ∷ warning.NameAlone ∷ warning.ComparesAlone ∷ warning.ValueDropped ∷
+    warning.ValueDropped ∷ warning.ValueDropped ∷ warning.NoEffect ∷ warning.StringCompared ∷ []
 first_warnings = refl
 
 abbrev table : RuleTable
@@ -41,7 +42,7 @@ table =
     record {
       steps = record { ref_ptr = (0, 0); now = STEPS };
       claims = record { ref_ptr = (0, 0); now = CLAIMS };
-      rules = record { ref_ptr = (0, 0); now = take count RULES };
+      rules = record { ref_ptr = (0, 0); now = asked RULES };
     }
 
 abbrev tree : (text : List ℕ) → List TokenPlace → List Definition → Tree
@@ -568,7 +569,7 @@ assigns_compared :
     -- if((x=>18))f();
     ∷ seen (More Nothing (If (Grouped (Assigned (Some op.Gt) 1 x (number 18))) (Evaluate (Called f No_arguments)))) ∷ []
     ≡ ((8, warning.AssignsCompared) ∷ []) ∷ ((8, warning.AssignsCompared) ∷ []) ∷ ((8, warning.AssignsCompared) ∷ [])
-    ∷ [] ∷ [] ∷ []
+    ∷ [] ∷ ((9, warning.AssignsCompared) ∷ []) ∷ []
 unfolding ends_of
 assigns_compared = refl
 

@@ -1,7 +1,9 @@
 //! The order of what a process reads and writes, in a log of its streams.
 use crate::command_tests::words_of;
-use bcli::{Streams, serve_process};
+use bcli::AllTools;
+use bcore::{Answering, Block, Streams, serve_process};
 use bparse::Status;
+use std::alloc::AllocError;
 use std::cell::RefCell;
 use std::fs;
 use std::io::{self, ErrorKind, Read, Write};
@@ -70,9 +72,18 @@ fn stream<'a>(log: &'a Log, mark: &'a str, to_come: &'a str) -> Noted<'a> {
     }
 }
 
-// The streams of a process: reads are noted by <, writes by > and lines by !.
-fn streams<'a>(log: &'a Log, input: &'a str) -> Streams<Noted<'a>, Noted<'a>, Noted<'a>> {
-    Streams {
+// The streams of a process, whose output is shown at once, or in blocks.
+#[derive(Drop)]
+struct Ends<'a> {
+    input: Noted<'a>,
+    output: Noted<'a>,
+    diag: Noted<'a>,
+    at_once: bool,
+}
+
+// Reads are noted by <, writes by > and lines by !.
+fn streams<'a>(log: &'a Log, input: &'a str) -> Ends<'a> {
+    Ends {
         input: stream(log, "<", input),
         output: stream(log, ">", ""),
         diag: stream(log, "!", ""),
@@ -80,17 +91,37 @@ fn streams<'a>(log: &'a Log, input: &'a str) -> Streams<Noted<'a>, Noted<'a>, No
     }
 }
 
+// The status of a process with these words over these streams.
+fn answered(
+    rt: &(impl AllocGlobal + Files),
+    words: Option<Vec<String>>,
+    ends: Ends<'_>,
+) -> Result<Status, AllocError> {
+    let alloc = rt.alloc();
+    let task = Answering {
+        tools: &AllTools,
+        rt,
+        words,
+    };
+    let streams = Streams {
+        input: ends.input,
+        output: Block::new(alloc, ends.output, ends.at_once)?,
+        diag: ends.diag,
+    };
+    Ok(serve_process(alloc, task, streams).status)
+}
+
 // Compares what the streams did, and the status, for a program in a file of its own.
 fn logs(
     rt: &(impl AllocGlobal + Files + Abort),
     source: &str,
-    streams: Streams<Noted<'_>, Noted<'_>, Noted<'_>>,
+    streams: Ends<'_>,
     expected: &str,
     status: Status,
 ) -> Result<(), Fail> {
     fs::write(rt, "x.b", source.as_bytes())?;
     let log = streams.diag.log;
-    let answer = serve_process(rt, Some(words_of(rt.alloc(), "b go x.b")?), streams).status;
+    let answer = answered(rt, Some(words_of(rt.alloc(), "b go x.b")?), streams)?;
     fs::remove_file(rt, "x.b")?;
     let is_right = match log.try_borrow() {
         Ok(log) => answer == status && log.as_slice() == expected.as_bytes(),
@@ -148,7 +179,7 @@ fn closed_streams(rt: HostRuntime) -> Result<(), Fail> {
 #[test]
 fn no_words(rt: HostRuntime) -> Result<(), Fail> {
     let log = RefCell::new(Vec::new(rt.alloc()));
-    assert_eq!(rt; serve_process(&rt, None, streams(&log, "")).status, 135);
+    assert_eq!(rt; answered(&rt, None, streams(&log, ""))?, 135);
     let wrong = "!error: a word of the command line is not UTF-8\n";
     let starts = match log.try_borrow() {
         Ok(log) => log.starts_with(wrong.as_bytes()),

@@ -41,7 +41,7 @@ module _ (edition : Edition) (source : List ℕ) (r : Compilation) (g : Compiles
       (no_pages edition source r g (asked_up_to asked stop meaning) (ends_over taken left ends)).done shows
   done (pages.unkept ds image frames stop meaning has suits named finds nothing) = absurd (omega (arith, nothing.status_is))
   done (pages.unread ds image frames stop meaning has suits named finds device nothing) = absurd (omega (arith, nothing.status_is))
-  done (pages.not_begun ds image result has suits never shows) = (no_pages edition source r g asked ends).done shows
+  done (pages.not_begun ds image result has suits never ran shows) = (no_pages edition source r g asked ends).done shows
   done (pages.stopped why quiet) = absurd (no_done 0 refl (told.status 0 why))
   done (pages.no_memory ds image has suits read nothing) = absurd (omega (arith, nothing.status_is))
 
@@ -58,7 +58,7 @@ module _ (edition : Edition) (source : List ℕ) (r : Compilation) (g : Compiles
   fault (pages.shown ds image frames stop meaning taken left has suits named finds read ran took shows) = fault_shown stop meaning taken left shows
   fault (pages.unkept ds image frames stop meaning has suits named finds nothing) = absurd (omega (arith, nothing.status_is))
   fault (pages.unread ds image frames stop meaning has suits named finds device nothing) = absurd (omega (arith, nothing.status_is))
-  fault (pages.not_begun ds image result has suits never shows) =
+  fault (pages.not_begun ds image result has suits never ran shows) =
       let it = (no_pages edition source r g asked ends).fault shows in (it.0, it.1)
   fault (pages.stopped why quiet) = (told.fault why, quiet.silent)
   fault (pages.no_memory ds image has suits read nothing) = absurd (omega (arith, nothing.status_is))
@@ -86,7 +86,7 @@ module _ (edition : Edition) (source : List ℕ) (r : Compilation) (g : Compiles
       record { ds = ds; image = image; program = has; frames = frames; result = came.0; output = came.1; came = inr (named, came.2) }
   broken (pages.unkept ds image frames stop meaning has suits named finds nothing) = absurd (omega (arith, nothing.status_is))
   broken (pages.unread ds image frames stop meaning has suits named finds device nothing) = absurd (omega (arith, nothing.status_is))
-  broken (pages.not_begun ds image result has suits never shows) =
+  broken (pages.not_begun ds image result has suits never ran shows) =
       record { ds = ds; image = image; program = has; frames = []; result = result; output = record { bytes = []; refusals = 0 }; came = inl never }
   broken (pages.stopped why quiet) = absurd (no_done 0 refl (told.status 0 why))
   broken (pages.no_memory ds image has suits read nothing) = absurd (omega (arith, nothing.status_is))
@@ -105,7 +105,7 @@ module _ (edition : Edition) (source : List ℕ) (r : Compilation) (g : Compiles
     where
       limit : outcome.Limit ≡ outcome.Device → ⊥
       limit e = cc
-  device (pages.not_begun ds image result has suits never shows) = (no_pages edition source r g asked ends).device shows
+  device (pages.not_begun ds image result has suits never ran shows) = (no_pages edition source r g asked ends).device shows
   device (pages.stopped why quiet) = inr (inr (told.device why))
   device (pages.no_memory ds image has suits read nothing) = absurd (omega (arith, nothing.status_is))
 
@@ -117,7 +117,7 @@ module _ (edition : Edition) (source : List ℕ) (r : Compilation) (g : Compiles
       let it = (no_pages edition source r g (asked_up_to asked stop meaning) (ends_over taken left ends)).unloaded shows in (it.0, it.1)
   unloaded (pages.unkept ds image frames stop meaning has suits named finds nothing) = absurd (omega (arith, nothing.status_is))
   unloaded (pages.unread ds image frames stop meaning has suits named finds device nothing) = absurd (omega (arith, nothing.status_is))
-  unloaded (pages.not_begun ds image result has suits never shows) =
+  unloaded (pages.not_begun ds image result has suits never ran shows) =
       let it = (no_pages edition source r g asked ends).unloaded shows in (it.0, it.1)
   unloaded (pages.stopped why quiet) = (told.unloaded why, quiet.silent)
   unloaded (pages.no_memory ds image has suits read nothing) = absurd (omega (arith, nothing.status_is))

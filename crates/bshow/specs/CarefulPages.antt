@@ -63,7 +63,7 @@ pub data ShowsCarefully (care : Care) (origin : Origin) (source : List ℕ) (ask
       → ShowsCarefully care origin source asked ends status
   not_begun : (ds : List Definition) (image : Image) (result : Outcome)
       → ProgramOf origin source ds image → IsSuited origin source → BeginsNot image result
-      → Shows origin source asked ends status
+      → (result ≡ outcome.Memory → ⊥) → Shows origin source asked ends status
       → ShowsCarefully care origin source asked ends status
   stopped : NoProgramOf origin source (fault_lines asked.files) ends.line ends.line_after status → HasNotRun ends
       → ShowsCarefully care origin source asked ends status

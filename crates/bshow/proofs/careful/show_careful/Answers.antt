@@ -32,6 +32,7 @@ returns-in_default-why g c =
     let none = nothing_read c.in-Ok.program.definitions.items c.in-Ok.program.image c.args.wanted.steps _ _ c.in-Err-find_first.why c.in_default-why.not-Memory c.in-Err-find_first.ensures.nothing in
     record {
       shows = not_begun c.in-Ok.program.definitions.items c.in-Ok.program.image c.in-Err-find_first.why c.in-Ok.ensures.program ((c.in-Ok.program.names.lines.items, c.in-Ok.ensures.lines), (c.in-Ok.program.names.frames.items, c.in-Ok.ensures.names)) none.0
+          c.in_default-why.not-Memory
           (subst (λ (i : Incoming). Shows (origin_shown c.args.origin) c.args.source.now (asked_of c.args.wanted) (record {
             input = i;
             input_after = g.I.ByteIn.incoming c.show.new.input;
