@@ -1,7 +1,8 @@
 main() {
-    auto v 4, i;
+    auto v 4, i, n;
+    n = 5;
     i = 0;
-    while(i <= 5) {
+    while(i <= n) {
         printn(i, 10);
         v[i++] = 0;
     }

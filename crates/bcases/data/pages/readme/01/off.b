@@ -1,6 +1,7 @@
 main() {
-    auto v 4, i;
+    auto v 4, i, n;
+    n = 5;
     i = 0;
-    while(i <= 5)
+    while(i <= n)
         v[i++] = 0;
 }

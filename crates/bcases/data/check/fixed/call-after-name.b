@@ -1,0 +1,5 @@
+main() {
+    auto a putchar('k');
+    a = 'l';
+    putchar(a);
+}

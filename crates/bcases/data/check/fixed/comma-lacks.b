@@ -1,0 +1,7 @@
+main() {
+    auto n;
+
+    n = 5;
+    printn(n 10);
+    putchar('*n');
+}

@@ -1,0 +1,4 @@
+/* counts /* what is read */ to the end */
+main() {
+    putchar('a');
+}

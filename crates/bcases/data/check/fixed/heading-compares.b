@@ -1,0 +1,6 @@
+main() {
+    auto c;
+
+    c = getchar();
+    f(c == ' ') putchar('a');
+}

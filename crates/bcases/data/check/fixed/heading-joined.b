@@ -1,0 +1,6 @@
+main() {
+    auto n;
+
+    n = 3;
+    whle(n) putchar('a' + n--);
+}

@@ -1,0 +1,7 @@
+main() {
+    putstr("*");
+}
+
+putstr(s) {
+    putchar(char(s, 0));
+}

@@ -1,0 +1,7 @@
+main() {
+    auto c;
+
+    c1 = getchar();
+    c = 'a';
+    putchar(c);
+}

@@ -1,0 +1,6 @@
+main() {
+    auto c;
+    c = getchar();
+    if(c >= 'A & c <= 'Z')
+        putchar(c);
+}

@@ -1,0 +1,2 @@
+#define DEBUG
+main() putchar('a');

@@ -1,0 +1,1 @@
+main() putchar(040040);
