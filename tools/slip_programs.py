@@ -62,24 +62,35 @@ def of_lib():
         yield Program(f"lib/{path.name}", text_of(path), "1", runs[:MOST_RUNS])
 
 
+def calls_one_of(name, text):
+    """Whether a text calls a function of this file of the library, and defines none of its name."""
+    defined, called = re.findall(r"(?m)^(\w+)\(", text), re.findall(r"\b(\w+)\(", text)
+    own = re.findall(r"(?m)^(\w+)\(", text_of(TOP / f"lib/{name}.b"))
+    return bool({*own} & {*called} - {*defined})
+
+
 def of_class():
     """The right solutions of the exercises, each with its tests."""
     reader = argparse.ArgumentParser(add_help=False)
     reader.add_argument("--edition", default="1")
     reader.add_argument("--steps")
     reader.add_argument("--with", dest="libraries", action="append", default=[])
+    reader.add_argument("--taught", action="append", default=[])
     for path in sorted((TOP / "class").glob("*/solutions/right*.b")):
         folder = path.parent.parent
         options = folder / "options"
         asked = reader.parse_args(options.read_text().split() if options.exists() else [])
+        text = text_of(path)
+        named = re.findall(r"--with (\w+)", text.partition("\n")[0])
+        names = dict.fromkeys([*asked.libraries, *named, *(it for it in asked.taught if calls_one_of(it, text))])
         runs = []
         for test in sorted((folder / "tests").glob("*.out"))[:MOST_RUNS]:
             main = test.with_suffix(".b")
-            files = library(*asked.libraries)
+            files = library(*names)
             if main.exists():
                 files = ("handedin.b", END), (main.name, main.read_bytes()), *files
             runs.append(Run(input_of(test), files))
-        yield Program(f"class/{folder.name}/{path.name}", text_of(path), asked.edition, runs)
+        yield Program(f"class/{folder.name}/{path.name}", text, asked.edition, runs)
 
 
 # Programs that are made. Each function of one has a shape, into which names, numbers and operators are drawn.

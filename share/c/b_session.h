@@ -83,10 +83,10 @@ uint8_t b_begin(struct b_session *session);
  * A run that is over tells its end again. */
 uint8_t b_continue(struct b_session *session, uint64_t steps, uint8_t *value);
 
-/* Sets how much a run may hold: so many operands, so many pages of 256 words of its memory, and so many bytes of
- * output. A slice is made in parts of at most 65536 steps, and ends after one where more is there. It makes no step
- * where more is there already, and goes on once the output was taken or the limits are raised. With 0 bytes of output a
- * slice ends where any is there. A run begins without limits. */
+/* Sets how much a run may hold: so many operands, so many pages of 256 words of its memory that have another word than
+ * 0, and so many bytes of output. A slice is made in parts of at most 65536 steps, and ends after one where more is
+ * there. It makes no step where more is there already, and goes on once the output was taken or the limits are raised.
+ * With 0 bytes of output a slice ends where any is there. A run begins without limits. */
 uint8_t b_limit(struct b_session *session, size_t operands, uint16_t pages, size_t output);
 
 /* Adds bytes to the input; none with B_NO_MEMORY, and with B_WRONG_EDITION where the input was closed. */

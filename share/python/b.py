@@ -412,9 +412,9 @@ class Session:
     def limit(
         self, *, operands: Optional[int] = None, pages: Optional[int] = None, output: Optional[int] = None
     ) -> None:
-        """How much the run may hold between two slices: so many operands, pages of 256 words of memory, and bytes of
-        output; with None there is no limit. That is looked at after each 65536 steps. A slice then ends with `has
-        output` or `too large`, and the run can go on."""
+        """How much the run may hold between two slices: so many operands, pages of 256 words of memory that have
+        another word than 0, and bytes of output; with None there is no limit. That is looked at after each 65536
+        steps. A slice then ends with `has output` or `too large`, and the run can go on."""
         self._look_for_run()
         self._limits = _limits(operands, pages, output)
         _expect(_library.b_limit(self._held, *self._limits))

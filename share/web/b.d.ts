@@ -159,7 +159,7 @@ export interface Place {
 /** How much a run may hold between two slices. What isn't given has no limit. */
 export interface Limits {
   operands?: number | bigint;
-  /** Of 256 words of memory each, up to 256. */
+  /** Of 256 words of memory each that have another word than 0, up to 256. */
   pages?: number;
   /** In bytes. */
   output?: number | bigint;

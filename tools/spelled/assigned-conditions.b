@@ -10,7 +10,7 @@ first(v, n) {
     return(-1);
 }
 second(a, b) {
-    if(a > 0 & (b = 3)) /* missed */
+    if(a > 0 & (b = 3)) /* told */
         return(a);
     if(!(a = b)) /* told */
         return(b);
