@@ -22,5 +22,5 @@ pub mod SpareSteps
 pub mod SameTokens
 pub mod SectionSteps
 pub mod TallySteps
-pub mod SeamSteps
+pub mod BoundarySteps
 pub mod RightSteps

@@ -21,7 +21,7 @@ use Rattle.bcheck.specs.Checks.{GoesFarther, StopsBy, StopsPast, tokens_in, with
 use Rattle.bcheck.specs.Checks.{change_line, cut_mark, goes_on, EditParts, IsBetter, IsLater, Outcome, edit_object}
 use Rattle.bcheck.specs.Checks.{edits_text, fault_in, mended, mended_line}
 use Rattle.bcheck.specs.CheckExcluded.{has_no_colon, is_printed, least_lines, most_lines, newlines}
-use Rattle.bcheck.specs.RuleWarnings.{warning_code}
+use Rattle.bcheck.specs.RuleWarnings.{is_rule_code, rule_codes, warning_code}
 use Rattle.bcheck.specs.Tokens.{has_token_on, is_in_token, pieces_from}
 use Rattle.blang.specs.Cut.{cut, tokens_from}
 use Rattle.blang.specs.Cut.{fixed_of, greatest, keyword_of, line_number_after, longest, number_in, operator_of}
@@ -151,6 +151,22 @@ warning_codes : map warning_code (
     codes "en" ∷ codes "lp" ∷ codes "ix" ∷ codes "lp" ∷ codes "ix" ∷ codes "en" ∷ codes "lp" ∷ codes "lp" ∷ codes "di" ∷
     codes "lp" ∷ codes "lp" ∷ codes "no" ∷ []
 warning_codes = refl
+
+-- the codes that rules alone give; those of finders, of faults, a part of one, one with more letters, and none
+by_rules : rule_codes
+    ≡ codes "and" ∷ codes "op" ∷ codes "if" ∷ codes "em" ∷ codes "sg" ∷ codes "en" ∷ codes "st" ∷ codes "no"
+    ∷ codes "bs" ∷ codes "pr" ∷ codes "rt" ∷ codes "us" ∷ codes "ed" ∷ codes "tr" ∷ codes "di" ∷ codes "es" ∷ []
+by_rules = refl
+
+of_rules : map is_rule_code rule_codes
+    ≡ true ∷ true ∷ true ∷ true ∷ true ∷ true ∷ true ∷ true ∷ true ∷ true ∷ true ∷ true ∷ true ∷ true ∷ true ∷ true ∷ []
+of_rules = refl
+
+not_of_rules : map is_rule_code
+    (codes "*/" ∷ codes "ix" ∷ codes "in" ∷ codes "ar" ∷ codes "hi" ∷ codes "ma" ∷ codes "lp" ∷ codes "la" ∷ codes "nu"
+    ∷ codes "sw" ∷ codes "sx" ∷ codes "an" ∷ codes "andd" ∷ [] ∷ [])
+    ≡ false ∷ false ∷ false ∷ false ∷ false ∷ false ∷ false ∷ false ∷ false ∷ false ∷ false ∷ false ∷ false ∷ false ∷ []
+not_of_rules = refl
 
 -- the line and the column of a place after a text
 lines : map (line_number_after 1) ([] ∷ codes "a" ∷ codes "a\n" ∷ codes "\n\nab" ∷ []) ≡ (1 ∷ 1 ∷ 2 ∷ 3 ∷ [])

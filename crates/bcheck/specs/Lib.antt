@@ -9,8 +9,8 @@ pub mod Mentions
 pub mod Pieces
 pub mod Right
 pub mod RuleWarnings
-mod SeamRows
-pub mod Seams
+mod BoundaryRows
+pub mod Boundaries
 pub mod SectionRows
 pub mod Sections
 pub mod Spares

@@ -185,8 +185,8 @@ is_rule_code code = list_any (same_name code) rule_codes
 abbrev pub IsOfRules : List ℕ → Type 0
 IsOfRules code = IsTrue (is_rule_code code)
 
--- What is due of a source that is definitions is told, and nothing else with the codes of rules alone: each finding with
--- the bytes before it, and its code.
+-- What is due of a source that is definitions is told, and nothing else with the codes of rules alone: each finding
+-- with the bytes before it, and its code.
 abbrev pub TellsWarnings : Edition → Files → List ℕ → (told : List (List ℕ × List ℕ)) → Type 0
 TellsWarnings edition files source told =
     (ds : List Definition) → AllFormed ds → IsSource edition source ds

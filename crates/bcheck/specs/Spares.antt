@@ -216,8 +216,8 @@ is_declaring (Some lexeme.Comma) = true
 is_declaring (Some lexeme.Semicolon) = true
 is_declaring l = false
 
--- The kinds of changes. One puts pieces in, and all that were stay: nothing but quotes and stars, or three pieces at most,
--- and a name only in a declaration or alone, if it stands in the source.
+-- The kinds of changes. One puts pieces in, and all that were stay: nothing but quotes and stars, or three pieces at
+-- most, and a name only in a declaration or alone, if it stands in the source.
 abbrev pub are_declaring : List PlacedPiece → Bool
 are_declaring ps = list_all (λ p. is_declaring p.lexeme) ps
 

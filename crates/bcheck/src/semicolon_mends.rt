@@ -60,8 +60,8 @@ fn first_on_line(draft: &Draft<'_>, token: usize) -> usize {
     0
 }
 
-// Whether a `;` may lack before the first token of a line. If what is found stands before it, or if it is meant to go on
-// with what a keyword begins, none does.
+// Whether a `;` may lack before the first token of a line. If what is found stands before it, or if it is meant to go
+// on with what a keyword begins, none does.
 fn may_lack_before(draft: &Draft<'_>, syntax: Syntax, first: usize, finding: &Finding) -> bool {
     let is_keyword = matches!(syntax, Syntax::CallBody | Syntax::ElseCondition);
     !is_keyword && finding.place.start >= draft.end(first.wrapping_sub(1))

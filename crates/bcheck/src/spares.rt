@@ -4,7 +4,8 @@ ghost use Rattle.std.specs.Prelude.{if◌then◌else◌, position, reverse, slic
 ghost use Rattle.std.specs.List.{list_any};
 ghost use Rattle.bword.specs.Words.{same_name};
 ghost use Rattle.bcheck.specs.ChangesExcluded.{WrongChanges};
-ghost use Rattle.bcheck.specs.Spares.{adds_none, alike, are_comment, are_declaring, are_in, are_near, are_number, are_of_prototype};
+ghost use Rattle.bcheck.specs.Spares.{adds_none, alike, are_comment, are_declaring, are_in, are_near, are_number};
+ghost use Rattle.bcheck.specs.Spares.{are_of_prototype};
 ghost use Rattle.bcheck.specs.Spares.{are_one_name, assigns_list, before_back, begins, begins_alike};
 ghost use Rattle.bcheck.specs.Spares.{begins_declaration, begins_foreign, begins_with, count_of, ends_part};
 ghost use Rattle.bcheck.specs.Spares.{first_lexeme, fits_kind, fits_sign, is_call, is_declaring, is_foreign, is_known};
@@ -13,7 +14,8 @@ ghost use Rattle.bcheck.specs.Spares.{is_of_prototype, is_other, is_other_word, 
 ghost use Rattle.bcheck.specs.Spares.{is_quoted, is_row, is_same_piece, is_sign, is_star, is_type, is_wrong, joined};
 ghost use Rattle.bcheck.specs.Spares.{keeps, keeps_declared, keeps_quoted, knows, letters_apart, open_bracket, opens};
 ghost use Rattle.bcheck.specs.Spares.{opens_at, other_words, pair_of, puts, puts_few, renames};
-ghost use Rattle.bcheck.specs.Spares.{rest_back, right_piece, right_pieces, sets_index, sets_name, sets_place, sets_word, spares};
+ghost use Rattle.bcheck.specs.Spares.{rest_back, right_piece, right_pieces, sets_index, sets_name, sets_place};
+ghost use Rattle.bcheck.specs.Spares.{sets_word, spares};
 ghost use Rattle.bcheck.specs.Spares.{stand_rows, stands, stays, stays_declared, swap_of, takes, times, translates};
 ghost use Rattle.bcheck.specs.Spares.{turns_declaration};
 

@@ -14,7 +14,7 @@ use Rattle.bcheck.specs.Checks.{EachOutcome, IsLater, outcome_status, told_first
 use Rattle.bcheck.specs.Findings.{Improves}
 use Rattle.bcheck.specs.Right.{IsRight}
 use Rattle.bcheck.proofs.RightSteps.{no_stop}
-use Rattle.bcheck.specs.Seams.{fault_seams, with_semicolon}
+use Rattle.bcheck.specs.Boundaries.{fault_boundaries, with_semicolon}
 use Rattle.bcheck.specs.Spares.{spares_at}
 use Rattle.bfix.specs.Due.{IsDue, IsSettled, NoneDue, Setting}
 use Rattle.bfix.specs.Keeping.{are_among, kept_of}
@@ -35,13 +35,13 @@ right_improves edition source new done =
 
 -- where a place is on the line of a fault, the source isn't right
 pub wrong_of : (edition : Edition) (files : Files) (source places : List ℕ)
-    → EachOutcome edition source (λ o. places ≡ fault_seams edition source o.stop) → 0 < length places
+    → EachOutcome edition source (λ o. places ≡ fault_boundaries edition source o.stop) → 0 < length places
     → IsRight edition files source → ⊥
-wrong_of edition files source places seams some right =
+wrong_of edition files source places boundaries some right =
     let it = each_source_comes [] edition 1 source in
     let none : length places ≡ 0 =
     ap length
-    (seams it.0 it.1 ∙ ap (fault_seams edition source) (no_stop it.0.stop _ (right.done it.0 it.1))) in
+    (boundaries it.0 it.1 ∙ ap (fault_boundaries edition source) (no_stop it.0.stop _ (right.done it.0 it.1))) in
     omega (arith, none, some)
 
 -- more than a limit, though counted no farther than it can be
@@ -73,9 +73,6 @@ module _ (s : Setting) (old : List ℕ) (place : ℕ) (text whole new : List ℕ
   pub is_wrong : (IsRight s.edition s.files new → ⊥) → IsDue s old place → ⊥
   is_wrong h d = h (subst (λ x. IsRight s.edition s.files x) (sym new_is) d.right)
 
-  pub has_choice : spares_at s.edition whole place 0 (59 ∷ []) ≡ false → IsDue s old place → ⊥
-  has_choice h d = no_way (sym h ∙ ap (λ x. spares_at s.edition x place 0 (59 ∷ [])) w ∙ d.spared)
-
   pub is_spared : IsDue s old place → spares_at s.edition whole place 0 (59 ∷ []) ≡ true
   is_spared d = ap (λ x. spares_at s.edition x place 0 (59 ∷ [])) w ∙ d.spared
 
@@ -97,20 +94,20 @@ module _ (s : Setting) (old : List ℕ) (place : ℕ) (text whole new : List ℕ
 
 -- none is due at the places of a line
 pub settled_by : (s : Setting) (text whole : List ℕ) (places : List ℕ) → whole ≡ text ++ s.rest
-    → EachOutcome s.edition whole (λ o. places ≡ fault_seams s.edition whole o.stop)
+    → EachOutcome s.edition whole (λ o. places ≡ fault_boundaries s.edition whole o.stop)
     → NoneDue s text places → IsSettled s text
-settled_by s text whole places w seams none =
-    let on : EachOutcome s.edition (text ++ s.rest) (λ o. places ≡ fault_seams s.edition (text ++ s.rest) o.stop) =
-    subst (λ x. EachOutcome s.edition x (λ o. places ≡ fault_seams s.edition x o.stop)) w seams in
+settled_by s text whole places w boundaries none =
+    let on : EachOutcome s.edition (text ++ s.rest) (λ o. places ≡ fault_boundaries s.edition (text ++ s.rest) o.stop) =
+    subst (λ x. EachOutcome s.edition x (λ o. places ≡ fault_boundaries s.edition x o.stop)) w boundaries in
     λ r g. subst (λ ps. NoneDue s text ps) (on r g) none
 
 -- nor where there are too many for all to be tried
 pub untried : (s : Setting) (text whole other places : List ℕ) (n m most : ℕ) → whole ≡ text ++ s.rest
-    → other ≡ text ++ s.rest → EachOutcome s.edition whole (λ o. places ≡ fault_seams s.edition whole o.stop)
+    → other ≡ text ++ s.rest → EachOutcome s.edition whole (λ o. places ≡ fault_boundaries s.edition whole o.stop)
     → n ≡ length places → m ≡ min (n * length other) most → TRIED_BYTES < m → IsSettled s text
-untried s text whole other places n m most w v seams e f h =
+untried s text whole other places n m most w v boundaries e f h =
     let same : n * length other ≡ length places * length (text ++ s.rest) =
     ap (λ k. k * length other) e ∙ ap (λ x. length places * length x) v in
-    settled_by s text whole places w seams
+    settled_by s text whole places w boundaries
     (λ few.
     absurd (too_many m (n * length other) most TRIED_BYTES f h (subst (λ k. k ≤ TRIED_BYTES) (sym same) few)))

@@ -1,11 +1,11 @@
--- Promise: where a `;` is all that a source lacks.
-use Rattle.std.specs.Prelude.{◌≡◌, ◌⊎◌, ℕ, ◌+◌, ◌*◌, ◌≤◌, ◌==◌, ◌||◌, nat_lt, Bool, IsTrue, true, List, [], ◌∷◌, ◌++◌, length}
+-- Promise: where a missing semicolon is all that a source lacks.
+use Rattle.std.specs.Prelude.{◌≡◌, ◌⊎◌, ℕ, ◌+◌, ◌*◌, ◌≤◌, ◌==◌, ◌||◌, nat_lt, Bool, IsTrue, true, List, ◌++◌, length}
 use Rattle.std.specs.List.{All}
 use Rattle.bword.specs.declared.edition.Edition.{Edition}
 use Rattle.bsources.specs.Files.{Files}
 use Rattle.bcheck.specs.Checks.{EachOutcome}
 use Rattle.bcheck.specs.Right.{IsRight}
-use Rattle.bcheck.specs.Seams.{fault_seams, with_semicolon}
+use Rattle.bcheck.specs.Boundaries.{fault_boundaries, semicolon, with_semicolon}
 use Rattle.bcheck.specs.Spares.{spares_at}
 use Rattle.bfix.specs.Keeping.{are_among, kept_of}
 use Rattle.bfix.specs.declared.due.TheConstants.{TRIED_BYTES}
@@ -25,7 +25,7 @@ pub record IsDue (s : Setting) (text : List ℕ) (place : ℕ) : Type 0 where
   pub keeps : IsTrue (are_among (kept_of s.edition (text ++ s.rest))
       (kept_of s.edition (with_semicolon text place ++ s.rest)))
   pub right : IsRight s.edition s.files (with_semicolon text place ++ s.rest)
-  pub spared : spares_at s.edition (text ++ s.rest) place 0 (59 ∷ []) ≡ true
+  pub spared : spares_at s.edition (text ++ s.rest) place 0 semicolon ≡ true
 
 -- None is due at these places of a text, unless there are too many for all to be tried.
 abbrev pub NoneDue : Setting → (text places : List ℕ) → Type 0
@@ -36,7 +36,7 @@ NoneDue s text places =
 abbrev pub IsSettled : Setting → List ℕ → Type 0
 IsSettled s text =
     let whole = text ++ s.rest in
-    EachOutcome s.edition whole (λ o. NoneDue s text (fault_seams s.edition whole o.stop))
+    EachOutcome s.edition whole (λ o. NoneDue s text (fault_boundaries s.edition whole o.stop))
 
 -- So many changes are all that are made of a text of so many bytes: a thousand, or those after which as many bytes as
 -- may be were looked at.

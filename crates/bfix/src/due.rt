@@ -1,4 +1,4 @@
-//! A `;` that is all that a text lacks.
+//! A missing semicolon that is all that a text lacks: error recovery by the insertion of one token.
 ghost use Rattle.std.specs.List.{All};
 ghost use Rattle.std.specs.Prelude.{◌≡◌, ◌<◌, IfOk, IfSome, None, length};
 ghost use Rattle.bfix.specs.Due.{IsDue, IsSettled};
@@ -7,27 +7,27 @@ ghost use Rattle.bfix.specs.Fixes.{IsMade, IsWrong, setting_of};
 use crate::edits::edited;
 use crate::fixing::{Frame, Led};
 use crate::keeping::keeps;
-use bcheck::{fault_seams, is_right, semicolon_at};
+use bcheck::{fault_boundaries, is_right, semicolon_at};
 use bport::joined;
 use std::alloc::{AllocError, Global};
 
 /// How many bytes of sources with a `;` are looked at for one text, at most.
 pub const TRIED_BYTES: usize = 2097152;
 
-/// What a `;` makes of a text, if it is all that lacks on the line of the first fault, and its line.
+/// What the missing `;` makes of a text, if it is all that lacks on the line of the first fault, and its line.
 pub(crate) fn due(alloc: Global, frame: &Frame<'_>, old: &[u8]) -> Result<Option<Led>, AllocError>
     ensures made { IfOk result (λ made. IfSome made (IsMade frame.now old.now)) }
     ensures settled { IfOk result (λ made. made ≡ None → IsSettled (setting_of frame.now) old.now) }
 {
     let whole = joined(alloc, old, frame.rest)?;
-    let places = fault_seams(alloc, whole.as_slice(), frame.edition)?;
+    let places = fault_boundaries(alloc, whole.as_slice(), frame.edition)?;
     if places.len().saturating_mul(whole.as_slice().len()) > TRIED_BYTES {
         return Ok(None);
     }
     due_at_one(alloc, frame, old, places.as_slice())
 }
 
-// What a `;` makes of a text at the first of these places where it is all that lacks.
+// What the missing `;` makes of a text at the first of these places where it is all that lacks.
 fn due_at_one(
     alloc: Global,
     frame: &Frame<'_>,
@@ -36,8 +36,8 @@ fn due_at_one(
 ) -> Result<Option<Led>, AllocError>
     requires { 0 < length places.now → IsWrong frame.now old.now }
     ensures made { IfOk result (λ made. IfSome made (IsMade frame.now old.now)) }
-    ensures none { IfOk result (λ made. made ≡ None → All (λ place. IsDue (setting_of frame.now) old.now place → ⊥)
-        places.now) }
+    ensures none { IfOk result (λ made. made ≡ None
+        → All (λ place. IsDue (setting_of frame.now) old.now place → ⊥) places.now) }
 {
     for place in places {
         let found = due_at(alloc, frame, old, *place)?;
@@ -48,7 +48,7 @@ fn due_at_one(
     Ok(None)
 }
 
-// What a `;` makes of a text at a place, if it is all that lacks there.
+// What the missing `;` makes of a text at a place, if it is all that lacks there.
 fn due_at(
     alloc: Global,
     frame: &Frame<'_>,

@@ -233,8 +233,8 @@ fn changed(alloc: Global, frame: &Frame<'_>, old: &[u8]) -> Result<Option<Led>, 
 }
 
 /// What no fix writes: a text that has lost a comment or a string, that is more than twice as long, or that is another
-/// one than the source where no edit mends it, or where it is right. And no fix ends with another status than that of what it wrote, or is
-/// silent of what is left.
+/// one than the source where no edit mends it, or where it is right. And no fix ends with another status than that of
+/// what it wrote, or is silent of what is left.
 pub fn wrong_fixes_are_excluded()
     ensures { WrongFixes }
 {}

@@ -3,7 +3,7 @@ use Rattle.bsources.specs.Files.{files_shown}
 use Rattle.btools.proofs.Reading.{if_ok}
 use Rattle.bcheck.specs.Checks.{EachOutcome}
 use Rattle.bcheck.specs.Right.{IsRight}
-use Rattle.bcheck.specs.Seams.{fault_seams}
+use Rattle.bcheck.specs.Boundaries.{fault_boundaries}
 use Rattle.bfix.specs.Due.{NoneDue}
 use Rattle.bfix.specs.Fixes.{setting_of}
 use Rattle.bfix.proofs.DueSteps.{settled_by, untried, wrong_of}

@@ -3,7 +3,7 @@ use Rattle.std.specs.Prelude.{is_some}
 use Rattle.bsources.specs.Files.{files_shown}
 use Rattle.bcheck.specs.Findings.{Improves, IsChange}
 use Rattle.bcheck.specs.Right.{IsRight}
-use Rattle.bcheck.specs.Seams.{PutsSemicolon, with_semicolon}
+use Rattle.bcheck.specs.Boundaries.{PutsSemicolon, with_semicolon}
 use Rattle.bcheck.specs.Spares.{IsSpared}
 use Rattle.bfix.specs.Fixes.{setting_of}
 use Rattle.bfix.specs.Keeping.{are_among, kept_of}

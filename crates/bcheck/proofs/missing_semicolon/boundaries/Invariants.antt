@@ -1,10 +1,10 @@
 use Rattle.std.proofs.Common.{◌-◌, ◌≡◌, length, vec_items}
-use Rattle.bcheck.proofs.SeamSteps.{HasSeams}
-use Rattle.bcheck.proofs.lone_semicolon.seams.Given as goal
+use Rattle.bcheck.proofs.BoundarySteps.{HasBoundaries}
+use Rattle.bcheck.proofs.missing_semicolon.boundaries.Given as goal
 
 abbrev pub invariant-loop-places : goal.invariant-loop-places
 invariant-loop-places l = record {
-  seams : HasSeams l.fn.edition l.source l.line (vec_items l.places) l.scanner.at;
+  boundaries : HasBoundaries l.fn.edition l.source l.line (vec_items l.places) l.scanner.at;
   edition : l.scanner.edition ≡ l.fn.edition;
   source : l.scanner.source ≡ l.source;
   last : l.last ≡ l.scanner.at;

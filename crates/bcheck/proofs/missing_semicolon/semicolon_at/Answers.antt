@@ -4,7 +4,7 @@ use Rattle.bsources.specs.Files.{files_shown}
 use Rattle.bcheck.specs.Findings.{Improves}
 use Rattle.bcheck.specs.Spares.{spares_at}
 use Rattle.bcheck.proofs.ChangeSteps.{change_is}
-use Rattle.bcheck.proofs.lone_semicolon.semicolon_at.Goals as goal
+use Rattle.bcheck.proofs.missing_semicolon.semicolon_at.Goals as goal
 
 pub returns-clause-change : goal.returns-clause-change
 returns-clause-change c = λ better.

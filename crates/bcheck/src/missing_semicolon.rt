@@ -1,9 +1,10 @@
 //! A `;` that is put at a place of a source, and the places where one may lack.
-ghost use Rattle.std.specs.Prelude.{◌≡◌, ◌≤◌, [], ◌∷◌, ◌++◌, IfOk, IfSome, OnOk, is_some, length, true, vec_items};
+ghost use Rattle.std.specs.Prelude.{◌≡◌, ◌≤◌, ◌++◌, IfOk, IfSome, OnOk, is_some, length, true, vec_items};
 ghost use Rattle.bsources.specs.Files.{files_shown};
 ghost use Rattle.bcheck.specs.Checks.{EachOutcome};
 ghost use Rattle.bcheck.specs.Findings.{Improves, IsChange};
-ghost use Rattle.bcheck.specs.Seams.{PutsSemicolon, fault_seams, seam_on, seams, with_semicolon};
+ghost use Rattle.bcheck.specs.Boundaries.{PutsSemicolon, boundaries, boundary_on, fault_boundaries, semicolon};
+ghost use Rattle.bcheck.specs.Boundaries.{with_semicolon};
 ghost use Rattle.bcheck.specs.Spares.{IsSpared, spares_at};
 ghost use Rattle.bcheck.specs.Tokens.{pieces_of};
 
@@ -18,8 +19,8 @@ use btools::Text;
 use bword::Edition;
 use std::alloc::{AllocError, Global};
 
-/// The change that puts a `;` at a place of a source of these files, if it needs no choice. Whether the source is better
-/// with it was asked before.
+/// The change that puts a missing `;` at a place of a source of these files, if it needs no choice. The caller asks
+/// whether the source is better with it.
 pub fn semicolon_at(
     alloc: Global,
     source: &[u8],
@@ -27,12 +28,13 @@ pub fn semicolon_at(
     files: &SourceFiles<'_>,
     place: usize,
 ) -> Result<Option<Change>, AllocError>
-    ensures change { IfOk result (λ found. IfSome found (λ c. Improves edition source.now (with_semicolon source.now place)
+    ensures change { IfOk result (λ found. IfSome found (λ c.
+        Improves edition source.now (with_semicolon source.now place)
         → IsChange edition (files_shown files.now) source.now c)) }
     ensures puts { IfOk result (λ found. IfSome found (PutsSemicolon place)) }
     ensures spared { IfOk result (λ found. IfSome found (IsSpared edition source.now)) }
     ensures some { IfOk result (λ found. place ≤ length source.now
-        → spares_at edition source.now place 0 (59 ∷ []) ≡ true → is_some found ≡ true) }
+        → spares_at edition source.now place 0 semicolon ≡ true → is_some found ≡ true) }
 {
     if place > source.len() {
         return Ok(None);
@@ -64,9 +66,9 @@ pub fn semicolon_at(
 }
 
 /// The places before the comments and tokens on the line of the first fault of a source; none, if it has no fault.
-pub fn fault_seams(alloc: Global, source: &[u8], edition: Edition) -> Result<Vec<usize>, AllocError>
+pub fn fault_boundaries(alloc: Global, source: &[u8], edition: Edition) -> Result<Vec<usize>, AllocError>
     ensures { IfOk result (λ places. EachOutcome edition source.now
-        (λ o. vec_items places ≡ fault_seams edition source.now o.stop)) }
+        (λ o. vec_items places ≡ fault_boundaries edition source.now o.stop)) }
 {
     let text = SourceText {
         text: source,
@@ -74,22 +76,22 @@ pub fn fault_seams(alloc: Global, source: &[u8], edition: Edition) -> Result<Vec
     };
     let judgement = judge(alloc, text)?;
     match &judgement.verdict {
-        Verdict::Faulty(_, diagnostic) => seams(alloc, source, edition, diagnostic.line),
+        Verdict::Faulty(_, diagnostic) => boundaries(alloc, source, edition, diagnostic.line),
         Verdict::Clean => Ok(Vec::new(alloc)),
         Verdict::Unloaded(_) => Ok(Vec::new(alloc)),
     }
 }
 
 // The places before the comments and tokens of a source on a line.
-fn seams(alloc: Global, source: &[u8], edition: Edition, line: u64) -> Result<Vec<usize>, AllocError>
-    ensures { IfOk result (λ places. vec_items places ≡ seams line 0 (pieces_of edition source.now)) }
+fn boundaries(alloc: Global, source: &[u8], edition: Edition, line: u64) -> Result<Vec<usize>, AllocError>
+    ensures { IfOk result (λ places. vec_items places ≡ boundaries line 0 (pieces_of edition source.now)) }
 {
     let mut places = Vec::new(alloc);
     let mut scanner = Scanner::new(source, edition);
     let mut last = 0;
     loop {
         let piece = scanner.next();
-        push_seam(&mut places, line, last, &piece)?;
+        push_boundary(&mut places, line, last, &piece)?;
         if ends(piece.lexeme) {
             return Ok(places);
         }
@@ -98,13 +100,13 @@ fn seams(alloc: Global, source: &[u8], edition: Edition, line: u64) -> Result<Ve
 }
 
 // Adds a place, if what comes after it is on this line.
-fn push_seam(
+fn push_boundary(
     places: &mut Vec<usize>,
     line: u64,
     place: usize,
     piece: &PlacedPiece,
 ) -> Result<(), AllocError>
-    ensures { OnOk result (vec_items places.new ≡ vec_items places.old ++ seam_on line place piece.now) }
+    ensures { OnOk result (vec_items places.new ≡ vec_items places.old ++ boundary_on line place piece.now) }
 {
     if piece.line == line {
         places.push(place)?;

@@ -1,18 +1,18 @@
 use Rattle.std.proofs.Common.{◌∙◌, ◌++◌, [], ap, subst, sym, vec_items}
 use Rattle.blex.specs.Places.{Scanner}
-use Rattle.bcheck.specs.Seams.{seam_on}
-use Rattle.bcheck.proofs.SeamSteps.{HasSeams, seams_end, seams_from, seams_more}
+use Rattle.bcheck.specs.Boundaries.{boundary_on}
+use Rattle.bcheck.proofs.BoundarySteps.{HasBoundaries, boundaries_end, boundaries_from, boundaries_more}
 use Rattle.bcheck.proofs.TokenPlaces.{found_in}
-use Rattle.bcheck.proofs.lone_semicolon.seams.Goals as goal
+use Rattle.bcheck.proofs.missing_semicolon.boundaries.Goals as goal
 
 pub loop-places-init : goal.loop-places-init
 loop-places-init c =
     let at = ap (λ (s : Scanner). s.at) c.new-scanner.ensures in
     let source = c.args.source.now in
     record {
-      seams =
-          subst (λ ps. HasSeams c.args.edition source c.args.line ps c.new-scanner.result.at) (sym c.new-places.ensures.items)
-          (subst (λ n. HasSeams c.args.edition source c.args.line [] n) (sym at) (seams_from c.args.edition source c.args.line));
+      boundaries =
+          subst (λ ps. HasBoundaries c.args.edition source c.args.line ps c.new-scanner.result.at) (sym c.new-places.ensures.items)
+          (subst (λ n. HasBoundaries c.args.edition source c.args.line [] n) (sym at) (boundaries_from c.args.edition source c.args.line));
       edition = ap (λ (s : Scanner). s.edition) c.new-scanner.ensures;
       source = ap (λ (s : Scanner). s.source) c.new-scanner.ensures;
       last = sym at;
@@ -27,12 +27,12 @@ loop-places-preserved c =
     let piece = c.next-piece.result in
     let old = vec_items c.loop-places.places in
     let found = found_in _ _ _ edition source c.next-piece.ensures.finds i.edition i.source in
-    let more = seams_more edition source line old _ piece found i.seams (sym c.ends.ensures ∙ c.if-ends.false) in
-    let pushed = c.in_ok-push_seam.ensures ∙ ap (λ n. old ++ seam_on line n piece) i.last in
+    let more = boundaries_more edition source line old _ piece found i.boundaries (sym c.ends.ensures ∙ c.if-ends.false) in
+    let pushed = c.in_ok-push_boundary.ensures ∙ ap (λ n. old ++ boundary_on line n piece) i.last in
     record {
-      seams =
-          subst (λ n. HasSeams edition source line (vec_items c.push_seam.new.places) n) (sym c.next-piece.ensures.finds.at)
-          (subst (λ ps. HasSeams edition source line ps piece.end) (sym pushed) more);
+      boundaries =
+          subst (λ n. HasBoundaries edition source line (vec_items c.push_boundary.new.places) n) (sym c.next-piece.ensures.finds.at)
+          (subst (λ ps. HasBoundaries edition source line ps piece.end) (sym pushed) more);
       edition = c.next-piece.ensures.finds.edition ∙ i.edition;
       source = c.next-piece.ensures.finds.source ∙ i.source;
       last = sym c.next-piece.ensures.finds.at;
@@ -47,5 +47,5 @@ returns-then-ends c =
     let piece = c.next-piece.result in
     let old = vec_items c.loop-places.places in
     let found = found_in _ _ _ edition source c.next-piece.ensures.finds i.edition i.source in
-    c.in_ok-push_seam.ensures ∙ ap (λ n. old ++ seam_on line n piece) i.last
-    ∙ seams_end edition source line old _ piece found i.seams (sym c.ends.ensures ∙ c.if-ends.true)
+    c.in_ok-push_boundary.ensures ∙ ap (λ n. old ++ boundary_on line n piece) i.last
+    ∙ boundaries_end edition source line old _ piece found i.boundaries (sym c.ends.ensures ∙ c.if-ends.true)
