@@ -66,7 +66,11 @@ pub fn semicolon_at(
 }
 
 /// The places before the comments and tokens on the line of the first fault of a source; none, if it has no fault.
-pub fn fault_boundaries(alloc: Global, source: &[u8], edition: Edition) -> Result<Vec<usize>, AllocError>
+pub fn fault_boundaries(
+    alloc: Global,
+    source: &[u8],
+    edition: Edition,
+) -> Result<Vec<usize>, AllocError>
     ensures { IfOk result (λ places. EachOutcome edition source.now
         (λ o. vec_items places ≡ fault_boundaries edition source.now o.stop)) }
 {
@@ -83,7 +87,12 @@ pub fn fault_boundaries(alloc: Global, source: &[u8], edition: Edition) -> Resul
 }
 
 // The places before the comments and tokens of a source on a line.
-fn boundaries(alloc: Global, source: &[u8], edition: Edition, line: u64) -> Result<Vec<usize>, AllocError>
+fn boundaries(
+    alloc: Global,
+    source: &[u8],
+    edition: Edition,
+    line: u64,
+) -> Result<Vec<usize>, AllocError>
     ensures { IfOk result (λ places. vec_items places ≡ boundaries line 0 (pieces_of edition source.now)) }
 {
     let mut places = Vec::new(alloc);

@@ -27,13 +27,13 @@ returns-then-is_some-clause-wrong c =
     let told : status_told c.in_ok-judgement.judgement.verdict ≡ 0 = done in
     let status : c.status-is_clean.result ≡ 0 = c.status-is_clean.ensures ∙ told in
     elim c.if-is_clean.branch [
-      then-is_clean w ↦ found_wrong c.args.edition (files_shown c.args.files.now) c.args.source.now
-      (vec_items c.in_ok-findings.findings) (c.in_ok-findings.ensures.warned told)
-      (sym (ap (list_any (λ f. is_rule_code (matter_code f.matter))) c.as_slice-finding-items.ensures.value)
-      ∙ list_any_at (λ f. is_rule_code (matter_code f.matter)) c.as_slice-finding-items.result.now
-      c.loop-finding.finding-index c.finding-item.result c.loop-finding-test.true
-      (ap (λ f. is_rule_code (matter_code f.matter)) (sym c.finding-item.is)
-      ∙ (sym w.is_of_rules.ensures ∙ is_so w.is_of_rules.result (sym w.value-is ∙ c.if-not-is_of_rules.false))))
-      right
+      | then-is_clean w ↦ found_wrong c.args.edition (files_shown c.args.files.now) c.args.source.now
+          (vec_items c.in_ok-findings.findings) (c.in_ok-findings.ensures.warned told)
+          (sym (ap (list_any (λ f. is_rule_code (matter_code f.matter))) c.as_slice-finding-items.ensures.value)
+          ∙ list_any_at (λ f. is_rule_code (matter_code f.matter)) c.as_slice-finding-items.result.now
+          c.loop-finding.finding-index c.finding-item.result c.loop-finding-test.true
+          (ap (λ f. is_rule_code (matter_code f.matter)) (sym c.finding-item.is)
+          ∙ (sym w.is_of_rules.ensures ∙ is_so w.is_of_rules.result (sym w.value-is ∙ c.if-not-is_of_rules.false))))
+          right
       | else-is_clean w ↦ omega (arith, status, w.if-is_clean.false)
     ])

@@ -12,8 +12,7 @@ returns-clause-change c = λ better.
     let source = c.args.source.now in
     let place = c.args.place in
     let text : c.push.new.self ≡ 59 ∷ [] = c.in_ok-push.ensures ∙ ap (λ t. t ++ codes ";") c.new-text.ensures in
-    change_is edition (files_shown c.args.files.now) source c.in-Some.edit c.in_ok-change.change
-    (
+    change_is edition (files_shown c.args.files.now) source c.in-Some.edit c.in_ok-change.change (
       _,
       c.in-Some.ensures.edit,
       subst (λ t. Improves edition source (take place source ++ (t ++ drop place source))) (sym text) better,

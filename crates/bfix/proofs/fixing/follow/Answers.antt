@@ -24,8 +24,7 @@ returns c =
     let i = c.loop-count.invariant in
     let few = i.few in
     let all : length i.lines ≡ c.most_changes-count-end.result =
-    omega (arith, few, c.loop-count.auto.count-end, c.loop-count-test.false) in
-    (
+    omega (arith, few, c.loop-count.auto.count-end, c.loop-count-test.false) in (
       record {
         lines = i.lines;
         lead = i.lead;
@@ -39,8 +38,7 @@ returns c =
 pub returns-in_default : goal.returns-in_default
 returns-in_default c =
     let i = c.loop-count.invariant in
-    let few = i.few in
-    (
+    let few = i.few in (
       record {
         lines = i.lines;
         lead = i.lead;
