@@ -45,7 +45,8 @@ enum {
     B_NO_MEMORY = 134,     /* out of memory */
     B_WRONG_EDITION = 135, /* there is no edition of this number, or a name isn't UTF-8; nothing was written */
     B_HAS_OUTPUT = 136,    /* a session has more output than its limit; see b_session.h */
-    B_TOO_LARGE = 137      /* a session has more operands or memory than its limit */
+    B_TOO_LARGE = 137,     /* a session has more operands or memory than its limit */
+    B_STOPPED = 138        /* a session stands before a step at which it was to stop */
 };
 
 /* Compiles a source of edition 1 or 2 to its code text, as `b compile` does. */

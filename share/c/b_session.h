@@ -41,6 +41,44 @@ struct b_place {
     uint64_t line;
 };
 
+/* A place of the code: an instruction of a function, by the address of the function's first string word. */
+struct b_code_place {
+    uint32_t function;
+    size_t place;
+};
+
+/* A word that is watched, and what it was. */
+struct b_watched {
+    uint16_t address;
+    uint16_t word;
+};
+
+/* Before which steps a slice stops: at one of `places`, as at breakpoints; at one of `near`, where no more than so many
+ * calls are below the running one, as where a step over ends; where fewer calls than `returned` are below, as where a
+ * function has returned; and where one of `words` holds another word, as at watchpoints. No pointer is null. */
+struct b_stops {
+    const struct b_code_place *places;
+    size_t place_count;
+    const struct b_code_place *near;
+    size_t near_count;
+    size_t callers;
+    size_t returned;
+    const struct b_watched *words;
+    size_t word_count;
+};
+
+/* An active call: its function, the place of its next instruction, the address of its frame, where its parameters and
+ * then its automatic words lie, and how many parameters it has; and the line and the column of that instruction, or of
+ * the call that it has made, or 0, as for b_place and b_column. */
+struct b_frame {
+    uint32_t function;
+    size_t place;
+    uint32_t start;
+    uint16_t parameters;
+    uint64_t line;
+    uint64_t column;
+};
+
 /* The traps by their numbers, from 1, as the lines of `b` name them. */
 static const char b_traps[8][3] = {"", "dz", "fn", "gt", "st", "dp", "bs", "sk"};
 
@@ -83,6 +121,11 @@ uint8_t b_begin(struct b_session *session);
  * A run that is over tells its end again. */
 uint8_t b_continue(struct b_session *session, uint64_t steps, uint8_t *value);
 
+/* Makes at least one step and so many at most, up to the first one after it before which it stops, and tells why it
+ * ends: B_STOPPED there, and else as b_continue. It looks at what the run holds after each step. With B_NO_MEMORY
+ * memory was refused for the stops, and nothing was done, or the run is lost, of which b_place then tells. */
+uint8_t b_continue_to(struct b_session *session, const struct b_stops *stops, uint64_t steps, uint8_t *value);
+
 /* Sets how much a run may hold: so many operands, so many pages of 256 words of its memory that have another word than
  * 0, and so many bytes of output. A slice is made in parts of at most 65536 steps, and ends after one where more is
  * there. It makes no step where more is there already, and goes on once the output was taken or the limits are raised.
@@ -105,6 +148,11 @@ uint8_t b_place(struct b_session *session, struct b_place *place);
  * lines tells columns. B_NO_MEMORY as for b_place. */
 uint8_t b_column(struct b_session *session, uint64_t *column);
 
+/* Tells of an active call: the running one has number 0, the one that called it 1. After the end of a run the running
+ * one is the call that ran before the last step. B_REFUSED where there are not so many calls; B_NO_MEMORY as for
+ * b_place. */
+uint8_t b_frame(struct b_session *session, size_t number, struct b_frame *frame);
+
 /* Tells the word at an address, or stores one; B_NO_MEMORY where the run is lost, or memory is refused. */
 uint8_t b_word(struct b_session *session, uint16_t address, uint16_t *word);
 uint8_t b_set_word(struct b_session *session, uint16_t address, uint16_t word);
@@ -112,6 +160,14 @@ uint8_t b_set_word(struct b_session *session, uint16_t address, uint16_t word);
 /* Gives a run up, and lets go of a program. */
 uint8_t b_end(struct b_session *session);
 void b_unload(struct b_session *session);
+
+/* Nothing at which a slice stops, to which stops are added. */
+static inline struct b_stops b_no_stops(void) {
+    static const struct b_code_place no_place = {0, 0};
+    static const struct b_watched no_word = {0, 0};
+    struct b_stops stops = {&no_place, 0, &no_place, 0, 0, 0, &no_word, 0};
+    return stops;
+}
 
 /* Begins a run anew, with this much of its input. */
 static inline uint8_t b_start(struct b_session *session, const uint8_t *input, size_t size) {

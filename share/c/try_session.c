@@ -234,6 +234,70 @@ static void try_limits(void) {
     }
 }
 
+/* A breakpoint in a function that calls itself, its calls, its return, a watched word, and places near enough. */
+static void try_stops(void) {
+    struct b_session session = B_NO_SESSION;
+    struct b_stops stops = b_no_stops();
+    struct b_code_place at;
+    struct b_watched watched = {7, 0};
+    struct b_place place;
+    struct b_frame frame;
+    uint8_t value;
+    uint16_t word;
+    static const char *source = "n; f(k) {\n  extrn n;\n  if(k)\n    f(k - 1);\n  n++; }\nmain() f(3);";
+    expect("a program", load(source, &session), B_DONE);
+    expect("a run", b_start(&session, (const uint8_t *)"", 0), B_DONE);
+    do {
+        expect("a step", b_continue(&session, 1, &value), B_LIMIT);
+        expect("a place", b_place(&session, &place), B_DONE);
+    } while (place.callers == 0);
+    at.function = place.function;
+    at.place = place.place;
+    stops.places = &at;
+    stops.place_count = 1;
+    for (size_t calls = 2; calls <= 4; calls++) {
+        expect("a breakpoint", b_continue_to(&session, &stops, 1000, &value), B_STOPPED);
+        expect("its place", b_place(&session, &place), B_DONE);
+        expect("where it is", place.place == at.place && place.function == at.function, 1);
+        expect("calls below", place.callers, calls);
+        expect("its frame", b_frame(&session, 0, &frame), B_DONE);
+        expect("parameters", frame.parameters, 1);
+        expect("a word", b_word(&session, frame.start, &word), B_DONE);
+        expect("its value", word, 4 - calls);
+        expect("the caller", b_frame(&session, 1, &frame), B_DONE);
+        expect("the line of the call", frame.line, 4);
+        expect("the first call", b_frame(&session, calls, &frame), B_DONE);
+        expect("its line", frame.line, 6);
+        expect("no more calls", b_frame(&session, calls + 1, &frame), B_REFUSED);
+        expect("nothing of it", frame.start, 0);
+    }
+    stops = b_no_stops();
+    expect("no step", b_continue_to(&session, &stops, 0, &value), B_LIMIT);
+    stops.returned = 4;
+    expect("a return", b_continue_to(&session, &stops, 1000, &value), B_STOPPED);
+    expect("its place", b_place(&session, &place), B_DONE);
+    expect("calls below", place.callers, 3);
+    stops = b_no_stops();
+    stops.words = &watched;
+    stops.word_count = 1;
+    b_word(&session, 7, &watched.word);
+    expect("a watchpoint", b_continue_to(&session, &stops, 1000, &value), B_STOPPED);
+    expect("its word", b_word(&session, 7, &word), B_DONE);
+    expect("another one", word, watched.word + 1);
+    stops = b_no_stops();
+    expect("a place near", b_frame(&session, 2, &frame), B_DONE);
+    at.place = frame.place;
+    stops.near = &at;
+    stops.near_count = 1;
+    stops.callers = 1;
+    expect("near enough", b_continue_to(&session, &stops, 1000, &value), B_STOPPED);
+    expect("its place", b_place(&session, &place), B_DONE);
+    expect("calls below", place.callers, 1);
+    expect("the end", b_continue_to(&session, &stops, 1000, &value), B_DONE);
+    expect("its status", value, 0);
+    b_free(&session);
+}
+
 /* Programs that can't be loaded, and a trap. */
 static void try_others(void) {
     struct b_session session = B_NO_SESSION;
@@ -420,6 +484,7 @@ int main(int argc, char **argv) {
     try_lines();
     try_authors();
     try_limits();
+    try_stops();
     try_others();
     try_talks();
     try_refused();

@@ -12,13 +12,13 @@ import ctypes
 import json
 import operator
 import os
-from typing import Any, Callable, Dict, Generator, Iterator, List, Mapping, NamedTuple, Optional, Union
+from typing import Any, Callable, Dict, Generator, Iterable, Iterator, List, Mapping, NamedTuple, Optional, Tuple, Union
 
 Text = Union[bytes, bytearray, memoryview, str]
 Libs = Mapping[Text, Text]
 STEPS = 100_000_000
 FAULT, TRAP, LIMIT, REFUSED, FAILED, NO_MEMORY, WRONG_EDITION = 1, 130, 131, 132, 133, 134, 135
-HAS_OUTPUT, TOO_LARGE = 136, 137
+HAS_OUTPUT, TOO_LARGE, STOPPED = 136, 137, 138
 _LINE = 1024
 _ROOM = 1 << 16
 _SHOWN = 2000
@@ -282,6 +282,26 @@ class _Place(ctypes.Structure):
                 ("steps", ctypes.c_uint64), ("line", ctypes.c_uint64)]
 
 
+class _CodePlace(ctypes.Structure):
+    _fields_ = [("function", ctypes.c_uint32), ("place", ctypes.c_size_t)]
+
+
+class _Watched(ctypes.Structure):
+    _fields_ = [("address", ctypes.c_uint16), ("word", ctypes.c_uint16)]
+
+
+class _Stops(ctypes.Structure):
+    _fields_ = [("places", ctypes.POINTER(_CodePlace)), ("place_count", ctypes.c_size_t),
+                ("near", ctypes.POINTER(_CodePlace)), ("near_count", ctypes.c_size_t),
+                ("callers", ctypes.c_size_t), ("returned", ctypes.c_size_t),
+                ("words", ctypes.POINTER(_Watched)), ("word_count", ctypes.c_size_t)]
+
+
+class _Frame(ctypes.Structure):
+    _fields_ = [("function", ctypes.c_uint32), ("place", ctypes.c_size_t), ("start", ctypes.c_uint32),
+                ("parameters", ctypes.c_uint16), ("line", ctypes.c_uint64), ("column", ctypes.c_uint64)]
+
+
 class Place(NamedTuple):
     """Where a run stands: its function, by the address of its first string word, the place of its next instruction, how
     many calls are below, and how many steps were made; the line of that instruction, or 0, and the function's name; and
@@ -296,9 +316,24 @@ class Place(NamedTuple):
     column: int = 0
 
 
+class Frame(NamedTuple):
+    """An active call: its function, the place of its next instruction, the address of its frame, where its parameters
+    and then its automatic words lie, how many parameters it has; the line and the column of that instruction, or of the
+    call that it has made, or 0; and the function's name."""
+
+    function: int
+    place: int
+    start: int
+    parameters: int
+    line: int = 0
+    column: int = 0
+    name: str = ""
+
+
 class End(NamedTuple):
-    """Why a slice has ended: `halted` with a status, `trapped` with two letters, `limit`, or `wants input`; or `has
-    output` or `too large`, where more is there than the limits allow, which are of `operands` or of `pages`."""
+    """Why a slice has ended: `halted` with a status, `trapped` with two letters, `limit`, or `wants input`; `stopped`
+    before a step at which it was to stop; or `has output` or `too large`, where more is there than the limits allow,
+    which are of `operands` or of `pages`."""
 
     why: str
     status: int = 0
@@ -309,7 +344,7 @@ class End(NamedTuple):
 _TRAPS = ("", "dz", "fn", "gt", "st", "dp", "bs", "sk")
 _UNBEGUN = b"trap st\n"  # where the memory has no room for the frame of `main`
 _OF = ("", "operands", "pages")
-_WHY = {LIMIT: "limit", FAILED: "wants input", HAS_OUTPUT: "has output"}
+_WHY = {LIMIT: "limit", FAILED: "wants input", HAS_OUTPUT: "has output", STOPPED: "stopped"}
 _SLICE = 1_000_000
 _ALL = ctypes.c_size_t(-1).value
 _PAGES = 256
@@ -327,6 +362,8 @@ def _sessions(library):
         "begin": [held],
         "limit": [held, ctypes.c_size_t, ctypes.c_uint16, ctypes.c_size_t],
         "continue": [held, ctypes.c_uint64, ctypes.POINTER(ctypes.c_uint8)],
+        "continue_to": [held, ctypes.POINTER(_Stops), ctypes.c_uint64, ctypes.POINTER(ctypes.c_uint8)],
+        "frame": [held, ctypes.c_size_t, ctypes.POINTER(_Frame)],
         "feed": [held] + text,
         "close_input": [held],
         "output": [held] + room + [ctypes.POINTER(ctypes.c_size_t)],
@@ -429,10 +466,41 @@ class Session:
             if end.why != "limit" or steps == 0:
                 return end
 
+    def go_to(
+        self,
+        places: Iterable[Tuple[int, int]] = (),
+        *,
+        near: Iterable[Tuple[int, int]] = (),
+        callers: int = 0,
+        returned: int = 0,
+        words: Iterable[Tuple[int, int]] = (),
+        steps: int = _SLICE,
+    ) -> End:
+        """Makes at least one step and so many at most, and stops before the first one after it that is at one of
+        `places`, each a function and a place as `Place` has them; or at one of `near`, where no more than `callers`
+        calls are below; or where fewer than `returned` calls are below; or where the word at an address of `words` is
+        another one than it says. Then the End is `stopped`; else it tells what `go_on` tells."""
+        steps = _steps(steps)
+        stops = _stops(places, near, callers, returned, words)
+        while True:
+            now = min(steps, _SLICE)
+            end = self._walk(stops, now)
+            steps -= now
+            if end.why != "limit" or steps == 0:
+                return end
+
+    def _walk(self, stops, steps):
+        self._look_for_run()
+        value = ctypes.c_uint8()
+        return self._end_of(_library.b_continue_to(self._held, stops, steps, value), value)
+
     def _slice(self, steps):
         self._look_for_run()
         value = ctypes.c_uint8()
-        status = _library.b_continue(self._held, steps, value)
+        return self._end_of(_library.b_continue(self._held, steps, value), value)
+
+    def _end_of(self, status, value):
+        """Why a slice has ended, by what a call answers."""
         if status == 0:
             return End("halted", value.value)
         if status == TRAP:
@@ -529,6 +597,19 @@ class Session:
         name = self.name_of(place.function)
         return Place(place.function, place.place, place.callers, place.steps, place.line, name, column.value)
 
+    def frames(self) -> List[Frame]:
+        """The active calls, the running one first: the backtrace. After the end of a run the first one is the call that
+        ran before the last step."""
+        self._look_for_run()
+        frame, frames = _Frame(), []
+        while True:
+            status = _library.b_frame(self._held, len(frames), frame)
+            if status == REFUSED:
+                return frames
+            _expect(status)
+            frames.append(Frame(frame.function, frame.place, frame.start, frame.parameters, frame.line, frame.column,
+                                self.name_of(frame.function)))
+
     def name_of(self, function: int) -> str:
         """The name of the function whose first string word has this address; nothing where none lies there."""
         self._look_for_program()
@@ -578,6 +659,19 @@ class Session:
         self._look_for_program()
         if not self._held.run:
             raise ValueError("this session has no run")
+
+
+def _stops(places, near, callers, returned, words):
+    """Before which steps a slice stops, as a call takes it."""
+    broken = [_CodePlace(*it) for it in places]
+    close = [_CodePlace(*it) for it in near]
+    watched = [_Watched(_number("address", at, 0, 65535), _number("word", word, 0, 65535)) for at, word in words]
+    return _Stops(
+        (_CodePlace * max(1, len(broken)))(*broken), len(broken),
+        (_CodePlace * max(1, len(close)))(*close), len(close),
+        _number("callers", callers, 0, _ALL), _number("returned", returned, 0, _ALL),
+        (_Watched * max(1, len(watched)))(*watched), len(watched),
+    )
 
 
 def _limits(operands, pages, output):

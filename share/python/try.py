@@ -152,6 +152,7 @@ def sessions():
     yield interrupted() < 0.05, True
     yield from lost()
     yield from loads()
+    yield from stops()
     yield from limits()
 
 
@@ -183,6 +184,29 @@ def loads():
         yield {("main", 5, 0), ("f", 2, 1)} <= seen, True
         yield (it.name_of(it.place().function), it.name_of(3)), ("main", "")
         yield refused(it.name_of, 2**32), ValueError
+
+
+def stops():
+    """What is found of breakpoints, calls, returns and watched words."""
+    it = b.Session("n; f(k) {\n  extrn n;\n  if(k)\n    f(k - 1);\n  n++; }\nmain() f(3);")
+    first = next(place for place in it if place.callers == 1)
+    at = (first.function, first.place)
+    for calls in (2, 3, 4):
+        yield it.go_to([at]).why, "stopped"
+        yield [frame.name for frame in it.frames()], ["f"] * calls + ["main"]
+        yield [frame.line for frame in it.frames()][1:], [4] * (calls - 1) + [6]
+        yield [it.word(frame.start) for frame in it.frames()[:-1]], list(range(4 - calls, 4))
+    yield (it.go_to(returned=4).why, it.place().callers), ("stopped", 3)
+    yield (it.go_to(words=[(7, it.word(7))]).why, it.word(7)), ("stopped", 2)
+    back = it.frames()[2]
+    yield (it.go_to(near=[(back.function, back.place)], callers=1).why, it.place().callers), ("stopped", 1)
+    yield it.go_to([at]), b.End("halted")
+    yield (it.go_to().why, it.frames()[0].name), ("halted", "main")
+    it = b.Session("main() { while(1) ; }")
+    yield (it.go_to(steps=3_000_001).why, it.place().steps), ("limit", 3_000_001)
+    yield (it.go_to(steps=0).why, it.place().steps), ("limit", 3_000_001)
+    for wrong in ({"words": [(65536, 0)]}, {"callers": -1}, {"returned": 2**64}):
+        yield refused(it.go_to, **wrong), ValueError
 
 
 def limits():

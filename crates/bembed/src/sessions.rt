@@ -1,20 +1,21 @@
 //! Sessions: programs that stay in memory, and their runs, in slices.
 ghost use Rattle.std.specs.Prelude.{◌≡◌, ◌≤◌, ⊤, ℕ, IsSome, List, None, [], drop, length, take};
 ghost use Rattle.bhost.specs.Deeds.{Acts};
-ghost use Rattle.bhost.specs.Statuses.{Answers, answer_callers, answer_column, answer_function, answer_line, answer_place, answer_steps, answer_value, answer_word, name_status};
+ghost use Rattle.bhost.specs.Statuses.{Answers, GoesTo, answer_callers, answer_column, answer_frame, answer_function, answer_line, answer_place, answer_steps, answer_value, answer_word, name_status};
 ghost use Rattle.bhost.specs.declared.desk.Answer.{Answer};
 ghost use Rattle.bhost.specs.declared.desk.Deed.TheVariants as deed;
+ghost use Rattle.bsession.specs.Stops.{stops_shown};
 ghost use Rattle.bembed.specs.Calls.{edition_of};
 ghost use Rattle.bembed.specs.Sessions.{LoadsCode, LoadsSource};
 
 use crate::calls::edition_of;
-use bhost::Host;
 use bhost::calls::{
-    Whereabouts, begin, close, column, end, feed, go_on, limit, load, look, name_of, read, store,
-    take, unload,
+    Whereabouts, begin, close, column, end, feed, frame, go_on, go_to, limit, load, look, name_of,
+    read, store, take, unload,
 };
+use bhost::{Frame, Host};
 use blang::status;
-use bsession::Limits;
+use bsession::{Limits, Stops};
 use btools::{CodeText, Origin};
 use std::alloc::Global;
 
@@ -69,6 +70,35 @@ pub extern "C" fn b_continue(alloc: Global, session: &mut Host, steps: u64, valu
         (λ _ told. value.new ≡ answer_value told) }
 {
     go_on(alloc, session, steps, value)
+}
+
+/// Makes so many steps at most, up to the first one before which it stops.
+#[unsafe(no_mangle)]
+pub extern "C" fn b_continue_to(
+    alloc: Global,
+    session: &mut Host,
+    stops: &Stops<'_>,
+    steps: u64,
+    value: &mut u8,
+) -> u8
+    requires program { IsSome session.old.read }
+    requires run { IsSome session.old.run }
+    ensures program { session.new.read ≡ session.old.read }
+    ensures goes { GoesTo (stops_shown stops.now) steps session.old session.new result value.new }
+{
+    go_to(alloc, session, *stops, steps, value)
+}
+
+/// Tells of an active call: the running one has number 0, and the one that called it 1.
+#[unsafe(no_mangle)]
+pub extern "C" fn b_frame(alloc: Global, session: &mut Host, number: usize, told: &mut Frame) -> u8
+    requires program { IsSome session.old.read }
+    requires run { IsSome session.old.run }
+    ensures program { session.new.read ≡ session.old.read }
+    ensures tells { Answers (deed.Frame number) [] session.old.read session.old.run session.new.run result
+        (λ _ answered. told.new ≡ answer_frame answered) }
+{
+    frame(alloc, session, number, told)
 }
 
 /// Sets how many operands, pages and bytes of output the run may hold.

@@ -1,9 +1,12 @@
 -- Promise: what is done with a session that is held with its program.
-use Rattle.std.specs.Prelude.{◌≡◌, ◌≢◌, ◌⊎◌, ⊤, ℕ, List, [], ◌++◌, drop, take, false, true, IsSome, Option, Some, None}
+use Rattle.std.specs.Prelude.{◌≡◌, ◌≢◌, ◌⊎◌, ⊤, ℕ, ◌-◌, zero, suc, List, [], ◌++◌, drop, take, false, true, IsSome, Option}
+use Rattle.std.specs.Prelude.{Some, None}
 use Rattle.bmach.specs.Stepping.{BeginsNot, ShowsFirst}
 use Rattle.bsession.specs.Sessions.{AsksForRoom, BeginsSession, GoesOnWithin, IsThere, KeepsLimits, SessionContinues, SessionView}
-use Rattle.bsession.specs.Sessions.{call_in, callers_in, stored_in, word_in}
+use Rattle.bsession.specs.Sessions.{SessionState, call_in, caller_in, callers_in, stored_in, word_in}
+use Rattle.bsession.specs.Stops.{StopSet, WalksTo}
 use Rattle.bsession.specs.declared.session.SliceEnd.{SliceEnd}
+use Rattle.bsession.specs.declared.session.StopEnd.{StopEnd}
 use Rattle.bmach.specs.declared.machine.Active.{Active}
 use Rattle.blang.specs.Machine.{Image}
 use Rattle.blang.specs.declared.run.Outcome.{Outcome}
@@ -16,6 +19,8 @@ use Rattle.bhost.specs.declared.desk.Answer.{Answer}
 use Rattle.bhost.specs.declared.desk.Answer.TheVariants as answer
 use Rattle.bhost.specs.declared.desk.Deed.{Deed}
 use Rattle.bhost.specs.declared.desk.Deed.TheVariants as deed
+use Rattle.bhost.specs.declared.desk.Frame.{Frame}
+use Rattle.bhost.specs.declared.desk.StopList.{StopList}
 
 -- A run begins where none was begun. A name is told in any case, and all else is done with a run.
 abbrev pub Allows : Deed → Option SessionView → Type 0
@@ -77,6 +82,43 @@ stands_at loaded h =
     stands_with (kept_at loaded loaded.program.names.lines.items) (kept_at loaded loaded.program.columns.items)
     (call_in h.state) (callers_in h.state) h.steps
 
+-- a call, with the line and the column of one of its instructions
+abbrev pub frame_of : LoadedValue → Active → (shown : ℕ) → Frame
+frame_of loaded call shown =
+    let of_place : List ℕ → ℕ = λ kept. kept_at loaded kept (record call { place = shown }) in
+    record {
+      strings = call.strings;
+      place = call.place;
+      start = call.start;
+      parameters = call.parameters;
+      line = of_place loaded.program.names.lines.items;
+      column = of_place loaded.program.columns.items;
+    }
+
+-- One below the running call is told with the line of the call that it has made, the instruction before its next one.
+abbrev pub caller_told : LoadedValue → Option Active → Answer
+caller_told loaded (Some call) = answer.Calls (frame_of loaded call (call.place - 1))
+caller_told loaded None = answer.Missing
+
+-- the call of a number: the running one has 0, and a lost session has none
+abbrev pub frame_in : LoadedValue → (running : Option Active) → (below : ℕ → Option Active) → (number : ℕ) → Answer
+frame_in loaded (Some call) below zero = answer.Calls (frame_of loaded call call.place)
+frame_in loaded (Some call) below (suc number) = caller_told loaded (below number)
+frame_in loaded None below number = answer.Refused
+
+abbrev pub frame_at : LoadedValue → SessionState → (number : ℕ) → Answer
+frame_at loaded state number = frame_in loaded (call_in state) (caller_in state) number
+
+-- before which steps a slice stops
+abbrev pub stop_set : StopList → StopSet
+stop_set list = record {
+  places = list.places.items;
+  near = list.near.items;
+  callers = list.callers;
+  returned = list.returned;
+  words = list.words.items;
+}
+
 -- the function whose string words begin there
 abbrev pub placed_at : LoadedValue → (strings : ℕ) → Option Placed
 placed_at loaded strings = function_with (functions_of loaded.program.definitions.items) strings
@@ -97,10 +139,13 @@ abbrev pub DoesTo : Deed → LoadedValue → (old new : SessionView) → (bytes 
 DoesTo (deed.Continue steps) loaded old new bytes told =
     (why : SliceEnd) × (told ≡ answer.Ended why) × SessionContinues old.state old new steps why × KeepsLimits new why
     × GoesOnWithin old.state old new
+DoesTo (deed.ContinueTo list steps) loaded old new bytes told =
+    (why : StopEnd) × (told ≡ answer.Walked why) × WalksTo (stop_set list) old new steps why
 DoesTo (deed.Limit limits) loaded old new bytes told = (new ≡ record old { limits = limits }) × (told ≡ answer.Done)
 DoesTo deed.Feed loaded old new bytes told = IsFed old new bytes told
 DoesTo deed.Close loaded old new bytes told = (new ≡ record old { is_closed = true }) × (told ≡ answer.Done)
 DoesTo deed.Look loaded old new bytes told = (new ≡ old) × (told ≡ stands_at loaded old)
+DoesTo (deed.Frame number) loaded old new bytes told = (new ≡ old) × (told ≡ frame_at loaded old.state number)
 DoesTo (deed.Read address) loaded old new bytes told = (new ≡ old) × (told ≡ word_told (word_in old.state address))
 DoesTo (deed.Store address word) loaded old new bytes told = IsStored old new address word told
 DoesTo other loaded old new bytes told = new ≡ old

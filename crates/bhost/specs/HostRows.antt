@@ -1,5 +1,6 @@
 -- Closed facts: what is no answer of a session that is held with its program, and the statuses of all answers.
-use Rattle.std.specs.Prelude.{◌≡◌, ℕ, ◌+◌, [], ◌∷◌, map, false, true, None, Option, Some, refl, slice_index}
+use Rattle.std.specs.Prelude.{◌≡◌, ℕ, ◌+◌, [], ◌∷◌, map, false, true, None, Option, Some, refl, slice_get}
+use Rattle.std.specs.Prelude.{slice_index}
 use Rattle.std.proofs.Common.{◌∙◌, ap, arith, inl, inr, sym}
 use Rattle.blang.specs.Machine.{Image}
 use Rattle.blang.specs.declared.run.LoadFault.TheVariants as load
@@ -16,15 +17,18 @@ use Rattle.btools.specs.Functions.{Placed}
 use Rattle.bsession.specs.declared.session.Held.TheVariants as held
 use Rattle.bsession.specs.declared.session.Limits.{Limits}
 use Rattle.bsession.specs.declared.session.SliceEnd.TheVariants as end
+use Rattle.bsession.specs.declared.session.StopEnd.TheVariants as stop_end
 use Rattle.btools.specs.declared.program.ProgramFault.TheVariants as fault
-use Rattle.bhost.specs.Deeds.{Acts, Begins, Does, IsFed, IsStored, NamesFunction, IsTaken, stands_with, word_told}
+use Rattle.bhost.specs.Deeds.{Acts, Begins, Does, IsFed, IsStored, NamesFunction, IsTaken, frame_in, frame_of, stands_with}
+use Rattle.bhost.specs.Deeds.{word_told}
 use Rattle.bhost.specs.Hosts.{LoadedValue}
-use Rattle.bhost.specs.Statuses.{answer_callers, answer_column, answer_function, answer_line, answer_place}
+use Rattle.bhost.specs.Statuses.{answer_callers, answer_frame, answer_column, answer_function, answer_line, answer_place}
 use Rattle.bhost.specs.Statuses.{answer_status, answer_steps, answer_value, answer_word, fault_status, name_status}
 use Rattle.bhost.specs.Statuses.{trap_number}
 use Rattle.bhost.specs.declared.desk.Answer.{Answer}
 use Rattle.bhost.specs.declared.desk.Answer.TheVariants as answer
 use Rattle.bhost.specs.declared.desk.Deed.TheVariants as deed
+use Rattle.bhost.specs.declared.desk.Frame.{Frame}
 
 abbrev none : Limits
 none = record { operands = 0; pages = 0; output = 0 }
@@ -132,6 +136,33 @@ places : map (λ it. stands_with (λ c. c.strings + c.place) (λ c. c.strings + 
     ≡ (told ∷ answer.Refused ∷ [])
 places = refl
 
+-- the calls of a run: the running one, the first and the second below it, one that isn't there, and none of a lost one
+abbrev caller : ℕ → Active
+caller place = record { strings = 5; parameters = 2; place = place; start = 70 }
+
+abbrev below : ℕ → Option Active
+below number = slice_get (caller 3 ∷ caller 0 ∷ []) number
+
+frames : (loaded : LoadedValue) → map (frame_in loaded (Some call) below) (0 ∷ 1 ∷ 2 ∷ 3 ∷ [])
+    ≡ (answer.Calls (frame_of loaded call 6) ∷ answer.Calls (frame_of loaded (caller 3) 2)
+    ∷ answer.Calls (frame_of loaded (caller 0) 0) ∷ answer.Missing ∷ [])
+frames loaded = refl
+
+no_frames : (loaded : LoadedValue) → map (frame_in loaded None below) (0 ∷ 1 ∷ []) ≡ (answer.Refused ∷ answer.Refused ∷ [])
+no_frames loaded = refl
+
+frame_parts : (loaded : LoadedValue) → (frame_of loaded call 9).place ≡ 6
+frame_parts loaded = refl
+
+frame_told : Frame
+frame_told = record { strings = 5; place = 6; start = 90; parameters = 1; line = 11; column = 95 }
+
+told_frame : answer_frame (answer.Calls frame_told) ≡ frame_told
+told_frame = refl
+
+no_frame : answer_frame told ≡ record { strings = 0; place = 0; start = 0; parameters = 0; line = 0; column = 0 }
+no_frame = refl
+
 parts : map (λ (f : Answer → ℕ). f told) (answer_function ∷ answer_place ∷ answer_callers ∷ answer_steps ∷ answer_line
     ∷ answer_column ∷ answer_word ∷ answer_value ∷ answer_status ∷ [])
     ≡ (5 ∷ 6 ∷ 7 ∷ 8 ∷ 11 ∷ 95 ∷ 0 ∷ 0 ∷ 0 ∷ [])
@@ -160,6 +191,17 @@ values : map answer_value (answer.Ended (end.Halted 0) ∷ answer.Ended (end.Hal
     ∷ answer.Ended (end.Holds held.Pages) ∷ answer.Ended end.Memory ∷ [])
     ≡ (0 ∷ 9 ∷ 255 ∷ 7 ∷ 0 ∷ 0 ∷ 0 ∷ 1 ∷ 2 ∷ 0 ∷ [])
 values = refl
+
+-- a slice with stops
+walks : map answer_status (answer.Walked stop_end.Stopped ∷ answer.Walked (stop_end.Ended (end.Halted 9))
+    ∷ answer.Walked (stop_end.Ended end.Limit) ∷ answer.Calls frame_told ∷ [])
+    ≡ (138 ∷ 0 ∷ 131 ∷ 0 ∷ [])
+walks = refl
+
+walk_values : map answer_value (answer.Walked stop_end.Stopped ∷ answer.Walked (stop_end.Ended (end.Halted 9))
+    ∷ answer.Walked (stop_end.Ended (end.Trapped trap.Stuck)) ∷ [])
+    ≡ (0 ∷ 9 ∷ 7 ∷ [])
+walk_values = refl
 
 traps : map trap_number (trap.ZeroDivisor ∷ trap.NotAFunction ∷ trap.NotALabel ∷ trap.NoRoom ∷ trap.TooDeep
     ∷ trap.BadBase ∷ trap.Stuck ∷ []) ≡ (1 ∷ 2 ∷ 3 ∷ 4 ∷ 5 ∷ 6 ∷ 7 ∷ [])

@@ -1,5 +1,5 @@
 -- Promise: what each call of a session tells.
-use Rattle.std.specs.Prelude.{◌≡◌, ℕ, nat_lt, if◌then◌else◌, length, List, Option, None, MatchOption}
+use Rattle.std.specs.Prelude.{◌≡◌, ◌≢◌, ◌⊎◌, ℕ, ◌++◌, [], nat_lt, if◌then◌else◌, length, List, Option, None, MatchOption}
 use Rattle.blang.specs.declared.run.Outcome.TheVariants as outcome
 use Rattle.blang.specs.declared.run.Trap.{Trap}
 use Rattle.blang.specs.declared.run.Trap.TheVariants as trap
@@ -10,17 +10,23 @@ use Rattle.bsession.specs.declared.session.Held.{Held}
 use Rattle.bsession.specs.declared.session.Held.TheVariants as held
 use Rattle.bsession.specs.declared.session.SliceEnd.{SliceEnd}
 use Rattle.bsession.specs.declared.session.SliceEnd.TheVariants as end
+use Rattle.bsession.specs.declared.session.StopEnd.{StopEnd}
+use Rattle.bsession.specs.declared.session.StopEnd.TheVariants as stop_end
 use Rattle.bword.specs.ByteEnds.{Outgoing}
 use Rattle.blang.specs.declared.token.Diagnostic.{Diagnostic}
 use Rattle.btools.specs.Origins.{ColumnsOf, HasNoProgramOf, IsProgramOf, LinesOf, NamesOf, NoProgramOf, Origin}
 use Rattle.btools.specs.declared.program.ProgramFault.{ProgramFault}
 use Rattle.btools.specs.declared.program.ProgramFault.TheVariants as fault
-use Rattle.bhost.specs.Deeds.{Acts}
+use Rattle.bhost.specs.Deeds.{Acts, stop_set}
+use Rattle.bsession.specs.Stops.{StopSet}
 use Rattle.bhost.specs.Hosts.{LoadedValue}
-use Rattle.bhost.specs.declared.calls.TheConstants.{HAS_OUTPUT, TOO_LARGE}
+use Rattle.bhost.specs.declared.calls.TheConstants.{HAS_OUTPUT, STOPPED, TOO_LARGE}
 use Rattle.bhost.specs.declared.desk.Answer.{Answer}
 use Rattle.bhost.specs.declared.desk.Answer.TheVariants as answer
 use Rattle.bhost.specs.declared.desk.Deed.{Deed}
+use Rattle.bhost.specs.declared.desk.Deed.TheVariants as deed
+use Rattle.bhost.specs.declared.desk.Frame.{Frame}
+use Rattle.bhost.specs.declared.desk.StopList.{StopList}
 use Rattle.bhost.specs.declared.host.Host.{Host}
 
 -- the status of a program that could not be read
@@ -91,6 +97,15 @@ end_value (end.Trapped kind) = trap_number kind
 end_value (end.Holds what) = held_number what
 end_value other = 0
 
+-- the same of a slice with stops
+abbrev pub walk_status : StopEnd → ℕ
+walk_status stop_end.Stopped = STOPPED
+walk_status (stop_end.Ended why) = end_status why
+
+abbrev pub walk_value : StopEnd → ℕ
+walk_value stop_end.Stopped = 0
+walk_value (stop_end.Ended why) = end_value why
+
 -- the status where a run hasn't begun
 abbrev pub begin_status : Outcome → ℕ
 begin_status outcome.Memory = MEMORY
@@ -99,11 +114,13 @@ begin_status other = TRAP
 abbrev pub answer_status : Answer → ℕ
 answer_status answer.Done = DONE
 answer_status (answer.Ended why) = end_status why
+answer_status (answer.Walked why) = walk_status why
 answer_status (answer.Unbegun why) = begin_status why
 answer_status answer.Closed = WRONG_COMMAND
 answer_status answer.Missing = REFUSED
 answer_status answer.Refused = MEMORY
 answer_status (answer.Stands there) = DONE
+answer_status (answer.Calls frame) = DONE
 answer_status (answer.Word word) = DONE
 
 -- the status where no bytes were fed for want of memory
@@ -113,6 +130,7 @@ unfed_status told = answer_status told
 
 abbrev pub answer_value : Answer → ℕ
 answer_value (answer.Ended why) = end_value why
+answer_value (answer.Walked why) = walk_value why
 answer_value other = 0
 
 abbrev pub answer_word : Answer → ℕ
@@ -143,6 +161,11 @@ abbrev pub answer_column : Answer → ℕ
 answer_column (answer.Stands there) = there.column
 answer_column other = 0
 
+-- the call that is told, if one is
+abbrev pub answer_frame : Answer → Frame
+answer_frame (answer.Calls frame) = frame
+answer_frame other = record { strings = 0; place = 0; start = 0; parameters = 0; line = 0; column = 0 }
+
 -- the status where a name is told in a room of this size
 abbrev pub name_status : (size : ℕ) → (name : List ℕ) → Answer → ℕ
 name_status size name told = if nat_lt size (length name) then DEVICE else answer_status told
@@ -153,3 +176,15 @@ abbrev pub Answers : Deed → (bytes : List ℕ) → Option LoadedValue → (old
 Answers deed bytes program old new status P =
     (after : List ℕ) × (told : Answer) × Acts deed bytes program old new after told × (status ≡ answer_status told)
     × P after told
+
+-- there is a place or a word among them
+abbrev pub HasSome : StopSet → Type 0
+HasSome stops = ((stops.places ≢ []) ⊎ (stops.near ≢ [])) ⊎ (stops.words ≢ [])
+
+-- A slice with such stops is made, and the status tells its end, with a value beside it; or nothing is done, since memory
+-- is refused for the stops.
+abbrev pub GoesTo : StopSet → (steps : ℕ) → (old new : Host) → (status value : ℕ) → Type 0
+GoesTo stops steps old new status value =
+    ((new ≡ old) × HasSome stops × (status ≡ MEMORY))
+    ⊎ ((list : StopList) × (stop_set list ≡ stops)
+    × Answers (deed.ContinueTo list steps) [] old.read old.run new.run status (λ _ told. value ≡ answer_value told))

@@ -1,12 +1,14 @@
 //! What is done with a session.
 ghost use Rattle.std.specs.Prelude.{◌≡◌, Some};
 ghost use Rattle.bhost.specs.Deeds.{Acts, Allows, Begins, Does, IsFed, NamesFunction, IsStored, IsTaken, placed_at, stands_at};
+ghost use Rattle.bhost.specs.Deeds.{frame_at, frame_of};
 
-use crate::desk::{Answer, Deed, Desk, Standing};
+use crate::desk::{Answer, Deed, Desk, Frame, Standing};
 use crate::found::{column_at, function_at, line_at};
 use crate::loaded::LoadedProgram;
 use crate::place::Place;
-use bsession::{FeedFault, Session};
+use bmach::Active;
+use bsession::{FeedFault, Session, Stops};
 use std::alloc::Global;
 
 /// Does with a session what is asked for on the desk.
@@ -19,7 +21,7 @@ pub(crate) fn act_on<'a>(
     ensures { Acts desk.deed desk.bytes.items (Some loaded.now) place.entry.value result.0.value result.1.bytes.items result.1.answer }
 {
     let mut desk = desk;
-    match desk.deed {
+    match &desk.deed {
         Deed::Begin => {
             place.forget();
             let (place, answer) = begin(desk.alloc, loaded);
@@ -32,15 +34,17 @@ pub(crate) fn act_on<'a>(
             (Place::none(desk.alloc), desk)
         }
         Deed::Name(strings) => {
-            desk.answer = tell_name(loaded, strings, &mut desk.bytes);
+            desk.answer = tell_name(loaded, *strings, &mut desk.bytes);
             (place, desk)
         }
         Deed::Continue(_)
+        | Deed::ContinueTo(_, _)
         | Deed::Limit(_)
         | Deed::Feed
         | Deed::Close
         | Deed::Take(_)
         | Deed::Look
+        | Deed::Frame(_)
         | Deed::Read(_)
         | Deed::Store(_, _) => {
             let mut session = place.into_box();
@@ -67,20 +71,31 @@ fn begin<'a>(alloc: Global, loaded: &'a LoadedProgram) -> (Place<Session<'a>, Gl
 fn act_within(session: &mut Session<'_>, loaded: &LoadedProgram, desk: &mut Desk)
     ensures { Does desk.old.deed loaded.now session.old session.new desk.old.bytes.items desk.new.bytes.items desk.new.answer }
 {
-    desk.answer = match desk.deed {
-        Deed::Continue(steps) => Answer::Ended(session.continue_for(steps)),
+    desk.answer = match &desk.deed {
+        Deed::Continue(steps) => Answer::Ended(session.continue_for(*steps)),
+        Deed::ContinueTo(list, steps) => {
+            let stops = Stops {
+                places: list.places.as_slice(),
+                near: list.near.as_slice(),
+                callers: list.callers,
+                returned: list.returned,
+                words: list.words.as_slice(),
+            };
+            Answer::Walked(session.continue_to(stops, *steps))
+        }
         Deed::Limit(limits) => {
-            session.set_limits(limits);
+            session.set_limits(*limits);
             Answer::Done
         }
         Deed::Feed => feed(session, desk.bytes.as_slice()),
-        Deed::Take(count) => take(session, desk.alloc, count, &mut desk.bytes),
+        Deed::Take(count) => take(session, desk.alloc, *count, &mut desk.bytes),
         Deed::Look => look(session, loaded),
-        Deed::Read(address) => match session.word(address) {
+        Deed::Frame(number) => frame(session, loaded, *number),
+        Deed::Read(address) => match session.word(*address) {
             Some(word) => Answer::Word(word),
             None => Answer::Refused,
         },
-        Deed::Store(address, word) => store(session, address, word),
+        Deed::Store(address, word) => store(session, *address, *word),
         Deed::Close => {
             session.close_input();
             Answer::Done
@@ -130,6 +145,37 @@ fn look(session: &Session<'_>, loaded: &LoadedProgram) -> Answer
         line: line_at(found, call.place),
         column: column_at(found, call.place),
     })
+}
+
+// Tells of an active call.
+fn frame(session: &Session<'_>, loaded: &LoadedProgram, number: usize) -> Answer
+    ensures { result ≡ frame_at loaded.now session.now.state number }
+{
+    let Some(running) = session.call() else {
+        return Answer::Refused;
+    };
+    if number == 0 {
+        return Answer::Calls(frame_of(loaded, running, running.place));
+    }
+    match session.caller(number - 1) {
+        Some(call) => Answer::Calls(frame_of(loaded, call, call.place.saturating_sub(1))),
+        None => Answer::Missing,
+    }
+}
+
+// A call, with the line and the column of one of its instructions.
+fn frame_of(loaded: &LoadedProgram, call: Active, shown: usize) -> Frame
+    ensures { result ≡ frame_of loaded.now call shown }
+{
+    let found = function_at(&loaded.program, call.strings);
+    Frame {
+        strings: call.strings,
+        place: call.place,
+        start: call.start,
+        parameters: call.parameters,
+        line: line_at(found, shown),
+        column: column_at(found, shown),
+    }
 }
 
 // Puts the name of a function on the desk.

@@ -1,30 +1,33 @@
 //! Calls for a session with its program, which tell a status.
-ghost use Rattle.std.specs.Prelude.{◌≡◌, ◌≢◌, ◌≤◌, ⊤, ℕ, IsSome, List, MatchResult, None, [], drop, length, take};
-ghost use Rattle.bhost.specs.Deeds.{Acts};
-ghost use Rattle.bhost.specs.Statuses.{Answers, HoldsProgramOf, Loads, LoadsTelling, answer_callers, answer_column, answer_function, answer_line, answer_place, answer_status, answer_steps, answer_value, answer_word, end_status, end_value, fault_status, held_number, name_status, trap_number, unfed_status};
+ghost use Rattle.std.specs.Prelude.{◌≡◌, ◌≢◌, ◌≤◌, ⊤, ℕ, IfOk, IsSome, OnErr, List, MatchResult, None, [], drop, length, take};
+ghost use Rattle.bhost.specs.Deeds.{Acts, stop_set};
+ghost use Rattle.bhost.specs.Statuses.{Answers, GoesTo, HasSome, HoldsProgramOf, Loads, LoadsTelling, answer_callers, answer_column, answer_frame, answer_function, answer_line, answer_place, answer_status, answer_steps, answer_value, answer_word, end_status, end_value, fault_status, held_number, name_status, trap_number, unfed_status};
 ghost use Rattle.bhost.specs.declared.desk.Answer.{Answer};
 ghost use Rattle.bhost.specs.declared.desk.Deed.TheVariants as deed;
 ghost use Rattle.blang.specs.Compiles.{line_of};
+ghost use Rattle.bsession.specs.Stops.{stops_shown};
 ghost use Rattle.bsources.specs.Files.{files_shown};
 ghost use Rattle.btools.specs.FaultPlaces.{fault_lines};
 ghost use Rattle.btools.specs.Origins.{Code, HasNoProgramOf, Source, code_text_shown, origin_shown};
 
-use crate::desk::{Answer, Deed};
+use crate::desk::{Answer, Deed, Frame, StopList};
 use crate::host::Host;
 use crate::loaded::LoadedProgram;
 use blang::status::{self, Status};
 use blang::{Outcome, Trap};
-use bsession::{Held, Limits, SliceEnd};
+use bsession::{Held, Limits, SliceEnd, StopEnd, Stops};
 use bsources::SourceFiles;
 use btools::{CodeText, Origin, ProgramFault, read_program, tell_fault, tell_placed};
 use bword::{ByteOut, Edition};
-use std::alloc::Global;
+use std::alloc::{AllocError, Global};
 use std::mem;
 
 /// A slice ends since the session has more output than it may.
 pub const HAS_OUTPUT: Status = 136;
 /// A slice ends since the session has more operands or pages than it may.
 pub const TOO_LARGE: Status = 137;
+/// A slice ends before a step at which it was to stop.
+pub const STOPPED: Status = 138;
 
 /// Where a run stands, as a call tells it.
 #[repr(C)]
@@ -168,9 +171,67 @@ pub fn go_on(alloc: Global, host: &mut Host, steps: u64, value: &mut u8) -> Stat
         (λ _ told. value.new ≡ answer_value told) }
 {
     let desk = host.ask(alloc, Deed::Continue(steps), Vec::new(alloc));
-    *value = match desk.answer {
-        Answer::Ended(end) => end_value(end),
-        _ => 0,
+    *value = value_of(desk.answer);
+    status_of(desk.answer)
+}
+
+/// Makes so many steps at most, up to the first one before which it stops. Where memory is refused for the stops, nothing
+/// is done.
+pub fn go_to(alloc: Global, host: &mut Host, stops: Stops<'_>, steps: u64, value: &mut u8) -> Status
+    requires program { IsSome host.old.read }
+    requires run { IsSome host.old.run }
+    ensures program { host.new.read ≡ host.old.read }
+    ensures goes { GoesTo (stops_shown stops.entry) steps host.old host.new result value.new }
+{
+    let Ok(list) = listed(alloc, stops) else {
+        *value = 0;
+        return status::MEMORY;
+    };
+    let desk = host.ask(alloc, Deed::ContinueTo(list, steps), Vec::new(alloc));
+    *value = value_of(desk.answer);
+    status_of(desk.answer)
+}
+
+// The stops, in memory of their own.
+fn listed(alloc: Global, stops: Stops<'_>) -> Result<StopList, AllocError>
+    ensures listed { IfOk result (λ list. stop_set list ≡ stops_shown stops.entry) }
+    ensures some { OnErr result (HasSome (stops_shown stops.entry)) }
+{
+    let mut places = Vec::new(alloc);
+    places.extend_from_slice(stops.places)?;
+    let mut near = Vec::new(alloc);
+    near.extend_from_slice(stops.near)?;
+    let mut words = Vec::new(alloc);
+    words.extend_from_slice(stops.words)?;
+    let (callers, returned) = (stops.callers, stops.returned);
+    Ok(StopList {
+        places,
+        near,
+        callers,
+        returned,
+        words,
+    })
+}
+
+/// Tells of an active call: the running one has number 0, and the one that called it 1.
+pub fn frame(alloc: Global, host: &mut Host, number: usize, told: &mut Frame) -> Status
+    requires program { IsSome host.old.read }
+    requires run { IsSome host.old.run }
+    ensures program { host.new.read ≡ host.old.read }
+    ensures tells { Answers (deed.Frame number) [] host.old.read host.old.run host.new.run result
+        (λ _ answered. told.new ≡ answer_frame answered) }
+{
+    let desk = host.ask(alloc, Deed::Frame(number), Vec::new(alloc));
+    *told = match desk.answer {
+        Answer::Calls(frame) => frame,
+        _ => Frame {
+            strings: 0,
+            place: 0,
+            start: 0,
+            parameters: 0,
+            line: 0,
+            column: 0,
+        },
     };
     status_of(desk.answer)
 }
@@ -387,13 +448,24 @@ fn status_of(answer: Answer) -> Status
     ensures { result ≡ answer_status answer }
 {
     match answer {
-        Answer::Done | Answer::Stands(_) | Answer::Word(_) => status::DONE,
-        Answer::Ended(end) => end_status(end),
+        Answer::Done | Answer::Stands(_) | Answer::Calls(_) | Answer::Word(_) => status::DONE,
+        Answer::Ended(end) | Answer::Walked(StopEnd::Ended(end)) => end_status(end),
+        Answer::Walked(StopEnd::Stopped) => STOPPED,
         Answer::Unbegun(Outcome::Memory) => status::MEMORY,
         Answer::Unbegun(_) => status::TRAP,
         Answer::Closed => status::WRONG_COMMAND,
         Answer::Missing => status::REFUSED,
         Answer::Refused => status::MEMORY,
+    }
+}
+
+// What is told beside the status of an answer.
+fn value_of(answer: Answer) -> u8
+    ensures { result ≡ answer_value answer }
+{
+    match answer {
+        Answer::Ended(end) | Answer::Walked(StopEnd::Ended(end)) => end_value(end),
+        _ => 0,
     }
 }
 

@@ -1,15 +1,27 @@
 //! What is asked of a session, and what it answers.
 use blang::Outcome;
-use bsession::{Limits, SliceEnd};
+use bsession::{CodePlace, Limits, SliceEnd, StopEnd, WatchedWord};
 use std::alloc::Global;
 
+/// Before which steps a slice stops: what a debugger's breakpoints and watchpoints come to.
+#[derive(Drop)]
+pub struct StopList {
+    pub places: Vec<CodePlace>,
+    pub near: Vec<CodePlace>,
+    pub callers: usize,
+    pub returned: usize,
+    pub words: Vec<WatchedWord>,
+}
+
 /// What is done with a session.
-#[derive(Clone, Copy)]
+#[derive(Drop)]
 pub enum Deed {
     /// A run begins, in place of the one before.
     Begin,
     /// So many steps are made at most.
     Continue(u64),
+    /// So many steps are made at most, up to the first one before which it stops.
+    ContinueTo(StopList, u64),
     /// It is set how much the run may hold.
     Limit(Limits),
     /// The bytes on the desk come after those that were fed.
@@ -20,6 +32,8 @@ pub enum Deed {
     Take(usize),
     /// It is told where the run stands.
     Look,
+    /// It is told of an active call. The running one has number 0, and the one that called it 1.
+    Frame(usize),
     /// The word at an address is told.
     Read(u16),
     /// A word is stored at an address.
@@ -47,22 +61,44 @@ pub struct Standing {
     pub column: u64,
 }
 
+/// An active call.
+#[repr(C)]
+#[derive(Clone, Copy)]
+pub struct Frame {
+    /// The address of the first string word of its function.
+    pub strings: u32,
+    /// The place of its next instruction.
+    pub place: usize,
+    /// The address of its frame: of its first parameter, or of its first automatic word.
+    pub start: u32,
+    /// How many parameters its function has.
+    pub parameters: u16,
+    /// The line of its next instruction, or of its call that is active, or 0 where none is known.
+    pub line: u64,
+    /// The column, from 1 on, or 0 where none is known.
+    pub column: u64,
+}
+
 /// What a session answers.
 #[derive(Clone, Copy)]
 pub enum Answer {
     Done,
     /// A slice has ended.
     Ended(SliceEnd),
+    /// A slice with stops has ended.
+    Walked(StopEnd),
     /// A run hasn't begun.
     Unbegun(Outcome),
     /// The input was closed.
     Closed,
-    /// No function lies there.
+    /// No function lies there, or there are not so many calls.
     Missing,
     /// Memory was refused, and nothing was done; or it was refused before, and the session is lost.
     Refused,
     /// The run stands there.
     Stands(Standing),
+    /// The call is this one.
+    Calls(Frame),
     /// This word is there.
     Word(u16),
 }

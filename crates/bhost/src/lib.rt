@@ -9,6 +9,6 @@ mod host;
 mod loaded;
 mod place;
 
-pub use desk::{Answer, Deed, Desk, Standing};
+pub use desk::{Answer, Deed, Desk, Frame, Standing, StopList};
 pub use host::Host;
 pub use loaded::LoadedProgram;

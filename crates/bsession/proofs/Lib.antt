@@ -1,6 +1,7 @@
 pub mod Sessions
 pub mod OneRun
 pub mod TwoSlices
+pub mod Walking
 pub mod HeldPages
 pub mod SlicesExcluded
 pub mod Parts

@@ -1,6 +1,6 @@
 -- Promise: a program that runs in slices, between which its input is fed and its output is taken.
 use Rattle.std.specs.Prelude.{◌≡◌, ◌≢◌, ◌⊎◌, ℕ, ◌+◌, ◌-◌, ◌*◌, ◌<◌, ◌≤◌, min, Bool, true, false, List, [], ◌∷◌, ◌++◌, drop, if◌then◌else◌, length, Option, Some, None}
-use Rattle.std.specs.Prelude.{◌==◌, ◌||◌, not, slice_index, suc, zero, ⊤}
+use Rattle.std.specs.Prelude.{◌==◌, ◌||◌, not, option_map, slice_get, slice_index, suc, zero, ⊤}
 use Rattle.std.proofs.Common.{arith}
 use Rattle.bword.specs.ByteEnds.{Incoming, most}
 use Rattle.bword.specs.Words.{flag_of}
@@ -310,6 +310,12 @@ abbrev pub callers_in : SessionState → ℕ
 callers_in (Goes p) = length p.below
 callers_in (Over stop p) = length p.below
 callers_in Lost = 0
+
+-- one of the calls below it, of which the nearest has number 0
+abbrev pub caller_in : SessionState → (number : ℕ) → Option Active
+caller_in (Goes p) number = option_map active_of (slice_get p.below number)
+caller_in (Over stop p) number = option_map active_of (slice_get p.below number)
+caller_in Lost number = None
 
 abbrev pub word_in : SessionState → (address : ℕ) → Option ℕ
 word_in (Goes p) address = Some (slice_index p.store address)

@@ -5,7 +5,9 @@ mod feed;
 mod law;
 mod pages;
 mod session;
+mod stops;
 mod unstarted;
 
 pub use law::{slices_are_one_run, two_slices_are_one};
-pub use session::{FeedFault, Held, Limits, Session, SliceEnd};
+pub use session::{FeedFault, Held, Limits, Session, SliceEnd, StopEnd};
+pub use stops::{CodePlace, Stops, WatchedWord};

@@ -1,11 +1,13 @@
 //! A program that runs in slices.
 ghost use Rattle.std.specs.Prelude.{◌≡◌, ◌<◌, ◌≤◌, ◌++◌, ◌-◌, ◌^◌, IfErr, MatchResult, OnErr, OnOk, drop, false, length, min, true};
 ghost use Rattle.bmach.specs.Stepping.{BeginsNot, Paused};
-ghost use Rattle.bsession.specs.Sessions.{BeginsSession, Goes, GoesOnWithin, IsGoing, IsThere, KeepsLimits, PassesAt, SessionContinues, SliceComesTo, IsUnfed, AsksForRoom, call_in, callers_in, can_go_on, counted, end_of, is_limit, state_after, state_of, stored_in, word_in};
+ghost use Rattle.bsession.specs.Stops.{WalksTo, made_all, stops_in, stops_shown};
+ghost use Rattle.bsession.specs.Sessions.{caller_in, BeginsSession, Goes, GoesOnWithin, IsGoing, IsThere, KeepsLimits, PassesAt, SessionContinues, SliceComesTo, IsUnfed, AsksForRoom, call_in, callers_in, can_go_on, counted, end_of, is_limit, state_after, state_of, stored_in, word_in};
 ghost use Rattle.bsession.specs.declared.session.SliceEnd.TheVariants as end;
 
 use crate::feed::Feed;
 use crate::pages::pages_held;
+use crate::stops::{Stops, stops_before};
 use crate::unstarted::without_store;
 use blang::{Outcome, Trap};
 use bmach::{Active, Image, MOST_STEPS, Stepper, Stop};
@@ -62,6 +64,15 @@ impl Limits {
             output: usize::MAX,
         }
     }
+}
+
+/// Why a slice with stops ends.
+#[derive(Clone, Copy)]
+pub enum StopEnd {
+    /// The next step is one before which it stops.
+    Stopped,
+    /// It ends for this, and came to no stop.
+    Ended(SliceEnd),
 }
 
 /// How many steps a session makes at most before it looks at what it holds.
@@ -149,6 +160,35 @@ impl<'a> Session<'a> {
             Stand::Goes(_) => self.go_on(steps),
             Stand::Over(stop, _) => end_of(stop.outcome),
             Stand::Lost => SliceEnd::Memory,
+        }
+    }
+
+    /// Makes so many steps, or fewer where `continue_for` makes fewer or the next step is one before which it stops. The
+    /// first step is made wherever the session stands, so that the next slice goes on from a stop.
+    pub fn continue_to(&mut self, stops: Stops<'_>, steps: u64) -> StopEnd
+        ensures { WalksTo (stops_shown stops.entry) self.old self.new steps result }
+    {
+        let mut left = steps;
+        while left > 0 {
+            let why = self.continue_for(1);
+            if !made_all(why) {
+                return StopEnd::Ended(why);
+            }
+            if self.stops_here(stops) {
+                return StopEnd::Stopped;
+            }
+            left -= 1;
+        }
+        StopEnd::Ended(SliceEnd::Limit)
+    }
+
+    // Whether a slice stops where the session stands.
+    fn stops_here(&self, stops: Stops<'_>) -> bool
+        ensures { result ≡ stops_in (stops_shown stops.entry) self.now.state }
+    {
+        match &self.stand {
+            Stand::Goes(stepper) => stops_before(stops, stepper),
+            Stand::Over(_, _) | Stand::Lost => false,
         }
     }
 
@@ -311,6 +351,16 @@ impl<'a> Session<'a> {
         }
     }
 
+    /// One of the calls below, of which the nearest has number 0; none where there is no such call.
+    pub fn caller(&self, number: usize) -> Option<Active>
+        ensures { result ≡ caller_in self.now.state number }
+    {
+        match &self.stand {
+            Stand::Goes(stepper) | Stand::Over(_, stepper) => stepper.caller(number),
+            Stand::Lost => None,
+        }
+    }
+
     /// The word at an address; none if the session is lost.
     pub fn word(&self, address: u16) -> Option<u16>
         ensures { result ≡ word_in self.now.state address }
@@ -380,6 +430,13 @@ fn end_part(stand: &mut Stand<'_>, stop: Stop)
         }
         Outcome::Memory => *stand = Stand::Lost,
     }
+}
+
+// Whether a slice has made all steps that were asked for.
+fn made_all(end: SliceEnd) -> bool
+    ensures { result ≡ made_all end }
+{
+    matches!(end, SliceEnd::Limit)
 }
 
 // Whether all steps were made.

@@ -1,6 +1,6 @@
 -- `act` has the deed done for the lifetime that the program is lent for.
 use Rattle.core.specs.Prelude.{IsSome}
-use Rattle.std.proofs.Common.{◌≡◌, List, [], ◌∷◌, ◌++◌, refl, sym, subst, ap, ◌∙◌}
+use Rattle.std.proofs.Common.{◌≡◌, ℕ, List, [], ◌∷◌, ◌++◌, refl, sym, subst, ap, ◌∙◌}
 use base.Fraction.{full_share}
 use mir.Val.{Val, vstruct, of_list, has_ty, vptr}
 use base.Logic.{SProp, ent, emp, id⊢}
@@ -12,7 +12,10 @@ use types.Kit.{fjoin3, fpick, fpack, feq_i, feq_l, ‵, raw, ◌⊛◌, some, la
 use types.Part.{whole, sub, agg}
 use types.Run.{stop, fld, addr, no_more, and_then, of_opd, first, blocks, exec, returns, enter}
 use types.ByLocal.{alloc_all, pass_all, free_all, look_at, get, get_in, through, sets, sets_last, lands_as, env}
-use denote.Exit.{yes}
+use contract.Lifetimes.{Lfts}
+use denote.Exit.{Last, left, yes}
+use denote.Param.Mute.{blank}
+use lib.Dec.{T}
 use denote.RattleType.{RattleType, Valss, owns}
 use denote.RawPtr.{Ptr, InBlock, block_ptr, block_of, count_of, at_block, ptr_val}
 use denote.Signature.{plain}
@@ -24,6 +27,7 @@ use denote.Triple.Clauses.{Lasts, lasts}
 use denote.Triple.Spec.{triple_of}
 use mathlib.Core.Bool.{true, ◌&&◌}
 use mir.Syntax.{ty_ptr}
+use Rattle.std.specs.Global.{Vec}
 use Rattle.core.proofs.alloc.Shapes.{after}
 use Rattle.core.proofs.atomic.Steps.{fm}
 use Rattle.core.proofs.alloc.Calls.{Al, α, Goes-blank}
@@ -37,6 +41,9 @@ use Rattle.core.specs.declared.option.Option.TheVariants.{Some}
 use Rattle.std.proofs.raw_atomic.Walks.{proved_at}
 use Rattle.std_heap.specs.contracts.Global as Heap
 use Rattle.bhost.specs.Deeds.{Acts, Allows}
+use Rattle.bhost.specs.declared.desk.Answer.{Answer}
+use Rattle.bhost.specs.declared.desk.Deed.{Deed}
+use Rattle.bhost.specs.declared.desk.Deed.TheVariants as deed
 use Rattle.bhost.specs.Hosts.{LoadedValue, for_life}
 use Rattle.bhost.specs.contracts.loaded.LoadedProgram as LoadedProgram
 use Rattle.bhost.specs.contracts.host.Host as host
@@ -57,6 +64,43 @@ stayed = (stay_dropped (plain (λ _. host.the_row)) yes, (stay_dropped (plain (�
 abbrev dk : Al
 dk = record { row = Desk.the_row; laws = desk_laws.the_row_laws; g = record { dealloc_token = λ x σ p. ftrue }; d = al.d; drops = al.drops }
 
+-- a desk that is used up leaves nothing, whatever deed is on it
+desk_blank : (κs : Lfts 0) (alloc : (Heap.the_row).Denot) (it : Deed) (bytes : Vec ℕ) (told : Answer)
+    → let x : (Desk.the_row).Denot = record { alloc = alloc; deed = it; bytes = bytes; answer = told } in
+    (w : Last (((plain {n = 0} (λ _. Desk.the_row)).row κs).exit yes) x)
+    → T (blank (left (((plain {n = 0} (λ _. Desk.the_row)).row κs).exit yes) x w))
+desk_blank κs alloc deed.Begin bytes told w = tt
+desk_blank κs alloc (deed.Continue steps) bytes told w = tt
+desk_blank κs alloc (deed.ContinueTo list steps) bytes told w = tt
+desk_blank κs alloc (deed.Limit limits) bytes told w = tt
+desk_blank κs alloc deed.Feed bytes told w = tt
+desk_blank κs alloc deed.Close bytes told w = tt
+desk_blank κs alloc (deed.Take count) bytes told w = tt
+desk_blank κs alloc deed.Look bytes told w = tt
+desk_blank κs alloc (deed.Frame number) bytes told w = tt
+desk_blank κs alloc (deed.Read address) bytes told w = tt
+desk_blank κs alloc (deed.Store address word) bytes told w = tt
+desk_blank κs alloc (deed.Name strings) bytes told w = tt
+desk_blank κs alloc deed.End bytes told w = tt
+
+-- what is known of it at its end: nothing, by each deed
+desk_last : (κs : Lfts 0) (alloc : (Heap.the_row).Denot) (it : Deed) (bytes : Vec ℕ) (told : Answer)
+    → Last (((plain {n = 0} (λ _. Desk.the_row)).row κs).exit yes) (record { alloc = alloc; deed = it; bytes = bytes; answer = told })
+desk_last κs alloc deed.Begin bytes told = (tt, (tt, (tt, tt)))
+desk_last κs alloc (deed.Continue steps) bytes told = (tt, (tt, (tt, tt)))
+desk_last κs alloc (deed.ContinueTo list steps) bytes told =
+    (tt, (((tt, (tt, (tt, (tt, (tt, tt))))), tt), (tt, tt)))
+desk_last κs alloc (deed.Limit limits) bytes told = (tt, (tt, (tt, tt)))
+desk_last κs alloc deed.Feed bytes told = (tt, (tt, (tt, tt)))
+desk_last κs alloc deed.Close bytes told = (tt, (tt, (tt, tt)))
+desk_last κs alloc (deed.Take count) bytes told = (tt, (tt, (tt, tt)))
+desk_last κs alloc deed.Look bytes told = (tt, (tt, (tt, tt)))
+desk_last κs alloc (deed.Frame number) bytes told = (tt, (tt, (tt, tt)))
+desk_last κs alloc (deed.Read address) bytes told = (tt, (tt, (tt, tt)))
+desk_last κs alloc (deed.Store address word) bytes told = (tt, (tt, (tt, tt)))
+desk_last κs alloc (deed.Name strings) bytes told = (tt, (tt, (tt, tt)))
+desk_last κs alloc deed.End bytes told = (tt, (tt, (tt, tt)))
+
 pub act_spec : {M : Type 1} → statement M
 act_spec 𝓤 𝓛 𝓜 𝓡 wired =
     let c = f.clauses 𝓛 𝓜.mem 𝓡.returns in let H = 𝓛.H in let 𝓣 = tables 𝓤 H 𝓜 𝓡 𝓡.env in let R : RattleType = LoadedProgram.the_row in
@@ -64,7 +108,7 @@ act_spec 𝓤 𝓛 𝓜 𝓡 wired =
       Goes-dropped 𝓛 0 (plain (λ _. host.the_row)) yes (λ κs x w. refl),
       (
         Goes-dropped 𝓛 0 (plain (λ _. Heap.the_row)) yes (λ κs x w. refl),
-        (Goes-blank 𝓛 0 (plain (λ _. Desk.the_row)) yes (λ κs x w. tt), tt),
+        (Goes-blank 𝓛 0 (plain (λ _. Desk.the_row)) yes (λ κs x w. desk_blank κs x.alloc x.deed x.bytes x.answer w), tt),
       ),
     )
     f.Key.name code.function (code.unfolded 𝓤 H 𝓜 𝓡 wired) (λ z are.
@@ -134,5 +178,5 @@ act_spec 𝓤 𝓛 𝓜 𝓡 wired =
     let out = word w dw in let Rows : List RattleType = host.the_row ∷ Desk.the_row ∷ [] in
     nothing ! $ move ! (1 ∷ 2 ∷ 0 ∷ []) $ fjoin3 ! $ feq_i ! (List Val) (out ∷ []) (out ∷ []) refl $ fjoin ! $
     fpack ! (Valss Rows) (λ uss. fsep (feq (List Val) (out ∷ []) (vstruct (of_list (uss.0 ++ (uss.1.0 ++ []))) ∷ [])) (owns Rows (made, (r.1, tt)) uss)) (w ∷ [], (dw ∷ [], tt)) $
-    suffices ! _ (ends_at 𝓛 f.ended stayed c z out (made, r.1) (tt, (tt, ((tt, (tt, (tt, tt))), tt))) (tt, (tt, (tt, tt)))) $ says_two ! (sym there.1, subst (λ (s : Option LoadedValue). Acts d.deed d.bytes.items s h.run r.0.value r.1.bytes.items r.1.answer) (sym there.1) same) $
+    suffices ! _ (ends_at 𝓛 f.ended stayed c z out (made, r.1) (tt, (tt, (desk_last _ d.alloc d.deed d.bytes d.answer, tt))) (tt, (tt, (tt, tt)))) $ says_two ! (sym there.1, subst (λ (s : Option LoadedValue). Acts d.deed d.bytes.items s h.run r.0.value r.1.bytes.items r.1.answer) (sym there.1) same) $
     nothing ! $ nothing ! $ fjoin ! $ nothing ! $ fjoin ! $ nothing ! $ fjoin ! $ join ! $ nothing ! $ join ! $ done !))))))))))))))))

@@ -1,0 +1,3 @@
+pub use token :: Keyword ;
+pub use token :: Letters ;
+mod token ;

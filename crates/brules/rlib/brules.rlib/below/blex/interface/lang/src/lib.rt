@@ -1,0 +1,2 @@
+pub use lexeme :: Lexeme ;
+mod lexeme ;

@@ -1,0 +1,4 @@
+pub use nodes :: NodeTag ;
+pub use tags :: Tag ;
+mod nodes ;
+mod tags ;

@@ -1,0 +1,4 @@
+pub use name :: Name ;
+pub use operators :: BinOp ;
+mod name ;
+mod operators ;

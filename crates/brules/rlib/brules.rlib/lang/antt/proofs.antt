@@ -1,0 +1,7 @@
+mod NoticeSteps
+mod Moves
+mod NoticesOfExpressions
+mod NoticesOfFunctions
+mod LoopSteps
+mod LoopMoves
+mod LoopsOfFunctions

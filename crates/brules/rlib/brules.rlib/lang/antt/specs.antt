@@ -1,0 +1,10 @@
+pub mod Rules
+pub mod Views
+pub mod Telling
+pub mod Notices
+pub mod Fold
+pub mod NoticeRows
+pub mod Loops
+pub mod Constructs
+pub mod LoopRows
+pub mod ValueRows
