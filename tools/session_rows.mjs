@@ -98,6 +98,25 @@ async function loads({sessions, expect}) {
   expect('a name', [calls.nameOf(calls.place().function), calls.nameOf(3)], ['main', '']);
 }
 
+/** Breakpoints, calls, returns and watched words. */
+async function breaks({sessions, expect}) {
+  const it = sessions.load('n; f(k) {\n  extrn n;\n  if(k)\n    f(k - 1);\n  n++; }\nmain() f(3);');
+  while (it.callers === 0) it.goOn(1);
+  const at = it.place();
+  for (const calls of [2, 3, 4]) {
+    expect('a breakpoint', [it.goTo({places: [at]}).why, it.callers], ['stopped', calls]);
+    expect('calls', it.frames().map(frame => frame.name), [...Array(calls).fill('f'), 'main']);
+    expect('lines of calls', it.frames().slice(1).map(frame => frame.line), [...Array(calls - 1).fill(4), 6]);
+    expect('a parameter', it.word(it.frames()[0].start), 4 - calls);
+  }
+  expect('a return', [it.goTo({returned: 4}).why, it.callers], ['stopped', 3]);
+  expect('a watchpoint', [it.goTo({words: [{address: 7, word: it.word(7)}]}).why, it.word(7)], ['stopped', 2]);
+  expect('a place near', [it.goTo({near: [it.frames()[2]], callers: 1}).why, it.callers], ['stopped', 1]);
+  expect('the end', it.goTo({places: [at]}).why, 'halted');
+  const far = {words: [{address: 65536, word: 0}]};
+  expect('no such address', (await thrown(() => it.goTo(far))) instanceof RangeError, true);
+}
+
 /** What a run may hold between two slices. */
 async function limits({sessions, expect}) {
   const writes = "main() { auto n; n = 60000; while(n--) putchar('ab'); }", whole = 'ab'.repeat(60000);
@@ -291,7 +310,7 @@ async function lost({module, expect, b}) {
   it.free();
 }
 
-const PARTS = [talks, places, loads, limits, cuts, refusals, stops, many, memories, lost];
+const PARTS = [talks, places, loads, breaks, limits, cuts, refusals, stops, many, memories, lost];
 
 /** Runs all rows over a module, and tells how many there were and what was wrong. `collect` lets go of what nothing
     refers to, where that can be asked for. */

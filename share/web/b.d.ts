@@ -137,7 +137,7 @@ export class Refused extends Error {
 /** Why a slice has ended. `status` is that of a program which has halted, `trap` has the two letters of a trap, and
     `of` tells what is too large. */
 export interface End {
-  why: 'halted' | 'trapped' | 'limit' | 'wants input' | 'has output' | 'too large';
+  why: 'halted' | 'trapped' | 'limit' | 'wants input' | 'stopped' | 'has output' | 'too large';
   status: number;
   trap: string;
   of: '' | 'operands' | 'pages';
@@ -154,6 +154,30 @@ export interface Place {
   column: number;
   callers: number;
   steps: number;
+}
+
+/** Before which steps a slice stops: at one of `places`, as at breakpoints; at one of `near`, where no more than
+    `callers` calls are below, as where a step over ends; where fewer than `returned` calls are below, as where a
+    function has returned; and where the word at an address is another one than `word`, as at a watchpoint. */
+export interface Stops {
+  places?: {function: number; place: number}[];
+  near?: {function: number; place: number}[];
+  callers?: number | bigint;
+  returned?: number | bigint;
+  words?: {address: number; word: number}[];
+}
+
+/** An active call: its function, by the address of its first string word, and by its name; the place of its next
+    instruction; the address of its frame, where its parameters and then its automatic words lie; how many parameters it
+    has; the line and the column of that instruction, or of the call that it has made, or 0. */
+export interface Frame {
+  function: number;
+  name: string;
+  place: number;
+  start: number;
+  parameters: number;
+  line: number;
+  column: number;
 }
 
 /** How much a run may hold between two slices. What isn't given has no limit. */
@@ -188,6 +212,11 @@ export interface Session {
   start(input?: Text): void;
   /** Makes so many steps at most, 1000000 if not given, and tells why it ends. */
   goOn(steps?: Steps): End;
+  /** Makes at least one step and so many at most, 1000000 if not given, up to the first one after it before which it
+      stops. */
+  goTo(stops?: Stops, steps?: Steps): End;
+  /** The active calls, the running one first: the backtrace. */
+  frames(): Frame[];
   /** Runs on, in slices of some milliseconds, between which a page is drawn and other code runs. */
   run(options?: TalkOptions): Promise<End>;
   /** The same, with what the program writes as an iterator. Its value at the end is the `End`. */

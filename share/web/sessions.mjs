@@ -6,7 +6,7 @@
 import {Kept, Refused, Stopped, bytesOf} from './b.mjs';
 
 const DONE = 0, TRAP = 130, REFUSED = 132, FULL = 133, MEMORY = 134, CLOSED = 135, LARGE = 137;
-const WHY = {131: 'limit', 133: 'wants input', 136: 'has output'};
+const WHY = {131: 'limit', 133: 'wants input', 136: 'has output', 138: 'stopped'};
 const TRAPS = ['', 'dz', 'fn', 'gt', 'st', 'dp', 'bs', 'sk'], OF = ['', 'operands', 'pages'];
 const UNBEGUN = 'trap st\n'; // where the memory has no room for the frame of `main`
 const ROOM = 65536, OWN = 64, LINE = 1024; // bytes for output, for a line, and for what else calls tell
@@ -32,6 +32,21 @@ function large(name, number) {
 /** The limits of a run, as a call takes them. */
 function limitsOf({operands = Infinity, pages = MOST_PAGES, output = Infinity}) {
   return [large('operands', operands), whole('pages', pages, MOST_PAGES), large('output', output)];
+}
+
+/** Places of the code, and watched words, as a call takes a row of them. */
+function rowOf(places) {
+  const row = new DataView(new ArrayBuffer(16 * places.length));
+  places.forEach((it, i) => {
+    row.setUint32(16 * i, whole('function', it.function, 2 ** 32 - 1), true);
+    row.setBigUint64(16 * i + 8, large('place', it.place), true);
+  });
+  return new Uint8Array(row.buffer);
+}
+
+function wordsOf(words) {
+  const row = words.flatMap(it => [whole('address', it.address, 65535), whole('word', it.word, 65535)]);
+  return new Uint8Array(Uint16Array.from(row).buffer);
 }
 
 const fewer = (one, other) => (one < other ? one : other);
@@ -237,7 +252,21 @@ class Session {
   }
 
   goOn(steps = SLICE) {
-    const status = this.#call('continue', large('steps', steps), BigInt(this.#sessions.own));
+    return this.#endOf(this.#call('continue', large('steps', steps), BigInt(this.#sessions.own)));
+  }
+
+  goTo({places = [], near = [], callers = 0, returned = 0, words = []} = {}, steps = SLICE) {
+    const most = [large('steps', steps), BigInt(this.#sessions.own)];
+    const below = [large('callers', callers), large('returned', returned)];
+    return this.#sessions.lend([rowOf(places), rowOf(near), wordsOf(words)], ([at, , close, , watched]) => {
+      const stops = [at, BigInt(places.length), close, BigInt(near.length), ...below, watched, BigInt(words.length)];
+      const row = new Uint8Array(BigUint64Array.from(stops).buffer);
+      return this.#endOf(this.#sessions.lend([row], ([told]) => this.#call('continue_to', told, ...most)));
+    });
+  }
+
+  /** Why a slice has ended, by what a call answers. */
+  #endOf(status) {
     const value = this.#sessions.told.getUint8(0);
     if (status === DONE) return {...END, why: 'halted', status: value};
     if (status === TRAP) return {...END, why: 'trapped', trap: TRAPS[value]};
@@ -340,6 +369,19 @@ class Session {
     const steps = Number(this.#made()), {told} = this.#sessions, at = place => Number(told.getBigUint64(place, true));
     const is = {function: told.getUint32(0, true), place: at(8), callers: at(16), steps, line: at(32)};
     return {...is, name: this.nameOf(is.function), column: this.#column()};
+  }
+
+  frames() {
+    const frames = [], own = BigInt(this.#sessions.own);
+    for (;;) {
+      const status = this.#call('frame', BigInt(frames.length), own);
+      if (status === REFUSED) return frames;
+      this.#sessions.expect(status);
+      const {told} = this.#sessions, at = place => Number(told.getBigUint64(place, true));
+      const is = {function: told.getUint32(0, true), place: at(8), start: told.getUint32(16, true)};
+      const rest = {parameters: told.getUint16(20, true), line: at(24), column: at(32)};
+      frames.push({...is, ...rest, name: this.nameOf(is.function)});
+    }
   }
 
   #column() {
