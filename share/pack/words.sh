@@ -95,9 +95,26 @@ b_clear() {
     done
 }
 
-# Gives the name of FILE to the new file, if FILE has its old bytes. A second name keeps the old file until then, so that
-# it comes back if an editor wrote into it meanwhile.
+# Exchanges FILE and the new file in one step, by `mv` where it knows how, else by the system call `renameat2`. Fails
+# where neither can.
+b_swap() {
+    mv --exchange -T -- "$b_new" "$b_file" 2>/dev/null || perl -e '
+        my ($new, $file, $machine) = @ARGV;
+        my $number = {x86_64 => 316, aarch64 => 276}->{$machine} or exit 1;
+        exit(syscall($number, -100, $new, -100, $file, 2) != 0)' "$b_new" "$b_file" "$(uname -m)" 2>/dev/null
+}
+
+# Gives the name of FILE to the new file, if FILE has its old bytes. Where the two can be exchanged, FILE comes back if
+# it was another one by then, as where an editor saves by a rename. Else a second name keeps the old file, so that it
+# comes back if an editor wrote into it meanwhile; a save by a rename between two calls is lost then.
 b_take() {
+    cmp -s "$b_file" "$b_new.old" || b_fail 'FILE has changed meanwhile, so nothing is written'
+    if b_swap; then
+        if cmp -s "$b_new" "$b_new.old"; then return; fi
+        if b_swap; then b_fail 'FILE has changed meanwhile, so nothing is written'; fi
+        trap - EXIT
+        b_fail "FILE has changed meanwhile, and what was written then is in $b_new"
+    fi
     ln "$b_file" "$b_new.was" 2>/dev/null || :
     cmp -s "$b_file" "$b_new.old" || b_fail 'FILE has changed meanwhile, so nothing is written'
     mv -f "$b_new" "$b_file" || b_fail 'FILE stays as it is'
