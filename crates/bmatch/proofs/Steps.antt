@@ -10,8 +10,9 @@ use Rattle.bmatch.specs.declared.fits.Span.{Span}
 use Rattle.bmatch.specs.declared.holds.Site.{Site}
 use Rattle.bmatch.specs.declared.pattern.Step.{Step}
 use Rattle.bmatch.specs.declared.pattern.Step.TheVariants as step
+use Rattle.bmatch.specs.Binds.{given_to}
 use Rattle.bmatch.specs.Fits.{fits_in, may_begin}
-use Rattle.bmatch.specs.Holds.{holds_in, if_none}
+use Rattle.bmatch.specs.Holds.{holds_in, if_none, if_some}
 
 -- those after the first
 abbrev pub others : {A : Type 0} → List A → List A
@@ -73,3 +74,8 @@ pub holds_not : (s : Site) (cs : List Claim) (c : Claim) (n : ℕ) (b : Binds) �
     → if_none (holds_in s 0 (others cs) b) (holds_in s 0 (drop n (others cs)) b) ≡ holds_in s 0 cs b
 holds_not s cs c n b h e =
     ap (if_none (holds_in s 0 (others cs) b)) (sym (holds_dropped s n (others cs) b)) ∙ ap (λ ds. holds_in s 0 ds b) (sym (begins_with cs c (claim.Not n) h e))
+
+pub holds_by_call : (s : Site) (cs : List Claim) (c : Claim) (n h i j k : ℕ) (b : Binds) → 1 ≤ length cs → get_or cs 0 c ≡ claim.Call n h i j k
+    → if_some (holds_in s 0 (drop n (others cs)) (given_to b h i j k)) (holds_in s 0 (others cs) b) ≡ holds_in s 0 cs b
+holds_by_call s cs c n h i j k b l e =
+    ap (λ ways. if_some ways (holds_in s 0 (others cs) b)) (sym (holds_dropped s n (others cs) (given_to b h i j k))) ∙ ap (λ ds. holds_in s 0 ds b) (sym (begins_with cs c (claim.Call n h i j k) l e))

@@ -17,7 +17,7 @@ use Rattle.bmatch.specs.declared.pattern.TheConstants.{ROOT}
 use Rattle.bmatch.specs.declared.tree.Kind.{Kind}
 use Rattle.bmatch.specs.declared.tree.Kind.TheVariants as kind
 use Rattle.bmatch.specs.Asking.{passes_test}
-use Rattle.bmatch.specs.Binds.{hole_of, with_hole}
+use Rattle.bmatch.specs.Binds.{given_to, hole_of, with_hole}
 use Rattle.bmatch.specs.Changes.{change_before}
 use Rattle.bmatch.specs.Fits.{fits_in, span_of}
 use Rattle.bmatch.specs.Trees.{branch_at}
@@ -116,6 +116,10 @@ abbrev pub if_none : List Binds → List Binds → List Binds
 if_none [] bs = bs
 if_none (c ∷ cs) bs = []
 
+abbrev pub if_some : List Binds → List Binds → List Binds
+if_some [] bs = []
+if_some (c ∷ cs) bs = bs
+
 abbrev pub sought_of : Scope → (hole pattern : ℕ) → Sought
 sought_of c hole p = record { scope = c; hole = hole; pattern = p }
 
@@ -134,6 +138,7 @@ holds_in s zero (claim.End ∷ cs) b = b ∷ []
 holds_in s zero (claim.Not n ∷ cs) b = if_none (holds_in s zero cs b) (holds_in s n cs b)
 holds_in s zero (claim.Either n ∷ cs) b = holds_in s zero cs b ++ holds_in s n cs b
 holds_in s zero (claim.Jump n ∷ cs) b = holds_in s n cs b
+holds_in s zero (claim.Call n h i j k ∷ cs) b = if_some (holds_in s n cs (given_to b h i j k)) (holds_in s zero cs b)
 holds_in s zero (claim.Test t ∷ cs) b = if passes_test s t b then holds_in s zero cs b else []
 holds_in s zero (claim.Is hole p ∷ cs) b = flat_map (holds_in s zero cs) (fits_claim s (claim.Is hole p) b)
 holds_in s zero (claim.Some c hole p ∷ cs) b = flat_map (holds_in s zero cs) (fits_claim s (claim.Some c hole p) b)

@@ -494,6 +494,17 @@ claims_hold : map (λ cs. map (λ index. length (held cs index)) (14 ∷ 15 ∷ 
     ∷ (1 ∷ 0 ∷ []) ∷ (2 ∷ 0 ∷ []) ∷ (1 ∷ 1 ∷ []) ∷ []
 claims_hold = refl
 
+-- What is called is asked of the holes that it is given: of x, of nothing, of x under another number. What it binds isn't
+-- seen here, and what comes after it has to hold, too.
+calls_hold : map (λ cs. held cs 14)
+    ((claim.Call 1 0 NO_HOLE NO_HOLE NO_HOLE ∷ claim.End ∷ is_x ∷ claim.End ∷ [])
+    ∷ (claim.Call 1 1 NO_HOLE NO_HOLE NO_HOLE ∷ claim.End ∷ is_x ∷ claim.End ∷ [])
+    ∷ (claim.Call 1 NO_HOLE NO_HOLE NO_HOLE 0 ∷ claim.End ∷ claim.Is 3 0 ∷ claim.Some scope.Function 1 3 ∷ claim.End ∷ [])
+    ∷ (claim.Call 1 0 NO_HOLE NO_HOLE NO_HOLE ∷ fails ∷ is_x ∷ claim.End ∷ []) ∷ [])
+    ≡ ((Some 14, None, None) ∷ []) ∷ [] ∷ ((Some 14, None, None) ∷ []) ∷ [] ∷ []
+unfolding ends_of
+calls_hold = refl
+
 -- the call is some branch of the function, and hole 1 stands for it; none changes x before itself
 sought_claims : map (λ c. held (c ∷ claim.End ∷ []) 14)
     (claim.Some scope.Function 1 3 ∷ claim.Some scope.Function NO_HOLE 3 ∷ claim.Some scope.Before 1 3 ∷ claim.Begun 0 0 ∷ [])

@@ -1,8 +1,8 @@
 //! What the holes of a rule stand for.
 ghost use Rattle.std.specs.Prelude.{◌≡◌};
-ghost use Rattle.bmatch.specs.Binds.{hole_of, nothing_bound, with_hole, with_told};
+ghost use Rattle.bmatch.specs.Binds.{given_to, hole_of, nothing_bound, with_hole, with_told};
 
-use crate::pattern::MOST_HOLES;
+use crate::pattern::{MOST_HOLES, ROOT};
 
 /// The branches for which holes stand, by the numbers of both, and the token that is told.
 #[derive(Clone, Copy)]
@@ -26,6 +26,33 @@ impl Binds {
         ensures { result ≡ hole_of self.now hole }
     {
         self.holes.get(hole as usize).copied().unwrap_or(None)
+    }
+
+    /// What the holes of a condition stand for that is given these four.
+    pub(crate) fn given(&self, first: u8, second: u8, third: u8, fourth: u8) -> Self
+        ensures { result ≡ given_to self.now first second third fourth }
+    {
+        Binds {
+            holes: [
+                self.of(first),
+                self.of(second),
+                self.of(third),
+                self.of(fourth),
+                None,
+                None,
+                None,
+                None,
+                None,
+                None,
+                None,
+                None,
+                None,
+                None,
+                None,
+                self.of(ROOT),
+            ],
+            told: self.told,
+        }
     }
 
     /// The same, where a hole stands for this branch.

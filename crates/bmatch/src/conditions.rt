@@ -14,6 +14,9 @@ pub enum Claim {
     Either(u16),
     /// So many claims are passed over.
     Jump(u16),
+    /// The claims that come after so many hold where their first holes stand for what these four do. What their other
+    /// holes stand for isn't seen here.
+    Call(u16, u8, u8, u8, u8),
     /// What a hole stands for fits a pattern.
     Is(u8, u16),
     /// Some branch in a scope fits a pattern. A hole stands for that branch; `NO_HOLE` is none.

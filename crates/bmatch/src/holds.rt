@@ -1,8 +1,8 @@
 //! Whether what else is asked holds.
 ghost use Rattle.std.specs.List.{find, flat_map, range_with_len};
 ghost use Rattle.std.specs.Prelude.{◌≡◌, ◌+◌, ◌-◌, ◌<◌, ◌^◌, ◌++◌, IfOk};
-ghost use Rattle.bmatch.specs.Holds.{begun_by, fits_at, fits_begun, fits_claim, fits_hole, hole_span, holds_in, if_none, is_loop_around};
-ghost use Rattle.bmatch.specs.Holds.{is_within, loop_around, root_of, scope_span, some_at};
+ghost use Rattle.bmatch.specs.Holds.{begun_by, fits_at, fits_begun, fits_claim, fits_hole, hole_span, holds_in, if_none, if_some};
+ghost use Rattle.bmatch.specs.Holds.{is_loop_around, is_within, loop_around, root_of, scope_span, some_at};
 
 use crate::asking::passes_test;
 use crate::binds::Binds;
@@ -60,6 +60,12 @@ pub(crate) fn holds(
             holds(alloc, site, claims_from(more, count), binds, found)
         }
         Claim::Jump(count) => holds(alloc, site, claims_from(more, count), binds, found),
+        Claim::Call(count, first, second, third, fourth) => {
+            let mut ways = Vec::new(alloc);
+            let given = binds.given(first, second, third, fourth);
+            holds(alloc, site, claims_from(more, count), given, &mut ways)?;
+            if_some_hold(alloc, site, ways.as_slice(), more, binds, found)
+        }
         Claim::Test(test) => {
             if passes_test(site, test, &binds) {
                 holds(alloc, site, more, binds, found)
@@ -89,6 +95,25 @@ fn if_none_hold(
     match ways {
         [] => holds(alloc, site, claims, binds, found),
         _ => Ok(()),
+    }
+}
+
+// The same where there is one of these ways.
+#[cycle(holds)]
+fn if_some_hold(
+    alloc: Global,
+    site: &Site<'_>,
+    ways: &[Binds],
+    claims: &[Claim],
+    binds: Binds,
+    found: &mut Vec<Binds>,
+) -> Result<(), AllocError>
+    ensures { IfOk result (λ done.
+        found.new.items ≡ found.old.items ++ if_some ways.now (holds_in site.now 0 claims.now binds)) }
+{
+    match ways {
+        [] => Ok(()),
+        _ => holds(alloc, site, claims, binds, found),
     }
 }
 

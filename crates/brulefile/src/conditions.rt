@@ -11,13 +11,14 @@ use bmatch::{Claim, Leaf, Measure, NO_HOLE, Relation, Scope, Step, Test, Word, s
 use bword::Name;
 use std::alloc::{AllocError, Global};
 
-/// A condition that has a name, and stands in these lines. It speaks of the holes that it is given.
-#[derive(Drop)]
+/// A condition that has a name. It speaks of the holes that it is given.
+#[derive(Clone, Copy)]
 pub(crate) struct Named<'t> {
     pub name: &'t [u8],
-    /// Its own names of these holes.
-    pub given: &'t [u8],
-    pub lines: Vec<&'t [u8]>,
+    /// How many claims there are up to its end.
+    pub end: u16,
+    pub looks_around: bool,
+    pub looks_far: bool,
 }
 
 /// What reads conditions, into claims and the steps of patterns.
@@ -27,13 +28,87 @@ pub(crate) struct Conditions<'t> {
     /// The holes of the rule or of the condition with a name that is read.
     pub holes: Holes,
     pub is_loose: bool,
+    /// Whether its claims look at more than what was found, and at the whole source.
+    pub looks_around: bool,
+    pub looks_far: bool,
     /// The conditions that have names.
     pub named: Vec<Named<'t>>,
     pub steps: Vec<Step>,
+    /// The claims of rules and of conditions with names, and where those of each begin. A call in what is read has how
+    /// many claims there are up to the end of what it calls.
     pub claims: Vec<Claim>,
+    pub begins: Vec<usize>,
 }
 
 impl<'t> Conditions<'t> {
+    pub(crate) fn new(alloc: Global) -> Self {
+        Conditions {
+            alloc,
+            holes: Holes::new(alloc),
+            is_loose: true,
+            looks_around: false,
+            looks_far: false,
+            named: Vec::new(alloc),
+            steps: Vec::new(alloc),
+            claims: Vec::new(alloc),
+            begins: Vec::new(alloc),
+        }
+    }
+
+    /// The claims of a rule begin, or those of a condition with a name.
+    pub(crate) fn begin_all(&mut self) -> Result<(), AllocError> {
+        self.holes = Holes::new(self.alloc);
+        self.is_loose = true;
+        self.looks_around = false;
+        self.looks_far = false;
+        self.begins.push(self.claims.len())?;
+        Ok(())
+    }
+
+    /// Those of a condition with this name begin, which is given these holes. It holds, too, where the one before it does
+    /// that has this name.
+    pub(crate) fn begin_named(&mut self, name: &[u8], given: &[u8]) -> Result<(), Stop> {
+        self.begin_all()?;
+        self.given(given)?;
+        if let Some(named) = self.find(name) {
+            self.claims.push(Claim::Either(2))?;
+            self.call(named, [0, 1, 2, 3])?;
+            self.claims.push(Claim::End)?;
+        }
+        Ok(())
+    }
+
+    /// They end here. Gives how many claims there are now.
+    pub(crate) fn end_all(&mut self) -> Result<u16, Stop> {
+        self.claims.push(Claim::End)?;
+        let begin = self.begins.last().copied().unwrap_or(0);
+        let end = self.claims.len();
+        for at in begin..end {
+            self.link(at, begin, end);
+        }
+        number_of(end, 0)
+    }
+
+    // A call gets how many claims it passes over, where the claims of what comes last stand first.
+    fn link(&mut self, at: usize, begin: usize, end: usize) {
+        if let Some(Claim::Call(called, _, _, _, _)) = self.claims.get_mut(at) {
+            let before = begin.saturating_sub(*called as usize);
+            let after = end.saturating_sub(at.saturating_add(1));
+            *called = before.saturating_add(after).min(65_535) as u16;
+        }
+    }
+
+    /// The claims, those of what comes last first.
+    pub(crate) fn last_first(&self) -> Result<Vec<Claim>, AllocError> {
+        let mut claims = Vec::new(self.alloc);
+        let mut end = self.claims.len();
+        for begin in self.begins.iter().rev() {
+            claims.extend_from_slice(self.claims.get(*begin..end).unwrap_or(&[]))?;
+            end = *begin;
+        }
+        Ok(claims)
+    }
+
     /// Reads the condition that a text is. It has so many words at most that join others.
     #[cycle(conditions)]
     pub(crate) fn read(&mut self, text: &[u8], fuel: usize) -> Result<(), Stop> {
@@ -54,7 +129,7 @@ impl<'t> Conditions<'t> {
             b"begun" => self.begun(after_word(text)),
             [b'$', ..] => self.of_hole(text),
             word => {
-                if self.called(word, after_word(text), fuel - 1)? {
+                if self.called(word, after_word(text))? {
                     return Ok(());
                 }
                 let test = self.test(text)?;
@@ -108,88 +183,49 @@ impl<'t> Conditions<'t> {
         }
     }
 
-    // A condition that has a name, if one has this. Where several have it, one of them holds.
-    #[cycle(conditions)]
-    fn called(&mut self, name: &[u8], given: &[u8], fuel: usize) -> Result<bool, Stop> {
-        if !self.named.iter().any(|it| it.name == name) {
+    // A condition that has a name, if one has this.
+    fn called(&mut self, name: &[u8], text: &[u8]) -> Result<bool, Stop> {
+        let Some(named) = self.find(name) else {
             return Ok(false);
-        }
-        let not = self.begin(Claim::Not(0))?;
-        for index in 0..self.named.len() {
-            if self.is_named(index, name) {
-                self.of_name(index, given, fuel)?;
-            }
-        }
-        self.end(not)?;
+        };
+        let given = self.given(text)?;
+        self.call(named, given)?;
         Ok(true)
     }
 
-    fn is_named(&self, index: usize, name: &[u8]) -> bool {
-        match self.named.get(index) {
-            Some(named) => named.name == name,
-            None => false,
-        }
+    // The last condition of this name.
+    fn find(&self, name: &[u8]) -> Option<Named<'t>> {
+        self.named.iter().rfind(|it| it.name == name).copied()
     }
 
-    // That one with a name doesn't hold. What its own holes stand for isn't seen outside.
-    #[cycle(conditions)]
-    fn of_name(&mut self, index: usize, given: &[u8], fuel: usize) -> Result<(), Stop> {
-        let inner = self.inner_holes(index, given)?;
-        let outer = std::mem::replace(&mut self.holes, inner);
-        let not = self.begin(Claim::Not(0))?;
-        self.lines(index, fuel)
-            .map_err(|stop| moved_to(stop, given.len()))?;
-        self.holes = outer;
-        self.end(not)
-    }
-
-    // The lines of one with a name, which all hold.
-    #[cycle(conditions)]
-    fn lines(&mut self, index: usize, fuel: usize) -> Result<(), Stop> {
-        for number in 0..self.count_lines(index) {
-            let line = self.line_at(index, number);
-            self.read(line, fuel)?;
-        }
+    fn call(&mut self, named: Named<'t>, given: [u8; 4]) -> Result<(), AllocError> {
+        let [first, second, third, fourth] = given;
+        self.looks_around = self.looks_around || named.looks_around;
+        self.looks_far = self.looks_far || named.looks_far;
+        self.claims
+            .push(Claim::Call(named.end, first, second, third, fourth))?;
         Ok(())
     }
 
-    fn count_lines(&self, index: usize) -> usize {
-        match self.named.get(index) {
-            Some(named) => named.lines.len(),
-            None => 0,
+    // The holes that a text is, of which there are four at most.
+    fn given(&mut self, text: &[u8]) -> Result<[u8; 4], Stop> {
+        let (first, text) = self.given_hole(text)?;
+        let (second, text) = self.given_hole(text)?;
+        let (third, text) = self.given_hole(text)?;
+        let (fourth, text) = self.given_hole(text)?;
+        if text.is_empty() {
+            Ok([first, second, third, fourth])
+        } else {
+            Err(Stop::Fault(FaultReason::TooManyGiven, text.len()))
         }
     }
 
-    fn line_at(&self, index: usize, number: usize) -> &'t [u8] {
-        match self.named.get(index) {
-            Some(named) => named.lines.get(number).copied().unwrap_or(&[]),
-            None => &[],
+    fn given_hole<'p>(&mut self, text: &'p [u8]) -> Result<(u8, &'p [u8]), Stop> {
+        if text.is_empty() {
+            Ok((NO_HOLE, text))
+        } else {
+            self.hole_and_rest(text)
         }
-    }
-
-    fn given_at(&self, index: usize) -> &'t [u8] {
-        match self.named.get(index) {
-            Some(named) => named.given,
-            None => &[],
-        }
-    }
-
-    // The holes of one with a name, of which the first are given.
-    fn inner_holes(&mut self, index: usize, given: &[u8]) -> Result<Holes, Stop> {
-        let mut inner = Holes::after(self.alloc, self.holes.count());
-        let mut names = self.given_at(index);
-        let mut rest = given;
-        for _ in 0..given.len() {
-            if !rest.is_empty() {
-                let (hole, more) = self.hole_and_rest(rest)?;
-                let word = first_word(names);
-                let name = part(word, 1, word.len());
-                inner.give(name, hole)?;
-                names = after_word(names);
-                rest = more;
-            }
-        }
-        Ok(inner)
     }
 
     // `begun $x is PATTERN`: what changes a name last, before what was found.
@@ -199,6 +235,7 @@ impl<'t> Conditions<'t> {
             return Err(Stop::Fault(FaultReason::ConditionWord, rest.len()));
         }
         let pattern = self.pattern(after_word(rest))?;
+        self.looks_around = true;
         self.claims.push(Claim::Begun(hole, pattern))?;
         Ok(())
     }
@@ -247,6 +284,8 @@ impl<'t> Conditions<'t> {
         let pattern = self
             .sought_pattern(pattern)
             .map_err(|stop| moved(stop, more))?;
+        self.looks_around = true;
+        self.looks_far = self.looks_far || matches!(scope, Scope::Program | Scope::Definitions);
         self.claims.push(Claim::Some(scope, hole, pattern))?;
         Ok(())
     }
@@ -256,7 +295,7 @@ impl<'t> Conditions<'t> {
         match text.strip_prefix(b"change of $") {
             Some(name) => {
                 let hole = self.only_hole(name)?;
-                let at = self.next_step(text.len())?;
+                let at = number_of(self.steps.len(), text.len())?;
                 self.steps.push(Step::Leaf(Leaf::Change(hole), false))?;
                 self.steps.push(Step::Done)?;
                 Ok(at)
@@ -267,7 +306,7 @@ impl<'t> Conditions<'t> {
 
     // Adds a pattern, and gives its first step.
     fn pattern(&mut self, text: &[u8]) -> Result<u16, Stop> {
-        let at = self.next_step(text.len())?;
+        let at = number_of(self.steps.len(), text.len())?;
         read_patterns(
             self.alloc,
             text,
@@ -277,14 +316,6 @@ impl<'t> Conditions<'t> {
             None,
         )?;
         Ok(at)
-    }
-
-    // The number of the next step, where so many bytes of the line are left.
-    fn next_step(&self, left: usize) -> Result<u16, Stop> {
-        match u16::try_from(self.steps.len()) {
-            Ok(at) => Ok(at),
-            Err(_) => Err(Stop::Fault(FaultReason::ManySteps, left)),
-        }
     }
 
     // A pattern without `as $x` after it, and that hole.
@@ -342,7 +373,7 @@ impl<'t> Conditions<'t> {
         match self.counted(text)? {
             Some((measure, [])) => Ok(measure),
             Some((_, rest)) => Err(Stop::Fault(FaultReason::ConditionWord, rest.len())),
-            None => Ok(Measure::Number(number_of(text)?)),
+            None => Ok(Measure::Number(number_in(text)?)),
         }
     }
 
@@ -473,19 +504,6 @@ fn scope_of(pattern: &[u8], scope: Scope) -> Scope {
     }
 }
 
-/// Whether a claim looks at more than what was found.
-pub(crate) fn looks_around(claim: &Claim) -> bool {
-    matches!(*claim, Claim::Some(_, _, _) | Claim::Begun(_, _))
-}
-
-/// Whether a claim looks at the whole source.
-pub(crate) fn looks_far(claim: &Claim) -> bool {
-    matches!(
-        *claim,
-        Claim::Some(Scope::Program | Scope::Definitions, _, _)
-    )
-}
-
 // Of how many holes a measure of this name speaks; 0 if it is none.
 fn count_of_holes(word: &[u8]) -> u8 {
     match word {
@@ -519,14 +537,6 @@ fn parted<'t>(text: &'t [u8], words: &[u8]) -> Option<(&'t [u8], &'t [u8])> {
 fn moved(stop: Stop, more: usize) -> Stop {
     match stop {
         Stop::Fault(reason, left) => Stop::Fault(reason, left.saturating_add(more)),
-        _ => stop,
-    }
-}
-
-// What is wrong in a line elsewhere is told where it is called.
-fn moved_to(stop: Stop, left: usize) -> Stop {
-    match stop {
-        Stop::Fault(reason, _) => Stop::Fault(reason, left),
         _ => stop,
     }
 }
@@ -577,8 +587,16 @@ fn relation_of(text: &[u8]) -> Result<Relation, Stop> {
     }
 }
 
+/// The number of a step or of a claim, where so many bytes of the line are left.
+pub(crate) fn number_of(count: usize, left: usize) -> Result<u16, Stop> {
+    match u16::try_from(count) {
+        Ok(number) => Ok(number),
+        Err(_) => Err(Stop::Fault(FaultReason::ManySteps, left)),
+    }
+}
+
 // The number that a text is.
-fn number_of(text: &[u8]) -> Result<u16, Stop> {
+fn number_in(text: &[u8]) -> Result<u16, Stop> {
     let mut number: u16 = 0;
     for byte in text {
         match with_digit(number, *byte) {

@@ -13,28 +13,10 @@ pub(crate) struct Holes {
 
 impl Holes {
     pub(crate) fn new(alloc: Global) -> Self {
-        Holes::after(alloc, 0)
-    }
-
-    /// None yet, but that so many numbers have others.
-    pub(crate) fn after(alloc: Global, count: u8) -> Self {
         Holes {
             names: Vec::new(alloc),
-            next: count,
+            next: 0,
         }
-    }
-
-    /// The number that the next hole gets.
-    pub(crate) fn count(&self) -> u8 {
-        self.next
-    }
-
-    /// A name for a hole that has a number.
-    pub(crate) fn give(&mut self, name: &[u8], number: u8) -> Result<(), AllocError> {
-        if let Some(name) = Name::from_bytes(name) {
-            self.names.push((name, number))?;
-        }
-        Ok(())
     }
 
     /// The number of a hole, which gets one where it comes first; none if it is one too many.

@@ -1,6 +1,6 @@
 //! Reading a text of rules.
 use crate::cleaning::hole_number;
-use crate::conditions::{Conditions, Named, looks_around, looks_far};
+use crate::conditions::{Conditions, Named, number_of};
 use crate::faults::{FaultReason, RuleFault, Stop};
 use crate::holes::Holes;
 use crate::patterns::read_patterns;
@@ -62,18 +62,12 @@ pub fn read_rules<'t>(
     text: &'t [u8],
 ) -> Result<Result<Rules<'t>, RuleFault>, AllocError> {
     let mut reading = Reading {
-        conditions: Conditions {
-            alloc,
-            holes: Holes::new(alloc),
-            is_loose: true,
-            named: Vec::new(alloc),
-            steps: Vec::new(alloc),
-            claims: Vec::new(alloc),
-        },
+        conditions: Conditions::new(alloc),
         rules: Vec::new(alloc),
         names: Vec::new(alloc),
         says: Vec::new(alloc),
         draft: None,
+        naming: None,
     };
     let mut number: u64 = 0;
     for line in text.split(|byte| *byte == b'\n') {
@@ -83,7 +77,7 @@ pub fn read_rules<'t>(
         }
     }
     match reading.end() {
-        Ok(()) => Ok(Ok(reading.done())),
+        Ok(()) => Ok(Ok(reading.done()?)),
         Err(stop) => stopped(stop, number, 0),
     }
 }
@@ -115,8 +109,6 @@ struct Draft {
     // The steps of its patterns, and where the last one begins.
     pattern: Vec<Step>,
     last: Option<usize>,
-    // Its first claim.
-    condition: u16,
     named: u8,
     beside: u8,
     // Whether a pattern or a condition was read.
@@ -127,32 +119,39 @@ struct Draft {
 /// What was read of a text.
 #[derive(Drop)]
 struct Reading<'t> {
-    // The steps and the claims of all rules, and the conditions that have names. Without a draft the last one of these
-    // is being read.
+    // The steps and the claims of all rules, and the conditions that have names.
     conditions: Conditions<'t>,
     rules: Vec<Rule>,
     names: Vec<RuleName>,
     says: Vec<&'t [u8]>,
     draft: Option<Draft>,
+    // The name of the condition that is being read.
+    naming: Option<&'t [u8]>,
 }
 
 impl<'t> Reading<'t> {
-    fn done(self) -> Rules<'t> {
+    fn done(self) -> Result<Rules<'t>, AllocError> {
         let Reading {
             conditions,
-            rules,
+            mut rules,
             names,
             says,
             ..
         } = self;
-        let Conditions { steps, claims, .. } = conditions;
-        Rules {
+        let claims = conditions.last_first()?;
+        // Each rule has how many claims there were up to the end of its own, which begin so many before the end now.
+        for rule in &mut rules {
+            let begin = claims.len().saturating_sub(rule.condition as usize);
+            rule.condition = begin.min(65_535) as u16;
+        }
+        let Conditions { steps, .. } = conditions;
+        Ok(Rules {
             steps,
             claims,
             rules,
             names,
             says,
-        }
+        })
     }
 
     fn line(&mut self, line: &'t [u8], number: u64) -> Result<(), Stop> {
@@ -186,12 +185,10 @@ impl<'t> Reading<'t> {
             None => return Err(Stop::Fault(FaultReason::RuleName, name.len())),
         }
         let alloc = self.conditions.alloc;
-        self.conditions.holes = Holes::new(alloc);
-        self.conditions.is_loose = true;
+        self.conditions.begin_all()?;
         self.draft = Some(Draft {
             pattern: Vec::new(alloc),
             last: None,
-            condition: number_of(self.conditions.claims.len(), text.len())?,
             named: NO_HOLE,
             beside: NO_HOLE,
             is_begun: false,
@@ -203,16 +200,12 @@ impl<'t> Reading<'t> {
     // The name of a condition, and its own names of the holes that it is given.
     fn name_condition(&mut self, text: &'t [u8]) -> Result<(), Stop> {
         self.end()?;
-        if !are_letters(first_word(text)) {
+        let name = first_word(text);
+        if !are_letters(name) {
             return Err(Stop::Fault(FaultReason::RuleName, text.len()));
         }
-        let lines = Vec::new(self.conditions.alloc);
-        self.conditions.named.push(Named {
-            name: first_word(text),
-            given: after_word(text),
-            lines,
-        })?;
-        Ok(())
+        self.naming = Some(name);
+        self.conditions.begin_named(name, after_word(text))
     }
 
     // A line of a rule, or of a condition with a name, after the first one.
@@ -223,11 +216,8 @@ impl<'t> Reading<'t> {
         if let Some(draft) = &mut self.draft {
             return draft.line(text, &mut self.conditions);
         }
-        match self.conditions.named.last_mut() {
-            Some(named) => {
-                named.lines.push(text)?;
-                Ok(())
-            }
+        match self.naming {
+            Some(_) => self.conditions.read(text, MOST_JOINED),
             None => Err(Stop::Fault(FaultReason::NoRule, text.len())),
         }
     }
@@ -242,40 +232,51 @@ impl<'t> Reading<'t> {
         }
     }
 
-    // The rule that is being read is over.
+    // The rule or the condition with a name that is being read is over.
     fn end(&mut self) -> Result<(), Stop> {
-        let Some(draft) = self.draft.take() else {
-            return Ok(());
-        };
+        if let Some(name) = self.naming.take() {
+            self.end_named(name)?;
+        }
+        match self.draft.take() {
+            Some(draft) => self.end_rule(draft),
+            None => Ok(()),
+        }
+    }
+
+    fn end_named(&mut self, name: &'t [u8]) -> Result<(), Stop> {
+        let conditions = &mut self.conditions;
+        let end = conditions.end_all()?;
+        conditions.named.push(Named {
+            name,
+            end,
+            looks_around: conditions.looks_around,
+            looks_far: conditions.looks_far,
+        })?;
+        Ok(())
+    }
+
+    fn end_rule(&mut self, draft: Draft) -> Result<(), Stop> {
         if draft.last.is_none() {
             return Err(Stop::Empty(draft.line));
         }
         let conditions = &mut self.conditions;
-        conditions.claims.push(Claim::End)?;
-        number_of(conditions.claims.len(), 0)?;
+        let condition = conditions.end_all()?;
         let pattern = number_of(conditions.steps.len(), 0)?;
         conditions
             .steps
             .extend_from_slice(draft.pattern.as_slice())?;
-        let claims = claims_from(conditions.claims.as_slice(), draft.condition);
-        let is_around = claims.iter().any(looks_around);
-        let is_far = claims.iter().any(looks_far);
         self.rules.push(Rule {
             number: self.rules.len(),
             pattern,
-            condition: draft.condition,
+            condition,
             named: draft.named,
             beside: draft.beside,
             is_loose: self.conditions.is_loose,
-            looks_around: is_around,
-            looks_far: is_far,
+            looks_around: self.conditions.looks_around,
+            looks_far: self.conditions.looks_far,
         })?;
         Ok(())
     }
-}
-
-fn claims_from(claims: &[Claim], at: u16) -> &[Claim] {
-    claims.get(at as usize..).unwrap_or(&[])
 }
 
 impl Draft {
@@ -332,14 +333,6 @@ fn hole_in(text: &[u8], holes: &mut Holes) -> Result<u8, Stop> {
             }
         }
         _ => Err(Stop::Fault(FaultReason::UnknownHole, text.len())),
-    }
-}
-
-// The number of a step or of a claim, where so many bytes of the line are left.
-fn number_of(count: usize, left: usize) -> Result<u16, Stop> {
-    match u16::try_from(count) {
-        Ok(number) => Ok(number),
-        Err(_) => Err(Stop::Fault(FaultReason::ManySteps, left)),
     }
 }
 

@@ -12,7 +12,7 @@ fn fault(alloc: Global, text: &[u8]) -> Result<Option<(u64, u64, FaultReason)>, 
 
 #[test]
 fn refuses_what_is_no_rule(rt: HostRuntime) -> Result<(), AllocError> {
-    let rows: [(&[u8], u64, u64, FaultReason); 22] = [
+    let rows: [(&[u8], u64, u64, FaultReason); 24] = [
         (b"find x;", 1, 1, FaultReason::RuleWord),
         (b"\n  find x;", 2, 3, FaultReason::NoRule),
         (b"rule A1\n", 1, 6, FaultReason::RuleName),
@@ -89,6 +89,18 @@ fn refuses_what_is_no_rule(rt: HostRuntime) -> Result<(), AllocError> {
             3,
             29,
             FaultReason::UnknownHole,
+        ),
+        (
+            b"let a $a $b $c $d $e\n  quiet $a\n",
+            1,
+            19,
+            FaultReason::TooManyGiven,
+        ),
+        (
+            b"let a $a\n  b $a\nlet b $a\n  a $a\n",
+            2,
+            3,
+            FaultReason::ConditionWord,
         ),
     ];
     for (text, line, column, reason) in rows {

@@ -1,8 +1,8 @@
-use Rattle.std.proofs.Common.{◌≡◌, ◌∙◌, ◌++◌, IfOk, List, ap, append_assoc, subst}
-use Rattle.bmatch.specs.Holds.{holds_in, if_none}
+use Rattle.std.proofs.Common.{◌≡◌, ◌∙◌, ◌++◌, IfOk, List, ap, append_assoc, drop, subst}
+use Rattle.bmatch.specs.Holds.{holds_in, if_none, if_some}
 use Rattle.bmatch.specs.declared.binds.Binds.{Binds}
 use Rattle.bmatch.specs.declared.conditions.Claim.{Claim}
-use Rattle.bmatch.proofs.Steps.{holds_after_jump, holds_by_either, holds_not, others}
+use Rattle.bmatch.proofs.Steps.{holds_after_jump, holds_by_call, holds_by_either, holds_not, others}
 use Rattle.bmatch.proofs.holds.+holds.Goals as goal
 
 pub holds-returns-in-Jump : goal.holds-returns-in-Jump
@@ -31,3 +31,14 @@ holds-returns-in_ok-holds-in-Not t c =
     subst (λ (bs : List Binds). IfOk c.if_none_hold.result (λ done. c.if_none_hold.new.found.items ≡ c.args.found.now.items ++ bs))
     (ap (λ ways. if_none ways (hold c.claims_from-claims.result.now)) (c.as_slice.ensures.value ∙ (c.in_ok-holds-in-Not.ensures ∙ ap (λ bs. bs ++ hold (others c.args.claims.now)) c.new-ways.ensures.items)) ∙ (ap (λ cs. if_none (hold (others c.args.claims.now)) (hold cs)) c.claims_from-claims.ensures
     ∙ holds_not s c.args.claims.now _ c.in-Not.count c.args.binds c.in-len1-up.len_at_least c.in-Not.is)) c.if_none_hold.ensures
+
+pub holds-returns-in_ok-holds-in-Call : goal.holds-returns-in_ok-holds-in-Call
+holds-returns-in_ok-holds-in-Call t c =
+    let s = c.args.site.now in
+    let given = c.given-given.result in
+    let next = others c.args.claims.now in
+    let rest = holds_in s 0 next c.args.binds in
+    subst (λ (bs : List Binds). IfOk c.if_some_hold.result (λ done. c.if_some_hold.new.found.items ≡ c.args.found.now.items ++ bs))
+    (ap (λ (ways : List Binds). if_some ways rest) (c.as_slice-in-Call.ensures.value ∙ (c.in_ok-holds-in-Call.ensures ∙ (ap (λ (bs : List Binds). bs ++ holds_in s 0 c.claims_from-in-Call.result.now given) c.new-ways-in-Call.ensures.items
+    ∙ (ap (λ (cs : List Claim). holds_in s 0 cs given) c.claims_from-in-Call.ensures ∙ ap (λ (b : Binds). holds_in s 0 (drop c.in-Call.count next) b) c.given-given.ensures))))
+    ∙ holds_by_call s c.args.claims.now _ c.in-Call.count c.in-Call.first c.in-Call.second c.in-Call.third c.in-Call.fourth c.args.binds c.in-len1-up.len_at_least c.in-Call.is) c.if_some_hold.ensures

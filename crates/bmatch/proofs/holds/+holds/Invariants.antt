@@ -9,6 +9,9 @@ decreases-holds l = 3 * length l.claims.now
 abbrev pub decreases-if_none_hold : goal.decreases-if_none_hold
 decreases-if_none_hold l = 3 * length l.claims.now + 1
 
+abbrev pub decreases-if_some_hold : goal.decreases-if_some_hold
+decreases-if_some_hold l = 3 * length l.claims.now + 1
+
 abbrev pub decreases-fits_and_holds : goal.decreases-fits_and_holds
 decreases-fits_and_holds l = 3 * length l.more.now + 2
 

@@ -13,14 +13,5 @@ decreases-sought l = 4 * l.fuel + 3
 abbrev pub decreases-all_of : goal.decreases-all_of
 decreases-all_of l = 4 * l.fuel + 2
 
-abbrev pub decreases-called : goal.decreases-called
-decreases-called l = 4 * l.fuel + 3
-
-abbrev pub decreases-of_name : goal.decreases-of_name
-decreases-of_name l = 4 * l.fuel + 2
-
-abbrev pub decreases-lines : goal.decreases-lines
-decreases-lines l = 4 * l.fuel + 1
-
 abbrev pub decreases-one_of : goal.decreases-one_of
 decreases-one_of l = 4 * l.fuel + 1
