@@ -4,6 +4,7 @@ use Rattle.std.specs.Prelude.{if◌then◌else◌, map}
 use Rattle.std.proofs.lemmas.Bool.{and_right, cond-false, or_parts}
 use Rattle.std.specs.List.{flat_map}
 use Rattle.bmatch.specs.declared.binds.Binds.{Binds}
+use Rattle.bmatch.specs.declared.fits.Sides.{Sides}
 use Rattle.bmatch.specs.declared.fits.Sight.{Sight}
 use Rattle.bmatch.specs.declared.fits.Span.{Span}
 use Rattle.bmatch.specs.declared.holds.Site.{Site}
@@ -15,7 +16,7 @@ use Rattle.bmatch.specs.declared.pattern.Step.{Step}
 use Rattle.bmatch.specs.declared.pattern.Step.TheVariants as step
 use Rattle.bmatch.specs.declared.pattern.TheConstants.{ROOT}
 use Rattle.bmatch.specs.declared.tree.Tree.{Tree}
-use Rattle.bmatch.specs.Fits.{fits_in, go_in, inner_of, may_begin, span_of, start_of}
+use Rattle.bmatch.specs.Fits.{either_way, fits_in, go_in, has_sides, inner_of, may_begin, seen_at, sides_of, span_of, start_of}
 use Rattle.bmatch.specs.Binds.{nothing_bound, with_hole, with_told}
 use Rattle.bmatch.specs.Holds.{fits_at, holds_in, is_within, some_at, steps_at}
 use Rattle.bmatch.specs.Notices.{notice_of, root_notices, sight_of, site_of}
@@ -31,6 +32,14 @@ no_head s zero (step.Tree k told ∷ is) begin end rows b h =
 no_head s zero (step.Range k last told ∷ is) begin end rows b h =
     let none : inner_of s k last begin end ≡ None = cond-false _ _ _ (and_right (nat_lt begin end) _ h) in
     ap (λ i. go_in i (λ inner. fits_in s zero is inner.begin inner.end (span_of begin (start_of s.tree.rows.now end) ∷ rows) (with_told b told (branch_at s.tree.rows.now inner.end).token))) none
+no_head s zero (step.Sides k last told ∷ is) begin end rows b h =
+    let kind = (branch_at s.tree.rows.now (seen_at s false end)).kind in
+    let hs = or_parts (has_sides s false k last kind) (has_sides s true k last kind) h in
+    let plain : sides_of s false k last begin end ≡ None = cond-false _ _ _ (and_right (nat_lt begin end) _ hs.0) in
+    let exchanged : sides_of s true k last begin end ≡ None = cond-false _ _ _ (and_right (nat_lt begin end) _ hs.1) in
+    let way = either_way s k last begin end in
+    let go = λ (x : Sides). fits_in s zero is x.one.begin x.one.end (x.other ∷ way.before ∷ rows) (with_told b told way.token) in
+    ap (λ x. go_in x go ++ go_in way.exchanged go) plain ∙ ap (λ x. go_in x go) exchanged
 no_head s zero (step.Either n ∷ is) begin end rows b h =
     let hs = or_parts (may_begin s zero is end) (may_begin s n is end) h in
     ap (λ bs. bs ++ fits_in s n is begin end rows b) (no_head s zero is begin end rows b hs.0) ∙ no_head s n is begin end rows b hs.1

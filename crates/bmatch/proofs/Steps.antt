@@ -5,13 +5,15 @@ use Rattle.std.proofs.Math.Seq.{take-length}
 use Rattle.bmatch.specs.declared.binds.Binds.{Binds}
 use Rattle.bmatch.specs.declared.conditions.Claim.{Claim}
 use Rattle.bmatch.specs.declared.conditions.Claim.TheVariants as claim
+use Rattle.bmatch.specs.declared.fits.EitherWay.{EitherWay}
 use Rattle.bmatch.specs.declared.fits.Sight.{Sight}
 use Rattle.bmatch.specs.declared.fits.Span.{Span}
 use Rattle.bmatch.specs.declared.holds.Site.{Site}
+use Rattle.bmatch.specs.declared.tree.Kind.{Kind}
 use Rattle.bmatch.specs.declared.pattern.Step.{Step}
 use Rattle.bmatch.specs.declared.pattern.Step.TheVariants as step
-use Rattle.bmatch.specs.Binds.{given_to}
-use Rattle.bmatch.specs.Fits.{fits_in, may_begin}
+use Rattle.bmatch.specs.Binds.{given_to, with_told}
+use Rattle.bmatch.specs.Fits.{either_way, fits_in, go_in, may_begin}
 use Rattle.bmatch.specs.Holds.{holds_in, if_none, if_some}
 
 -- those after the first
@@ -53,6 +55,17 @@ pub fits_by_either : (s : Sight) (is : List Step) (i : Step) (n begin end : ℕ)
     → fits_in s 0 (others is) begin end rows b ++ fits_in s 0 (drop n (others is)) begin end rows b ≡ fits_in s 0 is begin end rows b
 fits_by_either s is i n begin end rows b h e =
     ap (λ bs. fits_in s 0 (others is) begin end rows b ++ bs) (sym (fits_dropped s n (others is) begin end rows b)) ∙ ap (λ js. fits_in s 0 js begin end rows b) (sym (begins_with is i (step.Either n) h e))
+
+-- in either order of two sides, where these rows have to fit then
+abbrev pub fits_both : Sight → List Step → EitherWay → (rows : List Span) → Binds → List Binds
+fits_both s is way rows b =
+    go_in way.plain (λ x. fits_in s 0 is x.one.begin x.one.end (x.other ∷ rows) b)
+    ++ go_in way.exchanged (λ x. fits_in s 0 is x.one.begin x.one.end (x.other ∷ rows) b)
+
+pub fits_by_sides : (s : Sight) (is : List Step) (i : Step) (k last : Kind) (told : Bool) (begin end : ℕ) (rows : List Span) (b : Binds) → 1 ≤ length is → get_or is 0 i ≡ step.Sides k last told
+    → fits_both s (others is) (either_way s k last begin end) ((either_way s k last begin end).before ∷ rows) (with_told b told (either_way s k last begin end).token) ≡ fits_in s 0 is begin end rows b
+fits_by_sides s is i k last told begin end rows b h e =
+    ap (λ js. fits_in s 0 js begin end rows b) (sym (begins_with is i (step.Sides k last told) h e))
 
 holds_dropped : (s : Site) (n : ℕ) (cs : List Claim) (b : Binds) → holds_in s n cs b ≡ holds_in s 0 (drop n cs) b
 holds_dropped s zero [] b = refl

@@ -6,11 +6,14 @@ use Rattle.std.specs.Str.{bytes_eq}
 use Rattle.blex.specs.declared.lexeme.Lexeme.{Lexeme}
 use Rattle.blex.specs.declared.lexeme.Lexeme.TheVariants as lexeme
 use Rattle.blang.specs.declared.token.Keyword.TheVariants as keyword
+use Rattle.bword.specs.declared.operators.BinOp.TheVariants as op
 use Rattle.btree.specs.declared.nodes.Node.TheVariants as node
 use Rattle.btree.specs.declared.tags.Construct.TheVariants as construct
 use Rattle.bmatch.specs.declared.binds.Binds.{Binds}
+use Rattle.bmatch.specs.declared.fits.EitherWay.{EitherWay}
 use Rattle.bmatch.specs.declared.fits.Left.{Left}
 use Rattle.bmatch.specs.declared.fits.Left.TheVariants as left_is
+use Rattle.bmatch.specs.declared.fits.Sides.{Sides}
 use Rattle.bmatch.specs.declared.fits.Sight.{Sight}
 use Rattle.bmatch.specs.declared.fits.Span.{Span}
 use Rattle.bmatch.specs.declared.fits.TheConstants.{MOST_PASSED}
@@ -111,12 +114,55 @@ abbrev pub is_seen : Sight → (first last : Kind) → (end : ℕ) → Bool
 is_seen s first last end =
     is_between first last (branch_at s.tree.rows.now (seen_at s (is_grouped first) end)).kind
 
+-- the operator that says the same where its sides are exchanged
+abbrev pub mirrored : Kind → Kind
+mirrored (kind.Node (node.Binary op.Lt)) = kind.Node (node.Binary op.Gt)
+mirrored (kind.Node (node.Binary op.Le)) = kind.Node (node.Binary op.Ge)
+mirrored (kind.Node (node.Binary op.Gt)) = kind.Node (node.Binary op.Lt)
+mirrored (kind.Node (node.Binary op.Ge)) = kind.Node (node.Binary op.Le)
+mirrored k = k
+
+-- it is of such a kind, where its sides are exchanged if this is so
+abbrev pub has_sides : Sight → (is_exchanged : Bool) → (first last kind : Kind) → Bool
+has_sides s is_exchanged first last k =
+    if is_exchanged then s.is_loose && is_between first last (mirrored k) else is_between first last k
+
+-- the last branch that ends here is of such a kind, in one order of its sides or in the other
+abbrev pub sees_sides : Sight → (first last : Kind) → (end : ℕ) → Bool
+sees_sides s first last end =
+    let k = (branch_at s.tree.rows.now (seen_at s false end)).kind in
+    has_sides s false first last k || has_sides s true first last k
+
+abbrev pub sides_from : (one other : Span) → Sides
+sides_from one other = record { one = one; other = other }
+
+-- the two sides of the last branch of a row, the right one first, or last where they are exchanged
+abbrev pub sides_of : Sight → (is_exchanged : Bool) → (first last : Kind) → (begin end : ℕ) → Option Sides
+sides_of s is_exchanged first last begin end =
+    let index = seen_at s false end in
+    let branch = branch_at s.tree.rows.now index in
+    let middle = start_of s.tree.rows.now index in
+    if nat_lt begin end && has_sides s is_exchanged first last branch.kind
+    then Some (if is_exchanged then sides_from (span_of branch.begin middle) (span_of middle index)
+    else sides_from (span_of middle index) (span_of branch.begin middle))
+    else None
+
+abbrev pub either_way : Sight → (first last : Kind) → (begin end : ℕ) → EitherWay
+either_way s first last begin end =
+    record {
+      plain = sides_of s false first last begin end;
+      exchanged = sides_of s true first last begin end;
+      before = span_of begin (start_of s.tree.rows.now end);
+      token = (branch_at s.tree.rows.now (seen_at s false end)).token;
+    }
+
 -- Steps whose first one asks for another kind than the last branch that ends here fit nothing there.
 abbrev pub may_begin : Sight → (passed : ℕ) → List Step → (end : ℕ) → Bool
 may_begin s n [] end = false
 may_begin s (suc n) (i ∷ is) end = may_begin s n is end
 may_begin s zero (step.Tree k told ∷ is) end = is_seen s k k end
 may_begin s zero (step.Range k last told ∷ is) end = is_seen s k last end
+may_begin s zero (step.Sides k last told ∷ is) end = sees_sides s k last end
 may_begin s zero (step.Either n ∷ is) end = may_begin s zero is end || may_begin s n is end
 may_begin s zero (step.Jump n ∷ is) end = may_begin s n is end
 may_begin s zero (step.Done ∷ is) end = true
@@ -181,6 +227,12 @@ fits_in s zero (step.Range k last told ∷ is) begin end rows b =
     go_in (inner_of s k last begin end) (λ inner.
     fits_in s zero is inner.begin inner.end (span_of begin (start_of s.tree.rows.now end) ∷ rows)
     (with_told b told (branch_at s.tree.rows.now inner.end).token))
+fits_in s zero (step.Sides k last told ∷ is) begin end rows b =
+    let way = either_way s k last begin end in
+    go_in way.plain (λ x.
+    fits_in s zero is x.one.begin x.one.end (x.other ∷ way.before ∷ rows) (with_told b told way.token))
+    ++ go_in way.exchanged (λ x.
+    fits_in s zero is x.one.begin x.one.end (x.other ∷ way.before ∷ rows) (with_told b told way.token))
 fits_in s zero (step.Leaf l told ∷ is) begin end rows b =
     go_in (with_leaf s l told begin end b) (fits_in s zero is begin (start_of s.tree.rows.now end) rows)
 fits_in s zero (step.Dots ∷ is) begin end rows b =

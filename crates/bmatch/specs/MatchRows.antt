@@ -49,7 +49,7 @@ use Rattle.bmatch.specs.Asking.{sign_number, size_by, size_declared, size_define
 use Rattle.bmatch.specs.Binds.{hole_of, nothing_bound, with_hole, with_told}
 use Rattle.bmatch.specs.Changes.{change_before, changed_by}
 use Rattle.bmatch.specs.Counting.{blanks_at}
-use Rattle.bmatch.specs.Fits.{ends_of, is_word, may_begin, span_of}
+use Rattle.bmatch.specs.Fits.{ends_of, is_word, may_begin, mirrored, span_of}
 use Rattle.bmatch.specs.Growing.{lexemes_of, program_rows}
 use Rattle.bmatch.specs.Holds.{fits_at, holds_in, is_within, loop_around, scope_span}
 use Rattle.bmatch.specs.Notices.{first_token, notices_by}
@@ -183,6 +183,23 @@ ranges_begin : map (λ (pair : BinOp × BinOp). may_begin (sight true) 0 (in_ran
     ∷ (op.Rem, op.Sub) ∷ [])
     ≡ true ∷ true ∷ true ∷ true ∷ false ∷ false ∷ false ∷ []
 ranges_begin = refl
+
+-- the sides of x + 1 in each order, and in one alone where the rule is exact; and the heads of such steps
+abbrev sum_in_sides : List Step
+sum_in_sides = step.Sides (kind.Node (node.Binary op.Add)) (kind.Node (node.Binary op.Rem)) true ∷ hole 1 sort.Any false
+    ∷ step.Done ∷ hole 0 sort.Any false ∷ step.Done ∷ step.Done ∷ []
+
+sides_fit : map (λ (loose : Bool). at loose sum_in_sides 16) (true ∷ false ∷ [])
+    ≡ ((Some 14, Some 15, Some 21) ∷ (Some 15, Some 14, Some 21) ∷ []) ∷ ((Some 14, Some 15, Some 21) ∷ []) ∷ []
+sides_fit = refl
+
+sides_begin : map (may_begin (sight true) 0 sum_in_sides) (16 ∷ 17 ∷ 18 ∷ []) ≡ false ∷ true ∷ false ∷ []
+sides_begin = refl
+
+-- < and > change places, and <= and >=
+mirrored_operators : map (λ o. kind_number (mirrored (kind.Node (node.Binary o)))) operators
+    ≡ 25 ∷ 26 ∷ 27 ∷ 28 ∷ 31 ∷ 32 ∷ 29 ∷ 30 ∷ range_with_len 33 7
+mirrored_operators = refl
 
 range_of_two : flat_map (at true (step.Range (kind.Node (node.Binary op.Or)) (kind.Construct construct.While) true
     ∷ step.Dots ∷ step.Done ∷ step.Done ∷ [])) (range_with_len 0 22)

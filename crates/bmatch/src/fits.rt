@@ -1,6 +1,7 @@
 //! Whether steps of a pattern fit a row of branches.
 ghost use Rattle.std.specs.List.{flat_map};
 ghost use Rattle.std.specs.Prelude.{◌≡◌, ◌∷◌, ◌++◌, IfOk, take};
+ghost use Rattle.bmatch.specs.Fits.{either_way, go_in, has_sides, mirrored, sees_sides, sides_of};
 ghost use Rattle.bmatch.specs.Fits.{changes_hole, ends_of, fits_in, inner_of, is_grouped, is_name_of, is_named, is_number, is_sort, is_word};
 ghost use Rattle.bmatch.specs.Fits.{is_word_alone};
 ghost use Rattle.bmatch.specs.Fits.{is_between, is_seen, is_value_of, leaf_binds, may_begin, rows_left, seen_at, start_of, with_leaf, with_same};
@@ -15,7 +16,7 @@ use crate::tree::{Branch, Kind, Tree, branch_at, core_at, kind_at, kind_number, 
 use blang::Keyword;
 use blex::Lexeme;
 use btree::{Construct, Node};
-use bword::NAME_LEN;
+use bword::{BinOp, NAME_LEN};
 use std::alloc::{AllocError, Global};
 
 /// The branches from one number up to another.
@@ -23,6 +24,22 @@ use std::alloc::{AllocError, Global};
 pub struct Span {
     pub begin: usize,
     pub end: usize,
+}
+
+/// The two sides of a branch, in the order in which they have to fit.
+#[derive(Clone, Copy)]
+pub struct Sides {
+    pub one: Span,
+    pub other: Span,
+}
+
+/// In which ways the last branch of a row has two sides, what is before it, and its token.
+#[derive(Clone, Copy)]
+pub(crate) struct EitherWay {
+    pub plain: Option<Sides>,
+    pub exchanged: Option<Sides>,
+    pub before: Span,
+    pub token: usize,
 }
 
 /// Rows that were begun, the innermost first.
@@ -78,6 +95,18 @@ pub(crate) fn fits(
             }
             None => Ok(()),
         },
+        Step::Sides(first, last, is_told) => {
+            let ways = either_way(sight, first, last, span);
+            let row = Left::Row(ways.before, &*left);
+            fits_both(
+                sight,
+                more,
+                &ways,
+                &row,
+                binds.telling(is_told, ways.token),
+                found,
+            )
+        }
         Step::Leaf(leaf, is_told) => match with_leaf(sight, leaf, is_told, span, binds) {
             Some(binds) => fits(sight, more, before(sight, span), &*left, binds, found),
             None => Ok(()),
@@ -116,6 +145,48 @@ fn fits_left(
     }
 }
 
+// The same for what is in a branch with two sides, in each order of these. The first row that was begun is what is before
+// the branch.
+#[cycle(fits)]
+fn fits_both(
+    sight: &Sight<'_>,
+    more: &[Step],
+    ways: &EitherWay,
+    left: &Left<'_>,
+    binds: Binds,
+    found: &mut Vec<Binds>,
+) -> Result<(), AllocError>
+    ensures { IfOk result (λ done. found.new.items ≡ found.old.items
+        ++ (go_in ways.now.plain (λ x. fits_in sight.now 0 more.now x.one.begin x.one.end (x.other ∷ rows_left left.now) binds)
+        ++ go_in ways.now.exchanged
+        (λ x. fits_in sight.now 0 more.now x.one.begin x.one.end (x.other ∷ rows_left left.now) binds))) }
+{
+    fits_sides(sight, more, ways.plain, &*left, binds, found)?;
+    fits_sides(sight, more, ways.exchanged, &*left, binds, found)
+}
+
+// The same for one order of them, if there are two.
+#[cycle(fits)]
+fn fits_sides(
+    sight: &Sight<'_>,
+    more: &[Step],
+    sides: Option<Sides>,
+    left: &Left<'_>,
+    binds: Binds,
+    found: &mut Vec<Binds>,
+) -> Result<(), AllocError>
+    ensures { IfOk result (λ done. found.new.items ≡ found.old.items ++ go_in sides
+        (λ x. fits_in sight.now 0 more.now x.one.begin x.one.end (x.other ∷ rows_left left.now) binds)) }
+{
+    match sides {
+        Some(sides) => {
+            let row = Left::Row(sides.other, &*left);
+            fits(sight, more, sides.one, &row, binds, found)
+        }
+        None => Ok(()),
+    }
+}
+
 /// Whether steps may fit the last branch that ends here, by the first of them.
 pub(crate) fn may_begin(sight: &Sight<'_>, steps: &[Step], end: usize) -> bool
     ensures { result ≡ may_begin sight.now 0 steps.now end }
@@ -126,6 +197,7 @@ pub(crate) fn may_begin(sight: &Sight<'_>, steps: &[Step], end: usize) -> bool
     match *step {
         Step::Tree(kind, _) => is_seen(sight, kind, kind, end),
         Step::Range(first, last, _) => is_seen(sight, first, last, end),
+        Step::Sides(first, last, _) => sees_sides(sight, first, last, end),
         Step::Either(count) => {
             may_begin(sight, more, end) || may_begin(sight, steps_from(more, count), end)
         }
@@ -140,6 +212,85 @@ fn is_seen(sight: &Sight<'_>, first: Kind, last: Kind, end: usize) -> bool
 {
     let seen = seen_at(sight, is_grouped(first), end);
     is_between(first, last, kind_at(sight.tree.rows, seen))
+}
+
+// Whether the last branch that ends here has two sides and is of such a kind, perhaps with these exchanged.
+fn sees_sides(sight: &Sight<'_>, first: Kind, last: Kind, end: usize) -> bool
+    ensures { result ≡ sees_sides sight.now first last end }
+{
+    let kind = kind_at(sight.tree.rows, seen_at(sight, false, end));
+    has_sides(sight, false, first, last, kind) || has_sides(sight, true, first, last, kind)
+}
+
+fn has_sides(sight: &Sight<'_>, is_exchanged: bool, first: Kind, last: Kind, kind: Kind) -> bool
+    ensures { result ≡ has_sides sight.now is_exchanged first last kind }
+{
+    if is_exchanged {
+        sight.is_loose && is_between(first, last, mirrored(kind))
+    } else {
+        is_between(first, last, kind)
+    }
+}
+
+// The operator that says the same where its sides are exchanged.
+fn mirrored(kind: Kind) -> Kind
+    ensures { result ≡ mirrored kind }
+{
+    match kind {
+        Kind::Node(Node::Binary(BinOp::Lt)) => Kind::Node(Node::Binary(BinOp::Gt)),
+        Kind::Node(Node::Binary(BinOp::Le)) => Kind::Node(Node::Binary(BinOp::Ge)),
+        Kind::Node(Node::Binary(BinOp::Gt)) => Kind::Node(Node::Binary(BinOp::Lt)),
+        Kind::Node(Node::Binary(BinOp::Ge)) => Kind::Node(Node::Binary(BinOp::Le)),
+        _ => kind,
+    }
+}
+
+// The two sides of the last branch of a row, if it is of a kind from the first one to the last.
+fn sides_of(
+    sight: &Sight<'_>,
+    is_exchanged: bool,
+    first: Kind,
+    last: Kind,
+    span: Span,
+) -> Option<Sides>
+    ensures { result ≡ sides_of sight.now is_exchanged first last span.begin span.end }
+{
+    let index = seen_at(sight, false, span.end);
+    let branch = branch_at(sight.tree.rows, index);
+    if span.begin >= span.end || !has_sides(sight, is_exchanged, first, last, branch.kind) {
+        return None;
+    }
+    let middle = start_of(sight.tree.rows, index);
+    let left = Span {
+        begin: branch.begin,
+        end: middle,
+    };
+    let right = Span {
+        begin: middle,
+        end: index,
+    };
+    if is_exchanged {
+        Some(Sides {
+            one: left,
+            other: right,
+        })
+    } else {
+        Some(Sides {
+            one: right,
+            other: left,
+        })
+    }
+}
+
+fn either_way(sight: &Sight<'_>, first: Kind, last: Kind, span: Span) -> EitherWay
+    ensures { result ≡ either_way sight.now first last span.begin span.end }
+{
+    EitherWay {
+        plain: sides_of(sight, false, first, last, span),
+        exchanged: sides_of(sight, true, first, last, span),
+        before: before(sight, span),
+        token: token_at(sight, seen_at(sight, false, span.end)),
+    }
 }
 
 fn is_between(first: Kind, last: Kind, kind: Kind) -> bool

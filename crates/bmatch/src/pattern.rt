@@ -24,6 +24,11 @@ pub enum Step {
     Tree(Kind, bool),
     /// The same for each kind from the first one to the last, in the order of their numbers.
     Range(Kind, Kind, bool),
+    /// A branch of these kinds with two sides. The steps for its right side come next, up to their `Done`, those for
+    /// its left side, up to theirs, and then those for what is before it. Where a part in parentheses is no other than
+    /// one without, its sides may be exchanged, too, as in `b > a` for `a < b`. Where this is `true`, its operator is
+    /// told.
+    Sides(Kind, Kind, bool),
     /// A branch that is this. Where this is `true`, its first token is told.
     Leaf(Leaf, bool),
     /// Any branches.

@@ -27,8 +27,6 @@ pub(crate) struct Sheet<'a> {
 #[derive(Clone, Copy)]
 pub(crate) enum Respelled {
     No,
-    /// With its sides changed, and this operator.
-    Mirrored(BinOp),
     /// Without `!= 0`.
     Bare,
     /// With an `else`.
@@ -160,6 +158,9 @@ impl<'a> Sheet<'a> {
         fuel: usize,
     ) -> Result<(), AllocError> {
         let kind = branch_at(self.rows, index).kind;
+        if may_exchange(kind) {
+            return self.in_sides(index, first, steps, fuel);
+        }
         let is_told = self.is_told(index);
         let respelled = self.respelled(index, first);
         if let Respelled::No = respelled {
@@ -177,45 +178,38 @@ impl<'a> Sheet<'a> {
         steps.push(Step::Jump(0))?;
         set(steps, either, Step::Either(steps_after(steps, either)));
         steps.push(Step::Tree(respelled_kind(respelled, kind), is_told))?;
-        self.respelled_parts(respelled, index, first, steps, fuel)?;
+        let end = match respelled {
+            Respelled::Bare => self.begin_in(index.saturating_sub(2), first),
+            _ => index,
+        };
+        self.row(first, end, steps, fuel)?;
         steps.push(Step::Done)?;
         set(steps, jump, Step::Jump(steps_after(steps, jump)));
         Ok(())
     }
 
+    // A branch whose sides may stand in either order: the right one, and then the left one.
     #[cycle(drawing)]
-    fn respelled_parts(
+    fn in_sides(
         &self,
-        respelled: Respelled,
         index: usize,
         first: usize,
         steps: &mut Vec<Step>,
         fuel: usize,
     ) -> Result<(), AllocError> {
-        match respelled {
-            Respelled::Mirrored(_) => {
-                let right = self.begin_in(index.saturating_sub(1), first);
-                self.row(first, right, steps, fuel)?;
-                self.row(right, index, steps, fuel)
-            }
-            Respelled::Bare => {
-                let right = self.begin_in(index.saturating_sub(2), first);
-                self.row(first, right, steps, fuel)
-            }
-            _ => self.row(first, index, steps, fuel),
-        }
+        let kind = branch_at(self.rows, index).kind;
+        let middle = self.begin_in(index.saturating_sub(1), first);
+        steps.push(Step::Sides(kind, kind, self.is_told(index)))?;
+        self.row(middle, index, steps, fuel)?;
+        steps.push(Step::Done)?;
+        self.row(first, middle, steps, fuel)?;
+        steps.push(Step::Done)?;
+        Ok(())
     }
 
     // How else a branch may be spelled.
     fn respelled(&self, index: usize, first: usize) -> Respelled {
         match branch_at(self.rows, index).kind {
-            Kind::Node(Node::Binary(op)) => {
-                if self.is_loose {
-                    mirrored_by(mirrored(op))
-                } else {
-                    Respelled::No
-                }
-            }
             Kind::Node(Node::Tested) => {
                 if self.is_loose && self.is_nonzero(index.saturating_sub(1)) {
                     Respelled::Bare
@@ -296,13 +290,6 @@ fn of_statement(sign: Option<Sign>) -> Option<Sign> {
     }
 }
 
-fn mirrored_by(op: Option<BinOp>) -> Respelled {
-    match op {
-        Some(op) => Respelled::Mirrored(op),
-        None => Respelled::No,
-    }
-}
-
 fn is_unequal(kind: Kind) -> bool {
     matches!(kind, Kind::Node(Node::Binary(BinOp::Ne)))
 }
@@ -320,21 +307,19 @@ fn is_zero(lexeme: Lexeme) -> bool {
 
 fn respelled_kind(respelled: Respelled, kind: Kind) -> Kind {
     match respelled {
-        Respelled::Mirrored(op) => Kind::Node(Node::Binary(op)),
         Respelled::WithElse => Kind::Construct(Construct::IfElse),
         _ => kind,
     }
 }
 
-// The operator with its sides changed, where that gives the same.
-fn mirrored(op: BinOp) -> Option<BinOp> {
-    match op {
-        BinOp::Eq | BinOp::Ne | BinOp::Add | BinOp::Mul | BinOp::And | BinOp::Or => Some(op),
-        BinOp::Lt => Some(BinOp::Gt),
-        BinOp::Le => Some(BinOp::Ge),
-        BinOp::Gt => Some(BinOp::Lt),
-        BinOp::Ge => Some(BinOp::Le),
-        _ => None,
+// Whether an operator says the same with its sides exchanged, or another one does.
+fn may_exchange(kind: Kind) -> bool {
+    match kind {
+        Kind::Node(Node::Binary(op)) => !matches!(
+            op,
+            BinOp::Sub | BinOp::Div | BinOp::Rem | BinOp::Shl | BinOp::Shr
+        ),
+        _ => false,
     }
 }
 

@@ -5,13 +5,19 @@ use Rattle.bmatch.specs.declared.fits.TheConstants.{MOST_PASSED}
 use Rattle.bmatch.proofs.fits.+fits.Given as goal
 
 abbrev pub decreases-fits : goal.decreases-fits
-decreases-fits l = 2 * length l.steps.now
+decreases-fits l = 3 * length l.steps.now
 
 abbrev pub decreases-fits_left : goal.decreases-fits_left
-decreases-fits_left l = 2 * length l.more.now + 1
+decreases-fits_left l = 3 * length l.more.now + 1
+
+abbrev pub decreases-fits_both : goal.decreases-fits_both
+decreases-fits_both l = 3 * length l.more.now + 2
+
+abbrev pub decreases-fits_sides : goal.decreases-fits_sides
+decreases-fits_sides l = 3 * length l.more.now + 1
 
 abbrev pub decreases-passes : goal.decreases-passes
-decreases-passes l = 2 * length l.more.now + 1
+decreases-passes l = 3 * length l.more.now + 1
 
 abbrev pub invariant-passes-loop : goal.invariant-passes-loop
 invariant-passes-loop l =

@@ -10,5 +10,5 @@ decreases-branch l = 4 * l.fuel + 3
 abbrev pub decreases-spelled : goal.decreases-spelled
 decreases-spelled l = 4 * l.fuel + 2
 
-abbrev pub decreases-respelled_parts : goal.decreases-respelled_parts
-decreases-respelled_parts l = 4 * l.fuel + 1
+abbrev pub decreases-in_sides : goal.decreases-in_sides
+decreases-in_sides l = 4 * l.fuel + 1
