@@ -614,6 +614,18 @@ changes_of_stars : map (λ k. changed_by (alone node.Name 0 0 ∷ over (kind.Nod
     ≡ replicate 5 (Some 1)
 changes_of_stars = refl
 
+-- *(v + i) is v[i] where a rule is loose, and *(v - i) isn't
+abbrev starred : BinOp → List Branch
+starred o =
+    alone node.Name 0 0 ∷ alone node.Name 0 1 ∷ over (kind.Node (node.Binary o)) 0 2
+    ∷ record (over (kind.Node node.Grouped) 0 3) { core = 2 } ∷ over (kind.Node node.Indirection) 0 4 ∷ []
+
+stars_for_indexes : map (λ (pair : Bool × BinOp). ways (fits_in (record (site_in (placed [] [] [] (starred pair.1)) 0 5).sight
+    { is_loose = pair.0 }) 0 (step.Tree (kind.Node node.Indexed) false ∷ hole 1 sort.Any false ∷ hole 0 sort.Any false
+    ∷ step.Done ∷ step.Done ∷ []) 0 5 [] nothing_bound)) ((true, op.Add) ∷ (true, op.Sub) ∷ (false, op.Add) ∷ [])
+    ≡ ((Some 0, Some 1, None) ∷ []) ∷ [] ∷ [] ∷ []
+stars_for_indexes = refl
+
 -- what stands for nothing passes no test
 unbound_tests : map (λ t. passes_in tree t 14 14 14) (test.Quiet 3 ∷ test.Backslash 3 ∷ test.Begins 3 word.Nothing
     ∷ test.OwnName 3

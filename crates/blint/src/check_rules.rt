@@ -1,4 +1,4 @@
-//! The rules of `b check`, as tools/rules makes them of share/rules/check.rules, whose digest is 493777eb0677194a.
+//! The rules of `b check`, as tools/rules makes them of share/rules/check.rules, whose digest is dac289ae59803295.
 use crate::warnings::{Slip, Warning};
 use bmatch::Claim::{
     Begun, Call, Either as Else, End, Is, Jump as Skip, Not, Some as Has, Test as If,

@@ -102,17 +102,34 @@ span_of begin end = record { begin = begin; end = end }
 abbrev pub is_between : (first last kind : Kind) → Bool
 is_between first last k = nat_le (kind_number first) (kind_number k) && nat_le (kind_number k) (kind_number last)
 
+abbrev pub is_sum_for : (asked kind inner : Kind) → Bool
+is_sum_for (kind.Node node.Indexed) (kind.Node node.Indirection) (kind.Node (node.Binary op.Add)) = true
+is_sum_for asked k inner = false
+
+-- An index is asked for, and the branch is a star with a sum: `*(v + i)` is `v[i]`.
+abbrev pub is_pointed : Sight → (asked : Kind) → (index : ℕ) → Bool
+is_pointed s asked index =
+    let rows = s.tree.rows.now in
+    s.is_loose && is_sum_for asked (branch_at rows index).kind (branch_at rows (branch_at rows (index - 1)).core).kind
+
+-- the kind that a branch is then, and the number of the branch whose parts it has
+abbrev pub kind_for : Sight → (asked : Kind) → (index : ℕ) → Kind
+kind_for s asked index = if is_pointed s asked index then asked else (branch_at s.tree.rows.now index).kind
+
+abbrev pub index_for : Sight → (asked : Kind) → (index : ℕ) → ℕ
+index_for s asked index = if is_pointed s asked index then (branch_at s.tree.rows.now (index - 1)).core else index
+
 -- the branches in the last one of a row, if it is of such a kind
 abbrev pub inner_of : Sight → (first last : Kind) → (begin end : ℕ) → Option Span
 inner_of s first last begin end =
-    let index = seen_at s (is_grouped first) end in
-    let branch = branch_at s.tree.rows.now index in
-    if nat_lt begin end && is_between first last branch.kind then Some (span_of branch.begin index) else None
+    let seen = seen_at s (is_grouped first) end in
+    let index = index_for s first seen in
+    if nat_lt begin end && is_between first last (kind_for s first seen)
+    then Some (span_of (branch_at s.tree.rows.now index).begin index) else None
 
 -- the last branch that ends here is of such a kind
 abbrev pub is_seen : Sight → (first last : Kind) → (end : ℕ) → Bool
-is_seen s first last end =
-    is_between first last (branch_at s.tree.rows.now (seen_at s (is_grouped first) end)).kind
+is_seen s first last end = is_between first last (kind_for s first (seen_at s (is_grouped first) end))
 
 -- the operator that says the same where its sides are exchanged
 abbrev pub mirrored : Kind → Kind

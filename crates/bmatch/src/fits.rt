@@ -1,7 +1,8 @@
 //! Whether steps of a pattern fit a row of branches.
 ghost use Rattle.std.specs.List.{flat_map};
 ghost use Rattle.std.specs.Prelude.{◌≡◌, ◌∷◌, ◌++◌, IfOk, take};
-ghost use Rattle.bmatch.specs.Fits.{either_way, go_in, has_sides, mirrored, sees_sides, sides_of};
+ghost use Rattle.bmatch.specs.Fits.{either_way, go_in, has_sides, index_for, is_pointed, is_sum_for, kind_for};
+ghost use Rattle.bmatch.specs.Fits.{mirrored, sees_sides, sides_of};
 ghost use Rattle.bmatch.specs.Fits.{changes_hole, ends_of, fits_in, inner_of, is_grouped, is_name_of, is_named, is_number, is_sort, is_word};
 ghost use Rattle.bmatch.specs.Fits.{is_word_alone};
 ghost use Rattle.bmatch.specs.Fits.{is_between, is_seen, is_value_of, leaf_binds, may_begin, rows_left, seen_at, start_of, with_leaf, with_same};
@@ -211,7 +212,45 @@ fn is_seen(sight: &Sight<'_>, first: Kind, last: Kind, end: usize) -> bool
     ensures { result ≡ is_seen sight.now first last end }
 {
     let seen = seen_at(sight, is_grouped(first), end);
-    is_between(first, last, kind_at(sight.tree.rows, seen))
+    is_between(first, last, kind_for(sight, first, seen))
+}
+
+// Whether an index is asked for, and the branch is a star with a sum: `*(v + i)` is `v[i]`.
+fn is_pointed(sight: &Sight<'_>, asked: Kind, index: usize) -> bool
+    ensures { result ≡ is_pointed sight.now asked index }
+{
+    let rows = sight.tree.rows;
+    let inner = core_at(rows, index.saturating_sub(1));
+    sight.is_loose && is_sum_for(asked, kind_at(rows, index), kind_at(rows, inner))
+}
+
+fn is_sum_for(asked: Kind, kind: Kind, inner: Kind) -> bool
+    ensures { result ≡ is_sum_for asked kind inner }
+{
+    matches!(asked, Kind::Node(Node::Indexed))
+        && (matches!(kind, Kind::Node(Node::Indirection))
+            && matches!(inner, Kind::Node(Node::Binary(BinOp::Add))))
+}
+
+// The kind that a branch is then, and the number of the branch whose parts it has.
+fn kind_for(sight: &Sight<'_>, asked: Kind, index: usize) -> Kind
+    ensures { result ≡ kind_for sight.now asked index }
+{
+    if is_pointed(sight, asked, index) {
+        asked
+    } else {
+        kind_at(sight.tree.rows, index)
+    }
+}
+
+fn index_for(sight: &Sight<'_>, asked: Kind, index: usize) -> usize
+    ensures { result ≡ index_for sight.now asked index }
+{
+    if is_pointed(sight, asked, index) {
+        core_at(sight.tree.rows, index.saturating_sub(1))
+    } else {
+        index
+    }
 }
 
 // Whether the last branch that ends here has two sides and is of such a kind, perhaps with these exchanged.
@@ -304,11 +343,11 @@ fn is_between(first: Kind, last: Kind, kind: Kind) -> bool
 fn inner(sight: &Sight<'_>, first: Kind, last: Kind, span: Span) -> Option<Span>
     ensures { result ≡ inner_of sight.now first last span.begin span.end }
 {
-    let index = seen_at(sight, is_grouped(first), span.end);
-    let branch = branch_at(sight.tree.rows, index);
-    if span.begin < span.end && is_between(first, last, branch.kind) {
+    let seen = seen_at(sight, is_grouped(first), span.end);
+    let index = index_for(sight, first, seen);
+    if span.begin < span.end && is_between(first, last, kind_for(sight, first, seen)) {
         Some(Span {
-            begin: branch.begin,
+            begin: branch_at(sight.tree.rows, index).begin,
             end: index,
         })
     } else {
