@@ -3,15 +3,15 @@ use crate::gaps::{Gap, joins};
 use crate::kind::ItemKind;
 use crate::reading::SourceItem;
 use crate::structure::{END, TokenLayout, spots};
-use blang::MAX_NESTING;
 use btools::Text;
 use std::alloc::{AllocError, Global};
 
 /// How many blanks a level has.
 const LEVEL: usize = 4;
 
-/// How many levels are indented at most. A source of deeper levels of nesting doesn't compile.
-const DEEPEST: usize = MAX_NESTING;
+/// How many levels are indented at most. What is deeper stands as this level does, so a layout has at most some 160
+/// bytes for each byte of its source.
+const DEEPEST: usize = 40;
 
 /// The pieces in the style of the house.
 pub(crate) fn lay_out(alloc: Global, pieces: &[SourceItem<'_>]) -> Result<Text, AllocError> {
