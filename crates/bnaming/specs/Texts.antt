@@ -67,19 +67,19 @@ kind_word (Some r) = content_kind r.content
 abbrev pub joined : List (List ℕ) → List ℕ
 joined parts = flat_map (λ part. part) parts
 
--- a place, after the beginning of its object, in its file
+-- a place, after the beginning of its list: its file, the line in that, and the columns in bytes and in units of UTF-16
 abbrev pub place_text : Files → (head : List ℕ) → Spot → List ℕ
 place_text files head s =
-    joined (head ∷ json_text (own_line files s.line).file ∷ codes ",\"line\":" ∷ decimal (own_line files s.line).line
-    ∷ codes ",\"column\":" ∷ decimal s.column ∷ codes ",\"utf16_column\":" ∷ decimal s.unit ∷ codes "}" ∷ [])
+    joined (head ∷ json_text (own_line files s.line).file ∷ codes "," ∷ decimal (own_line files s.line).line
+    ∷ codes "," ∷ decimal s.column ∷ codes "," ∷ decimal s.unit ∷ codes "]" ∷ [])
 
 abbrev pub ends_text : Files → (first end : Spot) → List ℕ
 ends_text files first end =
-    place_text files (codes ",\"at\":{\"file\":") first ++ place_text files (codes ",\"end\":{\"file\":") end
+    place_text files (codes ",\"at\":[") first ++ place_text files (codes ",\"end\":[") end
 
 abbrev pub declared_text : Files → Option Row → List ℕ
 declared_text files None = []
-declared_text files (Some r) = place_text files (codes ",\"declared\":{\"file\":") r.first
+declared_text files (Some r) = place_text files (codes ",\"declared\":[") r.first
 
 abbrev pub member_text : (head word : List ℕ) → List ℕ
 member_text head word = joined (head ∷ word ∷ codes "\"" ∷ [])

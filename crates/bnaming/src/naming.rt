@@ -57,7 +57,9 @@ fn names_text(
     let pieces = pieces_of(alloc, source, edition)?;
     let comments = comments_of(alloc, &pieces)?;
     let tokens = tokens_of(alloc, &pieces)?;
+    drop(pieces);
     let rows = tagged_rows(alloc, &tokens)?;
+    drop(tokens);
     let mut text = Text::new(alloc);
     push_comments(&mut text, files, &comments)?;
     push_rows(alloc, &mut text, files, &rows)?;

@@ -105,8 +105,8 @@ fn push_ends(
 ) -> Result<(), AllocError>
     ensures { OnOk result (text.new ≡ text.old ++ ends_text (files_shown files.now) first end) }
 {
-    push_place(text, files, b",\"at\":{\"file\":", first)?;
-    push_place(text, files, b",\"end\":{\"file\":", end)
+    push_place(text, files, b",\"at\":[", first)?;
+    push_place(text, files, b",\"end\":[", end)
 }
 
 fn push_declared(
@@ -117,12 +117,12 @@ fn push_declared(
     ensures { OnOk result (text.new ≡ text.old ++ declared_text (files_shown files.now) bound) }
 {
     match bound {
-        Some(row) => push_place(text, files, b",\"declared\":{\"file\":", row.first),
+        Some(row) => push_place(text, files, b",\"declared\":[", row.first),
         None => Ok(()),
     }
 }
 
-// Adds a place, after the beginning of its object.
+// Adds a place, after the beginning of its list.
 fn push_place<'a>(
     text: &mut Text,
     files: &SourceFiles<'a>,
@@ -137,13 +137,13 @@ fn push_place<'a>(
         &[
             Fragment::Words(head),
             Fragment::Quoted(at.file.as_bytes()),
-            Fragment::Words(b",\"line\":"),
+            Fragment::Words(b","),
             Fragment::Number(at.line),
-            Fragment::Words(b",\"column\":"),
+            Fragment::Words(b","),
             Fragment::Number(spot.column as u64),
-            Fragment::Words(b",\"utf16_column\":"),
+            Fragment::Words(b","),
             Fragment::Number(spot.unit as u64),
-            Fragment::Words(b"}"),
+            Fragment::Words(b"]"),
         ],
     )
 }
