@@ -1,10 +1,10 @@
 -- Looking for the function of a call, the external of a name, and the thing of a word.
-use Rattle.std.proofs.Common.{◌≡◌, ◌∙◌, ℕ, zero, suc, ◌+◌, ◌<◌, ◌≤◌, false, min, List, [], ◌∷◌, ◌++◌, ◌%◌, append_assoc, Option, None, Some, ap, arith, drop, get_or, length, map, refl, sym}
-use Rattle.std.specs.Prelude.{◌==◌, nat_le, slice_get, if◌then◌else◌}
+use Rattle.std.proofs.Common.{◌≡◌, ◌∙◌, ℕ, zero, suc, ◌+◌, ◌<◌, ◌≤◌, List, [], ◌∷◌, ◌++◌, ◌%◌, append_assoc, Option, None, Some, ap, arith, drop, get_or, length, map, refl, sym}
+use Rattle.std.specs.Prelude.{nat_le, slice_get, if◌then◌else◌}
 use Rattle.std.proofs.lemmas.List.{drop_more}
-use Rattle.std.proofs.lemmas.Option.{get_or_from_slice_get, slice_get_within}
+use Rattle.std.proofs.lemmas.Option.{get_or_from_slice_get, slice_get_past, slice_get_within}
 use Rattle.std.specs.Option.{option_map}
-use Rattle.std.proofs.lemmas.Bool.{cond-true, le-leb}
+use Rattle.std.proofs.lemmas.Bool.{cond-true, eq-eqb, le-leb, ne_eqb}
 use Rattle.bparse.specs.Locals.{NamedWord}
 use Rattle.bcareful.specs.Tellings.{holder, holds, named_at}
 use Rattle.blang.specs.declared.code.Definition.{Definition}
@@ -14,6 +14,7 @@ use Rattle.bmach.specs.Stops.{active_of}
 use Rattle.bmach.specs.declared.machine.Active.{Active}
 use Rattle.btools.specs.FrameNames.{frame_seen, word_seen}
 use Rattle.btools.specs.Functions.{placed_entry}
+use Rattle.btools.proofs.Searching.{Ascend}
 use Rattle.btools.specs.declared.names.Frame.{Frame}
 use Rattle.btools.specs.declared.names.FrameWord.{FrameWord}
 use Rattle.btools.specs.declared.tables.FunctionEntry.{FunctionEntry}
@@ -25,28 +26,33 @@ use Rattle.bcareful.specs.declared.thing.Mark.{Mark}
 abbrev pub located_from : (strings : ℕ) → List FunctionEntry → List Frame → Option Site
 located_from strings es fs = located (map placed_entry es) (map frame_seen fs) strings
 
--- a function that isn't the one
-pub missed : (s : ℕ) (es : List FunctionEntry) (fs : List Frame) (i : ℕ) (e : FunctionEntry) → i < length es → i < length fs → ((get_or es i e).strings == s) ≡ false
-    → located_from s (drop i es) (drop i fs) ≡ located_from s (drop (i + 1) es) (drop (i + 1) fs)
-missed s [] fs i e lt within other = absurd (omega (arith, lt))
-missed s (x ∷ es) [] i e lt within other = absurd (omega (arith, within))
-missed s (x ∷ es) (y ∷ fs) zero e lt within other = rw other refl
-missed s (x ∷ es) (y ∷ fs) (suc i) e lt within other =
-    let more : suc i + 1 ≡ suc (i + 1) = omega arith in
-    missed s es fs i e (omega (arith, lt)) (omega (arith, within)) other ∙ ap (λ k. located_from s (drop k (x ∷ es)) (drop k (y ∷ fs))) (sym more)
+-- none of the functions is the one
+pub none_located : (s : ℕ) (es : List FunctionEntry) (fs : List Frame) → ((k : ℕ) (d : FunctionEntry) → k < length es → (get_or es k d).strings ≡ s → ⊥) → located_from s es fs ≡ None
+none_located s [] fs others = refl
+none_located s (e ∷ es) [] others = refl
+none_located s (e ∷ es) (f ∷ fs) others = rw (ne_eqb e.strings s (others 0 e (omega arith))) (none_located s es fs (λ k d lt. others (suc k) d (omega arith)))
 
-no_frames : (s : ℕ) (es : List FunctionEntry) → located_from s es [] ≡ None
-no_frames s [] = refl
-no_frames s (e ∷ es) = refl
+-- a function with the words of a frame
+abbrev pub site_with : FunctionEntry → Frame → Site
+site_with e f = record { function = (placed_entry e).function; words = frame_seen f }
 
--- none is left
-pub none_left : (s : ℕ) (es : List FunctionEntry) (fs : List Frame) (n : ℕ) → min (length es) (length fs) ≤ n → located_from s (drop n es) (drop n fs) ≡ None
-none_left s [] fs zero le = refl
-none_left s [] fs (suc n) le = refl
-none_left s (x ∷ es) [] zero le = refl
-none_left s (x ∷ es) [] (suc n) le = no_frames s (drop n es)
-none_left s (x ∷ es) (y ∷ fs) zero le = absurd (omega (arith, le))
-none_left s (x ∷ es) (y ∷ fs) (suc n) le = none_left s es fs n (omega (arith, le))
+-- the one with this number is, if it has a frame
+pub one_located : (s : ℕ) (es : List FunctionEntry) (fs : List Frame) (i : ℕ) (d : FunctionEntry) → Ascend es → i < length es → (get_or es i d).strings ≡ s
+    → located_from s es fs ≡ option_map (site_with (get_or es i d)) (slice_get fs i)
+one_located s [] fs i d ascend lt is = absurd (omega arith)
+one_located s (e ∷ es) [] zero d ascend lt is = refl
+one_located s (e ∷ es) [] (suc i) d ascend lt is = refl
+one_located s (e ∷ es) (f ∷ fs) zero d ascend lt is = rw (eq-eqb e.strings s is) refl
+one_located s (e ∷ es) (f ∷ fs) (suc i) d ascend lt is =
+    let before = ascend 0 (suc i) d (omega arith) lt in
+    rw (ne_eqb e.strings s (λ at. omega (arith, before, at, is)))
+    (one_located s es fs i d (λ k l c less within. ascend (suc k) (suc l) c (omega arith) (omega arith)) (omega arith) is)
+
+-- and else none is
+pub unframed : (s : ℕ) (es : List FunctionEntry) (fs : List Frame) (i : ℕ) → Ascend es → i < length es → ((d : FunctionEntry) → (get_or es i d).strings ≡ s) → length fs ≤ i → located_from s es fs ≡ None
+unframed s [] fs i ascend lt is past = absurd (omega arith)
+unframed s (e ∷ es) fs i ascend lt is past =
+    one_located s (e ∷ es) fs i e ascend lt (is e) ∙ ap (option_map (site_with (get_or (e ∷ es) i e))) (slice_get_past fs i past)
 
 -- the marks of one definition more
 pub one_definition : (a : Atlas) (address : ℕ) (ds : List Definition) (i : ℕ) (d : Definition) → i < length ds → d ≡ get_or ds i d → (before after whole : List Mark) (size : ℕ) → after ≡ before ++ shape_marks a address (shape_of d)

@@ -34,17 +34,12 @@ impl<'a> Atlas<'a> {
     pub fn located(&self, strings: u32) -> Option<Site<'a>>
         ensures { option_map site_of result ≡ located (atlas_of self.now).functions (atlas_of self.now).frames strings }
     {
-        let entries = self.tables.entries();
-        let frames = self.program.names.frames.as_slice();
-        for number in 0..entries.len().min(frames.len()) {
-            if entries[number].strings == strings {
-                return Some(Site {
-                    parts: entries[number].parts,
-                    words: frames[number].words.as_slice(),
-                });
-            }
-        }
-        None
+        let number = self.tables.position(strings)?;
+        let frame = self.program.names.frames.get(number)?;
+        Some(Site {
+            parts: self.tables.entries()[number].parts,
+            words: frame.words.as_slice(),
+        })
     }
 
     /// The thing that the external of this name is.

@@ -1,23 +1,40 @@
-use Rattle.std.proofs.Common.{◌∙◌, ◌<◌, arith, length, sym}
-use Rattle.btools.proofs.Finding.{other_number}
-use Rattle.bcareful.proofs.Looking.{located_from, missed, none_left}
+use Rattle.std.proofs.Common.{◌≡◌, ◌∙◌, ◌≤◌, Some, ap, arith, get_or, length, map, sym}
+use Rattle.std.specs.Option.{option_map}
+use Rattle.std.specs.Prelude.{slice_get}
+use Rattle.std.proofs.lemmas.Option.{slice_get-get_or}
+use Rattle.blang.specs.CodeParts.{function_of}
+use Rattle.btools.specs.FrameNames.{word_seen}
+use Rattle.bcareful.specs.Things.{site_of}
+use Rattle.bcareful.proofs.Looking.{none_located, one_located, site_with, unframed}
 use Rattle.bcareful.proofs.atlas.Atlas.located.Goals as goal
 
-pub loop-number-preserved : goal.loop-number-preserved
-loop-number-preserved c =
-    let es = c.entries-entries.result.now in
-    let fs = c.as_slice-frames.result.now in
-    let i = c.loop-number.number in
-    let e = c.index-entries-number.result in
-    let within : (i < length es) × (i < length fs) = (omega (arith, c.loop-number-test.true, c.min-number-end.ensures), omega (arith, c.loop-number-test.true, c.min-number-end.ensures)) in
-    sym (missed c.args.strings es fs i e within.0 within.1 (other_number _ _ c.if-entries-number.false))
-    ∙ c.loop-number.invariant
+pub returns-in_err-number : goal.returns-in_err-number
+returns-in_err-number c =
+    let es = c.args.self.now.tables.now.entries.items in
+    let fs = c.args.self.now.program.now.names.frames.items in
+    ap (option_map site_of) c.from_residual.ensures ∙ sym (none_located c.args.strings es fs c.in_err-number.ensures)
+
+pub returns-in_err-frame : goal.returns-in_err-frame
+returns-in_err-frame c =
+    let es = c.args.self.now.tables.now.entries.items in
+    let fs = c.args.self.now.program.now.names.frames.items in
+    let lies = c.in_ok-number.ensures in
+    let past : length fs ≤ c.in_ok-number.number = omega (arith, c.in_err-frame.ensures.lookup.3, ap length c.deref.ensures.value) in
+    ap (option_map site_of) c.from_residual-in_err-frame.ensures
+    ∙ sym (unframed c.args.strings es fs c.in_ok-number.number c.args.self.now.tables.now.in_order lies.0 lies.1 past)
 
 pub returns : goal.returns
 returns c =
-    let s = c.args.strings in
-    let es = c.entries-entries.result.now in
-    let fs = c.as_slice-frames.result.now in
-    sym (none_left s es fs c.loop-number.number (omega (arith, c.loop-number-test.false, c.min-number-end.ensures)))
-    ∙ c.loop-number.invariant
-    ∙ (λ k. located_from s (c.entries-entries.ensures k) (c.as_slice-frames.ensures.value k))
+    let es = c.args.self.now.tables.now.entries.items in
+    let fs = c.args.self.now.program.now.names.frames.items in
+    let number = c.in_ok-number.number in
+    let lies = c.in_ok-number.ensures in
+    let d = c.index-entries-number.result in
+    let frame = c.in_ok-frame.frame.now in
+    let there = c.in_ok-frame.ensures.lookup.3 in
+    let got : slice_get fs number ≡ Some frame =
+    ap (λ xs. slice_get xs number) (sym c.deref.ensures.value)
+    ∙ slice_get-get_or c.deref.result.now number frame there.0 ∙ ap Some (sym (there.1 frame)) in
+    (λ k. Some (record { function = function_of (get_or (c.entries.ensures k) number d).parts.now; words = map word_seen (c.as_slice.ensures.value k) }))
+    ∙ ap (option_map (site_with (get_or es number d))) (sym got)
+    ∙ sym (one_located c.args.strings es fs number d c.args.self.now.tables.now.in_order lies.0 (lies.1 d))
