@@ -1,11 +1,10 @@
 //! What is found at a step.
 ghost use Rattle.std.specs.Prelude.{◌≡◌, false};
-ghost use Rattle.bcareful.specs.Effects.{mark, moment_of, operand};
+ghost use Rattle.bcareful.specs.Effects.{instr_effect, mark, moment_of, operand, operands_taken};
 ghost use Rattle.bcareful.specs.Findings.{call_touch, counts_by, found_word, instr_finding, is_address, unset_part};
 ghost use Rattle.bcareful.specs.Findings.{result_finding, thing_finding, touch, touch_finding, word_finding};
 ghost use Rattle.bcareful.specs.Findings.{wrap_finding, wraps};
 
-use crate::effect::instr_effect;
 use crate::moment::Moment;
 use crate::thing::{Mark, Part, Thing};
 use blang::{Increment, Instr};
@@ -85,11 +84,12 @@ fn call_touch(moment: &Moment<'_>, count: usize) -> Option<Touched>
     }
 }
 
-/// What is found at an instruction; nothing where the machine is stuck for want of operands.
-pub fn instr_finding(moment: &Moment<'_>, instr: &Instr) -> Option<Finding>
+/// What is found at an instruction that takes so many operands; nothing where the machine is stuck for want of them.
+pub fn instr_finding(moment: &Moment<'_>, instr: &Instr, taken: usize) -> Option<Finding>
+    requires { taken ≡ operands_taken (instr_effect (moment_of moment.now) instr.now) }
     ensures { result ≡ instr_finding (moment_of moment.now) instr.now }
 {
-    if moment.operands.len() < instr_effect(moment, *instr).operands_taken() {
+    if moment.operands.len() < taken {
         return None;
     }
     found_word(moment, *instr).or(wrap_finding(moment, *instr))
@@ -109,6 +109,9 @@ fn found_word(moment: &Moment<'_>, instr: Instr) -> Option<Finding>
 fn wrap_finding(moment: &Moment<'_>, instr: Instr) -> Option<Finding>
     ensures { result ≡ wrap_finding (moment_of moment.now) instr }
 {
+    if !moment.atlas.wraps {
+        return None;
+    }
     let right = moment.operand(0);
     let of_right = moment.marks.operand(0);
     let address = moment.operand(1);

@@ -233,10 +233,13 @@ fn look_by(
         marks,
     };
     match site.parts.code.get(call.place) {
-        Some(instr) => Look {
-            finding: instr_finding(&moment, instr),
-            effect: instr_effect(&moment, *instr),
-        },
+        Some(instr) => {
+            let effect = instr_effect(&moment, *instr);
+            Look {
+                finding: instr_finding(&moment, instr, effect.operands_taken()),
+                effect,
+            }
+        }
         None => none,
     }
 }
