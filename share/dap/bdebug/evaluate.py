@@ -8,7 +8,7 @@ from .tokens import KEYWORDS, Token, TokenFault, constant_of, tokens_of
 from .words import WORD, signed
 
 RANKS = (("*", "/", "%"), ("+", "-"), ("<<", ">>"), ("<", "<=", ">", ">="), ("==", "!="), ("&",), ("|",))
-MOST_NESTING = 100  # levels
+MOST_NESTING = 50  # levels
 MOST_TEXT = 10_000  # characters
 
 
@@ -230,9 +230,11 @@ def evaluate(text: str, scope: Scope) -> Value:
     """The value of an expression; a Fault tells why there is none."""
     try:
         node = _Parser(text, scope).whole()
+        if node.address is None or not node.is_operand:
+            return Value(node.word() & WORD, None)
+        address = node.address() & WORD
+        return Value(scope.word(address), address)
     except TokenFault as fault:
         raise Fault(str(fault)) from None
-    if node.address is None or not node.is_operand:
-        return Value(node.word() & WORD, None)
-    address = node.address() & WORD
-    return Value(scope.word(address), address)
+    except RecursionError:
+        raise Fault("the expression is nested too deeply") from None

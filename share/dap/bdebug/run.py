@@ -76,6 +76,11 @@ class Run:
         self.written = self.applied = 0
         self._arrive(None)
 
+    def restart(self) -> None:
+        """Begins anew, without what the user stored."""
+        self.stores, self.shown, self._calls = [], 0, None
+        self._begin()
+
     # Where it stands.
 
     @property

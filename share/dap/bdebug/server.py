@@ -14,6 +14,7 @@ THREAD = 1
 CODE = 1 << 32  # added to the place of an instruction, to tell it from a word of memory
 PAGE = 1000  # variables, where no number is asked for
 MOST_FRAMES = 5000  # the machine has at most 4096
+MOST_INSTRUCTIONS = 20_000  # in one answer
 CAPABILITIES = (
     "supportsConfigurationDoneRequest", "supportsFunctionBreakpoints", "supportsConditionalBreakpoints",
     "supportsHitConditionalBreakpoints", "supportsEvaluateForHovers", "supportsStepBack", "supportsSetVariable",
@@ -176,7 +177,7 @@ class Server:
         if halt.reason == "input" and "input" not in self.filters:
             self.is_waiting = True
             self.tell("The program wants input. Type `input TEXT` here, or `input` to close it.\n")
-        elif name is None or name in self.filters:
+        elif name is None or name in self.filters and not self.launched.get("noDebug"):
             self.stop(halt)
         else:
             self.finish(halt)
@@ -212,7 +213,7 @@ class Server:
     def on_launch(self, arguments):
         if self.debugger is not None:
             raise Refused("a program is there already")
-        self.launched = arguments
+        self.launched, self.points = arguments, {}
         self.load()
         self.after.append(lambda: self.outbox.event("initialized"))
 
@@ -223,6 +224,9 @@ class Server:
         edition = optional(given, "edition", int, None)
         if edition not in (None, 1, 2) or not all(isinstance(it, str) for it in libs or []):
             raise Refused("edition has to be 1 or 2, and libs a list of names")
+        most = optional(given, "steps", int, None)
+        if most is not None and most < 1:
+            raise Refused("steps has to be 1 or more")
         program = Program(self.path_of(argument(given, "program", str)), libs, edition)
         try:
             program.compile()
@@ -232,7 +236,7 @@ class Server:
             self.tell_faults(program, error)
             self.after.append(self.terminate)
             raise Refused(f"{program.path.name} can't be run: {error}") from None
-        run.most = optional(given, "steps", int, None)
+        run.most = most
         run.is_paused = self.inbox.has_urgent
         self.debugger = Debugger(program, run, self.tell)
 
@@ -263,7 +267,7 @@ class Server:
         """Stops at the first step, or goes on from there."""
         debugger = self.debugger
         if self.launched.get("noDebug"):
-            debugger.breakpoints, self.filters = [], set()
+            debugger.breakpoints = []
         halt = debugger.hit() if not self.launched.get("stopOnEntry") else debugger.entry()
         if halt is not None:
             self.stop(halt)
@@ -609,7 +613,7 @@ class Server:
         place = self.instruction(argument(arguments, "memoryReference", str), optional(arguments, "offset", int, 0))
         keys = [(function.address, it.place) for function, it in rows]
         first = (keys.index(place) if place else len(rows)) + optional(arguments, "instructionOffset", int, 0)
-        count = min(max(0, argument(arguments, "instructionCount", int)), 100_000)
+        count = min(max(0, argument(arguments, "instructionCount", int)), MOST_INSTRUCTIONS)
         return {"instructions": [self.told_instruction(rows, at) for at in range(first, first + count)]}
 
     def told_instruction(self, rows, at):

@@ -34,7 +34,7 @@ def spelled(byte: int) -> str:
 
 
 def is_shown(byte: int) -> bool:
-    return 32 <= byte < 127 or byte in (9, 10)
+    return 32 <= byte < 127
 
 
 def character(word: int) -> str:
@@ -51,7 +51,7 @@ def string_at(address: int, word_at) -> str:
         byte = word_at(at >> 1) >> 8 * (at & 1) & 0xFF
         if byte == END_OF_STRING:
             return '"' + "".join(map(spelled, text)) + '"' if text else ""
-        if not is_shown(byte):
+        if not is_shown(byte) and byte not in (9, 10):
             return ""
         text.append(byte)
     return '"' + "".join(map(spelled, text)) + '.."'
