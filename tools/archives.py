@@ -59,12 +59,15 @@ class Pack(NamedTuple):
         return folder
 
 
+NO_CACHE = shutil.ignore_patterns("__pycache__")
+
+
 def copy(to, *sources):
     """Copies files, and folders with all that is in them."""
     to.mkdir(parents=True, exist_ok=True)
     for source in sources:
         if source.is_dir():
-            shutil.copytree(source, to / source.name, symlinks=True, dirs_exist_ok=True)
+            shutil.copytree(source, to / source.name, symlinks=True, dirs_exist_ok=True, ignore=NO_CACHE)
         else:
             shutil.copy(source, to / source.name, follow_symlinks=False)
 
@@ -164,7 +167,7 @@ def linux(pack):
     copy(folder, *(SHARE / it for it in ("install.sh", "uninstall.sh", "Dockerfile")))
     manual(folder / "share")
     copy(folder / "share/zsh/site-functions", TOP / "share/completions/_b")
-    copy(folder / "share/b", *(TOP / "share" / it for it in ("kate", "lsp", "vim", "vscode")))
+    copy(folder / "share/b", *(TOP / "share" / it for it in ("dap", "kate", "lsp", "vim", "vscode")))
     copy(folder / "share/b/autograder", *(TOP / "share/class").iterdir())
     copy(folder / "share/b/python", *(TOP / "share/python" / it for it in ("b.py", *FOR_AUTHORS)))
     if pack.part("web"):
@@ -245,7 +248,7 @@ def deb(pack, processor):
     manual(usr / "share")
     copy(usr / "share/zsh/vendor-completions", TOP / "share/completions/_b")
     copy(usr / "share/b/lib", *(TOP / "lib").glob("*.b"))
-    copy(usr / "share/b", *(TOP / "share" / it for it in ("kate", "lsp", "vim", "vscode")))
+    copy(usr / "share/b", *(TOP / "share" / it for it in ("dap", "kate", "lsp", "vim", "vscode")))
     copy(usr / "share/b/python", *(TOP / "share/python" / it for it in FOR_AUTHORS))
     pages(doc)
     if c:
@@ -416,7 +419,7 @@ CONTENT_TYPES = """<?xml version="1.0" encoding="utf-8"?>
 {types}</Types>
 """
 TYPES = {".b": "text/plain", ".js": "application/javascript", ".json": "application/json", ".md": "text/markdown",
-         ".vsixmanifest": "text/xml"}
+         ".py": "text/x-python", ".vsixmanifest": "text/xml"}
 MANIFEST = """<?xml version="1.0" encoding="utf-8"?>
 <PackageManifest Version="2.0.0" xmlns="http://schemas.microsoft.com/developer/vsx-schema/2011"
     xmlns:d="http://schemas.microsoft.com/developer/vsx-schema-design/2011">
@@ -442,11 +445,14 @@ MANIFEST = """<?xml version="1.0" encoding="utf-8"?>
 
 
 def vsix(pack):
-    """The extension for VS Code, with the language server and the library, so that it needs no other file."""
+    """The extension for VS Code, with the language server, the debugger and the functions of lib/, so that it needs no
+    other file but, for the debugger, the library libb.so."""
     folder = pack.begin(f"b-{pack.version}-vscode")
     extension = folder / "extension"
     copy(extension, *(it for it in (TOP / "share/vscode").iterdir() if it.name != "tasks.json"))
     copy(extension / "server", *(TOP / "share/lsp" / it for it in ("b-lsp", "words.json")))
+    copy(extension, TOP / "share/dap")
+    copy(extension / "python", TOP / "share/python/b.py")
     copy(extension / "lib", *(TOP / "lib").glob("*.b"))
     told = {**json.loads((extension / "package.json").read_text()), "version": pack.version}
     (extension / "package.json").write_text(json.dumps(told, indent=2) + "\n")

@@ -48,7 +48,13 @@ const languages = new Proxy({ createDiagnosticCollection: () => shown }, {
         ways[name.replace(/^register|Provider$/g, "")] = words.find((it) => Object.keys(it)[0].startsWith("provide"));
     }),
 });
+const debuggers = {};
+const debug = {
+    registerDebugAdapterDescriptorFactory: (type, it) => Object.assign(debuggers, { [type]: it }),
+    registerDebugConfigurationProvider: (type, it) => Object.assign(debuggers[type], it),
+};
 const vscode = {
+    debug, DebugAdapterExecutable: kept("command", "words", "options"),
     Range, MarkdownString, WorkspaceEdit, languages,
     Position: kept("line", "character"),
     Uri: { parse: (text) => text },
@@ -130,6 +136,8 @@ async function main() {
     seen.answers = await answers();
     seen.ugly = await after(given.ugly, () => heard.change({ document }));
     seen.layout = (await ways.DocumentFormattingEdit.provideDocumentFormattingEdits(document))[0].text;
+    const { words } = debuggers.b.createDebugAdapterDescriptor();
+    seen.debugger = [require("fs").existsSync(words[0]), debuggers.b.resolveDebugConfiguration(undefined, {}).program];
     heard.close(document);
     await extension.deactivate();
     console.log(JSON.stringify({ ...seen, said }));

@@ -1,4 +1,4 @@
-// The language B in VS Code: all that it tells comes from the language server, b-lsp.
+// The language B in VS Code: all that it tells comes from the language server, b-lsp, and from the debugger, b_dap.py.
 "use strict";
 
 const fs = require("fs");
@@ -16,6 +16,30 @@ function setting(name) {
 function serverFile() {
     const own = path.join(__dirname, "server", "b-lsp");
     return fs.existsSync(own) ? own : path.join(__dirname, "..", "lsp", "b-lsp");
+}
+
+/** Where the debugger is: in this folder, or beside it where the program is installed. */
+function debuggerFile() {
+    const own = path.join(__dirname, "dap", "b_dap.py");
+    return fs.existsSync(own) ? own : path.join(__dirname, "..", "dap", "b_dap.py");
+}
+
+function python() {
+    return setting("python") || (process.platform === "win32" ? "python" : "python3");
+}
+
+/** Starts the debugger, and fills a launch configuration that has no program, as where no launch.json is there. */
+function debuggers() {
+    const env = setting("library") ? { B_LIBRARY: setting("library") } : {};
+    const factory = {
+        createDebugAdapterDescriptor: () => new vscode.DebugAdapterExecutable(python(), [debuggerFile()], { env }),
+    };
+    const provider = {
+        resolveDebugConfiguration: (_folder, given) => given.program ? given :
+            { name: "Debug this source", stopOnEntry: true, ...given, type: "b", request: "launch", program: "${file}" },
+    };
+    return [vscode.debug.registerDebugAdapterDescriptorFactory("b", factory),
+        vscode.debug.registerDebugConfigurationProvider("b", provider)];
 }
 
 function rangeOf({ start, end }) {
@@ -152,8 +176,7 @@ function start(all) {
         const told = `The language server of B doesn't run: ${reason}. It needs Python 3.8 or later.`;
         vscode.window.showErrorMessage(told);
     };
-    const python = process.platform === "win32" ? "python" : "python3";
-    return new Client(setting("python") || python, words, hear, ended);
+    return new Client(python(), words, hear, ended);
 }
 
 let running;
@@ -169,7 +192,7 @@ function activate(context) {
         provideWorkspaceSymbols: async (query) => (await running.ask("workspace/symbol", { query })).map((it) =>
             new vscode.SymbolInformation(it.name, it.kind - 1, "", placeOf(it.location))),
     });
-    context.subscriptions.push(all, symbols, ...ways, ...follow(running));
+    context.subscriptions.push(all, symbols, ...ways, ...follow(running), ...debuggers());
 }
 
 function deactivate() {
