@@ -18,7 +18,8 @@ def words():
     parser = argparse.ArgumentParser(prog="b_dap.py", description="A debugger for programs in B")
     parser.add_argument("--console", metavar="FILE", help="debug this source here, by typed commands")
     parser.add_argument("--edition", type=int, choices=[1, 2], help="with --console: where the source doesn't tell it")
-    parser.add_argument("--with", dest="libs", action="append", metavar="LIB", help="with --console: a file that follows")
+    parser.add_argument("--with", dest="libs", action="append", metavar="LIB",
+                        help="with --console: a file that follows")
     parser.add_argument("--by-steps", action="store_true", help="make one step after another in Python, for trials")
     return parser.parse_args()
 

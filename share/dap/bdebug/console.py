@@ -369,7 +369,8 @@ def talk(given) -> int:
     except library().Error as error:
         for it in program.findings():
             if it["severity"] == "error":
-                print(f"{given.console if it['file'] == '-' else it['file']}:{it['line']}: {it['message']}", file=sys.stderr)
+                name = given.console if it["file"] == "-" else it["file"]
+                print(f"{name}:{it['line']}:{it['column']}: error: {it['message']}", file=sys.stderr)
         print(error, file=sys.stderr)
         return error.status
     Console(program, run).cmdloop()

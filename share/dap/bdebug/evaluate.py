@@ -17,8 +17,8 @@ class Fault(Exception):
 
 
 class Scope(NamedTuple):
-    """What an expression is over: the address of a name, a word of memory, and how a word is stored, which is None where
-    nothing may be stored."""
+    """What an expression is over: the address of a name, a word of memory, and how a word is stored, which is None
+    where nothing may be stored."""
 
     address_of: Callable[[str], int]
     word: Callable[[int], int]
@@ -222,8 +222,9 @@ class _Parser:
             node = self.rvalue()
             self.expect(")")
             return node._replace(is_operand=True)
-        what = "a string has no address here" if token.kind == "string" else f"an operand is missing before {token.text}"
-        raise Fault(what if token.text else "an operand is missing at the end")
+        if token.kind == "string":
+            raise Fault("a string has no address here")
+        raise Fault(f"an operand is missing {'before ' + token.text if token.text else 'at the end'}")
 
 
 def evaluate(text: str, scope: Scope) -> Value:

@@ -1,7 +1,7 @@
 """A program as a debugger sees it: its files, and the lines, places and names of its code.
 
-All of it comes from the calls `list` and `map` of the library, whose texts docs/COMMANDS.md tells. Words that a function
-declares and never names are in neither, so these names come from the tokens of the source."""
+All of it comes from the calls `list` and `map` of the library, whose texts docs/COMMANDS.md tells. Words that a
+function declares and never names are in neither, so these names come from the tokens of the source."""
 import bisect
 import os
 import pathlib

@@ -1,20 +1,18 @@
 """The server of the Debug Adapter Protocol: requests in, responses and events out."""
-import base64
+import codecs
 import urllib.parse
-from typing import Callable, Dict, List, NamedTuple, Optional
+from typing import Callable, Dict, List, Optional
 
-from .debugger import FILTERS, Breakpoint, Debugger, Halt, are_hits, externals_of, names_of
+from .arguments import argument, optional
+from .debugger import FILTERS, Breakpoint, Debugger, Halt
 from .evaluate import Fault
+from .points import PointRequests
 from .program import Program, Refused, read_file
 from .protocol import Broken, Inbox, Outbox
 from .run import Run
-from .words import WORD, library
+from .views import THREAD, ViewRequests, Words
+from .words import library
 
-THREAD = 1
-CODE = 1 << 32  # added to the place of an instruction, to tell it from a word of memory
-PAGE = 1000  # variables, where no number is asked for
-MOST_FRAMES = 5000  # the machine has at most 4096
-MOST_INSTRUCTIONS = 20_000  # in one answer
 CAPABILITIES = (
     "supportsConfigurationDoneRequest", "supportsFunctionBreakpoints", "supportsConditionalBreakpoints",
     "supportsHitConditionalBreakpoints", "supportsEvaluateForHovers", "supportsStepBack", "supportsSetVariable",
@@ -29,36 +27,9 @@ REASONS = {"watch": "data breakpoint", "limit": "exception", "halted": "exceptio
            "input": "exception"}
 FILTER_OF = {"limit": "limit", "halted": "halt", "trapped": "trap", "input": "input"}
 STATUS_OF = {"trapped": 130, "limit": 131}
-HELP = """input TEXT     gives the program TEXT and a newline as input
-input < FILE   gives it the bytes of FILE
-input          closes its input
-All else is an expression of B, which may store: x = 5, v[2] =+ 1, p++
-"""
 
 
-class Words(NamedTuple):
-    """What a reference to variables stands for: words by name, or those of a vector."""
-
-    rows: Callable[[], List]  # name, address, words of its vector
-    count: int
-    owner: str  # the expression of the vector, or nothing
-
-
-def argument(arguments: dict, name: str, kind=object, default=None):
-    """A member of the arguments, which has to be of this kind; a Refused tells what isn't."""
-    value = arguments.get(name, default)
-    is_wrong = isinstance(value, bool) and kind is int or not isinstance(value, kind)
-    if is_wrong and not (name not in arguments and default is None and kind is object):
-        raise Refused(f"{name} is missing or wrong")
-    return value
-
-
-def optional(arguments, name, kind, default):
-    """The same of one that may be missing, or null."""
-    return default if arguments.get(name) is None else argument(arguments, name, kind)
-
-
-class Server:
+class Server(PointRequests, ViewRequests):
     """One session of debugging over two streams. `by_steps` is for trials of the slower way."""
 
     def __init__(self, inbox: Inbox, outbox: Outbox, by_steps: bool = False):
@@ -167,9 +138,9 @@ class Server:
             self.hand_on_output()
 
     def hand_on_output(self):
-        text = self.debugger.run.take_output()
+        text = self.characters.decode(self.debugger.run.take_output(), self.debugger.run.end is not None)
         if text:
-            self.tell(text.decode("utf-8", "replace"), "stdout")
+            self.tell(text, "stdout")
 
     def come_to(self, halt: Halt) -> None:
         """Tells where the run has come to, as the user has asked for."""
@@ -239,6 +210,7 @@ class Server:
         run.most = most
         run.is_paused = self.inbox.has_urgent
         self.debugger = Debugger(program, run, self.tell)
+        self.characters = codecs.getincrementaldecoder("utf-8")("replace")  # one may come in two parts
 
     def given_input(self):
         """The input that `launch` has, and whether that is all."""
@@ -278,16 +250,14 @@ class Server:
         self.loaded()
         if isinstance(arguments.get("arguments"), dict):
             self.launched = arguments["arguments"]
-        kept = self.debugger.breakpoints
+        before = self.debugger
         self.motion = self.halt = None
         self.load()
-        self.debugger.breakpoints, self.debugger.number = kept, self.number_after(kept)
+        self.debugger.breakpoints, self.debugger.number = before.breakpoints, before.number
+        for it in before.breakpoints:
+            it.count = 0
         self.is_configured = True
         self.after.append(self.begin)
-
-    @staticmethod
-    def number_after(breakpoints):
-        return max((it.number for it in breakpoints), default=0)
 
     def on_terminate(self, arguments):
         self.loaded()
@@ -298,253 +268,6 @@ class Server:
 
     def on_cancel(self, arguments):
         """Nothing is left to do: what waits was marked, and what goes is paused."""
-
-    # Breakpoints.
-
-    def path_of(self, text):
-        return urllib.parse.unquote(urllib.parse.urlparse(text).path) if self.are_uris else text
-
-    def set_points(self, key, points):
-        """Puts these breakpoints in the place of those with the same key; one that was there keeps its count."""
-        for at, it in enumerate(points):
-            same = [old for old in self.points.get(key, []) if vars(it) == {**vars(old), "number": it.number, "count": 0}]
-            points[at] = same[0] if same else it
-        self.points[key] = points
-        self.debugger.breakpoints = [it for rows in self.points.values() for it in rows]
-
-    def point(self, asked, places, **more):
-        """A breakpoint as it is asked for."""
-        texts = {"condition": "condition", "hits": "hitCondition", "log": "logMessage"}
-        given = {name: optional(asked, its, str, "") for name, its in texts.items()}
-        places = places if are_hits(given["hits"]) else []
-        return Breakpoint(self.debugger.next_number(), places, **given, **more)
-
-    def told(self, point, why=""):
-        """What is told of a breakpoint; it is verified unless there is a reason why not."""
-        why = why or ("" if are_hits(point.hits) else f"{point.hits} is no count of hits")
-        return {"id": point.number, "verified": not why, **({"message": why} if why else {})}
-
-    def on_setBreakpoints(self, arguments):
-        debugger = self.loaded()
-        path = self.path_of(argument(argument(arguments, "source", dict), "path", str))
-        file = debugger.program.file_named(path)
-        asked = arguments.get("breakpoints")
-        asked = [{"line": it} for it in arguments.get("lines") or []] if asked is None else asked
-        points, rows = [], []
-        for it in asked:
-            wanted = argument(it, "line", int) - self.first_line + 1
-            line, places = debugger.program.places_at(file, wanted) if file else (0, [])
-            points.append(self.point(it, places, line=line))
-            why = "no code comes after this line" if file else "this file is none of the program"
-            rows.append((line or wanted, "" if line else why))
-        self.set_points(f"lines of {file.path if file else path}", points)
-        told = [{**self.told(point, why), "line": line + self.first_line - 1, "source": self.source(file)}
-                for point, (line, why) in zip(points, rows)]
-        return {"breakpoints": told}
-
-    def on_setFunctionBreakpoints(self, arguments):
-        debugger, points, told = self.loaded(), [], []
-        for it in argument(arguments, "breakpoints", list):
-            name = argument(it, "name", str)
-            function = debugger.program.by_name.get(name)
-            points.append(self.point(it, [(function.address, 0)] if function else []))
-            told.append(self.told(points[-1], "" if function else f"there is no function {name}"))
-        self.set_points("functions", points)
-        return {"breakpoints": told}
-
-    def on_setInstructionBreakpoints(self, arguments):
-        self.loaded()
-        points, told = [], []
-        for it in argument(arguments, "breakpoints", list):
-            place = self.instruction(argument(it, "instructionReference", str), optional(it, "offset", int, 0))
-            points.append(self.point(it, [place] if place else []))
-            told.append(self.told(points[-1], "" if place else "no instruction is there"))
-        self.set_points("instructions", points)
-        return {"breakpoints": told}
-
-    def on_dataBreakpointInfo(self, arguments):
-        debugger, name = self.stand(), argument(arguments, "name", str)
-        if arguments.get("variablesReference"):
-            address = self.variable(argument(arguments, "variablesReference", int), name)[1]
-        else:
-            address = debugger.value(name, self.frame_number(arguments)).address
-        if address is None:
-            return {"dataId": None, "description": f"{name} has no address"}
-        return {"dataId": f"{address} {name}", "description": f"{name} at {address}", "accessTypes": ["write"]}
-
-    def on_setDataBreakpoints(self, arguments):
-        self.loaded()
-        points, told = [], []
-        for it in argument(arguments, "breakpoints", list):
-            address, _, name = argument(it, "dataId", str).partition(" ")
-            is_right = address.isdigit() and len(address) < 6 and int(address) <= WORD
-            points.append(self.point(it, [], address=int(address) if is_right else None, told=name))
-            told.append(self.told(points[-1], "" if is_right else "there is no such word"))
-        self.set_points("words", points)
-        return {"breakpoints": told}
-
-    def on_setExceptionBreakpoints(self, arguments):
-        filters = argument(arguments, "filters", list)
-        self.filters = {it for it in filters if it in FILTERS}
-        return {"breakpoints": [{"verified": it in FILTERS} for it in filters]}
-
-    def on_breakpointLocations(self, arguments):
-        debugger = self.loaded()
-        file = debugger.program.file_named(self.path_of(argument(argument(arguments, "source", dict), "path", str)))
-        first = argument(arguments, "line", int)
-        last = optional(arguments, "endLine", int, first)
-        lines = debugger.program.lines_with_code(file) if file else []
-        shift = self.first_line - 1
-        return {"breakpoints": [{"line": it + shift} for it in lines if first <= it + shift <= last]}
-
-    # Where the run stands.
-
-    def source(self, file):
-        return {"name": file.path.rpartition("/")[2], "path": file.path} if file else {"name": "?"}
-
-    def on_threads(self, arguments):
-        return {"threads": [{"id": THREAD, "name": "main"}]}
-
-    def on_stackTrace(self, arguments):
-        debugger = self.stand()
-        frames, first = debugger.run.frames(), max(0, optional(arguments, "startFrame", int, 0))
-        levels = optional(arguments, "levels", int, 0) or len(frames)
-        rows = [self.told_frame(at, frames[at]) for at in range(first, min(len(frames), first + levels))]
-        return {"stackFrames": rows, "totalFrames": len(frames)}
-
-    def told_frame(self, at, frame):
-        file, line = self.debugger.program.file_of(frame.line)
-        return {"id": self.stop_number * MOST_FRAMES + at + 1, "name": frame.name, "source": self.source(file),
-                "line": line + self.first_line - 1, "column": self.first_line,
-                "instructionPointerReference": hex(CODE + (frame.function << 16) + frame.place)}
-
-    def frame_number(self, arguments, may_lack=True) -> Optional[int]:
-        """The number of a call by its `frameId`; without one there is none, and only externals have names."""
-        number = arguments.get("frameId")
-        if number is None and may_lack:
-            return None
-        number = argument(arguments, "frameId", int) - self.stop_number * MOST_FRAMES - 1
-        if not 0 <= number < MOST_FRAMES:
-            raise Refused("there is no such call any more")
-        return number
-
-    def on_scopes(self, arguments):
-        debugger = self.stand()
-        frame = debugger.frame(self.frame_number(arguments, may_lack=False))
-        names, externals = names_of(debugger, frame), externals_of(debugger)
-        local = Words(lambda: names, len(names), "")
-        outer = Words(lambda: externals, len(externals), "")
-        return {"scopes": [
-            {"name": "Locals", "presentationHint": "locals", "expensive": False, "variablesReference": self.refer(local),
-             "namedVariables": len(names)},
-            {"name": "Externals", "presentationHint": "globals", "expensive": False,
-             "variablesReference": self.refer(outer), "namedVariables": len(externals)}]}
-
-    def refer(self, words: Words) -> int:
-        self.reference += 1
-        self.references[self.reference] = words
-        return self.reference
-
-    def referred(self, number) -> Words:
-        self.stand()
-        if number not in self.references:
-            raise Refused("there are no such variables any more")
-        return self.references[number]
-
-    def vector(self, owner, address, count) -> int:
-        """The reference to the words of a vector, which lie after its own word or where that leads."""
-        first = self.debugger.run.word(address)
-
-        def rows():
-            return [(f"[{at}]", first + at & WORD, 0) for at in range(count)]
-
-        return self.refer(Words(rows, count, owner))
-
-    def on_variables(self, arguments):
-        words = self.referred(argument(arguments, "variablesReference", int))
-        first = max(0, optional(arguments, "start", int, 0))
-        count = optional(arguments, "count", int, 0) or PAGE
-        wanted = arguments.get("filter") in (None, "indexed" if words.owner else "named")
-        is_hex = bool((arguments.get("format") or {}).get("hex"))
-        rows = words.rows()[first:first + count] if wanted else []
-        return {"variables": [self.told_variable(words.owner, *it, is_hex) for it in rows]}
-
-    def told_variable(self, owner, name, address, count, is_hex):
-        debugger = self.debugger
-        inner = {"variablesReference": self.vector(name, address, count), "indexedVariables": count} if count else \
-            {"variablesReference": 0}
-        return {"name": name, "value": debugger.shown(debugger.run.word(address), is_hex), "evaluateName": owner + name,
-                "type": "vector" if count else "word", "memoryReference": hex(2 * address), **inner}
-
-    def variable(self, number, name):
-        found = next((it for it in self.referred(number).rows() if it[0] == name), None)
-        if found is None:
-            raise Refused(f"there is no variable {name}")
-        return found
-
-    def on_setVariable(self, arguments):
-        address = self.variable(argument(arguments, "variablesReference", int), argument(arguments, "name", str))[1]
-        return self.store(address, argument(arguments, "value", str), 0)
-
-    def on_setExpression(self, arguments):
-        debugger, at = self.stand(), self.frame_number(arguments)
-        address = debugger.value(argument(arguments, "expression", str), at).address
-        if address is None:
-            raise Refused("this expression has no address")
-        return self.store(address, argument(arguments, "value", str), at)
-
-    def store(self, address, text, at):
-        debugger = self.debugger
-        debugger.run.store(address, debugger.value(text, at).word)
-        return {"value": debugger.shown(debugger.run.word(address))}
-
-    def on_evaluate(self, arguments):
-        text = argument(arguments, "expression", str)
-        is_console = arguments.get("context") == "repl"
-        if is_console and text.split()[:1] in (["input"], ["help"]):
-            return self.command(text.strip())
-        debugger, at = self.stand(), self.frame_number(arguments)
-        value = debugger.value(text, at, may_store=is_console)
-        is_hex = bool((arguments.get("format") or {}).get("hex"))
-        body = {"result": debugger.shown(value.word, is_hex), "type": "word", "variablesReference": 0}
-        if value.address is not None:
-            body["memoryReference"] = hex(2 * value.address)
-            count = self.words_at(text.strip(), at)
-            if count:
-                body.update(type="vector", indexedVariables=count,
-                            variablesReference=self.vector(text.strip(), value.address, count))
-        return body
-
-    def words_at(self, name, at):
-        """The words of the vector of a name; 0 of anything else."""
-        try:
-            return self.debugger.named(name, self.debugger.frame(at) if at is not None else None)[1]
-        except Fault:
-            return 0
-
-    def command(self, text):
-        """A command of the console."""
-        if text.startswith("help"):
-            return {"result": HELP, "variablesReference": 0}
-        run, rest = self.loaded().run, text[5:].strip()
-        if not rest:
-            run.close_input()
-        else:
-            run.feed(read_file(rest[1:].strip()) if rest.startswith("<") else text[6:].encode() + b"\n")
-        if self.is_waiting:
-            self.after.append(lambda: self.go(self.debugger.again()))
-        return {"result": "", "variablesReference": 0}
-
-    def on_completions(self, arguments):
-        debugger, text = self.stand(), argument(arguments, "text", str)
-        before = text[:max(0, argument(arguments, "column", int) - self.first_line)]
-        begun = before[len(before.rstrip("abcdefghijklmnopqrstuvwxyzABCDEFGHIJKLMNOPQRSTUVWXYZ0123456789_")):]
-        names = [it[0] for it in names_of(debugger, debugger.frame(0))] + list(debugger.program.externals)
-        return {"targets": [{"label": it} for it in dict.fromkeys(names) if it.startswith(begun)]}
-
-    def on_exceptionInfo(self, arguments):
-        self.stand()
-        return {"exceptionId": self.halt.reason, "description": self.halt.text, "breakMode": "always"}
 
     # Going.
 
@@ -590,56 +313,3 @@ class Server:
         if self.motion is not None or self.is_waiting:
             self.motion = None
             self.after.append(lambda: self.stop(Halt("pause")))
-
-    # Code and memory.
-
-    def instruction(self, reference, offset=0):
-        """The function and the place of an instruction that a reference names, or None."""
-        number = self.number(reference) - CODE + offset
-        function = self.loaded().program.functions.get(number >> 16)
-        is_there = function is not None and number & WORD < len(function.code)
-        return (function.address, number & WORD) if is_there else None
-
-    @staticmethod
-    def number(reference):
-        try:
-            return int(reference, 0)
-        except ValueError:
-            raise Refused(f"{reference!r} is no reference") from None
-
-    def on_disassemble(self, arguments):
-        program = self.loaded().program
-        rows = [(function, it) for function in program.functions.values() for it in function.code]
-        place = self.instruction(argument(arguments, "memoryReference", str), optional(arguments, "offset", int, 0))
-        keys = [(function.address, it.place) for function, it in rows]
-        first = (keys.index(place) if place else len(rows)) + optional(arguments, "instructionOffset", int, 0)
-        count = min(max(0, argument(arguments, "instructionCount", int)), MOST_INSTRUCTIONS)
-        return {"instructions": [self.told_instruction(rows, at) for at in range(first, first + count)]}
-
-    def told_instruction(self, rows, at):
-        if not 0 <= at < len(rows):
-            return {"address": hex(CODE + (at if at < 0 else (1 << 31) + at)), "instruction": "", "presentationHint": "invalid"}
-        function, it = rows[at]
-        file, line = self.debugger.program.file_of(it.line)
-        told = {"address": hex(CODE + (function.address << 16) + it.place), "instruction": it.text,
-                "location": self.source(file), "line": line + self.first_line - 1}
-        return {**told, "symbol": function.name} if it.place == 0 else told
-
-    def on_readMemory(self, arguments):
-        run = self.stand().run
-        first = self.number(argument(arguments, "memoryReference", str)) + optional(arguments, "offset", int, 0)
-        count = max(0, argument(arguments, "count", int))
-        last = min(first + count, 2 * WORD + 2)
-        first = max(first, 0)
-        data = bytes(run.word(at >> 1) >> 8 * (at & 1) & 0xFF for at in range(first, last))
-        return {"address": hex(first), "data": base64.b64encode(data).decode(), "unreadableBytes": count - len(data)}
-
-    def on_loadedSources(self, arguments):
-        return {"sources": [self.source(it) for it in self.loaded().program.files]}
-
-    def on_source(self, arguments):
-        path = argument(argument(arguments, "source", dict), "path", str)
-        file = self.loaded().program.file_named(self.path_of(path))
-        if file is None:
-            raise Refused("this file is none of the program")
-        return {"content": "\n".join(file.lines)}
