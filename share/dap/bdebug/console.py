@@ -373,5 +373,10 @@ def talk(given) -> int:
                 print(f"{name}:{it['line']}:{it['column']}: error: {it['message']}", file=sys.stderr)
         print(error, file=sys.stderr)
         return error.status
-    Console(program, run).cmdloop()
-    return 0
+    console = Console(program, run)
+    while True:
+        try:
+            console.cmdloop()
+            return 0
+        except KeyboardInterrupt:  # while a command is typed
+            console.say("\n")

@@ -167,8 +167,7 @@ class Run:
         end = library().End("limit")
         while self.steps < last and end.why == "limit":
             room, watched = self._room(last - self.steps), [(it, self.session.word(it)) for it in stops.words]
-            go = self._go_by_steps if self.by_steps else self._go_to
-            end = self._arrive(go(stops, watched, room))
+            end = self._arrive(self._go(stops, watched, room))
             self.changed = [at for at, word in watched if self.session.word(at) != word]
         return end
 
@@ -181,6 +180,12 @@ class Run:
         took = time.monotonic() - before
         self._slice = min(2 * self._slice, SLICE) if took < QUICK else self._slice // 2 if took > SLOW else self._slice
         return end
+
+    def _go(self, stops, watched, steps):
+        if self.by_steps:
+            return self._go_by_steps(stops, watched, steps)
+        is_plain = stops == Stops(callers=stops.callers)
+        return self.session.go_on(steps) if is_plain else self._go_to(stops, watched, steps)
 
     def _go_to(self, stops, watched, steps):
         how = {"near": stops.near, "callers": stops.callers, "returned": stops.returned}
