@@ -10,7 +10,7 @@ from typing import Dict, List, NamedTuple, Tuple
 
 TOP = pathlib.Path(__file__).resolve().parent.parent
 sys.path.insert(0, str(TOP / "share/dap"))
-from bdebug.protocol import Inbox, Outbox  # noqa: E402  of the debugger
+from bdebug.protocol import Inbox, Outbox, messages  # noqa: E402  of the debugger
 from bdebug.server import Server  # noqa: E402
 
 ROW = re.compile(r" *(\d+)  (\w+) +(\d+) +(\d+)  ([a-z](?: \S+)?)(?: |$)")
@@ -39,10 +39,31 @@ def read_frames(data: bytes) -> List[dict]:
     return found
 
 
-def served(data: bytes, by_steps=False) -> List[dict]:
+class Slow:
+    """The messages of some bytes, between which a run has time for some slices."""
+
+    def __init__(self, data):
+        self.messages, self.idle = list(messages(io.BytesIO(data))), 0
+
+    def take(self, waits):
+        self.idle += 1
+        if not waits and self.idle < 4:
+            return None
+        self.idle = 0
+        return self.messages.pop(0) if self.messages else None
+
+    def has_urgent(self):
+        return not self.messages
+
+    @property
+    def is_over(self):
+        return not self.messages
+
+
+def served(data: bytes, by_steps, is_slow) -> List[dict]:
     """What a server answers to these bytes, in this process."""
     out = io.BytesIO()
-    Server(Inbox(io.BytesIO(data)), Outbox(out), by_steps).serve()
+    Server(Slow(data) if is_slow else Inbox(io.BytesIO(data)), Outbox(out), by_steps).serve()
     return read_frames(out.getvalue())
 
 
@@ -158,6 +179,27 @@ class Maker:
         parts.append("deep(a) { if(a > 0)\n    return(deep(a - 1) + 1);\n    return(0); }\n")
         self.functions.append(("deep", 1))
         return "".join(parts) + self.function("main", [])
+
+
+class Expressions:
+    """Makes expressions over v, a vector, and a and b."""
+
+    SIGNS = ("+", "-", "*", "/", "%", "<", "<=", ">", ">=", "==", "!=", "&", "|", "<<", ">>")
+    OPERANDS = ("3", "017", "'a'", "'ab'", "a", "b", "v[1]", "65535", "0", "1", "32767", "*v", "(a)")
+
+    def __init__(self, seed):
+        self.random = random.Random(seed)
+
+    def make(self, deep=4):
+        kind = self.random.randrange(8)
+        if deep == 0 or kind < 2:
+            return self.random.choice(self.OPERANDS)
+        first, second, third = (self.make(deep - 1) for _ in range(3))
+        if kind == 2:
+            return f"{self.random.choice('-!')} {first}"
+        if kind == 3:
+            return f"{first} ? {second} : {third}"
+        return f"v[{first} & 3]" if kind == 4 else f"{first} {self.random.choice(self.SIGNS)} {second}"
 
 
 # What their steps do, as `trace` tells it.

@@ -2,12 +2,14 @@
 
 They have the operators of B with their precedence, words of 16 bits, names, indices, pointers, addresses and constants.
 No function is called. What stores a word is allowed where the user asks for it alone."""
+import functools
 from typing import Callable, NamedTuple, Optional
 
 from .tokens import KEYWORDS, Token, TokenFault, constant_of, tokens_of
 from .words import WORD, signed
 
 RANKS = (("*", "/", "%"), ("+", "-"), ("<<", ">>"), ("<", "<=", ">", ">="), ("==", "!="), ("&",), ("|",))
+RANK = {sign: rank for rank, signs in enumerate(RANKS) for sign in signs}
 MOST_NESTING = 50  # levels
 MOST_TEXT = 10_000  # characters
 
@@ -66,13 +68,19 @@ OPERATORS = {
 }
 
 
+@functools.lru_cache(64)
+def _tokens(text):
+    """Kept, since a condition is evaluated again and again."""
+    return tuple(tokens_of(text))
+
+
 class _Parser:
     """Reads an expression, by recursive descent with a rank for each operator."""
 
     def __init__(self, text, scope):
         if len(text) > MOST_TEXT:
             raise Fault("the expression is too long")
-        self.tokens, self.at, self.scope, self.level = list(tokens_of(text)), 0, scope, 0
+        self.tokens, self.at, self.scope, self.level = _tokens(text), 0, scope, 0
 
     def look(self) -> Token:
         return self.tokens[self.at]
@@ -149,11 +157,11 @@ class _Parser:
         return Node(lambda: yes.word() if test.word() else no.word(), is_operand=False)
 
     def binary(self, rank) -> Node:
-        if rank < 0:
-            return self.prefixed()
-        left = self.binary(rank - 1)
-        while self.is_sign(*RANKS[rank]):
-            left = self.joined(left, self.take().text, self.binary(rank - 1))
+        """Operands and the operators up to a rank, of which those of the same rank bind to the left."""
+        left = self.prefixed()
+        while self.look().kind == "sign" and RANK.get(self.look().text, len(RANKS)) <= rank:
+            sign = self.take().text
+            left = self.joined(left, sign, self.binary(RANK[sign] - 1))
         return left
 
     def joined(self, left, operator, right) -> Node:
