@@ -45,7 +45,8 @@ class PointRequests:
             why = "no code comes after this line" if file else "this file is none of the program"
             rows.append((line or wanted, "" if line else why))
         self.set_points(f"lines of {file.path if file else path}", points)
-        told = [{**self.told(point, why), "line": line + self.first_line - 1, "source": self.source(file)}
+        source = self.source(file) if file else arguments["source"]
+        told = [{**self.told(point, why), "line": line + self.first_line - 1, "source": source}
                 for point, (line, why) in zip(points, rows)]
         return {"breakpoints": told}
 
