@@ -5,6 +5,7 @@ To go back is to begin anew and to make fewer steps; the machine makes some 10^8
 import time
 from typing import Callable, FrozenSet, List, NamedTuple, Optional, Tuple
 
+from .program import Refused
 from .words import library
 
 SLICE = 10_000_000  # steps of plain running between two looks at what the user wants
@@ -116,7 +117,9 @@ class Run:
     # What the user gives.
 
     def feed(self, text: bytes) -> None:
-        """Adds to the input; a ValueError tells where it was closed."""
+        """Adds to the input."""
+        if self.is_closed:
+            raise Refused("the input was closed")
         self.session.feed(text)
         self.input += text
         self._calls = None

@@ -147,7 +147,7 @@ class Server(PointRequests, ViewRequests):
         name = FILTER_OF.get(halt.reason)
         if halt.reason == "input" and "input" not in self.filters:
             self.is_waiting = True
-            self.tell("The program wants input. Type `input TEXT` here, or `input` to close it.\n")
+            self.tell("The program wants input. Type `:input TEXT` here, or `:input` to close it.\n")
         elif name is None or name in self.filters and not self.launched.get("noDebug"):
             self.stop(halt)
         else:

@@ -13,11 +13,14 @@ CODE = 1 << 32  # added to the place of an instruction, to tell it from a word o
 PAGE = 1000  # variables, where no number is asked for
 MOST_FRAMES = 5000  # the machine has at most 4096
 MOST_INSTRUCTIONS = 20_000  # in one answer
-HELP = """input TEXT     gives the program TEXT and a newline as input
-input < FILE   gives it the bytes of FILE
-input          closes its input
+HELP = """:input TEXT      gives the program TEXT and a newline as input
+:input < FILE    gives it the bytes of FILE
+:input           closes its input
+:reverse-step    goes back to the line before, also of a function that was called
+:reverse-finish  goes back to the call of this function
 All else is an expression of B, which may store: x = 5, v[2] =+ 1, p++
 """
+BACK = {"reverse-step": "back_into", "reverse-finish": "back_out"}
 
 
 class Words(NamedTuple):
@@ -131,8 +134,8 @@ class ViewRequests:
     def on_evaluate(self, arguments):
         text = argument(arguments, "expression", str)
         is_console = arguments.get("context") == "repl"
-        if is_console and text.split()[:1] in (["input"], ["help"]):
-            return self.command(text.strip())
+        if is_console and text.startswith(":"):
+            return self.command(*text[1:].partition(" ")[::2])
         debugger, at = self.stand(), self.frame_number(arguments)
         value = debugger.value(text, at, may_store=is_console)
         is_hex = bool((arguments.get("format") or {}).get("hex"))
@@ -152,18 +155,23 @@ class ViewRequests:
         except Fault:
             return 0
 
-    def command(self, text):
-        """A command of the console."""
-        if text.startswith("help"):
-            return {"result": HELP, "variablesReference": 0}
-        run, rest = self.loaded().run, text[5:].strip()
-        if not rest:
+    def command(self, name, rest):
+        """A command of the console, which begins with a colon there, since a name may be that of a word, too."""
+        if name in BACK:
+            self.go_back(getattr(self.stand(), BACK[name]))
+        elif name == "input":
+            self.give_input(rest)
+        return {"result": "" if name in BACK or name == "input" else HELP, "variablesReference": 0}
+
+    def give_input(self, text):
+        """Gives the program a line or a file, or closes its input, and lets it go on where it has waited for that."""
+        run = self.loaded().run
+        if not text.strip():
             run.close_input()
         else:
-            run.feed(read_file(rest[1:].strip()) if rest.startswith("<") else text[6:].encode() + b"\n")
+            run.feed(read_file(text[1:].strip()) if text.startswith("<") else text.encode() + b"\n")
         if self.is_waiting:
             self.after.append(lambda: self.go(self.debugger.again()))
-        return {"result": "", "variablesReference": 0}
 
     def on_completions(self, arguments):
         debugger, text = self.stand(), argument(arguments, "text", str)
