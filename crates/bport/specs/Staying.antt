@@ -72,6 +72,7 @@ refuses_kind kind.Fraction = true
 refuses_kind kind.Numbered = true
 refuses_kind kind.Accent = true
 refuses_kind kind.Star = true
+refuses_kind kind.Parted = true
 refuses_kind kind.Unfit = true
 refuses_kind _ = false
 
@@ -131,6 +132,12 @@ note_sentence kind.Stars = codes "* begins an escape in a string, as in *n and *
 note_sentence kind.Form = codes "printf knows d, u, o, x, c and s after a %, and writes what has others as it is"
 note_sentence kind.End = codes "'*e' is 4, and as a value the same as the number 4, which EOF wasn't"
 note_sentence kind.Status = codes "the value that main returns is no status: exit(n) ends a program with one"
+note_sentence kind.Quarter = codes "a word has two characters, and not four: double this where it counts words of text"
+note_sentence kind.Halves = codes "the first character of a word is its low byte: char and lchar take a word apart"
+note_sentence kind.Label = codes "this is the label, which hides what else has its name: give the label another one"
+note_sentence kind.High = codes "a character past 127 is above 0 here, also where char had a sign"
+note_sentence kind.Parted = codes "two strings, or two lines of one, don't join: port changes nothing until they do"
+note_sentence kind.Case = codes "a case has one number or character: write what this comes to"
 
 -- what is told of a note: the file, the line, and the sentence
 abbrev pub note_text : (file source : List ℕ) → Note → List ℕ

@@ -2,7 +2,7 @@
 use crate::comparisons::{Comparison, EndValue, comparison_of};
 use crate::definitions::Outline;
 use crate::expressions::is_callee;
-use crate::inputs::inputs;
+use crate::inputs::{inputs, is_next};
 use crate::logic::at_level;
 use crate::row::{NoteKind, Row};
 use crate::source::{Draft, Source};
@@ -107,6 +107,9 @@ fn ended(source: &Source<'_>, draft: &mut Draft, index: usize, row: Row) -> Resu
         return Ok(());
     }
     let unit = unit_of(source, index, source.partner(open));
+    if row == Row::InputEnd && is_next(source, unit.first, unit.last) {
+        draft.note(source, index, NoteKind::Zero)?;
+    }
     // No statement is a character of a string: between semicolons it is the test of a `for`.
     let is_test = row == Row::StringEnd
         && source.is(unit.first.wrapping_sub(1), b";")
@@ -185,7 +188,7 @@ pub(crate) fn compared(
     };
     let is_zero = found.word.value == EndValue::Zero;
     if is_zero && !is_value && matches!(found.operator, b"==" | b"!=") {
-        return draft.note_once(source, found.sign, NoteKind::Zero);
+        return draft.note(source, found.sign, NoteKind::Zero);
     }
     let is_end = is_value || !is_zero;
     let is_least = is_zero && row == Row::InputEnd;

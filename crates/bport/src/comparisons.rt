@@ -27,21 +27,22 @@ pub(crate) struct Comparison<'a> {
     pub word: EndWord,
 }
 
+/// What a comparison asks for, or for all else: 0, -1, or what is below 0.
+#[derive(Clone, Copy, PartialEq, Eq)]
+pub(crate) enum Asked {
+    Zero,
+    MinusOne,
+    Sign,
+}
+
 impl<'a> Comparison<'a> {
-    /// Whether it asks for what is below 0, or for what isn't.
-    pub(crate) fn is_of_sign(self) -> bool {
-        self.word.value == EndValue::Zero && matches!(self.operator, b"<" | b">=")
-    }
-
-    /// Whether it asks for -1, or for what isn't.
-    pub(crate) fn is_of_minus_one(self) -> bool {
-        self.word.value == EndValue::MinusOne
-            && matches!(self.operator, b"==" | b"!=" | b">" | b"<=")
-    }
-
-    /// Whether it asks for 0, or for what isn't.
-    pub(crate) fn is_of_zero(self) -> bool {
-        self.word.value == EndValue::Zero && matches!(self.operator, b"==" | b"!=" | b">" | b"<=")
+    pub(crate) fn asked(self) -> Option<Asked> {
+        match (self.word.value, self.operator) {
+            (EndValue::Zero, b"<" | b">=") => Some(Asked::Sign),
+            (EndValue::Zero, b"==" | b"!=" | b">" | b"<=") => Some(Asked::Zero),
+            (EndValue::MinusOne, b"==" | b"!=" | b">" | b"<=") => Some(Asked::MinusOne),
+            _ => None,
+        }
     }
 }
 

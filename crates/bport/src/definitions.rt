@@ -340,6 +340,10 @@ pub(crate) fn types(
                 NoteKind::Pointer
             }
             b"char" if source.is(name.wrapping_add(1), b"[") => NoteKind::Words,
+            b"char" if source.is(name, b")") => match source.word(name.wrapping_add(1)) {
+                [b'\'', ..] | b"char" | b"getchar" => continue,
+                _ => NoteKind::Wide,
+            },
             _ => continue,
         };
         draft.note(source, index, kind)?;

@@ -26,10 +26,10 @@ pub(crate) fn sign(source: &Source<'_>, draft: &mut Draft, index: usize) -> Resu
             assignment(source, draft, index)
         }
         b">>=" => {
-            draft.note_once(source, index, NoteKind::Shift)?;
+            draft.note(source, index, NoteKind::Shift)?;
             assignment(source, draft, index)
         }
-        _ if may_wrap(source, index) => draft.note_once(source, index, NoteKind::Wraps),
+        _ if may_wrap(source, index) => draft.note(source, index, NoteKind::Wraps),
         _ if is_joined(source, index) => apart(source, draft, index),
         _ => Ok(()),
     }

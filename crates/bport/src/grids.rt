@@ -2,7 +2,7 @@
 use crate::definitions::{Function, Outline};
 use crate::lists::values_in;
 use crate::logic::after_part;
-use crate::pointers::Declaring;
+use crate::pointers::UNDECLARED;
 use crate::row::{NoteKind, Row};
 use crate::sizes::told_size;
 use crate::source::{Draft, Source};
@@ -99,7 +99,7 @@ fn declarations(
     outline: &Outline,
     found: &mut Grids,
 ) -> Result<(), AllocError> {
-    let mut declaring = Declaring::none();
+    let mut declaring = UNDECLARED;
     let mut is_listing = false;
     for index in 0..source.tokens.len() {
         declaring = declaring.at(source, index);

@@ -3,7 +3,7 @@ use crate::calls::defines;
 use crate::definitions::{External, Outline};
 use crate::expressions::is_assignment;
 use crate::names::is_library;
-use crate::pointers::{Declaring, after_index, pointed, takes_addresses};
+use crate::pointers::{UNDECLARED, after_index, pointed, takes_addresses};
 use crate::row::{NoteKind, Row};
 use crate::sizes::told_size;
 use crate::source::{Draft, Source};
@@ -183,7 +183,7 @@ fn is_filled(
 // Finds the uses of these, and tells whether anything is called by `*` but what is declared so, and these.
 fn find_uses(source: &Source<'_>, outline: &Outline, found: &mut Holders) -> bool {
     let mut has_stars = false;
-    let mut declaring = Declaring::none();
+    let mut declaring = UNDECLARED;
     let mut is_listing = false;
     for index in 0..source.tokens.len() {
         declaring = declaring.at(source, index);

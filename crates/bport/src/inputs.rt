@@ -1,6 +1,8 @@
 //! Words that hold what `getchar` gave, and what they are compared with.
 use crate::calls::compared;
-use crate::comparisons::{EndValue, comparison_after, comparison_before, comparison_of, end_word};
+use crate::comparisons::{
+    Asked, EndValue, comparison_after, comparison_before, comparison_of, end_word,
+};
 use crate::definitions::{Function, Outline};
 use crate::expressions::is_assignment;
 use crate::names::is_keyword;
@@ -64,7 +66,7 @@ pub(crate) fn inputs(
     }
     if stores.is_spread {
         for sign in &stores.signed {
-            draft.note_once(source, *sign, NoteKind::Zero)?;
+            draft.note(source, *sign, NoteKind::Zero)?;
         }
         tell(source, draft, &edited)?;
     }
@@ -107,8 +109,8 @@ fn gets(source: &Source<'_>, name: usize, function: &[u8]) -> bool {
         )
 }
 
-// Whether a name is set, or its address is taken.
-fn is_set(source: &Source<'_>, name: usize) -> bool {
+/// Whether a name is set, or its address is taken.
+pub(crate) fn is_set(source: &Source<'_>, name: usize) -> bool {
     let next = name.wrapping_add(1);
     let before = name.wrapping_sub(1);
     match source.word(before) {
@@ -164,7 +166,7 @@ fn comparisons(
         }
         let is_zero = is_zero_test(source, index);
         if is_zero && slot(&stores.strings, first) == number {
-            draft.note_once(source, index, NoteKind::Ends)?;
+            draft.note(source, index, NoteKind::Ends)?;
         }
         if slot(&stores.inputs, first) != number {
             if slot(&stores.calls, first) == number {
@@ -174,14 +176,14 @@ fn comparisons(
             }
             continue;
         }
-        if is_zero {
-            draft.note_once(source, index, NoteKind::Zero)?;
+        if is_zero || is_next(source, index, index) {
+            draft.note(source, index, NoteKind::Zero)?;
         }
         if stores.is_alone(first, number) {
             put(edited, index, 0);
             compared(source, draft, (index, index), Row::InputEnd, false)?;
         } else if sign_test(source, index).is_some() {
-            draft.note_once(source, index, NoteKind::Zero)?;
+            draft.note(source, index, NoteKind::Zero)?;
         }
         let before = source.word(index.wrapping_sub(1));
         let is_handed = matches!(before, b"(") && is_value_head(source, index.wrapping_sub(2));
@@ -192,6 +194,13 @@ fn comparisons(
     Ok(())
 }
 
+/// Whether 1 is added to what stands between two tokens, or its bits are turned: -1 gave 0 so.
+pub(crate) fn is_next(source: &Source<'_>, first: usize, last: usize) -> bool {
+    let sign = last.wrapping_add(1);
+    source.is(first.wrapping_sub(1), b"~")
+        || source.is(sign, b"+") && source.is(sign.wrapping_add(1), b"1")
+}
+
 // Whether what stands in parentheses after a word is handed on.
 fn is_value_head(source: &Source<'_>, index: usize) -> bool {
     matches!(source.word(index), b"return" | b"switch")
@@ -200,7 +209,7 @@ fn is_value_head(source: &Source<'_>, index: usize) -> bool {
 // The sign by which it is asked whether a word is below 0, as the end of the input was.
 fn sign_test(source: &Source<'_>, index: usize) -> Option<usize> {
     let found = comparison_of(source, index, index)?;
-    if found.is_of_sign() {
+    if found.asked() == Some(Asked::Sign) {
         Some(found.sign)
     } else {
         None
@@ -210,7 +219,7 @@ fn sign_test(source: &Source<'_>, index: usize) -> Option<usize> {
 // Whether a word is compared with 0, or only its truth counts.
 fn is_zero_test(source: &Source<'_>, index: usize) -> bool {
     if let Some(found) = comparison_of(source, index, index) {
-        return found.is_of_zero();
+        return found.asked() == Some(Asked::Zero);
     }
     let sign = index.wrapping_add(1);
     match (source.word(index.wrapping_sub(1)), source.word(sign)) {
@@ -224,16 +233,14 @@ fn is_zero_test(source: &Source<'_>, index: usize) -> bool {
 // below 0.
 fn tell(source: &Source<'_>, draft: &mut Draft, edited: &[usize]) -> Result<(), AllocError> {
     for index in 0..source.tokens.len() {
-        if is_case(source, index) || is_test(source, edited, index) {
-            draft.note_once(source, index, NoteKind::Zero)?;
+        let value = end_word(source, index.wrapping_add(1));
+        let is_case = source.is(index, b"case")
+            && matches!(value, Some(word) if word.value == EndValue::MinusOne);
+        if is_case || is_test(source, edited, index) {
+            draft.note(source, index, NoteKind::Zero)?;
         }
     }
     Ok(())
-}
-
-fn is_case(source: &Source<'_>, index: usize) -> bool {
-    let value = end_word(source, index.wrapping_add(1)).map(|word| word.value);
-    source.is(index, b"case") && value == Some(EndValue::MinusOne)
 }
 
 // Whether a sign compares with -1, or with 0 what a call has given, and stays.
@@ -241,16 +248,20 @@ fn is_test(source: &Source<'_>, edited: &[usize], sign: usize) -> bool {
     let (before, next) = (sign.wrapping_sub(1), sign.wrapping_add(1));
     if let Some(found) = comparison_after(source, sign) {
         let stays = slot(edited, before) == NONE && !is_of_call(source, before);
-        let is_signed = found.is_of_sign() && is_given(source, before);
-        let is_zero = found.is_of_zero() && is_stored_call(source, before);
-        return stays && (found.is_of_minus_one() || is_signed || is_zero);
+        let is_given = is_stored(source, before) && is_bare_call(source, before.wrapping_sub(1));
+        return stays
+            && match found.asked() {
+                Some(Asked::MinusOne) => true,
+                Some(Asked::Sign) => is_given || is_bare_call(source, before),
+                Some(Asked::Zero) => is_given,
+                None => false,
+            };
     }
     match comparison_before(source, sign) {
-        Some(found) => {
-            let stays = slot(edited, next) == NONE && !is_of_call(source, call_end(source, next));
-            stays && found.is_of_minus_one()
+        Some(found) if found.asked() == Some(Asked::MinusOne) => {
+            slot(edited, next) == NONE && !is_of_call(source, call_end(source, next))
         }
-        None => false,
+        _ => false,
     }
 }
 
@@ -263,15 +274,7 @@ fn call_end(source: &Source<'_>, first: usize) -> usize {
     }
 }
 
-// Whether a call without arguments ends with a parenthesis, or a parenthesis in which a word gets what one gives.
-fn is_given(source: &Source<'_>, close: usize) -> bool {
-    is_bare_call(source, close) || is_stored_call(source, close)
-}
-
-fn is_stored_call(source: &Source<'_>, close: usize) -> bool {
-    is_stored(source, close) && is_bare_call(source, close.wrapping_sub(1))
-}
-
+// Whether a call without arguments ends with a parenthesis.
 fn is_bare_call(source: &Source<'_>, close: usize) -> bool {
     let open = source.partner(close);
     source.is_call(open.wrapping_sub(1)) && open.wrapping_add(1) == close

@@ -35,6 +35,7 @@ mod staying;
 mod streams;
 mod table;
 mod taken;
+mod texts;
 mod tokens;
 mod turned;
 mod within;

@@ -1,4 +1,4 @@
-//! What compiles here, and may have meant another thing where it was written: each is told once.
+//! What compiles here, and may have meant another thing where it was written.
 use crate::calls::defines;
 use crate::edit::between;
 use crate::expressions::{is_assignment, is_callee, is_tight};
@@ -7,7 +7,8 @@ use crate::names::{is_keyword, value_of_number};
 use crate::quotes::units_in;
 use crate::row::NoteKind;
 use crate::source::{Draft, Quotes, Source};
-use crate::table::{NONE, filled, put, slot};
+use crate::table::NONE;
+use crate::texts::texts;
 use crate::tokens::TokenKind;
 use std::alloc::AllocError;
 
@@ -41,19 +42,13 @@ pub(crate) fn meanings(
         has_printf: defines(source, b"printf"),
         has_write: defines(source, b"write") || defines(others, b"write"),
     };
-    let mut texts = filled(draft.alloc, source.tokens.len())?;
+    texts(source, draft, facts.is_wide)?;
     for index in 0..source.tokens.len() {
-        if source.kind(index) == Some(TokenKind::String) && source.is(index.wrapping_sub(1), b"=") {
-            put(&mut texts, slot(source.firsts, index.wrapping_sub(2)), 0);
-        }
-        if puts_word(source, &texts, index) {
-            draft.note_once(source, index, NoteKind::Pointer)?;
-        }
         if !facts.has_printf && is_form(source, index) && has_other(source.word(index)) {
-            draft.note_once(source, index, NoteKind::Form)?;
+            draft.note(source, index, NoteKind::Form)?;
         }
         if let Some(kind) = meaning(source, facts, index) {
-            draft.note_once(source, index, kind)?;
+            draft.note(source, index, kind)?;
         }
     }
     Ok(())
@@ -76,20 +71,6 @@ fn tells_size(text: &[u8]) -> bool {
         }
     }
     false
-}
-
-// Whether a word of what got a string is written: of these names any number is kept.
-fn puts_word(source: &Source<'_>, texts: &[usize], index: usize) -> bool {
-    let first = index.wrapping_add(2);
-    let is_star = source.is(first, b"*");
-    let name = if is_star {
-        first.wrapping_add(1)
-    } else {
-        first
-    };
-    source.is(index, b"putchar")
-        && (is_star || source.is(name.wrapping_add(1), b"["))
-        && slot(texts, slot(source.firsts, name)) != NONE
 }
 
 fn meaning(source: &Source<'_>, facts: Facts, index: usize) -> Option<NoteKind> {
@@ -120,12 +101,10 @@ fn meaning(source: &Source<'_>, facts: Facts, index: usize) -> Option<NoteKind> 
 
 fn sign_meaning(source: &Source<'_>, facts: Facts, index: usize) -> Option<NoteKind> {
     let before = index.wrapping_sub(1);
-    let is_nine = matches!(
-        source.word(index.wrapping_add(1)),
-        b"9" | b"011" | b"18" | b"022" | b"27" | b"033"
-    );
+    let is_string = source.kind(before) == Some(TokenKind::String)
+        || source.kind(index.wrapping_add(1)) == Some(TokenKind::String);
     match source.word(index) {
-        b"<<" | b">>" | b"=<<" | b"=>>" | b"<<=" | b">>=" if is_nine => Some(NoteKind::Pair),
+        b"+" | b"-" if is_string => Some(NoteKind::Pointer),
         b">>" | b"=>>" if source.kind(before) != Some(TokenKind::Number) => Some(NoteKind::Shift),
         b"*" if copies_string(source, index) => Some(NoteKind::Ends),
         b"=*" | b"*=" | b"=<<" | b"<<=" if !is_tight(source, index) => Some(NoteKind::Wraps),
@@ -250,6 +229,8 @@ fn changed(source: &Source<'_>, index: usize) -> usize {
     let (before, next) = (index.wrapping_sub(1), index.wrapping_add(1));
     match source.word(index) {
         b"++" | b"--" if source.is_name(next) => next,
+        b"++" | b"--" if source.is(before, b"]") => source.partner(before).wrapping_sub(1),
+        b"++" | b"--" if source.is(before, b")") => source.partner(before).wrapping_add(2),
         b"++" | b"--" => before,
         b"getchar" | b"read" | b"getnum" | b"getc" if source.is_call(index) => index,
         _ if is_bare_call(source, index) => index,

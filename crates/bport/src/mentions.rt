@@ -81,8 +81,7 @@ fn declared(
             let _ = blocks.pop();
         }
         let end = blocks.last().copied().unwrap_or(NONE);
-        let is_label = source.is(index.wrapping_add(1), b":") && source.begins_statement(index);
-        if source.is_name(index) && is_label {
+        if source.is_label(index) {
             known.declare(slot(source.firsts, index), number, NONE);
         }
         declarators(source, known, index, number, end);
@@ -144,7 +143,7 @@ fn unnamed(
         }
         let is_declared = slot(&known.declared, first) == number;
         if is_declared && slot(&known.ends, first) < index {
-            draft.note_once(source, index, NoteKind::Scope)?;
+            draft.note(source, index, NoteKind::Scope)?;
         }
         let is_called = source.is_call(index) && slot(&known.starred, index) == NONE;
         let is_other = is_called || is_keyword(source.word(index));

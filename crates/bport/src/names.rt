@@ -1,10 +1,11 @@
 //! Names and numbers that are written otherwise here.
 use crate::apply::apply;
 use crate::calls::defines;
-use crate::comparisons::EndValue;
+use crate::comparisons::{EndValue, end_word};
 use crate::definitions::Outline;
 use crate::edit::between;
 use crate::expressions::MOST_BYTES;
+use crate::inputs::is_set;
 use crate::quotes::quoted;
 use crate::row::{NoteKind, Row};
 use crate::source::{Dialect, Draft, Quotes, Source};
@@ -13,6 +14,7 @@ use crate::taken::{NAME_LETTERS, Taken};
 use crate::tokens::{Token, TokenKind, tokens_of};
 use crate::turned::Turned;
 use crate::within::{Within, places_of};
+use crate::words::is_of_word;
 use btools::Text;
 use bword::Edition;
 use std::alloc::{AllocError, Global};
@@ -109,7 +111,10 @@ impl Constants {
         let value = without_remarks(self.alloc, value)?;
         let places = places_of(self.alloc, value)?;
         let tokens = tokens_of(self.alloc, value, &places)?;
-        if has_remark(&places) || !is_value(value, &tokens) {
+        let has_remark = places
+            .iter()
+            .any(|place| matches!(place, Within::Comment | Within::Line));
+        if has_remark || !is_value(value, &tokens) {
             return Ok(None);
         }
         let source = Source {
@@ -124,26 +129,30 @@ impl Constants {
             edition: Edition::One,
             dialect: Dialect::Either,
             quotes: Quotes::Both,
-            turned: Turned::none(),
+            turned: Turned {
+                until: false,
+                unless: false,
+            },
         };
         let mut draft = Draft::new(self.alloc);
         for index in 0..tokens.len() {
             self.value_token(&source, &mut draft, index)?;
         }
         let plain = apply(self.alloc, value, &draft.edits)?;
-        if tokens.len() < 2 || is_closed(value, &tokens) {
-            return Ok(Some(Value {
-                text: plain,
-                is_wrapped: false,
-            }));
-        }
+        let is_bare = tokens.len() < 2 || is_closed(value, &tokens);
         let mut text = Text::new(self.alloc);
-        text.push(b"(")?;
-        text.push(plain.as_slice())?;
-        text.push(b")")?;
+        if let Some(byte) = sign_in(plain.as_slice()) {
+            text.push_number(byte as u64)?;
+        } else if plain.as_slice().iter().any(|byte| is_of_word(*byte)) {
+            text.push(if is_bare { b"" } else { b"(" })?;
+            text.push(plain.as_slice())?;
+            text.push(if is_bare { b"" } else { b")" })?;
+        } else {
+            return Ok(None);
+        }
         Ok(Some(Value {
             text,
-            is_wrapped: tokens.len() > 2,
+            is_wrapped: tokens.len() > 2 && !is_bare,
         }))
     }
 
@@ -171,27 +180,80 @@ impl Constants {
     }
 }
 
-/// For each first token with a name, whether that is a constant that ends an input or a string.
+/// For each first token with a name, whether that is a constant that ends an input or a string, or a variable that
+/// never gets anything but -1.
 pub(crate) fn end_values(
     alloc: Global,
     source: &Source<'_>,
     constants: &Constants,
+    outline: &Outline,
 ) -> Result<Vec<Option<EndValue>>, AllocError> {
     let mut values: Vec<Option<EndValue>> = Vec::new(alloc);
+    let stored = stored_values(alloc, source, outline)?;
     for index in 0..source.tokens.len() {
         let is_first = slot(source.firsts, index) == index;
         values.push(match constants.value_of(source.word(index)) {
-            Some(value) if is_first => end_value(value),
+            Some(b"0") if is_first => Some(EndValue::Zero),
+            Some(b"(-1)") if is_first => Some(EndValue::MinusOne),
+            None if slot(&stored, index) == MINUS_ONE => Some(EndValue::MinusOne),
             _ => None,
         })?;
     }
     Ok(values)
 }
 
-fn end_value(value: &[u8]) -> Option<EndValue> {
-    match value {
-        b"0" => Some(EndValue::Zero),
-        b"(-1)" => Some(EndValue::MinusOne),
+const MINUS_ONE: usize = 1;
+
+const OTHER: usize = 0;
+
+// For each first token with a name that gets a value, whether that is -1 wherever it does.
+fn stored_values(
+    alloc: Global,
+    source: &Source<'_>,
+    outline: &Outline,
+) -> Result<Vec<usize>, AllocError> {
+    let mut stored = filled(alloc, source.tokens.len())?;
+    for function in &outline.functions {
+        for index in function.open.min(function.body)..function.body {
+            put(&mut stored, slot(source.firsts, index), OTHER);
+        }
+    }
+    for external in &outline.variables {
+        let value = end_word(source, external.name.wrapping_add(1));
+        let is_same = matches!(value, Some(word) if word.value == EndValue::MinusOne);
+        let next = external.name.wrapping_add(1);
+        if next != external.end && !source.is(next, b"=") {
+            let kept = if is_same { MINUS_ONE } else { OTHER };
+            put(&mut stored, slot(source.firsts, external.name), kept);
+        }
+    }
+    for index in 0..source.tokens.len() {
+        let first = slot(source.firsts, index);
+        if first != NONE && is_set(source, index) {
+            let is_same = slot(&stored, first) != OTHER && gets_minus_one(source, index);
+            put(&mut stored, first, if is_same { MINUS_ONE } else { OTHER });
+        }
+    }
+    Ok(stored)
+}
+
+// Whether -1 and nothing else is stored in a name.
+fn gets_minus_one(source: &Source<'_>, name: usize) -> bool {
+    match end_word(source, name.wrapping_add(2)) {
+        Some(word) if word.value == EndValue::MinusOne => {
+            let next = source.word(word.last.wrapping_add(1));
+            source.is(name.wrapping_add(1), b"=") && matches!(next, b";" | b"," | b")")
+        }
+        _ => false,
+    }
+}
+
+// The character of a constant that has no letter and no digit: its number stands for a name.
+fn sign_in(constant: &[u8]) -> Option<u8> {
+    match constant {
+        [b'\'', b'*', b'(', b'\''] => Some(b'{'),
+        [b'\'', b'*', b')', b'\''] => Some(b'}'),
+        [b'\'', b'*', byte, b'\''] | [b'\'', byte, b'\''] if !is_of_word(*byte) => Some(*byte),
         _ => None,
     }
 }
@@ -203,12 +265,6 @@ fn without_remarks(alloc: Global, value: &[u8]) -> Result<&[u8], AllocError> {
     let start = tokens.first().map_or(0, |token| token.start);
     let end = tokens.last().map_or(0, |token| token.end);
     Ok(between(value, start, end))
-}
-
-fn has_remark(places: &[Within]) -> bool {
-    places
-        .iter()
-        .any(|place| matches!(place, Within::Comment | Within::Line))
 }
 
 // Whether tokens are an expression whose signs are those of this language, and whose brackets fit.
@@ -298,7 +354,7 @@ fn end_name(source: &Source<'_>, draft: &mut Draft, index: usize) -> Result<(), 
         b"<=" => b"== '*e'",
         _ => {
             if !is_test(source, sign) && !is_test(source, index.wrapping_add(1)) {
-                draft.note_once(source, index, NoteKind::End)?;
+                draft.note(source, index, NoteKind::End)?;
             }
             return draft.replace(source, index, b"'*e'", Row::InputEnd);
         }
@@ -401,7 +457,7 @@ pub(crate) fn number(
         return draft.note(source, index, NoteKind::Large);
     }
     if base != 8 && value > 32767 {
-        draft.note_once(source, index, NoteKind::Wraps)?;
+        draft.note(source, index, NoteKind::Wraps)?;
     }
     if base == 16 || !is_plain(base, digits) {
         let mut text = Text::new(draft.alloc);

@@ -57,7 +57,11 @@ impl SourceParts {
 
 // By its escapes with a backslash, in whose place others come, and by types and comments up to the end of a line.
 fn quotes_of(text: &[u8], places: &[Within], tokens: &[Token]) -> Quotes {
-    if !tokens.iter().any(|token| is_escaped(text, token)) {
+    let has_escape = tokens.iter().any(|token| {
+        matches!(token.kind, TokenKind::Char | TokenKind::String)
+            && has_backslash(between(text, token.start, token.end))
+    });
+    if !has_escape {
         return Quotes::Stars;
     }
     let has_remark = text
@@ -69,11 +73,6 @@ fn quotes_of(text: &[u8], places: &[Within], tokens: &[Token]) -> Quotes {
     } else {
         Quotes::Both
     }
-}
-
-fn is_escaped(text: &[u8], token: &Token) -> bool {
-    matches!(token.kind, TokenKind::Char | TokenKind::String)
-        && has_backslash(between(text, token.start, token.end))
 }
 
 // Whether types are there, and no constant of one character that a `*` escapes.

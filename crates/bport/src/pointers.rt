@@ -64,22 +64,20 @@ pub(crate) struct Declaring {
     depth: usize,
 }
 
+/// Neither, as at the beginning.
+pub(crate) const UNDECLARED: Declaring = Declaring {
+    has_names: false,
+    has_value: false,
+    depth: 0,
+};
+
+const NAMES: Declaring = Declaring {
+    has_names: true,
+    has_value: false,
+    depth: 0,
+};
+
 impl Declaring {
-    pub(crate) fn none() -> Self {
-        Declaring {
-            has_names: false,
-            has_value: false,
-            depth: 0,
-        }
-    }
-
-    fn names() -> Self {
-        Declaring {
-            has_names: true,
-            ..Declaring::none()
-        }
-    }
-
     fn value(depth: usize) -> Self {
         Declaring {
             has_names: false,
@@ -92,25 +90,25 @@ impl Declaring {
     pub(crate) fn at(self, source: &Source<'_>, index: usize) -> Self {
         let word = source.word(index);
         match word {
-            b";" => Declaring::none(),
-            b"auto" => Declaring::names(),
+            b";" => UNDECLARED,
+            b"auto" => NAMES,
             b"=" if self.has_names => Declaring::value(0),
             b"{" if self.has_names && !source.is(index.wrapping_sub(1), b")") => Declaring::value(
                 1,
             ),
-            b"," if self.has_value && self.depth == 0 => Declaring::names(),
+            b"," if self.has_value && self.depth == 0 => NAMES,
             _ if self.has_value && is_opening(word) => {
                 Declaring::value(self.depth.saturating_add(1))
             }
             _ if self.has_value && is_closing(word) => {
                 Declaring::value(self.depth.saturating_sub(1))
             }
-            b"{" | b"}" | b"$(" | b"$)" => Declaring::none(),
+            b"{" | b"}" | b"$(" | b"$)" => UNDECLARED,
             _ if is_type(word) && is_typed(source, index) => {
                 if is_cast(source, index.wrapping_sub(1)) {
                     self
                 } else {
-                    Declaring::names()
+                    NAMES
                 }
             }
             _ => self,
@@ -225,7 +223,7 @@ fn calls_in(
     function: Function,
     number: usize,
 ) -> Result<(), AllocError> {
-    let mut declaring = Declaring::none();
+    let mut declaring = UNDECLARED;
     for index in function.open.min(function.body)..function.end.min(source.tokens.len()) {
         declaring = declaring.at(source, index);
         let name = pointed(source, index);

@@ -8,7 +8,7 @@ ghost use Rattle.bport.specs.declared.within.Within.TheVariants as within;
 use crate::apply::{apply, joined};
 use crate::calls::calls;
 use crate::definitions::{Outline, outline_of};
-use crate::edit::{Edit, are_sound, fits};
+use crate::edit::{Edit, are_sound, between, fits};
 use crate::expressions::{
     Exclusive, exclusive_assignment, exclusive_or, is_joined, may_wrap, sign,
 };
@@ -25,7 +25,7 @@ use crate::quotes::{quoted, tell_ends};
 use crate::refusing::refuse;
 use crate::remarks::remarks;
 use crate::row::{Note, NoteKind, Row};
-use crate::scopes::renames;
+use crate::scopes::{renames, tell_labels};
 use crate::shape::ends_of;
 use crate::source::{Dialect, Draft, Source, key_of};
 use crate::statements::statement;
@@ -146,25 +146,29 @@ fn plain_notes(alloc: Global, text: &[u8], rest: &[u8]) -> Result<Vec<Note>, All
     let others = others.source(rest, Edition::One);
     let mut constants = Constants::new(alloc, text.len())?;
     let outline = outline_of(alloc, &source, &mut Draft::new(alloc), &mut constants)?;
+    let named = end_values(alloc, &source, &constants, &outline)?;
+    let source = Source {
+        end_values: &named,
+        ..source
+    };
     let mut draft = Draft::new(alloc);
     tell_holders(alloc, &source, &others, &mut draft, &outline)?;
     plain_calls(alloc, &source, &others, &mut draft, &outline)?;
-    meanings(&bare, &others, &mut draft, false)?;
-    let has_heap = has_name(&bare, b"givevec");
-    for index in 0..bare.tokens.len() {
-        if let Some(kind) = plain_note(&bare, index, has_heap) {
-            draft.note_once(&bare, index, kind)?;
+    tell_labels(alloc, &source, &mut draft, &outline)?;
+    meanings(&source, &others, &mut draft, false)?;
+    let has_heap = has_name(&source, b"givevec");
+    for index in 0..source.tokens.len() {
+        if let Some(kind) = plain_note(&source, index, has_heap) {
+            draft.note(&source, index, kind)?;
         }
     }
-    in_order(&mut draft.notes)?;
     let Draft {
         alloc: _,
         edits: _,
         notes,
         ordered: _,
-        told: _,
     } = draft;
-    Ok(notes)
+    in_order(alloc, text, notes)
 }
 
 // Tells the calls that would be edited in another source.
@@ -183,16 +187,32 @@ fn plain_calls(
             Row::StringEnd => NoteKind::Ends,
             _ => NoteKind::Zero,
         };
-        draft.note_new(source, edit.start, kind)?;
+        draft.note_at(edit.start, kind)?;
     }
     for note in &made.notes {
-        draft.note_new(source, note.start, note.kind)?;
+        draft.note_at(note.start, note.kind)?;
     }
     Ok(())
 }
 
-fn in_order(notes: &mut Vec<Note>) -> Result<(), AllocError> {
-    notes.sort_by_key(|note| note.start)
+// Notes in the order of a source, each kind once in a line.
+fn in_order(alloc: Global, source: &[u8], notes: Vec<Note>) -> Result<Vec<Note>, AllocError> {
+    let mut sorted = notes;
+    sorted.sort_by_key(|note| note.start)?;
+    let mut kept: Vec<Note> = Vec::new(alloc);
+    let mut begun: usize = 0;
+    let mut at: usize = 0;
+    for note in sorted {
+        if between(source, at, note.start).contains(&b'\n') {
+            begun = kept.len();
+        }
+        at = note.start;
+        let told = kept.get(begun..).unwrap_or(&[]);
+        if !told.iter().any(|other| other.kind == note.kind) {
+            kept.push(note)?;
+        }
+    }
+    Ok(kept)
 }
 
 // What a token of it may not mean.
@@ -227,10 +247,9 @@ fn rewrite(
         edits,
         mut notes,
         ordered: _,
-        told: _,
     } = draft_of(alloc, source, rest, edition)?;
     let edits = apart(source, &places, edits, &mut notes, alloc)?;
-    in_order(&mut notes)?;
+    let mut notes = in_order(alloc, source, notes)?;
     let is_sound = are_edits_of(alloc, source, &places, &edits)?;
     if is_sound && !has_refused(notes.as_slice()) {
         tell_old(source, &places, &edits, &mut notes)?;
@@ -312,7 +331,7 @@ fn draft_of(
     let mut constants = Constants::new(alloc, text.len())?;
     remarks(&mut draft, &mut constants, text, source.places)?;
     let mut outline = outline_of(alloc, &source, &mut draft, &mut constants)?;
-    let named = end_values(alloc, &source, &constants)?;
+    let named = end_values(alloc, &source, &constants, &outline)?;
     let source = Source {
         end_values: &named,
         ..source
@@ -342,6 +361,7 @@ fn draft_words(
         }
     }
     tell_ends(source, draft)?;
+    tell_labels(alloc, source, draft, outline)?;
     meanings(source, others, draft, true)?;
     streams(source, others, draft)?;
     pointer_calls(alloc, source, draft, outline, &held.names)?;

@@ -59,17 +59,17 @@ fn is_plain_zero(source: &Source<'_>, index: usize) -> bool {
         || is_word_end(source, before) && matches!(source.word(sign), b"=" | b"==" | b"!=")
 }
 
-// Whether a word that has an address ends with a token: `v[i]`, `*p` or `*p++`, also one that is stored between
-// parentheses.
-fn is_word_end(source: &Source<'_>, last: usize) -> bool {
+/// Whether a word that has an address ends with a token: `v[i]`, `*p` or `*p++`, also one that is stored between
+/// parentheses.
+pub(crate) fn is_word_end(source: &Source<'_>, last: usize) -> bool {
     let before = source.partner(last).wrapping_sub(1);
     let is_group = source.is(last, b")") && !is_callee(source, before);
     let end = if is_group { last.wrapping_sub(1) } else { last };
     word_start(source, end) != NONE
 }
 
-// The first token of such a word that ends with this one.
-fn word_start(source: &Source<'_>, last: usize) -> usize {
+/// The first token of such a word that ends with this one.
+pub(crate) fn word_start(source: &Source<'_>, last: usize) -> usize {
     match source.word(last) {
         b"]" => source.partner(last).wrapping_sub(1),
         b"++" | b"--" => star_before(source, last.wrapping_sub(1)),
@@ -95,7 +95,7 @@ pub(crate) fn tell_ends(source: &Source<'_>, draft: &mut Draft) -> Result<(), Al
     }
     for index in 0..source.tokens.len() {
         if is_zero(source, index) && !is_plain_zero(source, index) {
-            draft.note_once(source, index, NoteKind::Ends)?;
+            draft.note(source, index, NoteKind::Ends)?;
         }
     }
     Ok(())
@@ -117,8 +117,8 @@ fn is_zero(source: &Source<'_>, index: usize) -> bool {
     source.kind(index) == Some(TokenKind::Char) && code_of(inner) == Some(0)
 }
 
-// Whether the truth of a word that has an address, and ends with a token, is a condition.
-fn is_word_test(source: &Source<'_>, last: usize) -> bool {
+/// Whether the truth of a word that has an address, and ends with a token, is a condition.
+pub(crate) fn is_word_test(source: &Source<'_>, last: usize) -> bool {
     let before = word_start(source, last).wrapping_sub(1);
     let next = last.wrapping_add(1);
     source.is(next, b")")
@@ -135,9 +135,12 @@ fn coded(
 ) -> Result<(), AllocError> {
     if code == 0 {
         if !is_end(source, index) {
-            draft.note_once(source, index, NoteKind::Ends)?;
+            draft.note(source, index, NoteKind::Ends)?;
         }
         return draft.replace(source, index, b"'*e'", Row::StringEnd);
+    }
+    if code > 127 {
+        draft.note(source, index, NoteKind::High)?;
     }
     let mut text = Text::new(draft.alloc);
     text.push_number(code)?;
@@ -263,7 +266,7 @@ fn escape(
         _ => {}
     }
     if matches!(text, b"*0" | b"***0") && source.kind(index) == Some(TokenKind::String) {
-        draft.note_once(source, index, NoteKind::Ends)?;
+        draft.note(source, index, NoteKind::Ends)?;
     }
     if !text.is_empty() {
         return draft.put(place, next, text, Row::Escape);

@@ -12,8 +12,9 @@ use crate::tokens::TokenKind;
 use crate::within::Within;
 use std::alloc::AllocError;
 
-/// Tells why nothing of a source is edited, if nothing is: numbers before its lines, bytes of no form, operators
-/// of fractions, a bracket without the other one of its pair, or a string that goes on to the end of its line.
+/// Tells why nothing of a source is edited, if nothing is: numbers before its lines, bytes of no form, operators of
+/// fractions, strings of several parts, a bracket without the other one of its pair, or a string that goes on to the
+/// end of its line.
 pub(crate) fn refuse(source: &Source<'_>, draft: &mut Draft) -> Result<bool, AllocError> {
     for index in 0..source.tokens.len() {
         if is_line_number(source, index) {
@@ -23,9 +24,11 @@ pub(crate) fn refuse(source: &Source<'_>, draft: &mut Draft) -> Result<bool, All
     }
     for index in 0..source.tokens.len() {
         if matches!(source.word(index), [byte] if is_foreign(*byte)) {
-            draft.note_once(source, index, NoteKind::Accent)?;
+            draft.note(source, index, NoteKind::Accent)?;
         } else if is_fraction(source, index) {
             draft.note(source, index, NoteKind::Fraction)?;
+        } else if is_parted(source, index) {
+            draft.note(source, index, NoteKind::Parted)?;
         }
     }
     if draft.notes.is_empty() {
@@ -47,6 +50,15 @@ fn is_line_number(source: &Source<'_>, index: usize) -> bool {
     let is_first = source.places.get(source.start(index)) == Some(&Within::Start);
     let after = between(source.text, source.end(index), source.start(next));
     is_first && source.is_name(next) && !after.contains(&b'\n')
+}
+
+// Whether a string goes on in the next line, or another one comes right after it.
+fn is_parted(source: &Source<'_>, index: usize) -> bool {
+    let word = source.word(index);
+    let goes_on = word.ends_with(b"\\\n") || word.ends_with(b"\\\r\n");
+    let is_joined = source.kind(index.wrapping_add(1)) == Some(TokenKind::String)
+        && !has_pair(word, b'*', b"\"");
+    source.kind(index) == Some(TokenKind::String) && (goes_on || is_joined)
 }
 
 // Tells the first bracket without the other one of its pair, and a string that may have gone on to it.
@@ -77,7 +89,7 @@ fn star_string(source: &Source<'_>, draft: &mut Draft) -> Result<(), AllocError>
     for index in 0..source.tokens.len() {
         let is_string = source.kind(index) == Some(TokenKind::String);
         if is_string && has_pair(source.word(index), b'*', b"\"") {
-            return draft.note_once(source, index, NoteKind::Star);
+            return draft.note(source, index, NoteKind::Star);
         }
     }
     Ok(())

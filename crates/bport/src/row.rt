@@ -163,14 +163,20 @@ pub enum NoteKind {
     Form,
     Status,
     End,
+    Quarter,
+    Halves,
+    Label,
+    High,
+    Parted,
+    Case,
 }
 
 impl NoteKind {
-    /// Whether it is told in each line, and not only in the first one.
-    pub(crate) fn is_of_each(self) -> bool {
+    /// Whether it is told once of a whole source, and not in each line.
+    pub(crate) fn is_of_all(self) -> bool {
         matches!(
             self,
-            NoteKind::Shift | NoteKind::Ends | NoteKind::Zero | NoteKind::End
+            NoteKind::Wraps | NoteKind::Break | NoteKind::Status | NoteKind::Heap
         )
     }
 
@@ -231,6 +237,12 @@ impl NoteKind {
             NoteKind::Form => b"printf knows d, u, o, x, c and s after a %, and writes what has others as it is",
             NoteKind::End => b"'*e' is 4, and as a value the same as the number 4, which EOF wasn't",
             NoteKind::Status => b"the value that main returns is no status: exit(n) ends a program with one",
+            NoteKind::Quarter => b"a word has two characters, and not four: double this where it counts words of text",
+            NoteKind::Halves => b"the first character of a word is its low byte: char and lchar take a word apart",
+            NoteKind::Label => b"this is the label, which hides what else has its name: give the label another one",
+            NoteKind::High => b"a character past 127 is above 0 here, also where char had a sign",
+            NoteKind::Parted => b"two strings, or two lines of one, don't join: port changes nothing until they do",
+            NoteKind::Case => b"a case has one number or character: write what this comes to",
         }
     }
 }

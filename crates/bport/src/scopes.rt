@@ -2,7 +2,8 @@
 use crate::definitions::{Function, Outline, after_types};
 use crate::logic::at_level;
 use crate::mentions::declaration_end;
-use crate::source::Source;
+use crate::row::NoteKind;
+use crate::source::{Draft, Source};
 use crate::table::{NONE, filled, put, slot};
 use crate::taken::Taken;
 use btools::Text;
@@ -51,6 +52,39 @@ pub(crate) fn renames(
         renamed,
     } = scopes;
     Ok(renamed)
+}
+
+/// Tells each call of a function, and each use of an external, that has the name of a label of the same function.
+pub(crate) fn tell_labels(
+    alloc: Global,
+    source: &Source<'_>,
+    draft: &mut Draft,
+    outline: &Outline,
+) -> Result<(), AllocError> {
+    let mut labels = filled(alloc, source.tokens.len())?;
+    let mut externals = filled(alloc, source.tokens.len())?;
+    for name in &outline.externals {
+        put(&mut externals, slot(source.firsts, *name), 0);
+    }
+    for number in 0..outline.functions.len() {
+        let function = outline.functions[number];
+        for index in function.body..function.end.min(source.tokens.len()) {
+            if source.is_label(index) {
+                put(&mut labels, slot(source.firsts, index), number);
+            }
+        }
+        for index in function.body..function.end.min(source.tokens.len()) {
+            let first = slot(source.firsts, index);
+            let is_external = slot(&externals, first) != NONE;
+            let is_listed = matches!(source.word(index.wrapping_sub(1)), b"goto" | b"extrn");
+            let is_used = source.is_call(index)
+                || is_external && !is_listed && !source.is_label(index);
+            if slot(&labels, first) == number && is_used {
+                draft.note(source, index, NoteKind::Label)?;
+            }
+        }
+    }
+    Ok(())
 }
 
 // Where the inner braces end in which a token stands, if it stands in some.

@@ -10,11 +10,6 @@ use btools::Text;
 use bword::Edition;
 use std::alloc::{AllocError, Global};
 
-/// How many notes, and bytes before them, are looked through for one of the same line.
-const MOST_NOTES: usize = 64;
-
-const MOST_BYTES: usize = 1000;
-
 /// An old source, as far as it is known.
 #[derive(Clone, Copy)]
 pub(crate) struct Source<'a> {
@@ -167,6 +162,11 @@ impl<'a> Source<'a> {
         }
     }
 
+    /// Whether a name is a label of the statement after it.
+    pub(crate) fn is_label(&self, index: usize) -> bool {
+        self.is_name(index) && self.is(index.wrapping_add(1), b":") && self.begins_statement(index)
+    }
+
     /// Whether a name has a parenthesis after it.
     pub(crate) fn is_call(&self, index: usize) -> bool {
         self.is_name(index) && self.is(index.wrapping_add(1), b"(")
@@ -190,8 +190,6 @@ pub(crate) struct Draft {
     pub notes: Vec<Note>,
     /// How many of the edits are in order, from the first one on, if that is known.
     pub ordered: Option<usize>,
-    /// What was told of any place.
-    pub told: Vec<NoteKind>,
 }
 
 impl Draft {
@@ -201,7 +199,6 @@ impl Draft {
             edits: Vec::new(alloc),
             notes: Vec::new(alloc),
             ordered: None,
-            told: Vec::new(alloc),
         }
     }
 
@@ -323,51 +320,13 @@ impl Draft {
         self.note_at(source.start(index), kind)
     }
 
-    /// Tells what was told of no token before, or of none in its line where each place matters.
-    pub(crate) fn note_once(
-        &mut self,
-        source: &Source<'_>,
-        index: usize,
-        kind: NoteKind,
-    ) -> Result<(), AllocError> {
-        self.note_new(source, source.start(index), kind)
-    }
-
-    /// The same of a place.
-    pub(crate) fn note_new(
-        &mut self,
-        source: &Source<'_>,
-        start: usize,
-        kind: NoteKind,
-    ) -> Result<(), AllocError> {
-        if self.is_told(kind) && !(kind.is_of_each() && self.is_new(source, start, kind)) {
-            return Ok(());
-        }
-        self.note_at(start, kind)
-    }
-
-    // Whether none of the last notes tells this of the line of a place.
-    fn is_new(&self, source: &Source<'_>, start: usize, kind: NoteKind) -> bool {
-        for note in self.notes.iter().rev().take(MOST_NOTES) {
-            if note.kind == kind {
-                let (first, last) = (start.min(note.start), start.max(note.start));
-                return last.saturating_sub(first) > MOST_BYTES
-                    || between(source.text, first, last).contains(&b'\n');
-            }
-        }
-        true
-    }
-
+    /// Tells this of a place, or once of the whole source.
     pub(crate) fn note_at(&mut self, start: usize, kind: NoteKind) -> Result<(), AllocError> {
-        if !self.is_told(kind) {
-            self.told.push(kind)?;
+        let is_told = kind.is_of_all() && self.notes.iter().any(|note| note.kind == kind);
+        if !is_told {
+            self.notes.push(Note { start, kind })?;
         }
-        self.notes.push(Note { start, kind })?;
         Ok(())
-    }
-
-    fn is_told(&self, kind: NoteKind) -> bool {
-        self.told.iter().any(|told| *told == kind)
     }
 }
 

@@ -32,11 +32,11 @@ pub(crate) fn statement(
     loops: &Loops,
     index: usize,
 ) -> Result<(), AllocError> {
-    let next = index.wrapping_add(1);
+    let (before, next) = (index.wrapping_sub(1), index.wrapping_add(1));
     match source.head_word(index) {
         b"return" => {
             if ends_main(source, outline, index) {
-                draft.note_once(source, index, NoteKind::Status)?;
+                draft.note(source, index, NoteKind::Status)?;
             }
             return_value(source, draft, index)
         }
@@ -59,12 +59,14 @@ pub(crate) fn statement(
         b"switch" => switch(source, draft, index),
         b"case" => case(source, draft, outline, index),
         b"break" | b"default" if source.edition == Edition::One => {
-            draft.note_once(source, index, NoteKind::Break)
+            draft.note(source, index, NoteKind::Break)
         }
         b"extern" | b"extrn" => external(source, draft, index),
         b"auto" => locals(source, draft, next, next),
         b"[" if !is_owned(outline, index) => one_size(source, draft, index, false),
-        b":" if source.is_close_brace(next) && ends_label(source, index) => {
+        b":"
+            if source.is_close_brace(next)
+                && (source.is_label(before) || source.is(before.wrapping_sub(1), b"case")) => {
             draft.insert(source.end(index), b" ;", Row::Empty)
         }
         word if is_type(word) => declaration(source, draft, outline, index),
@@ -75,12 +77,6 @@ pub(crate) fn statement(
 // Whether a token stands in the statement of a function.
 fn is_owned(outline: &Outline, index: usize) -> bool {
     slot(&outline.owners, index) != NONE
-}
-
-fn ends_label(source: &Source<'_>, colon: usize) -> bool {
-    let before = colon.wrapping_sub(1);
-    let is_label = source.is_name(before) && source.begins_statement(before);
-    is_label || source.is(before.wrapping_sub(1), b"case")
 }
 
 // Whether a `return` of `main` has another value than 0.
@@ -143,7 +139,10 @@ fn case(
     if source.is(first, b"-") && source.kind(sign) == Some(TokenKind::Number) {
         return negative(source, draft, outline, first);
     }
-    if !source.is(sign, b"::") || case_colon(source, index) == NONE {
+    if !matches!(source.word(sign), b":" | b"::") {
+        return draft.note(source, first, NoteKind::Case);
+    }
+    if source.is(sign, b":") || case_colon(source, index) == NONE {
         return Ok(());
     }
     let from = constant(source, draft, first)?;
@@ -282,7 +281,8 @@ fn local(
 ) -> Result<(), AllocError> {
     let name = after_types(source, from);
     let open = name.wrapping_sub(2);
-    if name != from && matches!(source.word(from), b"*" | b"(") {
+    if name != from && source.is_name(name) {
+        types(source, draft, from, name)?;
         draft.remove(source, from, name, Row::Type)?;
     }
     if pointed(source, open) == name && name != NONE {

@@ -149,6 +149,7 @@ fn refuses_kind(kind: NoteKind) -> bool
             | NoteKind::Numbered
             | NoteKind::Accent
             | NoteKind::Star
+            | NoteKind::Parted
             | NoteKind::Unfit
     )
 }

@@ -49,7 +49,7 @@ impl Taken {
     }
 
     fn keep(&mut self, name: &[u8]) -> Result<(), AllocError> {
-        let place = self.place_of(name);
+        let place = place_in(&self.slots, &self.names, name);
         if slot(&self.slots, place) == NONE {
             put(&mut self.slots, place, self.names.len());
             let mut text = Text::new(self.alloc);
@@ -59,12 +59,9 @@ impl Taken {
         Ok(())
     }
 
-    fn place_of(&self, name: &[u8]) -> usize {
-        place_in(&self.slots, &self.names, name)
-    }
-
     fn has(&self, name: &[u8]) -> bool {
-        is_reserved(name) || slot(&self.slots, self.place_of(name)) != NONE
+        let place = place_in(&self.slots, &self.names, name);
+        is_reserved(name) || slot(&self.slots, place) != NONE
     }
 
     /// A name that nothing has, made of the first letters of one. It is taken then.

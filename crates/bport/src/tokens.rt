@@ -67,7 +67,7 @@ fn piece_at(source: &[u8], places: &[Within], at: usize) -> (Option<TokenKind>, 
         Some(b'/') if matches!(rest.get(1), Some(b'*' | b'/')) => (None, at.saturating_add(2)),
         Some(b'#') if is_remark(source, places, at) => (None, next),
         Some(b' ' | b'\t' | b'\n' | b'\r' | 0x0C) => (None, next),
-        Some(_) if begins_number(rest) => {
+        Some(_) if matches!(rest, [b'.', byte, ..] | [byte, ..] if byte.is_ascii_digit()) => {
             (
                 Some(TokenKind::Number),
                 at.saturating_add(word_length(rest, true)),
@@ -112,14 +112,6 @@ fn end_of_quotes(source: &[u8], places: &[Within], from: usize) -> usize {
 /// Whether a name may begin with a byte.
 pub(crate) fn is_letter(byte: u8) -> bool {
     byte.is_ascii_alphabetic() || byte == b'_' || byte == b'.'
-}
-
-// Whether a number begins here: a digit, also after a point.
-fn begins_number(rest: &[u8]) -> bool {
-    match rest {
-        [b'.', byte, ..] | [byte, ..] => byte.is_ascii_digit(),
-        _ => false,
-    }
 }
 
 // How long a name or a number is.

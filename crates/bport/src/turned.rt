@@ -13,14 +13,6 @@ pub(crate) struct Turned {
 }
 
 impl Turned {
-    /// Neither of them.
-    pub(crate) fn none() -> Self {
-        Turned {
-            until: false,
-            unless: false,
-        }
-    }
-
     pub(crate) fn of(text: &[u8], tokens: &[Token], partners: &[usize]) -> Self {
         Turned {
             until: is_always_head(text, tokens, partners, b"until"),
