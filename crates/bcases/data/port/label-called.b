@@ -1,0 +1,7 @@
+main() {
+    auto c;
+    while((c = getchar()) != '*e')
+        if(c == 'q') goto exit;
+exit:
+    exit(c);
+}

@@ -1,0 +1,6 @@
+main() {
+    auto x;
+    x += 2;
+    putstr("a" "b");
+    putstr("c");
+}

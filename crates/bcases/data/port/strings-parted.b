@@ -1,0 +1,5 @@
+main() {
+    putstr("one \
+two");
+    putstr("three");
+}
