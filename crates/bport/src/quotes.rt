@@ -258,6 +258,9 @@ fn escape(
     let place = source.start(index).saturating_add(at);
     let next = place.saturating_add(unit.len());
     let text = escape_for(unit);
+    if source.quotes == Quotes::Stars && begins_other(unit, source.text.get(next).copied()) {
+        return draft.note_at(place, NoteKind::Escape);
+    }
     match unit {
         b"**" if source.quotes != Quotes::Backslashes => return Ok(()),
         [b'\\', b'\\'] | [b'*', b'\\', b'\\'] if !is_apart(source, index, next) => {
@@ -275,6 +278,15 @@ fn escape(
         return draft.note_at(place, NoteKind::Escape);
     }
     Ok(())
+}
+
+// Whether a `*`, or a `*0`, begins an escape of another machine: for a backspace, a carriage return, or by a number.
+fn begins_other(unit: &[u8], next: Option<u8>) -> bool {
+    match unit {
+        b"*" => matches!(next, Some(b'a' | b'b' | b'f' | b'r' | b'v' | b'\\' | b'1'..=b'7')),
+        b"*0" => matches!(next, Some(b'0'..=b'7')),
+        _ => false,
+    }
 }
 
 // Whether a backslash before a place begins no escape in any form of the language.
