@@ -564,9 +564,9 @@ line. b --help explains the letters.";
 
 pub(crate) const FORMAT_HELP: &str = "\
 The tokens and the comments stay as they are, and in their order. Blanks and
-line ends are set by one style: 4 blanks a level, one statement a line, and at
-most one empty line. The code of the source stays the same to the byte. To lay
-out a source that is laid out changes nothing.
+line ends are set by one style: 4 blanks a level, at most 160, one statement a
+line, and at most one empty line. The code of the source stays the same to the
+byte. To lay out a source that is laid out changes nothing.
 
 --check writes nothing, and ends with 2 where something would change. A source
 with a wrong token is told, and nothing is written.
