@@ -12,6 +12,7 @@ ghost use Rattle.bfix.specs.OwnText.{TellsBoth};
 use crate::due::due;
 use crate::edits::{edited, own_length};
 use crate::keeping::keeps;
+use crate::porting::verdict;
 use bcheck::{Change, Tally, next_change, tally_on};
 use blang::status::{self, Status};
 use bport::joined;
@@ -185,17 +186,33 @@ fn most_changes(len: usize) -> usize
     MOST_CHANGES.min(LOOKED_BYTES / len.max(1))
 }
 
-// What the next change makes of a text, and its line.
+// What the next change makes of a text, and its line. Of a ported text that compiles nothing is changed: what a warning
+// takes for a mistake an old program means.
 fn made(alloc: Global, frame: &Frame<'_>, old: &[u8]) -> Result<Option<Led>, AllocError>
     ensures made { IfOk result (λ made. IfSome made (IsMade frame.now old.now)) }
     ensures settled { IfOk result (λ made. frame.now.is_ported ≡ false → made ≡ None
         → IsSettled (setting_of frame.now) old.now) }
 {
+    if frame.is_ported {
+        return changed_of_fault(alloc, frame, old);
+    }
     let found = changed(alloc, frame, old)?;
-    if found.is_some() || frame.is_ported {
+    if found.is_some() {
         return Ok(found);
     }
     due(alloc, frame, old)
+}
+
+// What the next change makes of a text that doesn't compile.
+fn changed_of_fault(alloc: Global, frame: &Frame<'_>, old: &[u8]) -> Result<Option<Led>, AllocError>
+    ensures { IfOk result (λ made. IfSome made (IsMade frame.now old.now)) }
+{
+    let (_, status) = verdict(alloc, old, frame.rest, frame.edition)?;
+    if status == status::FAULT {
+        changed(alloc, frame, old)
+    } else {
+        Ok(None)
+    }
 }
 
 // What the next change that a finding asks for makes of a text. No comment and no string is lost by it.

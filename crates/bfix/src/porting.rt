@@ -117,8 +117,8 @@ fn unchanged(alloc: Global, own: &[u8]) -> Result<Led, AllocError>
     })
 }
 
-// The line and the status of compiling and loading a text that these bytes follow.
-fn verdict(
+/// The line and the status of compiling and loading a text that these bytes follow.
+pub(crate) fn verdict(
     alloc: Global,
     own: &[u8],
     rest: &[u8],

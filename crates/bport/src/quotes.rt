@@ -283,7 +283,10 @@ fn escape(
 // Whether a `*`, or a `*0`, begins an escape of another machine: for a backspace, a carriage return, or by a number.
 fn begins_other(unit: &[u8], next: Option<u8>) -> bool {
     match unit {
-        b"*" => matches!(next, Some(b'a' | b'b' | b'f' | b'r' | b'v' | b'\\' | b'1'..=b'7')),
+        b"*" => matches!(
+            next,
+            Some(b'a' | b'b' | b'f' | b'r' | b'v' | b'\\' | b'1'..=b'7')
+        ),
         b"*0" => matches!(next, Some(b'0'..=b'7')),
         _ => false,
     }

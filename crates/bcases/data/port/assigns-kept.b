@@ -1,0 +1,5 @@
+g(x) {
+    if(x = 5)
+        return x = 6;
+    f(x);
+}
