@@ -535,10 +535,10 @@ pub(crate) const PORT_HELP: &str = "\
 FILE is of an old or a later form of B, or early C. It is written to standard
 output in this language. One that loads alone, in edition 1, stays as it is.
 Each change is told on standard error, with its line in FILE and a sentence;
-after left: comes what stays as it is, or may mean something else. What comes
-out is then mended as by b check --fix: that comes after mended:. The last is
-the line that b go would write, if what was written doesn't compile or load:
-b check tells more of that. Comments and strings keep their texts.
+after left: comes what stays as it is, or may mean something else. If it doesn't
+compile then, it is mended as by b check --fix: that comes after mended:. The
+last is the line that b go would write, if what was written doesn't compile or
+load: b check tells more of that. Comments and strings keep their texts.
 
 Changed are: assignment operators with = last, && and ||, ^ and ~, for, do,
 repeat, continue and next, brackets in auto, $( and $), comments after // or #,
