@@ -1,3 +1,0 @@
-pub use token :: Keyword ;
-pub use token :: Letters ;
-mod token ;

@@ -1,2 +1,0 @@
-pub use lexeme :: Lexeme ;
-mod lexeme ;

@@ -1,4 +1,0 @@
-pub use nodes :: NodeTag ;
-pub use tags :: Tag ;
-mod nodes ;
-mod tags ;

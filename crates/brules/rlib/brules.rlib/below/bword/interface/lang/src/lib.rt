@@ -1,4 +1,0 @@
-pub use name :: Name ;
-pub use operators :: BinOp ;
-mod name ;
-mod operators ;

@@ -1,2 +1,0 @@
-# [ derive ( Clone , Copy , PartialEq , Eq ) ] pub enum Rule { BitsCompared , ComparesTwice , NotCompared , OrConstant , StringsAdded , StringCompared , NegativeNumber , StringEnd , InputEnd , InputZero , AssignsItself , PassesOldValue , ConditionAssigns , AssignsComparison , AssignsCompared , EmptyIf , EmptyLoop , EndlessLoop , NameAlone , ComparesAlone , ValueDropped , NoEffect , }
-# [ derive ( Clone , Copy ) ] pub struct Notice { pub rule : Rule , pub token : usize , }

@@ -1,7 +1,0 @@
-mod NoticeSteps
-mod Moves
-mod NoticesOfExpressions
-mod NoticesOfFunctions
-mod LoopSteps
-mod LoopMoves
-mod LoopsOfFunctions
