@@ -120,6 +120,9 @@ async function breaks({sessions, expect}) {
 /** What a run may hold between two slices. */
 async function limits({sessions, expect}) {
   const writes = "main() { auto n; n = 60000; while(n--) putchar('ab'); }", whole = 'ab'.repeat(60000);
+  for (const input of [7, true, {}]) {
+    expect('no text', await kindOf(() => sessions.load(writes, {input})), 'TypeError');
+  }
   const it = sessions.load(writes, {limits: {output: 100}});
   expect('output past its limit', it.goOn(), ended('has output'));
   const first = text(it.output()), parts = [];
@@ -128,11 +131,13 @@ async function limits({sessions, expect}) {
   expect('all of it', first + parts.join('') === whole, true);
   const grows = sessions.loadCode('F main 0 0 0 0 2\nc 1\nj 0\nE\n', {limits: {operands: 1000}});
   expect('operands past their limit', await grows.run(), ended('too large', {of: 'operands'}));
-  grows.limit();
+  grows.limit({operands: Infinity});
   expect('without a limit', await grows.run({steps: 200000}), limit);
   const fills = sessions.load('v[20000]; main() { extrn v; auto n; n = 0; while(n < 20000) v[n++] = 7; }');
   fills.limit({pages: 3});
   expect('pages past their limit', await fills.run(), ended('too large', {of: 'pages'}));
+  fills.limit({operands: 1000});
+  expect('a limit that stays', await fills.run(), ended('too large', {of: 'pages'}));
   fills.limit({pages: 256});
   expect('more pages', await fills.run(), halted(0));
   for (const most of [{pages: 257}, {pages: -1}, {operands: -1}, {output: 2 ** 64}, {operands: 1.5}]) {

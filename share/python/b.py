@@ -19,6 +19,11 @@ Libs = Mapping[Text, Text]
 STEPS = 100_000_000
 FAULT, TRAP, LIMIT, REFUSED, FAILED, NO_MEMORY, WRONG_EDITION = 1, 130, 131, 132, 133, 134, 135
 HAS_OUTPUT, TOO_LARGE, STOPPED = 136, 137, 138
+__all__ = (
+    *("compile", "migrate", "check", "format", "list", "map", "version", "run", "go", "trace", "count", "show"),
+    *("Ran", "Error", "Session", "Place", "Frame", "End", "STEPS", "FAULT", "TRAP", "LIMIT", "REFUSED", "FAILED"),
+    *("NO_MEMORY", "WRONG_EDITION", "HAS_OUTPUT", "TOO_LARGE", "STOPPED"),
+)
 _LINE = 1024
 _ROOM = 1 << 16
 _SHOWN = 2000
@@ -346,6 +351,7 @@ _UNBEGUN = b"trap st\n"  # where the memory has no room for the frame of `main`
 _OF = ("", "operands", "pages")
 _WHY = {LIMIT: "limit", FAILED: "wants input", HAS_OUTPUT: "has output", STOPPED: "stopped"}
 _SLICE = 1_000_000
+_STAYS: Any = object()  # a limit that isn't named
 _ALL = ctypes.c_size_t(-1).value
 _PAGES = 256
 
@@ -414,7 +420,8 @@ class Session:
     ):
         self._held = _Held()
         self._names: Dict[int, str] = {}
-        self._limits = _limits(operands, pages, output)
+        self._held_at_most = (operands, pages, output)
+        self._limits = _limits(*self._held_at_most)
         if code is None:
             self._load(_library.b_load_with, *_source(source, libs), _edition(edition))
         else:
@@ -447,13 +454,15 @@ class Session:
             self.feed(input)
 
     def limit(
-        self, *, operands: Optional[int] = None, pages: Optional[int] = None, output: Optional[int] = None
+        self, *, operands: Optional[int] = _STAYS, pages: Optional[int] = _STAYS, output: Optional[int] = _STAYS
     ) -> None:
         """How much the run may hold between two slices: so many operands, pages of 256 words of memory that have
-        another word than 0, and bytes of output; with None there is no limit. That is looked at after each 65536
-        steps. A slice then ends with `has output` or `too large`, and the run can go on."""
+        another word than 0, and bytes of output; with None there is no limit, and one that isn't named stays. That is
+        looked at after each 65536 steps. A slice then ends with `has output` or `too large`, and the run can go on."""
         self._look_for_run()
-        self._limits = _limits(operands, pages, output)
+        named = zip((operands, pages, output), self._held_at_most)
+        self._held_at_most = tuple(was if it is _STAYS else it for it, was in named)
+        self._limits = _limits(*self._held_at_most)
         _expect(_library.b_limit(self._held, *self._limits))
 
     def go_on(self, steps: int = _SLICE) -> End:

@@ -226,7 +226,9 @@ def limits():
     it = b.Session("v[20000]; main() { extrn v; auto n; n = 0; while(n < 20000) v[n++] = 7; }")
     it.limit(pages=3)
     yield it.run(), b.End("too large", of="pages")
-    it.limit()
+    it.limit(operands=1000)
+    yield it.run(), b.End("too large", of="pages")
+    it.limit(pages=None)
     yield it.run(), b.End("halted")
     for named in ({"pages": 257}, {"pages": -1}, {"operands": -1}, {"output": 2**64}):
         yield refused(it.limit, **named), ValueError

@@ -180,7 +180,7 @@ export interface Frame {
   column: number;
 }
 
-/** How much a run may hold between two slices. What isn't given has no limit. */
+/** How much a run may hold between two slices. What isn't given at the start has no limit. */
 export interface Limits {
   operands?: number | bigint;
   /** Of 256 words of memory each that have another word than 0, up to 256. */
@@ -236,7 +236,8 @@ export interface Session {
   readonly callers: number;
   /** The name of the function whose first string word has this address; empty where none lies there. */
   nameOf(address: number): string;
-  /** Sets the limits of this run, and of those that `start` begins. A slice is looked at after each 65536 steps. */
+  /** Sets the limits of this run, and of those that `start` begins; one that isn't named stays, and `Infinity` is none.
+      A slice is looked at after each 65536 steps. */
   limit(limits?: Limits): void;
   /** The word at an address; stores one. */
   word(address: number): number;

@@ -40,7 +40,9 @@ export function bytesOf(given) {
   if (typeof given === 'string') return encoder.encode(given);
   if (given instanceof Uint8Array) return given;
   if (ArrayBuffer.isView(given)) return new Uint8Array(given.buffer, given.byteOffset, given.byteLength);
-  return new Uint8Array(given);
+  if (Array.isArray(given) || /^\[object (Shared)?ArrayBuffer\]$/.test(Object.prototype.toString.call(given)))
+    return new Uint8Array(given);
+  throw new TypeError(`a text is a string or bytes, and not ${given === null ? 'null' : typeof given}`);
 }
 
 const filesOf = texts => Object.fromEntries(Object.entries(texts).map(([name, text]) => [name, bytesOf(text)]));

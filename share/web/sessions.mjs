@@ -120,11 +120,12 @@ export class Sessions {
   }
 
   loaded({input = '', limits = {}}, name, words) {
-    const most = limitsOf(limits), held = this.take(HELD);
+    limitsOf(limits);
+    const held = this.take(HELD);
     try {
       this.bytes(held, HELD).fill(0);
       this.expectWithLine((...line) => this.call(name, ...words, ...line, BigInt(held)));
-      return new Session(this, held, input, most);
+      return new Session(this, held, input, limits);
     } catch (error) {
       this.free(held);
       throw error;
@@ -219,7 +220,7 @@ class Session {
   constructor(sessions, held, input, limits) {
     this.#sessions = sessions;
     this.#held = held;
-    this.#limits = limits;
+    this.#limits = {...limits};
     this.#begin(input);
     sessions.given.register(this, held, this);
   }
@@ -234,7 +235,7 @@ class Session {
     const status = this.#call('begin');
     if (status === TRAP) throw new Refused(status, UNBEGUN);
     this.#sessions.expect(status);
-    this.#sessions.expect(this.#call('limit', ...this.#limits));
+    this.#sessions.expect(this.#call('limit', ...limitsOf(this.#limits)));
     const bytes = bytesOf(input);
     if (bytes.length > 0) this.feed(bytes);
   }
@@ -246,8 +247,8 @@ class Session {
   }
 
   limit(limits = {}) {
-    const most = limitsOf(limits);
-    this.#sessions.expect(this.#call('limit', ...most));
+    const most = {...this.#limits, ...limits};
+    this.#sessions.expect(this.#call('limit', ...limitsOf(most)));
     this.#limits = most;
   }
 
