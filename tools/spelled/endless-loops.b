@@ -28,7 +28,7 @@ top: while(2 > 1) { /* missed */
             n--;
         n =+ 5;
     }
-    goto top;
+    goto top; /* told */
 }
 fifth(n) {
     while(!0) { /* missed */

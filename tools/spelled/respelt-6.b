@@ -3,7 +3,7 @@
 scores1 10;
 main() {
     extrn scores1; auto k;
-    k = 0; *(scores1 + k) = 5;
+    k = 0; *(scores1 + k) = 5; /* told */
     while(k < 3) { printn(scores1[k], 10); k++; } /* told */
 }
 

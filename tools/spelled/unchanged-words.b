@@ -38,7 +38,7 @@ top: if(n) while(i <= n) { /* told */
         printn(i, 10);
         i + 1;
     }
-    goto top;
+    goto top; /* told */
 }
 sixth(a, b) {
     while(a != b) { /* told */
