@@ -1,12 +1,12 @@
 -- Why a walk to a stop ends for another reason.
 use Rattle.std.proofs.Common.{◌≡◌, ◌+◌, ◌<◌, ◌≤◌, ℕ, false, true, arith, refl, subst}
-use Rattle.bsession.specs.Sessions.{SessionContinues, SessionView}
-use Rattle.bsession.specs.Stops.{GoesBy, StopSet, WalkEnds, Walks, made_all}
+use Rattle.bsession.specs.Sessions.{SessionView}
+use Rattle.bsession.specs.Stops.{GoesBy, StepMade, StopSet, WalkEnds, Walks, made_all}
 use Rattle.bsession.specs.declared.session.SliceEnd.{SliceEnd}
 use Rattle.bsession.specs.declared.session.SliceEnd.TheVariants as end
 
 pub ends_early : (stops : StopSet) (old mid new : SessionView) (n made : ℕ) (why : SliceEnd) → made < n
-    → Walks stops old mid made → GoesBy stops made mid → SessionContinues mid.state mid new 1 why → made_all why ≡ false
+    → Walks stops old mid made → GoesBy stops made mid → StepMade mid new why → made_all why ≡ false
     → WalkEnds stops old new n why
 ends_early stops old mid new n made end.Limit few walks goes last is = cc
 ends_early stops old mid new n made (end.Halted status) few walks goes last _ = (made, few, mid, walks, goes, last)

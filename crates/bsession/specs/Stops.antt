@@ -4,7 +4,7 @@ use Rattle.std.specs.Prelude.{◌≡◌, ℕ, ◌+◌, ◌<◌, ◌≤◌, ◌==
 use Rattle.bmach.specs.Stepping.{Paused}
 use Rattle.bmach.specs.Stops.{active_of}
 use Rattle.bmach.specs.declared.machine.Active.{Active}
-use Rattle.bsession.specs.Sessions.{Goes, SessionContinues, SessionState, SessionView}
+use Rattle.bsession.specs.Sessions.{Goes, GoesOnWithin, KeepsLimits, SessionContinues, SessionState, SessionView}
 use Rattle.bsession.specs.declared.session.SliceEnd.{SliceEnd}
 use Rattle.bsession.specs.declared.session.SliceEnd.TheVariants as end
 use Rattle.bsession.specs.declared.session.StopEnd.{StopEnd}
@@ -57,12 +57,16 @@ abbrev pub GoesBy : StopSet → (made : ℕ) → SessionView → Type 0
 GoesBy stops zero h = ⊤
 GoesBy stops (suc made) h = stops_in stops h.state ≡ false
 
+-- what a slice of one step promises: where it leads, and that it is made and ends by what the session may hold
+abbrev pub StepMade : (old new : SessionView) → SliceEnd → Type 0
+StepMade old new why =
+    SessionContinues old.state old new 1 why × KeepsLimits new why × GoesOnWithin old.state old new
+
 -- So many slices of one step each lead from a session to another one, and no stop was between.
 abbrev pub Walks : StopSet → (old new : SessionView) → (made : ℕ) → Type 0
 Walks stops old new zero = new ≡ old
 Walks stops old new (suc made) =
-    (mid : SessionView) × Walks stops old mid made × GoesBy stops made mid
-    × SessionContinues mid.state mid new 1 end.Limit
+    (mid : SessionView) × Walks stops old mid made × GoesBy stops made mid × StepMade mid new end.Limit
 
 -- whether a slice has made all steps that were asked for
 abbrev pub made_all : SliceEnd → Bool
@@ -74,7 +78,7 @@ abbrev pub WalkEnds : StopSet → (old new : SessionView) → (n : ℕ) → Slic
 WalkEnds stops old new n end.Limit = Walks stops old new n × GoesBy stops n new
 WalkEnds stops old new n why =
     (made : ℕ) × (made < n) × (mid : SessionView) × Walks stops old mid made × GoesBy stops made mid
-    × SessionContinues mid.state mid new 1 why
+    × StepMade mid new why
 
 abbrev pub WalksTo : StopSet → (old new : SessionView) → (n : ℕ) → StopEnd → Type 0
 WalksTo stops old new n stop_end.Stopped =

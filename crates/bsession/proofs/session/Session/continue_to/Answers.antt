@@ -1,6 +1,5 @@
-use Rattle.std.proofs.Common.{◌≡◌, ◌∙◌, ◌+◌, arith, refl, suc, subst, sym}
-use Rattle.bsession.specs.Sessions.{SessionContinues}
-use Rattle.bsession.specs.Stops.{stops_shown}
+use Rattle.std.proofs.Common.{◌∙◌, arith, refl, suc, subst, sym}
+use Rattle.bsession.specs.Stops.{StepMade, stops_shown}
 use Rattle.bsession.specs.declared.session.SliceEnd.TheVariants as end
 use Rattle.bsession.proofs.Walking.{ends_after_all, ends_early, is_all}
 use Rattle.bsession.proofs.session.Session.continue_to.Goals as goal
@@ -16,8 +15,8 @@ loop-left-preserved c =
     let count = i.1 in
     let some = c.loop-left-test.true in
     let all = is_all c.continue_for-why.result (sym c.made_all.ensures ∙ c.if-not-made_all.false) in
-    let last : SessionContinues mid.state mid new 1 end.Limit =
-    subst (λ why. SessionContinues mid.state mid new 1 why) all c.continue_for-why.ensures.goes in (
+    let made = c.continue_for-why.ensures in
+    let last : StepMade mid new end.Limit = subst (λ why. StepMade mid new why) all (made.goes, made.limits, made.within) in (
       suc i.0,
       omega (arith, count, some),
       (mid, i.2, i.3, last),
@@ -36,8 +35,9 @@ returns-then-not-made_all c =
     let i = c.loop-left.invariant in
     let count = i.1 in
     let some = c.loop-left-test.true in
+    let made = c.continue_for-why.ensures in
     ends_early (stops_shown c.args.stops) c.args.self.now mid c.continue_for-why.new.self c.args.steps i.0 c.continue_for-why.result
-    (omega (arith, count, some)) i.2 i.3 c.continue_for-why.ensures.goes
+    (omega (arith, count, some)) i.2 i.3 (made.goes, made.limits, made.within)
     (sym c.made_all.ensures ∙ c.if-not-made_all.true)
 
 pub returns-then-stops_here : goal.returns-then-stops_here
@@ -48,8 +48,8 @@ returns-then-stops_here c =
     let count = i.1 in
     let some = c.loop-left-test.true in
     let all = is_all c.continue_for-why.result (sym c.made_all.ensures ∙ c.if-not-made_all.false) in
-    let last : SessionContinues mid.state mid new 1 end.Limit =
-    subst (λ why. SessionContinues mid.state mid new 1 why) all c.continue_for-why.ensures.goes in (
+    let made = c.continue_for-why.ensures in
+    let last : StepMade mid new end.Limit = subst (λ why. StepMade mid new why) all (made.goes, made.limits, made.within) in (
       i.0,
       omega (arith, count, some),
       (mid, i.2, i.3, last),
