@@ -1,8 +1,9 @@
-use bhost::Host;
 use bhost::calls::{
-    Whereabouts, begin, close, column, end, feed, go_on, limit, load, look, name_of, read, store,
-    take, unload,
+    Whereabouts, begin, close, column, end, feed, find, go_on, limit, load, look, name_of, read,
+    store, take, tell, unload,
 };
+use bhost::symbols::{AUTOMATIC_VECTOR, FUNCTION, VECTOR};
+use bhost::{Host, Query, Symbol};
 use bsession::Limits;
 use btools::{CodeText, Origin};
 use bword::Edition;
@@ -115,6 +116,37 @@ fn a_host_tells_its_column(rt: HostRuntime) -> Result<(), Fail> {
     assert_eq!(rt; column(alloc, &mut host, &mut told), 0);
     assert_eq!(rt; told, 12);
     assert_eq!(rt; end(alloc, &mut host), 0);
+    unload(alloc, &mut host);
+    host.forget();
+    Ok(())
+}
+
+#[test]
+fn a_host_tells_what_names_stand_for(rt: HostRuntime) -> Result<(), Fail> {
+    let alloc = rt.alloc();
+    let mut host = Host::none();
+    assert_eq!(rt;
+        load(
+            alloc,
+            b"v[3]; f(x) { auto w 2; return(x + w); } main() f(1);",
+            Origin::Source(Edition::One),
+            &mut host
+        ),
+        0
+    );
+    let mut symbol = Symbol::blank();
+    assert_eq!(rt; find(alloc, &mut host, b"f", &mut symbol), 0);
+    assert!(rt; symbol.kind == FUNCTION && symbol.address == 12 && symbol.frame == 5);
+    assert_eq!(rt; tell(alloc, &mut host, Query::At(11), &mut symbol), 0);
+    assert!(rt; symbol.kind == VECTOR && symbol.name[0] == b'v' && symbol.name[1] == 0);
+    assert_eq!(rt; tell(alloc, &mut host, Query::Local(13, 1), &mut symbol), 0);
+    assert!(rt; symbol.kind == AUTOMATIC_VECTOR && symbol.address == 1 && symbol.words == 4);
+    assert_eq!(rt;
+        tell(alloc, &mut host, Query::Local(13, 2), &mut symbol),
+        132
+    );
+    assert!(rt; symbol.kind == 0 && symbol.name[0] == 0);
+    assert_eq!(rt; find(alloc, &mut host, b"1f", &mut symbol), 132);
     unload(alloc, &mut host);
     host.forget();
     Ok(())

@@ -25,6 +25,7 @@ refused (Some loaded) (Some h) (Some k) bytes after (answer.Calls frame) some fe
 refused (Some loaded) (Some h) (Some k) bytes after answer.Missing some fed = absurd fed.1
 refused (Some loaded) (Some h) (Some k) bytes after (answer.Stands there) some fed = absurd fed.1
 refused (Some loaded) (Some h) (Some k) bytes after (answer.Word word) some fed = absurd fed.1
+refused (Some loaded) (Some h) (Some k) bytes after (answer.Tells symbol) some fed = absurd fed.1
 refused (Some loaded) (Some h) None bytes after told some fed = absurd fed
 refused (Some loaded) None new bytes after told some fed = absurd fed
 refused None old new bytes after told some fed = absurd fed

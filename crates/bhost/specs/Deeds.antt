@@ -15,6 +15,7 @@ use Rattle.blang.specs.declared.run.Trap.TheVariants as trap
 use Rattle.btools.specs.Functions.{Placed, function_with, functions_of, name_in}
 use Rattle.btools.specs.ProgramLines.{line_at, lined_functions}
 use Rattle.bhost.specs.Hosts.{LoadedValue}
+use Rattle.bhost.specs.Symbols.{symbol_told}
 use Rattle.bhost.specs.declared.desk.Answer.{Answer}
 use Rattle.bhost.specs.declared.desk.Answer.TheVariants as answer
 use Rattle.bhost.specs.declared.desk.Deed.{Deed}
@@ -22,10 +23,12 @@ use Rattle.bhost.specs.declared.desk.Deed.TheVariants as deed
 use Rattle.bhost.specs.declared.desk.Frame.{Frame}
 use Rattle.bhost.specs.declared.desk.StopList.{StopList}
 
--- A run begins where none was begun. A name is told in any case, and all else is done with a run.
+-- A run begins where none was begun. Names and what they stand for are told in any case, and all else is done with a
+-- run.
 abbrev pub Allows : Deed → Option SessionView → Type 0
 Allows deed.Begin run = run ≡ None
 Allows (deed.Name strings) run = ⊤
+Allows (deed.Tell query) run = ⊤
 Allows other run = IsSome run
 
 -- memory was refused, or the frame of the main function has no room
@@ -169,5 +172,7 @@ Acts deed.Begin bytes (Some loaded) old new after told = (after ≡ bytes) × Be
 Acts deed.End bytes (Some loaded) old new after told = (after ≡ bytes) × (new ≡ None) × (told ≡ answer.Done)
 Acts (deed.Name strings) bytes (Some loaded) old new after told =
     (new ≡ old) × NamesFunction (placed_at loaded strings) after told
+Acts (deed.Tell query) bytes (Some loaded) old new after told =
+    (after ≡ bytes) × (new ≡ old) × (told ≡ symbol_told loaded query)
 Acts other bytes (Some loaded) old new after told = DoesBoth other loaded old new bytes after told
 Acts other bytes None old new after told = ⊥

@@ -1,5 +1,5 @@
 -- Promise: what each call of a session tells.
-use Rattle.std.specs.Prelude.{◌≡◌, ◌≢◌, ◌⊎◌, ℕ, ◌++◌, [], nat_lt, if◌then◌else◌, length, List, Option, None, MatchOption}
+use Rattle.std.specs.Prelude.{◌≡◌, ◌≢◌, ◌⊎◌, ℕ, Bool, true, false, [], nat_lt, if◌then◌else◌, length, List, Option, None, MatchOption}
 use Rattle.blang.specs.declared.run.Outcome.TheVariants as outcome
 use Rattle.blang.specs.declared.run.Trap.{Trap}
 use Rattle.blang.specs.declared.run.Trap.TheVariants as trap
@@ -20,13 +20,16 @@ use Rattle.btools.specs.declared.program.ProgramFault.TheVariants as fault
 use Rattle.bhost.specs.Deeds.{Acts, stop_set}
 use Rattle.bsession.specs.Stops.{StopSet}
 use Rattle.bhost.specs.Hosts.{LoadedValue}
+use Rattle.bhost.specs.Symbols.{blank}
 use Rattle.bhost.specs.declared.calls.TheConstants.{HAS_OUTPUT, STOPPED, TOO_LARGE}
 use Rattle.bhost.specs.declared.desk.Answer.{Answer}
 use Rattle.bhost.specs.declared.desk.Answer.TheVariants as answer
 use Rattle.bhost.specs.declared.desk.Deed.{Deed}
 use Rattle.bhost.specs.declared.desk.Deed.TheVariants as deed
 use Rattle.bhost.specs.declared.desk.Frame.{Frame}
+use Rattle.bhost.specs.declared.desk.Query.TheVariants as query
 use Rattle.bhost.specs.declared.desk.StopList.{StopList}
+use Rattle.bhost.specs.declared.desk.Symbol.{Symbol}
 use Rattle.bhost.specs.declared.host.Host.{Host}
 
 -- the status of a program that could not be read
@@ -122,6 +125,7 @@ answer_status answer.Refused = MEMORY
 answer_status (answer.Stands there) = DONE
 answer_status (answer.Calls frame) = DONE
 answer_status (answer.Word word) = DONE
+answer_status (answer.Tells symbol) = DONE
 
 -- the status where no bytes were fed for want of memory
 abbrev pub unfed_status : Answer → ℕ
@@ -166,6 +170,11 @@ abbrev pub answer_frame : Answer → Frame
 answer_frame (answer.Calls frame) = frame
 answer_frame other = record { strings = 0; place = 0; start = 0; parameters = 0; line = 0; column = 0 }
 
+-- what is told of a name, or of nothing
+abbrev pub answer_symbol : Answer → Symbol
+answer_symbol (answer.Tells symbol) = symbol
+answer_symbol other = blank
+
 -- the status where a name is told in a room of this size
 abbrev pub name_status : (size : ℕ) → (name : List ℕ) → Answer → ℕ
 name_status size name told = if nat_lt size (length name) then DEVICE else answer_status told
@@ -188,3 +197,10 @@ GoesTo stops steps old new status value =
     ((new ≡ old) × HasSome stops × (status ≡ MEMORY))
     ⊎ ((list : StopList) × (stop_set list ≡ stops)
     × Answers (deed.ContinueTo list steps) [] old.read old.run new.run status (λ _ told. value ≡ answer_value told))
+
+-- What a text stands for is told, if it is a name; and else that there is none.
+abbrev pub FindsName : (is_name : Bool) → (text : List ℕ) → (old new : Host) → (status : ℕ) → Symbol → Type 0
+FindsName true text old new status told =
+    Answers (deed.Tell (query.Named text)) [] old.read old.run new.run status
+    (λ _ answered. told ≡ answer_symbol answered)
+FindsName false text old new status told = (new ≡ old) × (status ≡ REFUSED) × (told ≡ blank)

@@ -7,6 +7,7 @@ use crate::desk::{Answer, Deed, Desk, Frame, Standing};
 use crate::found::{column_at, function_at, line_at};
 use crate::loaded::LoadedProgram;
 use crate::place::Place;
+use crate::symbols::tell;
 use bmach::Active;
 use bsession::{FeedFault, Session, Stops};
 use std::alloc::Global;
@@ -35,6 +36,10 @@ pub(crate) fn act_on<'a>(
         }
         Deed::Name(strings) => {
             desk.answer = tell_name(loaded, *strings, &mut desk.bytes);
+            (place, desk)
+        }
+        Deed::Tell(query) => {
+            desk.answer = tell(loaded, query);
             (place, desk)
         }
         Deed::Continue(_)
@@ -100,7 +105,7 @@ fn act_within(session: &mut Session<'_>, loaded: &LoadedProgram, desk: &mut Desk
             session.close_input();
             Answer::Done
         }
-        Deed::Begin | Deed::End | Deed::Name(_) => Answer::Done,
+        Deed::Begin | Deed::End | Deed::Name(_) | Deed::Tell(_) => Answer::Done,
     };
 }
 

@@ -1,16 +1,17 @@
 //! Calls for a session with its program, which tell a status.
 ghost use Rattle.std.specs.Prelude.{◌≡◌, ◌≢◌, ◌≤◌, ⊤, ℕ, IfOk, IsSome, OnErr, List, MatchResult, None, [], drop, length, take};
 ghost use Rattle.bhost.specs.Deeds.{Acts, stop_set};
-ghost use Rattle.bhost.specs.Statuses.{Answers, GoesTo, HasSome, HoldsProgramOf, Loads, LoadsTelling, answer_callers, answer_column, answer_frame, answer_function, answer_line, answer_place, answer_status, answer_steps, answer_value, answer_word, end_status, end_value, fault_status, held_number, name_status, trap_number, unfed_status};
+ghost use Rattle.bhost.specs.Statuses.{Answers, FindsName, GoesTo, HasSome, HoldsProgramOf, Loads, LoadsTelling, answer_callers, answer_column, answer_frame, answer_function, answer_line, answer_place, answer_status, answer_steps, answer_symbol, answer_value, answer_word, end_status, end_value, fault_status, held_number, name_status, trap_number, unfed_status};
 ghost use Rattle.bhost.specs.declared.desk.Answer.{Answer};
 ghost use Rattle.bhost.specs.declared.desk.Deed.TheVariants as deed;
 ghost use Rattle.blang.specs.Compiles.{line_of};
 ghost use Rattle.bsession.specs.Stops.{stops_shown};
+ghost use Rattle.bword.specs.Words.{is_name};
 ghost use Rattle.bsources.specs.Files.{files_shown};
 ghost use Rattle.btools.specs.FaultPlaces.{fault_lines};
 ghost use Rattle.btools.specs.Origins.{Code, HasNoProgramOf, Source, code_text_shown, origin_shown};
 
-use crate::desk::{Answer, Deed, Frame, StopList};
+use crate::desk::{Answer, Deed, Frame, Query, StopList, Symbol};
 use crate::host::Host;
 use crate::loaded::LoadedProgram;
 use blang::status::{self, Status};
@@ -18,7 +19,7 @@ use blang::{Outcome, Trap};
 use bsession::{Held, Limits, SliceEnd, StopEnd, Stops};
 use bsources::SourceFiles;
 use btools::{CodeText, Origin, ProgramFault, read_program, tell_fault, tell_placed};
-use bword::{ByteOut, Edition};
+use bword::{ByteOut, Edition, Name};
 use std::alloc::{AllocError, Global};
 use std::mem;
 
@@ -348,6 +349,36 @@ pub fn name_of(
     }
 }
 
+/// Tells what a name stands for, or an address, or a place.
+pub fn tell(alloc: Global, host: &mut Host, query: Query, told: &mut Symbol) -> Status
+    requires program { IsSome host.old.read }
+    ensures program { host.new.read ≡ host.old.read }
+    ensures tells { Answers (deed.Tell query) [] host.old.read host.old.run host.new.run result
+        (λ _ answered. told.new ≡ answer_symbol answered) }
+{
+    let desk = host.ask(alloc, Deed::Tell(query), Vec::new(alloc));
+    *told = match desk.answer {
+        Answer::Tells(symbol) => symbol,
+        _ => Symbol::blank(),
+    };
+    status_of(desk.answer)
+}
+
+/// Tells what the definition of a name is, if the text is a name.
+pub fn find(alloc: Global, host: &mut Host, text: &[u8], told: &mut Symbol) -> Status
+    requires program { IsSome host.old.read }
+    ensures program { host.new.read ≡ host.old.read }
+    ensures finds { FindsName (is_name text.now) text.now host.old host.new result told.new }
+{
+    match Name::from_bytes(text) {
+        Some(name) => tell(alloc, host, Query::Named(name), told),
+        None => {
+            *told = Symbol::blank();
+            status::REFUSED
+        }
+    }
+}
+
 /// Tells where the run stands.
 pub fn look(alloc: Global, host: &mut Host, there: &mut Whereabouts) -> Status
     requires program { IsSome host.old.read }
@@ -448,7 +479,8 @@ fn status_of(answer: Answer) -> Status
     ensures { result ≡ answer_status answer }
 {
     match answer {
-        Answer::Done | Answer::Stands(_) | Answer::Calls(_) | Answer::Word(_) => status::DONE,
+        Answer::Done | Answer::Stands(_) | Answer::Calls(_) | Answer::Word(_) | Answer::Tells(_) =>
+            status::DONE,
         Answer::Ended(end) | Answer::Walked(StopEnd::Ended(end)) => end_status(end),
         Answer::Walked(StopEnd::Stopped) => STOPPED,
         Answer::Unbegun(Outcome::Memory) => status::MEMORY,

@@ -1,6 +1,7 @@
 //! What is asked of a session, and what it answers.
 use blang::Outcome;
 use bsession::{CodePlace, Limits, SliceEnd, StopEnd, WatchedWord};
+use bword::Name;
 use std::alloc::Global;
 
 /// Before which steps a slice stops: what a debugger's breakpoints and watchpoints come to.
@@ -40,8 +41,51 @@ pub enum Deed {
     Store(u16, u16),
     /// The name is put on the desk of the function whose first string word has this address.
     Name(u32),
+    /// It is told what a name stands for, or an address, or a place.
+    Tell(Query),
     /// The run is given up.
     End,
+}
+
+/// What is asked of the names of a program. A function is named by the address of its first string word.
+#[derive(Clone, Copy)]
+pub enum Query {
+    /// The definition of a name.
+    Named(Name),
+    /// The definition of which the word at an address is one.
+    At(u32),
+    /// A named word of the frame of a function, by its number, from 0 on: first come the parameters.
+    Local(u32, usize),
+    /// A label of a function, by its number.
+    Label(u32, usize),
+    /// An instruction of a function, by its place.
+    Instruction(u32, u32),
+}
+
+/// What a name stands for.
+#[repr(C)]
+#[derive(Clone, Copy)]
+pub struct Symbol {
+    /// The bytes of the name, and zeros after them. An instruction has none.
+    pub name: [u8; 9],
+    /// What it is, from `FUNCTION` on.
+    pub kind: u8,
+    /// How many parameters a function has.
+    pub parameters: u16,
+    /// The address of a definition, the offset of a word in its frame, or the place of a label or an instruction.
+    pub address: u32,
+    /// How many words a definition takes, its string words among them, or how many of the frame, a vector's own among
+    /// them.
+    pub words: u32,
+    /// How many words the frame of a function has, its parameters among them.
+    pub frame: u16,
+    /// How many labels and instructions a function has.
+    pub labels: usize,
+    pub instructions: usize,
+    /// The line of the first place of a definition, or of a label or an instruction, or 0 where none is known.
+    pub line: u64,
+    /// Its column, from 1 on, or 0 where none is known.
+    pub column: u64,
 }
 
 /// Where a run stands.
@@ -91,7 +135,7 @@ pub enum Answer {
     Unbegun(Outcome),
     /// The input was closed.
     Closed,
-    /// No function lies there, or there are not so many calls.
+    /// There is no such name, no function lies there, or there are not so many calls.
     Missing,
     /// Memory was refused, and nothing was done; or it was refused before, and the session is lost.
     Refused,
@@ -101,6 +145,8 @@ pub enum Answer {
     Calls(Frame),
     /// This word is there.
     Word(u16),
+    /// It stands for this.
+    Tells(Symbol),
 }
 
 /// What goes to a session and comes back.

@@ -8,7 +8,8 @@ mod found;
 mod host;
 mod loaded;
 mod place;
+pub mod symbols;
 
-pub use desk::{Answer, Deed, Desk, Frame, Standing, StopList};
+pub use desk::{Answer, Deed, Desk, Frame, Query, Standing, StopList, Symbol};
 pub use host::Host;
 pub use loaded::LoadedProgram;
