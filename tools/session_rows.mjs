@@ -98,6 +98,25 @@ async function loads({sessions, expect}) {
   expect('a name', [calls.nameOf(calls.place().function), calls.nameOf(3)], ['main', '']);
 }
 
+/** Names, by the layout of memory. */
+async function symbols({sessions, expect}) {
+  const source = 'n 4, 5; v[3]; f(x, y) {\n  auto w 3, i;\n  top: i = x;\n  goto top;\n}\nmain() f(1, 2);';
+  const it = sessions.load(source), told = s => [s.name, s.kind, s.address, s.words];
+  expect('all definitions', [...it.symbols()].map(told),
+    [['n', 'simple', 7, 2], ['v', 'vector', 9, 5], ['f', 'function', 14, 1], ['main', 'function', 15, 1]]);
+  const f = it.find('f');
+  expect('a function', [f.function, f.parameters, f.frame, f.labels, f.line], [15, 2, 8, 1, 2]);
+  expect('no names', ['g', '', '1', 'abcdefghi'].map(name => it.find(name)), [null, null, null, null]);
+  expect('addresses', [0, 6, 8, 9, 13, 16].map(at => it.symbolAt(at)?.name ?? null), [null, null, 'n', 'v', 'v', null]);
+  expect('words of a frame', [...it.locals(f.function)].map(told),
+    [['x', 'parameter', 0, 1], ['y', 'parameter', 1, 1], ['w', 'automatic vector', 2, 5], ['i', 'automatic', 7, 1]]);
+  expect('labels', [...it.labels(f.function)].map(({name, line}) => [name, line]), [['top', 3]]);
+  const lines = [...it.instructions(f.function)].map(({line}) => line);
+  expect('lines', [lines.length, lines[0], lines.at(-1)], [f.instructions, 2, 5]);
+  expect('of no function', [...it.locals(3), ...it.labels(f.address), ...it.instructions(0)], []);
+  it.free();
+}
+
 /** Breakpoints, calls, returns and watched words. */
 async function breaks({sessions, expect}) {
   const it = sessions.load('n; f(k) {\n  extrn n;\n  if(k)\n    f(k - 1);\n  n++; }\nmain() f(3);');
@@ -178,6 +197,12 @@ async function refusals({sessions, expect, b}) {
   const full = await thrown(() => sessions.load('v[32766]; w[32758]; main() { auto a; ; }'));
   expect('no room for a frame', `${full.status} ${full.line}`, '130 trap st\n');
   expect('no code text', await told(() => sessions.loadCode('E')), 132);
+  for (const option of ['lines', 'names', 'limit'])
+    expect(`${option} of a source`, await kindOf(() => sessions.load(NEXT, {[option]: ''})), 'TypeError');
+  for (const option of ['edition', 'libs', 'line'])
+    expect(`${option} of a code text`, await kindOf(() => sessions.loadCode(TRAPS, {[option]: ''})), 'TypeError');
+  expect('no such limit', await kindOf(() => sessions.load(NEXT, {limits: {page: 1}})), 'TypeError');
+  expect('no such stop', await kindOf(() => sessions.load(NEXT).goTo({place: []})), 'TypeError');
   expect('its kind', (await thrown(() => sessions.loadCode('E'))) instanceof b.Refused, true);
   expect('a trap', await sessions.loadCode(TRAPS).run(), ended('trapped', {trap: 'dz'}));
   for (const edition of [0, 3, 257, -1, 1.5, '2', NaN])
@@ -315,7 +340,7 @@ async function lost({module, expect, b}) {
   it.free();
 }
 
-const PARTS = [talks, places, loads, breaks, limits, cuts, refusals, stops, many, memories, lost];
+const PARTS = [talks, places, loads, symbols, breaks, limits, cuts, refusals, stops, many, memories, lost];
 
 /** Runs all rows over a module, and tells how many there were and what was wrong. `collect` lets go of what nothing
     refers to, where that can be asked for. */

@@ -7,6 +7,7 @@
  * - Each pointer is valid for so many bytes and is not null, where the length is 0, too.
  * - The two rooms and the struct overlap neither one another nor a text, and no file of a row.
  * - malloc, realloc and free come from one allocator, which aligns blocks to 16 bytes, as that of the C library does.
+ * - A thread that calls has 2 MB of stack; each call takes less than one.
  * - No call is made from a signal handler, or from the forked child of a process with threads.
  *
  * Of what is the caller's, a call writes the rooms and the struct alone. What a room holds after the bytes that were

@@ -9,9 +9,9 @@
  * However a run is cut into slices, it is the same run. Beside what b.h says, the caller sees to this:
  * - A session is B_NO_SESSION at first. Of its two pointers only the calls write one; a copy of it isn't used.
  * - The four calls that load get one without a program, b_begin one with a program and without a run, b_unload the
- *   same, and b_name_of one with a program. All else gets one with a run. Its pointers tell: without a program or a run
- *   it is null. b_start and b_free look.
- * - Threads may each have sessions of their own. A session is in one call at a time.
+ *   same, and b_name_of and the five calls for symbols one with a program. All else gets one with a run. Its pointers
+ *   tell: without a program or a run it is null. b_start and b_free look.
+ * - Threads may each have sessions of their own, and 2 MB of stack. A session is in one call at a time.
  * - b_free comes last, or the memory of the session stays. */
 #ifndef B_SESSION_H
 #define B_SESSION_H
@@ -20,6 +20,11 @@
 
 #ifdef __cplusplus
 extern "C" {
+#ifdef __GNUC__
+/* b_place and b_frame are structs and calls, as C allows it. */
+#pragma GCC diagnostic push
+#pragma GCC diagnostic ignored "-Wshadow"
+#endif
 #endif
 
 struct b_session {
@@ -79,6 +84,40 @@ struct b_frame {
     uint64_t column;
 };
 
+/* What a symbol is. */
+enum {
+    B_FUNCTION = 1,
+    B_SIMPLE,
+    B_VECTOR,
+    B_PARAMETER,
+    B_AUTOMATIC,
+    B_AUTOMATIC_VECTOR,
+    B_LABEL,
+    B_INSTRUCTION
+};
+
+/* What a name of the program stands for: B_FUNCTION, B_SIMPLE or B_VECTOR is a definition, B_PARAMETER, B_AUTOMATIC or
+ * B_AUTOMATIC_VECTOR a word of a function's frame, and then there are labels and instructions.
+ *
+ * `name` ends with a zero; an instruction has none. `address` is that of the first word of a definition, from 7 on; the
+ * offset of a word in its frame; or the place of a label or an instruction in its function. `words` is how many words a
+ * definition takes, its string words among them, or a word of a frame with its vector's; a vector's own word counts. A
+ * function has so many parameters, words of its frame, these among them, labels and instructions; all else has 0 of
+ * these. Its first string word, by which b_place and all calls below tell it, is at `address` + 1. `line` and `column`
+ * are those of a label or an instruction, or of the first one of a definition, or 0, as for b_place and b_column. */
+struct b_symbol {
+    char name[9];
+    uint8_t kind;
+    uint16_t parameters;
+    uint32_t address;
+    uint32_t words;
+    uint16_t frame;
+    size_t labels;
+    size_t instructions;
+    uint64_t line;
+    uint64_t column;
+};
+
 /* The traps by their numbers, from 1, as the lines of `b` name them. */
 static const char b_traps[8][3] = {"", "dz", "fn", "gt", "st", "dp", "bs", "sk"};
 
@@ -105,6 +144,23 @@ uint8_t b_load_code_with(const uint8_t *code, size_t code_size, const uint8_t *l
 /* Tells the name of the function whose first string word has this address. B_FAILED where the room is too small and has
  * its beginning; B_REFUSED where no function lies there; or B_NO_MEMORY. */
 uint8_t b_name_of(struct b_session *session, uint32_t function, uint8_t *room, size_t room_size, size_t *count);
+
+/* Tells what the name of a definition stands for, of so many bytes; which definition the word at an address is one of;
+ * or what a function has, which is told by the address of its first string word: a named word of its frame, a label or
+ * an instruction, each by its number from 0 on. The words of a frame come in their order, parameters first.
+ *
+ * B_REFUSED where there is none: no such name, an address below 7 or past the last definition, no function there, or
+ * not so many; and the symbol is zeros. A code text has names of words and labels by its author's file alone. The run
+ * goes on as if nothing had been asked.
+ *
+ *     for (at = 7; b_symbol_at(&session, at, &symbol) == B_DONE; at = symbol.address + symbol.words)
+ *
+ * goes over all definitions. */
+uint8_t b_find(struct b_session *session, const uint8_t *name, size_t name_size, struct b_symbol *symbol);
+uint8_t b_symbol_at(struct b_session *session, uint32_t address, struct b_symbol *symbol);
+uint8_t b_local(struct b_session *session, uint32_t function, size_t number, struct b_symbol *symbol);
+uint8_t b_label(struct b_session *session, uint32_t function, size_t number, struct b_symbol *symbol);
+uint8_t b_instruction(struct b_session *session, uint32_t function, uint32_t place, struct b_symbol *symbol);
 
 /* Begins a run, with no input yet. The status is B_DONE; B_TRAP where the memory has no room for the frame of `main`,
  * which is trap 4; or B_NO_MEMORY. Unless it is B_DONE there is no run. */
@@ -246,6 +302,9 @@ static inline uint8_t b_talk_on(struct b_session *session, const struct b_talk *
 }
 
 #ifdef __cplusplus
+#ifdef __GNUC__
+#pragma GCC diagnostic pop
+#endif
 }
 #endif
 

@@ -104,6 +104,69 @@ static void try_names(void) {
     b_free(&session);
 }
 
+/* What names, addresses and places stand for, by the layout of memory. */
+static void try_symbols(void) {
+    static const char source[] =
+        "n 4, 5; v[3]; f(x, y) {\n  auto w 3, i;\n  top: i = x;\n  goto top;\n}\nmain() f(1, 2);";
+    static const struct {
+        const char *name;
+        uint32_t address, words;
+        uint8_t kind;
+    } definitions[] = {{"n", 7, 2, B_SIMPLE}, {"v", 9, 5, B_VECTOR}, {"f", 14, 1, B_FUNCTION},
+                       {"main", 15, 1, B_FUNCTION}},
+      words[] = {{"x", 0, 1, B_PARAMETER}, {"y", 1, 1, B_PARAMETER}, {"w", 2, 5, B_AUTOMATIC_VECTOR},
+                 {"i", 7, 1, B_AUTOMATIC}};
+    struct b_session session = B_NO_SESSION;
+    struct b_symbol it, none;
+    size_t number = 0;
+    uint32_t at;
+    memset(&none, 0, sizeof none);
+    expect("a program", load(source, &session), B_DONE);
+    for (at = 7; b_symbol_at(&session, at, &it) == B_DONE; at = it.address + it.words, number++) {
+        expect("its name", strcmp(it.name, definitions[number].name), 0);
+        expect("its kind", it.kind, definitions[number].kind);
+        expect("its address", it.address, definitions[number].address);
+        expect("its words", it.words, definitions[number].words);
+        for (uint32_t within = it.address; within < it.address + it.words; within++) {
+            struct b_symbol same;
+            expect("an address within", b_symbol_at(&session, within, &same), B_DONE);
+            expect("the same one", memcmp(&same, &it, sizeof it), 0);
+        }
+    }
+    expect("all of them", number, 4);
+    expect("the end of them", at, 16);
+    expect("nothing is told of it", memcmp(it.name, none.name, sizeof none.name) || it.kind || it.address, 0);
+    expect("an address before them", b_symbol_at(&session, 6, &it), B_REFUSED);
+    expect("no name", b_find(&session, (const uint8_t *)"g", 1, &it), B_REFUSED);
+    expect("what is no name", b_find(&session, (const uint8_t *)"1", 1, &it), B_REFUSED);
+    expect("nine letters", b_find(&session, (const uint8_t *)"abcdefghi", 9, &it), B_REFUSED);
+    expect("nothing", b_find(&session, (const uint8_t *)"", 0, &it), B_REFUSED);
+    expect("f", b_find(&session, (const uint8_t *)"f", 1, &it), B_DONE);
+    expect("its parameters", it.parameters, 2);
+    expect("its frame", it.frame, 8);
+    expect("its labels", it.labels, 1);
+    expect("the line of its first instruction, which makes w", it.line, 2);
+    for (number = 0; b_local(&session, 15, number, &it) == B_DONE; number++) {
+        expect("the name of a word", strcmp(it.name, words[number].name), 0);
+        expect("its kind", it.kind, words[number].kind);
+        expect("its offset", it.address, words[number].address);
+        expect("how many words", it.words, words[number].words);
+    }
+    expect("all words", number, 4);
+    expect("words of no function", b_local(&session, 14, 0, &it), B_REFUSED);
+    expect("a label", b_label(&session, 15, 0, &it), B_DONE);
+    expect("its name", strcmp(it.name, "top"), 0);
+    expect("its line", it.line, 3);
+    expect("no other", b_label(&session, 15, 1, &it), B_REFUSED);
+    expect("f again", b_find(&session, (const uint8_t *)"f", 1, &it), B_DONE);
+    number = it.instructions;
+    expect("the last instruction", b_instruction(&session, 15, (uint32_t)number - 1, &it), B_DONE);
+    expect("its place", it.address, number - 1);
+    expect("none after it", b_instruction(&session, 15, (uint32_t)number, &it), B_REFUSED);
+    expect("no run yet", session.run != 0, 0);
+    b_free(&session);
+}
+
 /* What a load tells, in rooms of each size. A text that is given by a size of 0 may be null. */
 static void try_lines(void) {
     static const struct {
@@ -481,6 +544,7 @@ int main(int argc, char **argv) {
     for (size_t size = 0; size < 8; size++)
         try_run(size);
     try_names();
+    try_symbols();
     try_lines();
     try_authors();
     try_limits();

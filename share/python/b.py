@@ -12,17 +12,22 @@ import ctypes
 import json
 import operator
 import os
-from typing import Any, Callable, Dict, Generator, Iterable, Iterator, List, Mapping, NamedTuple, Optional, Tuple, Union
+import threading
+from typing import (
+    Any, Callable, Dict, Generator, Iterable, Iterator, List, Mapping, NamedTuple, Optional, SupportsIndex, Tuple,
+    Union,
+)
 
 Text = Union[bytes, bytearray, memoryview, str]
 Libs = Mapping[Text, Text]
+Function = Any  # a call of the library, of which ctypes knows the arguments
 STEPS = 100_000_000
 FAULT, TRAP, LIMIT, REFUSED, FAILED, NO_MEMORY, WRONG_EDITION = 1, 130, 131, 132, 133, 134, 135
 HAS_OUTPUT, TOO_LARGE, STOPPED = 136, 137, 138
 __all__ = (
     *("compile", "migrate", "check", "format", "list", "map", "version", "run", "go", "trace", "count", "show"),
-    *("Ran", "Error", "Session", "Place", "Frame", "End", "STEPS", "FAULT", "TRAP", "LIMIT", "REFUSED", "FAILED"),
-    *("NO_MEMORY", "WRONG_EDITION", "HAS_OUTPUT", "TOO_LARGE", "STOPPED"),
+    *("Ran", "Error", "Session", "Place", "Frame", "Symbol", "End", "STEPS", "FAULT", "TRAP", "LIMIT", "REFUSED"),
+    *("FAILED", "NO_MEMORY", "WRONG_EDITION", "HAS_OUTPUT", "TOO_LARGE", "STOPPED"),
 )
 _LINE = 1024
 _ROOM = 1 << 16
@@ -44,7 +49,7 @@ class Ran(NamedTuple):
 class Error(Exception):
     """What the library answers with a line, or with a status of its own: `status`, `line`, and `output` so far."""
 
-    def __init__(self, status: int, output: bytes, line: bytes):
+    def __init__(self, status: int, output: bytes, line: bytes) -> None:
         super().__init__(line.decode("ascii", "replace").strip() or f"status {status}")
         self.status, self.output, self.line = status, output, line
 
@@ -62,10 +67,11 @@ class _File(ctypes.Structure):
     ]
 
 
-def _load():
+def _load() -> ctypes.CDLL:
     here = os.path.dirname(os.path.abspath(__file__))
     beside = (os.path.join(here, *parts, "libb.so.1") for parts in ((), ("..", "c", "lib")))
-    library = ctypes.CDLL(os.environ.get("B_LIBRARY") or next(filter(os.path.exists, beside), "libb.so.1"))
+    found = next((path for path in beside if os.path.exists(path)), "libb.so.1")
+    library = ctypes.CDLL(os.environ.get("B_LIBRARY") or found)
     text, room = [ctypes.c_char_p, ctypes.c_size_t], [ctypes.c_void_p, ctypes.c_size_t]
     ends = room + room + [ctypes.POINTER(_Written)]
     library.b_compile.argtypes = text + [ctypes.c_uint8] + ends
@@ -91,53 +97,57 @@ def _load():
 _library = _load()
 
 
-def _bytes(text):
+def _bytes(text: Text) -> Tuple[bytes, int]:
     """A text and its length, as a call takes them."""
-    text = text.encode() if isinstance(text, str) else bytes(memoryview(text))
-    return text, len(text)
+    given = text.encode() if isinstance(text, str) else bytes(memoryview(text))
+    return given, len(given)
 
 
-def _source(source, libs):
+def _source(source: Text, libs: Optional[Libs]) -> Tuple[Any, ...]:
     """A source and the files that follow it, as a call takes them."""
-    files = [(*_bytes(name), *_bytes(text)) for name, text in (libs or {}).items()]
+    files = [_File(*_bytes(name), *_bytes(text)) for name, text in (libs or {}).items()]
     return (*_bytes(source), (_File * len(files))(*files), len(files))
 
 
-def _number(name, number, least, most):
+def _number(name: str, number: SupportsIndex, least: int, most: int) -> int:
     """A number that is in its range, since a call takes any other by its lowest bits."""
-    number = operator.index(number)
-    if not least <= number <= most:
-        raise ValueError(f"{name} is {number}, and has to be from {least} to {most}")
-    return number
+    whole = operator.index(number)
+    if not least <= whole <= most:
+        raise ValueError(f"{name} is {whole}, and has to be from {least} to {most}")
+    return whole
 
 
-def _edition(edition):
+def _edition(edition: int) -> int:
     return _number("edition", edition, 1, 2)
 
 
-def _call(function, *words, room, line_room=_LINE, has_line=True):
+def _call(
+    function: Function, *words: Any, room: int, line_room: int = _LINE, has_line: bool = True
+) -> Tuple[int, bytes, bytes]:
     """The status, the output and the line of a call."""
     out, line, written = ctypes.create_string_buffer(max(room, 1)), ctypes.create_string_buffer(line_room), _Written()
-    rooms = (out, room, line, line_room) if has_line else (out, room)
+    rooms: Tuple[Any, ...] = (out, room, line, line_room) if has_line else (out, room)
     status = function(*words, *rooms, ctypes.byref(written))
     return status, ctypes.string_at(out, written.out), line.raw[: written.line]
 
 
-def _fitting(function, *words, room, line_room=_LINE, **how):
+def _fitting(
+    function: Function, *words: Any, room: int, line_room: int = _LINE, has_line: bool = True
+) -> Tuple[int, bytes, bytes]:
     """The same. Where a room is too small, the call is made again with one of eight times its size, up to the memory
     that there is: past that comes a MemoryError."""
     room = _number("room", room, 0, 1 << 62)
     while True:
-        status, out, line = _call(function, *words, room=room, line_room=line_room, **how)
+        status, out, line = _call(function, *words, room=room, line_room=line_room, has_line=has_line)
         is_full, is_line_full = len(out) == room, len(line) == line_room
         if status != FAILED or not (is_full or is_line_full):
             return status, out, line
         room, line_room = 8 * max(room, 1) if is_full else room, 8 * line_room if is_line_full else line_room
 
 
-def _text(function, *words, room, **how):
+def _text(function: Function, *words: Any, room: int, has_line: bool = True) -> bytes:
     """The text that a call writes, with status 0."""
-    status, out, line = _fitting(function, *words, room=room, **how)
+    status, out, line = _fitting(function, *words, room=room, has_line=has_line)
     if status != 0:
         raise Error(status, out, line)
     return out
@@ -185,19 +195,21 @@ def version() -> str:
     return _text(_library.b_version, room=256, has_line=False).decode("ascii")
 
 
-def _steps(steps):
+def _steps(steps: int) -> int:
     return _number("steps", steps, 0, _MOST)
 
 
-def _rows(steps, start, last):
+def _rows(steps: Optional[int], start: int, last: Optional[int]) -> Tuple[int, int, int]:
     """How many steps are made, and which of them have rows, as a call takes it."""
     if last is not None:
+        if start != 1:
+            raise ValueError("start and last can't be given together")
         return _steps(STEPS if steps is None else steps), 1, _number("last", last, 1, _MOST)
     start = _number("start", start, 1, _MOST)
     return _steps(min(start - 1 + _SHOWN, _MOST) if steps is None else steps), start, 0
 
 
-def _ran(function, *words, room, line_room=_LINE):
+def _ran(function: Function, *words: Any, room: Optional[int], line_room: int = _LINE) -> Ran:
     if room is None:
         status, out, line = _fitting(function, *words, room=_ROOM, line_room=line_room)
     else:
@@ -213,9 +225,9 @@ def run(
     """What a code text does with an input. Past a room of so many bytes the run ends with FAILED; without one all of
     the output comes, for which a long one is run again. If it is asked for where, the line of an Error tells where the
     code text went wrong."""
-    code, length = _bytes(code)
+    text, length = _bytes(code)
     function, line_room = (_library.b_run_where, length + 300) if where else (_library.b_run, _LINE)
-    return _ran(function, code, length, *_bytes(input), _steps(steps), room=room, line_room=line_room)
+    return _ran(function, text, length, *_bytes(input), _steps(steps), room=room, line_room=line_room)
 
 
 def go(
@@ -307,6 +319,13 @@ class _Frame(ctypes.Structure):
                 ("parameters", ctypes.c_uint16), ("line", ctypes.c_uint64), ("column", ctypes.c_uint64)]
 
 
+class _Symbol(ctypes.Structure):
+    _fields_ = [("name", ctypes.c_char * 9), ("kind", ctypes.c_uint8), ("parameters", ctypes.c_uint16),
+                ("address", ctypes.c_uint32), ("words", ctypes.c_uint32), ("frame", ctypes.c_uint16),
+                ("labels", ctypes.c_size_t), ("instructions", ctypes.c_size_t), ("line", ctypes.c_uint64),
+                ("column", ctypes.c_uint64)]
+
+
 class Place(NamedTuple):
     """Where a run stands: its function, by the address of its first string word, the place of its next instruction, how
     many calls are below, and how many steps were made; the line of that instruction, or 0, and the function's name; and
@@ -335,6 +354,32 @@ class Frame(NamedTuple):
     name: str = ""
 
 
+class Symbol(NamedTuple):
+    """What a name stands for. Its kind is `function`, `simple` or `vector` for a definition; `parameter`, `automatic`
+    or `automatic vector` for a word of a frame; `label` or `instruction`, which has no name.
+
+    `address` is that of a definition, the offset of a word in its frame, or the place of a label or an instruction;
+    `words` is how many words a definition takes, or a word of a frame with its vector. A function has so many
+    parameters, words of its frame, these among them, labels and instructions. `function` is the address of its first
+    string word, by which Place and Frame tell it; 0 for all else. `line` and `column` are those of a label or an
+    instruction, or of the first one of a definition, or 0."""
+
+    name: str
+    kind: str
+    address: int
+    words: int = 0
+    parameters: int = 0
+    frame: int = 0
+    labels: int = 0
+    instructions: int = 0
+    line: int = 0
+    column: int = 0
+
+    @property
+    def function(self) -> int:
+        return self.address + 1 if self.kind == "function" else 0
+
+
 class End(NamedTuple):
     """Why a slice has ended: `halted` with a status, `trapped` with two letters, `limit`, or `wants input`; `stopped`
     before a step at which it was to stop; or `has output` or `too large`, where more is there than the limits allow,
@@ -347,6 +392,9 @@ class End(NamedTuple):
 
 
 _TRAPS = ("", "dz", "fn", "gt", "st", "dp", "bs", "sk")
+_KINDS = ("", "function", "simple", "vector", "parameter", "automatic", "automatic vector", "label", "instruction")
+_FIRST = 7  # the address of the first definition
+_BUSY = "this session is in a call of another thread"
 _UNBEGUN = b"trap st\n"  # where the memory has no room for the frame of `main`
 _OF = ("", "operands", "pages")
 _WHY = {LIMIT: "limit", FAILED: "wants input", HAS_OUTPUT: "has output", STOPPED: "stopped"}
@@ -356,15 +404,20 @@ _ALL = ctypes.c_size_t(-1).value
 _PAGES = 256
 
 
-def _sessions(library):
+def _sessions(library: ctypes.CDLL) -> None:
     """Tells what the calls for sessions take."""
     held, text = ctypes.POINTER(_Held), [ctypes.c_char_p, ctypes.c_size_t]
     files, room = [ctypes.c_void_p, ctypes.c_size_t], [ctypes.c_void_p, ctypes.c_size_t]
     line = room + [ctypes.POINTER(_Written), held]
-    takes = {
+    takes: Dict[str, List[Any]] = {
         "load_with": text + files + [ctypes.c_uint8] + line,
         "load_code_with": text + text + text + line,
         "name_of": [held, ctypes.c_uint32] + room + [ctypes.POINTER(ctypes.c_size_t)],
+        "find": [held] + text + [ctypes.POINTER(_Symbol)],
+        "symbol_at": [held, ctypes.c_uint32, ctypes.POINTER(_Symbol)],
+        "local": [held, ctypes.c_uint32, ctypes.c_size_t, ctypes.POINTER(_Symbol)],
+        "label": [held, ctypes.c_uint32, ctypes.c_size_t, ctypes.POINTER(_Symbol)],
+        "instruction": [held, ctypes.c_uint32, ctypes.c_uint32, ctypes.POINTER(_Symbol)],
         "begin": [held],
         "limit": [held, ctypes.c_size_t, ctypes.c_uint16, ctypes.c_size_t],
         "continue": [held, ctypes.c_uint64, ctypes.POINTER(ctypes.c_uint8)],
@@ -398,8 +451,8 @@ class Session:
       >>> talk.feed("!"), talk.go_on().why, talk.output()
       (None, 'halted', b'!')
 
-    However a run is cut into slices, it is the same run. A session is used by one thread at a time. What it has in
-    memory goes with it, or by `close`, or at the end of a `with`.
+    However a run is cut into slices, it is the same run. A session is in one call at a time: a second one, of another
+    thread, is a RuntimeError. What it has in memory goes with it, or by `close`, or at the end of a `with`.
 
     `libs` are the files that follow a source. With `code` it is a code text, of which `lines` and `names` are files of
     its author, as `b list --lines` and `--names` take them. `operands`, `pages` and `output` are as for `limit`."""
@@ -417,18 +470,23 @@ class Session:
         operands: Optional[int] = None,
         pages: Optional[int] = None,
         output: Optional[int] = None,
-    ):
+    ) -> None:
+        self._lock = threading.Lock()
         self._held = _Held()
         self._names: Dict[int, str] = {}
         self._held_at_most = (operands, pages, output)
         self._limits = _limits(*self._held_at_most)
+        if code is None and (lines or names):
+            raise TypeError("lines and names are those of a code text")
+        if code is not None and (source or libs or edition != 1):
+            raise TypeError("a code text has no source, no files that follow it, and an edition of its own")
         if code is None:
             self._load(_library.b_load_with, *_source(source, libs), _edition(edition))
         else:
             self._load(_library.b_load_code_with, *_bytes(code), *_bytes(lines), *_bytes(names))
         self.start(input)
 
-    def _load(self, function, *words):
+    def _load(self, function: Function, *words: Any) -> None:
         """Puts the program in memory, or raises the Error with its line."""
         room = _LINE
         while True:
@@ -444,12 +502,12 @@ class Session:
         """Begins the run anew, with this much of its input."""
         self._look_for_program()
         if self._held.run:
-            _library.b_end(self._held)
-        status = _library.b_begin(self._held)
+            self._call(_library.b_end)
+        status = self._call(_library.b_begin)
         if status == TRAP:
             raise Error(status, b"", _UNBEGUN)
         _expect(status)
-        _expect(_library.b_limit(self._held, *self._limits))
+        _expect(self._call(_library.b_limit, *self._limits))
         if input:
             self.feed(input)
 
@@ -460,10 +518,14 @@ class Session:
         another word than 0, and bytes of output; with None there is no limit, and one that isn't named stays. That is
         looked at after each 65536 steps. A slice then ends with `has output` or `too large`, and the run can go on."""
         self._look_for_run()
-        named = zip((operands, pages, output), self._held_at_most)
-        self._held_at_most = tuple(was if it is _STAYS else it for it, was in named)
+        was = self._held_at_most
+        self._held_at_most = (
+            was[0] if operands is _STAYS else operands,
+            was[1] if pages is _STAYS else pages,
+            was[2] if output is _STAYS else output,
+        )
         self._limits = _limits(*self._held_at_most)
-        _expect(_library.b_limit(self._held, *self._limits))
+        _expect(self._call(_library.b_limit, *self._limits))
 
     def go_on(self, steps: int = _SLICE) -> End:
         """Makes so many steps at most, and tells why it ends."""
@@ -498,17 +560,17 @@ class Session:
             if end.why != "limit" or steps == 0:
                 return end
 
-    def _walk(self, stops, steps):
+    def _walk(self, stops: _Stops, steps: int) -> End:
         self._look_for_run()
         value = ctypes.c_uint8()
-        return self._end_of(_library.b_continue_to(self._held, stops, steps, value), value)
+        return self._end_of(self._call(_library.b_continue_to, stops, steps, value), value)
 
-    def _slice(self, steps):
+    def _slice(self, steps: int) -> End:
         self._look_for_run()
         value = ctypes.c_uint8()
-        return self._end_of(_library.b_continue(self._held, steps, value), value)
+        return self._end_of(self._call(_library.b_continue, steps, value), value)
 
-    def _end_of(self, status, value):
+    def _end_of(self, status: int, value: ctypes.c_uint8) -> End:
         """Why a slice has ended, by what a call answers."""
         if status == 0:
             return End("halted", value.value)
@@ -535,8 +597,10 @@ class Session:
             try:
                 part = next(parts)
             except StopIteration as over:
-                return over.value
-            write(part)
+                end: End = over.value
+                return end
+            if write is not None:
+                write(part)
 
     def outputs(
         self, read: Optional[Callable[[], Text]] = None, *, steps: int = STEPS
@@ -544,7 +608,9 @@ class Session:
         """Runs on as `run` does, and gives what the program writes as it comes. The End is the generator's value."""
         return self._parts(read, steps, True)
 
-    def _parts(self, read, steps, takes):
+    def _parts(
+        self, read: Optional[Callable[[], Text]], steps: int, takes: bool
+    ) -> Generator[bytes, None, End]:
         """Runs on, and gives the output where it is taken. It comes before what else is raised."""
         last = self.place().steps + _steps(steps)
         while True:
@@ -559,7 +625,7 @@ class Session:
             elif not (end.why == "has output" and takes or end.why == "limit" and self.place().steps < last):
                 return end
 
-    def _ask(self, read):
+    def _ask(self, read: Optional[Callable[[], Text]]) -> None:
         """Feeds what `read` answers, or closes the input."""
         more = read() if read is not None else b""
         if more:
@@ -577,7 +643,7 @@ class Session:
     def feed(self, bytes: Text) -> None:
         """Adds bytes to the input."""
         self._look_for_run()
-        status = _library.b_feed(self._held, *_bytes(bytes))
+        status = self._call(_library.b_feed, *_bytes(bytes))
         if status == WRONG_EDITION:
             raise ValueError("the input of this session was closed")
         _expect(status)
@@ -585,14 +651,14 @@ class Session:
     def close_input(self) -> None:
         """Tells that no more input comes."""
         self._look_for_run()
-        _expect(_library.b_close_input(self._held))
+        _expect(self._call(_library.b_close_input))
 
     def output(self) -> bytes:
         """Takes what the program has written since."""
         self._look_for_run()
         room, count, parts = ctypes.create_string_buffer(_ROOM), ctypes.c_size_t(), []
         while True:
-            _expect(_library.b_output(self._held, room, _ROOM, count))
+            _expect(self._call(_library.b_output, room, _ROOM, count))
             parts.append(room.raw[: count.value])
             if count.value < _ROOM:
                 return b"".join(parts)
@@ -601,8 +667,8 @@ class Session:
         """Where the run stands; after its end the call that ran before the last step."""
         self._look_for_run()
         place, column = _Place(), ctypes.c_uint64()
-        _expect(_library.b_place(self._held, place))
-        _expect(_library.b_column(self._held, column))
+        _expect(self._call(_library.b_place, place))
+        _expect(self._call(_library.b_column, column))
         name = self.name_of(place.function)
         return Place(place.function, place.place, place.callers, place.steps, place.line, name, column.value)
 
@@ -610,9 +676,9 @@ class Session:
         """The active calls, the running one first: the backtrace. After the end of a run the first one is the call that
         ran before the last step."""
         self._look_for_run()
-        frame, frames = _Frame(), []
+        frame, frames = _Frame(), []  # type: _Frame, List[Frame]
         while True:
-            status = _library.b_frame(self._held, len(frames), frame)
+            status = self._call(_library.b_frame, len(frames), frame)
             if status == REFUSED:
                 return frames
             _expect(status)
@@ -625,52 +691,121 @@ class Session:
         if function not in self._names:
             number, room, count = _number("function", function, 0, 2**32 - 1), _LINE, ctypes.c_size_t()
             text = ctypes.create_string_buffer(room)
-            status = _library.b_name_of(self._held, number, text, room, count)
+            status = self._call(_library.b_name_of, number, text, room, count)
             _expect(0 if status == REFUSED else status)
             self._names[function] = text.raw[: count.value].decode()
         return self._names[function]
+
+    def find(self, name: Text) -> Optional[Symbol]:
+        """The definition of a name, if there is one."""
+        return self._symbol(_library.b_find, *_bytes(name))
+
+    def symbol_at(self, address: int) -> Optional[Symbol]:
+        """The definition of which the word at an address is one, if there is one."""
+        return self._symbol(_library.b_symbol_at, _number("address", address, 0, 2**32 - 1))
+
+    def symbols(self) -> Iterator[Symbol]:
+        """All definitions, in the order of memory."""
+        at = _FIRST
+        while (symbol := self.symbol_at(at)) is not None:
+            yield symbol
+            at = symbol.address + symbol.words
+
+    def locals(self, function: int) -> Iterator[Symbol]:
+        """The named words of the frame of the function whose first string word has this address, the parameters first.
+        A code text has none without its author's file of names."""
+        return self._symbols(_library.b_local, function)
+
+    def labels(self, function: int) -> Iterator[Symbol]:
+        """The labels of a function, in order."""
+        return self._symbols(_library.b_label, function)
+
+    def instructions(self, function: int) -> Iterator[Symbol]:
+        """The instructions of a function, with their lines and columns."""
+        return self._symbols(_library.b_instruction, function)
+
+    def _symbols(self, call: Function, function: int) -> Iterator[Symbol]:
+        """What a function has, one after the other."""
+        function, number = _number("function", function, 0, 2**32 - 1), 0
+        while (symbol := self._symbol(call, function, number)) is not None:
+            yield symbol
+            number += 1
+
+    def _symbol(self, call: Function, *words: Any) -> Optional[Symbol]:
+        """What a call tells, or None where there is nothing."""
+        self._look_for_program()
+        it = _Symbol()
+        status = self._call(call, *words, it)
+        if status == REFUSED:
+            return None
+        _expect(status)
+        return Symbol(it.name.decode(), _KINDS[it.kind], it.address, it.words, it.parameters, it.frame, it.labels,
+                      it.instructions, it.line, it.column)
 
     def word(self, address: int) -> int:
         """The word at an address."""
         self._look_for_run()
         word = ctypes.c_uint16()
-        _expect(_library.b_word(self._held, _number("address", address, 0, 65535), word))
+        _expect(self._call(_library.b_word, _number("address", address, 0, 65535), word))
         return word.value
 
     def set_word(self, address: int, word: int) -> None:
         """Stores a word at an address."""
         self._look_for_run()
         address, word = _number("address", address, 0, 65535), _number("word", word, 0, 65535)
-        _expect(_library.b_set_word(self._held, address, word))
+        _expect(self._call(_library.b_set_word, address, word))
 
     def close(self) -> None:
         """Gives all of it back."""
+        self._look_for_calls()
         if self._held.run:
-            _library.b_end(self._held)
+            self._call(_library.b_end)
         if self._held.program:
-            _library.b_unload(self._held)
+            self._call(_library.b_unload)
 
     def __enter__(self) -> "Session":
         return self
 
-    def __exit__(self, *failure) -> None:
+    def __exit__(self, *failure: object) -> None:
         self.close()
 
-    def __del__(self):
+    def __del__(self) -> None:
         if hasattr(self, "_held"):
             self.close()
 
-    def _look_for_program(self):
+    def _call(self, function: Function, *words: Any) -> int:
+        """What a call for this session answers, unless another thread is in one."""
+        if not self._lock.acquire(blocking=False):
+            raise RuntimeError(_BUSY)
+        try:
+            status: int = function(self._held, *words)
+            return status
+        finally:
+            self._lock.release()
+
+    def _look_for_calls(self) -> None:
+        """Within a call the two pointers tell nothing."""
+        if self._lock.locked():
+            raise RuntimeError(_BUSY)
+
+    def _look_for_program(self) -> None:
+        self._look_for_calls()
         if not self._held.program:
             raise ValueError("this session was closed")
 
-    def _look_for_run(self):
+    def _look_for_run(self) -> None:
         self._look_for_program()
         if not self._held.run:
             raise ValueError("this session has no run")
 
 
-def _stops(places, near, callers, returned, words):
+def _stops(
+    places: Iterable[Tuple[int, int]],
+    near: Iterable[Tuple[int, int]],
+    callers: int,
+    returned: int,
+    words: Iterable[Tuple[int, int]],
+) -> _Stops:
     """Before which steps a slice stops, as a call takes it."""
     broken = [_CodePlace(*it) for it in places]
     close = [_CodePlace(*it) for it in near]
@@ -683,7 +818,7 @@ def _stops(places, near, callers, returned, words):
     )
 
 
-def _limits(operands, pages, output):
+def _limits(operands: Optional[int], pages: Optional[int], output: Optional[int]) -> Tuple[int, int, int]:
     """The limits of a run, as a call takes them."""
     return (
         _ALL if operands is None else _number("operands", operands, 0, _ALL),
@@ -692,7 +827,7 @@ def _limits(operands, pages, output):
     )
 
 
-def _expect(status):
+def _expect(status: int) -> None:
     """Raises what a call answers other than that all is well."""
     if status != 0:
         raise Error(status, b"", b"")

@@ -9,6 +9,7 @@ import pathlib
 import resource
 import signal
 import sys
+import threading
 import time
 from typing import Dict, List, NamedTuple
 
@@ -152,6 +153,8 @@ def sessions():
     yield interrupted() < 0.05, True
     yield from lost()
     yield from loads()
+    yield from symbols()
+    yield from ignored()
     yield from stops()
     yield from limits()
 
@@ -184,6 +187,54 @@ def loads():
         yield {("main", 5, 0), ("f", 2, 1)} <= seen, True
         yield (it.name_of(it.place().function), it.name_of(3)), ("main", "")
         yield refused(it.name_of, 2**32), ValueError
+
+
+def symbols():
+    """What is found of names, by the layout of memory."""
+    it = b.Session("n 4, 5; v[3]; f(x, y) {\n  auto w 3, i;\n  top: i = x;\n  goto top;\n}\nmain() f(1, 2);")
+    told = [(symbol.name, symbol.kind, symbol.address, symbol.words) for symbol in it.symbols()]
+    yield told, [("n", "simple", 7, 2), ("v", "vector", 9, 5), ("f", "function", 14, 1), ("main", "function", 15, 1)]
+    f = it.find("f")
+    yield (f.function, f.parameters, f.frame, f.labels, f.line), (15, 2, 8, 1, 2)
+    yield [it.find(name) for name in ("g", "", "1", "abcdefghi", "\0")], [None] * 5
+    yield [it.symbol_at(at) and it.symbol_at(at).name for at in (0, 6, 8, 9, 13, 16)], [None, None, "n", "v", "v", None]
+    words = [(word.name, word.kind, word.address, word.words) for word in it.locals(f.function)]
+    wanted = [("x", "parameter", 0, 1), ("y", "parameter", 1, 1), ("w", "automatic vector", 2, 5)]
+    yield words, [*wanted, ("i", "automatic", 7, 1)]
+    yield [(label.name, label.line) for label in it.labels(f.function)], [("top", 3)]
+    lines = [instruction.line for instruction in it.instructions(f.function)]
+    yield (len(lines), lines[0], lines[-1]), (f.instructions, 2, 5)
+    yield [*it.locals(3), *it.labels(f.address), *it.instructions(0)], []
+    for wrong in ((it.symbol_at, -1), (it.symbol_at, 2**32), (it.locals(2**32).__next__,)):
+        yield refused(*wrong), ValueError
+    code = "F main 0 3 1 0 4\nt 3\nc 7\np\nc 0\nr\nE\n"
+    yield [*b.Session(code=code).locals(8), *b.Session(code=code).labels(8)], []
+
+
+def ignored():
+    """What is found of arguments that nothing would look at, and of a second thread."""
+    code = "F main 0 0 0 0 2\nc 0\nr\nE\n"
+    for wrong in ({"lines": "1"}, {"names": "F main"}):
+        yield kind_of(b.Session, "main() { }", **wrong), TypeError
+    for wrong in ({"source": "main() { }"}, {"libs": {"a": "b"}}, {"edition": 2}):
+        yield kind_of(b.Session, code=code, **wrong), TypeError
+    yield kind_of(b.trace, "main() { }", start=2, last=3), ValueError
+    it, seen = b.Session("main() { while(1) ; }"), []
+    thread = threading.Thread(target=lambda: it.go_on(40_000_000))
+    thread.start()
+    while thread.is_alive():
+        seen.append(kind_of(it.place))
+    yield set(seen) <= {None, RuntimeError} and RuntimeError in seen, True
+    yield it.place().steps, 40_000_000
+
+
+def kind_of(call, *words, **how):
+    """The type of what a call raises, or None."""
+    try:
+        call(*words, **how)
+    except Exception as error:
+        return type(error)
+    return None
 
 
 def stops():

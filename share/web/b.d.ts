@@ -180,6 +180,27 @@ export interface Frame {
   column: number;
 }
 
+/** What a name stands for: a definition, a word of a function's frame, a label or an instruction, which has no name.
+    `address` is that of a definition, the offset of a word in its frame, or the place of a label or an instruction.
+    `words` is how many words a definition takes, or a word of a frame with its vector. A function has so many
+    parameters, words of its frame, labels and instructions, and `function` is the address of its first string word, by
+    which `Place` and `Frame` tell it; 0 for all else. `line` and `column` are those of a label or an instruction, or of
+    the first one of a definition, or 0. */
+export interface NamedSymbol {
+  name: string;
+  kind:
+    'function' | 'simple' | 'vector' | 'parameter' | 'automatic' | 'automatic vector' | 'label' | 'instruction';
+  address: number;
+  words: number;
+  parameters: number;
+  frame: number;
+  labels: number;
+  instructions: number;
+  line: number;
+  column: number;
+  function: number;
+}
+
 /** How much a run may hold between two slices. What isn't given at the start has no limit. */
 export interface Limits {
   operands?: number | bigint;
@@ -236,6 +257,17 @@ export interface Session {
   readonly callers: number;
   /** The name of the function whose first string word has this address; empty where none lies there. */
   nameOf(address: number): string;
+  /** The definition of a name, or that of which the word at an address is one; null where there is none. */
+  find(name: Text): NamedSymbol | null;
+  symbolAt(address: number): NamedSymbol | null;
+  /** All definitions, in the order of memory. */
+  symbols(): Generator<NamedSymbol, void, void>;
+  /** The named words of the frame of the function whose first string word has this address, parameters first; its
+      labels; its instructions, with their lines and columns. A code text has names of words and labels by its author's
+      file alone. */
+  locals(address: number): Generator<NamedSymbol, void, void>;
+  labels(address: number): Generator<NamedSymbol, void, void>;
+  instructions(address: number): Generator<NamedSymbol, void, void>;
   /** Sets the limits of this run, and of those that `start` begins; one that isn't named stays, and `Infinity` is none.
       A slice is looked at after each 65536 steps. */
   limit(limits?: Limits): void;
@@ -265,7 +297,8 @@ export interface LoadCodeOptions extends BeginOptions {
   names?: Text;
 }
 
-/** Loads programs into one memory, which their sessions share. A program that can't be loaded is a `Refused`. */
+/** Loads programs into one memory, which their sessions share. A program that can't be loaded is a `Refused`, and an
+    option that isn't one of these a `TypeError`. */
 export interface Sessions {
   load(source: Text, options?: LoadOptions): Session;
   loadCode(code: Text, options?: LoadCodeOptions): Session;

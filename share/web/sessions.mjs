@@ -8,6 +8,8 @@ import {Kept, Refused, Stopped, bytesOf} from './b.mjs';
 const DONE = 0, TRAP = 130, REFUSED = 132, FULL = 133, MEMORY = 134, CLOSED = 135, LARGE = 137;
 const WHY = {131: 'limit', 133: 'wants input', 136: 'has output', 138: 'stopped'};
 const TRAPS = ['', 'dz', 'fn', 'gt', 'st', 'dp', 'bs', 'sk'], OF = ['', 'operands', 'pages'];
+const KINDS = ['', 'function', 'simple', 'vector', 'parameter', 'automatic', 'automatic vector', 'label'];
+const FIRST = 7, NAME = 9; // the address of the first definition, and bytes for a name
 const UNBEGUN = 'trap st\n'; // where the memory has no room for the frame of `main`
 const ROOM = 65536, OWN = 64, LINE = 1024; // bytes for output, for a line, and for what else calls tell
 const MOST = 2n ** 64n - 1n, MOST_PAGES = 256;
@@ -29,8 +31,19 @@ function large(name, number) {
   throw new RangeError(`${name} is ${String(number)}, and has to be a whole number from 0 to ${MOST}, or Infinity`);
 }
 
+/** Refuses what nothing would look at, such as a name that is misspelt. */
+function only(names, given) {
+  const other = Object.keys(given).find(name => !names.includes(name));
+  if (other !== undefined) throw new TypeError(`there is no ${other} here, but ${names.join(', ')}`);
+}
+
 /** The limits of a run, as a call takes them. */
-function limitsOf({operands = Infinity, pages = MOST_PAGES, output = Infinity}) {
+function limitsOf(limits) {
+  only(['operands', 'pages', 'output'], limits);
+  return limitsAs(limits);
+}
+
+function limitsAs({operands = Infinity, pages = MOST_PAGES, output = Infinity}) {
   return [large('operands', operands), whole('pages', pages, MOST_PAGES), large('output', output)];
 }
 
@@ -119,7 +132,8 @@ export class Sessions {
     return this.lend([code, lines, names], words => this.loaded(how, 'load_code_with', words));
   }
 
-  loaded({input = '', limits = {}}, name, words) {
+  loaded({input = '', limits = {}, ...other}, name, words) {
+    only(['input', 'limits', ...(name === 'load_with' ? ['edition', 'libs'] : ['lines', 'names'])], other);
     limitsOf(limits);
     const held = this.take(HELD);
     try {
@@ -256,7 +270,8 @@ class Session {
     return this.#endOf(this.#call('continue', large('steps', steps), BigInt(this.#sessions.own)));
   }
 
-  goTo({places = [], near = [], callers = 0, returned = 0, words = []} = {}, steps = SLICE) {
+  goTo({places = [], near = [], callers = 0, returned = 0, words = [], ...other} = {}, steps = SLICE) {
+    only(['places', 'near', 'callers', 'returned', 'words'], other);
     const most = [large('steps', steps), BigInt(this.#sessions.own)];
     const below = [large('callers', callers), large('returned', returned)];
     return this.#sessions.lend([rowOf(places), rowOf(near), wordsOf(words)], ([at, , close, , watched]) => {
@@ -401,6 +416,49 @@ class Session {
     if (status !== REFUSED) this.#sessions.expect(status);
     const count = Number(this.#sessions.told.getBigUint64(0, true));
     return new TextDecoder().decode(this.#sessions.bytes(room, count));
+  }
+
+  find(name) {
+    return this.#sessions.lend([name], words => this.#symbol('find', ...words));
+  }
+
+  symbolAt(address) {
+    return this.#symbol('symbol_at', whole('address', address, 2 ** 32 - 1));
+  }
+
+  *symbols() {
+    for (let it = this.symbolAt(FIRST); it; it = this.symbolAt(it.address + it.words)) yield it;
+  }
+
+  locals(address) {
+    return this.#symbolsOf('local', address, BigInt);
+  }
+
+  labels(address) {
+    return this.#symbolsOf('label', address, BigInt);
+  }
+
+  instructions(address) {
+    return this.#symbolsOf('instruction', address, Number);
+  }
+
+  /** What a function has, one after the other. */
+  *#symbolsOf(call, address, sized) {
+    const of = whole('function', address, 2 ** 32 - 1);
+    for (let number = 0, it; (it = this.#symbol(call, of, sized(number))); number++) yield it;
+  }
+
+  /** What a call tells, or null where there is nothing. */
+  #symbol(call, ...words) {
+    const status = this.#call(call, ...words, BigInt(this.#sessions.own));
+    if (status === REFUSED) return null;
+    this.#sessions.expect(status);
+    const {told, own} = this.#sessions, at = place => Number(told.getBigUint64(place, true));
+    const name = new TextDecoder().decode(this.#sessions.bytes(own, NAME)).replace(/\0.*/, '');
+    const is = {name, kind: KINDS[told.getUint8(9)] ?? 'instruction', address: told.getUint32(12, true)};
+    const has = {words: told.getUint32(16, true), frame: told.getUint16(20, true), labels: at(24)};
+    const rest = {parameters: told.getUint16(10, true), instructions: at(32), line: at(40), column: at(48)};
+    return {...is, ...has, ...rest, function: is.kind === 'function' ? is.address + 1 : 0};
   }
 
   get steps() {

@@ -11,6 +11,7 @@ mod loading;
 mod looking;
 mod room;
 mod sessions;
+mod symbols;
 mod with_files;
 
 pub use calls::wrong_rooms_are_excluded;
