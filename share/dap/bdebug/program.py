@@ -1,7 +1,7 @@
 """A program as a debugger sees it: its files, and the lines, places and names of its code.
 
-All of it comes from the calls `list` and `map` of the library, whose texts docs/COMMANDS.md tells. Words that a
-function declares and never names are in neither, so these names come from the tokens of the source."""
+Names come from the calls of the library for symbols, and the code from its call `list`, whose text docs/COMMANDS.md
+tells."""
 import bisect
 import os
 import pathlib
@@ -9,14 +9,13 @@ import re
 import stat
 from typing import Callable, Dict, FrozenSet, List, NamedTuple, Optional, Set, Tuple
 
-from .words import library, words_of_vector
-from .tokens import TokenFault, declared_words
+from .words import library
 
 MOST_OF_A_FILE = 8 << 20  # bytes
 OPTIONS = re.compile(rb"/\* b:((?: --(?:edition [12]|with [\w./-]+))+) \*/", re.A)
 _HEAD = re.compile(r" *@(\d+) +(?:\d+ +)?([XVF]) (\w+)((?: \d+)*)")
 _ROW = re.compile(r" *(\d+) +(\d+)  ([a-z](?: \S+)?)(?= |$)")
-_NAMED = re.compile(r" *(\d+) +(\w+) +(simple|vector|function|library) +(\d+)  (-?\d+)")
+_LIBRARY = ("char", "lchar", "getchar", "putchar", "printn", "exit")  # at the addresses from 1 on
 _JUMP = re.compile(r"(?:[jz]|e \d+) (\d+)$")
 
 
@@ -143,8 +142,8 @@ class Program:
         """Reads the code. A library.Error has the line of a fault."""
         b, how = library(), {"edition": self.edition, "libs": self.libs}
         self._read_list(b.list(self.source, **how).decode("latin-1"))
-        self._read_map(b.map(self.source, **how).decode("latin-1"))
-        self._name_locals()
+        with self.session() as session:
+            self._read_symbols(session)
         self.by_name = {it.name: it for it in self.functions.values()}
         for function in self.functions.values():
             function.find_begins()
@@ -179,30 +178,14 @@ class Program:
             elif (found := _ROW.match(row)) and function is not None:
                 function.code.append(Instruction(int(found[1]), int(found[2]), found[3]))
 
-    def _read_map(self, text):
-        for row in text.splitlines():
-            if found := _NAMED.match(row):
-                self.externals[found[2]] = External(found[2], int(found[1]), found[3], int(found[4]))
-            elif row.startswith("data end "):
-                self.data_end = int(row.split()[2])
-
-    def _name_locals(self):
-        """Gives each function the names of its frame, as far as they fit its size."""
-        named = iter(())
-        try:
-            texts = [self.source, *self.libs.values()]
-            named = iter(declared_words(b"\n".join(texts).decode("latin-1"), self.edition))
-        except TokenFault:
-            pass
-        for function in self.functions.values():
-            words = next((it for name, it in named if name == function.name), [])
-            at = 0
-            for name, last in words:
-                vector = words_of_vector(last)
-                function.locals.append(Local(name, at, vector))
-                at += 1 + vector
-            if at != function.frame:
-                function.locals = [Local(f"a{it}", it, 0) for it in range(min(function.frame, 128))]
+    def _read_symbols(self, session):
+        self.externals = {it: External(it, at, "library", 1) for at, it in enumerate(_LIBRARY, 1)}
+        for it in session.symbols():
+            self.externals[it.name] = External(it.name, it.address, it.kind, it.words)
+            self.data_end = it.address + it.words
+            if it.kind == "function":
+                words = session.locals(it.function)
+                self.functions[it.function].locals = [Local(word.name, word.address, word.words - 1) for word in words]
 
     def _index_lines(self):
         self._at_line: Dict[int, List[Tuple[int, int]]] = {}

@@ -1,15 +1,19 @@
 """The run of a program, which goes forwards, and back.
 
 A run is decided by its source, its input and the words that the user stores, so each state of it is a number of steps.
-To go back is to begin anew and to make fewer steps; the machine makes some 10^8 of them in a second."""
+To go back is to take the last checkpoint before there, or to begin anew, and to make the steps from there on; the
+machine makes some 10^8 of them in a second."""
 import time
 from typing import Callable, FrozenSet, List, NamedTuple, Optional, Tuple
 
+from .checkpoints import CAN_FORK, Gone, Remote
 from .program import Refused
 from .words import library
 
-SLICE = 10_000_000  # steps of plain running between two looks at what the user wants
-FIRST_WINDOW, WIDER = 256, 16  # steps that are looked through for the last stop before this one
+SLICE = 2_000_000  # steps of plain running between two looks at what the user wants
+SPACING = 2_000_000  # steps between two checkpoints, at first
+MOST_KEPT = 64  # checkpoints; where there are more, each second one goes, and the spacing doubles
+FIRST_WINDOW, WIDER = 32, 16  # steps that are looked through for the last stop before this one
 MOST_HITS = 1000  # in a window, before its later half is looked through alone
 QUICK, SLOW = .01, .05  # seconds that a slice with stops should take
 
@@ -44,6 +48,18 @@ class Store(NamedTuple):
     word: int
 
 
+class Checkpoint(NamedTuple):
+    """A copy of the session after so many steps, how much it had written, how many words had been put back, and how
+    much it had been fed."""
+
+    steps: int
+    written: int
+    applied: int
+    fed: int
+    is_closed: bool
+    session: Remote
+
+
 class Frame(NamedTuple):
     """An active call: its function and its next place, the address of its frame, and its line in all files together."""
 
@@ -67,10 +83,16 @@ class Run:
         self.most = None  # steps that the user allows
         self.changed: List[int] = []  # of the words of the last stops
         self.shown, self.pending, self._slice, self._calls = 0, bytearray(), 1000, None
+        self.checkpoints: List[Checkpoint] = []
+        self.spacing, self.can_keep = SPACING, CAN_FORK and not self.by_steps
         self._begin()
 
     def _begin(self):
-        self.session.start(bytes(self.input))
+        try:
+            self.session.start(bytes(self.input))
+        except Gone:
+            self.session, self.can_keep = self.program.session(), False
+            self.session.start(bytes(self.input))
         if self.is_closed:
             self.session.close_input()
         self.end = self._frames = None  # how the run is over
@@ -80,7 +102,64 @@ class Run:
     def restart(self) -> None:
         """Begins anew, without what the user stored."""
         self.stores, self.shown, self._calls = [], 0, None
+        self._forget(lambda it: False)
         self._begin()
+
+    # Checkpoints.
+
+    def _forget(self, stays: Callable[[Checkpoint], bool]) -> None:
+        """Gives up all checkpoints but those that stay."""
+        for it in self.checkpoints:
+            if not stays(it):
+                it.session.close()
+        self.checkpoints = [it for it in self.checkpoints if stays(it)]
+
+    def _keep(self) -> None:
+        """Leaves a checkpoint here, where the last one before is far."""
+        last = max((it.steps for it in self.checkpoints if it.steps <= self.steps), default=0)
+        if not self.can_keep or self.end is not None or self.steps - last < self.spacing:
+            return
+        try:
+            if not isinstance(self.session, Remote):
+                return self._move()
+            copy = self.session.fork()
+        except (Gone, OSError, library().Error):
+            self.can_keep = False
+            return
+        fed = (len(self.input), self.is_closed)
+        self.checkpoints.append(Checkpoint(self.steps, self.written, self.applied, *fed, copy))
+        self.checkpoints.sort(key=lambda it: it.steps)
+        if len(self.checkpoints) > MOST_KEPT:
+            thinned = self.checkpoints[1::2]
+            self._forget(lambda it: it in thinned)
+            self.spacing *= 2
+
+    def _move(self) -> None:
+        """Puts the run into a process of its own, in which it makes its steps once more and leaves checkpoints."""
+        here, program = (self.session, self.place, self.written, self.applied), self.program
+        self.session, steps = Remote.begin(program.source, program.edition, program.libs), self.steps
+        try:
+            self._begin()
+            while self.steps < steps:
+                self._arrive(self.session.go_on(self._room(min(steps - self.steps, SLICE))))
+        except Exception:
+            self.session, self.place, self.written, self.applied = here
+            raise
+
+    def _go_back(self, steps: int) -> None:
+        """Goes to the last checkpoint that is no later than so many steps, or begins anew."""
+        it = next((it for it in reversed(self.checkpoints) if it.steps <= steps), None)
+        if it is None:
+            self._begin()
+            return
+        session = it.session.fork()
+        self.session.close()
+        self.session, self.end, self.written, self.applied = session, None, it.written, it.applied
+        if it.fed < len(self.input):
+            session.feed(bytes(self.input[it.fed:]))
+        if self.is_closed and not it.is_closed:
+            session.close_input()
+        self._arrive(None)
 
     # Where it stands.
 
@@ -132,6 +211,7 @@ class Run:
         """Stores a word here. What was stored later than this step is no more: the run goes another way."""
         store = Store(self.steps, address & 0xFFFF, word & 0xFFFF)
         self.session.set_word(store.address, store.word)
+        self._forget(lambda it: it.steps <= store.steps and it.applied <= self.applied)
         self.stores[self.applied:] = [store]
         self.applied, self.shown, self._calls = len(self.stores), self.written, None
 
@@ -144,8 +224,9 @@ class Run:
 
     def _arrive(self, end):
         """Notes where the run has come to, and puts back what the user stored there."""
-        self.place, self._frames = self.session.place(), None
-        text = self.session.output()
+        arrived = self.session.arrived() if isinstance(self.session, Remote) else None
+        self.place, text = arrived or (self.session.place(), self.session.output())
+        self._frames = None
         self.pending += text[max(0, self.shown - self.written):]
         self.written += len(text)
         self.shown = max(self.shown, self.written)
@@ -154,6 +235,7 @@ class Run:
         while self.applied < len(self.stores) and self.stores[self.applied].steps <= self.steps:
             self.session.set_word(*self.stores[self.applied][1:])
             self.applied += 1
+        self._keep()
         return end
 
     def _room(self, steps):
@@ -207,7 +289,7 @@ class Run:
     def travel(self, steps: int) -> None:
         """Goes to the state after so many steps, or to the end of the run where that comes before."""
         if steps < self.steps or self.end is not None:
-            self._begin()
+            self._go_back(steps)
         end = library().End("limit")
         while self.steps < steps and end.why == "limit":
             if self.is_paused():

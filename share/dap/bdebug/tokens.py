@@ -1,9 +1,8 @@
-"""The tokens of B, and the words that each function of a source declares."""
+"""The tokens of B."""
 import re
-from typing import Iterator, List, NamedTuple, Optional, Tuple
+from typing import Iterator, NamedTuple
 
 KEYWORDS = ("auto", "case", "else", "extrn", "goto", "if", "return", "switch", "while")
-SECOND = ("break", "default")  # of edition 2
 BINARY = ("+", "-", "*", "/", "%", "<", "<=", ">", ">=", "==", "!=", "&", "|", "<<", ">>")
 _ASSIGNMENTS = sorted(("=" + it for it in BINARY), key=len, reverse=True)
 _SIGNS = sorted((*_ASSIGNMENTS, *BINARY, "++", "--", "=", "!", *"?:,;()[]{}"), key=len, reverse=True)
@@ -52,108 +51,3 @@ def constant_of(token: Token) -> int:
     for escape, plain in codes:
         word = word << 8 | (_CODES[escape] if escape else ord(plain) & 0xFF)
     return word
-
-
-class _Reader:
-    """Goes over the tokens of a source without a fault, and keeps what each function declares."""
-
-    def __init__(self, text, edition):
-        self.tokens, self.at = list(tokens_of(text)), 0
-        self.keywords = KEYWORDS + (SECOND if edition == 2 else ())
-        self.words: List[Tuple[str, Optional[int]]] = []
-
-    def look(self, more=0):
-        return self.tokens[min(self.at + more, len(self.tokens) - 1)].text
-
-    def take(self):
-        token = self.tokens[self.at]
-        if token.kind == "end":
-            raise TokenFault("the source ends within a definition")
-        self.at += 1
-        return token
-
-    def skip_to(self, *ends):
-        """Goes to one of these signs that is in no brackets."""
-        depth = 0
-        while depth or self.look() not in ends:
-            depth += {"(": 1, "[": 1, ")": -1, "]": -1}.get(self.take().text, 0)
-
-    def skip_pair(self):
-        self.take()
-        self.skip_to(")")
-        self.take()
-
-    def definition(self):
-        """The name of the function that comes next, and its words; None after something else."""
-        name, self.words = self.take().text, []
-        if self.look() != "(":
-            self.skip_to(";")
-            self.take()
-            return None
-        self.take()
-        while self.look() != ")":
-            token = self.take()
-            self.words += [(token.text, None)] if token.kind == "name" else []
-        self.take()
-        self.statement()
-        return name, self.words
-
-    def statement(self):
-        """Goes over one statement; a source has at most 200 levels of them."""
-        self.headings()
-        word = self.look()
-        if word == "{":
-            self.compound()
-        elif word in ("if", "while"):
-            self.take()
-            self.skip_pair()
-            self.statement()
-            if word == "if" and self.look() == "else":
-                self.take()
-                self.statement()
-        elif word == "switch":
-            self.skip_to("{")
-            self.compound()
-        else:
-            self.skip_to(";")
-            self.take()
-
-    def compound(self):
-        self.take()
-        while self.look() != "}":
-            self.statement()
-        self.take()
-
-    def headings(self):
-        while True:
-            word, is_name = self.look(), self.tokens[self.at].kind == "name"
-            if word == "auto":
-                self.autos()
-            elif word == "extrn":
-                self.skip_to(";")
-            elif word == "case":
-                self.skip_to(":")
-            elif not (is_name and self.look(1) == ":" and (word not in self.keywords or word == "default")):
-                return
-            else:
-                self.take()
-            self.take()
-
-    def autos(self):
-        """Keeps the names of an `auto`, up to its semicolon."""
-        self.take()
-        while self.look() != ";":
-            token = self.take()
-            if token.kind == "name":
-                is_vector = self.tokens[self.at].kind in ("number", "character")
-                self.words.append((token.text, constant_of(self.take()) if is_vector else None))
-
-
-def declared_words(text: str, edition: int) -> List[Tuple[str, List[Tuple[str, Optional[int]]]]]:
-    """The functions of a source in their order, each with its parameters and automatics in theirs. Each has its largest
-    index where it is a vector, or None."""
-    reader, found = _Reader(text, edition), []
-    while reader.look() != "":
-        if definition := reader.definition():
-            found.append(definition)
-    return found

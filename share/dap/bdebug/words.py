@@ -24,11 +24,6 @@ def signed(word: int) -> int:
     return (word & WORD ^ 0x8000) - 0x8000
 
 
-def words_of_vector(last):
-    """How many words an automatic vector takes beside its own, from its largest index; 0 for none."""
-    return 0 if last is None else last + 1
-
-
 def spelled(byte: int) -> str:
     return _ESCAPES.get(byte) or (chr(byte) if 32 <= byte < 127 else "?")
 
