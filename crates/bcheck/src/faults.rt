@@ -136,16 +136,15 @@ fn again(
 fn named_again(name: Name, place: Place, related: Option<Place>, is_prototype: bool) -> Finding
     ensures { matter_code result.matter ≡ codes "rd" }
 {
+    let matter = if is_prototype {
+        Matter::PrototypeBefore
+    } else {
+        Matter::NameAgain
+    };
     Finding {
-        matter: if is_prototype {
-            Matter::PrototypeBefore
-        } else {
-            Matter::NameAgain
-        },
         name: Some(name),
-        other: None,
-        place,
         related,
+        ..Finding::new(matter, place)
     }
 }
 

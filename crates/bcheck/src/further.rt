@@ -13,7 +13,6 @@ use crate::spans::SourceText;
 use crate::told::Setting;
 use crate::unknown::in_whole;
 use blex::{Lexeme, PlacedPiece, Scanner};
-use bword::Name;
 use std::alloc::{AllocError, Global};
 
 /// How many bytes are looked through for the names of findings, at most.
@@ -79,7 +78,7 @@ fn known_in(source: SourceText<'_>, fault: Finding, count: usize) -> Finding
     ensures place { result.place ≡ fault.place }
     ensures code { matter_code result.matter ≡ matter_code fault.matter }
 {
-    if is_too_much(source, count) || name_of(&fault).is_none() {
+    if is_too_much(source, count) || fault.name.is_none() {
         return fault;
     }
     in_whole(source, fault)
@@ -87,11 +86,6 @@ fn known_in(source: SourceText<'_>, fault: Finding, count: usize) -> Finding
 
 fn is_too_much(source: SourceText<'_>, count: usize) -> bool {
     count.saturating_mul(source.text.len()) > LOOKED_THROUGH
-}
-
-// The name that a finding is on.
-fn name_of(fault: &Finding) -> Option<Name> {
-    fault.name
 }
 
 // The text of a section from this place to that one.
@@ -120,19 +114,13 @@ fn moved(fault: Finding, len: usize, start: usize, line: u64) -> Finding
     ensures matter { result.matter ≡ fault.matter }
 {
     let own = Place {
-        line: fault.place.line,
         start: fault.place.start.min(len),
-        len: fault.place.len,
+        ..fault.place
     };
     Finding {
-        matter: fault.matter,
-        name: fault.name,
-        other: fault.other,
         place: shifted(own, start, line),
-        related: match fault.related {
-            Some(place) => Some(shifted(place, start, line)),
-            None => None,
-        },
+        related: fault.related.map(|place| shifted(place, start, line)),
+        ..fault
     }
 }
 

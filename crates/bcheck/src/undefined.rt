@@ -44,76 +44,38 @@ pub(crate) enum UndefinedName {
 }
 
 /// What the files of the folder `lib` define.
+#[rattlefmt::skip]
 const IN_LIBRARY: [(&str, UndefinedName); 47] = [
-    ("abs", UndefinedName::InNumbers),
-    ("assert", UndefinedName::InPrint),
-    ("compare", UndefinedName::InStrings),
-    ("concat", UndefinedName::InStrings),
-    ("copy", UndefinedName::InStrings),
-    ("dump", UndefinedName::InPrint),
-    ("fill", UndefinedName::InVectors),
-    ("flush", UndefinedName::InPrint),
-    ("getline", UndefinedName::InInput),
-    ("getnum", UndefinedName::InInput),
-    ("getstr", UndefinedName::InInput),
-    ("getvec", UndefinedName::InVectors),
-    ("givevec", UndefinedName::InVectors),
-    ("index", UndefinedName::InStrings),
-    ("isalpha", UndefinedName::InStrings),
-    ("isdigit", UndefinedName::InStrings),
-    ("length", UndefinedName::InStrings),
-    ("lower", UndefinedName::InStrings),
-    ("max", UndefinedName::InNumbers),
-    ("min", UndefinedName::InNumbers),
-    ("number", UndefinedName::InNumbers),
-    ("printf", UndefinedName::InPrint),
-    ("prsize", UndefinedName::InPrint),
-    ("prvalue", UndefinedName::InPrint),
-    ("putnumb", UndefinedName::InPrint),
-    ("putoct", UndefinedName::InPrint),
-    ("putstr", UndefinedName::InPrint),
-    ("putuns", UndefinedName::InPrint),
-    ("rand", UndefinedName::InNumbers),
-    ("random", UndefinedName::InNumbers),
-    ("randseed", UndefinedName::InNumbers),
-    ("rlsevec", UndefinedName::InVectors),
-    ("sort", UndefinedName::InVectors),
-    ("sortby", UndefinedName::InVectors),
-    ("test", UndefinedName::InTest),
-    ("testbad", UndefinedName::InTest),
-    ("testnums", UndefinedName::InTest),
-    ("testok", UndefinedName::InTest),
-    ("testput", UndefinedName::InTest),
-    ("testquot", UndefinedName::InTest),
-    ("tests", UndefinedName::InTest),
-    ("testsay", UndefinedName::InTest),
-    ("teststr", UndefinedName::InTest),
-    ("testvec", UndefinedName::InTest),
-    ("upper", UndefinedName::InStrings),
-    ("vecleft", UndefinedName::InVectors),
-    ("vecnext", UndefinedName::InVectors),
+    ("abs", UndefinedName::InNumbers), ("assert", UndefinedName::InPrint), ("compare", UndefinedName::InStrings),
+    ("concat", UndefinedName::InStrings), ("copy", UndefinedName::InStrings), ("dump", UndefinedName::InPrint),
+    ("fill", UndefinedName::InVectors), ("flush", UndefinedName::InPrint), ("getline", UndefinedName::InInput),
+    ("getnum", UndefinedName::InInput), ("getstr", UndefinedName::InInput), ("getvec", UndefinedName::InVectors),
+    ("givevec", UndefinedName::InVectors), ("index", UndefinedName::InStrings), ("isalpha", UndefinedName::InStrings),
+    ("isdigit", UndefinedName::InStrings), ("length", UndefinedName::InStrings), ("lower", UndefinedName::InStrings),
+    ("max", UndefinedName::InNumbers), ("min", UndefinedName::InNumbers), ("number", UndefinedName::InNumbers),
+    ("printf", UndefinedName::InPrint), ("prsize", UndefinedName::InPrint), ("prvalue", UndefinedName::InPrint),
+    ("putnumb", UndefinedName::InPrint), ("putoct", UndefinedName::InPrint), ("putstr", UndefinedName::InPrint),
+    ("putuns", UndefinedName::InPrint), ("rand", UndefinedName::InNumbers), ("random", UndefinedName::InNumbers),
+    ("randseed", UndefinedName::InNumbers), ("rlsevec", UndefinedName::InVectors), ("sort", UndefinedName::InVectors),
+    ("sortby", UndefinedName::InVectors), ("test", UndefinedName::InTest), ("testbad", UndefinedName::InTest),
+    ("testnums", UndefinedName::InTest), ("testok", UndefinedName::InTest), ("testput", UndefinedName::InTest),
+    ("testquot", UndefinedName::InTest), ("tests", UndefinedName::InTest), ("testsay", UndefinedName::InTest),
+    ("teststr", UndefinedName::InTest), ("testvec", UndefinedName::InTest), ("upper", UndefinedName::InStrings),
+    ("vecleft", UndefinedName::InVectors), ("vecnext", UndefinedName::InVectors),
 ];
 
 /// What other languages name otherwise than the files of the folder `lib`.
+#[rattlefmt::skip]
 const IN_C: [(&str, &str, UndefinedName); 18] = [
-    ("atoi", "number", UndefinedName::LikeNumbers),
-    ("calloc", "getvec", UndefinedName::LikeVectors),
-    ("fgets", "getline", UndefinedName::LikeInput),
-    ("gets", "getstr", UndefinedName::LikeInput),
-    ("len", "length", UndefinedName::LikeStrings),
-    ("malloc", "getvec", UndefinedName::LikeVectors),
-    ("memset", "fill", UndefinedName::LikeVectors),
-    ("parseInt", "number", UndefinedName::LikeNumbers),
-    ("puts", "putstr", UndefinedName::LikePrint),
-    ("qsort", "sortby", UndefinedName::LikeVectors),
-    ("scanf", "getnum", UndefinedName::LikeInput),
-    ("strcat", "concat", UndefinedName::LikeStrings),
-    ("strcmp", "compare", UndefinedName::LikeStrings),
-    ("strcpy", "copy", UndefinedName::LikeStrings),
-    ("strlen", "length", UndefinedName::LikeStrings),
-    ("strstr", "index", UndefinedName::LikeStrings),
-    ("tolower", "lower", UndefinedName::LikeStrings),
-    ("toupper", "upper", UndefinedName::LikeStrings),
+    ("atoi", "number", UndefinedName::LikeNumbers), ("calloc", "getvec", UndefinedName::LikeVectors),
+    ("fgets", "getline", UndefinedName::LikeInput), ("gets", "getstr", UndefinedName::LikeInput),
+    ("len", "length", UndefinedName::LikeStrings), ("malloc", "getvec", UndefinedName::LikeVectors),
+    ("memset", "fill", UndefinedName::LikeVectors), ("parseInt", "number", UndefinedName::LikeNumbers),
+    ("puts", "putstr", UndefinedName::LikePrint), ("qsort", "sortby", UndefinedName::LikeVectors),
+    ("scanf", "getnum", UndefinedName::LikeInput), ("strcat", "concat", UndefinedName::LikeStrings),
+    ("strcmp", "compare", UndefinedName::LikeStrings), ("strcpy", "copy", UndefinedName::LikeStrings),
+    ("strlen", "length", UndefinedName::LikeStrings), ("strstr", "index", UndefinedName::LikeStrings),
+    ("tolower", "lower", UndefinedName::LikeStrings), ("toupper", "upper", UndefinedName::LikeStrings),
 ];
 
 impl UndefinedName {
@@ -240,11 +202,8 @@ fn placed(source: &[u8], finding: &Finding, subject: Subject) -> Finding
 {
     let name = name_in(subject);
     Finding {
-        matter: finding.matter,
-        name: finding.name,
-        other: finding.other,
         place: place_named(source, finding.place, &name),
-        related: finding.related,
+        ..*finding
     }
 }
 
@@ -310,11 +269,8 @@ fn on_types(spans: &Spans, token: usize, name: Name) -> Finding
     ensures { IsOn (subject.Typed name) result }
 {
     Finding {
-        matter: Matter::NoTypes,
         name: Some(name),
-        other: None,
-        place: place_of(spans, token),
-        related: None,
+        ..Finding::new(Matter::NoTypes, place_of(spans, token))
     }
 }
 

@@ -209,10 +209,8 @@ pub(crate) fn in_whole(source: SourceText<'_>, fault: Finding) -> Finding
     let (matter, related) = known(&fault, &defined, elsewhere);
     Finding {
         matter,
-        name: fault.name,
-        other: fault.other,
-        place: fault.place,
         related,
+        ..fault
     }
 }
 
