@@ -1,8 +1,7 @@
 //! A `{` or a `}` that is missing, where the layout of the lines shows its place.
 use crate::around::opener_of;
 use crate::draft::Draft;
-use crate::kinds::is_comparison;
-use crate::mends::Site;
+use crate::kinds::Like;
 use crate::name_mends::body_of;
 use crate::near::near_keyword;
 use crate::own_parts::indent_at;
@@ -17,14 +16,15 @@ const LONGEST_IF: usize = 3;
 
 /// A `{` after the head of the function before, or after a heading in it, whose lines stand farther in and end with a
 /// `}`. Whether there is such a place.
-pub(crate) fn brace_by_lines(draft: &mut Draft<'_>, site: Site) -> Result<bool, AllocError> {
+pub(crate) fn brace_by_lines(draft: &mut Draft<'_>) -> Result<bool, AllocError> {
+    let site = draft.site;
     if site.before == site.first {
         return Ok(false);
     }
-    let place = if is_loose(draft, site) {
-        Some(head_end(draft, site))
+    let place = if is_loose(draft) {
+        Some(head_end(draft))
     } else {
-        heading_end(draft, site)
+        heading_end(draft)
     };
     match place {
         Some(closer) => {
@@ -42,33 +42,26 @@ pub(crate) fn indent_of(draft: &Draft<'_>, token: usize) -> usize {
 
 /// Whether a statement that no function has around it stands at the beginning of a line, where those of the function
 /// stand farther in.
-pub(crate) fn is_outdented(draft: &Draft<'_>, site: Site, token: usize) -> bool {
+pub(crate) fn is_outdented(draft: &Draft<'_>, token: usize) -> bool {
     let first = statement_of(draft, token);
     let begins = begins_line(draft, first) && indent_of(draft, first) == 0;
     let is_plain = first.wrapping_add(1) == token;
-    begins && is_plain && first > site.first && indent_of(draft, first.wrapping_sub(1)) > 0
+    begins && is_plain && first > draft.site.first && indent_of(draft, first.wrapping_sub(1)) > 0
 }
 
 /// Whether the statement of a token begins a line that isn't indented, as definitions do, where others of its function
 /// are. A label may stand so.
-pub(crate) fn may_define(draft: &Draft<'_>, site: Site, token: usize) -> bool {
+pub(crate) fn may_define(draft: &Draft<'_>, token: usize) -> bool {
     let first = statement_of(draft, token);
-    let body = match body_of(draft, site) {
-        Some(brace) => brace.saturating_add(1),
-        None => return false,
-    };
-    let begins = begins_line(draft, first) && indent_of(draft, first) == 0;
-    let is_named = matches!(draft.at(first), Lexeme::Name(_))
-        && draft.at(first.saturating_add(1)) != Lexeme::Colon;
-    if !begins || !is_named {
+    let Some(brace) = body_of(draft) else {
         return false;
-    }
-    for at in body..first {
-        if begins_line(draft, at) && indent_of(draft, at) > 0 {
-            return true;
-        }
-    }
-    false
+    };
+    begins_line(draft, first)
+        && indent_of(draft, first) == 0
+        && draft.is(first, &Like::Name)
+        && draft.at(first.saturating_add(1)) != Lexeme::Colon
+        && (brace.saturating_add(1)..first).any(|at| begins_line(draft, at)
+            && indent_of(draft, at) > 0)
 }
 
 /// Whether what ends before a token may be a heading: a brace comes after it, or a line that stands farther in, or it
@@ -99,32 +92,23 @@ fn may_be_keyword(draft: &Draft<'_>, callee: usize, token: usize) -> bool {
     };
     let ends = matches!(draft.at(token), Lexeme::CloseBrace | Lexeme::End);
     let is_short = name.as_bytes().len() <= LONGEST_IF && !begins_line(draft, token);
-    let is_like = near_keyword(&name).is_some() || compares(draft, callee, token);
+    let is_like = near_keyword(&name).is_some() || draft.has(callee, token, &Like::Comparison);
     !ends && (is_like || is_short) && !is_function(draft, callee)
 }
 
-// Whether a comparison stands between two tokens.
-fn compares(draft: &Draft<'_>, first: usize, end: usize) -> bool {
-    for token in first..end {
-        if is_comparison(&draft.at(token)) {
-            return true;
-        }
-    }
-    false
-}
-
 // The `)` of the head of the function before.
-fn head_end(draft: &Draft<'_>, site: Site) -> usize {
-    after_brackets(draft, site.before.saturating_add(1)).wrapping_sub(1)
+fn head_end(draft: &Draft<'_>) -> usize {
+    after_brackets(draft, draft.site.before.saturating_add(1)).wrapping_sub(1)
 }
 
 // Whether the function before has no `{`, and a statement on a line after its head, farther in, as what comes after it
 // does, or a `}`.
-fn is_loose(draft: &Draft<'_>, site: Site) -> bool {
+fn is_loose(draft: &Draft<'_>) -> bool {
+    let site = draft.site;
     if draft.at(site.before.saturating_add(1)) != Lexeme::OpenParen {
         return false;
     }
-    let closer = head_end(draft, site);
+    let closer = head_end(draft);
     let body = closer.wrapping_add(1);
     let own = indent_of(draft, site.before);
     let goes_on = draft.at(site.first) == Lexeme::CloseBrace || indent_of(draft, site.first) > own;
@@ -136,9 +120,9 @@ fn is_loose(draft: &Draft<'_>, site: Site) -> bool {
 }
 
 // The last token of the one heading of the function before whose lines show that its `{` is missing.
-fn heading_end(draft: &Draft<'_>, site: Site) -> Option<usize> {
+fn heading_end(draft: &Draft<'_>) -> Option<usize> {
     let mut found = None;
-    for token in site.before..site.first {
+    for token in draft.site.before..draft.site.first {
         let closer = match draft.at(token) {
             Lexeme::Keyword(Keyword::If | Keyword::While) => {
                 after_brackets(draft, token.saturating_add(1)).wrapping_sub(1)
@@ -146,7 +130,7 @@ fn heading_end(draft: &Draft<'_>, site: Site) -> Option<usize> {
             Lexeme::Keyword(Keyword::Else) => token,
             _ => continue,
         };
-        if lacks_brace(draft, token, closer, site.first) {
+        if lacks_brace(draft, token, closer) {
             if found.is_some() {
                 return None;
             }
@@ -157,19 +141,20 @@ fn heading_end(draft: &Draft<'_>, site: Site) -> Option<usize> {
 }
 
 // Whether the lines after a heading stand farther in than it, up to a `}` below it.
-fn lacks_brace(draft: &Draft<'_>, heading: usize, closer: usize, end: usize) -> bool {
+fn lacks_brace(draft: &Draft<'_>, heading: usize, closer: usize) -> bool {
     let first = closer.saturating_add(1);
     let own = indent_of(draft, heading);
     if draft.at(first) == Lexeme::OpenBrace || !begins_line(draft, first) {
         return false;
     }
-    for token in first..end.saturating_add(1) {
-        if begins_line(draft, token) && indent_of(draft, token) <= own {
-            let is_below = indent_of(draft, token) == own;
-            return token > first && is_below && draft.at(token) == Lexeme::CloseBrace;
+    let below = (first..draft.site.first.saturating_add(1)).find(|token| begins_line(draft, *token)
+        && indent_of(draft, *token) <= own);
+    match below {
+        Some(token) => {
+            token > first && indent_of(draft, token) == own && draft.at(token) == Lexeme::CloseBrace
         }
+        None => false,
     }
-    false
 }
 
 // Whether a token is the first one of its line.

@@ -1,10 +1,9 @@
 //! Edits for bytes that begin no token, and for wrong constants.
 use crate::bytes::{Byte, Constant};
-use crate::draft::{Draft, Part};
+use crate::draft::{Draft, Drafted};
+use crate::kinds::Like;
 use crate::own_parts::line_start;
 use blex::Lexeme;
-use btools::Text;
-use std::alloc::AllocError;
 
 /// How many bytes of values are looked at, at most, after a string whose quote is missing.
 const LONGEST_VALUES: usize = 255;
@@ -13,18 +12,18 @@ const LONGEST_VALUES: usize = 255;
 const WORD_LETTERS: usize = 4;
 
 /// What may stand in the place of a byte that begins no token.
-pub(crate) fn character(draft: &mut Draft<'_>, byte: Byte, start: usize) -> Result<(), AllocError> {
+pub(crate) fn character(draft: &mut Draft<'_>, byte: Byte, start: usize) -> Drafted {
     match byte {
-        Byte::CarriageReturn => take_out(draft, start, 1),
-        Byte::ByteOrderMark => take_out(draft, start, 3),
-        Byte::NoBreakSpace => draft.put(start, start.saturating_add(2), &[Part::Words(b" ")]),
-        Byte::FormFeed => draft.put(start, start.saturating_add(1), &[Part::Words(b" ")]),
-        Byte::Dash => draft.put(start, start.saturating_add(3), &[Part::Words(b"-")]),
+        Byte::CarriageReturn => draft.put(start, start.saturating_add(1), b""),
+        Byte::ByteOrderMark => draft.put(start, start.saturating_add(3), b""),
+        Byte::NoBreakSpace => draft.put(start, start.saturating_add(2), b" "),
+        Byte::FormFeed => draft.put(start, start.saturating_add(1), b" "),
+        Byte::Dash => draft.put(start, start.saturating_add(3), b"-"),
         Byte::CurlyQuote => straight_quotes(draft, start),
         Byte::HashRemark => remark(draft, start, 1),
         Byte::Hash => definition(draft, start),
         Byte::Backslash | Byte::Other if !has_quote(draft.source, start) => {
-            take_out(draft, start, 1)
+            draft.put(start, start.saturating_add(1), b"")
         }
         _ => Ok(()),
     }
@@ -44,40 +43,21 @@ fn has_quote(source: &[u8], place: usize) -> bool {
     false
 }
 
-fn take_out(draft: &mut Draft<'_>, start: usize, count: usize) -> Result<(), AllocError> {
-    draft.put(start, start.saturating_add(count), &[])
-}
-
-// Where a line ends that goes on at this place.
-fn line_end(source: &[u8], start: usize) -> usize {
-    for index in start..source.len() {
-        if matches!(source.get(index), Some(b'\n' | b'\r')) {
-            return index;
-        }
-    }
-    source.len()
+/// Where a line ends that goes on at this place.
+pub(crate) fn line_end(source: &[u8], start: usize) -> usize {
+    let end = (start..source.len()).find(|at| matches!(source.get(*at), Some(b'\n' | b'\r')));
+    end.unwrap_or(source.len())
 }
 
 /// A remark to the end of its line, which begins with so many bytes.
-pub(crate) fn remark(draft: &mut Draft<'_>, start: usize, count: usize) -> Result<(), AllocError> {
+pub(crate) fn remark(draft: &mut Draft<'_>, start: usize, count: usize) -> Drafted {
     let end = line_end(draft.source, start);
-    let words = draft
-        .source
-        .get(start.saturating_add(count)..end)
-        .unwrap_or(&[]);
-    draft.put(
-        start,
-        end,
-        &[
-            Part::Words(b"/* "),
-            Part::Words(words.trim_ascii()),
-            Part::Words(b" */"),
-        ],
-    )
+    let words = draft.slice(start.saturating_add(count), end).trim_ascii();
+    draft.fill(start, end, "/* %0 */", &[words])
 }
 
 // Plain quotes in the place of all curly ones of the rest of a line.
-fn straight_quotes(draft: &mut Draft<'_>, start: usize) -> Result<(), AllocError> {
+fn straight_quotes(draft: &mut Draft<'_>, start: usize) -> Drafted {
     let end = line_end(draft.source, start);
     let mut text = draft.text();
     let mut next = start;
@@ -85,7 +65,7 @@ fn straight_quotes(draft: &mut Draft<'_>, start: usize) -> Result<(), AllocError
         if index < next {
             continue;
         }
-        let rest = draft.source.get(index..end).unwrap_or(&[]);
+        let rest = draft.slice(index, end);
         let (plain, count) = straight(rest);
         text.push(plain)?;
         next = index.saturating_add(count);
@@ -103,30 +83,21 @@ fn straight(text: &[u8]) -> (&[u8], usize) {
 }
 
 // A name with a number, in the place of a `#define` of both; nothing in the place of another line of this kind.
-fn definition(draft: &mut Draft<'_>, start: usize) -> Result<(), AllocError> {
+fn definition(draft: &mut Draft<'_>, start: usize) -> Drafted {
     let end = line_end(draft.source, start);
-    let line = draft.source.get(start..end).unwrap_or(&[]);
+    let line = draft.slice(start, end);
     match line.strip_prefix(b"#define") {
-        Some(words) => draft.put(
-            start,
-            end,
-            &[Part::Words(words.trim_ascii()), Part::Words(b";")],
-        ),
-        None => draft.put(start, end, &[]),
+        Some(words) => draft.fill(start, end, "%0;", &[words.trim_ascii()]),
+        None => draft.put(start, end, b""),
     }
 }
 
 /// What may stand in the place of a wrong constant, which begins with this token.
-pub(crate) fn constant(
-    draft: &mut Draft<'_>,
-    constant: Constant,
-    token: usize,
-) -> Result<(), AllocError> {
+pub(crate) fn constant(draft: &mut Draft<'_>, constant: Constant, token: usize) -> Drafted {
     let start = draft.start(token);
-    let end = line_end(draft.source, start);
-    let line = draft.source.get(start..end).unwrap_or(&[]);
+    let line = draft.slice(start, line_end(draft.source, start));
     if line.starts_with(b"'*'") {
-        draft.put(start, start.saturating_add(3), &[Part::Words(b"'**'")])?;
+        draft.put(start, start.saturating_add(3), b"'**'")?;
     }
     match constant {
         Constant::Octal => digits(draft, line, start),
@@ -138,78 +109,62 @@ pub(crate) fn constant(
 }
 
 /// `*/` in the place of a `*n/` of a comment without an end, which begins at a place.
-pub(crate) fn comment(draft: &mut Draft<'_>, start: usize) -> Result<(), AllocError> {
+pub(crate) fn comment(draft: &mut Draft<'_>, start: usize) -> Drafted {
     match newline_end(draft.source, start) {
-        Some(place) => draft.put(place, place.saturating_add(3), &[Part::Words(b"*/")]),
+        Some(place) => draft.put(place, place.saturating_add(3), b"*/"),
         None => Ok(()),
     }
 }
 
 /// Where a `*n/` stands, from a place on.
 pub(crate) fn newline_end(source: &[u8], start: usize) -> Option<usize> {
-    let rest = source.get(start..).unwrap_or(&[]);
-    for index in 0..rest.len() {
-        if rest.get(index..).unwrap_or(&[]).starts_with(b"*n/") {
-            return Some(start.saturating_add(index));
-        }
-    }
-    None
+    (start..source.len()).find(|at| source.get(*at..).unwrap_or(&[]).starts_with(b"*n/"))
 }
 
 // A number without the zeros before it.
-fn digits(draft: &mut Draft<'_>, line: &[u8], start: usize) -> Result<(), AllocError> {
-    let mut zeros: usize = 0;
-    for byte in line {
-        if *byte != b'0' {
-            break;
-        }
-        zeros = zeros.saturating_add(1);
-    }
-    draft.put(start, start.saturating_add(zeros), &[])
+fn digits(draft: &mut Draft<'_>, line: &[u8], start: usize) -> Drafted {
+    let zeros = line.iter().position(|byte| *byte != b'0');
+    draft.put(
+        start,
+        start.saturating_add(zeros.unwrap_or(line.len())),
+        b"",
+    )
 }
 
 // A string in the place of a constant of many characters. Up to four that are no argument may be meant as a word, and
 // where an odd number of quotes is left on the line, this isn't the one that closes it.
-fn as_string(draft: &mut Draft<'_>, line: &[u8], token: usize) -> Result<(), AllocError> {
+fn as_string(draft: &mut Draft<'_>, line: &[u8], token: usize) -> Drafted {
     let start = draft.start(token);
     let words = line.get(1..).unwrap_or(&[]);
-    let is_argument = matches!(
-        draft.at(token.wrapping_sub(1)),
-        Lexeme::OpenParen | Lexeme::Comma
-    );
-    for index in 0..words.len() {
-        if words.get(index) == Some(&b'\'') {
-            let end = start.saturating_add(index).saturating_add(2);
-            let inner = words.get(..index).unwrap_or(&[]);
-            let rest = words.get(index.saturating_add(1)..).unwrap_or(&[]);
-            let is_word = !is_argument && inner.len() <= WORD_LETTERS;
-            let quotes = rest.iter().filter(|byte| **byte == b'\'').count();
-            if is_word || quotes % 2 == 1 {
-                return Ok(());
-            }
-            return draft.put(
-                start,
-                end,
-                &[Part::Words(b"\""), Part::Words(inner), Part::Words(b"\"")],
-            );
-        }
+    let opening = Like::Either(Lexeme::OpenParen, Lexeme::Comma);
+    let is_argument = draft.is(token.wrapping_sub(1), &opening);
+    let Some(index) = words.iter().position(|byte| *byte == b'\'') else {
+        return Ok(());
+    };
+    let inner = words.get(..index).unwrap_or(&[]);
+    let rest = words.get(index.saturating_add(1)..).unwrap_or(&[]);
+    let quotes = rest.iter().filter(|byte| **byte == b'\'').count();
+    if !is_argument && inner.len() <= WORD_LETTERS || quotes % 2 == 1 {
+        return Ok(());
     }
-    Ok(())
+    let end = start.saturating_add(index).saturating_add(2);
+    draft.fill(start, end, "\"%0\"", &[inner])
 }
 
 // A quote before what ends a line, as `);` does, or before a comma after which values come: as many as the form before
 // it asks for, where `printf` gets it. Where a `;` stands before it, it is a choice. So it is where a single star may be
 // meant as two, which comes first.
-fn closed(draft: &mut Draft<'_>, line: &[u8], start: usize) -> Result<(), AllocError> {
+fn closed(draft: &mut Draft<'_>, line: &[u8], start: usize) -> Drafted {
     let star = single_star(draft.source, start);
     if let Some(place) = star {
         draft.is_choice = true;
-        draft.put(place, place, &[Part::Words(b"*")])?;
+        draft.put(place, place, b"*")?;
     }
-    let quote = line.get(..1).unwrap_or(&[]);
+    let is_string = line.starts_with(b"\"");
+    let quote: &[u8] = if is_string { b"\"" } else { b"'" };
     let end = closing_place(line, open_at(draft.source, start));
     let before = draft.source.get(..start).unwrap_or(&[]);
-    let is_form = line.starts_with(b"\"") && before.ends_with(b"printf(");
+    let is_form = is_string && before.ends_with(b"printf(");
     let (mut values, mut depth): (usize, usize) = (0, 0);
     draft.is_choice = star.is_some() || line.get(..end).unwrap_or(&[]).contains(&b';');
     for back in 0..end.min(LONGEST_VALUES) {
@@ -225,7 +180,7 @@ fn closed(draft: &mut Draft<'_>, line: &[u8], start: usize) -> Result<(), AllocE
         let is_place = back == 0 || depth == 0 && line.get(place) == Some(&b',');
         if is_place && (!is_form || items_in(line.get(..place).unwrap_or(&[])) == values) {
             let at = start.saturating_add(place.max(1));
-            draft.put(at, at, &[Part::Words(quote)])?;
+            draft.put(at, at, quote)?;
         }
     }
     Ok(())
@@ -307,7 +262,7 @@ pub(crate) fn items_in(form: &[u8]) -> usize {
 }
 
 // Two stars in the place of the first one that begins no escape.
-fn doubled(draft: &mut Draft<'_>, line: &[u8], start: usize) -> Result<(), AllocError> {
+fn doubled(draft: &mut Draft<'_>, line: &[u8], start: usize) -> Drafted {
     let mut is_escaped = false;
     for index in 1..line.len() {
         let byte = line.get(index).copied().unwrap_or(b'n');
@@ -318,7 +273,7 @@ fn doubled(draft: &mut Draft<'_>, line: &[u8], start: usize) -> Result<(), Alloc
             )
         {
             let place = start.saturating_add(index);
-            return draft.put(place, place, &[Part::Words(b"*")]);
+            return draft.put(place, place, b"*");
         }
         is_escaped = !is_escaped && byte == b'*';
     }
@@ -326,31 +281,19 @@ fn doubled(draft: &mut Draft<'_>, line: &[u8], start: usize) -> Result<(), Alloc
 }
 
 /// The escapes of another language in a constant or a string, as they are here.
-pub(crate) fn escapes(draft: &mut Draft<'_>, token: usize) -> Result<(), AllocError> {
-    let (start, end) = (draft.start(token), draft.end(token));
-    let words = draft.source.get(start..end).unwrap_or(&[]);
+pub(crate) fn escapes(draft: &mut Draft<'_>, token: usize) -> Drafted {
     let mut text = draft.text();
-    push_escapes(&mut text, words)?;
-    draft.put_text(start, end, text)
-}
-
-fn push_escapes(text: &mut Text, words: &[u8]) -> Result<(), AllocError> {
     let mut is_escaped = false;
-    for byte in words {
+    for byte in draft.bytes(token, token) {
         match *byte {
-            b'\\' if !is_escaped => is_escaped = true,
-            b'\\' => {
-                text.push(b"\\")?;
-                is_escaped = false;
-            }
-            other => {
-                if is_escaped {
-                    text.push(b"*")?;
-                }
+            b'\\' if !is_escaped => {}
+            other if is_escaped && other != b'\\' => {
+                text.push(b"*")?;
                 text.push(&[other])?;
-                is_escaped = false;
             }
+            other => text.push(&[other])?,
         }
+        is_escaped = *byte == b'\\' && !is_escaped;
     }
-    Ok(())
+    draft.put_text(draft.start(token), draft.end(token), text)
 }

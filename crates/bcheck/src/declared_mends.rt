@@ -1,12 +1,11 @@
 //! Declarations of other languages in the words of this one.
-use crate::draft::Draft;
+use crate::draft::{Draft, Drafted};
 use crate::foreign::heading_word;
-use crate::kinds::{depth_after, is_ended, is_type_name};
+use crate::kinds::{Like, depth_after, is_ended, is_type_name};
 use blang::Keyword;
 use blex::Lexeme;
 use btools::Text;
 use bword::BinOp;
-use std::alloc::AllocError;
 
 // Whether a token of a declaration is no part of it here: a type, a word that declares, or the star of a pointer.
 fn is_left_out(lexeme: &Lexeme) -> bool {
@@ -17,14 +16,9 @@ fn is_left_out(lexeme: &Lexeme) -> bool {
     }
 }
 
-// The `;` of a declaration that begins with this token, on its line.
-fn end_of(draft: &Draft<'_>, first: usize) -> Option<usize> {
-    draft.on_line(first, Lexeme::Semicolon)
-}
-
 /// A declaration in a function, whose values are assigned after it.
-pub(crate) fn local(draft: &mut Draft<'_>, first: usize) -> Result<(), AllocError> {
-    let Some(end) = end_of(draft, first) else {
+pub(crate) fn local(draft: &mut Draft<'_>, first: usize) -> Drafted {
+    let Some(end) = draft.on_line(first, Lexeme::Semicolon) else {
         return Ok(());
     };
     if let Some(callee) = called_in(draft, first, end) {
@@ -42,21 +36,18 @@ pub(crate) fn local(draft: &mut Draft<'_>, first: usize) -> Result<(), AllocErro
 // The name that is called right after another name or a number of a declaration, between two tokens: it begins a
 // statement.
 fn called_in(draft: &Draft<'_>, first: usize, end: usize) -> Option<usize> {
-    for token in first.saturating_add(2)..end {
+    (first.saturating_add(2)..end).find(|token| {
         let before = draft.at(token.wrapping_sub(1));
-        let is_apart = is_ended(&before) && !is_left_out(&before);
-        let is_called = matches!(draft.at(token), Lexeme::Name(_))
-            && draft.at(token.saturating_add(1)) == Lexeme::OpenParen;
-        if is_apart && is_called {
-            return Some(token);
-        }
-    }
-    None
+        is_ended(&before)
+            && !is_left_out(&before)
+            && draft.is(*token, &Like::Name)
+            && draft.at(token.saturating_add(1)) == Lexeme::OpenParen
+    })
 }
 
 /// A declaration of externals in a function, which has names alone. One with values says more.
-pub(crate) fn names_alone(draft: &mut Draft<'_>, first: usize) -> Result<(), AllocError> {
-    let Some(end) = end_of(draft, first) else {
+pub(crate) fn names_alone(draft: &mut Draft<'_>, first: usize) -> Drafted {
+    let Some(end) = draft.on_line(first, Lexeme::Semicolon) else {
         return Ok(());
     };
     if let Some(callee) = called_in(draft, first, end) {
@@ -82,7 +73,7 @@ fn push_names(
     first: usize,
     end: usize,
     is_sized: bool,
-) -> Result<(), AllocError> {
+) -> Drafted {
     let mut is_value = false;
     let mut is_next = false;
     let mut depth: u64 = 0;
@@ -109,12 +100,7 @@ fn push_names(
 }
 
 // An assignment for each value between two tokens.
-fn push_values(
-    text: &mut Text,
-    draft: &Draft<'_>,
-    first: usize,
-    end: usize,
-) -> Result<(), AllocError> {
+fn push_values(text: &mut Text, draft: &Draft<'_>, first: usize, end: usize) -> Drafted {
     let mut name = first;
     let mut from = None;
     let mut depth: u64 = 0;
@@ -142,7 +128,7 @@ fn push_value(
     name: usize,
     first: usize,
     last: usize,
-) -> Result<(), AllocError> {
+) -> Drafted {
     if let Lexeme::OpenBrace | Lexeme::OpenBracket = draft.at(first) {
         text.push(b" ")?;
         return push_each(text, draft, name, first, last);
@@ -161,7 +147,7 @@ pub(crate) fn push_each(
     name: usize,
     opener: usize,
     closer: usize,
-) -> Result<(), AllocError> {
+) -> Drafted {
     let (mut from, mut count): (usize, u64) = (opener.saturating_add(1), 0);
     for token in from..closer.saturating_add(1) {
         if token != closer && draft.at(token) != Lexeme::Comma {
@@ -182,7 +168,7 @@ pub(crate) fn push_each(
 }
 
 /// The head of a function without types.
-pub(crate) fn head(draft: &mut Draft<'_>, first: usize) -> Result<(), AllocError> {
+pub(crate) fn head(draft: &mut Draft<'_>, first: usize) -> Drafted {
     let Some(end) = draft.on_line(first, Lexeme::CloseParen) else {
         return Ok(());
     };
@@ -198,8 +184,8 @@ pub(crate) fn head(draft: &mut Draft<'_>, first: usize) -> Result<(), AllocError
 }
 
 /// An external with its values, without types and signs.
-pub(crate) fn definition(draft: &mut Draft<'_>, first: usize) -> Result<(), AllocError> {
-    let Some(end) = end_of(draft, first) else {
+pub(crate) fn definition(draft: &mut Draft<'_>, first: usize) -> Drafted {
+    let Some(end) = draft.on_line(first, Lexeme::Semicolon) else {
         return Ok(());
     };
     let mut text = draft.text();
@@ -221,12 +207,7 @@ pub(crate) fn definition(draft: &mut Draft<'_>, first: usize) -> Result<(), Allo
 }
 
 // One token of an external. A value has a blank before it, and a number after a sign is that of the same word.
-fn push_external(
-    text: &mut Text,
-    draft: &Draft<'_>,
-    token: usize,
-    is_value: bool,
-) -> Result<(), AllocError> {
+fn push_external(text: &mut Text, draft: &Draft<'_>, token: usize, is_value: bool) -> Drafted {
     let before = draft.at(token.wrapping_sub(1));
     if is_value || before == Lexeme::CloseBracket || before == Lexeme::Operator(BinOp::Sub) {
         text.push(b" ")?;

@@ -1,49 +1,42 @@
 //! Edits as they are put together, of words and of tokens of the source.
 use crate::edit::Proposal;
+use crate::finding::Finding;
 use crate::kinds::Like;
+use crate::mends::Site;
+use crate::number_mends::after_operand;
+use crate::own_parts::push_filled;
 use crate::spans::{Spans, lexeme_at};
+use crate::syntax_mends::after_brackets;
 use blex::Lexeme;
 use btools::Text;
-use bword::Name;
 use std::alloc::{AllocError, Global};
 
-/// A part of the text of an edit.
-#[derive(Clone, Copy)]
-pub(crate) enum Part<'a> {
-    Words(&'a [u8]),
-    /// What stands in the source from this token to that one.
-    Tokens(usize, usize),
-    Number(u64),
-}
+/// Nothing, or that memory ran out.
+pub(crate) type Drafted = Result<(), AllocError>;
 
-/// Where the words of a row go, among its tokens.
+/// Where the words of a row go, among what its kinds fit.
 #[derive(Clone, Copy)]
 pub(crate) enum Spot {
     Before(usize),
     After(usize),
-    /// For the tokens from one to another.
+    /// In the place of all from one to another; and of that with the blanks before it, but without the first one.
     For(usize, usize),
+    Past(usize, usize),
 }
 
-/// An edit by the kinds of tokens.
+/// An edit by the kinds of tokens: how many come before the one that is told, the kinds, where words go, and these. In
+/// them `%` and a digit stand for what fits a kind, without the brackets of a group, and `%*` for all that they replace.
 #[derive(Clone, Copy)]
-pub(crate) struct Row {
-    /// How many of these come before the one that is told.
-    pub back: usize,
-    /// Those of tokens in a row.
-    pub kinds: [Like; 5],
-    pub spot: Spot,
-    /// In these `%` and a digit stand for a token.
-    pub words: &'static str,
-}
+pub(crate) struct Row(pub usize, pub [Like; 5], pub Spot, pub &'static str);
 
-/// Proposals for a source with these tokens.
+/// Proposals for what is found among these tokens of a source.
 #[derive(Drop)]
 pub(crate) struct Draft<'a> {
     alloc: Global,
     pub source: &'a [u8],
     pub spans: &'a Spans,
-    name: Option<Name>,
+    pub finding: &'a Finding,
+    pub site: Site,
     /// What is so of what is proposed from now on.
     pub is_choice: bool,
     pub is_guess: bool,
@@ -52,18 +45,20 @@ pub(crate) struct Draft<'a> {
 }
 
 impl<'a> Draft<'a> {
-    /// No proposals for what is found of this name, if it is about one.
+    /// No proposals for what is found at this site.
     pub(crate) fn new(
         alloc: Global,
         source: &'a [u8],
         spans: &'a Spans,
-        name: Option<Name>,
+        finding: &'a Finding,
+        site: Site,
     ) -> Self {
         Draft {
             alloc,
             source,
             spans,
-            name,
+            finding,
+            site,
             is_choice: false,
             is_guess: false,
             is_sure: false,
@@ -79,6 +74,31 @@ impl<'a> Draft<'a> {
     /// The token at a place among the tokens, or the end of the source.
     pub(crate) fn at(&self, token: usize) -> Lexeme {
         lexeme_at(self.spans, token)
+    }
+
+    /// Whether the token at a place is of a kind.
+    pub(crate) fn is(&self, token: usize, kind: &Like) -> bool {
+        kind.fits(&self.at(token))
+    }
+
+    /// Whether one of the tokens from one place up to another is of a kind.
+    pub(crate) fn has(&self, first: usize, end: usize, kind: &Like) -> bool {
+        (first..end).any(|token| self.is(token, kind))
+    }
+
+    /// The first one of the tokens from one place up to another that is of a kind.
+    pub(crate) fn find(&self, first: usize, end: usize, kind: &Like) -> Option<usize> {
+        (first..end).find(|token| self.is(*token, kind))
+    }
+
+    /// The last one of them.
+    pub(crate) fn find_back(&self, first: usize, end: usize, kind: &Like) -> Option<usize> {
+        (first..end).rev().find(|token| self.is(*token, kind))
+    }
+
+    /// How many of them are of a kind.
+    pub(crate) fn count(&self, first: usize, end: usize, kind: &Like) -> usize {
+        (first..end).filter(|token| self.is(*token, kind)).count()
     }
 
     /// Where a token begins.
@@ -105,44 +125,24 @@ impl<'a> Draft<'a> {
         }
     }
 
-    /// What stands in the source from one token to another.
-    pub(crate) fn bytes(&self, first: usize, last: usize) -> &'a [u8] {
-        self.source
-            .get(self.start(first)..self.end(last))
-            .unwrap_or(&[])
+    /// The bytes of the source from one place to another.
+    pub(crate) fn slice(&self, start: usize, end: usize) -> &'a [u8] {
+        self.source.get(start..end).unwrap_or(&[])
     }
 
-    /// Proposes parts in the place of the bytes from here to there.
-    pub(crate) fn put(
-        &mut self,
-        start: usize,
-        end: usize,
-        parts: &[Part<'_>],
-    ) -> Result<(), AllocError> {
-        let mut text = self.text();
-        for part in parts {
-            match *part {
-                Part::Words(words) => text.push(words)?,
-                Part::Tokens(first, last) => text.push(self.bytes(first, last))?,
-                Part::Number(number) => text.push_number(number)?,
-            }
-        }
-        self.put_text(start, end, text)
+    /// What stands in the source from one token to another.
+    pub(crate) fn bytes(&self, first: usize, last: usize) -> &'a [u8] {
+        self.slice(self.start(first), self.end(last))
     }
 
     /// Proposes a text in the place of the bytes from here to there.
-    pub(crate) fn put_text(
-        &mut self,
-        start: usize,
-        end: usize,
-        text: Text,
-    ) -> Result<(), AllocError> {
+    pub(crate) fn put_text(&mut self, start: usize, end: usize, text: Text) -> Drafted {
         let len = end.saturating_sub(start);
         self.all.push(Proposal {
             start,
             len,
             text,
-            name: self.name,
+            name: self.finding.name,
             is_choice: self.is_choice,
             is_guess: self.is_guess,
             is_sure: self.is_sure,
@@ -150,119 +150,146 @@ impl<'a> Draft<'a> {
         Ok(())
     }
 
-    /// Proposes parts in the place of the tokens from one to another.
-    pub(crate) fn replace(
-        &mut self,
-        first: usize,
-        last: usize,
-        parts: &[Part<'_>],
-    ) -> Result<(), AllocError> {
-        self.put(self.start(first), self.end(last), parts)
+    /// Proposes words in the place of the bytes from here to there.
+    pub(crate) fn put(&mut self, start: usize, end: usize, words: &[u8]) -> Drafted {
+        let mut text = self.text();
+        text.push(words)?;
+        self.put_text(start, end, text)
     }
 
-    /// Proposes words before and after the tokens from one to another.
-    pub(crate) fn around<'x>(
+    /// The same, where in the words `%` and a digit stand for a part, and `%*` for what is there.
+    pub(crate) fn fill(
         &mut self,
-        first: usize,
-        last: usize,
-        before: &'x [u8],
-        after: &'x [u8],
-    ) -> Result<(), AllocError> {
-        self.replace(
-            first,
-            last,
-            &[
-                Part::Words(before),
-                Part::Tokens(first, last),
-                Part::Words(after),
-            ],
-        )
+        start: usize,
+        end: usize,
+        words: &str,
+        parts: &[&[u8]],
+    ) -> Drafted {
+        let mut text = self.text();
+        push_filled(&mut text, words, parts, self.slice(start, end))?;
+        self.put_text(start, end, text)
+    }
+
+    /// Proposes a number in the place of the tokens from one to another.
+    pub(crate) fn number(&mut self, first: usize, last: usize, number: u64) -> Drafted {
+        let mut text = self.text();
+        text.push_number(number)?;
+        self.put_text(self.start(first), self.end(last), text)
+    }
+
+    /// Proposes words in the place of the tokens from one to another.
+    pub(crate) fn replace(&mut self, first: usize, last: usize, words: &[u8]) -> Drafted {
+        self.put(self.start(first), self.end(last), words)
+    }
+
+    /// Proposes words, with what is there for each `%*`, in the place of the tokens from one to another.
+    pub(crate) fn around(&mut self, first: usize, last: usize, words: &str) -> Drafted {
+        self.fill(self.start(first), self.end(last), words, &[])
     }
 
     /// Proposes words in the place of a token.
-    pub(crate) fn rename(&mut self, token: usize, words: &[u8]) -> Result<(), AllocError> {
-        self.replace(token, token, &[Part::Words(words)])
+    pub(crate) fn rename(&mut self, token: usize, words: &[u8]) -> Drafted {
+        self.replace(token, token, words)
     }
 
     /// Proposes words before a token.
-    pub(crate) fn before(&mut self, token: usize, words: &[u8]) -> Result<(), AllocError> {
+    pub(crate) fn before(&mut self, token: usize, words: &[u8]) -> Drafted {
         let start = self.start(token);
-        self.put(start, start, &[Part::Words(words)])
+        self.put(start, start, words)
     }
 
     /// Proposes words after a token.
-    pub(crate) fn after(&mut self, token: usize, words: &[u8]) -> Result<(), AllocError> {
+    pub(crate) fn after(&mut self, token: usize, words: &[u8]) -> Drafted {
         let end = self.end(token);
-        self.put(end, end, &[Part::Words(words)])
+        self.put(end, end, words)
+    }
+
+    /// Proposes to take the tokens from one to another out, and no blank.
+    pub(crate) fn take_out(&mut self, first: usize, last: usize) -> Drafted {
+        self.replace(first, last, b"")
     }
 
     /// Proposes what the first row says whose tokens are there.
-    pub(crate) fn by_rows(&mut self, token: usize, rows: &[Row]) -> Result<(), AllocError> {
+    pub(crate) fn by_rows(&mut self, token: usize, rows: &[Row]) -> Drafted {
         for row in rows {
-            let first = token.wrapping_sub(row.back);
-            if Like::fit(&row.kinds, &self.window(first)) {
-                let text = self.filled(first, row.words)?;
-                let (start, end) = self.place_of(first, row.spot);
-                return self.put_text(start, end, text);
+            let first = token.wrapping_sub(row.0);
+            if self.after_kinds(first, &row.1, 5).is_some() {
+                return self.by_row(first, row);
             }
         }
         Ok(())
     }
 
-    // The five tokens from one on.
-    fn window(&self, first: usize) -> [Lexeme; 5] {
-        [
-            self.at(first),
-            self.at(first.wrapping_add(1)),
-            self.at(first.wrapping_add(2)),
-            self.at(first.wrapping_add(3)),
-            self.at(first.wrapping_add(4)),
-        ]
-    }
-
-    // Words with tokens from one on in the places for them.
-    fn filled(&self, first: usize, words: &str) -> Result<Text, AllocError> {
-        let mut text = self.text();
-        let mut is_token = false;
-        for byte in words.as_bytes() {
-            if is_token {
-                let token = first.wrapping_add(usize::from(byte.wrapping_sub(b'0')));
-                text.push(self.bytes(token, token))?;
-            } else if *byte != b'%' {
-                text.push(&[*byte])?;
-            }
-            is_token = *byte == b'%';
+    // Proposes what a row says whose first token this is.
+    fn by_row(&mut self, first: usize, row: &Row) -> Drafted {
+        let mut parts = Vec::new(self.alloc);
+        for index in 0..5 {
+            let (begin, last) = self.run(first, &row.1, index);
+            let inside = match row.1.get(index) {
+                Some(Like::Group(_)) => 1,
+                _ => 0,
+            };
+            parts.push(self.bytes(begin.wrapping_add(inside), last.wrapping_sub(inside)))?;
         }
-        Ok(text)
-    }
-
-    // From where to where the words go of a row whose first token this is.
-    fn place_of(&self, first: usize, spot: Spot) -> (usize, usize) {
-        match spot {
+        let (start, end) = match row.2 {
             Spot::Before(at) => {
-                let place = self.start(first.wrapping_add(at));
+                let place = self.start(self.run(first, &row.1, at).0);
                 (place, place)
             }
             Spot::After(at) => {
-                let place = self.end(first.wrapping_add(at));
+                let place = self.end(self.run(first, &row.1, at).1);
                 (place, place)
             }
             Spot::For(one, other) => (
-                self.start(first.wrapping_add(one)),
-                self.end(first.wrapping_add(other)),
+                self.start(self.run(first, &row.1, one).0),
+                self.end(self.run(first, &row.1, other).1),
             ),
+            Spot::Past(one, other) => (
+                self.end(self.run(first, &row.1, one).1),
+                self.end(self.run(first, &row.1, other).1),
+            ),
+        };
+        self.fill(start, end, row.3, parts.as_slice())
+    }
+
+    // The first and the last token of those that fit the kind at this place.
+    fn run(&self, first: usize, kinds: &[Like; 5], index: usize) -> (usize, usize) {
+        let begin = self.after_kinds(first, kinds, index).unwrap_or(first);
+        let next = index.saturating_add(1);
+        let end = self.after_kinds(first, kinds, next).unwrap_or(begin);
+        (begin, end.wrapping_sub(1))
+    }
+
+    // The token after those from one on that fit so many kinds, if they do.
+    fn after_kinds(&self, first: usize, kinds: &[Like; 5], count: usize) -> Option<usize> {
+        let mut at = first;
+        for index in 0..count.min(5) {
+            at = self.after_kind(at, &kinds[index])?;
         }
+        Some(at)
+    }
+
+    // The token after those that fit a kind from one on, if some do.
+    fn after_kind(&self, at: usize, kind: &Like) -> Option<usize> {
+        let end = match kind {
+            Like::Group(opener) if self.at(at) == *opener => after_brackets(self, at),
+            Like::Value => after_operand(self, at),
+            Like::Until(lexeme) => self.on_line(at, *lexeme)?,
+            _ if kind.fits(&self.at(at)) => at.wrapping_add(1),
+            _ => at,
+        };
+        if end > at { Some(end) } else { None }
     }
 
     /// Proposes to take tokens out, with the blanks after them.
-    pub(crate) fn remove(&mut self, first: usize, last: usize) -> Result<(), AllocError> {
+    pub(crate) fn remove(&mut self, first: usize, last: usize) -> Drafted {
         let next = last.saturating_add(1);
         let end = if self.line(next) == self.line(last) {
             self.start(next)
         } else {
             self.end(last)
         };
-        self.put(self.start(first), end, &[])
+        self.put(self.start(first), end, b"")
     }
 
     /// The next token of this kind from a token on, that stands on the same line.

@@ -39,8 +39,21 @@ pub(crate) enum Like {
     Compares,
     /// `<`, `<=`, `>` and `>=`.
     Relates,
+    /// All of these.
+    Comparison,
     /// `)`, `]`, `,`, `;`, `:` and `}`.
     Closes,
+    /// `;`, `{` and `}`, between which a statement is.
+    Border,
+    /// What a statement may come after: these, and the `)` of a heading.
+    Opening,
+    /// An assignment, `++` and `--`.
+    Sets,
+    /// In a row of an edit all from this bracket to the one that closes it, a whole operand, or what stands before this
+    /// on its line. A token alone fits where one of these begins.
+    Group(Lexeme),
+    Value,
+    Until(Lexeme),
 }
 
 pub(crate) const ANY: Like = Like::Any;
@@ -84,7 +97,22 @@ impl Like {
                 lexeme,
                 Lexeme::Operator(BinOp::Lt | BinOp::Le | BinOp::Gt | BinOp::Ge)
             ),
+            Like::Comparison => matches!(
+                lexeme,
+                Lexeme::Operator(
+                    BinOp::Eq | BinOp::Ne | BinOp::Lt | BinOp::Le | BinOp::Gt | BinOp::Ge
+                )
+            ),
             Like::Closes => closes(lexeme),
+            Like::Border => is_border(lexeme),
+            Like::Opening => is_border(lexeme) || *lexeme == Lexeme::CloseParen,
+            Like::Sets => matches!(
+                lexeme,
+                Lexeme::Assign(_) | Lexeme::Increment | Lexeme::Decrement
+            ),
+            Like::Group(opener) => *lexeme == *opener,
+            Like::Value => is_operand(lexeme),
+            Like::Until(end) => *lexeme != *end,
         }
     }
 
@@ -135,7 +163,7 @@ fn is_type(lexeme: &Lexeme) -> bool {
 
 /// Whether a token compares.
 pub(crate) fn is_comparison(lexeme: &Lexeme) -> bool {
-    Like::Compares.fits(lexeme) || Like::Relates.fits(lexeme)
+    Like::Comparison.fits(lexeme)
 }
 
 /// Whether a token is an operand.
@@ -166,6 +194,13 @@ fn waits(lexeme: &Lexeme) -> bool {
             | Lexeme::OpenParen
             | Lexeme::OpenBracket
             | Lexeme::Keyword(Keyword::Goto | Keyword::Switch)
+    )
+}
+
+fn is_border(lexeme: &Lexeme) -> bool {
+    matches!(
+        lexeme,
+        Lexeme::Semicolon | Lexeme::OpenBrace | Lexeme::CloseBrace
     )
 }
 

@@ -20,7 +20,6 @@ mod finding;
 mod foreign;
 mod form;
 mod further;
-mod further_mends;
 mod json;
 mod kinds;
 mod limits;

@@ -1,15 +1,13 @@
 //! Edits for `&&` and `||`, and for the words `and` and `or`. Each means the same as these do in other languages.
 use crate::around::opener_of;
-use crate::draft::{Draft, Part};
+use crate::draft::{Draft, Drafted};
 use crate::kinds::{
     Like, closes_bracket, depth_after, is_comparison, is_ended, is_word, opens_bracket,
 };
 use crate::syntax_mends::after_brackets;
 use blang::Keyword;
 use blex::Lexeme;
-use btools::Text;
 use bword::BinOp;
-use std::alloc::AllocError;
 
 /// What joins two conditions.
 #[derive(Clone, Copy, PartialEq, Eq)]
@@ -53,7 +51,7 @@ pub(crate) fn mend_logic(
     logic: Logic,
     first: usize,
     last: usize,
-) -> Result<(), AllocError> {
+) -> Drafted {
     let joined = Joined {
         logic,
         left: left_of(draft, logic, first),
@@ -72,7 +70,7 @@ pub(crate) fn mend_logic(
     }
     if is_of_bits(draft, &joined) {
         let words: &[u8] = if logic == Logic::And { b"&" } else { b"|" };
-        return draft.replace(first, last, &[Part::Words(words)]);
+        return draft.replace(first, last, words);
     }
     with_question(draft, &joined)
 }
@@ -99,7 +97,7 @@ fn is_of_bits(draft: &Draft<'_>, joined: &Joined) -> bool {
 }
 
 // One sign in the place of each two, where all operands are 1 or 0, and none after the first one does anything.
-fn single_signs(draft: &mut Draft<'_>, joined: &Joined) -> Result<(), AllocError> {
+fn single_signs(draft: &mut Draft<'_>, joined: &Joined) -> Drafted {
     let mut text = draft.text();
     let mut from = draft.start(joined.left);
     let mut first = joined.right;
@@ -109,11 +107,11 @@ fn single_signs(draft: &mut Draft<'_>, joined: &Joined) -> Result<(), AllocError
                 return Ok(());
             }
             first = first.min(token);
-            push_source(&mut text, draft, from, draft.end(token))?;
+            text.push(draft.slice(from, draft.end(token)))?;
             from = draft.end(token.wrapping_add(1));
         }
     }
-    push_source(&mut text, draft, from, draft.end(joined.right))?;
+    text.push(draft.slice(from, draft.end(joined.right)))?;
     let is_same = is_truth(draft, joined.left, joined.right)
         && has_no_effect(draft, first.wrapping_add(2), joined.right);
     if !is_same {
@@ -122,17 +120,8 @@ fn single_signs(draft: &mut Draft<'_>, joined: &Joined) -> Result<(), AllocError
     draft.put_text(draft.start(joined.left), draft.end(joined.right), text)
 }
 
-fn push_source(
-    text: &mut Text,
-    draft: &Draft<'_>,
-    from: usize,
-    end: usize,
-) -> Result<(), AllocError> {
-    text.push(draft.source.get(from..end).unwrap_or(&[]))
-}
-
 // The form with `?` in the place of both operands. Where its value is used, it is 1 or 0.
-fn with_question(draft: &mut Draft<'_>, joined: &Joined) -> Result<(), AllocError> {
+fn with_question(draft: &mut Draft<'_>, joined: &Joined) -> Drafted {
     let (before, next) = (joined.first.wrapping_sub(1), joined.last.wrapping_add(1));
     let is_plain = is_condition(draft, joined) || is_truth(draft, next, joined.right);
     let is_split = has_at_level(draft, next, joined.right, Lexeme::Operator(BinOp::Or))
@@ -149,20 +138,13 @@ fn with_question(draft: &mut Draft<'_>, joined: &Joined) -> Result<(), AllocErro
     let is_alone = is_alone(draft, joined);
     let (first, last): (&[u8], &[u8]) = if is_alone { (b"", b"") } else { (b"(", b")") };
     draft.is_choice = true;
-    draft.replace(
-        joined.left,
-        joined.right,
-        &[
-            Part::Words(first),
-            Part::Tokens(joined.left, before),
-            Part::Words(asks),
-            Part::Words(open),
-            Part::Tokens(next, joined.right),
-            Part::Words(close),
-            Part::Words(ends),
-            Part::Words(last),
-        ],
-    )
+    let left = draft.bytes(joined.left, before);
+    let right = draft.bytes(next, joined.right);
+    let mut text = draft.text();
+    for part in [first, left, asks, open, right, close, ends, last] {
+        text.push(part)?;
+    }
+    draft.put_text(draft.start(joined.left), draft.end(joined.right), text)
 }
 
 // The first token of the operand before an operator.
@@ -290,12 +272,7 @@ fn has_at_level(draft: &Draft<'_>, from: usize, last: usize, lexeme: Lexeme) -> 
 
 // Whether one of these tokens joins conditions so, by two signs or its word.
 fn has_logic(draft: &Draft<'_>, from: usize, last: usize, logic: Logic) -> bool {
-    for token in from..last.saturating_add(1) {
-        if logic.is_at(draft, token) {
-            return true;
-        }
-    }
-    false
+    (from..last.saturating_add(1)).any(|token| logic.is_at(draft, token))
 }
 
 // Whether these tokens do nothing, can't be a trap and read through no address.

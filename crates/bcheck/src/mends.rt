@@ -36,25 +36,23 @@ pub(crate) fn proposals(
     tokens: &Spans,
     finding: &Finding,
 ) -> Result<Vec<Proposal>, AllocError> {
-    let mut draft = Draft::new(alloc, bench.source.text, tokens, finding.name);
+    let site = site_of(bench, tokens, finding);
+    let mut draft = Draft::new(alloc, bench.source.text, tokens, finding, site);
     if bench.tries() == 0 || bench.files.beyond_first(finding.place.line).is_some() {
         return Ok(draft.all);
     }
-    let site = site_of(bench, tokens, finding);
-    let token = site.token;
+    let (token, start) = (site.token, finding.place.start);
     match finding.matter {
-        Matter::Character(byte) => byte_mends::character(&mut draft, byte, finding.place.start)?,
-        Matter::OpenComment => byte_mends::comment(&mut draft, finding.place.start)?,
+        Matter::Character(byte) => byte_mends::character(&mut draft, byte, start)?,
+        Matter::OpenComment => byte_mends::comment(&mut draft, start)?,
         Matter::Constant(constant) => byte_mends::constant(&mut draft, constant, token)?,
-        Matter::Syntax(syntax) => syntax_mends::of_syntax(&mut draft, site, syntax, finding)?,
-        Matter::PrototypeBefore => name_mends::prototype(&mut draft, finding)?,
-        Matter::NameAgain => warning_mends::declared_again(&mut draft, site, finding)?,
-        Matter::NotLvalue(lvalue) => name_mends::of_lvalue(&mut draft, site, lvalue, finding)?,
-        Matter::Unknown(unknown) => name_mends::of_unknown(&mut draft, site, unknown, finding)?,
-        Matter::NotDefined(undefined) => name_mends::of_undefined(
-            &mut draft, site, undefined, finding,
-        )?,
-        Matter::Warning(warning) => warning_mends::of_warning(&mut draft, site, warning, finding)?,
+        Matter::Syntax(syntax) => syntax_mends::of_syntax(&mut draft, syntax)?,
+        Matter::PrototypeBefore => name_mends::prototype(&mut draft)?,
+        Matter::NameAgain => warning_mends::declared_again(&mut draft)?,
+        Matter::NotLvalue(lvalue) => name_mends::of_lvalue(&mut draft, lvalue)?,
+        Matter::Unknown(unknown) => name_mends::of_unknown(&mut draft, unknown)?,
+        Matter::NotDefined(undefined) => name_mends::of_undefined(&mut draft, undefined)?,
+        Matter::Warning(warning) => warning_mends::of_warning(&mut draft, warning)?,
         _ => {}
     }
     Ok(draft.all)

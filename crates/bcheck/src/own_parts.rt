@@ -1,6 +1,7 @@
 //! Fixes that are put together of what stands in the source.
 use crate::advice::Matter;
 use crate::byte_mends::newline_end;
+use crate::draft::Drafted;
 use crate::finding::{Finding, Place, SecondPlace};
 use crate::kinds::is_type_name;
 use crate::syntax::Syntax;
@@ -8,6 +9,10 @@ use blint::Warning;
 use btools::Text;
 use bword::Name;
 use std::alloc::{AllocError, Global};
+
+/// Words, in which `%` and a digit stand for one of the parts after them.
+#[derive(Clone, Copy)]
+struct Fix<'a>(&'static str, &'a [u8], &'a [u8], &'a [u8]);
 
 /// The fix of a finding, if it is put together of what stands there: a loop of the parts of its header, the line after
 /// which a brace is missing, or the first value of a product.
@@ -18,46 +23,58 @@ pub(crate) fn own_fix(
     file: &str,
     second: &Option<SecondPlace<'_>>,
 ) -> Result<Option<Text>, AllocError> {
-    let rest = source.get(finding.place.start..).unwrap_or(&[]);
-    match (finding.matter, &finding.related, second) {
-        (Matter::OpenComment, _, _) => comment_end(alloc, source, finding.place.start),
-        (Matter::Syntax(Syntax::For), _, _) => loop_of_header(alloc, rest),
-        (Matter::Syntax(Syntax::ForEach), _, _) => loop_of_range(alloc, rest),
-        (Matter::Warning(Warning::Unset), _, _) => product(alloc, rest, finding.place.len),
-        (Matter::Warning(Warning::QuotientCut), _, _) => quotient(
-            alloc,
-            source,
-            finding.place.start,
-        ),
-        (Matter::Warning(Warning::ResultDropped), _, _) => kept(alloc, rest),
-        (Matter::Warning(Warning::StoredBack), _, _) => swapped(alloc, rest),
-        (Matter::Syntax(Syntax::BraceOpen | Syntax::FunctionInside), Some(brace), Some(second)) =>
-            after_line(alloc, source, brace, file, second),
-        _ => Ok(None),
+    let start = finding.place.start;
+    let rest = source.get(start..).unwrap_or(&[]);
+    let fix = match (finding.matter, &finding.related, second) {
+        (Matter::OpenComment, _, _) => comment_end(source, start),
+        (Matter::Syntax(Syntax::For), _, _) => return loop_of_header(alloc, rest),
+        (Matter::Syntax(Syntax::ForEach), _, _) => loop_of_range(rest),
+        (Matter::Warning(Warning::Unset), _, _) => product(rest, finding.place.len),
+        (Matter::Warning(Warning::QuotientCut), _, _) => return quotient(alloc, source, start),
+        (Matter::Warning(Warning::ResultDropped), _, _) => kept(rest),
+        (Matter::Warning(Warning::StoredBack), _, _) => swapped(rest),
+        (Matter::Syntax(Syntax::BraceOpen | Syntax::FunctionInside), Some(brace), Some(second)) => {
+            return after_line(alloc, source, brace, file, second);
+        }
+        _ => None,
+    };
+    let Some(Fix(words, first, second, third)) = fix else {
+        return Ok(None);
+    };
+    let mut text = Text::new(alloc);
+    push_filled(&mut text, words, &[first, second, third], b"")?;
+    Ok(Some(text))
+}
+
+/// Adds words, in which `%` and a digit stand for a part, and `%*` for the whole.
+pub(crate) fn push_filled(text: &mut Text, words: &str, parts: &[&[u8]], whole: &[u8]) -> Drafted {
+    let mut is_part = false;
+    for byte in words.as_bytes() {
+        if is_part {
+            let index = usize::from(byte.wrapping_sub(b'0'));
+            text.push(parts.get(index).copied().unwrap_or(whole))?;
+        } else if *byte != b'%' {
+            text.push(&[*byte])?;
+        }
+        is_part = *byte == b'%';
     }
+    Ok(())
 }
 
 // What is no end of a comment.
-fn comment_end(alloc: Global, source: &[u8], start: usize) -> Result<Option<Text>, AllocError> {
-    if newline_end(source, start).is_none() {
-        return Ok(None);
-    }
-    let mut text = Text::new(alloc);
-    text.push(b"*n/ is no end of it: write */ there")?;
-    Ok(Some(text))
+fn comment_end(source: &[u8], start: usize) -> Option<Fix<'_>> {
+    let _end = newline_end(source, start)?;
+    Some(Fix("*n/ is no end of it: write */ there", b"", b"", b""))
 }
 
 // What a product begins with, where a name of so many bytes is multiplied.
-fn product(alloc: Global, rest: &[u8], len: usize) -> Result<Option<Text>, AllocError> {
+fn product(rest: &[u8], len: usize) -> Option<Fix<'_>> {
     let next = rest.get(len..).unwrap_or(&[]).trim_ascii();
     if next.get(0) != Some(&b'*') && next.get(..2) != Some(b"=*") {
-        return Ok(None);
+        return None;
     }
-    let mut text = Text::new(alloc);
-    text.push(b"set it first: ")?;
-    text.push(up_to(rest, len))?;
-    text.push(b" = 1; for a product")?;
-    Ok(Some(text))
+    let name = up_to(rest, len);
+    Some(Fix("set it first: %0 = 1; for a product", name, b"", b""))
 }
 
 // What a quotient of two numbers is, whose sign is at this place.
@@ -72,13 +89,10 @@ fn quotient(alloc: Global, source: &[u8], sign: usize) -> Result<Option<Text>, A
         return Ok(None);
     }
     let mut text = Text::new(alloc);
-    for part in [dividend, b" / ", divisor, b" is "] {
-        text.push(part)?;
-    }
+    let parts = [dividend, divisor];
+    push_filled(&mut text, "%0 / %1 is ", &parts, b"")?;
     text.push_number(one / other)?;
-    for part in [b", so multiply first: ", dividend, b" * x / ", divisor] {
-        text.push(part)?;
-    }
+    push_filled(&mut text, ", so multiply first: %0 * x / %1", &parts, b"")?;
     Ok(Some(text))
 }
 
@@ -97,79 +111,48 @@ fn value_of(digits: &[u8]) -> Option<u64> {
 
 // The digits with which bytes begin, and those with which they end.
 fn digits(bytes: &[u8]) -> &[u8] {
-    for end in 0..bytes.len() {
-        if !matches!(bytes.get(end), Some(b'0'..=b'9')) {
-            return bytes.get(..end).unwrap_or(&[]);
-        }
+    match bytes.iter().position(|byte| !byte.is_ascii_digit()) {
+        Some(end) => bytes.get(..end).unwrap_or(&[]),
+        None => bytes,
     }
-    bytes
 }
 
 fn digits_at_end(bytes: &[u8]) -> &[u8] {
-    for count in 0..bytes.len() {
-        let first = bytes.len().saturating_sub(count);
-        if !matches!(bytes.get(first.saturating_sub(1)), Some(b'0'..=b'9')) {
-            return bytes.get(first..).unwrap_or(&[]);
-        }
+    match bytes.iter().rev().position(|byte| !byte.is_ascii_digit()) {
+        Some(count) => bytes
+            .get(bytes.len().saturating_sub(count)..)
+            .unwrap_or(&[]),
+        None => bytes,
     }
-    bytes
 }
 
 // An assignment of what a call gives, to the name that is its first argument.
-fn kept(alloc: Global, rest: &[u8]) -> Result<Option<Text>, AllocError> {
-    let opener = rest.iter().position(|byte| *byte == b'(');
-    let (Some(opener), Some(arguments)) = (opener, in_parentheses(rest)) else {
-        return Ok(None);
-    };
-    let first = match place_of(arguments, b',') {
-        Some(comma) => up_to(arguments, comma),
-        None => arguments.trim_ascii(),
-    };
-    if Name::from_bytes(first).is_none() {
-        return Ok(None);
-    }
-    let mut text = Text::new(alloc);
-    for part in [
-        first,
-        b" = ",
-        up_to(rest, opener),
-        b"(",
-        arguments,
-        b"); keeps it",
-    ] {
-        text.push(part)?;
-    }
-    Ok(Some(text))
+fn kept(rest: &[u8]) -> Option<Fix<'_>> {
+    let opener = rest.iter().position(|byte| *byte == b'(')?;
+    let arguments = in_parentheses(rest)?;
+    let end = place_of(arguments, b',').unwrap_or(arguments.len());
+    let (first, callee) = (up_to(arguments, end), up_to(rest, opener));
+    let _name = Name::from_bytes(first)?;
+    Some(Fix("%0 = %1(%2); keeps it", first, callee, arguments))
 }
 
 // How two characters of a string are swapped, of which the second one is stored by this call.
-fn swapped(alloc: Global, rest: &[u8]) -> Result<Option<Text>, AllocError> {
+fn swapped(rest: &[u8]) -> Option<Fix<'_>> {
     if rest.get(..5) != Some(b"lchar") {
-        return Ok(None);
+        return None;
     }
-    let Some(arguments) = in_parentheses(rest) else {
-        return Ok(None);
-    };
-    let Some(first) = place_of(arguments, b',') else {
-        return Ok(None);
-    };
+    let arguments = in_parentheses(rest)?;
+    let first = place_of(arguments, b',')?;
     let others = after(arguments, first);
-    let Some(second) = place_of(others, b',') else {
-        return Ok(None);
-    };
-    let mut text = Text::new(alloc);
-    for part in [
-        b"c = ",
-        after(others, second),
-        b"; before both, and here lchar(",
-        up_to(arguments, first),
-        b", ",
-        up_to(others, second),
-        b", c);",
-    ] {
-        text.push(part)?;
-    }
-    Ok(Some(text))
+    let second = place_of(others, b',')?;
+    let string = up_to(arguments, first);
+    let (place, value) = (up_to(others, second), after(others, second));
+    Some(Fix(
+        "c = %0; before both, and here lchar(%1, %2, c);",
+        value,
+        string,
+        place,
+    ))
 }
 
 // What stands in the parentheses after a word, up to the end of the line, if no quote is there.
@@ -222,23 +205,22 @@ fn after(bytes: &[u8], place: usize) -> &[u8] {
 
 // A loop of the three parts of the header of a `for`.
 fn loop_of_header(alloc: Global, rest: &[u8]) -> Result<Option<Text>, AllocError> {
-    let Some(header) = in_parentheses(rest) else {
-        return Ok(None);
-    };
-    let mark = if place_of(header, b';').is_some() {
-        b';'
-    } else {
-        b','
-    };
-    let Some(first) = place_of(header, mark) else {
-        return Ok(None);
-    };
+    match parts_of_header(rest) {
+        Some((begin, condition, step)) => looped(alloc, begin, condition, step),
+        None => Ok(None),
+    }
+}
+
+fn parts_of_header(rest: &[u8]) -> Option<(&[u8], &[u8], &[u8])> {
+    let header = in_parentheses(rest)?;
+    let is_plain = place_of(header, b';').is_some();
+    let mark = if is_plain { b';' } else { b',' };
+    let first = place_of(header, mark)?;
     let others = after(header, first);
-    let Some(second) = place_of(others, mark) else {
-        return Ok(None);
-    };
+    let second = place_of(others, mark)?;
     let begin = untyped(up_to(header, first));
-    looped(alloc, begin, up_to(others, second), after(others, second))
+    let (condition, step) = (up_to(others, second), after(others, second));
+    Some((begin, condition, step))
 }
 
 // A loop that begins with a statement, goes on as long as a condition holds, and ends each turn with a step.
@@ -269,7 +251,7 @@ fn looped(
 }
 
 // Statements that stand with commas between them, with the `=` of an assignment before its operator.
-fn push_statements(text: &mut Text, statements: &[u8]) -> Result<(), AllocError> {
+fn push_statements(text: &mut Text, statements: &[u8]) -> Drafted {
     let mut rest = statements;
     for _ in 0..statements.len() {
         let Some(comma) = place_of(rest, b',') else {
@@ -282,7 +264,7 @@ fn push_statements(text: &mut Text, statements: &[u8]) -> Result<(), AllocError>
     Ok(())
 }
 
-fn push_statement(text: &mut Text, statement: &[u8]) -> Result<(), AllocError> {
+fn push_statement(text: &mut Text, statement: &[u8]) -> Drafted {
     let mut is_turned = false;
     for index in 0..statement.len() {
         let byte = statement.get(index).copied().unwrap_or(b' ');
@@ -312,42 +294,23 @@ fn untyped(begin: &[u8]) -> &[u8] {
 }
 
 // A loop that counts, of `for i in range(a, b)`.
-fn loop_of_range(alloc: Global, rest: &[u8]) -> Result<Option<Text>, AllocError> {
-    let Some(range) = in_parentheses(rest) else {
-        return Ok(None);
-    };
+fn loop_of_range(rest: &[u8]) -> Option<Fix<'_>> {
+    let range = in_parentheses(rest)?;
     let head = after(rest, 2);
-    let Some(blank) = place_of(head, b' ') else {
-        return Ok(None);
-    };
-    let name = up_to(head, blank);
+    let blank = place_of(head, b' ')?;
     let called = after(head, blank);
-    if called.get(..8) != Some(b"in range") || place_of(range, b',').is_none() && range.is_empty() {
-        return Ok(None);
+    if called.get(..8) != Some(b"in range") || range.is_empty() {
+        return None;
     }
     let (first, last) = match place_of(range, b',') {
         Some(comma) => (up_to(range, comma), after(range, comma)),
         None => (&b"0"[..], range),
     };
     if place_of(last, b',').is_some() {
-        return Ok(None);
+        return None;
     }
-    let mut text = Text::new(alloc);
-    for part in [
-        name,
-        b" = ",
-        first,
-        b"; while(",
-        name,
-        b" < ",
-        last.trim_ascii(),
-        b") { .. ",
-        name,
-        b"++; }",
-    ] {
-        text.push(part)?;
-    }
-    Ok(Some(text))
+    let (name, limit) = (up_to(head, blank), last.trim_ascii());
+    Some(Fix("%0 = %1; while(%0 < %2) { .. %0++; }", name, first, limit))
 }
 
 // The line after which the `}` of a brace is missing, and its file, if it is another one.

@@ -4,7 +4,7 @@ use crate::brace_mends::{is_heading, may_define};
 use crate::draft::Draft;
 use crate::edit::Proposal;
 use crate::finding::Finding;
-use crate::kinds::is_operand;
+use crate::kinds::{Like, is_operand};
 use crate::mending::Bench;
 use crate::mends::site_of;
 use crate::spans::{Spans, is_joined};
@@ -21,7 +21,8 @@ pub(crate) fn semicolons(
     tokens: &Spans,
     finding: &Finding,
 ) -> Result<Vec<Proposal>, AllocError> {
-    let mut draft = Draft::new(alloc, bench.source.text, tokens, finding.name);
+    let site = site_of(bench, tokens, finding);
+    let mut draft = Draft::new(alloc, bench.source.text, tokens, finding, site);
     let Matter::Syntax(syntax) = finding.matter else {
         return Ok(draft.all);
     };
@@ -30,8 +31,7 @@ pub(crate) fn semicolons(
     }
     let seen = bench.judgement.compiled.end;
     let first = first_on_line(&draft, seen);
-    let site = site_of(bench, tokens, finding);
-    if is_heading(&draft, seen) || may_define(&draft, site, seen) {
+    if is_heading(&draft, seen) || may_define(&draft, seen) {
         return Ok(draft.all);
     }
     draft.is_sure = true;
@@ -51,13 +51,9 @@ pub(crate) fn is_of_assignment(finding: &Finding) -> bool {
 
 // The first token on the line of a token.
 fn first_on_line(draft: &Draft<'_>, token: usize) -> usize {
-    for back in 0..token {
-        let at = token.saturating_sub(back);
-        if draft.line(at.wrapping_sub(1)) != draft.line(token) {
-            return at;
-        }
-    }
-    0
+    let line = draft.line(token);
+    let last = (0..token).rfind(|at| draft.line(*at) != line);
+    last.map_or(0, |at| at.saturating_add(1))
 }
 
 // Whether a `;` may lack before the first token of a line. If what is found stands before it, or if it is meant to go
@@ -114,13 +110,11 @@ fn does_something(draft: &Draft<'_>, token: usize) -> bool {
         return true;
     }
     for at in token..draft.spans.end() {
-        if draft.line(at) != draft.line(token) {
+        if draft.line(at) != draft.line(token) || draft.is(at, &Like::Border) {
             return false;
         }
-        match draft.at(at) {
-            Lexeme::Assign(_) | Lexeme::Increment | Lexeme::Decrement => return true,
-            Lexeme::Semicolon | Lexeme::OpenBrace | Lexeme::CloseBrace => return false,
-            _ => {}
+        if draft.is(at, &Like::Sets) {
+            return true;
         }
     }
     false

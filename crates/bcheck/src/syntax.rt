@@ -500,40 +500,22 @@ struct Tried<'a> {
 }
 
 fn outside(tried: &Tried<'_>) -> Option<(Syntax, Marking)> {
-    beginnings(tried).or(first_of(tried, &OUTSIDE))
-}
-
-fn beginnings(tried: &Tried<'_>) -> Option<(Syntax, Marking)> {
-    first_of(tried, &BEGINNINGS)
+    first_of(tried, &BEGINNINGS).or(first_of(tried, &OUTSIDE))
 }
 
 fn in_body(tried: &Tried<'_>) -> Option<(Syntax, Marking)> {
-    beginnings(tried)
-        .or(words(tried))
-        .or(operands(tried))
-        .or(rest(tried))
-}
-
-fn words(tried: &Tried<'_>) -> Option<(Syntax, Marking)> {
-    first_of(tried, &DECLARATIONS).or(first_of(tried, &WORDS))
-}
-
-fn operands(tried: &Tried<'_>) -> Option<(Syntax, Marking)> {
-    first_of(tried, &OPERANDS)
-}
-
-fn rest(tried: &Tried<'_>) -> Option<(Syntax, Marking)> {
-    first_of(tried, &STATEMENTS).or(first_of(tried, &REST))
+    first_of(tried, &BEGINNINGS)
+        .or(first_of(tried, &DECLARATIONS))
+        .or(first_of(tried, &WORDS))
+        .or(first_of(tried, &OPERANDS))
+        .or(first_of(tried, &STATEMENTS))
+        .or(first_of(tried, &REST))
 }
 
 // What the first row says that fits.
 fn first_of(tried: &Tried<'_>, rows: &[Mistake]) -> Option<(Syntax, Marking)> {
-    for row in rows {
-        if fits(row, tried) {
-            return Some((row.3, row.4));
-        }
-    }
-    None
+    let row = rows.iter().find(|row| fits(row, tried))?;
+    Some((row.3, row.4))
 }
 
 fn window(spans: &Spans, around: &Around) -> [Lexeme; 5] {
@@ -622,7 +604,7 @@ fn open_before(spans: &Spans, token: usize) -> u64 {
             Lexeme::CloseParen | Lexeme::CloseBracket => depth = depth.saturating_add(1),
             Lexeme::OpenParen | Lexeme::OpenBracket if depth == 0 => open = open.saturating_add(1),
             Lexeme::OpenParen | Lexeme::OpenBracket => depth = depth.saturating_sub(1),
-            Lexeme::Semicolon | Lexeme::OpenBrace | Lexeme::CloseBrace => return open,
+            lexeme if Like::Border.fits(&lexeme) => return open,
             _ => {}
         }
     }
@@ -639,7 +621,7 @@ fn closing_from(spans: &Spans, token: usize) -> u64 {
                 closed = closed.saturating_add(1);
             }
             Lexeme::CloseParen | Lexeme::CloseBracket => depth = depth.saturating_sub(1),
-            Lexeme::Semicolon | Lexeme::OpenBrace | Lexeme::CloseBrace => return closed,
+            lexeme if Like::Border.fits(&lexeme) => return closed,
             _ => {}
         }
     }
@@ -692,22 +674,13 @@ fn is_after(spans: &Spans, closer: usize, keyword: &Like) -> bool {
 
 // Whether a token stands before another one, too.
 fn is_named_between(spans: &Spans, end: usize, lexeme: &Lexeme) -> bool {
-    for at in spans.first..end {
-        if lexeme_at(spans, at) == *lexeme {
-            return true;
-        }
-    }
-    false
+    (spans.first..end).any(|at| lexeme_at(spans, at) == *lexeme)
 }
 
 // Whether a `;` comes right after the first `)` after a token.
 fn is_prototype(spans: &Spans, token: usize) -> bool {
-    for at in token..spans.end() {
-        if lexeme_at(spans, at) == Lexeme::CloseParen {
-            return lexeme_at(spans, at.wrapping_add(1)) == Lexeme::Semicolon;
-        }
-    }
-    false
+    let closer = (token..spans.end()).find(|at| lexeme_at(spans, *at) == Lexeme::CloseParen);
+    closer.is_some_and(|at| lexeme_at(spans, at.wrapping_add(1)) == Lexeme::Semicolon)
 }
 
 // Whether a `)` that no parenthesis from a token on opens comes before a `;`.
@@ -718,7 +691,7 @@ fn is_unopened(spans: &Spans, token: usize) -> bool {
             Lexeme::OpenParen => depth = depth.saturating_add(1),
             Lexeme::CloseParen if depth == 0 => return true,
             Lexeme::CloseParen => depth = depth.saturating_sub(1),
-            Lexeme::Semicolon | Lexeme::OpenBrace | Lexeme::CloseBrace => return false,
+            lexeme if Like::Border.fits(&lexeme) => return false,
             _ => {}
         }
     }

@@ -1,24 +1,27 @@
 //! Edits for a token with which no program goes on.
 use crate::around::opener_of;
 use crate::brace_mends::{brace_by_lines, indent_of, is_heading, is_outdented, may_define};
-use crate::byte_mends::{items_in, remark};
+use crate::byte_mends::{items_in, line_end, remark};
 use crate::declared_mends::{definition, head, local, names_alone, push_each};
-use crate::draft::{Draft, Part, Row, Spot};
-use crate::finding::Finding;
+use crate::draft::Spot::{Before, For, Past};
+use crate::draft::{Draft, Drafted, Row};
 use crate::foreign::Foreign;
-use crate::further_mends::assigned_left;
-use crate::kinds::{ANY, Like, depth_after, is_comparison, is_ended, is_word};
+use crate::kinds::Like::{self, Either, Is, Op, Until};
+use crate::kinds::{ANY, depth_after, is_comparison, is_ended, is_word};
 use crate::logic_mends::{Logic, mend_logic};
-use crate::mends::{Site, token_at};
+use crate::mends::token_at;
 use crate::name_mends::body_of;
 use crate::near::near_keyword;
 use crate::own_parts::body_end;
 use crate::semicolon_mends::may_begin;
+use crate::slip_mends::assigned_left;
 use crate::syntax::Syntax;
-use crate::warning_mends::{arguments_asked, arguments_between, as_character, is_function};
+use crate::warning_mends::{arguments_asked, arguments_between, is_function, quoted};
 use blang::Keyword;
 use blex::Lexeme;
-use bword::{BinOp, Name};
+use blex::Lexeme::{Assign, Colon, OpenBrace, OpenBracket, Operator, Semicolon};
+use bword::BinOp::{Eq, Ge, Gt, Le, Lt, Ne};
+use bword::Name;
 use std::alloc::AllocError;
 
 /// How many tokens before a `]` are looked at for its `[`.
@@ -27,60 +30,52 @@ const MOST_INDEX: usize = 8;
 /// One comparison in the place of its sign and an `=` after it.
 #[rattlefmt::skip]
 const COMPARED: [Row; 4] = [
-    Row { back: 0, kinds: [Like::Op(BinOp::Eq), ANY, ANY, ANY, ANY], spot: Spot::For(0, 1), words: "==" },
-    Row { back: 0, kinds: [Like::Op(BinOp::Ne), ANY, ANY, ANY, ANY], spot: Spot::For(0, 1), words: "!=" },
-    Row {
-        back: 0,
-        kinds: [
-            Like::Either(Lexeme::Operator(BinOp::Lt), Lexeme::Operator(BinOp::Le)), ANY, ANY, ANY, ANY,
-        ],
-        spot: Spot::For(0, 1),
-        words: "<=",
-    },
-    Row {
-        back: 0,
-        kinds: [
-            Like::Either(Lexeme::Operator(BinOp::Gt), Lexeme::Operator(BinOp::Ge)), ANY, ANY, ANY, ANY,
-        ],
-        spot: Spot::For(0, 1),
-        words: ">=",
-    },
+    Row(0, [Op(Eq), ANY, ANY, ANY, ANY], For(0, 1), "=="),
+    Row(0, [Op(Ne), ANY, ANY, ANY, ANY], For(0, 1), "!="),
+    Row(0, [Either(Operator(Lt), Operator(Le)), ANY, ANY, ANY, ANY], For(0, 1), "<="),
+    Row(0, [Either(Operator(Gt), Operator(Ge)), ANY, ANY, ANY, ANY], For(0, 1), ">="),
 ];
 
 /// The name that the comparison before an operator compares, before the sign that comes after that.
 #[rattlefmt::skip]
-const COMPARED_AGAIN: [Row; 2] = [
-    Row { back: 4, kinds: [Like::Name, Like::Compares, Like::Operand, ANY, ANY], spot: Spot::Before(4), words: "%0 " },
-    Row { back: 4, kinds: [Like::Name, Like::Relates, Like::Operand, ANY, ANY], spot: Spot::Before(4), words: "%0 " },
-];
+const COMPARED_AGAIN: Row = Row(4, [Like::Name, Like::Comparison, Like::Operand, ANY, ANY], Before(4), "%0 ");
 
 /// One `==` for two `=`, and no brackets without an index.
 #[rattlefmt::skip]
 const WITHOUT_OPERAND: [Row; 2] = [
-    Row {
-        back: 1,
-        kinds: [
-            Like::Is(Lexeme::Assign(None)), Like::Is(Lexeme::Assign(None)), ANY, ANY, ANY,
-        ],
-        spot: Spot::For(0, 1),
-        words: "==",
-    },
-    Row { back: 1, kinds: [Like::Is(Lexeme::OpenBracket), ANY, ANY, ANY, ANY], spot: Spot::For(0, 1), words: "" },
+    Row(1, [Is(Assign(None)), Is(Assign(None)), ANY, ANY, ANY], For(0, 1), "=="),
+    Row(1, [Is(OpenBracket), ANY, ANY, ANY, ANY], For(0, 1), ""),
 ];
 
+/// The `=` of an assignment before its operator.
+const EQUALS_FIRST: Row = Row(1, [ANY, ANY, ANY, ANY, ANY], For(0, 1), "=%0");
+
+/// Parentheses from a token up to the `;` on its line.
+const IN_PARENTHESES: Row = Row(
+    1,
+    [ANY, Until(Semicolon), ANY, ANY, ANY],
+    Past(0, 1),
+    "(%1)",
+);
+
+/// Parentheses around a condition, which goes to a `{`; and one that goes to a `:`, which is taken out.
+const BEFORE_BRACE: Row = Row(
+    1,
+    [ANY, Until(OpenBrace), ANY, ANY, ANY],
+    Past(0, 1),
+    "(%1)",
+);
+
+const BEFORE_COLON: Row = Row(1, [ANY, Until(Colon), ANY, ANY, ANY], Past(0, 2), "(%1)");
+
 /// What may mend a token with which no program goes on.
-pub(crate) fn of_syntax(
-    draft: &mut Draft<'_>,
-    site: Site,
-    syntax: Syntax,
-    finding: &Finding,
-) -> Result<(), AllocError> {
+pub(crate) fn of_syntax(draft: &mut Draft<'_>, syntax: Syntax) -> Drafted {
     draft.is_guess = is_guess(syntax);
-    of_braces(draft, site, syntax, finding)?;
-    of_words(draft, site, syntax, finding)?;
-    of_definition(draft, site, syntax)?;
-    of_statement(draft, site, syntax)?;
-    of_expression(draft, site, syntax)
+    of_braces(draft, syntax)?;
+    of_words(draft, syntax)?;
+    of_definition(draft, syntax)?;
+    of_statement(draft, syntax)?;
+    of_expression(draft, syntax)
 }
 
 // Whether what is missing or too much might be another thing than what is proposed.
@@ -97,11 +92,12 @@ fn is_guess(syntax: Syntax) -> bool {
 }
 
 // What stands outside of functions, and in the heads of functions.
-fn of_definition(draft: &mut Draft<'_>, site: Site, syntax: Syntax) -> Result<(), AllocError> {
-    let (token, first) = (site.token, site.first);
-    if is_outside(syntax) && (brace_by_lines(draft, site)? || indent_of(draft, first) > 0) {
+fn of_definition(draft: &mut Draft<'_>, syntax: Syntax) -> Drafted {
+    let (token, first) = (draft.site.token, draft.site.first);
+    if is_outside(syntax) && (brace_by_lines(draft)? || indent_of(draft, first) > 0) {
         return Ok(());
     }
+    let before = token.wrapping_sub(1);
     match syntax {
         Syntax::Slashes => remark(draft, draft.start(token), 2),
         Syntax::BraceSemicolon | Syntax::BraceCloses => draft.remove(token, token),
@@ -111,15 +107,12 @@ fn of_definition(draft: &mut Draft<'_>, site: Site, syntax: Syntax) -> Result<()
         }
         Syntax::VectorParameter => head(draft, first),
         Syntax::ParameterComma => draft.rename(token, b","),
-        Syntax::HeadParens => draft.after(token.wrapping_sub(1), b"()"),
+        Syntax::HeadParens => draft.after(before, b"()"),
         Syntax::EqualsOutside | Syntax::SignOutside | Syntax::BracesOutside => definition(
             draft, first,
         ),
-        Syntax::Prototype => prototype_out(draft, site),
-        Syntax::NameMissing if draft.at(token) == Lexeme::OpenBrace => {
-            let before = token.wrapping_sub(1);
-            draft.put(draft.start(before), draft.end(before), &[])
-        }
+        Syntax::Prototype => prototype_out(draft),
+        Syntax::NameMissing if draft.at(token) == OpenBrace => draft.take_out(before, before),
         _ => Ok(()),
     }
 }
@@ -141,9 +134,9 @@ fn is_outside(syntax: Syntax) -> bool {
 }
 
 // A prototype taken out, from its name on where a type of its parameters was found fault with.
-fn prototype_out(draft: &mut Draft<'_>, site: Site) -> Result<(), AllocError> {
-    let (token, first) = (site.token, site.first);
-    let Some(last) = draft.on_line(token, Lexeme::Semicolon) else {
+fn prototype_out(draft: &mut Draft<'_>) -> Drafted {
+    let (token, first) = (draft.site.token, draft.site.first);
+    let Some(last) = draft.on_line(token, Semicolon) else {
         return Ok(());
     };
     let opener = first.saturating_add(1);
@@ -154,101 +147,86 @@ fn prototype_out(draft: &mut Draft<'_>, site: Site) -> Result<(), AllocError> {
 }
 
 // A brace that is missing, where it is that of the function before, or the one before an `else`.
-fn of_braces(
-    draft: &mut Draft<'_>,
-    site: Site,
-    syntax: Syntax,
-    finding: &Finding,
-) -> Result<(), AllocError> {
-    let is_whole = match (finding.related, body_of(draft, site)) {
+fn of_braces(draft: &mut Draft<'_>, syntax: Syntax) -> Drafted {
+    let is_whole = match (draft.finding.related, body_of(draft)) {
         (Some(open), Some(brace)) => open.start == draft.start(brace),
         _ => false,
     };
     match syntax {
-        Syntax::FunctionInside if is_whole => draft.before(site.token, b"} "),
-        Syntax::ElseInBraces => draft.before(site.token, b"} "),
-        Syntax::BraceOpen | Syntax::FunctionInside => brace_after(draft, finding),
+        Syntax::FunctionInside if is_whole => draft.before(draft.site.token, b"} "),
+        Syntax::ElseInBraces => draft.before(draft.site.token, b"} "),
+        Syntax::BraceOpen | Syntax::FunctionInside => brace_after(draft),
         _ => Ok(()),
     }
 }
 
 // A closing brace after the last line that stands farther in than the open one.
-fn brace_after(draft: &mut Draft<'_>, finding: &Finding) -> Result<(), AllocError> {
-    let Some(brace) = finding.related else {
+fn brace_after(draft: &mut Draft<'_>) -> Drafted {
+    let Some(brace) = draft.finding.related else {
         return Ok(());
     };
     match body_end(draft.source, brace.start) {
-        Some((_, end)) => draft.put(end, end, &[Part::Words(b" }")]),
+        Some((_, end)) => draft.put(end, end, b" }"),
         None => Ok(()),
     }
 }
 
 // A word of another language, which is the second place where it stands on another line.
-fn of_words(
-    draft: &mut Draft<'_>,
-    site: Site,
-    syntax: Syntax,
-    finding: &Finding,
-) -> Result<(), AllocError> {
+fn of_words(draft: &mut Draft<'_>, syntax: Syntax) -> Drafted {
     let Syntax::Foreign(word) = syntax else {
         return Ok(());
     };
-    let token = match finding.related {
+    let token = match draft.finding.related {
         Some(place) => token_at(draft.spans, place.start),
-        None => site.token,
+        None => draft.site.token,
     };
-    foreign(draft, site.first, token, word)
+    foreign(draft, token, word)
 }
 
 // What begins and ends statements, and what stands between them.
-fn of_statement(draft: &mut Draft<'_>, site: Site, syntax: Syntax) -> Result<(), AllocError> {
-    let token = site.token;
+fn of_statement(draft: &mut Draft<'_>, syntax: Syntax) -> Drafted {
+    let token = draft.site.token;
     let before = token.wrapping_sub(1);
+    let statement = statement_of(draft, token);
     match syntax {
-        Syntax::CallParens if is_outdented(draft, site, token) => {
-            draft.before(statement_of(draft, token), b"} ")
+        Syntax::CallParens if is_outdented(draft, token) => draft.before(statement, b"} "),
+        Syntax::SemicolonMissing | Syntax::TwoOperands if has_keyword(draft, statement) => {
+            keyword(draft, statement)
         }
-        Syntax::SemicolonMissing | Syntax::TwoOperands if has_keyword(draft, token) => keyword(
-            draft, token,
-        ),
         Syntax::SemicolonMissing
         | Syntax::SemicolonBefore
         | Syntax::NoStatement
         | Syntax::CallParens
-            if is_heading(draft, token) || may_define(draft, site, token) => { Ok(()) }
+            if is_heading(draft, token) || may_define(draft, token) => { Ok(()) }
         Syntax::SemicolonMissing | Syntax::SemicolonBefore | Syntax::NoStatement => draft.after(
             before, b";",
         ),
-        Syntax::AutoValue | Syntax::AutoBrackets | Syntax::AutoList => {
-            local(draft, statement_of(draft, token))
-        }
+        Syntax::AutoValue | Syntax::AutoBrackets | Syntax::AutoList => local(draft, statement),
         Syntax::TypeInside => local(draft, token),
-        Syntax::ExtrnList if matches!(draft.at(token), Lexeme::Keyword(_)) => {
-            draft.after(before, b";")
-        }
-        Syntax::ExtrnList => names_alone(draft, statement_of(draft, token)),
+        Syntax::ExtrnList if draft.is(token, &Like::Keyword) => draft.after(before, b";"),
+        Syntax::ExtrnList => names_alone(draft, statement),
         Syntax::Then if is_word(&draft.at(token), "then") => draft.remove(token, token),
-        Syntax::Then => {
-            let end = draft.end(before);
-            draft.put(draft.end(before.wrapping_sub(1)), end, &[])
-        }
+        Syntax::Then => draft.put(draft.end(before.wrapping_sub(1)), draft.end(before), b""),
         Syntax::CaseSign => case_sign(draft, token),
         Syntax::CaseString => case_value(draft, token),
         Syntax::CaseList => cases(draft, token),
-        Syntax::CaseColon if draft.at(token) == Lexeme::Semicolon => draft.rename(token, b":"),
+        Syntax::CaseColon if draft.at(token) == Semicolon => draft.rename(token, b":"),
         Syntax::CaseColon => draft.after(before, b":"),
-        Syntax::Condition => condition(draft, token),
-        Syntax::ReturnValue => parenthesized(draft, token, Lexeme::Semicolon, b"("),
-        Syntax::CallParens if has_keyword(draft, token) => keyword(draft, token),
-        Syntax::CallParens => call_parens(draft, token),
+        Syntax::Condition => {
+            draft.by_rows(token, &[BEFORE_BRACE])?;
+            draft.by_rows(token, &[BEFORE_COLON])
+        }
+        Syntax::ReturnValue => draft.by_rows(token, &[IN_PARENTHESES]),
+        Syntax::CallParens if has_keyword(draft, statement) => keyword(draft, statement),
+        Syntax::CallParens => {
+            draft.put(draft.end(before), draft.start(token), b"(")?;
+            draft.by_rows(token, &[IN_PARENTHESES])
+        }
         Syntax::ElseAlone => else_alone(draft, before),
-        Syntax::HeadColon => draft.remove(token, token),
+        Syntax::HeadColon | Syntax::DoAfter => draft.remove(token, token),
         Syntax::CallBody => call_body(draft, token),
         Syntax::CommaAlone if is_between_statements(draft, token) => draft.rename(token, b";"),
-        Syntax::Thousands | Syntax::ParenEarly => {
-            draft.put(draft.start(token), draft.end(token), &[])
-        }
-        Syntax::DoAfter => draft.remove(token, token),
+        Syntax::Thousands | Syntax::ParenEarly => draft.take_out(token, token),
         Syntax::ElseCondition => else_if(draft, before),
         Syntax::ListAssigned => one_by_one(draft, token),
         _ => Ok(()),
@@ -256,36 +234,31 @@ fn of_statement(draft: &mut Draft<'_>, site: Site, syntax: Syntax) -> Result<(),
 }
 
 // What stands in expressions.
-fn of_expression(draft: &mut Draft<'_>, site: Site, syntax: Syntax) -> Result<(), AllocError> {
-    let token = site.token;
+fn of_expression(draft: &mut Draft<'_>, syntax: Syntax) -> Drafted {
+    let token = draft.site.token;
     let before = token.wrapping_sub(1);
     let next = token.wrapping_add(1);
     match syntax {
         Syntax::ParenOpen => closing(draft, token),
-        Syntax::SlashesDivide => draft.replace(token, next, &[Part::Words(b"/")]),
+        Syntax::SlashesDivide => draft.replace(token, next, b"/"),
         Syntax::OrOr => mend_logic(draft, Logic::Or, before, token),
-        Syntax::EqualsAfter => draft.replace(
-            before,
-            token,
-            &[Part::Words(b"="), Part::Tokens(before, before)],
-        ),
+        Syntax::EqualsAfter => draft.by_rows(token, &[EQUALS_FIRST]),
         Syntax::QuoteEscaped => quotes(draft, before),
         Syntax::QuoteInside => quotes_inside(draft, token),
         Syntax::NumberName => number(draft, token),
         Syntax::CompareSigns => draft.by_rows(token, &COMPARED),
-        Syntax::LessGreater => draft.replace(token, next, &[Part::Words(b"!=")]),
-        Syntax::ColonEquals => draft.replace(token, next, &[Part::Words(b"=")]),
+        Syntax::LessGreater => draft.replace(token, next, b"!="),
+        Syntax::ColonEquals => draft.replace(token, next, b"="),
         Syntax::OperandMissing if draft.at(before) == Lexeme::Comma => draft.remove(before, before),
-        Syntax::OperandMissing if is_comparison(&draft.at(token)) => draft.by_rows(
-            token,
-            &COMPARED_AGAIN,
-        ),
+        Syntax::OperandMissing if draft.is(token, &Like::Comparison) => {
+            draft.by_rows(token, &[COMPARED_AGAIN])
+        }
         Syntax::OperandMissing => draft.by_rows(token, &WITHOUT_OPERAND),
         Syntax::AssignLeft => assigned_left(draft, token),
         Syntax::Unopened | Syntax::OtherBracket if index_opened(draft, token)? => Ok(()),
         Syntax::Unopened => {
-            draft.is_choice = draft.at(token) == Lexeme::CloseBracket
-                && draft.at(token) != draft.at(token.wrapping_sub(1));
+            let closer = draft.at(token);
+            draft.is_choice = closer == Lexeme::CloseBracket && closer != draft.at(before);
             opened(draft, token)?;
             draft.remove(token, token)
         }
@@ -304,7 +277,7 @@ fn of_expression(draft: &mut Draft<'_>, site: Site, syntax: Syntax) -> Result<()
 // A comma between two arguments of a call, of which this token begins the second one. Where the call has as many as are
 // asked for, an operator lacks. Where one may lack, since more are asked for or nobody knows, and neither is a string,
 // the comma is a choice.
-fn argument_apart(draft: &mut Draft<'_>, opener: usize, token: usize) -> Result<(), AllocError> {
+fn argument_apart(draft: &mut Draft<'_>, opener: usize, token: usize) -> Drafted {
     let before = token.wrapping_sub(1);
     let Lexeme::Name(name) = draft.at(opener.wrapping_sub(1)) else {
         return Ok(());
@@ -343,7 +316,7 @@ fn index_opened(draft: &mut Draft<'_>, closer: usize) -> Result<bool, AllocError
             break;
         }
         let word = draft.bytes(token, token);
-        if !Like::Name.fits(&draft.at(token)) {
+        if !draft.is(token, &Like::Name) {
             continue;
         }
         for length in 1..word.len() {
@@ -353,7 +326,7 @@ fn index_opened(draft: &mut Draft<'_>, closer: usize) -> Result<bool, AllocError
             {
                 let place = draft.start(token).saturating_add(length);
                 draft.is_choice = !draft.all.is_empty();
-                draft.put(place, place, &[Part::Words(b"[")])?;
+                draft.put(place, place, b"[")?;
             }
         }
     }
@@ -362,16 +335,11 @@ fn index_opened(draft: &mut Draft<'_>, closer: usize) -> Result<bool, AllocError
 
 // Whether a name has these letters.
 fn stands(draft: &Draft<'_>, word: &[u8]) -> bool {
-    for token in 0..draft.spans.end() {
-        if Like::Name.fits(&draft.at(token)) && draft.bytes(token, token) == word {
-            return true;
-        }
-    }
-    false
+    (0..draft.spans.end()).any(|at| draft.is(at, &Like::Name) && draft.bytes(at, at) == word)
 }
 
 // A parenthesis that is missing after the name of a function, where a `)` comes right after it, and another one.
-fn opened(draft: &mut Draft<'_>, token: usize) -> Result<(), AllocError> {
+fn opened(draft: &mut Draft<'_>, token: usize) -> Drafted {
     let name = token.wrapping_sub(2);
     let is_called = draft.at(token) == Lexeme::CloseParen
         && draft.at(token.wrapping_sub(1)) == Lexeme::CloseParen;
@@ -382,14 +350,12 @@ fn opened(draft: &mut Draft<'_>, token: usize) -> Result<(), AllocError> {
 }
 
 // The bracket that closes the one which is open before a token, in the place of another one.
-fn other_bracket(draft: &mut Draft<'_>, token: usize) -> Result<(), AllocError> {
-    let Some(opener) = opener_of(draft.spans, token) else {
-        return Ok(());
-    };
-    match draft.at(opener) {
-        Lexeme::OpenBracket => draft.rename(token, b"]"),
-        Lexeme::OpenParen => draft.rename(token, b")"),
-        Lexeme::OpenBrace => draft.rename(token, b"}"),
+fn other_bracket(draft: &mut Draft<'_>, token: usize) -> Drafted {
+    let opener = opener_of(draft.spans, token);
+    match opener.map(|opener| draft.at(opener)) {
+        Some(Lexeme::OpenBracket) => draft.rename(token, b"]"),
+        Some(Lexeme::OpenParen) => draft.rename(token, b")"),
+        Some(Lexeme::OpenBrace) => draft.rename(token, b"}"),
         _ => Ok(()),
     }
 }
@@ -429,50 +395,33 @@ fn is_headed(draft: &Draft<'_>, token: usize) -> bool {
 fn is_between_statements(draft: &Draft<'_>, comma: usize) -> bool {
     let next = comma.wrapping_add(1);
     let after = draft.at(next.wrapping_add(1));
-    let begins = Like::Name.fits(&draft.at(next))
-        && (does_something(&after) || after == Lexeme::OpenBracket);
-    if is_headed(draft, comma) || !begins {
-        return false;
-    }
-    does_before(draft, comma)
+    draft.is(next, &Like::Name)
+        && (does_something(&after) || after == OpenBracket)
+        && !is_headed(draft, comma)
+        && does_before(draft, comma)
 }
 
 /// Whether what stands of a statement before a token assigns, counts or calls something, or begins with a keyword.
 pub(crate) fn does_before(draft: &Draft<'_>, token: usize) -> bool {
-    for at in statement_of(draft, token)..token {
-        if does_something(&draft.at(at)) || matches!(draft.at(at), Lexeme::Keyword(_)) {
-            return true;
-        }
-    }
-    false
+    (statement_of(draft, token)..token).any(|at| does_something(&draft.at(at))
+        || draft.is(at, &Like::Keyword))
 }
 
 fn does_something(lexeme: &Lexeme) -> bool {
-    matches!(
-        lexeme,
-        Lexeme::Assign(_) | Lexeme::Increment | Lexeme::Decrement | Lexeme::OpenParen
-    )
+    Like::Sets.fits(lexeme) || *lexeme == Lexeme::OpenParen
 }
 
 /// The first token of the statement of a token, where braces and a `;` are before it.
 pub(crate) fn statement_of(draft: &Draft<'_>, token: usize) -> usize {
-    for back in 0..token {
-        let at = token.saturating_sub(back).saturating_sub(1);
-        if matches!(
-            draft.at(at),
-            Lexeme::OpenBrace | Lexeme::CloseBrace | Lexeme::Semicolon
-        ) {
-            return at.saturating_add(1);
-        }
-    }
-    0
+    let border = draft.find_back(0, token, &Like::Border);
+    border.map_or(0, |at| at.saturating_add(1))
 }
 
 // A closing bracket for the one that is open: after a call whose value is assigned and compared, before an assignment
 // or a comparison, right before the token, or before a comma. An index is no comparison. Where an operator stands
 // between, and what is open is no heading and no statement, it is a choice. Before a `?` after that its place can't be
 // seen, nor right before the token, if an operator stands in the parentheses that end there, but for a heading's.
-fn closing(draft: &mut Draft<'_>, token: usize) -> Result<(), AllocError> {
+fn closing(draft: &mut Draft<'_>, token: usize) -> Drafted {
     let Some(opener) = opener_before(draft, token) else {
         return Ok(());
     };
@@ -513,36 +462,26 @@ fn has_operator(draft: &Draft<'_>, closer: usize) -> bool {
     let Some(opener) = opener_of(draft.spans, closer) else {
         return false;
     };
-    for at in opener.saturating_add(2)..closer {
-        if matches!(draft.at(at), Lexeme::Operator(_)) && is_ended(&draft.at(at.wrapping_sub(1))) {
-            return true;
-        }
-    }
-    false
+    (opener.saturating_add(2)..closer).any(|at| {
+        draft.is(at, &Like::Operator) && is_ended(&draft.at(at.wrapping_sub(1)))
+    })
 }
 
 // Whether an open bracket is that of a heading, of a return or of a call that is a statement.
 fn is_whole_statement(draft: &Draft<'_>, opener: usize) -> bool {
     let head = opener.wrapping_sub(1);
-    let before = draft.at(head.wrapping_sub(1));
-    let begins = matches!(
-        before,
-        Lexeme::Semicolon | Lexeme::OpenBrace | Lexeme::CloseBrace | Lexeme::CloseParen
-    );
+    let before = head.wrapping_sub(1);
     match draft.at(head) {
         Lexeme::Keyword(_) => true,
-        Lexeme::Name(_) => begins || before == Lexeme::Keyword(Keyword::Else),
+        Lexeme::Name(_) => {
+            draft.is(before, &Like::Opening) || draft.at(before) == Lexeme::Keyword(Keyword::Else)
+        }
         _ => false,
     }
 }
 
 // A closing bracket before a comma, from the last one back.
-fn before_commas(
-    draft: &mut Draft<'_>,
-    opener: usize,
-    token: usize,
-    closer: &[u8],
-) -> Result<(), AllocError> {
+fn before_commas(draft: &mut Draft<'_>, opener: usize, token: usize, closer: &[u8]) -> Drafted {
     for back in 1..token.saturating_sub(opener) {
         let at = token.saturating_sub(back);
         if draft.at(at) == Lexeme::Comma {
@@ -552,64 +491,17 @@ fn before_commas(
     Ok(())
 }
 
-// Parentheses from a token to the one before the next of this kind on its line.
-fn parenthesized(
-    draft: &mut Draft<'_>,
-    token: usize,
-    end: Lexeme,
-    opener: &[u8],
-) -> Result<(), AllocError> {
-    let Some(last) = draft.on_line(token, end) else {
-        return Ok(());
-    };
-    if last == token {
-        return Ok(());
-    }
-    let last = last.wrapping_sub(1);
-    draft.put(
-        draft.end(token.wrapping_sub(1)),
-        draft.end(last),
-        &[
-            Part::Words(opener),
-            Part::Tokens(token, last),
-            Part::Words(b")"),
-        ],
-    )
-}
-
-// Parentheses around a condition, which goes to a `{`, or to a `:` that is taken out.
-fn condition(draft: &mut Draft<'_>, token: usize) -> Result<(), AllocError> {
-    parenthesized(draft, token, Lexeme::OpenBrace, b"(")?;
-    let Some(colon) = draft.on_line(token, Lexeme::Colon) else {
-        return Ok(());
-    };
-    let last = colon.wrapping_sub(1);
-    draft.put(
-        draft.end(token.wrapping_sub(1)),
-        draft.end(colon),
-        &[
-            Part::Words(b"("),
-            Part::Tokens(token, last),
-            Part::Words(b")"),
-        ],
-    )
-}
-
 // The number below 65536 that is the same word as a negative one.
-fn case_sign(draft: &mut Draft<'_>, token: usize) -> Result<(), AllocError> {
+fn case_sign(draft: &mut Draft<'_>, token: usize) -> Drafted {
     let next = token.wrapping_add(1);
     match draft.at(next) {
-        Lexeme::Number(number) => draft.replace(
-            token,
-            next,
-            &[Part::Number(u64::from(number.wrapping_neg()))],
-        ),
+        Lexeme::Number(number) => draft.number(token, next, u64::from(number.wrapping_neg())),
         _ => Ok(()),
     }
 }
 
 // A case for each value up to the colon, from the first comma on.
-fn cases(draft: &mut Draft<'_>, token: usize) -> Result<(), AllocError> {
+fn cases(draft: &mut Draft<'_>, token: usize) -> Drafted {
     let Some(colon) = draft.on_line(token, Lexeme::Colon) else {
         return Ok(());
     };
@@ -626,24 +518,16 @@ fn cases(draft: &mut Draft<'_>, token: usize) -> Result<(), AllocError> {
 }
 
 // A character in the place of a string of one or two.
-fn case_value(draft: &mut Draft<'_>, token: usize) -> Result<(), AllocError> {
-    let (start, end) = (draft.start(token), draft.end(token));
-    if draft.at(token) != Lexeme::String || end.saturating_sub(start) > 4 {
+fn case_value(draft: &mut Draft<'_>, token: usize) -> Drafted {
+    if draft.at(token) != Lexeme::String || draft.bytes(token, token).len() > 4 {
         return Ok(());
     }
-    as_character(draft, token)
-}
-
-// The parenthesis that is missing before the arguments of a call, or both.
-fn call_parens(draft: &mut Draft<'_>, token: usize) -> Result<(), AllocError> {
-    let before = draft.end(token.wrapping_sub(1));
-    draft.put(before, draft.start(token), &[Part::Words(b"(")])?;
-    parenthesized(draft, token, Lexeme::Semicolon, b"(")
+    quoted(draft, token, "'%0'")
 }
 
 // A `;` right after the condition of an `if`, before the one statement that comes before an `else`; or one that ends an
 // `if` before that.
-fn else_alone(draft: &mut Draft<'_>, before: usize) -> Result<(), AllocError> {
+fn else_alone(draft: &mut Draft<'_>, before: usize) -> Drafted {
     if draft.at(before) != Lexeme::Semicolon {
         return Ok(());
     }
@@ -657,16 +541,13 @@ fn else_alone(draft: &mut Draft<'_>, before: usize) -> Result<(), AllocError> {
 }
 
 // An assignment for each value of a list between brackets or braces, which this token opens after `=`.
-fn one_by_one(draft: &mut Draft<'_>, opener: usize) -> Result<(), AllocError> {
+fn one_by_one(draft: &mut Draft<'_>, opener: usize) -> Drafted {
     let name = opener.wrapping_sub(2);
     let Some(end) = draft.on_line(name, Lexeme::Semicolon) else {
         return Ok(());
     };
     let closer = end.wrapping_sub(1);
-    if !Like::Name.fits(&draft.at(name))
-        || after_brackets(draft, opener) != end
-        || closer <= opener
-    {
+    if !draft.is(name, &Like::Name) || after_brackets(draft, opener) != end || closer <= opener {
         return Ok(());
     }
     let mut text = draft.text();
@@ -675,24 +556,23 @@ fn one_by_one(draft: &mut Draft<'_>, opener: usize) -> Result<(), AllocError> {
 }
 
 // An `if` after the `else` before a condition that ends with this token.
-fn else_if(draft: &mut Draft<'_>, closer: usize) -> Result<(), AllocError> {
+fn else_if(draft: &mut Draft<'_>, closer: usize) -> Drafted {
     match opener_of(draft.spans, closer) {
         Some(opener) => draft.after(opener.wrapping_sub(1), b" if"),
         None => Ok(()),
     }
 }
 
-// Whether the statement of a token begins with a name like a keyword.
-fn has_keyword(draft: &Draft<'_>, token: usize) -> bool {
-    match draft.at(statement_of(draft, token)) {
+// Whether a statement begins with a name like a keyword.
+fn has_keyword(draft: &Draft<'_>, first: usize) -> bool {
+    match draft.at(first) {
         Lexeme::Name(name) => near_keyword(&name).is_some(),
         _ => false,
     }
 }
 
-// The keyword that the first name of the statement of a token is like.
-fn keyword(draft: &mut Draft<'_>, token: usize) -> Result<(), AllocError> {
-    let first = statement_of(draft, token);
+// The keyword that the first name of a statement is like.
+fn keyword(draft: &mut Draft<'_>, first: usize) -> Drafted {
     if let Lexeme::Name(name) = draft.at(first) {
         if let Some(keyword) = near_keyword(&name) {
             return draft.rename(first, keyword.as_bytes());
@@ -702,58 +582,52 @@ fn keyword(draft: &mut Draft<'_>, token: usize) -> Result<(), AllocError> {
 }
 
 // A keyword that is spelt almost like what is called, or is called otherwise elsewhere.
-fn call_body(draft: &mut Draft<'_>, token: usize) -> Result<(), AllocError> {
+fn call_body(draft: &mut Draft<'_>, token: usize) -> Drafted {
     let Lexeme::Name(name) = draft.at(token) else {
         return Ok(());
     };
     match name.as_str() {
         "fi" | "iff" | "when" | "unless" => draft.rename(token, b"if"),
         "until" => draft.rename(token, b"while"),
-        _ => keyword(draft, token),
+        _ => keyword(draft, statement_of(draft, token)),
     }
 }
 
 // A star in the place of each backslash before a quote, in the rest of the line from a string on.
-fn quotes(draft: &mut Draft<'_>, token: usize) -> Result<(), AllocError> {
+fn quotes(draft: &mut Draft<'_>, token: usize) -> Drafted {
     let start = draft.start(token);
+    let end = line_end(draft.source, start);
     let mut text = draft.text();
-    let mut end = start;
-    for index in start..draft.source.len() {
-        let byte = draft.source.get(index).copied().unwrap_or(b'\n');
-        if byte == b'\n' || byte == b'\r' {
-            break;
-        }
-        let next = draft.source.get(index.saturating_add(1)).copied();
-        if byte == b'\\' && next == Some(b'"') {
-            text.push(b"*")?;
+    for index in start..end {
+        let next = index.saturating_add(1);
+        let is_quoted = draft.slice(index, next.saturating_add(1)) == b"\\\"".as_slice();
+        text.push(if is_quoted {
+            b"*"
         } else {
-            text.push(&[byte])?;
-        }
-        end = index.saturating_add(1);
+            draft.slice(index, next)
+        })?;
     }
     draft.put_text(start, end, text)
 }
 
 // A star before each quote around a token, up to the next string on its line.
-fn quotes_inside(draft: &mut Draft<'_>, token: usize) -> Result<(), AllocError> {
+fn quotes_inside(draft: &mut Draft<'_>, token: usize) -> Drafted {
     let Some(string) = draft.on_line(token, Lexeme::String) else {
         return Ok(());
     };
-    let last = string.wrapping_sub(1);
-    draft.put(
-        draft.start(token).saturating_sub(1),
-        draft.start(string).saturating_add(1),
-        &[
-            Part::Words(b"*\""),
-            Part::Tokens(token, last),
-            Part::Words(b"*\""),
-        ],
+    let start = draft.start(token).saturating_sub(1);
+    let end = draft.start(string).saturating_add(1);
+    draft.fill(
+        start,
+        end,
+        "*\"%0*\"",
+        &[draft.bytes(token, string.wrapping_sub(1))],
     )
 }
 
 // The digits of a hexadecimal number, whose name begins with `x`, to the base 10; a number without a letter after it;
 // or a product with a name that stands before, too.
-fn number(draft: &mut Draft<'_>, token: usize) -> Result<(), AllocError> {
+fn number(draft: &mut Draft<'_>, token: usize) -> Drafted {
     let before = token.wrapping_sub(1);
     let Lexeme::Name(name) = draft.at(token) else {
         return Ok(());
@@ -761,23 +635,14 @@ fn number(draft: &mut Draft<'_>, token: usize) -> Result<(), AllocError> {
     match name.as_bytes() {
         [b'x' | b'X', digits @ ..] if draft.at(before) == Lexeme::Number(0) => {
             match hexadecimal(digits) {
-                Some(number) => draft.replace(before, token, &[Part::Number(number)]),
+                Some(number) => draft.number(before, token, number),
                 None => Ok(()),
             }
         }
-        [b'L' | b'l' | b'u' | b'U'] => draft.put(draft.start(token), draft.end(token), &[]),
-        _ if is_named_before(draft, token) => draft.after(before, b" * "),
+        [b'L' | b'l' | b'u' | b'U'] => draft.take_out(token, token),
+        _ if draft.has(0, token, &Is(Lexeme::Name(name))) => draft.after(before, b" * "),
         _ => Ok(()),
     }
-}
-
-fn is_named_before(draft: &Draft<'_>, token: usize) -> bool {
-    for at in 0..token {
-        if draft.at(at) == draft.at(token) {
-            return true;
-        }
-    }
-    false
 }
 
 fn hexadecimal(digits: &[u8]) -> Option<u64> {
@@ -799,13 +664,8 @@ fn hexadecimal(digits: &[u8]) -> Option<u64> {
 }
 
 // What stands here for a word of another language.
-fn foreign(
-    draft: &mut Draft<'_>,
-    first: usize,
-    token: usize,
-    word: Foreign,
-) -> Result<(), AllocError> {
-    let is_outside = token == first;
+fn foreign(draft: &mut Draft<'_>, token: usize, word: Foreign) -> Drafted {
+    let is_outside = token == draft.site.first;
     match word {
         Foreign::Function => draft.remove(token, token),
         Foreign::Declares if is_outside => definition(draft, token),
@@ -816,11 +676,7 @@ fn foreign(
 }
 
 /// What stands for a word of another language, where it is one word.
-pub(crate) fn word_here(
-    draft: &mut Draft<'_>,
-    token: usize,
-    word: Foreign,
-) -> Result<(), AllocError> {
+pub(crate) fn word_here(draft: &mut Draft<'_>, token: usize, word: Foreign) -> Drafted {
     let Lexeme::Name(name) = draft.at(token) else {
         return Ok(());
     };
