@@ -7,8 +7,8 @@ first(n) {
     return(i);
 }
 second(v) {
-    v[0] = v[0]++; /* missed */
-    v[1] = (v[1]--); /* missed */
+    v[0] = v[0]++; /* told */
+    v[1] = (v[1]--); /* told */
     *v = *v++; /* missed */
 }
 third(n) {

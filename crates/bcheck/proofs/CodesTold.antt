@@ -45,7 +45,6 @@ code_of_rules : (w : Warning) → IsOfRules (warning_code w) → is_of_rules w �
 code_of_rules warning.CommentGoesOn e = cc
 code_of_rules warning.CountPastVector e = cc
 code_of_rules warning.DanglingElse e = cc
-code_of_rules warning.FallsIntoCase e = cc
 code_of_rules warning.FormValues e = cc
 code_of_rules warning.HidesExternal e = cc
 code_of_rules warning.NearMain e = cc

@@ -129,7 +129,7 @@ warning_codes : map warning_code (
     warning.Slip slip.CharacterIndex ∷ warning.Slip slip.HalfStays ∷ warning.Slip slip.NextPast ∷
     warning.Slip slip.EndTaken ∷ warning.Slip slip.LeavesCountOut ∷ warning.Slip slip.BeginsAgain ∷
     warning.Slip slip.BothEvaluated ∷ warning.Slip slip.ZeroAfter ∷ warning.Slip slip.SharedCounter ∷
-    warning.Slip slip.MovesAddress ∷ []
+    warning.Slip slip.MovesAddress ∷ warning.Slip slip.ShiftOfSum ∷ []
     ) ≡ codes "*/" ∷ codes "and" ∷ codes "and" ∷ codes "op" ∷ codes "if" ∷ codes "if" ∷ codes "if" ∷ codes "em" ∷
     codes "em" ∷ codes "ix" ∷ codes "ix" ∷ codes "ix" ∷ codes "ix" ∷ codes "ix" ∷ codes "ix" ∷ codes "sg" ∷
     codes "en" ∷ codes "en" ∷ codes "en" ∷ codes "st" ∷ codes "st" ∷ codes "st" ∷ codes "st" ∷ codes "no" ∷
@@ -149,23 +149,25 @@ warning_codes : map warning_code (
     codes "di" ∷ codes "lp" ∷ codes "ar" ∷ codes "ix" ∷ codes "en" ∷ codes "lp" ∷ codes "st" ∷
     codes "di" ∷ codes "ix" ∷ codes "tr" ∷ codes "us" ∷ codes "us" ∷ codes "di" ∷ codes "lp" ∷ codes "di" ∷ codes "in" ∷
     codes "en" ∷ codes "lp" ∷ codes "ix" ∷ codes "lp" ∷ codes "ix" ∷ codes "en" ∷ codes "lp" ∷ codes "lp" ∷ codes "di" ∷
-    codes "lp" ∷ codes "lp" ∷ codes "no" ∷ []
+    codes "lp" ∷ codes "lp" ∷ codes "no" ∷ codes "pr" ∷ []
 warning_codes = refl
 
 -- the codes that rules alone give; those of finders, of faults, a part of one, one with more letters, and none
 by_rules : rule_codes
     ≡ codes "and" ∷ codes "op" ∷ codes "if" ∷ codes "em" ∷ codes "sg" ∷ codes "en" ∷ codes "st" ∷ codes "no"
-    ∷ codes "bs" ∷ codes "pr" ∷ codes "rt" ∷ codes "us" ∷ codes "ed" ∷ codes "tr" ∷ codes "di" ∷ codes "es" ∷ []
+    ∷ codes "bs" ∷ codes "pr" ∷ codes "rt" ∷ codes "us" ∷ codes "ed" ∷ codes "tr" ∷ codes "di" ∷ codes "es" ∷ codes "sw"
+    ∷ []
 by_rules = refl
 
 of_rules : map is_rule_code rule_codes
-    ≡ true ∷ true ∷ true ∷ true ∷ true ∷ true ∷ true ∷ true ∷ true ∷ true ∷ true ∷ true ∷ true ∷ true ∷ true ∷ true ∷ []
+    ≡ true ∷ true ∷ true ∷ true ∷ true ∷ true ∷ true ∷ true ∷ true ∷ true ∷ true ∷ true ∷ true ∷ true ∷ true ∷ true ∷ true
+    ∷ []
 of_rules = refl
 
 not_of_rules : map is_rule_code
     (codes "*/" ∷ codes "ix" ∷ codes "in" ∷ codes "ar" ∷ codes "hi" ∷ codes "ma" ∷ codes "lp" ∷ codes "la" ∷ codes "nu"
-    ∷ codes "sw" ∷ codes "sx" ∷ codes "an" ∷ codes "andd" ∷ [] ∷ [])
-    ≡ false ∷ false ∷ false ∷ false ∷ false ∷ false ∷ false ∷ false ∷ false ∷ false ∷ false ∷ false ∷ false ∷ false ∷ []
+    ∷ codes "sx" ∷ codes "an" ∷ codes "andd" ∷ [] ∷ [])
+    ≡ false ∷ false ∷ false ∷ false ∷ false ∷ false ∷ false ∷ false ∷ false ∷ false ∷ false ∷ false ∷ false ∷ []
 not_of_rules = refl
 
 -- the line and the column of a place after a text

@@ -69,6 +69,7 @@ slip_code slip.BothEvaluated = codes "di"
 slip_code slip.ZeroAfter = codes "lp"
 slip_code slip.SharedCounter = codes "lp"
 slip_code slip.MovesAddress = codes "no"
+slip_code slip.ShiftOfSum = codes "pr"
 
 -- by which code each warning is known
 abbrev pub warning_code : Warning → List ℕ
@@ -177,7 +178,7 @@ warning_code (warning.Slip s) = slip_code s
 abbrev pub rule_codes : List (List ℕ)
 rule_codes =
     codes "and" ∷ codes "op" ∷ codes "if" ∷ codes "em" ∷ codes "sg" ∷ codes "en" ∷ codes "st" ∷ codes "no" ∷ codes "bs"
-    ∷ codes "pr" ∷ codes "rt" ∷ codes "us" ∷ codes "ed" ∷ codes "tr" ∷ codes "di" ∷ codes "es" ∷ []
+    ∷ codes "pr" ∷ codes "rt" ∷ codes "us" ∷ codes "ed" ∷ codes "tr" ∷ codes "di" ∷ codes "es" ∷ codes "sw" ∷ []
 
 abbrev pub is_rule_code : List ℕ → Bool
 is_rule_code code = list_any (same_name code) rule_codes

@@ -24,7 +24,6 @@ use crate::undefined::undefined_names;
 use crate::verdict::{Judgement, Verdict};
 use blang::{Diagnostic, LoadFault};
 use blint::{Caution, Program, TokenPlace, lint};
-use bmach::LIBRARY;
 use bsources::SourceFiles;
 use btools::Text;
 use std::alloc::{AllocError, Global};
@@ -207,7 +206,6 @@ fn warnings(
         edition: source.edition,
         files: *files,
         definitions: compiled.definitions(),
-        library: &LIBRARY,
     };
     let cautions = lint(alloc, &program)?;
     warned_of(alloc, cautions.as_slice())

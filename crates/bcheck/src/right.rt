@@ -19,8 +19,9 @@ use bword::Edition;
 use std::alloc::{AllocError, Global};
 
 /// The codes that rules alone give.
-const RULE_CODES: [&str; 16] = [
-    "and", "op", "if", "em", "sg", "en", "st", "no", "bs", "pr", "rt", "us", "ed", "tr", "di", "es",
+const RULE_CODES: [&str; 17] = [
+    "and", "op", "if", "em", "sg", "en", "st", "no", "bs", "pr", "rt", "us", "ed", "tr", "di",
+    "es", "sw",
 ];
 
 /// Whether a source of these files compiles and loads, and has no finding of a code that rules alone give.

@@ -349,5 +349,8 @@ fn advice_of_slip(slip: Slip) -> (&'static str, &'static str, &'static str)
             ("lp", "all calls share the @ that line % counts", "auto @; gives each call its own"),
         Slip::MovesAddress =>
             ("no", "the ++ or -- moves @, and no word there", "(*@)++; counts the word at @"),
+        Slip::ShiftOfSum =>
+            ("pr", "+ and - bind tighter than << and >>: the sum comes first",
+             "parentheses show what is meant: (x << 8) + y, or x << (n + 1)"),
     }
 }

@@ -29,7 +29,6 @@ pub(crate) fn found_in(
         edition: asked.edition,
         files: asked.files,
         definitions: &[],
-        library: &[],
     };
     let tokens = cut(alloc, &program)?;
     let rows = grown(alloc, tokens.lexemes.as_slice())?;

@@ -73,10 +73,10 @@ placed = refl
 
 -- what finders give, and some of what rules alone give
 of_rules : map is_of_rules (warning.CommentGoesOn ∷ warning.CountPastVector ∷ warning.DanglingElse
-    ∷ warning.FallsIntoCase ∷ warning.FormValues ∷ warning.HidesExternal ∷ warning.NearMain ∷ warning.NoMain
+    ∷ warning.FormValues ∷ warning.HidesExternal ∷ warning.NearMain ∷ warning.NoMain
     ∷ warning.OctalNumber ∷ warning.Unset ∷ warning.UnsetVector ∷ warning.Slip slip.FormKind
     ∷ warning.Slip slip.LastTurnOnly ∷ warning.Slip slip.SetLater ∷ warning.Slip slip.NextPast
-    ∷ warning.AndAnd ∷ warning.Backslash ∷ warning.BitsCompared ∷ warning.NoEffect ∷ warning.Power
+    ∷ warning.AndAnd ∷ warning.Backslash ∷ warning.BitsCompared ∷ warning.FallsIntoCase ∷ warning.NoEffect ∷ warning.Power
     ∷ warning.StringForCharacter ∷ warning.LoopUnchanged ∷ warning.Slip slip.SameTwice ∷ [])
-    ≡ replicate 15 false ++ replicate 8 true
+    ≡ replicate 14 false ++ replicate 9 true
 of_rules = refl

@@ -21,7 +21,6 @@ abbrev pub is_of_rules : Warning → Bool
 is_of_rules warning.CommentGoesOn = false
 is_of_rules warning.CountPastVector = false
 is_of_rules warning.DanglingElse = false
-is_of_rules warning.FallsIntoCase = false
 is_of_rules warning.FormValues = false
 is_of_rules warning.HidesExternal = false
 is_of_rules warning.NearMain = false

@@ -13,8 +13,6 @@ pub struct Program<'a> {
     pub files: SourceFiles<'a>,
     /// The definitions of its code.
     pub definitions: &'a [Definition],
-    /// The functions that a program may call without defining them, with their numbers of arguments.
-    pub library: &'a [(&'static str, u64)],
 }
 
 /// What is said of a token.

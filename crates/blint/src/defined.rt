@@ -27,12 +27,11 @@ pub(crate) enum What {
     Number,
 }
 
-/// The definitions of a program by their names, and the functions of the library.
+/// The definitions of a program by their names.
 #[derive(Drop)]
 pub(crate) struct Defined<'a> {
     definitions: &'a [Definition],
     names: NameTable,
-    library: &'a [(&'static str, u64)],
     /// Whether one of them names the function that ends a program, and of each whether it may call that.
     pub exits: bool,
     exiting: Vec<bool>,
@@ -54,7 +53,6 @@ impl<'a> Defined<'a> {
         let mut defined = Defined {
             definitions: program.definitions,
             names,
-            library: program.library,
             exits,
             exiting: Vec::new(alloc),
         };
@@ -150,16 +148,6 @@ impl<'a> Defined<'a> {
     pub(crate) fn find(&self, name: &Name) -> Option<What> {
         let definition = self.definitions.get(self.place(name)?)?;
         Some(what_of(definition))
-    }
-
-    /// How many arguments the function of the library of this name takes.
-    pub(crate) fn library_arguments(&self, name: &Name) -> Option<u64> {
-        for (word, count) in self.library {
-            if name.as_str() == *word {
-                return Some(*count);
-            }
-        }
-        None
     }
 }
 

@@ -3,7 +3,6 @@
 
 mod bounds;
 mod calls;
-mod cases;
 mod cautions;
 mod chains;
 mod check_rules;
@@ -12,7 +11,6 @@ mod counters;
 mod cutting;
 mod declared;
 mod defined;
-mod falls;
 mod flow;
 mod functions;
 mod linting;

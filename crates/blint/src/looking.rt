@@ -1,6 +1,5 @@
 //! Looking at a function with each finder.
 use crate::calls::counted_past;
-use crate::cases::of_case;
 use crate::chains::dangling;
 use crate::declared::declared_in;
 use crate::linting::Look;
@@ -25,13 +24,9 @@ pub(crate) fn look_further(look: &Look<'_>, further: &mut Remarks) -> Result<(),
         }
     }
     for statement in &look.tree.statements {
-        match statement.construct {
-            Construct::Heading => further.say(of_case(look, statement))?,
-            Construct::If => {
-                further.say(dangling(look, statement))?;
-                further.say(last_turn(look, statement))?;
-            }
-            _ => {}
+        if let Construct::If = statement.construct {
+            further.say(dangling(look, statement))?;
+            further.say(last_turn(look, statement))?;
         }
     }
     Ok(())

@@ -3,6 +3,7 @@ use crate::linting::Look;
 use crate::remarks::Remark;
 use crate::tree::Branch;
 use crate::warnings::Warning;
+use blex::Lexeme;
 use btree::Node;
 
 /// Whether a branch is a name to which characters of the input alone are assigned.
@@ -15,17 +16,24 @@ pub(crate) fn is_string(look: &Look<'_>, branch: &Branch) -> bool {
     matches!(look.locals.of(look.tree, branch), Some(local) if local.is_string())
 }
 
-/// What is found of a call of `printf` whose form asks for more values than come after it, or for fewer.
+/// What is found of a call of `printf` whose form asks for more values than come after it, or for fewer. A 0 too many
+/// fills a place, as where a `printf` of the program itself has parameters for all.
 pub(crate) fn form_of(look: &Look<'_>, call: &Branch) -> Option<Remark> {
     let form = look.tree.argument(call, 0);
     if !look.tree.is_call_of(call, "printf") || form.node != Node::Text {
         return None;
     }
     let values = look.tree.arguments(call).saturating_sub(1);
-    if items_in(look.tree.tokens.bytes(form.token)) == values {
-        None
-    } else {
+    let items = items_in(look.tree.tokens.bytes(form.token));
+    let mut is_wrong = values < items;
+    for place in items..values {
+        let more = look.tree.argument(call, place.saturating_add(1));
+        is_wrong = is_wrong || look.tree.tokens.at(more.token) != Lexeme::Number(0);
+    }
+    if is_wrong {
         Remark::new(form.token, Warning::FormValues)
+    } else {
+        None
     }
 }
 

@@ -151,7 +151,6 @@ fn is_of_rules(warning: Warning) -> bool
         Warning::CommentGoesOn
             | Warning::CountPastVector
             | Warning::DanglingElse
-            | Warning::FallsIntoCase
             | Warning::FormValues
             | Warning::HidesExternal
             | Warning::NearMain

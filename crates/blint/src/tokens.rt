@@ -104,14 +104,6 @@ impl<'a> Tokens<'a> {
         }
     }
 
-    /// Whether a string has one character or two, or an escape.
-    pub(crate) fn is_short(&self, token: usize) -> bool {
-        match self.places.get(token) {
-            Some(place) => place.len <= 4,
-            None => true,
-        }
-    }
-
     /// The blanks before a token that is the first one of its line.
     pub(crate) fn indentation(&self, token: usize) -> Option<&'a [u8]> {
         let start = self.place(token).start;

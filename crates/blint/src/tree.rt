@@ -312,14 +312,6 @@ impl<'a> Tree<'a> {
         self.branch(argument.right)
     }
 
-    /// Whether a branch is a number or a character of this value.
-    pub(crate) fn is_value(&self, branch: &Branch, value: u16) -> bool {
-        match (branch.node, self.tokens.at(branch.token)) {
-            (Node::Constant, Lexeme::Number(number) | Lexeme::Character(number)) => number == value,
-            _ => false,
-        }
-    }
-
     /// Whether a branch is the condition of a `while`.
     pub(crate) fn is_loop(&self, tested: &Branch) -> bool {
         tested.node == Node::Tested

@@ -161,4 +161,5 @@ pub enum Slip {
     ZeroAfter,
     SharedCounter,
     MovesAddress,
+    ShiftOfSum,
 }

@@ -16,7 +16,7 @@ use Rattle.bmatch.specs.declared.pattern.Step.{Step}
 use Rattle.bmatch.specs.declared.pattern.Step.TheVariants as step
 use Rattle.bmatch.specs.declared.pattern.TheConstants.{ROOT}
 use Rattle.bmatch.specs.declared.tree.Tree.{Tree}
-use Rattle.bmatch.specs.Fits.{either_way, fits_in, go_in, has_sides, inner_of, may_begin, seen_at, sides_of, span_of, start_of}
+use Rattle.bmatch.specs.Fits.{either_way, fits_in, go_in, has_sides, inner_of, kind_for, may_begin, seen_at, sides_of, span_of, start_of}
 use Rattle.bmatch.specs.Binds.{nothing_bound, with_hole, with_told}
 use Rattle.bmatch.specs.Holds.{fits_at, holds_in, is_within, some_at, steps_at}
 use Rattle.bmatch.specs.Notices.{notice_of, root_notices, sight_of, site_of}
@@ -33,7 +33,7 @@ no_head s zero (step.Range k last told ∷ is) begin end rows b h =
     let none : inner_of s k last begin end ≡ None = cond-false _ _ _ (and_right (nat_lt begin end) _ h) in
     ap (λ i. go_in i (λ inner. fits_in s zero is inner.begin inner.end (span_of begin (start_of s.tree.rows.now end) ∷ rows) (with_told b told (branch_at s.tree.rows.now inner.end).token))) none
 no_head s zero (step.Sides k last told ∷ is) begin end rows b h =
-    let kind = (branch_at s.tree.rows.now (seen_at s false end)).kind in
+    let kind = kind_for s k (seen_at s false end) in
     let hs = or_parts (has_sides s false k last kind) (has_sides s true k last kind) h in
     let plain : sides_of s false k last begin end ≡ None = cond-false _ _ _ (and_right (nat_lt begin end) _ hs.0) in
     let exchanged : sides_of s true k last begin end ≡ None = cond-false _ _ _ (and_right (nat_lt begin end) _ hs.1) in

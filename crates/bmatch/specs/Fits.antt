@@ -1,11 +1,12 @@
 -- Promise: how the steps of a pattern fit a row of branches, and what holes stand for then.
 use Rattle.std.specs.Prelude.{ℕ, zero, suc, ◌-◌, ◌==◌, ◌&&◌, ◌||◌, Bool, true, false, not, if◌then◌else◌, nat_le, nat_lt, List}
-use Rattle.std.specs.Prelude.{[], ◌∷◌, ◌++◌, Option, None, Some, take}
+use Rattle.std.specs.Prelude.{[], ◌∷◌, ◌++◌, Option, None, Some, is_some, take, unwrap_or}
 use Rattle.std.specs.List.{flat_map}
 use Rattle.std.specs.Str.{bytes_eq}
 use Rattle.blex.specs.declared.lexeme.Lexeme.{Lexeme}
 use Rattle.blex.specs.declared.lexeme.Lexeme.TheVariants as lexeme
 use Rattle.blang.specs.declared.token.Keyword.TheVariants as keyword
+use Rattle.bword.specs.declared.operators.BinOp.{BinOp}
 use Rattle.bword.specs.declared.operators.BinOp.TheVariants as op
 use Rattle.btree.specs.declared.nodes.Node.TheVariants as node
 use Rattle.btree.specs.declared.tags.Construct.TheVariants as construct
@@ -102,22 +103,39 @@ span_of begin end = record { begin = begin; end = end }
 abbrev pub is_between : (first last kind : Kind) → Bool
 is_between first last k = nat_le (kind_number first) (kind_number k) && nat_le (kind_number k) (kind_number last)
 
-abbrev pub is_sum_for : (asked kind inner : Kind) → Bool
-is_sum_for (kind.Node node.Indexed) (kind.Node node.Indirection) (kind.Node (node.Binary op.Add)) = true
-is_sum_for asked k inner = false
+-- the comparison that holds where another one doesn't
+abbrev pub negated : BinOp → Option Kind
+negated op.Eq = Some (kind.Node (node.Binary op.Ne))
+negated op.Ne = Some (kind.Node (node.Binary op.Eq))
+negated op.Lt = Some (kind.Node (node.Binary op.Ge))
+negated op.Le = Some (kind.Node (node.Binary op.Gt))
+negated op.Gt = Some (kind.Node (node.Binary op.Le))
+negated op.Ge = Some (kind.Node (node.Binary op.Lt))
+negated o = None
 
--- An index is asked for, and the branch is a star with a sum: `*(v + i)` is `v[i]`.
-abbrev pub is_pointed : Sight → (asked : Kind) → (index : ℕ) → Bool
-is_pointed s asked index =
+-- The kind that a branch says the same as, where another one is asked for: `*(v + i)` is `v[i]`, and `!(a < b)` is
+-- `a >= b`.
+abbrev pub kind_within : (asked kind inner : Kind) → Option Kind
+kind_within (kind.Node node.Indexed) (kind.Node node.Indirection) (kind.Node (node.Binary op.Add)) =
+    Some (kind.Node node.Indexed)
+kind_within (kind.Node (node.Binary asked)) (kind.Node node.Not) (kind.Node (node.Binary o)) = negated o
+kind_within asked k inner = None
+
+-- the same for a branch of the tree, where a part in parentheses is no other than one without
+abbrev pub other_kind : Sight → (asked : Kind) → (index : ℕ) → Option Kind
+other_kind s asked index =
     let rows = s.tree.rows.now in
-    s.is_loose && is_sum_for asked (branch_at rows index).kind (branch_at rows (branch_at rows (index - 1)).core).kind
+    if s.is_loose
+    then kind_within asked (branch_at rows index).kind (branch_at rows (branch_at rows (index - 1)).core).kind
+    else None
 
 -- the kind that a branch is then, and the number of the branch whose parts it has
 abbrev pub kind_for : Sight → (asked : Kind) → (index : ℕ) → Kind
-kind_for s asked index = if is_pointed s asked index then asked else (branch_at s.tree.rows.now index).kind
+kind_for s asked index = unwrap_or (other_kind s asked index) (branch_at s.tree.rows.now index).kind
 
 abbrev pub index_for : Sight → (asked : Kind) → (index : ℕ) → ℕ
-index_for s asked index = if is_pointed s asked index then (branch_at s.tree.rows.now (index - 1)).core else index
+index_for s asked index =
+    if is_some (other_kind s asked index) then (branch_at s.tree.rows.now (index - 1)).core else index
 
 -- the branches in the last one of a row, if it is of such a kind
 abbrev pub inner_of : Sight → (first last : Kind) → (begin end : ℕ) → Option Span
@@ -147,7 +165,7 @@ has_sides s is_exchanged first last k =
 -- the last branch that ends here is of such a kind, in one order of its sides or in the other
 abbrev pub sees_sides : Sight → (first last : Kind) → (end : ℕ) → Bool
 sees_sides s first last end =
-    let k = (branch_at s.tree.rows.now (seen_at s false end)).kind in
+    let k = kind_for s first (seen_at s false end) in
     has_sides s false first last k || has_sides s true first last k
 
 abbrev pub sides_from : (one other : Span) → Sides
@@ -156,12 +174,12 @@ sides_from one other = record { one = one; other = other }
 -- the two sides of the last branch of a row, the right one first, or last where they are exchanged
 abbrev pub sides_of : Sight → (is_exchanged : Bool) → (first last : Kind) → (begin end : ℕ) → Option Sides
 sides_of s is_exchanged first last begin end =
-    let index = seen_at s false end in
-    let branch = branch_at s.tree.rows.now index in
-    let middle = start_of s.tree.rows.now index in
-    if nat_lt begin end && has_sides s is_exchanged first last branch.kind
-    then Some (if is_exchanged then sides_from (span_of branch.begin middle) (span_of middle index)
-    else sides_from (span_of middle index) (span_of branch.begin middle))
+    let seen = seen_at s false end in
+    let index = index_for s first seen in
+    let left = span_of (branch_at s.tree.rows.now index).begin (start_of s.tree.rows.now index) in
+    let right = span_of (start_of s.tree.rows.now index) index in
+    if nat_lt begin end && has_sides s is_exchanged first last (kind_for s first seen)
+    then Some (if is_exchanged then sides_from left right else sides_from right left)
     else None
 
 abbrev pub either_way : Sight → (first last : Kind) → (begin end : ℕ) → EitherWay
@@ -170,7 +188,7 @@ either_way s first last begin end =
       plain = sides_of s false first last begin end;
       exchanged = sides_of s true first last begin end;
       before = span_of begin (start_of s.tree.rows.now end);
-      token = (branch_at s.tree.rows.now (seen_at s false end)).token;
+      token = (branch_at s.tree.rows.now (index_for s first (seen_at s false end))).token;
     }
 
 -- Steps whose first one asks for another kind than the last branch that ends here fit nothing there.

@@ -1,6 +1,6 @@
 -- Closed facts: kinds, the branches of a small program, and what fits there.
 use Rattle.std.specs.Prelude.{◌≡◌, ℕ, ◌-◌, ◌==◌, codes, true, false, Bool, List, [], ◌∷◌, ◌++◌, None, Option, Some, map, refl}
-use Rattle.std.specs.Prelude.{length, replicate}
+use Rattle.std.specs.Prelude.{length, option_map, replicate}
 use Rattle.std.specs.List.{flat_map, range_with_len}
 use Rattle.bword.specs.declared.operators.BinOp.{BinOp}
 use Rattle.bword.specs.declared.operators.BinOp.TheVariants as op
@@ -49,7 +49,7 @@ use Rattle.bmatch.specs.Asking.{sign_number, size_by, size_declared, size_define
 use Rattle.bmatch.specs.Binds.{hole_of, nothing_bound, with_hole, with_told}
 use Rattle.bmatch.specs.Changes.{change_before, changed_by}
 use Rattle.bmatch.specs.Counting.{blanks_at}
-use Rattle.bmatch.specs.Fits.{ends_of, is_word, may_begin, mirrored, span_of}
+use Rattle.bmatch.specs.Fits.{ends_of, is_word, kind_within, may_begin, mirrored, negated, span_of}
 use Rattle.bmatch.specs.Growing.{lexemes_of, program_rows}
 use Rattle.bmatch.specs.Holds.{fits_at, holds_in, is_within, loop_around, scope_span}
 use Rattle.bmatch.specs.Notices.{first_token, notices_by}
@@ -201,6 +201,21 @@ mirrored_operators : map (λ o. kind_number (mirrored (kind.Node (node.Binary o)
     ≡ 25 ∷ 26 ∷ 27 ∷ 28 ∷ 31 ∷ 32 ∷ 29 ∷ 30 ∷ range_with_len 33 7
 mirrored_operators = refl
 
+-- == and != deny each other, < and >=, <= and >; no other operator has one that denies it
+negated_operators : map (λ o. option_map kind_number (negated o)) operators
+    ≡ None ∷ None ∷ map Some (28 ∷ 27 ∷ 32 ∷ 31 ∷ 30 ∷ 29 ∷ []) ++ replicate 7 None
+negated_operators = refl
+
+-- *(v + i) where an index is asked for, !(a == b) where an operator is, and what only looks so
+kinds_within : map (λ (k : Node × Node × Node). option_map kind_number
+    (kind_within (kind.Node k.0) (kind.Node k.1) (kind.Node k.2)))
+    ((node.Indexed, node.Indirection, node.Binary op.Add) ∷ (node.Binary op.Or, node.Not, node.Binary op.Eq)
+    ∷ (node.Indexed, node.Indirection, node.Binary op.Sub) ∷ (node.Indexed, node.Not, node.Binary op.Eq)
+    ∷ (node.Name, node.Indirection, node.Binary op.Add) ∷ (node.Binary op.Eq, node.Not, node.Binary op.Add)
+    ∷ (node.Binary op.Eq, node.Negate, node.Binary op.Eq) ∷ (node.Binary op.Eq, node.Not, node.Not) ∷ [])
+    ≡ Some 4 ∷ Some 28 ∷ replicate 6 None
+kinds_within = refl
+
 range_of_two : flat_map (at true (step.Range (kind.Node (node.Binary op.Or)) (kind.Construct construct.While) true
     ∷ step.Dots ∷ step.Done ∷ step.Done ∷ [])) (range_with_len 0 22)
     ≡ map (λ token. (None, None, Some token)) (5 ∷ 21 ∷ 4 ∷ 0 ∷ [])
@@ -299,6 +314,43 @@ changed = refl
 abbrev leaf_row : Kind → (begin : ℕ) → (core : ℕ) → Branch
 leaf_row k begin core =
     record { kind = k; token = 0; first = 0; last = 0; begin = begin; core = core; acts = false; loops = 0 }
+
+-- !(x < 1) is x >= 1, and 1 <= x, for a rule that is loose: the operator in it is told; at < itself these aren't found
+abbrev token_row : Kind → (token begin core : ℕ) → Branch
+token_row k token begin core =
+    record { kind = k; token = token; first = token; last = token; begin = begin; core = core; acts = false; loops = 0 }
+
+abbrev denied : (loose : Bool) → Sight
+denied loose =
+    record {
+      tree = record {
+        text = tree.text;
+        lexemes = tree.lexemes;
+        places = tree.places;
+        rows = record {
+          ref_ptr = (0, 0);
+          now = token_row (kind.Node node.Name) 2 0 0
+              ∷ token_row (kind.Node node.Constant) 4 1 1 ∷ token_row (kind.Node (node.Binary op.Lt)) 3 0 2
+              ∷ token_row (kind.Node node.Grouped) 1 0 2 ∷ token_row (kind.Node node.Not) 0 0 4 ∷ [];
+        };
+      };
+      steps = record { ref_ptr = (0, 0); now = [] };
+      is_loose = loose;
+    }
+
+abbrev in_denied : (loose : Bool) → (index : ℕ) → (first last : BinOp) → List (Option ℕ × Option ℕ × Option ℕ)
+in_denied loose index first last = ways (fits_at (denied loose) (step.Sides (kind.Node (node.Binary first))
+    (kind.Node (node.Binary last)) true ∷ hole 1 sort.Any false ∷ step.Done ∷ hole 0 sort.Any false ∷ step.Done
+    ∷ step.Done ∷ []) index nothing_bound)
+
+denied_fits : in_denied true 4 op.Ge op.Ge ++ in_denied true 4 op.Le op.Le
+    ≡ (Some 0, Some 1, Some 3) ∷ (Some 1, Some 0, Some 3) ∷ []
+denied_fits = refl
+
+denied_elsewhere : map (λ (index : ℕ). in_denied true index op.Ge op.Ge) (0 ∷ 1 ∷ 2 ∷ 3 ∷ 5 ∷ [])
+    ++ map (λ (o : BinOp). in_denied true 4 o o) (op.Lt ∷ op.Gt ∷ op.Eq ∷ op.Ne ∷ op.Or ∷ [])
+    ++ in_denied false 4 op.Or op.Ge ∷ [] ≡ replicate 11 []
+denied_elsewhere = refl
 
 -- x, (x), y, and a change of what stands before it: (x) =+ y, and (x) counted in each way; -(x) changes nothing
 changes : map (λ (k : Kind). changed_by (leaf_row (kind.Node node.Name) 0 0 ∷ leaf_row (kind.Node node.Grouped) 0 0

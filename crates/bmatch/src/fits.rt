@@ -1,7 +1,7 @@
 //! Whether steps of a pattern fit a row of branches.
 ghost use Rattle.std.specs.List.{flat_map};
 ghost use Rattle.std.specs.Prelude.{◌≡◌, ◌∷◌, ◌++◌, IfOk, take};
-ghost use Rattle.bmatch.specs.Fits.{either_way, go_in, has_sides, index_for, is_pointed, is_sum_for, kind_for};
+ghost use Rattle.bmatch.specs.Fits.{either_way, go_in, has_sides, index_for, kind_for, kind_within, negated, other_kind};
 ghost use Rattle.bmatch.specs.Fits.{mirrored, sees_sides, sides_of};
 ghost use Rattle.bmatch.specs.Fits.{changes_hole, ends_of, fits_in, inner_of, is_grouped, is_name_of, is_named, is_number, is_sort, is_word};
 ghost use Rattle.bmatch.specs.Fits.{is_word_alone};
@@ -215,41 +215,66 @@ fn is_seen(sight: &Sight<'_>, first: Kind, last: Kind, end: usize) -> bool
     is_between(first, last, kind_for(sight, first, seen))
 }
 
-// Whether an index is asked for, and the branch is a star with a sum: `*(v + i)` is `v[i]`.
-fn is_pointed(sight: &Sight<'_>, asked: Kind, index: usize) -> bool
-    ensures { result ≡ is_pointed sight.now asked index }
+// The kind that a branch says the same as, where another one is asked for: `*(v + i)` is `v[i]`, and `!(a < b)` is
+// `a >= b`.
+fn kind_within(asked: Kind, kind: Kind, inner: Kind) -> Option<Kind>
+    ensures { result ≡ kind_within asked kind inner }
 {
-    let rows = sight.tree.rows;
-    let inner = core_at(rows, index.saturating_sub(1));
-    sight.is_loose && is_sum_for(asked, kind_at(rows, index), kind_at(rows, inner))
+    match (asked, kind, inner) {
+        (
+            Kind::Node(Node::Indexed),
+            Kind::Node(Node::Indirection),
+            Kind::Node(Node::Binary(BinOp::Add)),
+        ) => Some(asked),
+        (Kind::Node(Node::Binary(_)), Kind::Node(Node::Not), Kind::Node(Node::Binary(op))) => {
+            negated(op)
+        }
+        _ => None,
+    }
 }
 
-fn is_sum_for(asked: Kind, kind: Kind, inner: Kind) -> bool
-    ensures { result ≡ is_sum_for asked kind inner }
+// The comparison that holds where another one doesn't.
+fn negated(op: BinOp) -> Option<Kind>
+    ensures { result ≡ negated op }
 {
-    matches!(asked, Kind::Node(Node::Indexed))
-        && (matches!(kind, Kind::Node(Node::Indirection))
-            && matches!(inner, Kind::Node(Node::Binary(BinOp::Add))))
+    let other = match op {
+        BinOp::Eq => BinOp::Ne,
+        BinOp::Ne => BinOp::Eq,
+        BinOp::Lt => BinOp::Ge,
+        BinOp::Le => BinOp::Gt,
+        BinOp::Gt => BinOp::Le,
+        BinOp::Ge => BinOp::Lt,
+        _ => return None,
+    };
+    Some(Kind::Node(Node::Binary(other)))
+}
+
+// The same for a branch of the tree, where a part in parentheses is no other than one without.
+fn other_kind(sight: &Sight<'_>, asked: Kind, index: usize) -> Option<Kind>
+    ensures { result ≡ other_kind sight.now asked index }
+{
+    let rows = sight.tree.rows;
+    if sight.is_loose {
+        let inner = core_at(rows, index.saturating_sub(1));
+        kind_within(asked, kind_at(rows, index), kind_at(rows, inner))
+    } else {
+        None
+    }
 }
 
 // The kind that a branch is then, and the number of the branch whose parts it has.
 fn kind_for(sight: &Sight<'_>, asked: Kind, index: usize) -> Kind
     ensures { result ≡ kind_for sight.now asked index }
 {
-    if is_pointed(sight, asked, index) {
-        asked
-    } else {
-        kind_at(sight.tree.rows, index)
-    }
+    other_kind(sight, asked, index).unwrap_or(kind_at(sight.tree.rows, index))
 }
 
 fn index_for(sight: &Sight<'_>, asked: Kind, index: usize) -> usize
     ensures { result ≡ index_for sight.now asked index }
 {
-    if is_pointed(sight, asked, index) {
-        core_at(sight.tree.rows, index.saturating_sub(1))
-    } else {
-        index
+    match other_kind(sight, asked, index) {
+        Some(_) => core_at(sight.tree.rows, index.saturating_sub(1)),
+        None => index,
     }
 }
 
@@ -257,7 +282,7 @@ fn index_for(sight: &Sight<'_>, asked: Kind, index: usize) -> usize
 fn sees_sides(sight: &Sight<'_>, first: Kind, last: Kind, end: usize) -> bool
     ensures { result ≡ sees_sides sight.now first last end }
 {
-    let kind = kind_at(sight.tree.rows, seen_at(sight, false, end));
+    let kind = kind_for(sight, first, seen_at(sight, false, end));
     has_sides(sight, false, first, last, kind) || has_sides(sight, true, first, last, kind)
 }
 
@@ -294,16 +319,15 @@ fn sides_of(
 ) -> Option<Sides>
     ensures { result ≡ sides_of sight.now is_exchanged first last span.begin span.end }
 {
-    let index = seen_at(sight, false, span.end);
-    let branch = branch_at(sight.tree.rows, index);
-    if span.begin >= span.end || !has_sides(sight, is_exchanged, first, last, branch.kind) {
+    let seen = seen_at(sight, false, span.end);
+    let kind = kind_for(sight, first, seen);
+    if span.begin >= span.end || !has_sides(sight, is_exchanged, first, last, kind) {
         return None;
     }
+    let index = index_for(sight, first, seen);
+    let begin = branch_at(sight.tree.rows, index).begin;
     let middle = start_of(sight.tree.rows, index);
-    let left = Span {
-        begin: branch.begin,
-        end: middle,
-    };
+    let left = Span { begin, end: middle };
     let right = Span {
         begin: middle,
         end: index,
@@ -328,7 +352,10 @@ fn either_way(sight: &Sight<'_>, first: Kind, last: Kind, span: Span) -> EitherW
         plain: sides_of(sight, false, first, last, span),
         exchanged: sides_of(sight, true, first, last, span),
         before: before(sight, span),
-        token: token_at(sight, seen_at(sight, false, span.end)),
+        token: token_at(
+            sight,
+            index_for(sight, first, seen_at(sight, false, span.end)),
+        ),
     }
 }
 

@@ -1,6 +1,6 @@
 main() {
     auto i;
-    i = 3;
+    i = getchar();
     i == 4;
     printn(i, 10);
 }

@@ -1,8 +1,8 @@
 main() {
     printn(count, 10);
 }
-f() {
-    auto count;
+f(count) {
+
     count = 1;
 }
 count 5;
