@@ -272,14 +272,14 @@ fn whole_vector(draft: &mut Draft<'_>, index: usize) -> Drafted {
     let Some(opener) = opener_before(draft, bracket) else {
         return Ok(());
     };
-    match draft.at(opener.wrapping_sub(1)) {
-        Lexeme::Name(name)
-            if library_arguments(&name).is_none()
-                && draft.is(index.wrapping_add(2), &Either(Comma, CloseParen)) => {
-            draft.take_out(bracket, index.wrapping_add(1))
-        }
-        _ => Ok(()),
+    let Lexeme::Name(name) = draft.at(opener.wrapping_sub(1)) else {
+        return Ok(());
+    };
+    let ends = draft.is(index.wrapping_add(2), &Either(Comma, CloseParen));
+    if !ends || library_arguments(&name).is_some() {
+        return Ok(());
     }
+    draft.take_out(bracket, index.wrapping_add(1))
 }
 
 // A word that nothing has set: what a call sets takes its address, or words for a string; a sum begins with 0.
