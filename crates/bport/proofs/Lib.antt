@@ -1,1 +1,2 @@
+mod LineSteps
 pub mod StaySteps

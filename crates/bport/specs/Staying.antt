@@ -126,24 +126,31 @@ note_sentence kind.Accent = codes "no form of the language has this byte in code
 note_sentence kind.Star = codes "*\" doesn't end a string: port changes nothing until **\" stands where one ends"
 note_sentence kind.Pair = codes "a word has two characters of eight bits: 'ab' is 97 * 256 + 98, and 040040 writes '@ '"
 note_sentence kind.Order = codes "operands and arguments are evaluated from left to right: another order may be meant"
-note_sentence kind.Octal = codes "%o writes the 16 bits of a number below 0, without a sign"
+note_sentence kind.Octal = codes "%o, %u and %x write the 16 bits of a number below 0, without a sign"
 note_sentence kind.Line = codes "puts(s) writes a newline after the string: write putstr(s); putchar('*n');"
 note_sentence kind.Stars = codes "* begins an escape in a string, as in *n and *(: write ** for a star"
-note_sentence kind.Form = codes "printf knows d, u, o, x, c and s after a %, and writes what has others as it is"
+note_sentence kind.Form = codes "printf knows d, u, o, x, c and s after a %, nine values at most, and writes all else as it is"
 note_sentence kind.End = codes "'*e' is 4, and as a value the same as the number 4, which EOF wasn't"
 note_sentence kind.Status = codes "the value that main returns is no status: exit(n) ends a program with one"
 note_sentence kind.Quarter = codes "a word has two characters, and not four: double this where it counts words of text"
 note_sentence kind.Halves = codes "the first character of a word is its low byte: char and lchar take a word apart"
 note_sentence kind.Label = codes "this is the label, which hides what else has its name: give the label another one"
-note_sentence kind.High = codes "a character past 127 is above 0 here, also where char had a sign"
+note_sentence kind.High = codes "a char is a whole word: past 127 it is above 0, and past 255 it goes on"
 note_sentence kind.Parted = codes "two strings, or two lines of one, don't join: port changes nothing until they do"
 note_sentence kind.Case = codes "a case has one number or character: write what this comes to"
+note_sentence kind.Unit = codes "there is one input and one output: printf, getchar and putchar have no unit"
+note_sentence kind.Length = codes "a string has no length before it: char(s, 0) is its first character"
+note_sentence kind.Taking = codes "! is not, and % a remainder: BCPL's !p, v!i and s%i are *p, v[i] and char(s, i)"
+note_sentence kind.Given = codes "printf gives 0, and not how much it has written"
+note_sentence kind.Vector = codes "this is the address of the vector's word, in which that of its first word is"
 
 -- what is told of a note: the file, the line, and the sentence
+abbrev pub note_row : (file : List ℕ) → (line : ℕ) → NoteKind → List ℕ
+note_row file line kind =
+    file_text file ++ (codes ":" ++ (decimal line ++ (codes ": left: " ++ (note_sentence kind ++ codes "\n"))))
+
 abbrev pub note_text : (file source : List ℕ) → Note → List ℕ
-note_text file source n =
-    file_text file ++ (codes ":" ++ (decimal (line_on source 1 0 n.start)
-    ++ (codes ": left: " ++ (note_sentence n.kind ++ codes "\n"))))
+note_text file source n = note_row file (line_on source 1 0 n.start) n.kind
 
 abbrev pub notes_text : (file source : List ℕ) → List Note → List ℕ
 notes_text file source notes = flat_map (note_text file source) notes

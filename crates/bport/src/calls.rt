@@ -5,8 +5,9 @@ use crate::expressions::is_callee;
 use crate::inputs::{inputs, is_next};
 use crate::logic::at_level;
 use crate::row::{NoteKind, Row};
-use crate::source::{Draft, Source};
-use std::alloc::{AllocError, Global};
+use crate::source::{Done, Draft, Source};
+use crate::streams::is_called_so;
+use std::alloc::Global;
 
 /// How many parentheses after a call are looked past.
 const MOST_PARENTHESES: usize = 4;
@@ -18,22 +19,27 @@ pub(crate) fn calls(
     others: &Source<'_>,
     draft: &mut Draft,
     outline: &Outline,
-) -> Result<(), AllocError> {
+) -> Done {
     let has_base = !is_defined(source, others, b"printn");
     let has_input = !is_defined(source, others, b"getchar");
+    let has_read = !defines(others, b"read") && is_called_so(source, b"read", 0);
     let has_strings = !is_defined(source, others, b"char");
     let has_stores = !is_defined(source, others, b"lchar");
     for index in 0..source.tokens.len() {
+        let open = index.wrapping_add(1);
         match source.word(index) {
-            b"printn" if has_base => base(source, draft, index)?,
+            b"printn" if has_base && source.is_open_paren(open) && arguments(source, open) == 1 => {
+                draft.insert(source.start(source.partner(open)), b", 10", Row::Base)?;
+            }
             b"getchar" if has_input => ended(source, draft, index, Row::InputEnd)?,
+            b"read" if has_read => ended(source, draft, index, Row::InputEnd)?,
             b"char" if has_strings => ended(source, draft, index, Row::StringEnd)?,
             b"lchar" if has_stores => stored(source, draft, index)?,
             _ => {}
         }
     }
     if has_input {
-        inputs(alloc, source, draft, outline)?;
+        inputs(alloc, source, draft, outline, has_read)?;
     }
     Ok(())
 }
@@ -43,7 +49,7 @@ fn is_defined(source: &Source<'_>, others: &Source<'_>, name: &[u8]) -> bool {
 }
 
 // A 0 that `lchar` stores is `'*e'`.
-fn stored(source: &Source<'_>, draft: &mut Draft, index: usize) -> Result<(), AllocError> {
+fn stored(source: &Source<'_>, draft: &mut Draft, index: usize) -> Done {
     let open = index.wrapping_add(1);
     let value = source.partner(open).wrapping_sub(1);
     let is_zero = source.end_value(value) == Some(EndValue::Zero);
@@ -68,27 +74,18 @@ pub(crate) fn defines(source: &Source<'_>, name: &[u8]) -> bool {
     false
 }
 
-/// Whether a call has just one argument.
-pub(crate) fn has_one(source: &Source<'_>, open: usize) -> bool {
+/// How many arguments a call has.
+pub(crate) fn arguments(source: &Source<'_>, open: usize) -> usize {
     let close = source.partner(open);
-    let mut depth: usize = 0;
-    for index in open..close.min(source.tokens.len()) {
-        match source.word(index) {
-            b"(" | b"[" => depth = depth.saturating_add(1),
-            b")" | b"]" => depth = depth.saturating_sub(1),
-            b"," if depth == 1 => return false,
-            _ => {}
+    let mut count: usize = 0;
+    let mut next = open.wrapping_add(1);
+    for index in next..close.min(source.tokens.len()) {
+        if index == next {
+            count = count.saturating_add(1);
+            next = at_level(source, index, close, b",").wrapping_add(1);
         }
     }
-    close != open.wrapping_add(1)
-}
-
-fn base(source: &Source<'_>, draft: &mut Draft, index: usize) -> Result<(), AllocError> {
-    let open = index.wrapping_add(1);
-    if source.is_open_paren(open) && has_one(source, open) {
-        return draft.insert(source.start(source.partner(open)), b", 10", Row::Base);
-    }
-    Ok(())
+    count
 }
 
 // A call, or what stores its value, with the parentheses around it: its first and its last token, and whether these are
@@ -101,7 +98,7 @@ struct Unit {
 }
 
 // Edits what the value of a call is compared with, or makes a comparison of it where it is a condition.
-fn ended(source: &Source<'_>, draft: &mut Draft, index: usize, row: Row) -> Result<(), AllocError> {
+fn ended(source: &Source<'_>, draft: &mut Draft, index: usize, row: Row) -> Done {
     let open = index.wrapping_add(1);
     if !source.is_open_paren(open) {
         return Ok(());
@@ -162,7 +159,7 @@ fn is_truth(source: &Source<'_>, unit: Unit) -> bool {
 }
 
 // Makes the comparison.
-fn alone(source: &Source<'_>, draft: &mut Draft, unit: Unit, row: Row) -> Result<(), AllocError> {
+fn alone(source: &Source<'_>, draft: &mut Draft, unit: Unit, row: Row) -> Done {
     let is_negated = source.is(unit.first.wrapping_sub(1), b"!");
     if unit.is_bare || is_negated {
         draft.insert(source.start(unit.first), b"(", row)?;
@@ -182,7 +179,7 @@ pub(crate) fn compared(
     (first, last): (usize, usize),
     row: Row,
     is_value: bool,
-) -> Result<(), AllocError> {
+) -> Done {
     let Some(found) = comparison_of(source, first, last) else {
         return Ok(());
     };
@@ -209,7 +206,7 @@ fn end_test(
     found: Comparison<'_>,
     is_equal: bool,
     row: Row,
-) -> Result<(), AllocError> {
+) -> Done {
     let (sign, word) = (found.sign, found.word);
     let words: &[u8] = match (word.first > sign, is_equal) {
         (true, true) => b"== '*e'",

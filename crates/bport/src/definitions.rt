@@ -1,15 +1,19 @@
 //! The definitions of an old source.
 use crate::edit::between;
+use crate::expressions::is_assignment;
 use crate::externals::{is_text, variables};
 use crate::headers::{knr, parameters};
-use crate::names::{Constants, is_type};
+use crate::names::{Constants, is_type, value_of_number};
 use crate::pointers::pointed;
 use crate::quotes::quoted;
 use crate::row::{NoteKind, Row};
-use crate::source::{Draft, Source};
+use crate::source::{Done, Draft, Source};
 use crate::table::{NONE, filled, put, slot};
 use crate::tokens::TokenKind;
 use std::alloc::{AllocError, Global};
+
+/// How many tokens after a declaration are looked at.
+const MOST_TOKENS: usize = 512;
 
 /// A function: its name, the parenthesis before its parameters, and its statement.
 #[derive(Clone, Copy)]
@@ -47,7 +51,7 @@ impl Outline {
     }
 
     /// Adds an external, with the token after its values.
-    pub(crate) fn add(&mut self, name: usize, end: usize) -> Result<(), AllocError> {
+    pub(crate) fn add(&mut self, name: usize, end: usize) -> Done {
         self.variables.push(External { name, end })?;
         Ok(())
     }
@@ -239,7 +243,7 @@ fn keep(
     constants: &mut Constants,
     from: usize,
     end: usize,
-) -> Result<(), AllocError> {
+) -> Done {
     let name = if source.is(from.wrapping_add(1), b"=") {
         from
     } else {
@@ -325,12 +329,7 @@ fn headless(
 }
 
 /// Tells what types say that isn't so here.
-pub(crate) fn types(
-    source: &Source<'_>,
-    draft: &mut Draft,
-    at: usize,
-    name: usize,
-) -> Result<(), AllocError> {
+pub(crate) fn types(source: &Source<'_>, draft: &mut Draft, at: usize, name: usize) -> Done {
     for index in at..name.min(source.tokens.len()) {
         let kind = match source.word(index) {
             b"float" | b"double" => NoteKind::Floating,
@@ -340,6 +339,7 @@ pub(crate) fn types(
                 NoteKind::Pointer
             }
             b"char" if source.is(name.wrapping_add(1), b"[") => NoteKind::Words,
+            b"char" if is_counted(source, name) => NoteKind::High,
             b"char" if source.is(name, b")") => match source.word(name.wrapping_add(1)) {
                 [b'\'', ..] | b"char" | b"getchar" => continue,
                 _ => NoteKind::Wide,
@@ -349,4 +349,26 @@ pub(crate) fn types(
         draft.note(source, index, kind)?;
     }
     Ok(())
+}
+
+// Whether a sum, a product or a number past 127 is stored in a name near by.
+fn is_counted(source: &Source<'_>, name: usize) -> bool {
+    for index in name..name.saturating_add(MOST_TOKENS).min(source.tokens.len()) {
+        let next = index.wrapping_add(1);
+        let value = next.wrapping_add(1);
+        let end = source.semicolon(next).min(value.saturating_add(8));
+        let is_large = value_of_number(source.word(value)) > Some(127)
+            || source.has(value, end, b"+")
+            || source.has(value, end, b"*")
+            || source.has(value, end, b"<<");
+        let is_stored = match source.word(next) {
+            b"=" => is_large,
+            b"++" => true,
+            word => is_assignment(word),
+        };
+        if is_stored && source.is_name(name) && source.word(index) == source.word(name) {
+            return true;
+        }
+    }
+    false
 }

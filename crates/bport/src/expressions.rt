@@ -5,17 +5,16 @@ use crate::names::is_type;
 use crate::pointers::ends_operand;
 use crate::row::{NoteKind, Row};
 use crate::shape::is_opening;
-use crate::source::{Dialect, Draft, Source};
+use crate::source::{Dialect, Done, Draft, Source};
 use crate::table::NONE;
 use crate::tokens::TokenKind;
 use btools::Text;
-use std::alloc::AllocError;
 
 /// How many bytes the sides of an exclusive or have, which are evaluated twice, and what stands for a name.
 pub(crate) const MOST_BYTES: usize = 1000;
 
 /// Edits a sign.
-pub(crate) fn sign(source: &Source<'_>, draft: &mut Draft, index: usize) -> Result<(), AllocError> {
+pub(crate) fn sign(source: &Source<'_>, draft: &mut Draft, index: usize) -> Done {
     match source.word(index) {
         b"$(" => draft.replace(source, index, b"{", Row::Brackets),
         b"$)" => draft.replace(source, index, b"}", Row::Brackets),
@@ -29,7 +28,6 @@ pub(crate) fn sign(source: &Source<'_>, draft: &mut Draft, index: usize) -> Resu
             draft.note(source, index, NoteKind::Shift)?;
             assignment(source, draft, index)
         }
-        _ if may_wrap(source, index) => draft.note(source, index, NoteKind::Wraps),
         _ if is_joined(source, index) => apart(source, draft, index),
         _ => Ok(()),
     }
@@ -67,7 +65,7 @@ fn begins_operand(source: &Source<'_>, index: usize) -> bool {
 }
 
 // Takes the type of an operand out. Without it a sign could be that of an assignment operator.
-fn cast(source: &Source<'_>, draft: &mut Draft, open: usize) -> Result<(), AllocError> {
+fn cast(source: &Source<'_>, draft: &mut Draft, open: usize) -> Done {
     let first = open.wrapping_add(1);
     let close = source.partner(open);
     let next = close.wrapping_add(1);
@@ -88,7 +86,7 @@ pub(crate) fn is_tight(source: &Source<'_>, index: usize) -> bool {
 }
 
 // `+=` is `=+`. A sign right after it could make it longer.
-fn assignment(source: &Source<'_>, draft: &mut Draft, index: usize) -> Result<(), AllocError> {
+fn assignment(source: &Source<'_>, draft: &mut Draft, index: usize) -> Done {
     let word = source.word(index);
     let mut text = Text::new(draft.alloc);
     text.push(b"=")?;
@@ -101,7 +99,7 @@ fn assignment(source: &Source<'_>, draft: &mut Draft, index: usize) -> Result<()
 }
 
 // `x=-1` is `x = -1` in a later form. Where nothing shows the form it is told.
-fn apart(source: &Source<'_>, draft: &mut Draft, index: usize) -> Result<(), AllocError> {
+fn apart(source: &Source<'_>, draft: &mut Draft, index: usize) -> Done {
     let at = source.start(index).saturating_add(1);
     match source.dialect {
         Dialect::Early => Ok(()),
@@ -110,36 +108,8 @@ fn apart(source: &Source<'_>, draft: &mut Draft, index: usize) -> Result<(), All
     }
 }
 
-/// Whether a value may have more than 16 bits: a product or a shift without a number, or a shift by as many bits.
-pub(crate) fn may_wrap(source: &Source<'_>, index: usize) -> bool {
-    match source.word(index) {
-        b"*" => is_wide(source, index),
-        b"<<" => is_wide(source, index) || is_far(source, index),
-        b">>" => is_far(source, index),
-        _ => false,
-    }
-}
-
-// Whether a shift is by more bits than a word has.
-fn is_far(source: &Source<'_>, index: usize) -> bool {
-    match source.word(index.wrapping_add(1)) {
-        [b'1', units] => matches!(units, b'6'..=b'9'),
-        [b'2'..=b'9', units] => units.is_ascii_digit(),
-        _ => false,
-    }
-}
-
-// Whether a product or a shift has no number of one or two digits on either side.
-fn is_wide(source: &Source<'_>, index: usize) -> bool {
-    let before = index.wrapping_sub(1);
-    let next = index.wrapping_add(1);
-    let is_small = source.kind(next) == Some(TokenKind::Number) && source.word(next).len() < 3;
-    let is_large = source.kind(before) == Some(TokenKind::Number) && source.word(before).len() > 2;
-    (ends_operand(source, before) || is_large) && !is_small
-}
-
 // `~x` is `(-x - 1)`.
-fn complement(source: &Source<'_>, draft: &mut Draft, index: usize) -> Result<(), AllocError> {
+fn complement(source: &Source<'_>, draft: &mut Draft, index: usize) -> Done {
     let next = index.wrapping_add(1);
     let words: &[u8] = if source.word(next).starts_with(b"-") {
         b"(- "
@@ -154,8 +124,8 @@ fn complement(source: &Source<'_>, draft: &mut Draft, index: usize) -> Result<()
     )
 }
 
-// The last token of the operand that begins with a token.
-fn operand_end(source: &Source<'_>, first: usize) -> usize {
+/// The last token of the operand that begins with a token.
+pub(crate) fn operand_end(source: &Source<'_>, first: usize) -> usize {
     let mut last = first;
     for index in first..source.tokens.len() {
         last = index;
@@ -189,11 +159,7 @@ pub(crate) struct Exclusive {
 }
 
 /// Edits `a ^ b`, where evaluating a and b twice does no harm.
-pub(crate) fn exclusive_or(
-    source: &Source<'_>,
-    draft: &mut Draft,
-    found: Exclusive,
-) -> Result<(), AllocError> {
+pub(crate) fn exclusive_or(source: &Source<'_>, draft: &mut Draft, found: Exclusive) -> Done {
     let last = found.end.wrapping_sub(1);
     if !is_quiet(source, found.first, found.end) || !source.is_plain(found.first, last) {
         return draft.note(source, found.sign, NoteKind::Exclusive);
@@ -220,11 +186,7 @@ pub(crate) fn exclusive_or(
 }
 
 /// `x ^= a;` is `x = ((x | (a)) - (x & (a)));`, where x is a name and evaluating a twice does no harm.
-pub(crate) fn exclusive_assignment(
-    source: &Source<'_>,
-    draft: &mut Draft,
-    sign: usize,
-) -> Result<(), AllocError> {
+pub(crate) fn exclusive_assignment(source: &Source<'_>, draft: &mut Draft, sign: usize) -> Done {
     let name = sign.wrapping_sub(1);
     let first = sign.wrapping_add(1);
     let end = source.semicolon(sign);

@@ -4,7 +4,7 @@ use crate::definitions::{Outline, after, after_types, types};
 use crate::names::value_of_number;
 use crate::pointers::{pointed, pointed_end};
 use crate::row::{NoteKind, Row};
-use crate::source::{Draft, Source};
+use crate::source::{Done, Draft, Source};
 use crate::table::NONE;
 use crate::tokens::TokenKind;
 use btools::Text;
@@ -93,12 +93,7 @@ fn another(
 }
 
 // Takes the brackets out that a name of characters has before a string.
-fn text_name(
-    source: &Source<'_>,
-    draft: &mut Draft,
-    at: usize,
-    name: usize,
-) -> Result<(), AllocError> {
+fn text_name(source: &Source<'_>, draft: &mut Draft, at: usize, name: usize) -> Done {
     let open = name.wrapping_add(1);
     if !source.is(at, b"char") || source.is(name.wrapping_sub(1), b"*") || !is_text(source, name) {
         return Ok(());
@@ -166,7 +161,7 @@ pub(crate) fn negative(
     draft: &mut Draft,
     found: &mut Outline,
     index: usize,
-) -> Result<(), AllocError> {
+) -> Done {
     let next = index.wrapping_add(1);
     let Some(value) = value_of_number(source.word(next)) else {
         return draft.note(source, index, NoteKind::Number);

@@ -5,11 +5,11 @@ use crate::logic::after_part;
 use crate::pointers::UNDECLARED;
 use crate::row::{NoteKind, Row};
 use crate::sizes::told_size;
-use crate::source::{Draft, Source};
+use crate::source::{Done, Draft, Source};
 use crate::table::{NONE, filled, put, slot};
 use crate::tokens::TokenKind;
 use btools::Text;
-use std::alloc::{AllocError, Global};
+use std::alloc::Global;
 
 /// What is known of names by their first tokens, and of the tokens with them.
 #[derive(Drop)]
@@ -50,7 +50,7 @@ pub(crate) fn edit_grids(
     source: &Source<'_>,
     draft: &mut Draft,
     outline: &Outline,
-) -> Result<(), AllocError> {
+) -> Done {
     let count = source.tokens.len();
     let mut found = Grids {
         widths: filled(alloc, count)?,
@@ -98,7 +98,7 @@ fn declarations(
     draft: &mut Draft,
     outline: &Outline,
     found: &mut Grids,
-) -> Result<(), AllocError> {
+) -> Done {
     let mut declaring = UNDECLARED;
     let mut is_listing = false;
     for index in 0..source.tokens.len() {
@@ -130,12 +130,7 @@ fn declarations(
 }
 
 // Notes a declaration.
-fn declare(
-    source: &Source<'_>,
-    draft: &mut Draft,
-    found: &mut Grids,
-    name: usize,
-) -> Result<(), AllocError> {
+fn declare(source: &Source<'_>, draft: &mut Draft, found: &mut Grids, name: usize) -> Done {
     let first = slot(source.firsts, name);
     let width = told_size(source, draft, second(source, name))?;
     let size = told_size(source, draft, name.wrapping_add(1))?;
@@ -249,7 +244,7 @@ fn edited(
     outline: &Outline,
     found: &Grids,
     name: usize,
-) -> Result<(), AllocError> {
+) -> Done {
     let first = slot(source.firsts, name);
     let width = slot(&found.widths, first);
     if width == NONE {
@@ -272,12 +267,7 @@ fn edited(
 }
 
 // One size for two.
-fn sized(
-    source: &Source<'_>,
-    draft: &mut Draft,
-    name: usize,
-    role: usize,
-) -> Result<(), AllocError> {
+fn sized(source: &Source<'_>, draft: &mut Draft, name: usize, role: usize) -> Done {
     let (open, other) = (name.wrapping_add(1), second(source, name));
     let size = told_size(source, draft, open)?;
     let width = told_size(source, draft, other)?;
@@ -296,12 +286,7 @@ fn sized(
 }
 
 // `v[i][k]` is `v[3 * i + k]`.
-fn used(
-    source: &Source<'_>,
-    draft: &mut Draft,
-    name: usize,
-    width: usize,
-) -> Result<(), AllocError> {
+fn used(source: &Source<'_>, draft: &mut Draft, name: usize, width: usize) -> Done {
     let (open, other) = (name.wrapping_add(1), second(source, name));
     let (close, end) = (source.partner(open), source.partner(other));
     let is_first = close == open.wrapping_add(2);

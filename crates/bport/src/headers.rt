@@ -3,7 +3,7 @@ use crate::definitions::types;
 use crate::names::is_type;
 use crate::pointers::{is_typed, pointed, pointed_end};
 use crate::row::Row;
-use crate::source::{Draft, Source};
+use crate::source::{Done, Draft, Source};
 use crate::table::NONE;
 use std::alloc::AllocError;
 
@@ -16,7 +16,7 @@ pub(crate) fn parameters(
     draft: &mut Draft,
     open: usize,
     close: usize,
-) -> Result<(), AllocError> {
+) -> Done {
     for index in open.saturating_add(1)..close.min(source.tokens.len()) {
         let next = index.wrapping_add(1);
         let word = source.word(index);

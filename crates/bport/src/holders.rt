@@ -6,7 +6,7 @@ use crate::names::is_library;
 use crate::pointers::{UNDECLARED, after_index, pointed, takes_addresses};
 use crate::row::{NoteKind, Row};
 use crate::sizes::told_size;
-use crate::source::{Draft, Source};
+use crate::source::{Done, Draft, Source};
 use crate::table::{NONE, filled, put, slot};
 use crate::tokens::TokenKind;
 use btools::Text;
@@ -45,6 +45,7 @@ pub(crate) fn edit_holders(
     outline: &Outline,
     short: &[Option<Text>],
 ) -> Result<Held, AllocError> {
+    tell_vectors(source, draft, outline)?;
     let mut found = found_in(alloc, source, others, draft, outline)?;
     let has_addresses = takes_addresses(alloc, source, outline)?;
     let has_stars = find_uses(source, outline, &mut found) || has_addresses;
@@ -73,6 +74,27 @@ pub(crate) fn edit_holders(
     Ok(held)
 }
 
+// Tells each vector whose name is an initial value of a pointer.
+fn tell_vectors(source: &Source<'_>, draft: &mut Draft, outline: &Outline) -> Done {
+    let mut vectors = filled(draft.alloc, source.tokens.len())?;
+    for external in &outline.variables {
+        if source.is(external.name.wrapping_add(1), b"[") {
+            put(&mut vectors, slot(source.firsts, external.name), 0);
+        }
+    }
+    for external in &outline.variables {
+        let next = external.name.wrapping_add(1);
+        if source.is(external.name.wrapping_sub(1), b"*") {
+            for index in next..external.end.min(source.tokens.len()) {
+                if slot(&vectors, slot(source.firsts, index)) != NONE {
+                    draft.note(source, index, NoteKind::Vector)?;
+                }
+            }
+        }
+    }
+    Ok(())
+}
+
 /// Tells those of a source that stays as it is.
 pub(crate) fn tell_holders(
     alloc: Global,
@@ -80,7 +102,7 @@ pub(crate) fn tell_holders(
     others: &Source<'_>,
     draft: &mut Draft,
     outline: &Outline,
-) -> Result<(), AllocError> {
+) -> Done {
     let mut found = found_in(alloc, source, others, draft, outline)?;
     let _ = find_uses(source, outline, &mut found);
     for external in &outline.variables {
@@ -127,7 +149,7 @@ fn values_of(
     functions: &[usize],
     found: &mut Holders,
     external: External,
-) -> Result<(), AllocError> {
+) -> Done {
     let name = external.name;
     let first = slot(source.firsts, name);
     let mut value = NONE;
@@ -249,12 +271,7 @@ fn is_read(source: &Source<'_>, name: usize, index: usize) -> bool {
 }
 
 // Puts `*` before what is read, and parentheses around both.
-fn starred(
-    source: &Source<'_>,
-    draft: &mut Draft,
-    short: &[Option<Text>],
-    index: usize,
-) -> Result<(), AllocError> {
+fn starred(source: &Source<'_>, draft: &mut Draft, short: &[Option<Text>], index: usize) -> Done {
     let end = after_index(source, index);
     let mut text = Text::new(draft.alloc);
     text.push(b"(*")?;

@@ -8,10 +8,10 @@ use crate::expressions::is_assignment;
 use crate::names::is_keyword;
 use crate::refusing::is_operand;
 use crate::row::{NoteKind, Row};
-use crate::source::{Draft, Source};
+use crate::source::{Done, Draft, Source};
 use crate::table::{NONE, filled, put, slot};
 use crate::tokens::TokenKind;
-use std::alloc::{AllocError, Global};
+use std::alloc::Global;
 
 /// For each name, by its first token, the last function that stores what `getchar` gave in it, and the last one that
 /// may store something else there.
@@ -29,6 +29,8 @@ struct Stores {
     signed: Vec<usize>,
     /// Whether what `getchar` gave is somewhere else, too.
     is_spread: bool,
+    /// Whether `read` is the `getchar` of the first B.
+    has_read: bool,
 }
 
 impl Stores {
@@ -44,7 +46,8 @@ pub(crate) fn inputs(
     source: &Source<'_>,
     draft: &mut Draft,
     outline: &Outline,
-) -> Result<(), AllocError> {
+    has_read: bool,
+) -> Done {
     let count = source.tokens.len();
     let mut stores = Stores {
         inputs: filled(alloc, count)?,
@@ -54,6 +57,7 @@ pub(crate) fn inputs(
         calls: filled(alloc, count)?,
         signed: Vec::new(alloc),
         is_spread: false,
+        has_read,
     };
     for external in &outline.variables {
         put(&mut stores.externals, slot(source.firsts, external.name), 0);
@@ -87,7 +91,8 @@ fn stores_in(source: &Source<'_>, stores: &mut Stores, function: Function, numbe
         if source.is_call(call) && source.is(index.wrapping_add(1), b"=") {
             put(&mut stores.calls, first, number);
         }
-        if gets(source, index, b"getchar") {
+        let is_read = stores.has_read && gets(source, index, b"read");
+        if is_read || gets(source, index, b"getchar") {
             put(&mut stores.inputs, first, number);
         } else if index < function.body || is_set(source, index) && !is_character(source, index) {
             put(&mut stores.others, first, number);
@@ -143,7 +148,7 @@ fn hands_on(source: &Source<'_>, index: usize) -> bool {
         b"return" | b"," => true,
         b"(" => {
             let is_other = !is_keyword(source.word(head)) && !source.is(head, b"putchar");
-            is_value_head(source, head) || source.is_name(head) && is_other
+            matches!(source.word(head), b"return" | b"switch") || source.is_name(head) && is_other
         }
         b"=" => !source.is_name(head) || source.is(head.wrapping_sub(2), b"switch"),
         _ => false,
@@ -158,7 +163,7 @@ fn comparisons(
     edited: &mut Vec<usize>,
     function: Function,
     number: usize,
-) -> Result<(), AllocError> {
+) -> Done {
     for index in function.body..function.end.min(source.tokens.len()) {
         let first = slot(source.firsts, index);
         if first == NONE {
@@ -186,7 +191,8 @@ fn comparisons(
             draft.note(source, index, NoteKind::Zero)?;
         }
         let before = source.word(index.wrapping_sub(1));
-        let is_handed = matches!(before, b"(") && is_value_head(source, index.wrapping_sub(2));
+        let head = source.word(index.wrapping_sub(2));
+        let is_handed = matches!(before, b"(") && matches!(head, b"return" | b"switch");
         if is_handed || matches!(before, b"return") || !stores.is_alone(first, number) {
             stores.is_spread = true;
         }
@@ -199,11 +205,6 @@ pub(crate) fn is_next(source: &Source<'_>, first: usize, last: usize) -> bool {
     let sign = last.wrapping_add(1);
     source.is(first.wrapping_sub(1), b"~")
         || source.is(sign, b"+") && source.is(sign.wrapping_add(1), b"1")
-}
-
-// Whether what stands in parentheses after a word is handed on.
-fn is_value_head(source: &Source<'_>, index: usize) -> bool {
-    matches!(source.word(index), b"return" | b"switch")
 }
 
 // The sign by which it is asked whether a word is below 0, as the end of the input was.
@@ -231,7 +232,7 @@ fn is_zero_test(source: &Source<'_>, index: usize) -> bool {
 
 // Tells what stays: each comparison with -1, each case of it, and each test of what a call has given for what is
 // below 0.
-fn tell(source: &Source<'_>, draft: &mut Draft, edited: &[usize]) -> Result<(), AllocError> {
+fn tell(source: &Source<'_>, draft: &mut Draft, edited: &[usize]) -> Done {
     for index in 0..source.tokens.len() {
         let value = end_word(source, index.wrapping_add(1));
         let is_case = source.is(index, b"case")
@@ -259,18 +260,14 @@ fn is_test(source: &Source<'_>, edited: &[usize], sign: usize) -> bool {
     }
     match comparison_before(source, sign) {
         Some(found) if found.asked() == Some(Asked::MinusOne) => {
-            slot(edited, next) == NONE && !is_of_call(source, call_end(source, next))
+            let open = if source.is_open_paren(next) {
+                next
+            } else {
+                next.wrapping_add(1)
+            };
+            slot(edited, next) == NONE && !is_of_call(source, source.partner(open))
         }
         _ => false,
-    }
-}
-
-// The last parenthesis of a call, or of a group, that begins with a token.
-fn call_end(source: &Source<'_>, first: usize) -> usize {
-    if source.is_open_paren(first) {
-        source.partner(first)
-    } else {
-        source.partner(first.wrapping_add(1))
     }
 }
 
@@ -286,11 +283,12 @@ fn is_stored(source: &Source<'_>, close: usize) -> bool {
     source.is_call(call) && source.is(call.wrapping_sub(1), b"=")
 }
 
-// Whether the value of `getchar` is compared itself.
+// Whether the value of `getchar` is compared itself, also where it is stored.
 fn is_of_call(source: &Source<'_>, close: usize) -> bool {
-    is_input(source, close) || is_stored(source, close) && is_input(source, close.wrapping_sub(1))
-}
-
-fn is_input(source: &Source<'_>, close: usize) -> bool {
-    source.is(source.partner(close).wrapping_sub(1), b"getchar")
+    let end = if is_stored(source, close) {
+        close.wrapping_sub(1)
+    } else {
+        close
+    };
+    source.is(source.partner(end).wrapping_sub(1), b"getchar")
 }

@@ -1,10 +1,10 @@
 //! The list of what was changed, and of what was left.
 ghost use Rattle.std.specs.Prelude.{◌≡◌, ◌++◌, [], OnOk};
 ghost use Rattle.bport.specs.Changes.{is_told, line_on, listed, newlines, row_text, told_of, told_once, with_row};
-ghost use Rattle.bport.specs.Staying.{note_text, notes_text};
+ghost use Rattle.bport.specs.Staying.{note_row, notes_text};
 
 use crate::edit::{Edit, between};
-use crate::row::{Note, Row};
+use crate::row::{Note, NoteKind, Row};
 use btools::{Text, push_file};
 use memchr::memchr_iter;
 use std::alloc::{AllocError, Global};
@@ -103,19 +103,35 @@ pub fn push_notes(
 ) -> Result<(), AllocError>
     ensures { OnOk result (text.new ≡ text.old ++ notes_text file.now source.now notes.now) }
 {
+    let mut line: u64 = 1;
+    let mut at: usize = 0;
     for note in notes {
-        push_note(text, file, source, *note)?;
+        line = line_from(source, line, at, note.start);
+        at = note.start;
+        push_note(text, file, line, note.kind)?;
     }
     Ok(())
 }
 
-fn push_note(text: &mut Text, file: &str, source: &[u8], note: Note) -> Result<(), AllocError>
-    ensures { OnOk result (text.new ≡ text.old ++ note_text file.now source.now note) }
+// The line of a place, from a place that has this line.
+fn line_from(source: &[u8], line: u64, at: usize, start: usize) -> u64
+    requires { line ≡ line_on source.now 1 0 at }
+    ensures { result ≡ line_on source.now 1 0 start }
+{
+    if at <= start {
+        line_on(source, line, at, start)
+    } else {
+        line_on(source, 1, 0, start)
+    }
+}
+
+fn push_note(text: &mut Text, file: &str, line: u64, kind: NoteKind) -> Result<(), AllocError>
+    ensures { OnOk result (text.new ≡ text.old ++ note_row file.now line kind) }
 {
     push_file(text, file.as_bytes())?;
     text.push(b":")?;
-    text.push_number(line_on(source, 1, 0, note.start))?;
+    text.push_number(line)?;
     text.push(b": left: ")?;
-    text.push(note.kind.sentence())?;
+    text.push(kind.sentence())?;
     text.push(b"\n")
 }

@@ -2,7 +2,7 @@
 use crate::apply::rendered;
 use crate::row::{NoteKind, Row};
 use crate::sizes::told_size;
-use crate::source::{Draft, Source};
+use crate::source::{Done, Draft, Source};
 use crate::table::NONE;
 use btools::Text;
 use std::alloc::AllocError;
@@ -10,10 +10,9 @@ use std::alloc::AllocError;
 /// How many words without values get 0.
 const MOST_ZEROS: u64 = 16;
 
-/// A list of values between braces: the name of its vector, the braces, and how many values there are.
+/// A list of values: its braces, and how many values there are.
 #[derive(Clone, Copy)]
 struct ValueList {
-    name: usize,
     open: usize,
     close: usize,
     count: u64,
@@ -37,28 +36,16 @@ pub(crate) fn listed(
         draft.note(source, name, NoteKind::Fewer)?;
         return Ok(false);
     }
-    push_values(source, draft, values, list)?;
-    push_zeros(source, draft, values, list, size)?;
+    let own = rendered(source, draft, name, name)?;
+    push_values(source, draft, values, list, own.as_slice())?;
+    for index in list.count..size {
+        push_value(values, own.as_slice(), index, b"0")?;
+    }
     let mut text = Text::new(draft.alloc);
     text.push(b" ")?;
     text.push_number(size)?;
     draft.put_text(source.end(name), source.end(list.close), text, Row::Value)?;
     Ok(true)
-}
-
-// Adds a statement for each word up to the size that has no value.
-fn push_zeros(
-    source: &Source<'_>,
-    draft: &Draft,
-    values: &mut Text,
-    list: ValueList,
-    size: u64,
-) -> Result<(), AllocError> {
-    let name = rendered(source, draft, list.name, list.name)?;
-    for index in list.count..size {
-        push_value(values, name.as_slice(), index, b"0")?;
-    }
-    Ok(())
 }
 
 // The list of a vector, if no comment, no string and no call is among its values.
@@ -75,7 +62,6 @@ fn list_of(source: &Source<'_>, name: usize, end: usize) -> Option<ValueList> {
         return None;
     }
     Some(ValueList {
-        name,
         open,
         close,
         count: values_in(source, open, close)?,
@@ -107,14 +93,14 @@ fn push_values(
     draft: &Draft,
     values: &mut Text,
     list: ValueList,
-) -> Result<(), AllocError> {
-    let name = rendered(source, draft, list.name, list.name)?;
+    name: &[u8],
+) -> Done {
     let mut first = list.open.wrapping_add(1);
     let mut count: u64 = 0;
     for index in first..list.close.wrapping_add(1) {
         if index == list.close || source.is(index, b",") {
             let value = rendered(source, draft, first, index.wrapping_sub(1))?;
-            push_value(values, name.as_slice(), count, value.as_slice())?;
+            push_value(values, name, count, value.as_slice())?;
             count = count.saturating_add(1);
             first = index.wrapping_add(1);
         }
@@ -122,7 +108,7 @@ fn push_values(
     Ok(())
 }
 
-fn push_value(values: &mut Text, name: &[u8], index: u64, value: &[u8]) -> Result<(), AllocError> {
+fn push_value(values: &mut Text, name: &[u8], index: u64, value: &[u8]) -> Done {
     values.push(b" ")?;
     values.push(name)?;
     values.push(b"[")?;

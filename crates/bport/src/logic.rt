@@ -4,11 +4,11 @@ use crate::expressions::{Exclusive, is_assignment, is_quiet};
 use crate::names::{is_keyword, is_one_of, is_type};
 use crate::row::{NoteKind, Row};
 use crate::shape::{is_closing, is_opening};
-use crate::source::{Draft, Source};
+use crate::source::{Done, Draft, Source};
 use crate::table::NONE;
 use std::alloc::{AllocError, Global};
 
-const COMPARISONS: [&str; 6] = ["==", "!=", "<", "<=", ">", ">="];
+pub(crate) const COMPARISONS: [&str; 6] = ["==", "!=", "<", "<=", ">", ">="];
 
 /// Operators that bind less than these.
 const LOOSER: [&str; 6] = ["&", "|", "^", "?", "&&", "||"];
@@ -76,7 +76,7 @@ fn end_region(
     exclusives: &mut Vec<Exclusive>,
     region: Region,
     end: usize,
-) -> Result<(), AllocError> {
+) -> Done {
     if !region.has_signs {
         return Ok(());
     }
@@ -102,7 +102,7 @@ fn exclusive(
     signs: &[usize],
     first: usize,
     end: usize,
-) -> Result<(), AllocError> {
+) -> Done {
     let Some(sign) = signs.get(0) else {
         return Ok(());
     };
@@ -170,7 +170,7 @@ fn logical(
     signs: &[usize],
     region: Region,
     end: usize,
-) -> Result<(), AllocError> {
+) -> Done {
     let first = region.first;
     if are_comparisons(source, signs, first, end) {
         for sign in signs {
@@ -281,7 +281,7 @@ fn disjunction(
     end: usize,
     is_truth: bool,
     is_filled: bool,
-) -> Result<(), AllocError> {
+) -> Done {
     let is_whole = !signs.iter().any(|sign| source.is(*sign, b"||"));
     let is_closed = is_whole || is_filled;
     let is_bare = is_whole && is_filled;
@@ -317,7 +317,7 @@ fn conjunction(
     end: usize,
     is_truth: bool,
     is_bare: bool,
-) -> Result<(), AllocError> {
+) -> Done {
     let mut count: usize = 0;
     let mut from = first;
     for sign in signs {
@@ -355,7 +355,7 @@ fn valued(
     end: usize,
     is_truth: bool,
     row: Row,
-) -> Result<(), AllocError> {
+) -> Done {
     if is_truth || is_boolean(source, first, end) {
         return Ok(());
     }

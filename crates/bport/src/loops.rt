@@ -3,7 +3,7 @@ use crate::apply::rendered;
 use crate::logic::after_part;
 use crate::names::is_type;
 use crate::row::{NoteKind, Row};
-use crate::source::{Draft, Source};
+use crate::source::{Done, Draft, Source};
 use crate::table::{NONE, filled, put, slot};
 use btools::Text;
 use bword::Edition;
@@ -41,7 +41,7 @@ impl Loops {
     }
 
     /// Adds the label of a loop.
-    pub(crate) fn push_label(&self, text: &mut Text, index: usize) -> Result<(), AllocError> {
+    pub(crate) fn push_label(&self, text: &mut Text, index: usize) -> Done {
         text.push(self.prefix.as_bytes())?;
         text.push_number(index as u64)
     }
@@ -135,12 +135,7 @@ fn begins_name(source: &Source<'_>, prefix: &[u8]) -> bool {
 }
 
 /// Edits a `continue`.
-pub(crate) fn turn(
-    source: &Source<'_>,
-    draft: &mut Draft,
-    loops: &Loops,
-    index: usize,
-) -> Result<(), AllocError> {
+pub(crate) fn turn(source: &Source<'_>, draft: &mut Draft, loops: &Loops, index: usize) -> Done {
     let label = slot(&loops.turns, index);
     if label == NONE {
         return Ok(());
@@ -158,7 +153,7 @@ pub(crate) fn while_loop(
     loops: &Loops,
     index: usize,
     body: usize,
-) -> Result<(), AllocError> {
+) -> Done {
     let end = source.statement_end(body);
     if !loops.has_label(index) || end == NONE {
         return Ok(());
@@ -173,12 +168,7 @@ pub(crate) fn while_loop(
 }
 
 /// `repeat S` is `while(1) S`.
-pub(crate) fn repeat(
-    source: &Source<'_>,
-    draft: &mut Draft,
-    loops: &Loops,
-    index: usize,
-) -> Result<(), AllocError> {
+pub(crate) fn repeat(source: &Source<'_>, draft: &mut Draft, loops: &Loops, index: usize) -> Done {
     if !is_repeat(source, index) {
         return Ok(());
     }
@@ -230,7 +220,7 @@ pub(crate) fn for_loop(
     draft: &mut Draft,
     loops: &Loops,
     index: usize,
-) -> Result<(), AllocError> {
+) -> Done {
     let Some(parts) = parts_of(source, index) else {
         return draft.note(source, index, NoteKind::Loop);
     };
@@ -248,12 +238,7 @@ pub(crate) fn for_loop(
     draft.put_text(at, at, text, Row::For)
 }
 
-fn for_head(
-    source: &Source<'_>,
-    draft: &mut Draft,
-    parts: Parts,
-    has_label: bool,
-) -> Result<(), AllocError> {
+fn for_head(source: &Source<'_>, draft: &mut Draft, parts: Parts, has_label: bool) -> Done {
     let test = parts.first.wrapping_add(1);
     let has_test = parts.second != test;
     let words: &[u8] = if has_test { b"while(" } else { b"while(1" };
@@ -288,7 +273,7 @@ fn for_head(
 }
 
 // The commas of the first part become semicolons.
-fn commas(source: &Source<'_>, draft: &mut Draft, parts: Parts) -> Result<(), AllocError> {
+fn commas(source: &Source<'_>, draft: &mut Draft, parts: Parts) -> Done {
     let mut next = parts.open.wrapping_add(1);
     for index in next..parts.first.min(source.tokens.len()) {
         if index < next {
@@ -331,12 +316,7 @@ fn for_tail(
 }
 
 // The third part, each expression of it as a statement.
-fn push_steps(
-    text: &mut Text,
-    source: &Source<'_>,
-    draft: &Draft,
-    parts: Parts,
-) -> Result<(), AllocError> {
+fn push_steps(text: &mut Text, source: &Source<'_>, draft: &Draft, parts: Parts) -> Done {
     let mut from = parts.second.wrapping_add(1);
     let mut next = from;
     for index in next..source.tokens.len() {
@@ -361,7 +341,7 @@ fn push_step(
     draft: &Draft,
     first: usize,
     last: usize,
-) -> Result<(), AllocError> {
+) -> Done {
     let step = rendered(source, draft, first, last)?;
     text.push(b" ")?;
     text.push(step.as_slice().trim_ascii())?;
@@ -369,12 +349,7 @@ fn push_step(
 }
 
 /// `do S while(c);` is `while(1) { S if(!(c)) break; }`, or in edition 1 `{ L: S if(c) goto L; }`.
-pub(crate) fn do_loop(
-    source: &Source<'_>,
-    draft: &mut Draft,
-    loops: &Loops,
-    index: usize,
-) -> Result<(), AllocError> {
+pub(crate) fn do_loop(source: &Source<'_>, draft: &mut Draft, loops: &Loops, index: usize) -> Done {
     let tail = source.statement_end(index.wrapping_add(1));
     let close = source.partner(tail.wrapping_add(1));
     if source.statement_end(index) == NONE || close == NONE {

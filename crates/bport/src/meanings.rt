@@ -1,32 +1,44 @@
 //! What compiles here, and may have meant another thing where it was written.
-use crate::calls::defines;
+use crate::calls::{arguments, defines};
+use crate::definitions::Outline;
 use crate::edit::between;
-use crate::expressions::{is_assignment, is_callee, is_tight};
-use crate::logic::after_part;
+use crate::effects::{Effects, effects_of};
+use crate::expressions::{is_assignment, is_callee, operand_end};
+use crate::flows::{Flows, flows_of};
+use crate::growth::Growing;
+use crate::logic::{after_part, at_level};
 use crate::names::{is_keyword, value_of_number};
 use crate::quotes::units_in;
+use crate::refusing::is_operand;
 use crate::row::NoteKind;
-use crate::source::{Draft, Quotes, Source};
+use crate::source::{Dialect, Done, Draft, Quotes, Source};
 use crate::table::NONE;
 use crate::texts::texts;
 use crate::tokens::TokenKind;
-use std::alloc::AllocError;
 
 /// How many tokens of a call are looked at, on either side.
 const MOST_TOKENS: usize = 64;
+
+/// Calls that fill a vector with a text.
+const FILLS: [&str; 4] = ["getstr", "concat", "lchar", "copy"];
+
+/// What begins no item of `printf` of the library after a `%`.
+const OTHERS: &[u8] = b"abefghijklmnpqrtvwyzABCDEFGHIJKLMNOPQRSTUVWXYZ.+";
 
 /// How many calls around a token are looked at.
 const MOST_CALLS: usize = 4;
 
 /// What is known of a whole source.
-#[derive(Clone, Copy)]
+#[derive(Drop)]
 struct Facts {
-    /// Whether its words may have more than 16 bits: it is of another form, or a comment tells another size.
-    is_wide: bool,
+    flows: Flows,
+    effects: Effects,
     /// Whether it defines these, or what comes after it does.
     has_puts: bool,
     has_printf: bool,
     has_write: bool,
+    /// Whether operators of both forms assign, or one of a later form beside types.
+    is_mixed: bool,
 }
 
 /// Tells what may have meant another thing, in a source as it stands or in one of another form.
@@ -34,20 +46,42 @@ pub(crate) fn meanings(
     source: &Source<'_>,
     others: &Source<'_>,
     draft: &mut Draft,
+    outline: &Outline,
     is_wide: bool,
-) -> Result<(), AllocError> {
+) -> Done {
+    let count = source.tokens.len();
+    let mut fills: Vec<&str> = Vec::new(draft.alloc);
+    for name in &FILLS {
+        if !defines(source, name.as_bytes()) {
+            fills.push(name)?;
+        }
+    }
     let facts = Facts {
-        is_wide: is_wide || tells_size(source.text),
+        flows: flows_of(draft.alloc, source, outline, &fills)?,
+        effects: effects_of(draft.alloc, source, outline)?,
         has_puts: defines(source, b"puts") || defines(others, b"puts"),
         has_printf: defines(source, b"printf"),
         has_write: defines(source, b"write") || defines(others, b"write"),
+        is_mixed: source.dialect == Dialect::Either
+            && (source.has(0, count, b"+=") || source.has(0, count, b"-=")),
     };
-    texts(source, draft, facts.is_wide)?;
-    for index in 0..source.tokens.len() {
-        if !facts.has_printf && is_form(source, index) && has_other(source.word(index)) {
-            draft.note(source, index, NoteKind::Form)?;
+    let growing = Growing {
+        source,
+        outline,
+        flows: &facts.flows,
+        is_wide: is_wide || tells_size(source.text),
+    };
+    texts(source, draft, outline, &facts.flows)?;
+    let mut is_told = false;
+    for index in 0..count {
+        if !is_told && growing.may_wrap(index) {
+            draft.note(source, index, NoteKind::Wraps)?;
+            is_told = true;
         }
-        if let Some(kind) = meaning(source, facts, index) {
+        if let Some(kind) = form_meaning(source, &facts, index) {
+            draft.note(source, index, kind)?;
+        }
+        if let Some(kind) = meaning(source, &facts, index) {
             draft.note(source, index, kind)?;
         }
     }
@@ -73,7 +107,25 @@ fn tells_size(text: &[u8]) -> bool {
     false
 }
 
-fn meaning(source: &Source<'_>, facts: Facts, index: usize) -> Option<NoteKind> {
+// What the form of `printf` may mean.
+fn form_meaning(source: &Source<'_>, facts: &Facts, index: usize) -> Option<NoteKind> {
+    let word = source.word(index);
+    let is_form = source.kind(index) == Some(TokenKind::String)
+        && source.is(index.wrapping_sub(2), b"printf")
+        && source.is(index.wrapping_sub(1), b"(");
+    let is_later = source.quotes == Quotes::Backslashes;
+    if facts.has_printf || !is_form {
+        None
+    } else if has_item(word, OTHERS) || is_later && has_item(word, b"* #") {
+        Some(NoteKind::Form)
+    } else if has_item(word, b"oux") {
+        Some(NoteKind::Octal)
+    } else {
+        None
+    }
+}
+
+fn meaning(source: &Source<'_>, facts: &Facts, index: usize) -> Option<NoteKind> {
     let word = source.word(index);
     match source.kind(index)? {
         TokenKind::Number
@@ -86,56 +138,105 @@ fn meaning(source: &Source<'_>, facts: Facts, index: usize) -> Option<NoteKind> 
         TokenKind::String if source.quotes == Quotes::Both && has_pair(word, b'*', b"nte0()*") => {
             Some(NoteKind::Stars)
         }
-        TokenKind::String
-            if !facts.has_printf && is_form(source, index) && has_pair(word, b'%', b"o") => {
-            Some(NoteKind::Octal)
-        }
-        TokenKind::Name if matches!(word, b"puts") && !facts.has_puts && source.is_call(index) => {
-            Some(NoteKind::Line)
-        }
         TokenKind::Number | TokenKind::Char | TokenKind::String => None,
-        _ if is_ordered(source, index) => Some(NoteKind::Order),
+        _ if is_ordered(source, &facts.effects, index) => Some(NoteKind::Order),
+        TokenKind::Name if source.is_call(index) => call_meaning(source, facts, index),
         _ => sign_meaning(source, facts, index),
     }
 }
 
-fn sign_meaning(source: &Source<'_>, facts: Facts, index: usize) -> Option<NoteKind> {
+// What a call may mean.
+fn call_meaning(source: &Source<'_>, facts: &Facts, index: usize) -> Option<NoteKind> {
+    let open = index.wrapping_add(1);
+    let first = open.wrapping_add(1);
     let before = index.wrapping_sub(1);
-    let is_string = source.kind(before) == Some(TokenKind::String)
-        || source.kind(index.wrapping_add(1)) == Some(TokenKind::String);
+    let is_library = matches!(source.word(index), b"printf" | b"getchar" | b"putchar");
+    let count = if is_library {
+        arguments(source, open)
+    } else {
+        0
+    };
+    let is_form = source.is(index, b"printf") && !facts.has_printf;
+    let is_unit = source.kind(first) == Some(TokenKind::Number) || source.is(first, b"-");
+    let is_dropped = source.begins_statement(index)
+        || matches!(source.word(before), b"?" | b")" | b"}");
     match source.word(index) {
-        b"+" | b"-" if is_string => Some(NoteKind::Pointer),
-        b">>" | b"=>>" if source.kind(before) != Some(TokenKind::Number) => Some(NoteKind::Shift),
-        b"*" if copies_string(source, index) => Some(NoteKind::Ends),
-        b"=*" | b"*=" | b"=<<" | b"<<=" if !is_tight(source, index) => Some(NoteKind::Wraps),
-        b"=+" | b"+=" if facts.is_wide && is_last_name(source, index) => Some(NoteKind::Wraps),
-        b"+" if is_sum(source, facts, index) => Some(NoteKind::Wraps),
-        b"*" if is_product(source, index) => Some(NoteKind::Wraps),
+        b"puts" if !facts.has_puts => Some(NoteKind::Line),
+        b"getchar" if count > 0 => Some(NoteKind::Unit),
+        b"putchar" if count > 1 => Some(NoteKind::Unit),
+        _ if is_form && is_unit => Some(NoteKind::Unit),
+        _ if is_form && count > 10 => Some(NoteKind::Form),
+        _ if is_form && !is_dropped => Some(NoteKind::Given),
+        b"char" | b"getbyte" if takes_length(source, index) => Some(NoteKind::Length),
         _ => None,
     }
 }
 
-// Whether what comes after a token is a name that ends a statement.
-fn is_last_name(source: &Source<'_>, index: usize) -> bool {
-    source.is_name(index.wrapping_add(1)) && source.is(index.wrapping_add(2), b";")
+// Whether the first character of a string is taken for its length.
+fn takes_length(source: &Source<'_>, index: usize) -> bool {
+    let close = source.partner(index.wrapping_add(1));
+    let last = close.wrapping_sub(1);
+    let (before, next) = (index.wrapping_sub(1), close.wrapping_add(1));
+    if !source.is(last, b"0") || !source.is(last.wrapping_sub(1), b",") {
+        return false;
+    }
+    let name = source.word(before.wrapping_sub(1));
+    let is_stored = source.is(before, b"=");
+    for at in index..index.saturating_add(MOST_TOKENS) {
+        let (left, right) = (at.wrapping_sub(1), at.wrapping_add(1));
+        if is_stored && source.is(at, name) && is_limit(source, left, right) {
+            return true;
+        }
+    }
+    source.is(index, b"getbyte") || is_limit(source, before, next)
 }
 
-// Whether a name is added to itself, or to another one that is the last one of what is assigned.
-fn is_sum(source: &Source<'_>, facts: Facts, index: usize) -> bool {
-    let before = index.wrapping_sub(1);
-    let is_doubled = source.word(before) == source.word(index.wrapping_add(1));
-    let is_assigned = source.is(before.wrapping_sub(1), b"=") && is_last_name(source, index);
-    source.is_name(before) && (is_doubled || facts.is_wide && is_assigned)
+// Whether another name is counted up or down to what stands between two tokens.
+fn is_limit(source: &Source<'_>, before: usize, next: usize) -> bool {
+    let is_less = matches!(source.word(before), b"<" | b"<=");
+    let is_more = matches!(source.word(next), b">" | b">=");
+    is_less || is_more && source.is_name(next.wrapping_add(1)) || source.is(next, b"--")
 }
 
-// Whether a name is assigned a product of itself alone.
-fn is_product(source: &Source<'_>, index: usize) -> bool {
+fn sign_meaning(source: &Source<'_>, facts: &Facts, index: usize) -> Option<NoteKind> {
     let (before, next) = (index.wrapping_sub(1), index.wrapping_add(1));
-    let name = index.wrapping_sub(3);
-    source.is_name(name)
-        && source.is(index.wrapping_sub(2), b"=")
-        && (source.word(before) == source.word(name) || source.word(next) == source.word(name))
-        && source.is(next.wrapping_add(1), b";")
+    let sign = before.wrapping_sub(1);
+    let is_below = matches!(source.word(sign), b"-" | b"~")
+        && !is_operand(source, sign.wrapping_sub(1));
+    let is_shifted = source.kind(before) != Some(TokenKind::Number) || is_below;
+    let is_part = facts.flows.held(before).is_text || source.is(next, b"0");
+    match source.word(index) {
+        b">>" | b"=>>" if is_shifted => Some(NoteKind::Shift),
+        b"*" if copies_string(source, index) => Some(NoteKind::Ends),
+        b"=+" | b"=-" if facts.is_mixed => Some(NoteKind::Signs),
+        b"%" if is_part => Some(NoteKind::Taking),
+        b"!" if takes_word(source, &facts.flows, index) => Some(NoteKind::Taking),
+        _ => None,
+    }
+}
+
+// Whether `!` makes no condition of what is an address, or of a sum.
+fn takes_word(source: &Source<'_>, flows: &Flows, index: usize) -> bool {
+    let (before, next) = (index.wrapping_sub(1), index.wrapping_add(1));
+    let name = before.wrapping_sub(1);
+    let last = operand_end(source, next);
+    let is_value = match source.word(before) {
+        b"=" | b"," | b"return" => true,
+        b"(" => {
+            source.is(name, b"return") || source.is_name(name) && !is_keyword(source.word(name))
+        }
+        _ => false,
+    };
+    let is_again = source.is(before, b"=") && source.word(name) == source.word(next);
+    let is_sum = source.is(next, b"(")
+        && at_level(source, next.wrapping_add(1), last, b"+") != last;
+    let held = flows.held(next);
+    is_value && (held.is_address || is_again && !held.is_number)
+        || is_sum
+        || matches!(
+            source.word(last.wrapping_add(1)),
+            b"==" | b"!=" | b"<" | b"<=" | b">" | b">=" | b"+" | b"-"
+        )
 }
 
 // Whether an octal number has two characters of nine bits.
@@ -158,22 +259,16 @@ fn is_argument(source: &Source<'_>, index: usize, name: &[u8]) -> bool {
         && source.is(index.wrapping_add(1), b")")
 }
 
-// Whether a string is the form by which `printf` writes.
-fn is_form(source: &Source<'_>, index: usize) -> bool {
-    source.kind(index) == Some(TokenKind::String)
-        && source.is(index.wrapping_sub(2), b"printf")
-        && source.is(index.wrapping_sub(1), b"(")
-}
-
-// Whether a form has an item that `printf` of the library doesn't have.
-fn has_other(form: &[u8]) -> bool {
+// Whether an item of a form goes on with one of these bytes.
+fn has_item(form: &[u8], bytes: &[u8]) -> bool {
     let mut is_item = false;
     for byte in form {
+        if is_item && bytes.contains(byte) {
+            return true;
+        }
         is_item = match *byte {
             b'%' => !is_item,
             b'-' | b'0'..=b'9' => is_item,
-            b'd' | b'u' | b'o' | b'x' | b'c' | b's' => false,
-            b'a'..=b'z' | b'A'..=b'Z' | b'.' | b'+' if is_item => return true,
             _ => false,
         };
     }
@@ -202,14 +297,19 @@ fn copies_string(source: &Source<'_>, index: usize) -> bool {
 }
 
 // Whether a call gets in one argument what a token changes, and the same name in another one, or an expression has what
-// `++`, `--` or a call without arguments changes, and the same name once more.
-fn is_ordered(source: &Source<'_>, index: usize) -> bool {
-    let name = changed(source, index);
+// `++`, `--` or a call changes, and the same name or another such call once more.
+fn is_ordered(source: &Source<'_>, effects: &Effects, index: usize) -> bool {
+    let is_call = is_bare_call(source, index) || effects.is_acting(source, index);
+    let name = if is_call {
+        index
+    } else {
+        changed(source, index)
+    };
     if !source.is_name(name) {
         return false;
     }
-    let is_step = matches!(source.word(index), b"++" | b"--") || is_bare_call(source, index);
-    if is_step && is_repeated(source, name) {
+    let is_step = matches!(source.word(index), b"++" | b"--") || is_call;
+    if is_step && is_repeated(source, effects, name) {
         return true;
     }
     let mut at = name;
@@ -217,7 +317,7 @@ fn is_ordered(source: &Source<'_>, index: usize) -> bool {
         at = open_before(source, at);
         let callee = at.wrapping_sub(1);
         let is_call = is_callee(source, callee) && !is_keyword(source.word(callee));
-        if is_call && is_elsewhere(source, at, name) {
+        if is_call && is_elsewhere(source, effects, at, name) {
             return true;
         }
     }
@@ -233,7 +333,6 @@ fn changed(source: &Source<'_>, index: usize) -> usize {
         b"++" | b"--" if source.is(before, b")") => source.partner(before).wrapping_add(2),
         b"++" | b"--" => before,
         b"getchar" | b"read" | b"getnum" | b"getc" if source.is_call(index) => index,
-        _ if is_bare_call(source, index) => index,
         word if is_assignment(word) => before,
         _ => NONE,
     }
@@ -245,7 +344,7 @@ fn is_bare_call(source: &Source<'_>, index: usize) -> bool {
 }
 
 // Whether the expression around a name has it again, as a call if it is one.
-fn is_repeated(source: &Source<'_>, name: usize) -> bool {
+fn is_repeated(source: &Source<'_>, effects: &Effects, name: usize) -> bool {
     let is_call = is_bare_call(source, name);
     for is_after in [false, true] {
         let mut at = name;
@@ -258,7 +357,10 @@ fn is_repeated(source: &Source<'_>, name: usize) -> bool {
             if ends_expression(source, at) {
                 break;
             }
-            if source.word(at) == source.word(name) && is_bare_call(source, at) == is_call {
+            let is_same = source.word(at) == source.word(name)
+                && is_bare_call(source, at) == is_call;
+            let is_read = !source.is(at.wrapping_add(1), b"=");
+            if is_same || is_read && effects.is_changed(source, at, name) {
                 return true;
             }
         }
@@ -282,8 +384,8 @@ fn is_over(source: &Source<'_>, close: usize) -> bool {
     source.is_head(close) || source.is_name(close.wrapping_add(1))
 }
 
-// The bracket that is open before a token.
-fn open_before(source: &Source<'_>, index: usize) -> usize {
+/// The bracket that is open before a token.
+pub(crate) fn open_before(source: &Source<'_>, index: usize) -> usize {
     let mut at = index;
     for _ in 0..MOST_TOKENS {
         at = at.wrapping_sub(1);
@@ -297,8 +399,8 @@ fn open_before(source: &Source<'_>, index: usize) -> usize {
     NONE
 }
 
-// Whether another argument of a call than that of a token has the same name.
-fn is_elsewhere(source: &Source<'_>, open: usize, name: usize) -> bool {
+// Whether another argument of a call than that of a token has the same name, or what a call with this name changes.
+fn is_elsewhere(source: &Source<'_>, effects: &Effects, open: usize, name: usize) -> bool {
     let end = source.partner(open).min(open.saturating_add(MOST_TOKENS));
     let mut first = open.saturating_add(1);
     let mut next = first;
@@ -308,7 +410,7 @@ fn is_elsewhere(source: &Source<'_>, open: usize, name: usize) -> bool {
         }
         if at == end || source.is(at, b",") {
             let is_own = first <= name && name < at;
-            if !is_own && source.has(first, at, source.word(name)) {
+            if !is_own && effects.has_changed(source, (first, at), name) {
                 return true;
             }
             first = at.saturating_add(1);

@@ -4,7 +4,7 @@ use crate::logic::at_level;
 use crate::names::{has_name, is_keyword, is_type};
 use crate::pointers::is_typed;
 use crate::row::{NoteKind, Row};
-use crate::source::{Draft, Source};
+use crate::source::{Done, Draft, Source};
 use crate::table::{NONE, filled, put, slot};
 use btools::Text;
 use std::alloc::{AllocError, Global};
@@ -35,7 +35,7 @@ pub(crate) fn mentions(
     outline: &Outline,
     short: &[Option<Text>],
     starred: Vec<usize>,
-) -> Result<(), AllocError> {
+) -> Done {
     let alloc = draft.alloc;
     let mut known = Known {
         externals: filled(alloc, source.tokens.len())?,
@@ -64,7 +64,7 @@ fn declared(
     known: &mut Known,
     function: Function,
     number: usize,
-) -> Result<(), AllocError> {
+) -> Done {
     for index in function.open.min(function.body)..function.body {
         known.declare(slot(source.firsts, index), number, NONE);
     }
@@ -168,7 +168,7 @@ pub(crate) fn heap(
     others: &Source<'_>,
     draft: &mut Draft,
     outline: &Outline,
-) -> Result<(), AllocError> {
+) -> Done {
     let is_wanted = has_name(source, b"getvec") && has_name(others, b"givevec");
     if !is_wanted || has_name(source, b"givevec") || has_name(source, b"vecpool") {
         return Ok(());
@@ -195,12 +195,7 @@ pub(crate) fn heap(
     Ok(())
 }
 
-fn mention(
-    source: &Source<'_>,
-    draft: &mut Draft,
-    function: Function,
-    words: &[u8],
-) -> Result<(), AllocError> {
+fn mention(source: &Source<'_>, draft: &mut Draft, function: Function, words: &[u8]) -> Done {
     let mut text = Text::new(draft.alloc);
     let is_braced = source.is_open_brace(function.body);
     text.push(if is_braced { b" extrn " } else { b"extrn " })?;

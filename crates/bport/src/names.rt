@@ -8,7 +8,7 @@ use crate::expressions::MOST_BYTES;
 use crate::inputs::is_set;
 use crate::quotes::quoted;
 use crate::row::{NoteKind, Row};
-use crate::source::{Dialect, Draft, Quotes, Source};
+use crate::source::{Dialect, Done, Draft, Quotes, Source};
 use crate::table::{NONE, filled, place_in, put, slot, word_of};
 use crate::taken::{NAME_LETTERS, Taken};
 use crate::tokens::{Token, TokenKind, tokens_of};
@@ -74,7 +74,7 @@ impl Constants {
         } else {
             value
         };
-        let ported = self.ported(value)?;
+        let ported = self.ported(draft, at, value)?;
         let Some(Value { text, is_wrapped }) = ported else {
             draft.note_at(at, NoteKind::Macro)?;
             return Ok(false);
@@ -96,7 +96,7 @@ impl Constants {
         }
     }
 
-    fn add(&mut self, name: &[u8], value: Text) -> Result<(), AllocError> {
+    fn add(&mut self, name: &[u8], value: Text) -> Done {
         let place = place_in(&self.slots, &self.names, name);
         put(&mut self.slots, place, self.names.len());
         let mut kept = Text::new(self.alloc);
@@ -107,7 +107,12 @@ impl Constants {
     }
 
     // What a value is here, if it is one.
-    fn ported(&self, value: &[u8]) -> Result<Option<Value>, AllocError> {
+    fn ported(
+        &self,
+        told: &mut Draft,
+        at: usize,
+        value: &[u8],
+    ) -> Result<Option<Value>, AllocError> {
         let value = without_remarks(self.alloc, value)?;
         let places = places_of(self.alloc, value)?;
         let tokens = tokens_of(self.alloc, value, &places)?;
@@ -138,6 +143,9 @@ impl Constants {
         for index in 0..tokens.len() {
             self.value_token(&source, &mut draft, index)?;
         }
+        for note in &draft.notes {
+            told.note_at(at, note.kind)?;
+        }
         let plain = apply(self.alloc, value, &draft.edits)?;
         let is_bare = tokens.len() < 2 || is_closed(value, &tokens);
         let mut text = Text::new(self.alloc);
@@ -156,12 +164,7 @@ impl Constants {
         }))
     }
 
-    fn value_token(
-        &self,
-        source: &Source<'_>,
-        draft: &mut Draft,
-        index: usize,
-    ) -> Result<(), AllocError> {
+    fn value_token(&self, source: &Source<'_>, draft: &mut Draft, index: usize) -> Done {
         match source.kind(index) {
             Some(TokenKind::Name) => match self.value_of(source.word(index)) {
                 Some(value) => draft.replace(source, index, value, Row::Constant),
@@ -319,7 +322,7 @@ pub(crate) fn name(
     short: &[Option<Text>],
     renamed: &[usize],
     index: usize,
-) -> Result<(), AllocError> {
+) -> Done {
     let word = source.word(index);
     if let Some(Some(text)) = short.get(slot(renamed, index)) {
         return draft.replace(source, index, text.as_slice(), Row::Scope);
@@ -347,7 +350,7 @@ pub(crate) fn name(
 }
 
 // The name of the end of the input, which was below each character.
-fn end_name(source: &Source<'_>, draft: &mut Draft, index: usize) -> Result<(), AllocError> {
+fn end_name(source: &Source<'_>, draft: &mut Draft, index: usize) -> Done {
     let sign = index.wrapping_sub(1);
     let words: &[u8] = match source.word(sign) {
         b">" => b"!= '*e'",
@@ -440,11 +443,7 @@ pub(crate) fn is_one_of(word: &[u8], words: &[&str]) -> bool {
 }
 
 /// Edits a number to the base 16, or one to the base 8 with other digits.
-pub(crate) fn number(
-    source: &Source<'_>,
-    draft: &mut Draft,
-    index: usize,
-) -> Result<(), AllocError> {
+pub(crate) fn number(source: &Source<'_>, draft: &mut Draft, index: usize) -> Done {
     let word = source.word(index);
     if word.contains(&b'.') {
         return draft.note(source, index, NoteKind::Floating);

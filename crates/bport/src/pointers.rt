@@ -6,7 +6,7 @@ use crate::names::{is_keyword, is_type};
 use crate::row::{NoteKind, Row};
 use crate::shape::{is_closing, is_opening};
 use crate::sizes::told_size;
-use crate::source::{Draft, Source};
+use crate::source::{Done, Draft, Source};
 use crate::table::{NONE, filled, put, slot};
 use btools::Text;
 use std::alloc::{AllocError, Global};
@@ -123,7 +123,7 @@ pub(crate) fn pointer(
     values: &mut Text,
     open: usize,
     end: usize,
-) -> Result<(), AllocError> {
+) -> Done {
     let name = open.wrapping_add(2);
     let next = name.wrapping_add(1);
     let close = pointed_end(source, open);
@@ -172,7 +172,7 @@ pub(crate) fn pointer_calls(
     draft: &mut Draft,
     outline: &Outline,
     holders: &[usize],
-) -> Result<(), AllocError> {
+) -> Done {
     let mut known = Known {
         externals: filled(alloc, source.tokens.len())?,
         holders: filled(alloc, source.tokens.len())?,
@@ -222,7 +222,7 @@ fn calls_in(
     known: &mut Known,
     function: Function,
     number: usize,
-) -> Result<(), AllocError> {
+) -> Done {
     let mut declaring = UNDECLARED;
     for index in function.open.min(function.body)..function.end.min(source.tokens.len()) {
         declaring = declaring.at(source, index);

@@ -9,9 +9,7 @@ use crate::apply::{apply, joined};
 use crate::calls::calls;
 use crate::definitions::{Outline, outline_of};
 use crate::edit::{Edit, are_sound, between, fits};
-use crate::expressions::{
-    Exclusive, exclusive_assignment, exclusive_or, is_joined, may_wrap, sign,
-};
+use crate::expressions::{Exclusive, exclusive_assignment, exclusive_or, is_joined, sign};
 use crate::grids::edit_grids;
 use crate::holders::{edit_holders, tell_holders};
 use crate::logic::signs;
@@ -27,7 +25,7 @@ use crate::remarks::remarks;
 use crate::row::{Note, NoteKind, Row};
 use crate::scopes::{renames, tell_labels};
 use crate::shape::ends_of;
-use crate::source::{Dialect, Draft, Source, key_of};
+use crate::source::{Dialect, Done, Draft, Source, key_of};
 use crate::statements::statement;
 use crate::staying::{has_refused, has_right, tell_old};
 use crate::streams::streams;
@@ -155,7 +153,7 @@ fn plain_notes(alloc: Global, text: &[u8], rest: &[u8]) -> Result<Vec<Note>, All
     tell_holders(alloc, &source, &others, &mut draft, &outline)?;
     plain_calls(alloc, &source, &others, &mut draft, &outline)?;
     tell_labels(alloc, &source, &mut draft, &outline)?;
-    meanings(&source, &others, &mut draft, false)?;
+    meanings(&source, &others, &mut draft, &outline, false)?;
     let has_heap = has_name(&source, b"givevec");
     for index in 0..source.tokens.len() {
         if let Some(kind) = plain_note(&source, index, has_heap) {
@@ -178,7 +176,7 @@ fn plain_calls(
     others: &Source<'_>,
     draft: &mut Draft,
     outline: &Outline,
-) -> Result<(), AllocError> {
+) -> Done {
     let mut made = Draft::new(alloc);
     calls(alloc, source, others, &mut made, outline)?;
     for edit in &made.edits {
@@ -195,11 +193,12 @@ fn plain_calls(
     Ok(())
 }
 
-// Notes in the order of a source, each kind once in a line.
+// Notes in the order of a source, each kind once in a line, or once of all.
 fn in_order(alloc: Global, source: &[u8], notes: Vec<Note>) -> Result<Vec<Note>, AllocError> {
     let mut sorted = notes;
     sorted.sort_by_key(|note| note.start)?;
     let mut kept: Vec<Note> = Vec::new(alloc);
+    let mut once: Vec<Note> = Vec::new(alloc);
     let mut begun: usize = 0;
     let mut at: usize = 0;
     for note in sorted {
@@ -207,10 +206,18 @@ fn in_order(alloc: Global, source: &[u8], notes: Vec<Note>) -> Result<Vec<Note>,
             begun = kept.len();
         }
         at = note.start;
-        let told = kept.get(begun..).unwrap_or(&[]);
-        if !told.iter().any(|other| other.kind == note.kind) {
-            kept.push(note)?;
+        let told = if note.kind.is_of_all() {
+            once.as_slice()
+        } else {
+            kept.get(begun..).unwrap_or(&[])
+        };
+        if told.iter().any(|other| other.kind == note.kind) {
+            continue;
         }
+        if note.kind.is_of_all() {
+            once.push(note)?;
+        }
+        kept.push(note)?;
     }
     Ok(kept)
 }
@@ -224,7 +231,6 @@ fn plain_note(source: &Source<'_>, index: usize, has_heap: bool) -> Option<NoteK
             Some(NoteKind::Backslash)
         }
         _ if source.dialect != Dialect::Early && is_joined(source, index) => Some(NoteKind::Signs),
-        _ if may_wrap(source, index) => Some(NoteKind::Wraps),
         _ => None,
     }
 }
@@ -349,7 +355,7 @@ fn draft_words(
     draft: &mut Draft,
     constants: &Constants,
     outline: &Outline,
-) -> Result<(), AllocError> {
+) -> Done {
     let mut names = Taken::of(alloc, source, others)?;
     let mut short = short_names(alloc, source, others, outline, &mut names)?;
     let renamed = renames(alloc, source, outline, &mut names, &mut short)?;
@@ -362,7 +368,7 @@ fn draft_words(
     }
     tell_ends(source, draft)?;
     tell_labels(alloc, source, draft, outline)?;
-    meanings(source, others, draft, true)?;
+    meanings(source, others, draft, outline, true)?;
     streams(source, others, draft)?;
     pointer_calls(alloc, source, draft, outline, &held.names)?;
     draft.order()?;
@@ -378,7 +384,7 @@ fn draft_statements(
     source: &Source<'_>,
     draft: &mut Draft,
     outline: &mut Outline,
-) -> Result<(), AllocError> {
+) -> Done {
     let exclusives = signs(alloc, source, draft, outline)?;
     exclusive_ors(source, draft, exclusives)?;
     exclusive_assignments(source, draft)?;
@@ -394,11 +400,7 @@ fn draft_statements(
 }
 
 // Edits those that have no other one in them, then those around these, and so on.
-fn exclusive_ors(
-    source: &Source<'_>,
-    draft: &mut Draft,
-    exclusives: Vec<Exclusive>,
-) -> Result<(), AllocError> {
+fn exclusive_ors(source: &Source<'_>, draft: &mut Draft, exclusives: Vec<Exclusive>) -> Done {
     let mut left = exclusives;
     for _ in 0..MOST_LEVELS {
         draft.order()?;
@@ -420,7 +422,7 @@ fn exclusive_ors(
     draft.order()
 }
 
-fn exclusive_assignments(source: &Source<'_>, draft: &mut Draft) -> Result<(), AllocError> {
+fn exclusive_assignments(source: &Source<'_>, draft: &mut Draft) -> Done {
     for index in 0..source.tokens.len() {
         if matches!(source.word(index), b"^=" | b"=^") {
             exclusive_assignment(source, draft, index)?;
@@ -436,9 +438,11 @@ fn token(
     short: &[Option<Text>],
     renamed: &[usize],
     index: usize,
-) -> Result<(), AllocError> {
+) -> Done {
     match source.kind(index) {
-        Some(TokenKind::Name) if source.is_turned(index) => turned_head(source, draft, index),
+        Some(TokenKind::Name) if source.head_word(index) != source.word(index) => {
+            turned_head(source, draft, index)
+        }
         Some(TokenKind::Name) => name(source, draft, constants, short, renamed, index),
         Some(TokenKind::Number) => number(source, draft, index),
         Some(TokenKind::Char | TokenKind::String) => quoted(source, draft, index),

@@ -4,18 +4,13 @@ use crate::expressions::is_callee;
 use crate::names::value_of;
 use crate::refusing::is_operand;
 use crate::row::{NoteKind, Row};
-use crate::source::{Draft, Quotes, Source};
+use crate::source::{Done, Draft, Quotes, Source};
 use crate::table::NONE;
 use crate::tokens::TokenKind;
 use btools::Text;
-use std::alloc::AllocError;
 
 /// Edits the escapes of a constant or a string, and divides a constant of too many characters.
-pub(crate) fn quoted(
-    source: &Source<'_>,
-    draft: &mut Draft,
-    index: usize,
-) -> Result<(), AllocError> {
+pub(crate) fn quoted(source: &Source<'_>, draft: &mut Draft, index: usize) -> Done {
     let word = source.word(index);
     let start = source.start(index);
     if matches!(word, b"'$('" | b"'$)'") {
@@ -89,7 +84,7 @@ fn star_before(source: &Source<'_>, name: usize) -> usize {
 }
 
 /// Tells each character 0 that is the end of a string now, where a word of a vector is compared with 0, too.
-pub(crate) fn tell_ends(source: &Source<'_>, draft: &mut Draft) -> Result<(), AllocError> {
+pub(crate) fn tell_ends(source: &Source<'_>, draft: &mut Draft) -> Done {
     if !tests_words(source) {
         return Ok(());
     }
@@ -127,12 +122,7 @@ pub(crate) fn is_word_test(source: &Source<'_>, last: usize) -> bool {
 }
 
 // Writes a character by its number, or as the end of a string.
-fn coded(
-    source: &Source<'_>,
-    draft: &mut Draft,
-    index: usize,
-    code: u64,
-) -> Result<(), AllocError> {
+fn coded(source: &Source<'_>, draft: &mut Draft, index: usize, code: u64) -> Done {
     if code == 0 {
         if !is_end(source, index) {
             draft.note(source, index, NoteKind::Ends)?;
@@ -248,13 +238,7 @@ pub(crate) fn has_backslash(word: &[u8]) -> bool {
 }
 
 // Edits what isn't written so here. A backslash that would begin an escape in what comes out is told.
-fn escape(
-    source: &Source<'_>,
-    draft: &mut Draft,
-    index: usize,
-    unit: &[u8],
-    at: usize,
-) -> Result<(), AllocError> {
+fn escape(source: &Source<'_>, draft: &mut Draft, index: usize, unit: &[u8], at: usize) -> Done {
     let place = source.start(index).saturating_add(at);
     let next = place.saturating_add(unit.len());
     let text = escape_for(unit);
@@ -305,7 +289,7 @@ fn is_apart(source: &Source<'_>, index: usize, next: usize) -> bool {
 }
 
 // Makes of `putchar('abc');` two calls.
-fn divide(source: &Source<'_>, draft: &mut Draft, index: usize) -> Result<(), AllocError> {
+fn divide(source: &Source<'_>, draft: &mut Draft, index: usize) -> Done {
     let call = index.wrapping_sub(2);
     let is_call = source.is(call, b"putchar")
         && source.is(index.wrapping_sub(1), b"(")

@@ -5,7 +5,7 @@ use crate::names::is_keyword;
 use crate::pointers::ends_operand;
 use crate::row::NoteKind;
 use crate::shape::{is_closing, is_opening};
-use crate::source::{Draft, Source};
+use crate::source::{Done, Draft, Source};
 use crate::staying::is_foreign;
 use crate::table::NONE;
 use crate::tokens::TokenKind;
@@ -62,7 +62,7 @@ fn is_parted(source: &Source<'_>, index: usize) -> bool {
 }
 
 // Tells the first bracket without the other one of its pair, and a string that may have gone on to it.
-fn unpaired(source: &Source<'_>, draft: &mut Draft) -> Result<(), AllocError> {
+fn unpaired(source: &Source<'_>, draft: &mut Draft) -> Done {
     for index in 0..source.tokens.len() {
         let word = source.word(index);
         if (is_opening(word) || is_closing(word)) && source.partner(index) == NONE {
@@ -85,7 +85,7 @@ fn has_open_string(source: &Source<'_>) -> bool {
 }
 
 // Tells the first string with `*"` in it, where other escapes begin with a backslash.
-fn star_string(source: &Source<'_>, draft: &mut Draft) -> Result<(), AllocError> {
+fn star_string(source: &Source<'_>, draft: &mut Draft) -> Done {
     for index in 0..source.tokens.len() {
         let is_string = source.kind(index) == Some(TokenKind::String);
         if is_string && has_pair(source.word(index), b'*', b"\"") {

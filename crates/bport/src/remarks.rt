@@ -2,11 +2,10 @@
 use crate::edit::between;
 use crate::names::Constants;
 use crate::row::{NoteKind, Row};
-use crate::source::{Draft, has_mark};
+use crate::source::{Done, Draft, has_mark};
 use crate::staying::is_code;
 use crate::tokens::is_letter;
 use crate::within::Within;
-use std::alloc::AllocError;
 
 /// Edits these comments and lines, and keeps the constants that they define.
 pub(crate) fn remarks(
@@ -14,7 +13,7 @@ pub(crate) fn remarks(
     constants: &mut Constants,
     source: &[u8],
     places: &[Within],
-) -> Result<(), AllocError> {
+) -> Done {
     let mut is_first = true;
     for at in 0..source.len() {
         let next = places.get(at.saturating_add(1));
@@ -45,7 +44,7 @@ fn is_passed(byte: u8, places: &[Within], at: usize) -> bool {
 }
 
 // Puts the marks of a comment around a line whose mark has so many bytes.
-fn remark(draft: &mut Draft, source: &[u8], at: usize, marks: usize) -> Result<(), AllocError> {
+fn remark(draft: &mut Draft, source: &[u8], at: usize, marks: usize) -> Done {
     let end = end_of_line(source, at);
     let from = at.saturating_add(marks);
     if has_mark(between(source, from, end)) {
@@ -65,12 +64,7 @@ fn end_of_line(source: &[u8], at: usize) -> usize {
 }
 
 // A line that begins with `#`.
-fn line(
-    draft: &mut Draft,
-    constants: &mut Constants,
-    source: &[u8],
-    at: usize,
-) -> Result<(), AllocError> {
+fn line(draft: &mut Draft, constants: &mut Constants, source: &[u8], at: usize) -> Done {
     let end = end_of_line(source, at);
     let text = between(source, at.saturating_add(1), end).trim_ascii_start();
     match first_word(text) {
@@ -98,7 +92,7 @@ fn first_word(text: &[u8]) -> &[u8] {
 }
 
 // Makes a comment of the line. A comment that begins in it ends it.
-fn directive(draft: &mut Draft, source: &[u8], at: usize, end: usize) -> Result<(), AllocError> {
+fn directive(draft: &mut Draft, source: &[u8], at: usize, end: usize) -> Done {
     let last = before_comment(source, at, end);
     let tail = between(source, last, end);
     let is_ended = tail.starts_with(b"/*");
@@ -165,7 +159,7 @@ fn define(
     source: &[u8],
     at: usize,
     end: usize,
-) -> Result<(), AllocError> {
+) -> Done {
     let last = before_comment(source, at, end);
     let text = between(source, at.saturating_add(1), last).trim_ascii_start();
     let after = between(text, first_word(text).len(), text.len()).trim_ascii_start();

@@ -169,6 +169,11 @@ pub enum NoteKind {
     High,
     Parted,
     Case,
+    Unit,
+    Length,
+    Taking,
+    Vector,
+    Given,
 }
 
 impl NoteKind {
@@ -231,18 +236,23 @@ impl NoteKind {
             NoteKind::Star => b"*\" doesn't end a string: port changes nothing until **\" stands where one ends",
             NoteKind::Pair => b"a word has two characters of eight bits: 'ab' is 97 * 256 + 98, and 040040 writes '@ '",
             NoteKind::Order => b"operands and arguments are evaluated from left to right: another order may be meant",
-            NoteKind::Octal => b"%o writes the 16 bits of a number below 0, without a sign",
+            NoteKind::Octal => b"%o, %u and %x write the 16 bits of a number below 0, without a sign",
             NoteKind::Line => b"puts(s) writes a newline after the string: write putstr(s); putchar('*n');",
             NoteKind::Stars => b"* begins an escape in a string, as in *n and *(: write ** for a star",
-            NoteKind::Form => b"printf knows d, u, o, x, c and s after a %, and writes what has others as it is",
+            NoteKind::Form => b"printf knows d, u, o, x, c and s after a %, nine values at most, and writes all else as it is",
             NoteKind::End => b"'*e' is 4, and as a value the same as the number 4, which EOF wasn't",
             NoteKind::Status => b"the value that main returns is no status: exit(n) ends a program with one",
             NoteKind::Quarter => b"a word has two characters, and not four: double this where it counts words of text",
             NoteKind::Halves => b"the first character of a word is its low byte: char and lchar take a word apart",
             NoteKind::Label => b"this is the label, which hides what else has its name: give the label another one",
-            NoteKind::High => b"a character past 127 is above 0 here, also where char had a sign",
+            NoteKind::High => b"a char is a whole word: past 127 it is above 0, and past 255 it goes on",
             NoteKind::Parted => b"two strings, or two lines of one, don't join: port changes nothing until they do",
             NoteKind::Case => b"a case has one number or character: write what this comes to",
+            NoteKind::Unit => b"there is one input and one output: printf, getchar and putchar have no unit",
+            NoteKind::Length => b"a string has no length before it: char(s, 0) is its first character",
+            NoteKind::Taking => b"! is not, and % a remainder: BCPL's !p, v!i and s%i are *p, v[i] and char(s, i)",
+            NoteKind::Given => b"printf gives 0, and not how much it has written",
+            NoteKind::Vector => b"this is the address of the vector's word, in which that of its first word is",
         }
     }
 }

@@ -1,9 +1,9 @@
 //! Names that inner braces of a function declare once more.
-use crate::definitions::{Function, Outline, after_types};
+use crate::definitions::{Outline, after_types};
 use crate::logic::at_level;
 use crate::mentions::declaration_end;
 use crate::row::NoteKind;
-use crate::source::{Draft, Source};
+use crate::source::{Done, Draft, Source};
 use crate::table::{NONE, filled, put, slot};
 use crate::taken::Taken;
 use btools::Text;
@@ -43,7 +43,10 @@ pub(crate) fn renames(
             } else if source.is_close_brace(index) {
                 let _ = blocks.pop();
             }
-            let end = inner_end(source, function, &blocks);
+            let end = match blocks.last().copied() {
+                Some(end) if end != source.partner(function.body) => end,
+                _ => NONE,
+            };
             declare(source, &mut scopes, names, short, (index, number, end))?;
         }
     }
@@ -60,7 +63,7 @@ pub(crate) fn tell_labels(
     source: &Source<'_>,
     draft: &mut Draft,
     outline: &Outline,
-) -> Result<(), AllocError> {
+) -> Done {
     let mut labels = filled(alloc, source.tokens.len())?;
     let mut externals = filled(alloc, source.tokens.len())?;
     for name in &outline.externals {
@@ -87,14 +90,6 @@ pub(crate) fn tell_labels(
     Ok(())
 }
 
-// Where the inner braces end in which a token stands, if it stands in some.
-fn inner_end(source: &Source<'_>, function: Function, blocks: &Vec<usize>) -> usize {
-    match blocks.last().copied() {
-        Some(end) if end != source.partner(function.body) => end,
-        _ => NONE,
-    }
-}
-
 // Notes the names of the declaration that begins with a token, and renames those that the function has, in braces that
 // end here.
 fn declare(
@@ -103,7 +98,7 @@ fn declare(
     names: &mut Taken,
     short: &mut Vec<Option<Text>>,
     (index, number, end): (usize, usize, usize),
-) -> Result<(), AllocError> {
+) -> Done {
     let last = declaration_end(source, index);
     if last == NONE || matches!(source.word(index), b"extrn" | b"extern") {
         return Ok(());

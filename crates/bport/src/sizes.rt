@@ -1,7 +1,7 @@
 //! Sizes of vectors, of which several numbers may be told.
 use crate::apply::render;
 use crate::row::Row;
-use crate::source::{Draft, Source};
+use crate::source::{Done, Draft, Source};
 use crate::table::NONE;
 use btools::Text;
 use std::alloc::AllocError;
@@ -12,7 +12,7 @@ pub(crate) fn one_size(
     draft: &mut Draft,
     open: usize,
     is_local: bool,
-) -> Result<(), AllocError> {
+) -> Done {
     let close = source.partner(open);
     let told = told_size(source, draft, open)?;
     let size = match told {

@@ -10,6 +10,9 @@ use btools::Text;
 use bword::Edition;
 use std::alloc::{AllocError, Global};
 
+/// It is done, or memory was refused.
+pub(crate) type Done = Result<(), AllocError>;
+
 /// An old source, as far as it is known.
 #[derive(Clone, Copy)]
 pub(crate) struct Source<'a> {
@@ -64,15 +67,6 @@ impl<'a> Source<'a> {
             b"until" if self.turned.until => b"while",
             b"unless" if self.turned.unless => b"if",
             word => word,
-        }
-    }
-
-    /// Whether a token is one of these two.
-    pub(crate) fn is_turned(&self, index: usize) -> bool {
-        match self.word(index) {
-            b"until" => self.turned.until,
-            b"unless" => self.turned.unless,
-            _ => false,
         }
     }
 
@@ -213,32 +207,20 @@ impl Draft {
     }
 
     /// Puts the edits in order.
-    pub(crate) fn order(&mut self) -> Result<(), AllocError> {
+    pub(crate) fn order(&mut self) -> Done {
         self.edits.sort_by_key(|edit| key_of(edit))?;
         self.ordered = Some(self.edits.len());
         Ok(())
     }
 
     /// Puts a text in the place of some bytes.
-    pub(crate) fn put(
-        &mut self,
-        start: usize,
-        end: usize,
-        words: &[u8],
-        row: Row,
-    ) -> Result<(), AllocError> {
+    pub(crate) fn put(&mut self, start: usize, end: usize, words: &[u8], row: Row) -> Done {
         let mut text = Text::new(self.alloc);
         text.push(words)?;
         self.put_text(start, end, text, row)
     }
 
-    pub(crate) fn put_text(
-        &mut self,
-        start: usize,
-        end: usize,
-        text: Text,
-        row: Row,
-    ) -> Result<(), AllocError> {
+    pub(crate) fn put_text(&mut self, start: usize, end: usize, text: Text, row: Row) -> Done {
         self.edits.push(Edit {
             start,
             end,
@@ -249,7 +231,7 @@ impl Draft {
     }
 
     /// Puts a text at a place.
-    pub(crate) fn insert(&mut self, at: usize, words: &[u8], row: Row) -> Result<(), AllocError> {
+    pub(crate) fn insert(&mut self, at: usize, words: &[u8], row: Row) -> Done {
         self.put(at, at, words, row)
     }
 
@@ -260,7 +242,7 @@ impl Draft {
         index: usize,
         words: &[u8],
         row: Row,
-    ) -> Result<(), AllocError> {
+    ) -> Done {
         self.put(source.start(index), source.end(index), words, row)
     }
 
@@ -270,7 +252,7 @@ impl Draft {
         index: usize,
         text: Text,
         row: Row,
-    ) -> Result<(), AllocError> {
+    ) -> Done {
         self.put_text(source.start(index), source.end(index), text, row)
     }
 
@@ -281,7 +263,7 @@ impl Draft {
         first: usize,
         next: usize,
         row: Row,
-    ) -> Result<(), AllocError> {
+    ) -> Done {
         let start = source.start(first);
         let mut end = source.start(next);
         if !is_free(source.places, start, end) {
@@ -297,9 +279,10 @@ impl Draft {
         first: usize,
         last: usize,
         row: Row,
-    ) -> Result<(), AllocError> {
+    ) -> Done {
         let (start, end) = (source.start(first), source.end(last));
-        if has_mark(between(source.text, start, end)) || has_line(source.places, start, end) {
+        let stood = source.places.get(start..end).unwrap_or(&[]);
+        if has_mark(between(source.text, start, end)) || stood.contains(&Within::Line) {
             return self.note(source, first, NoteKind::Remark);
         }
         self.insert(source.start(first), b"/* ", row)?;
@@ -311,21 +294,13 @@ impl Draft {
         self.insert(source.end(last), b" */", row)
     }
 
-    pub(crate) fn note(
-        &mut self,
-        source: &Source<'_>,
-        index: usize,
-        kind: NoteKind,
-    ) -> Result<(), AllocError> {
+    pub(crate) fn note(&mut self, source: &Source<'_>, index: usize, kind: NoteKind) -> Done {
         self.note_at(source.start(index), kind)
     }
 
-    /// Tells this of a place, or once of the whole source.
-    pub(crate) fn note_at(&mut self, start: usize, kind: NoteKind) -> Result<(), AllocError> {
-        let is_told = kind.is_of_all() && self.notes.iter().any(|note| note.kind == kind);
-        if !is_told {
-            self.notes.push(Note { start, kind })?;
-        }
+    /// Tells this of a place.
+    pub(crate) fn note_at(&mut self, start: usize, kind: NoteKind) -> Done {
+        self.notes.push(Note { start, kind })?;
         Ok(())
     }
 }
@@ -347,12 +322,6 @@ fn first_from(edits: &[Edit], start: usize) -> usize {
         }
     }
     low
-}
-
-// Whether a comment up to the end of its line stands between two places.
-fn has_line(places: &[Within], start: usize, end: usize) -> bool {
-    let stood = places.get(start..end).unwrap_or(&[]);
-    stood.iter().any(|place| *place == Within::Line)
 }
 
 // Whether a sign is one of another form.

@@ -13,7 +13,7 @@ use crate::pointers::{pointed, pointer};
 use crate::row::{NoteKind, Row};
 use crate::shape::case_colon;
 use crate::sizes::one_size;
-use crate::source::{Draft, Source};
+use crate::source::{Done, Draft, Source};
 use crate::table::{NONE, slot};
 use crate::tokens::TokenKind;
 use crate::turned::has_body;
@@ -31,7 +31,7 @@ pub(crate) fn statement(
     outline: &mut Outline,
     loops: &Loops,
     index: usize,
-) -> Result<(), AllocError> {
+) -> Done {
     let (before, next) = (index.wrapping_sub(1), index.wrapping_add(1));
     match source.head_word(index) {
         b"return" => {
@@ -96,7 +96,7 @@ fn ends_main(source: &Source<'_>, outline: &Outline, index: usize) -> bool {
 }
 
 // The value of a return, unless it is in parentheses as a whole.
-fn return_value(source: &Source<'_>, draft: &mut Draft, index: usize) -> Result<(), AllocError> {
+fn return_value(source: &Source<'_>, draft: &mut Draft, index: usize) -> Done {
     let first = index.wrapping_add(1);
     let end = source.semicolon(first);
     let is_closed = source.is(first, b"(") && source.partner(first).wrapping_add(1) == end;
@@ -113,7 +113,7 @@ fn return_value(source: &Source<'_>, draft: &mut Draft, index: usize) -> Result<
 }
 
 // Braces around the cases of a switch that has none.
-fn switch(source: &Source<'_>, draft: &mut Draft, index: usize) -> Result<(), AllocError> {
+fn switch(source: &Source<'_>, draft: &mut Draft, index: usize) -> Done {
     let body = source.partner(index.wrapping_add(1)).wrapping_add(1);
     let end = source.statement_end(index);
     if !source.is(body, b"case") || end == NONE {
@@ -124,12 +124,7 @@ fn switch(source: &Source<'_>, draft: &mut Draft, index: usize) -> Result<(), Al
 }
 
 // A range of cases, and negative ones.
-fn case(
-    source: &Source<'_>,
-    draft: &mut Draft,
-    outline: &mut Outline,
-    index: usize,
-) -> Result<(), AllocError> {
+fn case(source: &Source<'_>, draft: &mut Draft, outline: &mut Outline, index: usize) -> Done {
     let first = index.wrapping_add(1);
     let sign = first.wrapping_add(1);
     let last = sign.wrapping_add(1);
@@ -181,7 +176,7 @@ fn constant(source: &Source<'_>, draft: &Draft, index: usize) -> Result<Text, Al
     Ok(text)
 }
 
-fn push_constant(text: &mut Text, value: u64, first: &[u8]) -> Result<(), AllocError> {
+fn push_constant(text: &mut Text, value: u64, first: &[u8]) -> Done {
     match value {
         32..=126 if first.starts_with(b"'") && value != 39 && value != 42 => {
             text.push(&[b'\'', value as u8, b'\''])
@@ -191,7 +186,7 @@ fn push_constant(text: &mut Text, value: u64, first: &[u8]) -> Result<(), AllocE
 }
 
 // Names of externals in a function, without types and brackets.
-fn external(source: &Source<'_>, draft: &mut Draft, index: usize) -> Result<(), AllocError> {
+fn external(source: &Source<'_>, draft: &mut Draft, index: usize) -> Done {
     let last = source.semicolon(index);
     if last == NONE || !source.begins_statement(index) {
         return Ok(());
@@ -217,12 +212,7 @@ fn external(source: &Source<'_>, draft: &mut Draft, index: usize) -> Result<(), 
 }
 
 // `int i;` in a function is `auto i;`.
-fn declaration(
-    source: &Source<'_>,
-    draft: &mut Draft,
-    outline: &Outline,
-    index: usize,
-) -> Result<(), AllocError> {
+fn declaration(source: &Source<'_>, draft: &mut Draft, outline: &Outline, index: usize) -> Done {
     let name = after_types(source, index);
     let last = source.semicolon(index);
     let is_inside = is_owned(outline, index) && !outline.is_gone(index);
@@ -245,12 +235,7 @@ fn declaration(
 }
 
 // The names of a declaration: vectors without brackets, and values as statements after it.
-fn locals(
-    source: &Source<'_>,
-    draft: &mut Draft,
-    first: usize,
-    name: usize,
-) -> Result<(), AllocError> {
+fn locals(source: &Source<'_>, draft: &mut Draft, first: usize, name: usize) -> Done {
     let last = source.semicolon(first);
     if last == NONE {
         return Ok(());
@@ -278,7 +263,7 @@ fn local(
     values: &mut Text,
     from: usize,
     end: usize,
-) -> Result<(), AllocError> {
+) -> Done {
     let name = after_types(source, from);
     let open = name.wrapping_sub(2);
     if name != from && source.is_name(name) {
@@ -303,7 +288,7 @@ fn vector(
     values: &mut Text,
     name: usize,
     end: usize,
-) -> Result<(), AllocError> {
+) -> Done {
     if is_grid(source, name) || listed(source, draft, values, name, end)? {
         return Ok(());
     }
@@ -323,7 +308,7 @@ fn value(
     values: &mut Text,
     name: usize,
     end: usize,
-) -> Result<(), AllocError> {
+) -> Done {
     let sign = name.wrapping_add(1);
     let last = end.wrapping_sub(1);
     if !source.is_plain(name, last) {

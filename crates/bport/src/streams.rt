@@ -1,41 +1,31 @@
 //! The calls of the first B that read and write a character.
-use crate::calls::{defines, has_one};
+use crate::calls::{arguments, defines};
 use crate::names::value_of_number;
 use crate::row::{NoteKind, Row};
-use crate::source::{Draft, Source};
+use crate::source::{Done, Draft, Source};
 use crate::tokens::TokenKind;
 use btools::Text;
-use std::alloc::AllocError;
 
 /// Puts `getchar` for `read`, and `putchar` for `write`, where nothing defines these and they are called so.
-pub(crate) fn streams(
-    source: &Source<'_>,
-    others: &Source<'_>,
-    draft: &mut Draft,
-) -> Result<(), AllocError> {
-    if !defines(others, b"read") && is_called_so(source, b"read", false) {
+pub(crate) fn streams(source: &Source<'_>, others: &Source<'_>, draft: &mut Draft) -> Done {
+    if !defines(others, b"read") && is_called_so(source, b"read", 0) {
         rename(source, draft, b"read", b"getchar")?;
     }
-    if !defines(others, b"write") && is_called_so(source, b"write", true) {
+    if !defines(others, b"write") && is_called_so(source, b"write", 1) {
         rename(source, draft, b"write", b"putchar")?;
     }
     Ok(())
 }
 
-// Whether a name is called with one argument, or with none, wherever it stands, but for declarations.
-fn is_called_so(source: &Source<'_>, name: &[u8], takes_one: bool) -> bool {
+/// Whether a name is called with so many arguments wherever it stands, but for declarations, and isn't defined.
+pub(crate) fn is_called_so(source: &Source<'_>, name: &[u8], count: usize) -> bool {
     let mut is_called = false;
     for index in 0..source.tokens.len() {
         let open = index.wrapping_add(1);
         if !source.is(index, name) || is_listed(source, index) {
             continue;
         }
-        let is_empty = source.partner(open) == open.wrapping_add(1);
-        let fits = if takes_one {
-            has_one(source, open)
-        } else {
-            is_empty
-        };
+        let fits = arguments(source, open) == count;
         if !source.is_open_paren(open) || !fits {
             return false;
         }
@@ -55,12 +45,7 @@ fn is_listed(source: &Source<'_>, index: usize) -> bool {
     )
 }
 
-fn rename(
-    source: &Source<'_>,
-    draft: &mut Draft,
-    old: &[u8],
-    new: &[u8],
-) -> Result<(), AllocError> {
+fn rename(source: &Source<'_>, draft: &mut Draft, old: &[u8], new: &[u8]) -> Done {
     for index in 0..source.tokens.len() {
         if source.is(index, old) {
             draft.replace(source, index, new, Row::Stream)?;
@@ -71,7 +56,7 @@ fn rename(
 }
 
 // Two characters of nine bits in a number that is written alone are two of eight.
-fn packed(source: &Source<'_>, draft: &mut Draft, index: usize) -> Result<(), AllocError> {
+fn packed(source: &Source<'_>, draft: &mut Draft, index: usize) -> Done {
     let is_alone = source.is(index.wrapping_sub(1), b"(") && source.is(index.wrapping_add(1), b")");
     if !is_alone || source.kind(index) != Some(TokenKind::Number) {
         return Ok(());

@@ -1,6 +1,6 @@
 //! Names that are taken.
 use crate::names::is_reserved;
-use crate::source::Source;
+use crate::source::{Done, Source};
 use crate::table::{NONE, filled, hash_of, place_in, put, slot};
 use btools::Text;
 use std::alloc::{AllocError, Global};
@@ -39,7 +39,7 @@ impl Taken {
         Ok(taken)
     }
 
-    fn keep_all(&mut self, source: &Source<'_>) -> Result<(), AllocError> {
+    fn keep_all(&mut self, source: &Source<'_>) -> Done {
         for index in 0..source.tokens.len() {
             if slot(source.firsts, index) == index {
                 self.keep(source.word(index))?;
@@ -48,7 +48,7 @@ impl Taken {
         Ok(())
     }
 
-    fn keep(&mut self, name: &[u8]) -> Result<(), AllocError> {
+    fn keep(&mut self, name: &[u8]) -> Done {
         let place = place_in(&self.slots, &self.names, name);
         if slot(&self.slots, place) == NONE {
             put(&mut self.slots, place, self.names.len());

@@ -1,21 +1,18 @@
 //! Words that hold characters of texts: two here, and four or two others where an old source was written.
-use crate::calls::defines;
-use crate::names::{is_keyword, is_one_of};
+use crate::definitions::Outline;
+use crate::flows::{Flows, is_star};
+use crate::names::is_one_of;
 use crate::pointers::{UNDECLARED, after_index};
-use crate::quotes::{is_word_end, is_word_test, units_in, word_start};
+use crate::quotes::is_word_end;
 use crate::row::NoteKind;
-use crate::source::{Draft, Source};
+use crate::source::{Done, Draft, Source};
 use crate::table::{NONE, filled, put, slot};
 use crate::tokens::TokenKind;
-use std::alloc::{AllocError, Global};
 
 /// Calls that have the characters of a text.
 const TEXTS: [&str; 7] = [
     "char", "lchar", "getstr", "putstr", "getvec", "concat", "copy",
 ];
-
-/// Calls that fill a vector with a text; the first one is of a form whose words have four characters.
-const FILLS: [&str; 4] = ["getstr", "concat", "lchar", "copy"];
 
 /// What an operator and the number after it make of a word of characters.
 #[derive(Clone, Copy)]
@@ -45,11 +42,11 @@ struct Parts {
 pub(crate) fn texts(
     source: &Source<'_>,
     draft: &mut Draft,
-    is_wide: bool,
-) -> Result<(), AllocError> {
-    tell_rooms(source, draft, is_wide)?;
+    outline: &Outline,
+    flows: &Flows,
+) -> Done {
+    tell_words(source, draft, outline, flows)?;
     let parts = parts_in(source);
-    let texts = texts_of(draft.alloc, source)?;
     let mut words = filled(draft.alloc, source.tokens.len())?;
     for index in 0..source.tokens.len() {
         let has_index = source.is_name(index) && source.is(index.wrapping_add(1), b"[");
@@ -58,9 +55,6 @@ pub(crate) fn texts(
         }
         if let Some(kind) = part_meaning(source, parts, &words, index) {
             draft.note(source, index, kind)?;
-        }
-        if has_text_word(source, &texts, index) {
-            draft.note(source, index, NoteKind::Pointer)?;
         }
     }
     Ok(())
@@ -86,79 +80,27 @@ fn parts_in(source: &Source<'_>) -> Parts {
     parts
 }
 
-// For each name that holds a text any number: it gets a string, or such a name alone, or a function that gets a string
-// gets it, too.
-fn texts_of(alloc: Global, source: &Source<'_>) -> Result<Vec<usize>, AllocError> {
-    let mut texts = filled(alloc, source.tokens.len())?;
-    let mut takers = filled(alloc, source.tokens.len())?;
-    for index in 0..source.tokens.len() {
-        let name = index.wrapping_sub(2);
-        let is_taken = source.is_call(name) && !is_keyword(source.word(name));
-        match source.word(index.wrapping_sub(1)) {
-            _ if source.kind(index) != Some(TokenKind::String) => {}
-            b"=" => put(&mut texts, slot(source.firsts, name), 0),
-            b"(" if is_taken => put(&mut takers, slot(source.firsts, name), 0),
-            _ => put(&mut texts, slot(source.firsts, index.wrapping_sub(1)), 0),
-        }
+// Whether a token takes a word of a text, or goes on from its address by words.
+fn has_text_word(source: &Source<'_>, flows: &Flows, index: usize) -> bool {
+    let (before, next) = (index.wrapping_sub(1), index.wrapping_add(1));
+    let end = after_index(source, index);
+    let (has_index, has_star) = (end != next, is_star(source, before));
+    if source.kind(index) == Some(TokenKind::String) {
+        return has_index || has_star || matches!(source.word(next), b"+" | b"-" | b"%");
     }
-    for index in 0..source.tokens.len() {
-        let next = index.wrapping_add(1);
-        if source.is_call(index) && slot(&takers, slot(source.firsts, index)) != NONE {
-            put(&mut texts, slot(source.firsts, next.wrapping_add(1)), 0);
-        }
-        let is_copied = source.is(index, b"=") && source.is(next.wrapping_add(1), b";");
-        if is_copied && slot(&texts, slot(source.firsts, next)) != NONE {
-            put(&mut texts, slot(source.firsts, index.wrapping_sub(1)), 0);
-        }
-    }
-    Ok(texts)
+    let is_step = matches!(source.word(before), b"++" | b"--")
+        || matches!(
+            source.word(next),
+            b"++" | b"--" | b"+" | b"-" | b"=+" | b"=-" | b"+=" | b"-="
+        );
+    let is_doubled = has_index && (has_star || source.is(end, b"["))
+        || has_star && is_star(source, before.wrapping_sub(1));
+    let held = flows.held(index);
+    held.is_text && (has_index || has_star || is_step) || held.is_table && is_doubled
 }
 
-// Whether a word of a text is written, compared, a condition, or one that gets a character, or the address of the next
-// one is taken.
-fn has_text_word(source: &Source<'_>, texts: &[usize], index: usize) -> bool {
-    let before = index.wrapping_sub(1);
-    let next = index.wrapping_add(1);
-    let is_character = source.kind(next) == Some(TokenKind::Char)
-        && units_in(source.quotes, source.word(next)) == 1;
-    let is_end = is_character || source.is(next, b"0");
-    let is_alone = source.is_name(before) && source.kind(next) == Some(TokenKind::Number);
-    let first = match source.word(index) {
-        b"+" | b"-" | b"=+" | b"+=" if is_alone => {
-            return slot(texts, slot(source.firsts, before)) != NONE;
-        }
-        b"++" | b"--" => {
-            let name = if source.is_name(before) { before } else { next };
-            return slot(texts, slot(source.firsts, name)) != NONE;
-        }
-        b"putchar" => next.wrapping_add(1),
-        b"==" | b"!=" if is_end && source.is(before, b")") => {
-            word_start(source, before.wrapping_sub(1))
-        }
-        b"==" | b"!=" if is_end => word_start(source, before),
-        b"=" if is_character => word_start(source, before),
-        b"<" | b"<=" | b">" | b">=" => word_start(source, before),
-        b")" if is_word_test(source, before) => word_start(source, before),
-        _ => return false,
-    };
-    let is_star = source.is(first, b"*");
-    let name = if is_star {
-        first.wrapping_add(1)
-    } else {
-        first
-    };
-    (is_star || source.is(name.wrapping_add(1), b"["))
-        && slot(texts, slot(source.firsts, name)) != NONE
-}
-
-// Tells each vector whose size may be that of a text with four characters in a word.
-fn tell_rooms(source: &Source<'_>, draft: &mut Draft, is_wide: bool) -> Result<(), AllocError> {
-    let mut rooms = filled(draft.alloc, source.tokens.len())?;
-    for name in &FILLS {
-        if !defines(source, name.as_bytes()) && (is_wide || matches!(*name, "getstr")) {
-            find_rooms(source, &mut rooms, name.as_bytes());
-        }
-    }
+// Tells each vector whose size may be that of a text with four characters in a word, and each word of a text.
+fn tell_words(source: &Source<'_>, draft: &mut Draft, outline: &Outline, flows: &Flows) -> Done {
     let mut declaring = UNDECLARED;
     for index in 0..source.tokens.len() {
         declaring = declaring.at(source, index);
@@ -172,20 +114,16 @@ fn tell_rooms(source: &Source<'_>, draft: &mut Draft, is_wide: bool) -> Result<(
             b"=" => source.is(next.wrapping_add(1), b"getvec"),
             _ => declaring.has_names && source.kind(next) == Some(TokenKind::Number),
         };
-        if is_sized && slot(&rooms, slot(source.firsts, index)) != NONE {
+        if is_sized && flows.held(index).is_room {
             draft.note(source, index, NoteKind::Quarter)?;
+        } else if slot(&outline.owners, index) != NONE
+            && !declaring.has_names
+            && has_text_word(source, flows, index)
+        {
+            draft.note(source, index, NoteKind::Pointer)?;
         }
     }
     Ok(())
-}
-
-// Notes each name that a function with this name gets before all else.
-fn find_rooms(source: &Source<'_>, rooms: &mut Vec<usize>, name: &[u8]) {
-    for index in 0..source.tokens.len() {
-        if source.is(index, name) && source.is_call(index) {
-            put(rooms, slot(source.firsts, index.wrapping_add(2)), 0);
-        }
-    }
 }
 
 fn part_of(sign: &[u8], number: &[u8]) -> Option<Part> {

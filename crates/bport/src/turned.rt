@@ -1,9 +1,8 @@
 //! Statements that begin with `until` or `unless`.
 use crate::row::Row;
-use crate::source::{Draft, Source};
+use crate::source::{Done, Draft, Source};
 use crate::table::{NONE, slot, word_of};
 use crate::tokens::{Token, TokenKind};
-use std::alloc::AllocError;
 
 /// Which of these words begin statements wherever they stand.
 #[derive(Clone, Copy)]
@@ -59,11 +58,7 @@ pub(crate) fn has_body(text: &[u8], tokens: &[Token], partners: &[usize], index:
 }
 
 /// `until(x) S` is `while(!(x)) S`, and `unless(x) S` is `if(!(x)) S`.
-pub(crate) fn turned_head(
-    source: &Source<'_>,
-    draft: &mut Draft,
-    index: usize,
-) -> Result<(), AllocError> {
+pub(crate) fn turned_head(source: &Source<'_>, draft: &mut Draft, index: usize) -> Done {
     let open = index.wrapping_add(1);
     draft.replace(source, index, source.head_word(index), Row::Negated)?;
     draft.replace(source, open, b"(!(", Row::Negated)?;

@@ -1,0 +1,6 @@
+main() {
+    auto c;
+    while((c = read()) != 0)
+        write(c);
+    if(c == -1) write('n');
+}

@@ -1,0 +1,3 @@
+int v[2] = { 5, 6 };
+int *p = v;
+main() { printn(p[1], 10); }
