@@ -1,6 +1,6 @@
 """A talk with the debugger: requests, with what has to be in the answers, and the events after each. FOLDER stands for
 the folder of the files, and a name with $ for a number that an earlier answer has told. After them are lines for the
-console, with what it has to write."""
+console, with what it has to write, and what it says of programs that can't be run, with its status."""
 FILES = {
     "talk.b": """/* b: --with ./more.b */
 total; row[3] 1, 2, 'c';
@@ -32,6 +32,31 @@ main() {
 """,
     "loop.b": """main() { auto i; while(1) i++; }
 """,
+    "copy.b": """/* Copies its input, up to the end. */
+
+main() {
+    auto c;
+
+    while((c = getchar()) != '*e')
+        putchar(c);
+
+    putchar('.');
+}
+
+/* Nothing more. */
+""",
+    "faults.b": """main() {
+    auto i;
+    i = 3
+    putchar(i);
+}
+f() { return(y); }
+""",
+    "nomain.b": """f() { return(3); }
+""",
+    "nobody.b": """main() { g(1); }
+""",
+    "empty.b": "",
 }
 TALK = [('next', {}, 'there is no program'),
  ('nonsense', {}, 'there is no such request'),
@@ -403,6 +428,94 @@ TALK = [('next', {}, 'there is no program'),
   ('output', {'category': 'console', 'output': 'the program has ended with status 102\n'}),
   ('exited', {'exitCode': 102}),
   ('terminated', {})),
+ ('launch',
+  {'program': 'FOLDER/faults.b'},
+  "faults.b can't be run: sx 4",
+  ('output',
+   {'category': 'stderr',
+    'output': 'faults.b:4:5: error: line 3 has no ; at its end\n'
+              '  fix: write the ; there, or go on with an operator\n'
+              'faults.b:6:14: error: y is neither declared nor a label\n'
+              '  fix: auto y; for a word of the function, extrn y; for an external\n'}),
+  ('terminated', {})),
+ ('launch',
+  {'program': 'FOLDER/nobody.b'},
+  "nobody.b can't be run: load 3",
+  ('output',
+   {'category': 'stderr',
+    'output': 'nobody.b:1:10: error: nothing defines g\n  fix: define it, or take one of the six library calls\n'}),
+  ('terminated', {})),
+ ('launch',
+  {'program': 'FOLDER/nomain.b'},
+  "nomain.b can't be run: load 4",
+  ('output',
+   {'category': 'stderr',
+    'output': 'nomain.b: error: there is no function main\n'
+              '  fix: write a function main, with which a run begins\n'}),
+  ('terminated', {})),
+ ('launch',
+  {'program': 'FOLDER/copy.b', 'input': 'FOLDER/$(touch HARM)'},
+  "FOLDER/$(touch HARM) can't be read: No such file or directory"),
+ ('launch', {'program': 'FOLDER/copy.b', 'libs': ['$(touch HARM)']}, 'the library has no $(touch HARM)'),
+ ('launch', {'program': 'FOLDER/copy.b', 'libs': ["a'b\n.b"]}, "FOLDER/a'b\n.b can't be read: No such file or directory"),
+ ('launch', {'program': 'FOLDER/copy.b', 'inputText': 'ab'}, {}, ('initialized', {})),
+ ('setExceptionBreakpoints', {'filters': []}, {'breakpoints': []}),
+ ('setFunctionBreakpoints',
+  {'breakpoints': [{'name': '$(touch HARM)'}]},
+  {'breakpoints': [{'id': 1, 'verified': False, 'message': 'there is no function $(touch HARM)'}]}),
+ ('setBreakpoints',
+  {'source': {'path': 'FOLDER/copy.b'},
+   'breakpoints': [{'line': 1, 'hitCondition': '% 99'},
+                   {'line': 7, 'logMessage': '$(touch HARM) {c} {`touch HARM`} {c.__class__} %s {0}'},
+                   {'line': 8, 'condition': '__import__("os").system("touch HARM")'},
+                   {'line': 10, 'condition': '$(touch HARM)'},
+                   {'line': 11},
+                   {'line': 9, 'hitCondition': '$(touch HARM)'}]},
+  {'breakpoints': [{'verified': True, 'line': 6},
+                   {'verified': True, 'line': 7},
+                   {'verified': True, 'line': 9},
+                   {'verified': True, 'line': 10},
+                   {'verified': False, 'line': 11, 'message': 'no code comes after this line'},
+                   {'verified': False, 'line': 9, 'message': '$(touch HARM) is no count of hits'}]}),
+ ('configurationDone',
+  {},
+  {},
+  ('output',
+   {'category': 'console',
+    'output': "$(touch HARM) 97 'a' {no token begins with '`'} {no token begins with '.'} %s 0\n"}),
+  ('output', {'category': 'stdout', 'output': 'a'}),
+  ('output',
+   {'category': 'console',
+    'output': "$(touch HARM) 98 'b' {no token begins with '`'} {no token begins with '.'} %s 0\n"}),
+  ('output', {'category': 'stdout', 'output': 'b'}),
+  ('output', {'category': 'console', 'output': "the input has ended: getchar gives '*e' from here on\n"}),
+  ('output',
+   {'category': 'console',
+    'output': 'the condition \'__import__("os").system("touch HARM")\': no token begins with \'.\'\n'}),
+  ('stopped', {'reason': 'breakpoint', 'hitBreakpointIds': [4]})),
+ ('evaluate', {'expression': 'c', 'frameId': 1, 'context': 'repl'}, 'there is no such call any more'),
+ ('evaluate', {'expression': '$(touch HARM)', 'context': 'repl'}, "no token begins with '$'"),
+ ('evaluate',
+  {'expression': ':input < $(touch HARM)', 'context': 'repl'},
+  "$(touch HARM) can't be read: No such file or directory"),
+ ('evaluate', {'expression': ':input more', 'context': 'repl'}, 'the input was closed'),
+ ('reverseContinue', {'threadId': 1}, {}, ('stopped', {'reason': 'breakpoint', 'hitBreakpointIds': [2]})),
+ ('continue',
+  {'threadId': 1},
+  {'allThreadsContinued': True},
+  ('output',
+   {'category': 'console',
+    'output': 'the condition \'__import__("os").system("touch HARM")\': no token begins with \'.\'\n'}),
+  ('stopped', {'reason': 'breakpoint', 'hitBreakpointIds': [4]})),
+ ('setBreakpoints', {'source': {'path': 'FOLDER/copy.b'}, 'breakpoints': []}, {'breakpoints': []}),
+ ('setFunctionBreakpoints', {'breakpoints': []}, {'breakpoints': []}),
+ ('continue',
+  {'threadId': 1},
+  {'allThreadsContinued': True},
+  ('output', {'category': 'stdout', 'output': '.'}),
+  ('output', {'category': 'console', 'output': 'the program has ended with status 0\n'}),
+  ('exited', {'exitCode': 0}),
+  ('terminated', {})),
  ('launch', {'program': 'FOLDER/loop.b', 'steps': 1000}, {}, ('initialized', {})),
  ('configurationDone',
   {},
@@ -423,7 +536,7 @@ TALK = [('next', {}, 'there is no program'),
  ('terminate', {}, 'there is no program'),
  ('disconnect', {}, {})]
 AFTER = [
-    ("""\
+    ("talk.b", """\
 break add if x > 0
 run
 backtrace
@@ -460,7 +573,7 @@ trap dz: division by 0
 #0 main() at talk.b:20
 20	    putchar('*n'); exit(total / (c - 'x'));
 (b) """),
-    ("""\
+    ("talk.b", """\
 start
 next
 
@@ -518,7 +631,7 @@ break 99
 (b) division by 0
 (b) no code is there
 (b) """),
-    ("""\
+    ("talk.b", """\
 run
 input < talk.b
 reverse-next
@@ -542,4 +655,79 @@ the program has ended with status 127
 14	    while(i < 3) {
 (b) 5
 (b) """),
+    ("copy.b", """\
+print $(touch HARM)
+!touch HARM
+shell touch HARM
+input < $(touch HARM)
+break $(touch HARM)
+break copy.b:1 if __import__("os").system("touch HARM")
+break 11
+break 8
+delete 1
+run
+input ab
+input more
+input
+continue
+input nothing
+reverse-next
+print c
+list x
+watch `touch HARM`
+continue
+quit
+""", """\
+(b) no token begins with '$'
+(b) there is no command !touch; help lists them
+(b) there is no command shell; help lists them
+(b) $(touch HARM) can't be read: No such file or directory
+(b) there is no function $(touch HARM)
+(b) breakpoint 1 at copy.b:6
+(b) no code is there
+(b) breakpoint 2 at copy.b:9
+(b) (b) the program wants input: type  input TEXT
+(b) ab
+the program wants input: type  input TEXT
+(b) more
+the program wants input: type  input TEXT
+(b) the input has ended: getchar gives '*e' from here on
+breakpoint 2
+#0 main() at copy.b:9
+9	    putchar('.');
+(b) .
+the program has ended with status 0
+(b) the input was closed
+(b) #0 main() at copy.b:10
+10	}
+(b) c = 4
+(b) a number is wrong here
+(b) no token begins with '`'
+(b) the program has ended with status 0
+(b) """),
 ]
+REFUSED = {
+    "faults.b": (1, """\
+faults.b:4:5: error: line 3 has no ; at its end
+  fix: write the ; there, or go on with an operator
+faults.b:6:14: error: y is neither declared nor a label
+  fix: auto y; for a word of the function, extrn y; for an external
+sx 4
+"""),
+    "nobody.b": (132, """\
+nobody.b:1:10: error: nothing defines g
+  fix: define it, or take one of the six library calls
+load 3
+"""),
+    "nomain.b": (132, """\
+nomain.b: error: there is no function main
+  fix: write a function main, with which a run begins
+load 4
+"""),
+    "empty.b": (132, """\
+empty.b: error: there is no function main
+  fix: write a function main, with which a run begins
+load 4
+"""),
+    "$(touch HARM).b": (133, "b_dap.py: FOLDER/$(touch HARM).b can't be read: No such file or directory\n"),
+}

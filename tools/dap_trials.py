@@ -6,6 +6,7 @@ import pathlib
 import random
 import re
 import sys
+import threading
 from typing import Dict, List, NamedTuple, Tuple
 
 TOP = pathlib.Path(__file__).resolve().parent.parent
@@ -67,6 +68,29 @@ def served(data: bytes, by_steps, is_slow) -> List[dict]:
     return read_frames(out.getvalue())
 
 
+class Read(io.BytesIO):
+    """Bytes that tell when all of them were read."""
+
+    def __init__(self, data):
+        super().__init__(data)
+        self.are_read = threading.Event()
+
+    def readline(self, size=-1):
+        line = super().readline(size)
+        if not line:
+            self.are_read.set()
+        return line
+
+
+def served_at_once(data: bytes) -> List[dict]:
+    """The same where all of the bytes have come before the first message is answered."""
+    out, stream = io.BytesIO(), Read(data)
+    inbox = Inbox(stream)
+    stream.are_read.wait(60)
+    Server(inbox, Outbox(out)).serve()
+    return read_frames(out.getvalue())
+
+
 def is_like(wanted, seen) -> bool:
     """Whether all that is wanted is seen: of an object its members, of a list each item."""
     if isinstance(wanted, dict):
@@ -96,6 +120,7 @@ class Talk:
         self.out, self.inbox, self.number = io.BytesIO(), Talk.Waiting(), 0
         self.server = Server(self.inbox, Outbox(self.out), by_steps)
         self.events: List[dict] = []
+        self.told: List[dict] = []
 
     def ask(self, command, arguments):
         """The response to a request, once the run stands or has gone on for a while; the events go to `events`."""
@@ -108,6 +133,7 @@ class Talk:
         told = read_frames(self.out.getvalue())
         self.out.seek(0)
         self.out.truncate()
+        self.told += told
         self.events = [it for it in told if it["type"] == "event"]
         return next(it for it in told if it["type"] == "response")
 
@@ -126,7 +152,8 @@ class Maker:
 
     def operand(self):
         one = self.random.choice
-        return one([self.number(), one(["a", "b"]), "g", "v[%d]" % one([0, 1, 2]), "w[%d]" % one([0, 1]), "*p", "x++"])
+        return one([self.number(), one(["a", "b"]), "g", "v[%d]" % one([0, 1, 2]), "w[%d]" % one([0, 1]), "*p", "x++",
+                    "getchar()"])
 
     def value(self, deep=2):
         kind = self.random.randrange(6)

@@ -31,18 +31,27 @@ class Console(cmd.Cmd):
     def __init__(self, program: Program, run: Run):
         super().__init__()
         self.program, self.run, self.at, self.last_line = program, run, 0, 0
-        self.debugger = Debugger(program, run, self.say)
+        self.debugger = Debugger(program, run, self.note)
         self.is_interrupted = self.has_begun = False
+        self.is_at_begin = True  # of a line, as far as the program has written
         self.pending: Optional[Motion] = None  # what wants input
         run.is_paused = lambda: self.is_interrupted
 
     # Typing and telling.
 
     def say(self, text):
-        self.stdout.write(text)
+        begin = "" if self.is_at_begin else "\n"
+        self.is_at_begin = True
+        self.stdout.write(begin + text)
         self.stdout.flush()
 
+    def note(self, text):
+        """Says what the debugger tells, after what the program has written before."""
+        self.hand_on_output()
+        self.say(text)
+
     def precmd(self, line):
+        self.is_at_begin = True  # since the line that was typed has ended
         name, _, rest = line.strip().partition(" ")
         name, slash, form = name.partition("/")
         name = SHORT.get(name, name.replace("-", "_"))
@@ -73,6 +82,7 @@ class Console(cmd.Cmd):
         if text:
             self.stdout.flush()
             getattr(self.stdout, "buffer", self.stdout).write(text)
+            self.is_at_begin = text.endswith(b"\n")
             self.stdout.flush()
 
     # Where it stands.
@@ -367,11 +377,7 @@ def talk(given) -> int:
         print(f"b_dap.py: {fault}", file=sys.stderr)
         return 133
     except library().Error as error:
-        for it in program.findings():
-            if it["severity"] == "error":
-                name = given.console if it["file"] == "-" else it["file"]
-                print(f"{name}:{it['line']}:{it['column']}: error: {it['message']}", file=sys.stderr)
-        print(error, file=sys.stderr)
+        print(f"{program.told_faults(error)}{error}", file=sys.stderr)
         return error.status
     console = Console(program, run)
     while True:

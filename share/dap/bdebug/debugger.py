@@ -65,6 +65,7 @@ class Debugger:
         self.breakpoints: List[Breakpoint] = []
         self.number = 0
         self.again: Callable[[], Motion] = self.going  # goes on with what wanted input
+        run.on_end_of_input = lambda: self.write("the input has ended: getchar gives '*e' from here on\n")
 
     def next_number(self) -> int:
         self.number += 1

@@ -13,6 +13,7 @@ from .words import library
 
 MOST_OF_A_FILE = 8 << 20  # bytes
 OPTIONS = re.compile(rb"/\* b:((?: --(?:edition [12]|with [\w./-]+))+) \*/", re.A)
+NO_MAIN = "error: there is no function main\n  fix: write a function main, with which a run begins\n"
 _HEAD = re.compile(r" *@(\d+) +(?:\d+ +)?([XVF]) (\w+)((?: \d+)*)")
 _ROW = re.compile(r" *(\d+) +(\d+)  ([a-z](?: \S+)?)(?= |$)")
 _LIBRARY = ("char", "lchar", "getchar", "putchar", "printn", "exit")  # at the addresses from 1 on
@@ -156,6 +157,14 @@ class Program:
     def findings(self) -> List[dict]:
         """What `check` tells of the program."""
         return library().check(self.source, edition=self.edition, libs=self.libs)
+
+    def told_faults(self, error) -> str:
+        """What `check` says of a program that can't be run, with each fix."""
+        errors = [it for it in self.findings() if it["severity"] == "error"]
+        files = [self.path.name if it["file"] == "-" else it["file"] for it in errors]
+        told = [f"{file}:{it['line']}:{it['column']}: error: {it['message']}\n  fix: {it['fix']}\n"
+                for file, it in zip(files, errors)]
+        return "".join(told) or (f"{self.path.name}: {NO_MAIN}" if str(error) == "load 4" else f"{error}\n")
 
     # Reading.
 

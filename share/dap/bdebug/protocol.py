@@ -1,5 +1,6 @@
 """Messages of the Debug Adapter Protocol: how they come in, and how they go out."""
 import collections
+import contextlib
 import json
 import threading
 from typing import BinaryIO, Iterator, Union
@@ -66,13 +67,13 @@ class Inbox:
 
     def _read(self, stream):
         try:
-            for message in messages(stream):
-                self._put(message)
-        except (OSError, ValueError):
-            pass
-        with self._has_some:
-            self._is_over = True
-            self._has_some.notify()
+            with contextlib.suppress(OSError, ValueError):
+                for message in messages(stream):
+                    self._put(message)
+        finally:
+            with self._has_some:
+                self._is_over = True
+                self._has_some.notify()
 
     def _put(self, message):
         with self._has_some:

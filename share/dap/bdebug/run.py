@@ -71,15 +71,17 @@ class Frame(NamedTuple):
 
 
 class Run:
-    """A run, with its input so far. `by_steps` makes one step after another in Python, as it is done where the library
-    has no `go_to`. `is_paused` is asked now and then; where it answers so, Interrupted is raised."""
+    """A run, with its input so far, which `is_whole` where no more comes. `by_steps` makes one step after another in
+    Python, as it is done where the library has no `go_to`. `is_paused` is asked now and then; where it answers so,
+    Interrupted is raised. `on_end_of_input` is called when the program first reads past a whole input."""
 
-    def __init__(self, program, given: bytes = b"", is_closed: bool = False, by_steps: bool = False):
+    def __init__(self, program, given: bytes = b"", is_whole: bool = False, by_steps: bool = False):
         self.program, self.session = program, program.session()
         self.by_steps = by_steps or not hasattr(self.session, "go_to")
-        self.input, self.is_closed = bytearray(given), is_closed
+        self.input, self.is_whole, self.is_closed = bytearray(given), is_whole, False
         self.stores: List[Store] = []
         self.is_paused: Callable[[], bool] = lambda: False
+        self.on_end_of_input: Callable[[], None] = lambda: None
         self.most = None  # steps that the user allows
         self.changed: List[int] = []  # of the words of the last stops
         self.shown, self.pending, self._slice, self._calls = 0, bytearray(), 1000, None
@@ -101,7 +103,7 @@ class Run:
 
     def restart(self) -> None:
         """Begins anew, without what the user stored."""
-        self.stores, self.shown, self._calls = [], 0, None
+        self.stores, self.shown, self._calls, self.is_closed = [], 0, None, False
         self._forget(lambda it: False)
         self._begin()
 
@@ -197,15 +199,24 @@ class Run:
 
     def feed(self, text: bytes) -> None:
         """Adds to the input."""
-        if self.is_closed:
+        if self.is_whole:
             raise Refused("the input was closed")
         self.session.feed(text)
         self.input += text
         self._calls = None
 
     def close_input(self) -> None:
+        """No more input comes. The machine learns so when the program reads past what there is."""
+        self.is_whole = True
+
+    def _end_input(self, end):
+        """The End in the place of one that wants input where none comes."""
+        if end is None or end.why != "wants input" or not self.is_whole:
+            return end
         self.session.close_input()
         self.is_closed, self._calls = True, None
+        self.on_end_of_input()
+        return library().End("limit")
 
     def store(self, address: int, word: int) -> None:
         """Stores a word here. What was stored later than this step is no more: the run goes another way."""
@@ -230,6 +241,7 @@ class Run:
         self.pending += text[max(0, self.shown - self.written):]
         self.written += len(text)
         self.shown = max(self.shown, self.written)
+        end = self._end_input(end)
         if end is not None and end.why in ("halted", "trapped"):
             self.end = end
         while self.applied < len(self.stores) and self.stores[self.applied].steps <= self.steps:

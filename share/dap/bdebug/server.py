@@ -101,6 +101,11 @@ class Server(PointRequests, ViewRequests):
     def tell(self, text, category="console"):
         self.outbox.event("output", category=category, output=text)
 
+    def note(self, text):
+        """Tells what the debugger says, after what the program has written before."""
+        self.hand_on_output()
+        self.tell(text)
+
     # Going and standing.
 
     def stand(self) -> Debugger:
@@ -201,15 +206,15 @@ class Server(PointRequests, ViewRequests):
         program = Program(self.path_of(argument(given, "program", str)), libs, edition)
         try:
             program.compile()
-            text, is_closed = self.given_input()
-            run = Run(program, text, is_closed, self.by_steps)
+            text, is_whole = self.given_input()
+            run = Run(program, text, is_whole, self.by_steps)
         except library().Error as error:
-            self.tell_faults(program, error)
+            self.tell(program.told_faults(error), "stderr")
             self.after.append(self.terminate)
             raise Refused(f"{program.path.name} can't be run: {error}") from None
         run.most = most
         run.is_paused = self.inbox.has_urgent
-        self.debugger = Debugger(program, run, self.tell)
+        self.debugger = Debugger(program, run, self.note)
         self.characters = codecs.getincrementaldecoder("utf-8")("replace")  # one may come in two parts
 
     def given_input(self):
@@ -219,14 +224,6 @@ class Server(PointRequests, ViewRequests):
         if self.launched.get("input") is not None:
             return read_file(self.path_of(argument(self.launched, "input", str))), True
         return b"", False
-
-    def tell_faults(self, program, error):
-        errors = [it for it in program.findings() if it["severity"] == "error"]
-        for it in errors:
-            name = program.path.name if it["file"] == "-" else it["file"]
-            self.tell(f"{name}:{it['line']}:{it['column']}: error: {it['message']}\n  fix: {it['fix']}\n", "stderr")
-        if not errors:
-            self.tell(f"{error}\n", "stderr")
 
     def on_configurationDone(self, arguments):
         self.loaded()
