@@ -1,0 +1,133 @@
+"""What tools/try-dap tries with editors: Emacs debugs a program by dap-mode, Neovim reads its lines of the page, the
+commands of these lines and of Kate's are run by a client that is none, and TypeScript compares all that the server has
+written with the types of its protocol."""
+import json
+import os
+import pathlib
+import re
+import shutil
+import subprocess
+import textwrap
+
+from dap_trials import TOP, framed, read_frames
+
+PAGE = (TOP / "docs/DEBUGGER.md").read_text()
+PACKAGES = pathlib.Path("/usr/share/emacs/site-lisp/elpa")
+TYPES = pathlib.Path("/usr/share/nodejs/@vscode/debugprotocol")
+SOURCE = """\
+total;
+add(x) {
+    extrn total;
+    total =+ x;
+}
+main() {
+    extrn total;
+    auto c;
+    while((c = getchar()) != '*n')
+        add(c - '0');
+    putchar('!');
+    exit(total);
+}
+"""
+EMACS = {
+    "entry": [9, "main"], "given": "", "marked": 1, "breakpoint": [4, "add", "main"], "local": "x: 3",
+    "typed": "40 '('", "again": [4, "add", "main"], "next": [5, "add", "main"], "back": [4, "add", "main"],
+    "out": [10, "main"], "before": [4, "add", "main"], "end": "terminated",
+    "written": "!the program has ended with status 12",
+}
+
+
+def lines_for(editor):
+    """The lines that the page has for an editor."""
+    part = PAGE.partition(f"**{editor}**")[2].partition("\n**")[0]
+    lines = textwrap.dedent("".join(re.findall(r"^    .*\n", part, re.M)))
+    return lines.replace("SHARE", str(TOP / "share"))
+
+
+def seen_by(folder, editor, *words):
+    """What an editor has seen of the source, once it has run with the lines of the page."""
+    (folder / "x.b").write_text(SOURCE)
+    (folder / "init").write_text(lines_for(editor))
+    seen = folder / "seen"
+    seen.unlink(missing_ok=True)
+    given = {"HOME": str(folder), "FILE": str(folder / "x.b"), "INIT": str(folder / "init"), "SEEN": str(seen)}
+    run = subprocess.run(words, cwd=folder, stdin=subprocess.DEVNULL, stdout=subprocess.PIPE, stderr=subprocess.STDOUT,
+                         timeout=300, env={**os.environ, **given})
+    return json.loads(seen.read_text()) if seen.exists() else {"said": run.stdout.decode(errors="replace")}
+
+
+def try_emacs(folder, tried):
+    emacs = shutil.which("emacs")
+    if not emacs or not any(PACKAGES.glob("dap-mode-[0-9]*")):
+        print("tools/try-dap: there is no Emacs with dap-mode here, so it was not tried")
+        return
+    paths = [word for it in sorted(PACKAGES.iterdir()) for word in ("-L", str(it))]
+    words = ["-Q", "--batch", *paths, "-l", str(TOP / "tools/try_dap_emacs.el")]
+    tried.expect("Emacs", EMACS, seen_by(folder, "Emacs", emacs, *words))
+    print("dap: Emacs was tried, by dap-mode")
+
+
+def try_adapter(folder, tried, editor, command, request):
+    """Runs a command as an editor would, and begins the source."""
+    given = {name: str(folder / "x.b") if it == "${file}" else it for name, it in request.items()}
+    asked = (("initialize", {}), ("launch", given), ("configurationDone", {}), ("disconnect", {}))
+    stream = b"".join(framed({"seq": at, "type": "request", "command": name, "arguments": it})
+                      for at, (name, it) in enumerate(asked, 1))
+    told = read_frames(subprocess.run(command, input=stream, stdout=subprocess.PIPE, timeout=60).stdout)
+    stops = [it["body"]["reason"] for it in told if it.get("event") == "stopped"]
+    tried.expect(f"{editor}: where its program stops", ["entry"], stops)
+
+
+def try_neovim(folder, tried):
+    neovim = shutil.which("nvim")
+    if not neovim:
+        print("tools/try-dap: there is no Neovim here, so its lines were not tried")
+        return
+    flags = ["--headless", "-u", "NONE", "-i", "NONE", "-n", "--cmd", f"set runtimepath^={TOP}/share/vim"]
+    seen = seen_by(folder, "Neovim", neovim, *flags, "-c", f"luafile {TOP}/tools/try_dap_neovim.lua")
+    tried.expect("Neovim: what its lines set", (["adapter", "configurations"], 1),
+                 (sorted(seen), len(seen.get("configurations", []))))
+    if "adapter" in seen:
+        adapter = seen["adapter"]
+        try_adapter(folder, tried, "Neovim", [adapter["command"], *adapter["args"]], seen["configurations"][0])
+
+
+def try_kate(folder, tried):
+    (folder / "x.b").write_text(SOURCE)
+    adapter = json.loads(lines_for("Kate"))["dap"]["b"]
+    try_adapter(folder, tried, "Kate", adapter["run"]["command"], adapter["configurations"]["launch"]["request"])
+
+
+def try_attributes(tried):
+    """The page has each member of a launch configuration that VS Code offers."""
+    told = json.loads((TOP / "share/vscode/package.json").read_text())["contributes"]["debuggers"][0]
+    rows = re.findall(r"^\| (`.*?) \|", PAGE, re.M)
+    tried.expect("VS Code: the members of a launch configuration", sorted(re.findall(r"`(\w+)`", " ".join(rows))),
+                 sorted(told["configurationAttributes"]["launch"]["properties"]))
+
+
+def type_of(message):
+    """The type of the protocol that a message of the server has."""
+    name = message.get("event") or message["command"]
+    kind = "Event" if message["type"] == "event" else "Response"
+    return f"{name[:1].upper()}{name[1:]}{kind}" if message.get("success", True) else "ErrorResponse"
+
+
+def try_types(folder, tried, told):
+    compiler = shutil.which("tsc")
+    if not compiler or not TYPES.is_dir():
+        print("tools/try-dap: there are no types of the protocol here, so they were not compared")
+        return
+    rows = [f"export const m{at}: DebugProtocol.{type_of(it)} = {json.dumps(it)};\n" for at, it in enumerate(told)]
+    (folder / "told.ts").write_text("".join([f'import {{ DebugProtocol }} from "{TYPES}/lib/debugProtocol";\n', *rows]))
+    words = ["--strict", "--noEmit", "--target", "es2020", "told.ts"]
+    run = subprocess.run([compiler, *words], cwd=folder, stdout=subprocess.PIPE, text=True, timeout=300)
+    tried.expect("the types of the protocol", (0, ""), (run.returncode, run.stdout))
+    print(f"dap: the types of {len(told)} answers and events were compared")
+
+
+def try_editors(folder, tried, told):
+    for each in (try_emacs, try_neovim, try_kate):
+        each(folder, tried)
+    try_attributes(tried)
+    try_types(folder, tried, told)
