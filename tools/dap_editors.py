@@ -1,13 +1,15 @@
-"""What tools/try-dap tries with editors: Emacs debugs a program by dap-mode, Neovim reads its lines of the page, the
-commands of these lines and of Kate's are run by a client that is none, and TypeScript compares all that the server has
-written with the types of its protocol."""
+"""What tools/try-dap tries with editors: Emacs debugs a program by dap-mode, and Kate by its plugin, on a screen that
+nobody sees; Neovim reads its lines of the page, and the command of these is run by a client that is none; and
+TypeScript compares all that the server has written with the types of its protocol."""
 import json
 import os
 import pathlib
 import re
 import shutil
+import signal
 import subprocess
 import textwrap
+import time
 
 from dap_trials import TOP, framed, read_frames
 
@@ -92,10 +94,83 @@ def try_neovim(folder, tried):
         try_adapter(folder, tried, "Neovim", [adapter["command"], *adapter["args"]], seen["configurations"][0])
 
 
+def kate_home(folder):
+    """A folder of settings for Kate, as the page says, with the source as target of its debugger, which leaves what it
+    writes in the file told; and the environment for that."""
+    home, source = folder / "home", folder / "x.b"
+    settings, sessions = home / ".config/kate/gdbplugin", home / ".local/share/kate/sessions"
+    for it in (settings, sessions, home / "run"):
+        it.mkdir(parents=True)
+    (home / "run").chmod(0o700)
+    source.write_text(SOURCE)
+    told = json.loads(lines_for("Kate"))
+    adapter = told["dap"]["b"]
+    command = " ".join(adapter["run"]["command"])
+    (home / "server").write_text(f"#!/bin/sh\n{command} | tee {folder}/told\n")
+    (home / "server").chmod(0o755)
+    adapter["run"]["command"] = [str(home / "server")]
+    adapter["configurations"]["launch"]["request"]["inputText"] = "345\n"
+    (settings / "dap.json").write_text(json.dumps(told))
+    target = {"debuggerKey": "b", "debuggerProfile": "launch", "target": "B", "variables": {"file": str(source)}}
+    (sessions / "x.katesession").write_text(
+        "[Kate Plugins]\nkategdbplugin=true\n\n[Open MainWindows]\nCount=1\n\n[MainWindow0]\nActive ViewSpace=0\n\n"
+        "[Plugin:kategdbplugin:MainWindow:0]\nversion=5\ntargetCount=1\n"
+        f"lastTarget=0\ntarget_0={json.dumps(target)}\n")
+    given = {"HOME": home, "XDG_CONFIG_HOME": home / ".config", "XDG_DATA_HOME": home / ".local/share",
+             "XDG_RUNTIME_DIR": home / "run", "QT_QPA_PLATFORM": "xcb"}
+    return {**os.environ, **{name: str(value) for name, value in given.items()}}
+
+
+def written(folder, wanted, count):
+    """What the server has written, once that is in it so often, or after half a minute."""
+    file, end = folder / "told", time.monotonic() + 30
+    while time.monotonic() < end and not (file.exists() and file.read_bytes().count(wanted) >= count):
+        time.sleep(.1)
+    return file.read_bytes() if file.exists() else b""
+
+
+def debug_in_kate(folder, given):
+    """Has Kate set a breakpoint, go on to it and step, by its keys; and gives what the server has told."""
+    def press(wanted, count, *keys):
+        time.sleep(1)  # until Kate has seen what was told
+        subprocess.run(["xdotool", "key", "--delay", "200", *keys], env=given, timeout=60)
+        return written(folder, b'"%s"' % wanted, count)
+
+    words = ["dbus-run-session", "--", "kate", "--start", "x", "--line", "4", "x.b"]
+    kate = subprocess.Popen(words, cwd=folder, env=given, stdin=subprocess.DEVNULL, stdout=subprocess.DEVNULL,
+                            stderr=subprocess.DEVNULL, start_new_session=True)
+    try:
+        subprocess.run(["xdotool", "search", "--sync", "--name", "x.b", "mousemove", "300", "200"], env=given,
+                       stdout=subprocess.DEVNULL, timeout=60)
+        press(b"initialized", 1, "ctrl+F7")
+        press(b"setBreakpoints", 1, "shift+F11")
+        for count in (1, 2):
+            press(b"stackTrace", count, "alt+d", "c")
+        return press(b"stackTrace", 3, "F9")
+    finally:
+        os.killpg(kate.pid, signal.SIGKILL)
+        kate.wait()
+
+
 def try_kate(folder, tried):
-    (folder / "x.b").write_text(SOURCE)
-    adapter = json.loads(lines_for("Kate"))["dap"]["b"]
-    try_adapter(folder, tried, "Kate", adapter["run"]["command"], adapter["configurations"]["launch"]["request"])
+    if not all(map(shutil.which, ("kate", "dbus-run-session", "Xvfb", "xdotool"))):
+        print("tools/try-dap: there is no Kate here, or no Xvfb and xdotool, so it was not tried")
+        return
+    screen = subprocess.Popen(["Xvfb", "-displayfd", "1", "-screen", "0", "1000x800x24"], stdout=subprocess.PIPE,
+                              stderr=subprocess.DEVNULL, text=True)
+    try:
+        given = kate_home(folder)
+        told = debug_in_kate(folder, {**given, "DISPLAY": f":{screen.stdout.readline().strip()}"})
+    finally:
+        screen.kill()
+        screen.wait()
+    told = read_frames(told)
+    stops = [it["body"]["reason"] for it in told if it.get("event") == "stopped"]
+    calls = [[frame["name"] for frame in it["body"]["stackFrames"]] for it in told if it.get("command") == "stackTrace"]
+    tried.expect("Kate: where its program stops", ["entry", "breakpoint", "step"], stops)
+    tried.expect("Kate: the calls there", [["main"], ["add", "main"], ["add", "main"]], calls)
+    tried.expect("Kate: what is refused", [], [it["message"] for it in told if not it.get("success", True)])
+    print("dap: Kate was tried, by its plugin")
 
 
 def try_attributes(tried):
