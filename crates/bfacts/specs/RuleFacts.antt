@@ -22,7 +22,7 @@ use Rattle.blint.specs.Noticed.{first_notice, warning_of}
 
 -- The rules that are asked here come first, but for the last of them. So what they say of a token counts before all others.
 abbrev asked : {A : Type 0} → List A → List A
-asked all = take 44 all ++ take 1 (drop 75 all)
+asked all = take 44 all ++ take 1 (drop 79 all)
 
 first_warnings : asked WARNINGS
     ≡ warning.AndAnd ∷ warning.OperatorAssigns ∷ warning.Backslash ∷ warning.BitsCompared ∷ warning.BitsCompared ∷
