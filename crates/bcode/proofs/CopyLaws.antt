@@ -1,6 +1,6 @@
 -- Lines taken in a row, and their values or texts put after others.
 use Rattle.std.proofs.Common.{subst, ◌≡◌, ℕ, ◌+◌, ◌*◌, ◌-◌, ◌<◌, ◌≤◌, Bool, true, false, List, [], ◌∷◌, ◌++◌, length, map, take, replicate, Option, Some, None, Result, Ok, Err, IsErrAnd, refl, sym, ap, ◌∙◌, arith, append_assoc, append-nil, length-append, length-take}
-use Rattle.std.specs.Prelude.{All, MatchResult}
+use Rattle.std.specs.Prelude.{All, MatchResult, if◌then◌else◌}
 use Rattle.std.specs.List.{flat_map}
 use Rattle.std.specs.Io.{StartsWith}
 use Rattle.std.proofs.Math.Seq.{take-append_seam}
@@ -107,7 +107,7 @@ module _ {X : Type 0} {spell : X → List ℕ} {within : X → Type 0} where
   }
 
   -- the one line that a text begins with
-  pub one_put : {read : LineReader X} {count : ℕ} {text bytes rest : List ℕ} (before after : List X) → IsExact spell within read → text ≡ bytes → count ≤ 1 → 0 < count → PutsFound spell within count text rest before after
+  pub one_put : {read : LineReader X} {count : ℕ} {text bytes rest : List ℕ} (before after : List X) → IsExact spell within read → text ≡ bytes → count ≤ 1 → 0 < count → PutsFound spell within true count text rest before after
       → (x : X) × (after ≡ before ++ x ∷ []) × (read bytes ≡ Some (x, rest))
   one_put {read} {count} {text} {bytes} {rest} before after exact same few some p = first p.0.values p.0.all p.0.inside (sym same ∙ p.0.split) p.1
     where
@@ -131,14 +131,21 @@ module _ {X : Type 0} {spell : X → List ℕ} {within : X → Type 0} where
       none_before (x ∷ xs) all split = absurd (omega (arith, all))
 
   -- values put one after another
-  pub puts_none : (text : List ℕ) (before : List X) → PutsFound spell within 0 text text before before
-  puts_none text before = (record { values = []; all = refl; inside = All-nil within; split = refl }, sym (append-nil before))
+  pub puts_none : (keeps : Bool) (text : List ℕ) (before : List X) → PutsFound spell within keeps 0 text text before before
+  puts_none keeps text before = (record { values = []; all = refl; inside = All-nil within; split = refl }, none keeps)
+    where
+      none : (keeps : Bool) → before ≡ before ++ (if keeps then [] else [])
+      none true = sym (append-nil before)
+      none false = sym (append-nil before)
 
-  pub puts_more : {read : LineReader X} {count : ℕ} {text rest following : List ℕ} (before : List X) {between after : List X} → IsExact spell within read → PutsFound spell within count text rest before between
-      → (x : X) → read rest ≡ Some (x, following) → after ≡ between ++ x ∷ [] → PutsFound spell within (count + 1) text following before after
+  pub puts_more : {read : LineReader X} {count : ℕ} {text rest following : List ℕ} (keeps : Bool) (before : List X) {between after : List X} → IsExact spell within read
+      → PutsFound spell within keeps count text rest before between → (x : X) → read rest ≡ Some (x, following) → after ≡ between ++ (if keeps then x ∷ [] else [])
+      → PutsFound spell within keeps (count + 1) text following before after
   unfolding begins_more
-  puts_more {read} {count} {text} {rest} {following} before {between} {after} exact p x e pushed =
+  puts_more {read} {count} {text} {rest} {following} true before {between} {after} exact p x e pushed =
       (begins_more exact p.0 x e, pushed ∙ ap (λ l. l ++ x ∷ []) p.1 ∙ append_assoc before p.0.values (x ∷ []))
+  puts_more {read} {count} {text} {rest} {following} false before {between} {after} exact p x e pushed =
+      (begins_more exact p.0 x e, pushed ∙ append-nil between ∙ p.1)
 
   -- there was no room for a value
   pub value_refused : {read : LineReader X} {count most : ℕ} {text rest following : List ℕ} → IsExact spell within read → BeginsWith spell within count text rest → count < most
@@ -146,7 +153,7 @@ module _ {X : Type 0} {spell : X → List ℕ} {within : X → Type 0} where
   value_refused {read} {count} {most} {text} {rest} {following} exact b less x e =
       record { count = count + 1; some = omega arith; few = omega arith; rest = following; found = begins_more exact b x e }
 
-  pub nothing_put : {count : ℕ} {text rest : List ℕ} {before after : List X} → count ≡ 0 → PutsFound spell within count text rest before after → after ≡ before
+  pub nothing_put : {count : ℕ} {text rest : List ℕ} {before after : List X} → count ≡ 0 → PutsFound spell within true count text rest before after → after ≡ before
   nothing_put {count} {text} {rest} {before} {after} nothing p = p.1 ∙ none_after p.0.values (p.0.all ∙ nothing)
     where
       none_after : (xs : List X) → length xs ≡ 0 → before ++ xs ≡ before

@@ -1,5 +1,5 @@
 -- Promise: what reading or copying some lines takes from where they come from, and puts after a list.
-use Rattle.std.specs.Prelude.{◌≡◌, ℕ, ◌<◌, ◌≤◌, Bool, true, false, List, ◌++◌, length, All, Option, Some, None}
+use Rattle.std.specs.Prelude.{◌≡◌, ℕ, ◌<◌, ◌≤◌, Bool, true, false, List, [], ◌++◌, if◌then◌else◌, length, All, Option, Some, None}
 use Rattle.std.specs.Prelude.{Result, Ok, Err}
 use Rattle.std.specs.List.{flat_map}
 use Rattle.blang.specs.Text.{joined, definition_text}
@@ -19,10 +19,10 @@ module _ {X : Type 0} (spell : X → List ℕ) (within : X → Type 0) where
     pub inside : All within values
     pub split : text ≡ flat_map spell values ++ rest
 
-  -- It does, and their values were put after others.
-  abbrev pub PutsFound : (count : ℕ) → (text rest : List ℕ) → (before after : List X) → Type 0
-  PutsFound count text rest before after =
-      (found : BeginsWith count text rest) × (after ≡ before ++ found.values)
+  -- It does, and where their values are kept, they were put after others.
+  abbrev pub PutsFound : (keeps : Bool) → (count : ℕ) → (text rest : List ℕ) → (before after : List X) → Type 0
+  PutsFound keeps count text rest before after =
+      (found : BeginsWith count text rest) × (after ≡ before ++ (if keeps then found.values else []))
 
   -- A text begins with one such line at least, and at most so many are of interest.
   pub record HasSome (most : ℕ) (text : List ℕ) : Type 0 where

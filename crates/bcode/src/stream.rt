@@ -1,5 +1,5 @@
 //! The lines of a text that comes byte by byte.
-ghost use Rattle.std.specs.Prelude.{◌≡◌, ◌<◌, ◌≤◌, MatchResult, None, OnOk, flat_map, length};
+ghost use Rattle.std.specs.Prelude.{◌≡◌, ◌∷◌, ◌++◌, ◌<◌, ◌≤◌, [], if◌then◌else◌, MatchResult, None, OnErr, OnOk, flat_map, length, true};
 ghost use Rattle.bcode.specs.Ahead.{LineGives, EndGives};
 ghost use Rattle.bcode.specs.Copying.{BeginsWith, HasSome, SomeLinesGive, PutsFound};
 ghost use Rattle.bcode.specs.LineReading.{IsForm};
@@ -12,7 +12,7 @@ use crate::line_form::LineForm;
 use arrayvec::ArrayVec;
 use blang::LINE_LEN;
 use bword::{ByteIn, Device};
-use std::alloc::AllocError;
+use std::alloc::{AllocError, Global};
 use std::marker::Model;
 
 /// A line, or as much of one as tells that it is none of a code text.
@@ -132,7 +132,7 @@ impl<I: ByteIn> Stream<I> {
             self.old values.old.items result self.new values.new.items }
     {
         let ahead = self.input.ahead();
-        let (count, rest) = values_at(form, most, ahead, values)?;
+        let (count, rest) = values_at(form, most, ahead, values, true)?;
         if count == 0 {
             return self.read_one(form, most, values);
         }
@@ -157,7 +157,7 @@ impl<I: ByteIn> Stream<I> {
             self.old values.old.items result self.new values.new.items }
     {
         read_line(&mut self.input, &mut self.bytes)?;
-        let (count, _) = values_at(form, 1, self.bytes.as_slice(), values)?;
+        let (count, _) = values_at(form, 1, self.bytes.as_slice(), values, true)?;
         if count == 0 {
             return Err(CodeStop::Fault(CodeFault::Line(self.line)));
         }
@@ -178,7 +178,7 @@ impl<I: ByteIn> Stream<I> {
             self.old text.old.items result self.new text.new.items }
     {
         let ahead = self.input.ahead();
-        let (count, rest) = lines_at(form, most, ahead);
+        let (count, rest) = lines_at(*text.allocator(), form, most, ahead);
         if count == 0 {
             return self.copy_one(form, most, text);
         }
@@ -204,7 +204,7 @@ impl<I: ByteIn> Stream<I> {
             self.old text.old.items result self.new text.new.items }
     {
         read_line(&mut self.input, &mut self.bytes)?;
-        let (count, _) = lines_at(form, 1, self.bytes.as_slice());
+        let (count, _) = lines_at(*text.allocator(), form, 1, self.bytes.as_slice());
         if count == 0 {
             return Err(CodeStop::Fault(CodeFault::Line(self.line)));
         }
@@ -214,47 +214,56 @@ impl<I: ByteIn> Stream<I> {
     }
 }
 
-// Puts the values of the lines of a form that a text begins with after others. They are so many at most. It tells how
-// many they are, and the text after them. The reader of an instruction's line is called here and in `lines_at`
-// alone, so that it is small enough for both to hold it.
+// How many lines of a form a text begins with, up to so many, and the text after them. Where their values are kept, they
+// are put after others. For each form this stands in a program once, so that it holds the reader of the form's line.
+#[inline(never)]
 fn values_at<'a, F: LineForm>(
     form: F,
     most: u16,
     text: &'a [u8],
     values: &mut Vec<F::Value>,
+    keeps: bool,
 ) -> Result<(u16, &'a [u8]), AllocError>
     requires { IsForm (F.spell form) (F.within form) (F.reader form) }
     ensures { MatchResult result
         (λ r. (r.0 ≤ most) × (r.0 < most → F.reader form r.1.now ≡ None)
-        × PutsFound (F.spell form) (F.within form) r.0 text.now r.1.now values.old.items values.new.items)
-        (λ _. HasSome (F.spell form) (F.within form) most text.now) }
+        × PutsFound (F.spell form) (F.within form) keeps r.0 text.now r.1.now values.old.items values.new.items)
+        (λ _. (keeps ≡ true) × HasSome (F.spell form) (F.within form) most text.now) }
 {
     let mut rest = text;
     for count in 0..most {
         let Some(found) = form.read_from(rest) else {
             return Ok((count, rest));
         };
-        values.push(found.0)?;
+        keep(values, found.0, keeps)?;
         rest = found.1;
     }
     Ok((most, rest))
 }
 
-// How many lines of a form a text begins with, up to so many, and the text after them.
-fn lines_at<F: LineForm>(form: F, most: u16, text: &[u8]) -> (u16, &[u8])
+// Puts a value after others, if it is kept.
+#[inline(always)]
+fn keep<T: Copy>(values: &mut Vec<T>, value: T, keeps: bool) -> Result<(), AllocError>
+    ensures kept { OnOk result (values.new.items ≡ values.old.items ++ (if keeps then value ∷ [] else [])) }
+    ensures refused { OnErr result (keeps ≡ true) }
+{
+    if keeps {
+        values.push(value)?;
+    }
+    Ok(())
+}
+
+// The same without their values.
+fn lines_at<F: LineForm>(alloc: Global, form: F, most: u16, text: &[u8]) -> (u16, &[u8])
     requires { IsForm (F.spell form) (F.within form) (F.reader form) }
     ensures few { result.0 ≤ most }
     ensures none { result.0 < most → F.reader form result.1.now ≡ None }
     ensures lines { BeginsWith (F.spell form) (F.within form) result.0 text.now result.1.now }
 {
-    let mut rest = text;
-    for count in 0..most {
-        let Some((_, following)) = form.read_from(rest) else {
-            return (count, rest);
-        };
-        rest = following;
+    match values_at(form, most, text, &mut Vec::new(alloc), false) {
+        Ok(found) => found,
+        Err(_) => (0, text),
     }
-    (most, rest)
 }
 
 // Takes a line, or as much of one as tells that it is none of a code text.

@@ -10,7 +10,7 @@ returns-in_err-read_line g c =
 
 pub returns-in_err-count : goal.returns-in_err-count
 returns-in_err-count g c =
-    let h = c.in_err-count.ensures in
+    let h = c.in_err-count.ensures.1 in
     let one = one_found c.requires.shape.exact c.as_slice.ensures.value h.few h.some h.found in
     rw (← c.self.view_is) (run_refused _ _ _ _ _ _ _ _ _ c.from_residual-in_err-count.ensures.1
     (one_at_most _ _ _ c.requires.some (stream_reads c.requires.shape.exact c.requires.shape.shape c.self.inside.line c.in_ok-read_line.ensures.gives c.in_ok-read_line.ensures.same _ _ one.1)))
