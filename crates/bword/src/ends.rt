@@ -1,5 +1,5 @@
 //! Ends that bytes come from and go to.
-ghost use Rattle.std.specs.Prelude.{ℕ, ◌≡◌, ◌≤◌, List, [], ◌∷◌, length, take, drop, Bool, IsTrue, OnErr};
+ghost use Rattle.std.specs.Prelude.{ℕ, ◌≡◌, ◌<◌, ◌≤◌, List, [], ◌∷◌, length, take, drop, Bool, IsTrue, OnErr};
 ghost use Rattle.std.specs.Io.{StartsWith};
 ghost use Rattle.bword.specs.ByteEnds.{most, Incoming, NextGives, GivesReady, TakesReady, Outgoing, PutGives};
 
@@ -103,6 +103,19 @@ pub trait ByteOut {
     // Whether a refused `put` writes none of its bytes.
     ghost refuses_whole: { Bool };
 
+    // How many bytes the next `put` can't refuse, or 0 where it may refuse any.
+    ghost room: { Self → ℕ } = { λ _. 0 };
+
+    /// Sets room aside for the next `put`, and tells for how many bytes. It may be none. Where there is some, nothing
+    /// may be asked of the other streams before that `put`, which may be one of no byte.
+    fn set_aside(&mut self) -> usize
+        ensures room { result ≤ room self.new }
+        ensures kept { outgoing self.new ≡ outgoing self.old }
+        ensures same { lender self.new ≡ lender self.old }
+    {
+        0
+    }
+
     /// Writes the bytes.
     ///
     /// # Errors
@@ -113,6 +126,7 @@ pub trait ByteOut {
         ensures gives { PutGives (outgoing self.old) bytes.now result (outgoing self.new) }
         ensures whole { IsTrue refuses_whole
             → OnErr result (Outgoing.written (outgoing self.new) ≡ Outgoing.written (outgoing self.old)) }
+        ensures fits { 0 < room self.old → length bytes.now ≤ room self.old → OnErr result ⊥ }
         ensures same { lender self.new ≡ lender self.old };
 }
 
@@ -122,6 +136,13 @@ impl<O: ByteOut> ByteOut for &mut O {
     ghost lender = { λ r. r.ghost_name ∷ O.lender r.now };
 
     ghost refuses_whole = { O.refuses_whole };
+
+    ghost room = { λ r. O.room r.now };
+
+    #[inline]
+    fn set_aside(&mut self) -> usize {
+        ByteOut::set_aside(&mut **self)
+    }
 
     #[inline]
     fn put(&mut self, bytes: &[u8]) -> Result<(), EndFault> {
