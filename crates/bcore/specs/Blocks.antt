@@ -1,7 +1,8 @@
 -- Inner words: a block of output, on its way to a writer.
 use Rattle.std.specs.Prelude.{◌≡◌, ℕ, ◌+◌, ◌≤◌, nat_le, Bool, true, false, List, [], ◌++◌, length, take}
-use Rattle.std.specs.Prelude.{Option, Some, Result, Ok, Err}
+use Rattle.std.specs.Prelude.{Option, Some, None, Result, Ok, Err}
 use Rattle.std.specs.Io.KnownBytes.{Appends, append_known}
+use Rattle.bword.specs.ByteEnds.{Outgoing}
 
 -- What a block has shown, what it keeps, and for how many bytes it has room.
 pub record Held : Type 0 where
@@ -57,3 +58,13 @@ WasTaken {B} takes bytes = (old : B) × (new : B) × takes old bytes new
 -- a buffer was shown for the last time, and this is its writer as that has left it
 abbrev pub WasFinished : {B W : Type 0} → (finishes : B → W → Type 0) → Option W → Type 0
 WasFinished {B} {W} finishes output = (old : B) × (writer : W) × (output ≡ Some writer) × finishes old writer
+
+-- what can be seen of an end, and how much room it has set aside in a buffer
+pub record Seen : Type 0 where
+  pub seen : Outgoing
+  pub room : ℕ
+
+-- the room in a buffer that may be held
+abbrev pub spare_of : {G : Type 0} → (spare : G → ℕ) → Option G → ℕ
+spare_of spare None = 0
+spare_of spare (Some guard) = spare guard

@@ -1,5 +1,5 @@
 //! Bytes of output on their way to a writer.
-ghost use Rattle.std.specs.Prelude.{◌≡◌, ◌++◌, List, ℕ, [], if◌then◌else◌, length, nat_le};
+ghost use Rattle.std.specs.Prelude.{◌≡◌, ◌++◌, ◌-◌, ◌<◌, ◌≤◌, List, ℕ, [], if◌then◌else◌, length, nat_le};
 ghost use Rattle.std.specs.Prelude.{IfOk, MatchResult, OnErr, OnOk};
 ghost use Rattle.std.specs.Io.KnownBytes.{Appends};
 ghost use Rattle.bcore.specs.Blocks.{HandsOn, HandsSome, PassesOn, TakesPiece, WritesOn, has_room};
@@ -22,9 +22,17 @@ pub trait Buffered {
     /// What a call does that shows all that was kept.
     ghost shows: { Self → Self → Type 0 };
 
+    /// For how many bytes it has room without showing any.
+    ghost spare: { Self → ℕ };
+
+    /// For how many bytes there is room at least without showing any.
+    fn spare(&self) -> usize
+        ensures { result ≤ spare self.now };
+
     /// Takes bytes, and shows some where it can't keep them.
     fn take(&mut self, bytes: &[u8]) -> io::Result<()>
-        ensures takes { OnOk result (takes self.old bytes.now self.new) };
+        ensures takes { OnOk result (takes self.old bytes.now self.new) }
+        ensures fits { 0 < spare self.old → length bytes.now ≤ spare self.old → OnErr result ⊥ };
 
     /// Shows what is kept. What can't be shown isn't tried again.
     fn show(&mut self) -> io::Result<()>
@@ -139,11 +147,19 @@ impl<W: Write + Drop> Buffered for Block<W> {
 
     ghost shows = { λ old new. HandsOn old old.kept [] new };
 
+    ghost spare = { λ b. b.len - length b.kept };
+
+    fn spare(&self) -> usize {
+        self.bytes.len() - self.filled
+    }
+
     #[inline(always)]
     fn take(&mut self, bytes: &[u8]) -> io::Result<()>
         ensures takes { OnOk result
             (TakesPiece (has_room self.old self.old.kept bytes.now) (has_room self.old [] bytes.now)
             self.old bytes.now self.new) }
+        ensures fits { 0 < self.old.len - length self.old.kept → length bytes.now ≤ self.old.len - length self.old.kept
+            → OnErr result ⊥ }
         ensures fails { OnErr result (HandsSome self.old (self.old.kept ++ bytes.now) self.new) }
     {
         if self.keep(bytes) {

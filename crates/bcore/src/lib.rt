@@ -10,7 +10,8 @@ mod tools;
 
 pub use block::{Block, Buffered, Finish};
 pub use process::{
-    Answering, Output, Served, Streams, Task, core_is_answered, serve_host, serve_process,
+    Answering, Output, OutputEnd, Served, Streams, Task, core_is_answered, serve_host,
+    serve_process,
 };
 pub use serving::{name_file, refuse_words, serve, serve_with};
 pub use shelf::{FileFault, MemFile, Shelf, SystemFiles};

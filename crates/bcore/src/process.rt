@@ -1,12 +1,13 @@
 //! The streams of a process, kept in order: what was written is shown before more input is fetched, and before a line
 //! is written beside it.
-ghost use Rattle.std.specs.Prelude.{◌≡◌, ℕ, IfOk, List, None, OnOk, Option, length, map as map_each, option_map, string_bytes};
+ghost use Rattle.std.specs.Prelude.{◌≡◌, ℕ, ◌<◌, ◌≤◌, IfOk, List, [], false, None, OnErr, OnOk, Option, length, map as map_each, option_map, string_bytes};
 ghost use Rattle.std.specs.Io.{ReadsAtMost, WritesAtMost};
-ghost use Rattle.std.specs.Io.KnownBytes.{Keeps, ReadConsumes, WriteAppends};
+ghost use Rattle.std.specs.Io.KnownBytes.{ReadConsumes, WriteAppends};
 ghost use Rattle.blang.specs.Reports.{RunEnds, run_ends};
 ghost use Rattle.bcore.specs.Blocks.{WasFinished, WasShown, WasTaken};
 ghost use Rattle.bcore.specs.CoreJobs.{AnswersCore};
-ghost use Rattle.bcore.specs.Processes.{AnswersWords, PerformsTask};
+ghost use Rattle.bcore.specs.Processes.{AnswersWords, PerformsTask, writer_end};
+ghost use Rattle.bword.specs.ByteEnds.{PutGives};
 ghost use Rattle.bcore.specs.Shelves.{opened};
 ghost use Rattle.clap.specs.Words.{Text};
 
@@ -14,11 +15,12 @@ use crate::block::{Block, Buffered, Finish};
 use crate::serving::{refuse_words, serve};
 use crate::tools::Tools;
 use blang::status::{self, Status};
-use bword::{ByteIn, ByteOut, Reading, Writing};
+use bword::{ByteIn, ByteOut, EndFault, Reading, Writing};
 use std::alloc::Global;
-use std::cell::RefCell;
+use std::cell::{RefCell, RefMut};
 use std::env;
 use std::io::{self, BufReader, ErrorKind, IsTerminal, Read, Write};
+use std::marker::Model;
 use std::process::ExitCode;
 use std::rt::Files;
 
@@ -76,11 +78,11 @@ pub trait Task<B: Buffered + Drop> {
     fn perform<I: ByteIn, D: ByteOut>(
         self,
         input: &mut I,
-        out: &mut Writing<&Output<B>>,
+        out: &mut OutputEnd<'_, B>,
         diag: &mut D,
     ) -> Status
         ensures does { does self (run_ends
-            (I.incoming input.old) (I.incoming input.new) out.old out.new
+            (I.incoming input.old) (I.incoming input.new) out.old.seen out.new.seen
             (D.outgoing diag.old) (D.outgoing diag.new)) result };
 }
 
@@ -100,7 +102,7 @@ impl<T: Tools, R: AllocGlobal + Files, B: Buffered + Drop> Task<B> for Answering
     fn perform<I: ByteIn, D: ByteOut>(
         self,
         input: &mut I,
-        out: &mut Writing<&Output<B>>,
+        out: &mut OutputEnd<'_, B>,
         diag: &mut D,
     ) -> Status {
         let Answering { tools, rt, words } = self;
@@ -160,7 +162,7 @@ where
     });
     let told = task.perform(
         &mut Reading::new(reader),
-        &mut Writing::new(&output),
+        &mut OutputEnd::new(&output),
         &mut lines,
     );
     let WriteAfterOutput {
@@ -221,23 +223,76 @@ impl<B: Buffered + Drop> Output<B> {
     }
 }
 
-impl<B: Buffered + Drop> Write for &Output<B> {
-    #[inline(always)]
-    fn write(&mut self, buf: &[u8]) -> io::Result<usize>
-        ensures bound { WritesAtMost result buf.now }
-        ensures bytes { WriteAppends None None result buf.now }
-        ensures whole { IfOk result (λ count. count ≡ length buf.now) }
-        ensures takes { OnOk result (WasTaken B.takes buf.now) }
+/// The end that output goes to. Where it sets room aside it holds the buffer until the next `put`.
+#[derive(Drop)]
+pub struct OutputEnd<'a, B: Buffered + Drop> {
+    output: &'a Output<B>,
+    held: Option<RefMut<'a, B>>,
+    failures: u64,
+}
+
+impl<'a, B: Buffered + Drop> Model for OutputEnd<'a, B> {
+    ghost use Rattle.std.specs.RefCell.{ref_mut_value};
+    ghost use Rattle.std.specs.Prelude.{None};
+    ghost use Rattle.bcore.specs.Blocks.{Seen, spare_of};
+
+    ghost Value = { Seen };
+
+    ghost view = { λ e. record {
+      seen = record { written = None; failures = e.failures; refusals = 0 };
+      room = spare_of (λ guard. B.spare (ref_mut_value guard)) e.held;
+    } };
+}
+
+impl<'a, B: Buffered + Drop> OutputEnd<'a, B> {
+    fn new(output: &'a Output<B>) -> Self
+        ensures { result ≡ record { seen = writer_end None; room = 0 } }
     {
-        self.take(buf)?;
-        Ok(buf.len())
+        OutputEnd {
+            output,
+            held: None,
+            failures: 0,
+        }
+    }
+}
+
+impl<B: Buffered + Drop> ByteOut for OutputEnd<'_, B> {
+    ghost outgoing = { λ e. e.seen };
+
+    ghost lender = { λ _. [] };
+
+    ghost refuses_whole = { false };
+
+    ghost room = { λ e. e.room };
+
+    fn set_aside(&mut self) -> usize {
+        self.held = None;
+        let Ok(buffer) = self.output.buffer.try_borrow_mut() else {
+            return 0;
+        };
+        let spare = buffer.spare();
+        if spare > 0 {
+            self.held = Some(buffer);
+        }
+        spare
     }
 
-    fn flush(&mut self) -> io::Result<()>
-        ensures bytes { Keeps None None }
-        ensures shows { OnOk result (WasShown B.shows) }
+    /// Writes the bytes, by which the buffer is no longer held.
+    #[inline(always)]
+    fn put(&mut self, bytes: &[u8]) -> Result<(), EndFault>
+        ensures gives { PutGives self.old.seen bytes.now result self.new.seen }
+        ensures takes { OnOk result (WasTaken B.takes bytes.now) }
+        ensures fits { 0 < self.old.room → length bytes.now ≤ self.old.room → OnErr result ⊥ }
     {
-        self.show()
+        let taken = match self.held.take() {
+            Some(mut buffer) => buffer.take(bytes),
+            None => self.output.take(bytes),
+        };
+        if taken.is_err() {
+            self.failures = self.failures.saturating_add(1);
+            return Err(EndFault::Device);
+        }
+        Ok(())
     }
 }
 
