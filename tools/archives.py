@@ -147,7 +147,8 @@ def manual(folder):
 def library(part, folder):
     """The library for C of one processor, in `include`, `lib` and `lib/pkgconfig`."""
     copy(folder / "include", part / "b.h")
-    copy(folder / "include", part / "b_session.h")
+    for header in ("b_session.h", "b_host.h"):
+        copy(folder / "include", part / header)
     copy(folder / "lib", part / "libb.a", part / "libb.so.1", part / "libb.so")
     (folder / "lib/libb.so.1").chmod(0o644)
     text = (part / "b.pc").read_text()

@@ -340,11 +340,48 @@ async function lost({module, expect, b}) {
   it.free();
 }
 
-const PARTS = [talks, places, loads, symbols, breaks, limits, cuts, refusals, stops, many, memories, lost];
+const downward = n => (n < 1 ? 0 : 2 * downward(n - 1) + n);
 
-/** Runs all rows over a module, and tells how many there were and what was wrong. `collect` lets go of what nothing
-    refers to, where that can be asked for. */
-export async function tried(b, module, collect) {
+/** Calls of functions of the host, and by it. */
+async function hosts({sessions, host, expect}) {
+  const libs = {'host.b': host}, load = source => sessions.load(source, {libs});
+  const adds = 'main() { auto c; while((c = getchar()) != \'*e\') putchar(host("add", c, 1)); exit(host("none")); }';
+  let it = load(adds);
+  const parts = ['H', 'AL', ''], told = [];
+  const functions = {add: async (x, y) => x + y, none: () => {}};
+  const how = {input: () => parts.shift(), output: part => void told.push(text(part))};
+  expect('calls amid input', await it.serve(functions, how), halted(0));
+  expect('what they gave', told.join(''), 'IBM');
+  it = load('down(n) return(n < 1 ? 0 : host("up", n - 1) + n); stop(n) exit(n); main() { serve(); putchar(7); }');
+  const up = {up: async n => 2 * (await it.call('down', [n]))};
+  expect('not served yet', await kindOf(() => it.call('down', [1])), 'Error');
+  expect('it waits', await it.serve(up), ended('serves'));
+  for (const n of [0, 1, 2, 7, -1]) expect('both ways', await it.call('down', [n]), downward(n));
+  expect('no such function', await kindOf(() => it.call('up')), 'RangeError');
+  expect('too many words', await kindOf(() => it.call('down', [1, 2, 3, 4, 5, 6])), 'RangeError');
+  expect('too large a word', await kindOf(() => it.call('down', [65536])), 'RangeError');
+  expect('an end in a call', (await thrown(() => it.call('stop', [7]))).end, halted(7));
+  it = load('main() { auto v 20; exit(host("put", v, 20)); }');
+  const put = (to, size) => {
+    it.setText(to, 'odd');
+    it.setText(to, 'even');
+    expect('its words', size, 20);
+    return it.text(to).length;
+  };
+  expect('no function', await kindOf(() => it.serve({})), 'RangeError');
+  expect('what it throws', await kindOf(() => it.serve({put: () => { throw new TypeError('no'); }})), 'TypeError');
+  expect('a wrong answer', await kindOf(() => it.serve({put: () => 70000})), 'RangeError');
+  expect('the same call again', await it.serve({put}), halted(4));
+  expect('the words of a text', it.words(65535, 2).length, 2);
+  expect('no host', await kindOf(() => sessions.load('main() ;').serve()), 'Error');
+  it.free();
+}
+
+const PARTS = [hosts, talks, places, loads, symbols, breaks, limits, cuts, refusals, stops, many, memories, lost];
+
+/** Runs all rows over a module, with the text of lib/host.b, and tells how many there were and what was wrong.
+    `collect` lets go of what nothing refers to, where that can be asked for. */
+export async function tried(b, module, host, collect) {
   const wrong = [];
   let rows = 0;
   const expect = (what, got, wanted) => {
@@ -354,7 +391,7 @@ export async function tried(b, module, collect) {
   };
   for (const part of PARTS) {
     try {
-      await part({b, module, expect, collect, sessions: await b.loadSessions(module)});
+      await part({b, module, host, expect, collect, sessions: await b.loadSessions(module)});
     } catch (error) {
       wrong.push(`${part.name}: ${error.stack ?? error}`);
     }

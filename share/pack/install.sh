@@ -38,6 +38,16 @@ machine=$(uname -s | tr '[:upper:]' '[:lower:]')-$(uname -m)
 "$machine/libexec/b" --version >/dev/null 2>&1 ||
     fail "the program for $machine doesn't start here; sha256sum -c PROVED tells whether all files are whole"
 
+# Makes a folder with those above it, and notes what was made below PREFIX, for uninstall.sh.
+made=''
+folder() {
+    [ -n "$1" ] && [ ! -d "$1" ] || return 0
+    folder "${1%/*}"
+    mkdir "$1"
+    case $1/ in "$prefix"/*) made="$made${1#"$prefix"}/
+" ;; esac
+}
+
 # What is copied can be read by all, whatever the mask is and however the archive was unpacked. A new file takes the
 # place of an old one, so that a program that runs goes on, and there is always one of the two.
 umask 022
@@ -45,7 +55,7 @@ put() {
     to=$2/${1##*/} new=$2/.${1##*/}.new
     if [ -h "$to" ]; then rm -f "$to"; fi
     [ ! -d "$to" ] || fail "$to is a folder"
-    mkdir -p "$2"
+    folder "$2"
     rm -f "$new"
     cp -P "$1" "$new"
     [ -h "$1" ] || chmod u+w,go-w,a+rX "$new"
@@ -61,8 +71,9 @@ copy() {
         fi
     done
 }
-for folder in bin libexec share; do copy "$folder" "$prefix/$folder"; done
+for part in bin libexec share; do copy "$part" "$prefix/$part"; done
 copy "$machine" "$prefix"
-for folder in lib examples class docs; do copy "$folder" "$prefix/share/b/$folder"; done
+for part in lib examples class docs; do copy "$part" "$prefix/share/b/$part"; done
 for file in README.md PROVED; do put "$file" "$prefix/share/b"; done
+printf '%s' "$made" >>"$prefix/share/b/folders"
 echo "b is in $prefix/bin, and its texts are in $prefix/share/b"

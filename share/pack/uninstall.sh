@@ -28,5 +28,7 @@ case $0 in */*) cd -- "${0%/*}" ;; esac
 find bin libexec share ! -type d | while read -r file; do rm -f "$prefix/$file"; done
 find linux-* ! -type d | while read -r file; do rm -f "$prefix/${file#*/}"; done
 find lib examples class docs README.md PROVED ! -type d | while read -r file; do rm -f "$prefix/share/b/$file"; done
-if [ -d "$prefix/share/b" ]; then find "$prefix/share/b" -depth -type d -exec rmdir {} + 2>/dev/null || true; fi
+made=$(sort -r "$prefix/share/b/folders" 2>/dev/null) || made=''
+rm -f "$prefix/share/b/folders"
+printf '%s\n' "$made" | while IFS= read -r it; do rmdir "$prefix$it" 2>/dev/null || :; done
 echo "b was removed from $prefix"

@@ -9,6 +9,7 @@ whatever else has a line is an Error, with its status, its line and what was wri
 its range is a ValueError. The library is looked for at the path in B_LIBRARY, beside this file, where an install puts
 it, and where the system has its libraries."""
 import ctypes
+import inspect
 import json
 import operator
 import os
@@ -20,14 +21,18 @@ from typing import (
 
 Text = Union[bytes, bytearray, memoryview, str]
 Libs = Mapping[Text, Text]
+Serving = Tuple[
+    Mapping[str, Callable[..., Optional[int]]], Optional[Callable[[], Text]], Optional[Callable[[bytes], Any]]
+]
 Function = Any  # a call of the library, of which ctypes knows the arguments
 STEPS = 100_000_000
 FAULT, TRAP, LIMIT, REFUSED, FAILED, NO_MEMORY, WRONG_EDITION = 1, 130, 131, 132, 133, 134, 135
 HAS_OUTPUT, TOO_LARGE, STOPPED = 136, 137, 138
 __all__ = (
     *("compile", "migrate", "check", "format", "list", "map", "version", "run", "go", "trace", "count", "show"),
-    *("Ran", "Error", "Session", "Place", "Frame", "Symbol", "End", "STEPS", "FAULT", "TRAP", "LIMIT", "REFUSED"),
-    *("FAILED", "NO_MEMORY", "WRONG_EDITION", "HAS_OUTPUT", "TOO_LARGE", "STOPPED"),
+    *("Ran", "Error", "Ended", "Session", "Place", "Frame", "Symbol", "End"),
+    *("STEPS", "FAULT", "TRAP", "LIMIT", "REFUSED", "FAILED", "NO_MEMORY", "WRONG_EDITION"),
+    *("HAS_OUTPUT", "TOO_LARGE", "STOPPED"),
 )
 _LINE = 1024
 _ROOM = 1 << 16
@@ -52,6 +57,18 @@ class Error(Exception):
     def __init__(self, status: int, output: bytes, line: bytes) -> None:
         super().__init__(line.decode("ascii", "replace").strip() or f"status {status}")
         self.status, self.output, self.line = status, output, line
+
+
+class Ended(Exception):
+    """The run has ended in a `call`, as `end` tells."""
+
+    def __init__(self, end: "End") -> None:
+        super().__init__(end.why)
+        self.end = end
+
+
+class _Serves(Exception):
+    """The program waits for a call of the host."""
 
 
 class _Written(ctypes.Structure):
@@ -382,8 +399,8 @@ class Symbol(NamedTuple):
 
 class End(NamedTuple):
     """Why a slice has ended: `halted` with a status, `trapped` with two letters, `limit`, or `wants input`; `stopped`
-    before a step at which it was to stop; or `has output` or `too large`, where more is there than the limits allow,
-    which are of `operands` or of `pages`."""
+    before a step at which it was to stop; `serves`, where it waits for a `call`; or `has output` or `too large`, where
+    more is there than the limits allow, which are of `operands` or of `pages`."""
 
     why: str
     status: int = 0
@@ -394,6 +411,8 @@ class End(NamedTuple):
 _TRAPS = ("", "dz", "fn", "gt", "st", "dp", "bs", "sk")
 _KINDS = ("", "function", "simple", "vector", "parameter", "automatic", "automatic vector", "label", "instruction")
 _FIRST = 7  # the address of the first definition
+_ASKS, _CALLS, _WAITS = 1, 3, (2, 4)  # what lib/host.b says in the first word of its vector
+_ANSWER = 7  # the word of it with an answer, after a name and up to five words
 _BUSY = "this session is in a call of another thread"
 _UNBEGUN = b"trap st\n"  # where the memory has no room for the frame of `main`
 _OF = ("", "operands", "pages")
@@ -474,6 +493,8 @@ class Session:
         self._lock = threading.Lock()
         self._held = _Held()
         self._names: Dict[int, str] = {}
+        self._ahead = b""
+        self._serving: Serving = ({}, None, None)
         self._held_at_most = (operands, pages, output)
         self._limits = _limits(*self._held_at_most)
         if code is None and (lines or names):
@@ -633,6 +654,84 @@ class Session:
         else:
             self.close_input()
 
+    def serve(
+        self,
+        functions: Optional[Mapping[str, Callable[..., Optional[int]]]] = None,
+        read: Optional[Callable[[], Text]] = None,
+        write: Optional[Callable[[bytes], Any]] = None,
+        *,
+        steps: int = STEPS,
+    ) -> End:
+        """Runs on as `run` does, and answers each call of `host`, of lib/host.b, by the function of that name. It gets
+        as many words as it takes, from -32768 to 32767, and answers one, or None for 0; a string or a vector is an
+        address, of which `text` and `words` tell. No function of the name is a LookupError. What it raises comes out
+        of `serve`, and the next `serve` calls it anew. Where the program waits in `serve`, the End is `serves`.
+
+        The program gets a byte of its input at a time, and at its end as many `*e` as it asks for."""
+        self._serving, self._ahead = (functions or {}, read, write), b""
+        return self._serve(steps)
+
+    def call(self, name: Text, *words: int, steps: int = STEPS) -> int:
+        """Calls a function of a program that waits, in `serve` of lib/host.b or for a function of the host, and gives
+        its value. Meanwhile what was handed to `serve` answers and reads. A run that ends first is an Ended."""
+        function, queue = self.find(name), self._queue()
+        if function is None or function.kind != "function":
+            raise LookupError(f"the program has no function {name!r}")
+        if self.word(queue) not in (_ASKS, *_WAITS):
+            raise ValueError("the program doesn't wait for a call")
+        if len(words) > 5:
+            raise TypeError("a call has five words at most")
+        self.set_words(queue, [_CALLS, self.word(function.address), *words, *[0] * (5 - len(words))])
+        self.feed(b"\n")
+        end = self._serve(steps)
+        if end.why != "serves":
+            raise Ended(end)
+        return _signed(self.word(queue + _ANSWER))
+
+    def _serve(self, steps: int) -> End:
+        """Runs on to the end, or up to where the program waits."""
+        try:
+            return self.run(self._reply, self._serving[2], steps=steps)
+        except _Serves:
+            return End("serves")
+
+    def _queue(self) -> int:
+        """The address of the words by which program and host talk."""
+        queue = self.find("hostq")
+        if queue is None or queue.kind != "vector":
+            raise ValueError("the program has no lib/host.b")
+        return queue.address + 1
+
+    def _reply(self) -> Text:
+        """What the program gets where it asks for a byte: of its input, or so that it looks at an answer."""
+        queue = self._queue()
+        state = self.word(queue)
+        if state in _WAITS:
+            raise _Serves
+        if state == _ASKS:
+            self._answer(queue)
+            return b"\n"
+        if not self._ahead and self._serving[1] is not None:
+            more = self._serving[1]()
+            self._ahead = more.encode() if isinstance(more, str) else bytes(more)
+        byte, self._ahead = self._ahead[:1], self._ahead[1:]
+        return byte or b"\4"
+
+    def _answer(self, queue: int) -> None:
+        """Calls the function that the program asks for, and leaves its answer."""
+        asked = self.words(queue, _ANSWER)
+        name = self.text(asked[1]).decode("latin-1")
+        function = self._serving[0].get(name)
+        if function is None:
+            raise LookupError(f"the host has no function {name!r}")
+        try:
+            answer = function(*[_signed(word) for word in asked[2 : 2 + _takes(function)]])
+            self.set_words(queue + _ANSWER, [0 if answer is None else answer])
+        except BaseException:
+            self.set_words(queue, asked)
+            raise
+        self.set_word(queue, 0)
+
     def __iter__(self) -> Iterator[Place]:
         """Makes one step after another, and tells where the run stands before each, as long as it can go on."""
         while self._slice(0).why == "limit":
@@ -755,6 +854,33 @@ class Session:
         address, word = _number("address", address, 0, 65535), _number("word", word, 0, 65535)
         _expect(self._call(_library.b_set_word, address, word))
 
+    def words(self, address: int, count: int) -> List[int]:
+        """So many words from an address on, each from 0 to 65535. Memory goes on at 0 after 65535."""
+        return [self.word((address + at) % 65536) for at in range(count)]
+
+    def set_words(self, address: int, words: Iterable[int]) -> None:
+        """Stores words from an address on, each from -32768 to 65535."""
+        for at, word in enumerate(words):
+            self.set_word((address + at) % 65536, _number("word", word, -32768, 65535) % 65536)
+
+    def text(self, address: int, most: int = 32767) -> bytes:
+        """The string at an address, without its `*e`, or so many bytes of it."""
+        text = bytearray()
+        while len(text) < most:
+            pair = self.words(address + len(text) // 2, 1)[0].to_bytes(2, "little")
+            end = pair.find(4)
+            text += pair if end < 0 else pair[:end]
+            if end >= 0:
+                break
+        return bytes(text[:most])
+
+    def set_text(self, address: int, text: Text) -> None:
+        """Stores a string and its `*e` from an address on: half as many words as bytes, and one more."""
+        data = (text.encode() if isinstance(text, str) else bytes(text)) + b"\4"
+        if len(data) % 2 != 0:
+            data += self.words(address + len(data) // 2, 1)[0].to_bytes(2, "little")[1:]
+        self.set_words(address, [int.from_bytes(data[at : at + 2], "little") for at in range(0, len(data), 2)])
+
     def close(self) -> None:
         """Gives all of it back."""
         self._look_for_calls()
@@ -825,6 +951,22 @@ def _limits(operands: Optional[int], pages: Optional[int], output: Optional[int]
         _PAGES if pages is None else _number("pages", pages, 0, _PAGES),
         _ALL if output is None else _number("output", output, 0, _ALL),
     )
+
+
+def _signed(word: int) -> int:
+    """A word as a number from -32768 to 32767."""
+    return word - 65536 if word > 32767 else word
+
+
+def _takes(function: Callable[..., Any]) -> int:
+    """How many words a function of the host takes, five at most."""
+    try:
+        parameters = inspect.signature(function).parameters.values()
+    except ValueError:  # of a function in C that doesn't tell
+        return 5
+    if any(it.kind is it.VAR_POSITIONAL for it in parameters):
+        return 5
+    return min(5, sum(it.kind in (it.POSITIONAL_ONLY, it.POSITIONAL_OR_KEYWORD) for it in parameters))
 
 
 def _expect(status: int) -> None:

@@ -137,7 +137,7 @@ export class Refused extends Error {
 /** Why a slice has ended. `status` is that of a program which has halted, `trap` has the two letters of a trap, and
     `of` tells what is too large. */
 export interface End {
-  why: 'halted' | 'trapped' | 'limit' | 'wants input' | 'stopped' | 'has output' | 'too large';
+  why: 'halted' | 'trapped' | 'limit' | 'wants input' | 'stopped' | 'serves' | 'has output' | 'too large';
   status: number;
   trap: string;
   of: '' | 'operands' | 'pages';
@@ -227,6 +227,9 @@ export interface TalkOptions extends OutputOptions {
   output?: (bytes: Uint8Array) => unknown;
 }
 
+/** A function of the host: it gets five words, from -32768 to 32767, and answers one; nothing is 0. */
+export type HostFunction = (...words: number[]) => number | void | Promise<number | void>;
+
 /** A program that stays in memory, and its run, in slices. However a run is cut into slices, it is the same run. */
 export interface Session {
   /** Begins the run anew, with this much of its input. */
@@ -274,6 +277,17 @@ export interface Session {
   /** The word at an address; stores one. */
   word(address: number): number;
   setWord(address: number, word: number): void;
+  /** Runs on, and answers each call of `host`, of lib/host.b, by the function of that name. Where the program waits in
+      `serve`, the `End` is `serves`. What a function throws comes out, and the next `serve` calls it anew. */
+  serve(functions?: Record<string, HostFunction>, options?: TalkOptions): Promise<End>;
+  /** Calls a function of a program that waits, with five words at most, and gives its value. */
+  call(name: string, words?: number[], options?: OutputOptions): Promise<number>;
+  /** So many words from an address on; stores some. */
+  words(address: number, count: number): number[];
+  setWords(address: number, words: Iterable<number>): void;
+  /** The string at an address, or so many characters of it; stores one and its `*e`. */
+  text(address: number, most?: number): string;
+  setText(address: number, text: Text): void;
   /** Gives all of it back. What nothing refers to any more is given back sooner or later without this. */
   free(): void;
   [Symbol.dispose](): void;

@@ -4,6 +4,7 @@
 // The module sessions.wasm has the calls of share/c/b_session.h. An address and a size have 64 bits there, and so they
 // are BigInts here.
 import {Kept, Refused, Stopped, bytesOf} from './b.mjs';
+import {Serving, storeText, textAt} from './serving.mjs';
 
 const DONE = 0, TRAP = 130, REFUSED = 132, FULL = 133, MEMORY = 134, CLOSED = 135, LARGE = 137;
 const WHY = {131: 'limit', 133: 'wants input', 136: 'has output', 138: 'stopped'};
@@ -230,6 +231,8 @@ class Session {
   #limits;
   #names = new Map();
   #isRunning = false;
+  #serving = null;
+  #talk = null;
 
   constructor(sessions, held, input, limits) {
     this.#sessions = sessions;
@@ -292,7 +295,11 @@ class Session {
   }
 
   async run({output, ...how} = {}) {
-    const parts = this.outputs(how);
+    return this.#handOn(this.outputs(how), output);
+  }
+
+  /** Hands on what is written, up to an end. */
+  async #handOn(parts, output) {
     try {
       for (;;) {
         const {done, value} = await parts.next();
@@ -304,23 +311,63 @@ class Session {
     }
   }
 
-  async *outputs({input, steps = STEPS, signal} = {}) {
-    const pace = new Pace(), last = fewer(this.#made() + large('steps', steps), MOST);
+  /** Runs on, and answers the calls of lib/host.b, up to an end, or until the program waits for a call. */
+  async serve(functions = {}, {input, output, ...how} = {}) {
+    this.#serving = new Serving(this, functions, input);
+    this.#talk = how => this.#handOn(this.#parts({input: () => this.#serving.reply(), ...how}), output);
     if (this.#isRunning) throw new Error('this session is running');
     this.#isRunning = true;
     try {
-      for (;;) {
-        signal?.throwIfAborted();
-        const {end, failure} = pace.time(most => this.#slice(fewer(most, last - this.#made())));
-        const bytes = this.output();
-        if (bytes.length > 0) yield bytes;
-        if (failure) throw failure;
-        if (end.why === 'wants input') await this.#ask(input, signal);
-        else if (end.why !== 'has output' && (end.why !== 'limit' || this.#made() >= last)) return end;
-        await turn();
-      }
+      return await this.#serving.end(this.#talk(how));
     } finally {
       this.#isRunning = false;
+    }
+  }
+
+  /** Calls a function of a program that waits, and gives its value. */
+  async call(name, words = [], how = {}) {
+    if (!this.#serving) throw new Error('this session was not served yet');
+    this.#serving.begin(name, words);
+    return this.#serving.value(await this.#serving.end(this.#talk(how)));
+  }
+
+  words(address, count) {
+    return Array.from({length: count}, (_, at) => this.word((address + at) % 65536));
+  }
+
+  setWords(address, words) {
+    words.forEach((word, at) => this.setWord((address + at) % 65536, word & 65535));
+  }
+
+  text(address, most = 32767) {
+    return textAt(this, address & 65535, most);
+  }
+
+  setText(address, text) {
+    storeText(this, address & 65535, bytesOf(text));
+  }
+
+  async *outputs(how = {}) {
+    if (this.#isRunning) throw new Error('this session is running');
+    this.#isRunning = true;
+    try {
+      return yield* this.#parts(how);
+    } finally {
+      this.#isRunning = false;
+    }
+  }
+
+  async *#parts({input, steps = STEPS, signal} = {}) {
+    const pace = new Pace(), last = fewer(this.#made() + large('steps', steps), MOST);
+    for (;;) {
+      signal?.throwIfAborted();
+      const {end, failure} = pace.time(most => this.#slice(fewer(most, last - this.#made())));
+      const bytes = this.output();
+      if (bytes.length > 0) yield bytes;
+      if (failure) throw failure;
+      if (end.why === 'wants input') await this.#ask(input, signal);
+      else if (end.why !== 'has output' && (end.why !== 'limit' || this.#made() >= last)) return end;
+      await turn();
     }
   }
 

@@ -28,6 +28,7 @@ pub(crate) enum UndefinedName {
     Foreign(Foreign),
     Near,
     OtherEdition,
+    InHost,
     InInput,
     InNumbers,
     InPrint,
@@ -45,23 +46,24 @@ pub(crate) enum UndefinedName {
 
 /// What the files of the folder `lib` define.
 #[rattlefmt::skip]
-const IN_LIBRARY: [(&str, UndefinedName); 47] = [
+const IN_LIBRARY: [(&str, UndefinedName); 51] = [
     ("abs", UndefinedName::InNumbers), ("assert", UndefinedName::InPrint), ("compare", UndefinedName::InStrings),
     ("concat", UndefinedName::InStrings), ("copy", UndefinedName::InStrings), ("dump", UndefinedName::InPrint),
     ("fill", UndefinedName::InVectors), ("flush", UndefinedName::InPrint), ("getline", UndefinedName::InInput),
     ("getnum", UndefinedName::InInput), ("getstr", UndefinedName::InInput), ("getvec", UndefinedName::InVectors),
-    ("givevec", UndefinedName::InVectors), ("index", UndefinedName::InStrings), ("isalpha", UndefinedName::InStrings),
+    ("givevec", UndefinedName::InVectors), ("host", UndefinedName::InHost), ("hostq", UndefinedName::InHost),
+    ("hostwait", UndefinedName::InHost), ("index", UndefinedName::InStrings), ("isalpha", UndefinedName::InStrings),
     ("isdigit", UndefinedName::InStrings), ("length", UndefinedName::InStrings), ("lower", UndefinedName::InStrings),
     ("max", UndefinedName::InNumbers), ("min", UndefinedName::InNumbers), ("number", UndefinedName::InNumbers),
     ("printf", UndefinedName::InPrint), ("prsize", UndefinedName::InPrint), ("prvalue", UndefinedName::InPrint),
     ("putnumb", UndefinedName::InPrint), ("putoct", UndefinedName::InPrint), ("putstr", UndefinedName::InPrint),
     ("putuns", UndefinedName::InPrint), ("rand", UndefinedName::InNumbers), ("random", UndefinedName::InNumbers),
-    ("randseed", UndefinedName::InNumbers), ("rlsevec", UndefinedName::InVectors), ("sort", UndefinedName::InVectors),
-    ("sortby", UndefinedName::InVectors), ("test", UndefinedName::InTest), ("testbad", UndefinedName::InTest),
-    ("testnums", UndefinedName::InTest), ("testok", UndefinedName::InTest), ("testput", UndefinedName::InTest),
-    ("testquot", UndefinedName::InTest), ("tests", UndefinedName::InTest), ("testsay", UndefinedName::InTest),
-    ("teststr", UndefinedName::InTest), ("testvec", UndefinedName::InTest), ("upper", UndefinedName::InStrings),
-    ("vecleft", UndefinedName::InVectors), ("vecnext", UndefinedName::InVectors),
+    ("randseed", UndefinedName::InNumbers), ("rlsevec", UndefinedName::InVectors), ("serve", UndefinedName::InHost),
+    ("sort", UndefinedName::InVectors), ("sortby", UndefinedName::InVectors), ("test", UndefinedName::InTest),
+    ("testbad", UndefinedName::InTest), ("testnums", UndefinedName::InTest), ("testok", UndefinedName::InTest),
+    ("testput", UndefinedName::InTest), ("testquot", UndefinedName::InTest), ("tests", UndefinedName::InTest),
+    ("testsay", UndefinedName::InTest), ("teststr", UndefinedName::InTest), ("testvec", UndefinedName::InTest),
+    ("upper", UndefinedName::InStrings), ("vecleft", UndefinedName::InVectors), ("vecnext", UndefinedName::InVectors),
 ];
 
 /// What other languages name otherwise than the files of the folder `lib`.
@@ -90,6 +92,7 @@ impl UndefinedName {
             UndefinedName::Near => ("nothing defines @: did you mean #?", "write #, or define @"),
             UndefinedName::OtherEdition =>
                 ("nothing defines @: in edition 1 it is a name", "--edition 2 makes it a keyword"),
+            UndefinedName::InHost => ("nothing defines @", "lib/host.b has it: b go FILE --with host"),
             UndefinedName::InInput => ("nothing defines @", "lib/input.b has it: b go FILE --with input"),
             UndefinedName::InNumbers => ("nothing defines @", "lib/numbers.b has it: b go FILE --with numbers"),
             UndefinedName::InPrint => ("nothing defines @", "lib/print.b has it: b go FILE --with print"),

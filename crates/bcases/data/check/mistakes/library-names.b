@@ -12,6 +12,9 @@ main() {
     getstr();
     getvec();
     givevec();
+    host();
+    hostq();
+    hostwait();
     index();
     isalpha();
     isdigit();
@@ -31,6 +34,7 @@ main() {
     random();
     randseed();
     rlsevec();
+    serve();
     sort();
     sortby();
     test();
