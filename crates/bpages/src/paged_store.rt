@@ -52,6 +52,24 @@ impl PagedStore {
         }
     }
 
+    /// Another store with the same words, in pages of its own.
+    ///
+    /// # Errors
+    ///
+    /// `NoMemory` if there is no memory for its pages.
+    pub fn copied(&self, alloc: Global) -> Result<PagedStore, NoMemory>
+        ensures words { IfOk result (λ store. paged_words store ≡ paged_words self.now) }
+        ensures pages { IfOk result (λ store. pages_of store ≡ pages_of self.now) }
+    {
+        match Vec::from_slice(alloc, &self.list) {
+            Ok(list) => Ok(PagedStore {
+                starts: self.starts,
+                list,
+            }),
+            Err(_) => Err(NoMemory),
+        }
+    }
+
     /// How many pages are made.
     pub fn made(&self) -> u16
         ensures count { result ≡ set.len (pages_of self.now) }

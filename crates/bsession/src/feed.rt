@@ -1,5 +1,5 @@
 //! An input that is fed.
-ghost use Rattle.std.specs.Prelude.{◌≡◌, ◌<◌, ◌++◌, [], false, true, OnErr, OnOk};
+ghost use Rattle.std.specs.Prelude.{◌≡◌, ◌<◌, ◌++◌, [], false, true, IfOk, OnErr, OnOk};
 ghost use Rattle.bsession.specs.Sessions.{closed_mark, fed_bounded, fed_incoming};
 
 use bword::{ByteIn, Device};
@@ -47,6 +47,20 @@ impl Feed {
             is_over: false,
             failures: 0,
         }
+    }
+
+    /// Another stream, with the bytes that are left.
+    pub(crate) fn copied(&self, alloc: Global) -> Result<Feed, AllocError>
+        ensures { IfOk result (λ copy. copy ≡ self.now) }
+    {
+        let bytes = Vec::from_slice(alloc, self.unread())?;
+        Ok(Feed {
+            bytes,
+            given: 0,
+            is_closed: self.is_closed,
+            is_over: self.is_over,
+            failures: self.failures,
+        })
     }
 
     /// Adds bytes after those that are left; none where memory is refused.

@@ -1,5 +1,5 @@
 //! A program that runs in slices.
-ghost use Rattle.std.specs.Prelude.{◌≡◌, ◌<◌, ◌≤◌, ◌++◌, ◌-◌, ◌^◌, IfErr, MatchResult, OnErr, OnOk, drop, false, length, min, true};
+ghost use Rattle.std.specs.Prelude.{◌≡◌, ◌<◌, ◌≤◌, ◌++◌, ◌-◌, ◌^◌, IfErr, IfOk, MatchResult, OnErr, OnOk, drop, false, length, min, true};
 ghost use Rattle.bmach.specs.Stepping.{BeginsNot, Paused};
 ghost use Rattle.bsession.specs.Stops.{WalksTo, made_all, stops_in, stops_shown};
 ghost use Rattle.bsession.specs.Sessions.{caller_in, BeginsSession, Goes, GoesOnWithin, IsGoing, IsThere, KeepsLimits, PassesAt, SessionContinues, SliceComesTo, IsUnfed, AsksForRoom, call_in, callers_in, can_go_on, counted, end_of, is_limit, state_after, state_of, stored_in, word_in};
@@ -12,7 +12,7 @@ use crate::unstarted::without_store;
 use blang::{Outcome, Trap};
 use bmach::{Active, Image, MOST_STEPS, Stepper, Stop};
 use bpages::PagedStore;
-use bword::{MemOut, NoMemory};
+use bword::{ByteOut, MemOut, NoMemory};
 use std::alloc::Global;
 use std::marker::Model;
 use std::mem;
@@ -141,6 +141,33 @@ impl<'a> Session<'a> {
         }
     }
 
+    /// Another session that stands where this one does. Each goes on as this one would have: it has words, input and
+    /// output of its own.
+    ///
+    /// # Errors
+    ///
+    /// `NoMemory` if there is no memory for it.
+    pub fn copied(&self, alloc: Global) -> Result<Session<'a>, NoMemory>
+        ensures { IfOk result (λ copy. copy ≡ self.now) }
+    {
+        let stand = copied_stand(alloc, &self.stand)?;
+        let Ok(input) = self.input.copied(alloc) else {
+            return Err(NoMemory);
+        };
+        let mut out = MemOut::new(alloc);
+        if out.put(self.output()).is_err() {
+            return Err(NoMemory);
+        }
+        Ok(Session {
+            stand,
+            input,
+            out,
+            taken: 0,
+            steps: self.steps,
+            limits: self.limits,
+        })
+    }
+
     /// Sets how much the session may hold.
     pub fn set_limits(&mut self, limits: Limits)
         ensures { self.new ≡ record self.old { limits = limits } }
@@ -249,7 +276,7 @@ impl<'a> Session<'a> {
         let Stand::Goes(stepper) = &self.stand else {
             return None;
         };
-        if stepper.operand_count() > self.limits.operands {
+        if stepper.has_operands_above(self.limits.operands) {
             return Some(Held::Operands);
         }
         let store = stepper.store();
@@ -394,6 +421,31 @@ impl<'a> Session<'a> {
             }
             Stand::Lost => Err(NoMemory),
         }
+    }
+}
+
+// The same place to stand for another session.
+fn copied_stand<'a>(alloc: Global, stand: &Stand<'a>) -> Result<Stand<'a>, NoMemory>
+    ensures { IfOk result (λ copy. copy ≡ stand.now) }
+{
+    match stand {
+        Stand::Goes(stepper) => Ok(Stand::Goes(copied_run(alloc, stepper)?)),
+        Stand::Over(stop, stepper) => Ok(Stand::Over(*stop, copied_run(alloc, stepper)?)),
+        Stand::Lost => Ok(Stand::Lost),
+    }
+}
+
+// The same run on words of its own.
+fn copied_run<'a>(
+    alloc: Global,
+    stepper: &Stepper<'a, PagedStore>,
+) -> Result<Stepper<'a, PagedStore>, NoMemory>
+    ensures { IfOk result (λ copy. copy ≡ stepper.now) }
+{
+    let store = stepper.store().copied(alloc)?;
+    match stepper.on_store(alloc, store) {
+        Ok(copy) => Ok(copy),
+        Err(_) => Err(NoMemory),
     }
 }
 

@@ -1,5 +1,7 @@
 use Rattle.std.proofs.Common.{◌≡◌, ◌∙◌, ◌≤◌, ℕ, List, None, Some, ap, arith, drop, length, subst, sym}
+use Rattle.std.proofs.lemmas.Bool.{ltb-false}
 use Rattle.std.specs.FinSet as set
+use Rattle.bmach.specs.Stepping.{operands_held}
 use Rattle.bpages.specs.PagedStores.{pages_of}
 use Rattle.bsession.proofs.HeldPages.{no_more_than_made}
 use Rattle.bsession.proofs.session.Session.passed.Goals.{else-made-self-via-then-made-self+else-pages_held-self, else-made-self-via-else-made-self}
@@ -20,8 +22,8 @@ returns-then-pages_held-self c =
 pub returns : goal.returns
 returns c =
     let s = c.self.inside in
-    let few = c.if-operand_count-self.false in
-    let operands = c.operand_count.ensures in
+    let few : operands_held c.in-Goes.stepper ≤ s.limits.operands =
+    ltb-false s.limits.operands (operands_held c.in-Goes.stepper) (sym c.has_operands_above.ensures ∙ c.if-has_operands_above.false) in
     let pages : pages_held c.in-Goes.stepper.store ≤ s.limits.pages = elim c.else-made-self.branch [
       | else-made-self-via-then-made-self+else-pages_held-self w ↦
           let few = w.if-pages_held-self.false in
@@ -40,7 +42,7 @@ returns c =
     subst (λ (h : SessionView). PassesAt h.state h None) c.self.view_is
     (subst (λ (t : Stand). PassesAt (state_of t) (session_view t s.input s.out.bytes s.taken s.steps s.limits) None) (sym c.in-Goes.is)
     (record {
-      operands = omega (arith, few, operands);
+      operands = few;
       pages = pages;
       output = omega (arith, short, size);
     }))
