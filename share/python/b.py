@@ -668,6 +668,7 @@ class Session:
         of `serve`, and the next `serve` calls it anew. Where the program waits in `serve`, the End is `serves`.
 
         The program gets a byte of its input at a time, and at its end as many `*e` as it asks for."""
+        self._queue()
         self._serving, self._ahead = (functions or {}, read, write), b""
         return self._serve(steps)
 
@@ -860,8 +861,8 @@ class Session:
 
     def set_words(self, address: int, words: Iterable[int]) -> None:
         """Stores words from an address on, each from -32768 to 65535."""
-        for at, word in enumerate(words):
-            self.set_word((address + at) % 65536, _number("word", word, -32768, 65535) % 65536)
+        for at, word in enumerate([_number("word", it, -32768, 65535) % 65536 for it in words]):
+            self.set_word((address + at) % 65536, word)
 
     def text(self, address: int, most: int = 32767) -> bytes:
         """The string at an address, without its `*e`, or so many bytes of it."""

@@ -95,8 +95,9 @@ def calls():
     it = session(source)
     it.serve()
     yield raised(it.call, "down", 2), LookupError
-    it.set_word(it.find("hostq").address + 1, 0)
-    it.feed("x")
+    it = session(source)
+    it.serve()
+    it.close_input()
     yield (it.go_on(), it.output()), (b.End("halted"), b".")
 
 
