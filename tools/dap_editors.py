@@ -1,6 +1,7 @@
 """What tools/try-dap tries with editors: Emacs debugs a program by dap-mode, and Kate by its plugin, on a screen that
 nobody sees; Neovim reads its lines of the page, and the command of these is run by a client that is none; and
 TypeScript compares all that the server has written with the types of its protocol."""
+import contextlib
 import json
 import os
 import pathlib
@@ -31,6 +32,28 @@ main() {
     exit(total);
 }
 """
+# The lesson of the class, on whose line 8 the picture of Kate stands.
+MARKS = """\
+marks[4];
+count;
+read() {
+    extrn marks, count;
+    auto c;
+    count = 0;
+    while((c = getchar()) != '*n') {
+        marks[count] = c - '0';
+        count++;
+    }
+}
+main() {
+    extrn count;
+    read();
+    printn(count, 10);
+    putchar('*n');
+}
+"""
+SHOWN = (8, "415263\n")
+SIZE = "1000x600"
 EMACS = {
     "entry": [9, "main"], "given": "", "marked": 1, "breakpoint": [4, "add", "main"], "local": "x: 3",
     "typed": "40 '('", "again": [4, "add", "main"], "next": [5, "add", "main"], "back": [4, "add", "main"],
@@ -94,28 +117,31 @@ def try_neovim(folder, tried):
         try_adapter(folder, tried, "Neovim", [adapter["command"], *adapter["args"]], seen["configurations"][0])
 
 
-def kate_home(folder):
-    """A folder of settings for Kate, as the page says, with the source as target of its debugger, which leaves what it
+def kate_home(folder, text=SOURCE, given_input="345\n"):
+    """A folder of settings for Kate, as the page says, with a source as target of its debugger, which leaves what it
     writes in the file told; and the environment for that."""
     home, source = folder / "home", folder / "x.b"
     settings, sessions = home / ".config/kate/gdbplugin", home / ".local/share/kate/sessions"
     for it in (settings, sessions, home / "run"):
         it.mkdir(parents=True)
     (home / "run").chmod(0o700)
-    source.write_text(SOURCE)
+    source.write_text(text)
     told = json.loads(lines_for("Kate"))
     adapter = told["dap"]["b"]
     command = " ".join(adapter["run"]["command"])
     (home / "server").write_text(f"#!/bin/sh\n{command} | tee {folder}/told\n")
     (home / "server").chmod(0o755)
     adapter["run"]["command"] = [str(home / "server")]
-    adapter["configurations"]["launch"]["request"]["inputText"] = "345\n"
+    adapter["configurations"]["launch"]["request"]["inputText"] = given_input
     (settings / "dap.json").write_text(json.dumps(told))
     target = {"debuggerKey": "b", "debuggerProfile": "launch", "target": "B", "variables": {"file": str(source)}}
     (sessions / "x.katesession").write_text(
         "[Kate Plugins]\nkategdbplugin=true\n\n[Open MainWindows]\nCount=1\n\n[MainWindow0]\nActive ViewSpace=0\n\n"
         "[Plugin:kategdbplugin:MainWindow:0]\nversion=5\ntargetCount=1\n"
-        f"lastTarget=0\ntarget_0={json.dumps(target)}\n")
+        f"lastTarget=0\ntarget_0={json.dumps(target)}\n\n"
+        f"[MainWindow0]\n{SIZE} screen: Height=600\n{SIZE} screen: Width=1000\n"
+        "Kate-MDI-H-Splitter=0,640,300\nKate-MDI-Sidebar-1-LastSize=300\n"
+        "Kate-MDI-ToolView-Locals and Stack-Position=1\nKate-MDI-ToolView-Locals and Stack-Visible=true\n")
     given = {"HOME": home, "XDG_CONFIG_HOME": home / ".config", "XDG_DATA_HOME": home / ".local/share",
              "XDG_RUNTIME_DIR": home / "run", "QT_QPA_PLATFORM": "xcb"}
     return {**os.environ, **{name: str(value) for name, value in given.items()}}
@@ -129,14 +155,15 @@ def written(folder, wanted, count):
     return file.read_bytes() if file.exists() else b""
 
 
-def debug_in_kate(folder, given):
-    """Has Kate set a breakpoint, go on to it and step, by its keys; and gives what the server has told."""
+def debug_in_kate(folder, given, line=4, shot=None):
+    """Has Kate set a breakpoint in a line, go on to it and step, by its keys; and gives what the server has told. A
+    file for a picture gets one of the breakpoint."""
     def press(wanted, count, *keys):
         time.sleep(1)  # until Kate has seen what was told
         subprocess.run(["xdotool", "key", "--delay", "200", *keys], env=given, timeout=60)
         return written(folder, b'"%s"' % wanted, count)
 
-    words = ["dbus-run-session", "--", "kate", "--start", "x", "--line", "4", "x.b"]
+    words = ["dbus-run-session", "--", "kate", "--start", "x", "--line", str(line), "x.b"]
     kate = subprocess.Popen(words, cwd=folder, env=given, stdin=subprocess.DEVNULL, stdout=subprocess.DEVNULL,
                             stderr=subprocess.DEVNULL, start_new_session=True)
     try:
@@ -146,24 +173,42 @@ def debug_in_kate(folder, given):
         press(b"setBreakpoints", 1, "shift+F11")
         for count in (1, 2):
             press(b"stackTrace", count, "alt+d", "c")
+        if shot is not None:
+            for count in (3, 4):
+                press(b"stackTrace", count, "alt+d", "c")
+            time.sleep(2)  # until all is drawn
+            subprocess.run(["import", "-window", "root", shot], env=given, timeout=60, check=True)
         return press(b"stackTrace", 3, "F9")
     finally:
         os.killpg(kate.pid, signal.SIGKILL)
         kate.wait()
 
 
+@contextlib.contextmanager
+def hidden_screen():
+    """A screen that nobody sees, by its name."""
+    screen = subprocess.Popen(["Xvfb", "-displayfd", "1", "-screen", "0", f"{SIZE}x24"], stdout=subprocess.PIPE,
+                              stderr=subprocess.DEVNULL, text=True)
+    try:
+        yield f":{screen.stdout.readline().strip()}"
+    finally:
+        screen.kill()
+        screen.wait()
+
+
+def shoot_kate(folder, shot):
+    """Writes a picture of Kate amid a run."""
+    line, given_input = SHOWN
+    with hidden_screen() as display:
+        debug_in_kate(folder, {**kate_home(folder, MARKS, given_input), "DISPLAY": display}, line, shot)
+
+
 def try_kate(folder, tried):
     if not all(map(shutil.which, ("kate", "dbus-run-session", "Xvfb", "xdotool"))):
         print("tools/try-dap: there is no Kate here, or no Xvfb and xdotool, so it was not tried")
         return
-    screen = subprocess.Popen(["Xvfb", "-displayfd", "1", "-screen", "0", "1000x800x24"], stdout=subprocess.PIPE,
-                              stderr=subprocess.DEVNULL, text=True)
-    try:
-        given = kate_home(folder)
-        told = debug_in_kate(folder, {**given, "DISPLAY": f":{screen.stdout.readline().strip()}"})
-    finally:
-        screen.kill()
-        screen.wait()
+    with hidden_screen() as display:
+        told = debug_in_kate(folder, {**kate_home(folder), "DISPLAY": display})
     told = read_frames(told)
     stops = [it["body"]["reason"] for it in told if it.get("event") == "stopped"]
     calls = [[frame["name"] for frame in it["body"]["stackFrames"]] for it in told if it.get("command") == "stackTrace"]
