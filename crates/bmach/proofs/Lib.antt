@@ -27,3 +27,4 @@ pub mod Beginning
 pub mod Readings
 pub mod LoadedRuns
 pub mod Storing
+pub mod Readying

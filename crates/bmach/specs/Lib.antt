@@ -9,6 +9,7 @@ pub mod Taken
 pub mod Split
 pub mod Steps
 pub mod Turns
+pub mod ReadyBytes
 pub mod MachineExcluded
 pub mod Stepping
 pub mod Stops

@@ -19,6 +19,7 @@ mod origin;
 mod part;
 mod parts;
 mod quick;
+mod ready;
 mod resolve;
 mod runs;
 mod step;
