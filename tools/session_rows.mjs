@@ -70,6 +70,32 @@ async function places({sessions, expect}) {
   expect('no more steps', [await loop.run({steps: 0}), loop.steps], [limit, 3_005_001]);
 }
 
+/** Copies: each goes on as the run would have, and is started anew and freed on its own. */
+async function copies({sessions, expect}) {
+  const it = sessions.load(NEXT, {input: 'HA'});
+  it.goOn(30);
+  const copy = it.copy();
+  expect('a copy', [copy.place(), copy.word(7)], [it.place(), it.word(7)]);
+  it.setWord(7, 60);
+  expect('words of its own', [copy.word(7), it.word(7)], [2, 60]);
+  for (const one of [copy, it]) {
+    one.feed('L');
+    one.closeInput();
+  }
+  const ends = one => [one.goOn(), text(one.output())];
+  expect('ends of both', [ends(copy), ends(it)], [[halted(3), 'IBM'], [halted(61), 'IBM']]);
+  const again = copy.copy();
+  again.start('Z');
+  again.closeInput();
+  expect('one anew', [again.goOn(), copy.goOn(), it.goOn()], [halted(1), halted(3), halted(61)]);
+  copy.free();
+  expect('one freed', [await kindOf(() => copy.copy()), text(again.output()), it.word(7)], ['Error', '[', 61]);
+  const loop = sessions.load(LOOP), kept = [1, 2, 3].map(() => (loop.goOn(1000), loop.copy()));
+  loop.free();
+  kept[1].free();
+  expect('others', [kept[0], kept[2]].map(one => (one.goOn(500), one.copy().steps)), [1500, 3500]);
+}
+
 /** Files after a source, faults of what is loaded, and names and lines. */
 async function loads({sessions, expect}) {
   const source = 'main() { printn(six(), 10); }', libs = {'six.b': 'six() {\n  return(6);\n}'};
@@ -377,7 +403,9 @@ async function hosts({sessions, host, expect}) {
   it.free();
 }
 
-const PARTS = [hosts, talks, places, loads, symbols, breaks, limits, cuts, refusals, stops, many, memories, lost];
+const PARTS = [
+  hosts, talks, places, copies, loads, symbols, breaks, limits, cuts, refusals, stops, many, memories, lost,
+];
 
 /** Runs all rows over a module, with the text of lib/host.b, and tells how many there were and what was wrong.
     `collect` lets go of what nothing refers to, where that can be asked for. */

@@ -213,7 +213,24 @@ uint8_t b_frame(struct b_session *session, size_t number, struct b_frame *frame)
 uint8_t b_word(struct b_session *session, uint16_t address, uint16_t *word);
 uint8_t b_set_word(struct b_session *session, uint16_t address, uint16_t word);
 
-/* Gives a run up, and lets go of a program. */
+/* Keeps a copy of the run as it stands, with its words, its input, its output and its limits: a checkpoint. From there
+ * on each goes on as the run would have, whatever is done with the others. The copies of a session have numbers from 0
+ * on, in the order in which they were made, and a new one the next. None was made with B_NO_MEMORY, and nothing has
+ * changed. A copy of a run that is over or lost is over or lost.
+ *
+ *     if (b_swap(&session, number) == B_DONE && b_copy(&session) == B_DONE) b_forget(&session, number);
+ *
+ * goes back to a copy, gives up the run before, and keeps the copy, with the last number. */
+uint8_t b_copy(struct b_session *session);
+
+/* Goes on with the copy of a number: it becomes the run, and what was the run is kept in its place. B_REFUSED where
+ * there is no such copy. It takes no memory and no time. */
+uint8_t b_swap(struct b_session *session, size_t number);
+
+/* Lets go of the copy of a number, and those after it have a number less. B_REFUSED where there is no such copy. */
+uint8_t b_forget(struct b_session *session, size_t number);
+
+/* Gives a run up, with its copies, and lets go of a program. */
 uint8_t b_end(struct b_session *session);
 void b_unload(struct b_session *session);
 

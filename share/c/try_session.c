@@ -382,6 +382,49 @@ static void try_others(void) {
     b_free(&session);
 }
 
+/* A run and its copies, each of which goes on as the run would have. */
+static void try_copies(void) {
+    struct b_session session = B_NO_SESSION;
+    struct b_place place;
+    uint8_t value, room[8];
+    uint16_t word;
+    size_t count;
+    expect("a program", load(next, &session), B_DONE);
+    expect("a run", b_start(&session, (const uint8_t *)"HA", 2), B_DONE);
+    expect("some steps", b_continue(&session, 30, &value), B_LIMIT);
+    expect("a copy", b_copy(&session), B_DONE);
+    expect("no other copy", b_swap(&session, 1), B_REFUSED);
+    expect("nor one to forget", b_forget(&session, 1), B_REFUSED);
+    expect("a word stored", b_set_word(&session, 7, 60), B_DONE);
+    expect("the end of the input", b_close_input(&session), B_DONE);
+    expect("the end", b_continue(&session, 1000, &value), B_DONE);
+    expect("by the word that was stored", value, 60);
+    expect("the copy", b_swap(&session, 0), B_DONE);
+    expect("its place", b_place(&session, &place), B_DONE);
+    expect("its steps", place.steps, 30);
+    expect("its word", b_word(&session, 7, &word), B_DONE);
+    expect("which nothing has changed", word, 2);
+    expect("a copy of it", b_copy(&session), B_DONE);
+    expect("its input goes on", b_feed(&session, (const uint8_t *)"L", 1), B_DONE);
+    expect("and ends", b_close_input(&session), B_DONE);
+    expect("its own end", b_continue(&session, 1000, &value), B_DONE);
+    expect("its own status", value, 3);
+    expect("its own output", b_output(&session, room, sizeof room, &count), B_DONE);
+    expect("all of it", count == 3 && memcmp(room, "IBM", 3) == 0, 1);
+    expect("the first one forgotten", b_forget(&session, 0), B_DONE);
+    expect("the second one has its number", b_swap(&session, 0), B_DONE);
+    expect("bytes that it lacks", b_continue(&session, 1000, &value), B_FAILED);
+    expect("its output", b_output(&session, room, sizeof room, &count), B_DONE);
+    expect("two bytes", count == 2 && memcmp(room, "IB", 2) == 0, 1);
+    expect("the other one forgotten", b_forget(&session, 0), B_DONE);
+    expect("none is left", b_forget(&session, 0), B_REFUSED);
+    expect("one more", b_copy(&session), B_DONE);
+    expect("another run", b_start(&session, (const uint8_t *)"a", 1), B_DONE);
+    expect("without copies", b_swap(&session, 0), B_REFUSED);
+    expect("a copy of it", b_copy(&session), B_DONE);
+    b_free(&session);
+}
+
 void *__real_malloc(size_t size);
 void *__real_realloc(void *old, size_t size);
 void __real_free(void *old);
@@ -438,8 +481,16 @@ static int try_all(void) {
         status = b_output(&session, room, sizeof room, &count);
     if (status == B_DONE)
         status = b_set_word(&session, 60000, 7);
+    if (status == B_DONE && (status = b_copy(&session)) != B_DONE)
+        expect("where a copy is refused, none is there", b_swap(&session, 0), B_REFUSED);
     if (status == B_DONE)
-        status = b_word(&session, 60000, &word);
+        status = b_copy(&session);
+    if (status == B_DONE)
+        status = b_swap(&session, 0);
+    if (status == B_DONE)
+        status = b_forget(&session, 1);
+    if (session.run != 0 && b_word(&session, 60000, &word) == B_DONE && status == B_DONE)
+        expect("the word of a copy", word, 7);
     expect("a status", status == B_DONE || status == B_NO_MEMORY, 1);
     b_free(&session);
     return status == B_DONE;
@@ -550,6 +601,7 @@ int main(int argc, char **argv) {
     try_limits();
     try_stops();
     try_others();
+    try_copies();
     try_talks();
     try_refused();
     size_t before = mallinfo2().uordblks;

@@ -449,6 +449,9 @@ def _sessions(library: ctypes.CDLL) -> None:
         "column": [held, ctypes.POINTER(ctypes.c_uint64)],
         "word": [held, ctypes.c_uint16, ctypes.POINTER(ctypes.c_uint16)],
         "set_word": [held, ctypes.c_uint16, ctypes.c_uint16],
+        "copy": [held],
+        "swap": [held, ctypes.c_size_t],
+        "forget": [held, ctypes.c_size_t],
         "end": [held],
         "unload": [held],
     }
@@ -459,6 +462,83 @@ def _sessions(library: ctypes.CDLL) -> None:
 
 
 _sessions(_library)
+
+
+class _Runs:
+    """A program in memory, with the runs of the sessions that have it. One is the run of the library, and the others
+    are the copies that it keeps, in this order. A session is told by an object of its own."""
+
+    def __init__(self) -> None:
+        self.held = _Held()
+        self.running: Optional[object] = None
+        self.kept: List[object] = []
+        self._lock = threading.Lock()
+        self._over: List[object] = []
+
+    def call(self, own: object, function: Function, *words: Any) -> int:
+        """What a call for one of the sessions answers, unless another thread is in one."""
+        if not self._lock.acquire(blocking=False):
+            raise RuntimeError(_BUSY)
+        try:
+            self._go_on_with(own)
+            status: int = function(self.held, *words)
+            return status
+        finally:
+            self._lock.release()
+            self._let_go()
+
+    def copy(self, own: object) -> object:
+        """Keeps a copy of the run of a session, for another one."""
+        other = object()
+
+        def kept(held: _Held) -> int:
+            status: int = _library.b_copy(held)
+            if status == 0:
+                self.kept.append(other)
+            return status
+
+        _expect(self.call(own, kept))
+        return other
+
+    def look(self) -> None:
+        """Within a call the two pointers tell nothing."""
+        if self._lock.locked():
+            raise RuntimeError(_BUSY)
+
+    def has(self, own: object) -> bool:
+        """Whether a session has a run."""
+        return own is self.running or own in self.kept
+
+    def let_go(self, own: object) -> None:
+        """Gives the run of a session back; and the program with the last one. Within a call that is done after it."""
+        self._over.append(own)
+        self._let_go()
+
+    def _go_on_with(self, own: object) -> None:
+        if own is not self.running and own in self.kept:
+            number = self.kept.index(own)
+            _expect(_library.b_swap(self.held, number))
+            self.running, self.kept[number] = own, self.running
+
+    def _let_go(self) -> None:
+        while self._over and self._lock.acquire(blocking=False):
+            try:
+                self._end(self._over.pop())
+            finally:
+                self._lock.release()
+
+    def _end(self, own: object) -> None:
+        if self.kept:
+            if own is self.running:
+                self._go_on_with(self.kept[0])
+            number = self.kept.index(own)
+            _expect(_library.b_forget(self.held, number))
+            del self.kept[number]
+            return
+        if self.held.run:
+            _library.b_end(self.held)
+        if self.held.program:
+            _library.b_unload(self.held)
 
 
 class Session:
@@ -490,8 +570,8 @@ class Session:
         pages: Optional[int] = None,
         output: Optional[int] = None,
     ) -> None:
-        self._lock = threading.Lock()
-        self._held = _Held()
+        self._runs = _Runs()
+        self._own = object()
         self._names: Dict[int, str] = {}
         self._ahead = b""
         self._serving: Serving = ({}, None, None)
@@ -501,10 +581,12 @@ class Session:
             raise TypeError("lines and names are those of a code text")
         if code is not None and (source or libs or edition != 1):
             raise TypeError("a code text has no source, no files that follow it, and an edition of its own")
+        self._program: Tuple[Any, ...]
         if code is None:
-            self._load(_library.b_load_with, *_source(source, libs), _edition(edition))
+            self._program = (_library.b_load_with, *_source(source, libs), _edition(edition))
         else:
-            self._load(_library.b_load_code_with, *_bytes(code), *_bytes(lines), *_bytes(names))
+            self._program = (_library.b_load_code_with, *_bytes(code), *_bytes(lines), *_bytes(names))
+        self._load(*self._program)
         self.start(input)
 
     def _load(self, function: Function, *words: Any) -> None:
@@ -512,7 +594,7 @@ class Session:
         room = _LINE
         while True:
             line, written = ctypes.create_string_buffer(room), _Written()
-            status = function(*words, line, room, written, self._held)
+            status = function(*words, line, room, written, self._runs.held)
             if status != FAILED or written.line < room:
                 break
             room *= 8
@@ -522,15 +604,32 @@ class Session:
     def start(self, input: Text = b"") -> None:
         """Begins the run anew, with this much of its input."""
         self._look_for_program()
-        if self._held.run:
+        if self._runs.kept:
+            self._leave()
+            self._load(*self._program)
+        elif self._runs.held.run:
             self._call(_library.b_end)
+        self._runs.running = None
         status = self._call(_library.b_begin)
         if status == TRAP:
             raise Error(status, b"", _UNBEGUN)
         _expect(status)
+        self._runs.running = self._own
         _expect(self._call(_library.b_limit, *self._limits))
         if input:
             self.feed(input)
+
+    def copy(self) -> "Session":
+        """Another session that stands where this one does: with the same words, input, output and limits. From here on
+        each goes on as this one would have, whatever is done with the other. They have the program in memory once, and
+        so they are in one call at a time, all of them. One that is started anew, or closed, leaves the others."""
+        self._look_for_run()
+        own = self._runs.copy(self._own)
+        copy: Session = object.__new__(type(self))
+        copy.__dict__.update(self.__dict__, _own=own)
+        return copy
+
+    __copy__ = copy
 
     def limit(
         self, *, operands: Optional[int] = _STAYS, pages: Optional[int] = _STAYS, output: Optional[int] = _STAYS
@@ -884,11 +983,13 @@ class Session:
 
     def close(self) -> None:
         """Gives all of it back."""
-        self._look_for_calls()
-        if self._held.run:
-            self._call(_library.b_end)
-        if self._held.program:
-            self._call(_library.b_unload)
+        self._runs.look()
+        self._leave()
+
+    def _leave(self) -> None:
+        """Gives its run back, and has no program from here on."""
+        runs, self._runs = self._runs, _Runs()
+        runs.let_go(self._own)
 
     def __enter__(self) -> "Session":
         return self
@@ -897,32 +998,21 @@ class Session:
         self.close()
 
     def __del__(self) -> None:
-        if hasattr(self, "_held"):
-            self.close()
+        if hasattr(self, "_runs"):
+            self._leave()
 
     def _call(self, function: Function, *words: Any) -> int:
         """What a call for this session answers, unless another thread is in one."""
-        if not self._lock.acquire(blocking=False):
-            raise RuntimeError(_BUSY)
-        try:
-            status: int = function(self._held, *words)
-            return status
-        finally:
-            self._lock.release()
-
-    def _look_for_calls(self) -> None:
-        """Within a call the two pointers tell nothing."""
-        if self._lock.locked():
-            raise RuntimeError(_BUSY)
+        return self._runs.call(self._own, function, *words)
 
     def _look_for_program(self) -> None:
-        self._look_for_calls()
-        if not self._held.program:
+        self._runs.look()
+        if not self._runs.held.program:
             raise ValueError("this session was closed")
 
     def _look_for_run(self) -> None:
         self._look_for_program()
-        if not self._held.run:
+        if not self._runs.has(self._own):
             raise ValueError("this session has no run")
 
 

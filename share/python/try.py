@@ -11,6 +11,7 @@ import signal
 import sys
 import threading
 import time
+from random import Random
 from typing import Dict, List, NamedTuple
 
 import b
@@ -157,6 +158,82 @@ def sessions():
     yield from ignored()
     yield from stops()
     yield from limits()
+    yield from copies()
+    yield from copies_at_random()
+
+
+def copies():
+    """What is found of copies: each goes on as the run would have, and is started anew and closed on its own."""
+    source = "n; main() { extrn n; auto c; while((c = getchar()) != '*e') { n++; putchar(c + 1); } exit(n); }"
+    it = b.Session(source, "HA", output=1000)
+    it.go_on(30)
+    copy = it.copy()
+    yield (copy.place(), copy.word(7)), (it.place(), it.word(7))
+    it.set_word(7, 60)
+    yield (copy.word(7), it.word(7)), (2, 60)
+    for one in (copy, it):
+        one.feed("L")
+        one.close_input()
+    yield (copy.go_on(), copy.output()), (b.End("halted", 3), b"IBM")
+    yield (it.go_on(), it.output()), (b.End("halted", 61), b"IBM")
+    again = copy.copy()
+    yield (again.go_on(), again.output()), (b.End("halted", 3), b"")
+    again.start("Z")
+    again.close_input()
+    yield (again.go_on().status, copy.go_on().status, it.go_on().status), (1, 3, 61)
+    copy.close()
+    yield refused(copy.copy), ValueError
+    yield (again.output(), it.word(7)), (b"[", 61)
+    it = b.Session("main() { auto i; while(1) i++; }")
+    kept = []
+    for _ in range(9):
+        it.go_on(1000)
+        kept.append(it.copy())
+    del kept[::2]
+    yield [one.place().steps for one in kept], [2000, 4000, 6000, 8000]
+    yield [(one.go_on(500), one.place().steps)[1] for one in kept], [2500, 4500, 6500, 8500]
+    del it
+    yield [one.copy().place().steps for one in kept], [2500, 4500, 6500, 8500]
+
+
+def copies_at_random():
+    """What is found of copies beside runs that are made anew, to which all is done that was done to a copy."""
+    source = "n; main() { extrn n; auto c; while((c = getchar()) != '*e') { n++; putchar(c + 1); } exit(n); }"
+    random = Random(7)
+
+    def does(it, name, word):
+        try:
+            return getattr(it, name)(*word)
+        except ValueError as error:
+            return str(error)
+
+    def ends(it):
+        return it.place(), it.word(7), it.go_on(), it.output()
+
+    for _ in range(40):
+        runs = [(b.Session(source), [])]
+        for _ in range(60):
+            it, done = random.choice(runs)
+            kind = random.randrange(8)
+            if kind == 0:
+                runs.append((it.copy(), [*done]))
+            elif kind == 1 and len(runs) > 1:
+                runs.remove((it, done))
+                it.close()
+            elif kind == 2 and random.randrange(4) == 0:
+                it.start("B")
+                done[:] = [("start", ("B",), None)]
+            else:
+                number = random.randrange(40)
+                calls = [("go_on", (number,)), ("feed", ("AB",)), ("set_word", (7, number)), ("output", ()),
+                         ("place", ()), ("close_input", ())]
+                name, word = random.choice(calls)
+                done.append((name, word, does(it, name, word)))
+        for it, done in runs:
+            anew = b.Session(source)
+            found = [does(anew, name, word) for name, word, _ in done]
+            yield [answer for _, _, answer in done], found
+            yield ends(it), ends(anew)
 
 
 def loads():

@@ -234,6 +234,9 @@ export type HostFunction = (...words: number[]) => number | void | Promise<numbe
 export interface Session {
   /** Begins the run anew, with this much of its input. */
   start(input?: Text): void;
+  /** Another session that stands where this one does: with the same words, input, output and limits. From here on each
+      goes on as this one would have, whatever is done with the other, and is started anew and freed on its own. */
+  copy(): Session;
   /** Makes so many steps at most, 1000000 if not given, and tells why it ends. */
   goOn(steps?: Steps): End;
   /** Makes at least one step and so many at most, 1000000 if not given, up to the first one after it before which it

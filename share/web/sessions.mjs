@@ -113,7 +113,7 @@ class Pace {
 export class Sessions {
   constructor({exports}) {
     this.exports = exports;
-    this.given = new FinalizationRegistry(held => this.free(held));
+    this.given = new FinalizationRegistry(({runs, own}) => runs.letGo(own));
     this.own = this.take(OWN);
     this.room = this.take(ROOM);
   }
@@ -121,26 +121,39 @@ export class Sessions {
   /** Puts the program of a source in memory, and begins its run. */
   load(source, {edition = 1, libs = {}, ...how} = {}) {
     if (edition !== 1 && edition !== 2) throw new RangeError(`edition is ${String(edition)}, and has to be 1 or 2`);
-    const texts = [source, ...Object.entries(libs).flat()];
-    return this.lend(texts, ([at, size, ...files]) => {
+    const texts = [source, ...Object.entries(libs).flat()].map(it => bytesOf(it).slice());
+    return this.begun(['edition', 'libs'], how, () => this.lend(texts, ([at, size, ...files]) => {
       const rows = new Uint8Array(BigUint64Array.from(files).buffer), count = BigInt(files.length / 4);
-      return this.lend([rows], ([row]) => this.loaded(how, 'load_with', [at, size, row, count, edition]));
-    });
+      return this.lend([rows], ([row]) => this.loaded('load_with', [at, size, row, count, edition]));
+    }));
   }
 
   /** The same for a code text, with an author's files of lines and of names. */
   loadCode(code, {lines = '', names = '', ...how} = {}) {
-    return this.lend([code, lines, names], words => this.loaded(how, 'load_code_with', words));
+    const texts = [code, lines, names].map(it => bytesOf(it).slice());
+    return this.begun(['lines', 'names'], how, () => this.lend(texts, words => this.loaded('load_code_with', words)));
   }
 
-  loaded({input = '', limits = {}, ...other}, name, words) {
-    only(['input', 'limits', ...(name === 'load_with' ? ['edition', 'libs'] : ['lines', 'names'])], other);
+  begun(names, {input = '', limits = {}, ...other}, load) {
+    only(['input', 'limits', ...names], other);
     limitsOf(limits);
+    const session = new Session(this, load, new Runs(this, load()), {}, limits);
+    try {
+      session.start(input);
+      return session;
+    } catch (error) {
+      session.free();
+      throw error;
+    }
+  }
+
+  /** The place of two pointers, behind which a program is. */
+  loaded(name, words) {
     const held = this.take(HELD);
     try {
       this.bytes(held, HELD).fill(0);
       this.expectWithLine((...line) => this.call(name, ...words, ...line, BigInt(held)));
-      return new Session(this, held, input, limits);
+      return held;
     } catch (error) {
       this.free(held);
       throw error;
@@ -222,36 +235,102 @@ export class Sessions {
   }
 }
 
+/** A program in memory, with the runs of the sessions that have it. One is the run of the module, and the others are
+    the copies that it keeps, in this order. A session is told by an object of its own. */
+class Runs {
+  constructor(sessions, held) {
+    this.sessions = sessions;
+    this.held = held;
+    this.running = null;
+    this.kept = [];
+  }
+
+  /** The status of a call for one of the sessions. */
+  call(own, name, ...words) {
+    this.goOnWith(own);
+    return this.sessions.call(name, BigInt(this.held), ...words);
+  }
+
+  goOnWith(own) {
+    const number = this.kept.indexOf(own);
+    if (number === -1) return;
+    this.sessions.expect(this.sessions.call('swap', BigInt(this.held), BigInt(number)));
+    this.kept[number] = this.running;
+    this.running = own;
+  }
+
+  /** Keeps a copy of the run of a session, for another one. */
+  copy(own) {
+    const other = {};
+    this.sessions.expect(this.call(own, 'copy'));
+    this.kept.push(other);
+    return other;
+  }
+
+  /** Gives the run of a session back; and the program with the last one. */
+  letGo(own) {
+    if (this.sessions.stopped) return;
+    if (this.kept.length === 0) {
+      this.sessions.free(this.held);
+      return;
+    }
+    if (own === this.running) this.goOnWith(this.kept[0]);
+    const number = this.kept.indexOf(own);
+    this.sessions.expect(this.sessions.call('forget', BigInt(this.held), BigInt(number)));
+    this.kept.splice(number, 1);
+  }
+}
+
 const END = {why: '', status: 0, trap: '', of: ''};
 
 /** A program that stays in memory, and its run, in slices. */
 class Session {
   #sessions;
-  #held;
+  #load;
+  #runs;
+  #own;
   #limits;
   #names = new Map();
   #isRunning = false;
   #serving = null;
   #talk = null;
 
-  constructor(sessions, held, input, limits) {
+  constructor(sessions, load, runs, own, limits) {
     this.#sessions = sessions;
-    this.#held = held;
+    this.#load = load;
     this.#limits = {...limits};
-    this.#begin(input);
-    sessions.given.register(this, held, this);
+    this.#have(runs, own);
+  }
+
+  #have(runs, own) {
+    this.#runs = runs;
+    this.#own = own;
+    this.#sessions.given.register(this, {runs, own}, this);
+  }
+
+  #leave() {
+    const runs = this.#runs;
+    this.#runs = null;
+    this.#sessions.given.unregister(this);
+    runs.letGo(this.#own);
+  }
+
+  #look() {
+    if (this.#runs === null) throw new Error('this session was freed');
   }
 
   /** The status of a call for this session. */
   #call(name, ...words) {
-    if (this.#held === 0) throw new Error('this session was freed');
-    return this.#sessions.call(name, BigInt(this.#held), ...words);
+    this.#look();
+    return this.#runs.call(this.#own, name, ...words);
   }
 
   #begin(input) {
+    this.#runs.running = null;
     const status = this.#call('begin');
     if (status === TRAP) throw new Refused(status, UNBEGUN);
     this.#sessions.expect(status);
+    this.#runs.running = this.#own;
     this.#sessions.expect(this.#call('limit', ...limitsOf(this.#limits)));
     const bytes = bytesOf(input);
     if (bytes.length > 0) this.feed(bytes);
@@ -259,8 +338,22 @@ class Session {
 
   start(input = '') {
     if (this.#isRunning) throw new Error('this session is running');
-    this.#sessions.expect(this.#call('end'));
+    this.#look();
+    if (this.#runs.kept.length > 0) {
+      const runs = new Runs(this.#sessions, this.#load());
+      this.#leave();
+      this.#have(runs, {});
+    }
+    if (this.#runs.running !== null) this.#sessions.expect(this.#call('end'));
     this.#begin(input);
+  }
+
+  copy() {
+    this.#look();
+    const own = this.#runs.copy(this.#own);
+    const copy = new Session(this.#sessions, this.#load, this.#runs, own, this.#limits);
+    copy.#names = this.#names;
+    return copy;
   }
 
   limit(limits = {}) {
@@ -527,11 +620,7 @@ class Session {
   }
 
   free() {
-    if (this.#held === 0) return;
-    const held = this.#held;
-    this.#held = 0;
-    this.#sessions.given.unregister(this);
-    this.#sessions.free(held);
+    if (this.#runs !== null) this.#leave();
   }
 }
 

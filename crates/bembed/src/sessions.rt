@@ -10,8 +10,8 @@ ghost use Rattle.bembed.specs.Sessions.{LoadsCode, LoadsSource};
 
 use crate::calls::edition_of;
 use bhost::calls::{
-    Whereabouts, begin, close, column, end, feed, frame, go_on, go_to, limit, load, look, name_of,
-    read, store, take, unload,
+    Whereabouts, begin, close, column, copy, end, feed, forget, frame, go_on, go_to, limit, load,
+    look, name_of, read, store, swap, take, unload,
 };
 use bhost::{Frame, Host};
 use blang::status;
@@ -235,7 +235,40 @@ pub extern "C" fn b_set_word(alloc: Global, session: &mut Host, address: u16, wo
     store(alloc, session, address, word)
 }
 
-/// Gives the run up.
+/// Keeps a copy of the run.
+#[unsafe(no_mangle)]
+pub extern "C" fn b_copy(alloc: Global, session: &mut Host) -> u8
+    requires program { IsSome session.old.read }
+    requires run { IsSome session.old.run }
+    ensures program { session.new.read ≡ session.old.read }
+    ensures copies { Answers deed.Copy [] session.old.read session.old.run session.new.run result (λ _ _. ⊤) }
+{
+    copy(alloc, session)
+}
+
+/// Goes on with the copy of a number, and keeps the run in its place.
+#[unsafe(no_mangle)]
+pub extern "C" fn b_swap(alloc: Global, session: &mut Host, number: usize) -> u8
+    requires program { IsSome session.old.read }
+    requires run { IsSome session.old.run }
+    ensures program { session.new.read ≡ session.old.read }
+    ensures swaps { Answers (deed.Swap number) [] session.old.read session.old.run session.new.run result (λ _ _. ⊤) }
+{
+    swap(alloc, session, number)
+}
+
+/// Lets go of the copy of a number.
+#[unsafe(no_mangle)]
+pub extern "C" fn b_forget(alloc: Global, session: &mut Host, number: usize) -> u8
+    requires program { IsSome session.old.read }
+    requires run { IsSome session.old.run }
+    ensures program { session.new.read ≡ session.old.read }
+    ensures forgets { Answers (deed.Forget number) [] session.old.read session.old.run session.new.run result (λ _ _. ⊤) }
+{
+    forget(alloc, session, number)
+}
+
+/// Gives the run up, with its copies.
 #[unsafe(no_mangle)]
 pub extern "C" fn b_end(alloc: Global, session: &mut Host) -> u8
     requires program { IsSome session.old.read }
