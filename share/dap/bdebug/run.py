@@ -4,9 +4,8 @@ A run is decided by its source, its input and the words that the user stores, so
 To go back is to take the last checkpoint before there, or to begin anew, and to make the steps from there on; the
 machine makes some 10^8 of them in a second."""
 import time
-from typing import Callable, FrozenSet, List, NamedTuple, Optional, Tuple
+from typing import Any, Callable, FrozenSet, List, NamedTuple, Optional, Tuple
 
-from .checkpoints import CAN_FORK, Gone, Remote
 from .program import Refused
 from .words import library
 
@@ -57,7 +56,7 @@ class Checkpoint(NamedTuple):
     applied: int
     fed: int
     is_closed: bool
-    session: Remote
+    session: Any  # a session of the library
 
 
 class Frame(NamedTuple):
@@ -86,15 +85,11 @@ class Run:
         self.changed: List[int] = []  # of the words of the last stops
         self.shown, self.pending, self._slice, self._calls = 0, bytearray(), 1000, None
         self.checkpoints: List[Checkpoint] = []
-        self.spacing, self.can_keep = SPACING, CAN_FORK and not self.by_steps
+        self.spacing, self.can_keep = SPACING, hasattr(self.session, "copy") and not self.by_steps
         self._begin()
 
     def _begin(self):
-        try:
-            self.session.start(bytes(self.input))
-        except Gone:
-            self.session, self.can_keep = self.program.session(), False
-            self.session.start(bytes(self.input))
+        self.session.start(bytes(self.input))
         if self.is_closed:
             self.session.close_input()
         self.end = self._frames = None  # how the run is over
@@ -122,10 +117,8 @@ class Run:
         if not self.can_keep or self.end is not None or self.steps - last < self.spacing:
             return
         try:
-            if not isinstance(self.session, Remote):
-                return self._move()
-            copy = self.session.fork()
-        except (Gone, OSError, library().Error):
+            copy = self.session.copy()
+        except (MemoryError, library().Error):
             self.can_keep = False
             return
         fed = (len(self.input), self.is_closed)
@@ -136,25 +129,13 @@ class Run:
             self._forget(lambda it: it in thinned)
             self.spacing *= 2
 
-    def _move(self) -> None:
-        """Puts the run into a process of its own, in which it makes its steps once more and leaves checkpoints."""
-        here, program = (self.session, self.place, self.written, self.applied), self.program
-        self.session, steps = Remote.begin(program.source, program.edition, program.libs), self.steps
-        try:
-            self._begin()
-            while self.steps < steps:
-                self._arrive(self.session.go_on(self._room(min(steps - self.steps, SLICE))))
-        except Exception:
-            self.session, self.place, self.written, self.applied = here
-            raise
-
     def _go_back(self, steps: int) -> None:
         """Goes to the last checkpoint that is no later than so many steps, or begins anew."""
         it = next((it for it in reversed(self.checkpoints) if it.steps <= steps), None)
         if it is None:
             self._begin()
             return
-        session = it.session.fork()
+        session = it.session.copy()
         self.session.close()
         self.session, self.end, self.written, self.applied = session, None, it.written, it.applied
         if it.fed < len(self.input):
@@ -235,8 +216,7 @@ class Run:
 
     def _arrive(self, end):
         """Notes where the run has come to, and puts back what the user stored there."""
-        arrived = self.session.arrived() if isinstance(self.session, Remote) else None
-        self.place, text = arrived or (self.session.place(), self.session.output())
+        self.place, text = self.session.place(), self.session.output()
         self._frames = None
         self.pending += text[max(0, self.shown - self.written):]
         self.written += len(text)
