@@ -2,30 +2,31 @@
 use Rattle.std.proofs.Common.{◌∙◌, ◌≢◌, ℕ, List, [], Option, Some, None, ap, refl}
 use Rattle.std.specs.Prelude.{⊤}
 use Rattle.std.proofs.lemmas.List.{append-nil}
-use Rattle.bsession.specs.Sessions.{SessionView}
 use Rattle.bhost.specs.Deeds.{Acts}
 use Rattle.bhost.specs.Hosts.{LoadedValue}
+use Rattle.bhost.specs.Runs.{RunsView}
 use Rattle.bhost.specs.Statuses.{Answers, unfed_status}
 use Rattle.bhost.specs.declared.desk.Answer.{Answer}
 use Rattle.bhost.specs.declared.desk.Answer.TheVariants as answer
 use Rattle.bhost.specs.declared.desk.Deed.TheVariants as deed
 
-pub refused : (program : Option LoadedValue) (old new : Option SessionView) (bytes after : List ℕ) (told : Answer)
+pub refused : (program : Option LoadedValue) (old new : Option RunsView) (bytes after : List ℕ) (told : Answer)
     → bytes ≢ [] → Acts deed.Feed [] program old new after told
     → Answers deed.Feed bytes program old new (unfed_status told) (λ _ _. ⊤)
 refused (Some loaded) (Some h) (Some k) bytes after answer.Done some fed =
-    let same = fed.1.1 ∙ ap (λ (u : List ℕ). record h { unread = u }) (append-nil h.unread) in
-    (bytes, answer.Refused, (refl, (fed.1.0, some, same)), refl, tt)
-refused (Some loaded) (Some h) (Some k) bytes after answer.Closed some fed = (bytes, answer.Closed, (refl, fed.1), refl, tt)
-refused (Some loaded) (Some h) (Some k) bytes after answer.Refused some fed = absurd (fed.1.1 refl)
-refused (Some loaded) (Some h) (Some k) bytes after (answer.Ended why) some fed = absurd fed.1
-refused (Some loaded) (Some h) (Some k) bytes after (answer.Walked why) some fed = absurd fed.1
-refused (Some loaded) (Some h) (Some k) bytes after (answer.Unbegun why) some fed = absurd fed.1
-refused (Some loaded) (Some h) (Some k) bytes after (answer.Calls frame) some fed = absurd fed.1
-refused (Some loaded) (Some h) (Some k) bytes after answer.Missing some fed = absurd fed.1
-refused (Some loaded) (Some h) (Some k) bytes after (answer.Stands there) some fed = absurd fed.1
-refused (Some loaded) (Some h) (Some k) bytes after (answer.Word word) some fed = absurd fed.1
-refused (Some loaded) (Some h) (Some k) bytes after (answer.Tells symbol) some fed = absurd fed.1
+    let same = fed.0.1.1 ∙ ap (λ (u : List ℕ). record h.run { unread = u }) (append-nil h.run.unread) in
+    (bytes, answer.Refused, ((refl, (fed.0.1.0, some, same)), fed.1), refl, tt)
+refused (Some loaded) (Some h) (Some k) bytes after answer.Closed some fed =
+    (bytes, answer.Closed, ((refl, fed.0.1), fed.1), refl, tt)
+refused (Some loaded) (Some h) (Some k) bytes after answer.Refused some fed = absurd (fed.0.1.1 refl)
+refused (Some loaded) (Some h) (Some k) bytes after (answer.Ended why) some fed = absurd fed.0.1
+refused (Some loaded) (Some h) (Some k) bytes after (answer.Walked why) some fed = absurd fed.0.1
+refused (Some loaded) (Some h) (Some k) bytes after (answer.Unbegun why) some fed = absurd fed.0.1
+refused (Some loaded) (Some h) (Some k) bytes after (answer.Calls frame) some fed = absurd fed.0.1
+refused (Some loaded) (Some h) (Some k) bytes after answer.Missing some fed = absurd fed.0.1
+refused (Some loaded) (Some h) (Some k) bytes after (answer.Stands there) some fed = absurd fed.0.1
+refused (Some loaded) (Some h) (Some k) bytes after (answer.Word word) some fed = absurd fed.0.1
+refused (Some loaded) (Some h) (Some k) bytes after (answer.Tells symbol) some fed = absurd fed.0.1
 refused (Some loaded) (Some h) None bytes after told some fed = absurd fed
 refused (Some loaded) None new bytes after told some fed = absurd fed
 refused None old new bytes after told some fed = absurd fed

@@ -1,5 +1,5 @@
 -- Promise: what is done with a session that is held with its program.
-use Rattle.std.specs.Prelude.{◌≡◌, ◌≢◌, ◌⊎◌, ⊤, ℕ, ◌-◌, zero, suc, List, [], ◌++◌, drop, take, false, true, IsSome, Option}
+use Rattle.std.specs.Prelude.{◌≡◌, ◌≢◌, ◌⊎◌, ⊤, ℕ, ◌-◌, zero, suc, List, [], ◌++◌, drop, take, false, true, IsSome, Option, slice_get}
 use Rattle.std.specs.Prelude.{Some, None}
 use Rattle.bmach.specs.Stepping.{BeginsNot, ShowsFirst}
 use Rattle.bsession.specs.Sessions.{AsksForRoom, BeginsSession, GoesOnWithin, IsThere, KeepsLimits, SessionContinues, SessionView}
@@ -15,6 +15,7 @@ use Rattle.blang.specs.declared.run.Trap.TheVariants as trap
 use Rattle.btools.specs.Functions.{Placed, function_with, functions_of, name_in}
 use Rattle.btools.specs.ProgramLines.{line_at, lined_functions}
 use Rattle.bhost.specs.Hosts.{LoadedValue}
+use Rattle.bhost.specs.Runs.{IsCopied, RunsView, copy_told, swapped, without}
 use Rattle.bhost.specs.Symbols.{symbol_told}
 use Rattle.bhost.specs.declared.desk.Answer.{Answer}
 use Rattle.bhost.specs.declared.desk.Answer.TheVariants as answer
@@ -25,7 +26,7 @@ use Rattle.bhost.specs.declared.desk.StopList.{StopList}
 
 -- A run begins where none was begun. Names and what they stand for are told in any case, and all else is done with a
 -- run.
-abbrev pub Allows : Deed → Option SessionView → Type 0
+abbrev pub Allows : Deed → Option RunsView → Type 0
 Allows deed.Begin run = run ≡ None
 Allows (deed.Name strings) run = ⊤
 Allows (deed.Tell query) run = ⊤
@@ -35,9 +36,9 @@ Allows other run = IsSome run
 abbrev pub LacksRoom : Outcome → Type 0
 LacksRoom why = (why ≡ outcome.Memory) ⊎ (why ≡ outcome.Trap trap.NoRoom)
 
--- A run has begun; or it hasn't, since memory was refused where it has a first step, or its first frame has no room.
-abbrev pub Begins : Image → (new : Option SessionView) → Answer → Type 0
-Begins image (Some h) told = BeginsSession image h × (told ≡ answer.Done)
+-- A run has begun, without copies; or it hasn't, since memory was refused where it has a first step, or its first frame has no room.
+abbrev pub Begins : Image → (new : Option RunsView) → Answer → Type 0
+Begins image (Some h) told = BeginsSession image h.run × (h.kept ≡ []) × (told ≡ answer.Done)
 Begins image None told =
     ((told ≡ answer.Refused) × ShowsFirst image outcome.Limit)
     ⊎ ((why : Outcome) × (told ≡ answer.Unbegun why) × BeginsNot image why × LacksRoom why)
@@ -158,15 +159,27 @@ abbrev pub Does : Deed → LoadedValue → (old new : SessionView) → (bytes by
 Does (deed.Take count) loaded old new bytes after told = IsTaken old new count after told
 Does it loaded old new bytes after told = (after ≡ bytes) × DoesTo it loaded old new bytes told
 
+-- what a deed does with a run and its copies, which stay unless it is about them
+abbrev pub DoesWith : Deed → LoadedValue → (old new : RunsView) → (bytes bytes_after : List ℕ) → Answer → Type 0
+DoesWith deed.Copy loaded old new bytes after told = (after ≡ bytes) × IsCopied old new told
+DoesWith (deed.Swap number) loaded old new bytes after told =
+    (after ≡ bytes) × (new ≡ swapped old number (slice_get old.kept number))
+    × (told ≡ copy_told (slice_get old.kept number))
+DoesWith (deed.Forget number) loaded old new bytes after told =
+    (after ≡ bytes) × (new ≡ without old number (slice_get old.kept number))
+    × (told ≡ copy_told (slice_get old.kept number))
+DoesWith it loaded old new bytes after told =
+    Does it loaded old.run new.run bytes after told × (new.kept ≡ old.kept)
+
 -- the session before and after
-abbrev pub DoesBoth : Deed → LoadedValue → (old new : Option SessionView) → (bytes bytes_after : List ℕ) → Answer
+abbrev pub DoesBoth : Deed → LoadedValue → (old new : Option RunsView) → (bytes bytes_after : List ℕ) → Answer
     → Type 0
-DoesBoth it loaded (Some h) (Some k) bytes after told = Does it loaded h k bytes after told
+DoesBoth it loaded (Some h) (Some k) bytes after told = DoesWith it loaded h k bytes after told
 DoesBoth it loaded other another bytes after told = ⊥
 
 -- What comes of a deed with these bytes: of the program, its session before and after, the bytes after it, and what it
 -- tells.
-abbrev pub Acts : Deed → (bytes : List ℕ) → Option LoadedValue → (old new : Option SessionView) → (after : List ℕ)
+abbrev pub Acts : Deed → (bytes : List ℕ) → Option LoadedValue → (old new : Option RunsView) → (after : List ℕ)
     → Answer → Type 0
 Acts deed.Begin bytes (Some loaded) old new after told = (after ≡ bytes) × Begins loaded.program.image new told
 Acts deed.End bytes (Some loaded) old new after told = (after ≡ bytes) × (new ≡ None) × (told ≡ answer.Done)

@@ -1,5 +1,5 @@
 -- Closed facts: what is no answer of a session that is held with its program, and the statuses of all answers.
-use Rattle.std.specs.Prelude.{◌≡◌, ℕ, ◌+◌, [], ◌∷◌, map, false, true, None, Option, Some, refl, slice_get}
+use Rattle.std.specs.Prelude.{◌≡◌, ℕ, ◌+◌, [], ◌∷◌, map, false, true, None, Option, Some, get_or, length, refl, slice_get}
 use Rattle.std.specs.Prelude.{slice_index}
 use Rattle.std.proofs.Common.{◌∙◌, ap, arith, inl, inr, sym}
 use Rattle.blang.specs.Machine.{Image}
@@ -22,6 +22,7 @@ use Rattle.btools.specs.declared.program.ProgramFault.TheVariants as fault
 use Rattle.bhost.specs.Deeds.{Acts, Begins, Does, IsFed, IsStored, NamesFunction, IsTaken, frame_in, frame_of, stands_with}
 use Rattle.bhost.specs.Deeds.{word_told}
 use Rattle.bhost.specs.Hosts.{LoadedValue}
+use Rattle.bhost.specs.Runs.{IsCopied, RunsView, copy_told, swapped, without}
 use Rattle.bhost.specs.Statuses.{answer_callers, answer_frame, answer_column, answer_function, answer_line, answer_place}
 use Rattle.bhost.specs.Statuses.{answer_status, answer_steps, answer_value, answer_word, fault_status, name_status}
 use Rattle.bhost.specs.Statuses.{trap_number}
@@ -37,11 +38,21 @@ none = record { operands = 0; pages = 0; output = 0 }
 abbrev lost : SessionView
 lost = record { state = Lost; unread = 5 ∷ []; is_closed = true; output = 7 ∷ 8 ∷ []; steps = 3; limits = none }
 
+-- it without a copy, and with two
+abbrev alone : RunsView
+alone = record { run = lost; kept = [] }
+
+abbrev at : (steps : ℕ) → SessionView
+at steps = record lost { steps = steps }
+
+abbrev with_two : RunsView
+with_two = record { run = lost; kept = at 4 ∷ at 5 ∷ [] }
+
 -- no run begins without a program, and nothing is done without one
 not_begun : Acts deed.Begin [] None None None [] answer.Done → ⊥
 not_begun begun = begun
 
-not_ended : Acts deed.End [] None (Some lost) None [] answer.Done → ⊥
+not_ended : Acts deed.End [] None (Some alone) None [] answer.Done → ⊥
 not_ended ended = ended
 
 -- a run that doesn't begin is over by no other trap than that its first frame has no room, and by no other end
@@ -108,11 +119,11 @@ bytes_stay loaded fed = let stay = fed.0 in cc
 nothing_comes : (loaded : LoadedValue) → Does (deed.Read 0) loaded lost lost [] (6 ∷ []) answer.Refused → ⊥
 nothing_comes loaded read = let stay = read.0 in cc
 
-none_at_the_end : (loaded : LoadedValue) → Acts deed.End [] (Some loaded) (Some lost) None (6 ∷ []) answer.Done → ⊥
+none_at_the_end : (loaded : LoadedValue) → Acts deed.End [] (Some loaded) (Some alone) None (6 ∷ []) answer.Done → ⊥
 none_at_the_end loaded gone = let stay = gone.0 in cc
 
 -- no session is left after the end
-ended : (loaded : LoadedValue) → Acts deed.End [] (Some loaded) (Some lost) (Some lost) [] answer.Done → ⊥
+ended : (loaded : LoadedValue) → Acts deed.End [] (Some loaded) (Some alone) (Some alone) [] answer.Done → ⊥
 ended loaded gone = let none = gone.1 in cc
 
 -- a name that is told is that of a function, and none is told where there is none, or memory is refused
@@ -216,3 +227,47 @@ faults d = refl
 -- a name of two bytes in rooms of 0 to 3 bytes
 name_statuses : map (λ size. name_status size (7 ∷ 8 ∷ []) answer.Done) (0 ∷ 1 ∷ 2 ∷ 3 ∷ []) ≡ (133 ∷ 133 ∷ 0 ∷ 0 ∷ [])
 name_statuses = refl
+
+-- A copy forgets nothing of the run: no step, no byte of its input or output, and not that it is lost; and it is there.
+abbrev kept_as : SessionView → Type 0
+kept_as h = IsCopied alone (record alone { kept = h ∷ [] }) answer.Done
+
+abbrev first : RunsView → SessionView
+first runs = get_or runs.kept 0 runs.run
+
+copied : kept_as lost
+copied = refl
+
+no_step_forgotten : kept_as (record lost { steps = 0 }) → ⊥
+no_step_forgotten same = let steps : 0 ≡ 3 = ap (λ r. (first r).steps) same in omega (arith, steps)
+
+no_input_forgotten : kept_as (record lost { unread = [] }) → ⊥
+no_input_forgotten same = let unread : 0 ≡ 1 = ap (λ r. length (first r).unread) same in omega (arith, unread)
+
+no_output_forgotten : kept_as (record lost { output = [] }) → ⊥
+no_output_forgotten same = let output : 0 ≡ 2 = ap (λ r. length (first r).output) same in omega (arith, output)
+
+no_state_forgotten : (p : Paused) → kept_as (record lost { state = Goes p }) → ⊥
+no_state_forgotten p same = let state : Goes p ≡ Lost = ap (λ r. (first r).state) same in cc
+
+no_copy_missing : IsCopied alone alone answer.Done → ⊥
+no_copy_missing same = cc
+
+-- the run stays as it is, and so do the copies before
+run_stays : IsCopied alone (record { run = at 4; kept = lost ∷ [] }) answer.Done → ⊥
+run_stays same = let steps : 4 ≡ 3 = ap (λ (runs : RunsView). runs.run.steps) same in omega (arith, steps)
+
+refused_changes_nothing : IsCopied alone (record alone { kept = lost ∷ [] }) answer.Refused → ⊥
+refused_changes_nothing same = let kept : lost ∷ [] ≡ [] = ap (λ (runs : RunsView). runs.kept) same in cc
+
+-- each copy in the place of the run, and none
+swaps : map (λ n. swapped with_two n (slice_get with_two.kept n)) (0 ∷ 1 ∷ 2 ∷ [])
+    ≡ (record { run = at 4; kept = lost ∷ at 5 ∷ [] } ∷ record { run = at 5; kept = at 4 ∷ lost ∷ [] } ∷ with_two ∷ [])
+swaps = refl
+
+forgets : map (λ n. without with_two n (slice_get with_two.kept n)) (0 ∷ 1 ∷ 2 ∷ [])
+    ≡ (record { run = lost; kept = at 5 ∷ [] } ∷ record { run = lost; kept = at 4 ∷ [] } ∷ with_two ∷ [])
+forgets = refl
+
+copies_told : map copy_told (None ∷ Some lost ∷ []) ≡ (answer.Missing ∷ answer.Done ∷ [])
+copies_told = refl

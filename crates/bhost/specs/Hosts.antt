@@ -11,13 +11,13 @@ use denote.RawPtr.{Ptr, lies_at, null_ptr}
 use denote.Struct.Lending.{lent_at}
 use Rattle.std.specs.Coded.{coded_option}
 use Rattle.bhost.specs.Blocks.{chunk}
-use Rattle.bsession.specs.contracts.session.Session as Session
+use Rattle.bhost.specs.contracts.runs.Runs as Runs
 use Rattle.bhost.specs.contracts.loaded.LoadedProgram as LoadedProgram
 use Rattle.bhost.specs.Places.{placed_owns}
 
--- sessions that read their program for a lifetime
+-- runs that read their program for a lifetime
 abbrev pub for_life : Lft → RattleType
-for_life κ = Session.the_row (record { mir = named 0; lft = κ })
+for_life κ = Runs.the_row (record { mir = named 0; lft = κ })
 
 abbrev pub SessionValue : Type 0
 SessionValue = (for_life []).Denot

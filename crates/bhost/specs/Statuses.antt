@@ -5,7 +5,6 @@ use Rattle.blang.specs.declared.run.Trap.{Trap}
 use Rattle.blang.specs.declared.run.Trap.TheVariants as trap
 use Rattle.blang.specs.declared.run.Outcome.{Outcome}
 use Rattle.blang.specs.declared.status.TheConstants.{DEVICE, DONE, FAULT, LIMIT, MEMORY, REFUSED, TRAP, WRONG_COMMAND}
-use Rattle.bsession.specs.Sessions.{SessionView}
 use Rattle.bsession.specs.declared.session.Held.{Held}
 use Rattle.bsession.specs.declared.session.Held.TheVariants as held
 use Rattle.bsession.specs.declared.session.SliceEnd.{SliceEnd}
@@ -20,6 +19,7 @@ use Rattle.btools.specs.declared.program.ProgramFault.TheVariants as fault
 use Rattle.bhost.specs.Deeds.{Acts, stop_set}
 use Rattle.bsession.specs.Stops.{StopSet}
 use Rattle.bhost.specs.Hosts.{LoadedValue}
+use Rattle.bhost.specs.Runs.{RunsView}
 use Rattle.bhost.specs.Symbols.{blank}
 use Rattle.bhost.specs.declared.calls.TheConstants.{HAS_OUTPUT, STOPPED, TOO_LARGE}
 use Rattle.bhost.specs.declared.desk.Answer.{Answer}
@@ -180,7 +180,7 @@ abbrev pub name_status : (size : ℕ) → (name : List ℕ) → Answer → ℕ
 name_status size name told = if nat_lt size (length name) then DEVICE else answer_status told
 
 -- A deed with these bytes is done, and the status tells its answer. `P` holds of the bytes after it, and of the answer.
-abbrev pub Answers : Deed → (bytes : List ℕ) → Option LoadedValue → (old new : Option SessionView) → (status : ℕ)
+abbrev pub Answers : Deed → (bytes : List ℕ) → Option LoadedValue → (old new : Option RunsView) → (status : ℕ)
     → (List ℕ → Answer → Type 0) → Type 0
 Answers deed bytes program old new status P =
     (after : List ℕ) × (told : Answer) × Acts deed bytes program old new after told × (status ≡ answer_status told)

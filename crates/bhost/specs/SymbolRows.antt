@@ -5,6 +5,7 @@ use Rattle.blang.specs.declared.code.Definition.{Definition}
 use Rattle.blang.specs.declared.code.Definition.TheVariants as definition
 use Rattle.blang.specs.declared.code.Instr.TheVariants as instr
 use Rattle.blang.specs.declared.code.Ival.TheVariants as ival
+use Rattle.btools.specs.declared.names.Frame.{Frame}
 use Rattle.btools.specs.declared.names.FrameWord.{FrameWord}
 use Rattle.bhost.specs.Deeds.{Acts}
 use Rattle.bhost.specs.Hosts.{LoadedValue}
@@ -100,6 +101,24 @@ kinds = refl
 
 ends : map (λ number. next_offset words number 6) (0 ∷ 1 ∷ 2 ∷ 3 ∷ 4 ∷ []) ≡ 1 ∷ 2 ∷ 5 ∷ 6 ∷ 6 ∷ []
 ends = refl
+
+-- of the function with names of its frame: a parameter, the vector, the last word and none after it; and its label
+abbrev framed_told : Frame → Query → Option Symbol
+framed_told frame q =
+    let framed = defined_from 7 (n ∷ f ∷ v ∷ []) (frame ∷ []) (1 ∷ 1 ∷ 2 ∷ 3 ∷ []) (4 ∷ 6 ∷ 8 ∷ 9 ∷ []) in
+    option_and_then (λ d. symbol_in d q) (find (answers q) framed)
+
+abbrev word_told : Frame → ℕ → Option (ℕ × ℕ × ℕ)
+word_told frame number = option_map (λ s. (s.kind, s.address, s.words)) (framed_told frame (query.Local 10 number))
+
+words_told : (frame : Frame) → frame.words.items ≡ words → map (word_told frame) (0 ∷ 2 ∷ 3 ∷ 4 ∷ [])
+    ≡ Some (4, 0, 1) ∷ Some (6, 2, 3) ∷ Some (5, 5, 1) ∷ None ∷ []
+words_told frame is = rw is refl
+
+labels_told : (frame : Frame) → frame.labels.items ≡ codes "top" ∷ []
+    → map (λ number. framed_told frame (query.Label 10 number)) (0 ∷ 1 ∷ [])
+    ≡ Some (record blank { name = codes "top" ++ replicate 6 0; kind = 7; address = 1; line = 3; column = 9 }) ∷ None ∷ []
+labels_told frame is = rw is refl
 
 -- names of one byte and of eight have a zero after them
 padding : map padded (codes "a" ∷ codes "abcdefgh" ∷ [])

@@ -7,6 +7,7 @@ use crate::desk::{Answer, Deed, Desk, Frame, Standing};
 use crate::found::{column_at, function_at, line_at};
 use crate::loaded::LoadedProgram;
 use crate::place::Place;
+use crate::runs::Runs;
 use crate::symbols::tell;
 use bmach::Active;
 use bsession::{FeedFault, Session, Stops};
@@ -14,10 +15,10 @@ use std::alloc::Global;
 
 /// Does with a session what is asked for on the desk.
 pub(crate) fn act_on<'a>(
-    place: Place<Session<'a>, Global>,
+    place: Place<Runs<'a>, Global>,
     loaded: &'a LoadedProgram,
     desk: Desk,
-) -> (Place<Session<'a>, Global>, Desk)
+) -> (Place<Runs<'a>, Global>, Desk)
     requires { Allows desk.deed place.value }
     ensures { Acts desk.deed desk.bytes.items (Some loaded.now) place.entry.value result.0.value result.1.bytes.items result.1.answer }
 {
@@ -52,21 +53,36 @@ pub(crate) fn act_on<'a>(
         | Deed::Frame(_)
         | Deed::Read(_)
         | Deed::Store(_, _) => {
-            let mut session = place.into_box();
-            act_within(&mut session, loaded, &mut desk);
-            (Place::of(session), desk)
+            let mut runs = place.into_box();
+            act_within(&mut runs.session, loaded, &mut desk);
+            (Place::of(runs), desk)
+        }
+        Deed::Copy => {
+            let mut runs = place.into_box();
+            desk.answer = runs.copy(desk.alloc);
+            (Place::of(runs), desk)
+        }
+        Deed::Swap(number) => {
+            let mut runs = place.into_box();
+            desk.answer = runs.swap(*number);
+            (Place::of(runs), desk)
+        }
+        Deed::Forget(number) => {
+            let mut runs = place.into_box();
+            desk.answer = runs.forget(*number);
+            (Place::of(runs), desk)
         }
     }
 }
 
 // Begins a run.
-fn begin<'a>(alloc: Global, loaded: &'a LoadedProgram) -> (Place<Session<'a>, Global>, Answer)
+fn begin<'a>(alloc: Global, loaded: &'a LoadedProgram) -> (Place<Runs<'a>, Global>, Answer)
     ensures { Begins loaded.now.program.image result.0.value result.1 }
 {
     match Session::start(alloc, &loaded.program.image) {
         Err(outcome) => (Place::none(alloc), Answer::Unbegun(outcome)),
-        Ok(session) => match Box::new(alloc, session) {
-            Ok(session) => (Place::of(session), Answer::Done),
+        Ok(session) => match Box::new(alloc, Runs::of(alloc, session)) {
+            Ok(runs) => (Place::of(runs), Answer::Done),
             Err(_) => (Place::none(alloc), Answer::Refused),
         },
     }
@@ -105,7 +121,13 @@ fn act_within(session: &mut Session<'_>, loaded: &LoadedProgram, desk: &mut Desk
             session.close_input();
             Answer::Done
         }
-        Deed::Begin | Deed::End | Deed::Name(_) | Deed::Tell(_) => Answer::Done,
+        Deed::Begin
+        | Deed::End
+        | Deed::Name(_)
+        | Deed::Tell(_)
+        | Deed::Copy
+        | Deed::Swap(_)
+        | Deed::Forget(_) => Answer::Done,
     };
 }
 

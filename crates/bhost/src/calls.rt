@@ -452,7 +452,40 @@ pub fn store(alloc: Global, host: &mut Host, address: u16, word: u16) -> Status
     status_of(desk.answer)
 }
 
-/// Gives the run up.
+/// Keeps a copy of the run as it stands. It has the next number, from 0 on.
+pub fn copy(alloc: Global, host: &mut Host) -> Status
+    requires program { IsSome host.old.read }
+    requires run { IsSome host.old.run }
+    ensures program { host.new.read ≡ host.old.read }
+    ensures copies { Answers deed.Copy [] host.old.read host.old.run host.new.run result (λ _ _. ⊤) }
+{
+    let desk = host.ask(alloc, Deed::Copy, Vec::new(alloc));
+    status_of(desk.answer)
+}
+
+/// Goes on with the copy of a number, and keeps the run in its place.
+pub fn swap(alloc: Global, host: &mut Host, number: usize) -> Status
+    requires program { IsSome host.old.read }
+    requires run { IsSome host.old.run }
+    ensures program { host.new.read ≡ host.old.read }
+    ensures swaps { Answers (deed.Swap number) [] host.old.read host.old.run host.new.run result (λ _ _. ⊤) }
+{
+    let desk = host.ask(alloc, Deed::Swap(number), Vec::new(alloc));
+    status_of(desk.answer)
+}
+
+/// Lets go of the copy of a number. Those after it have a number less.
+pub fn forget(alloc: Global, host: &mut Host, number: usize) -> Status
+    requires program { IsSome host.old.read }
+    requires run { IsSome host.old.run }
+    ensures program { host.new.read ≡ host.old.read }
+    ensures forgets { Answers (deed.Forget number) [] host.old.read host.old.run host.new.run result (λ _ _. ⊤) }
+{
+    let desk = host.ask(alloc, Deed::Forget(number), Vec::new(alloc));
+    status_of(desk.answer)
+}
+
+/// Gives the run up, with its copies.
 pub fn end(alloc: Global, host: &mut Host) -> Status
     requires program { IsSome host.old.read }
     requires run { IsSome host.old.run }

@@ -43,7 +43,13 @@ pub enum Deed {
     Name(u32),
     /// It is told what a name stands for, or an address, or a place.
     Tell(Query),
-    /// The run is given up.
+    /// A copy of the run is kept after those that are.
+    Copy,
+    /// The copy of a number becomes the run, which is kept in its place.
+    Swap(usize),
+    /// The copy of a number is let go of, and those after it have a number less.
+    Forget(usize),
+    /// The run is given up, with its copies.
     End,
 }
 

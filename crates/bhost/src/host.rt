@@ -7,7 +7,7 @@ use crate::acting::act_on;
 use crate::desk::{Answer, Deed, Desk};
 use crate::loaded::LoadedProgram;
 use crate::place::Place;
-use bsession::Session;
+use crate::runs::Runs;
 use std::alloc::Global;
 use std::marker::Model;
 use std::{mem, ptr};
@@ -62,7 +62,7 @@ impl Host {
     {
         let Host { session, program } = self;
         let place = Place {
-            at: session as *mut Session,
+            at: session as *mut Runs,
             alloc,
         };
         let (place, desk) = act_on(place, unsafe { &*(program as *mut LoadedProgram) }, desk);

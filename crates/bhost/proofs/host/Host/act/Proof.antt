@@ -82,6 +82,9 @@ desk_blank κs alloc (deed.Read address) bytes told w = tt
 desk_blank κs alloc (deed.Store address word) bytes told w = tt
 desk_blank κs alloc (deed.Name strings) bytes told w = tt
 desk_blank κs alloc (deed.Tell query) bytes told w = tt
+desk_blank κs alloc deed.Copy bytes told w = tt
+desk_blank κs alloc (deed.Swap number) bytes told w = tt
+desk_blank κs alloc (deed.Forget number) bytes told w = tt
 desk_blank κs alloc deed.End bytes told w = tt
 
 -- what is known of it at its end: nothing, by each deed
@@ -101,6 +104,9 @@ desk_last κs alloc (deed.Read address) bytes told = (tt, (tt, (tt, tt)))
 desk_last κs alloc (deed.Store address word) bytes told = (tt, (tt, (tt, tt)))
 desk_last κs alloc (deed.Name strings) bytes told = (tt, (tt, (tt, tt)))
 desk_last κs alloc (deed.Tell query) bytes told = (tt, (tt, (tt, tt)))
+desk_last κs alloc deed.Copy bytes told = (tt, (tt, (tt, tt)))
+desk_last κs alloc (deed.Swap number) bytes told = (tt, (tt, (tt, tt)))
+desk_last κs alloc (deed.Forget number) bytes told = (tt, (tt, (tt, tt)))
 desk_last κs alloc deed.End bytes told = (tt, (tt, (tt, tt)))
 
 pub act_spec : {M : Type 1} → statement M
