@@ -46,6 +46,7 @@ no_head s zero (step.Either n ∷ is) begin end rows b h =
 no_head s zero (step.Jump n ∷ is) begin end rows b h = no_head s n is begin end rows b h
 no_head s zero (step.Done ∷ is) begin end rows b h = absurd cc
 no_head s zero (step.Leaf l told ∷ is) begin end rows b h = absurd cc
+no_head s zero (step.Else ∷ is) begin end rows b h = absurd cc
 no_head s zero (step.Dots ∷ is) begin end rows b h = absurd cc
 
 none_either : (b : Bool) (bs : List Binds) → bs ≡ [] → (if b then bs else []) ≡ []

@@ -202,6 +202,7 @@ may_begin s zero (step.Either n ∷ is) end = may_begin s zero is end || may_beg
 may_begin s zero (step.Jump n ∷ is) end = may_begin s n is end
 may_begin s zero (step.Done ∷ is) end = true
 may_begin s zero (step.Leaf l told ∷ is) end = true
+may_begin s zero (step.Else ∷ is) end = true
 may_begin s zero (step.Dots ∷ is) end = true
 
 abbrev pub is_plain : Kind → Bool
@@ -270,6 +271,8 @@ fits_in s zero (step.Sides k last told ∷ is) begin end rows b =
     fits_in s zero is x.one.begin x.one.end (x.other ∷ way.before ∷ rows) (with_told b told way.token))
 fits_in s zero (step.Leaf l told ∷ is) begin end rows b =
     go_in (with_leaf s l told begin end b) (fits_in s zero is begin (start_of s.tree.rows.now end) rows)
+fits_in s zero (step.Else ∷ is) begin end rows b =
+    fits_in s zero is begin end rows (with_told b true ((branch_at s.tree.rows.now (end - 1)).first - 1))
 fits_in s zero (step.Dots ∷ is) begin end rows b =
     flat_map (λ e. fits_in s zero is begin e rows b) (ends_of s.tree.rows.now MOST_PASSED begin end)
 fits_in s zero (step.Either n ∷ is) begin end rows b =

@@ -112,6 +112,11 @@ pub(crate) fn fits(
             Some(binds) => fits(sight, more, before(sight, span), &*left, binds, found),
             None => Ok(()),
         },
+        Step::Else => {
+            let after = branch_at(sight.tree.rows, span.end.saturating_sub(1)).first;
+            let binds = binds.telling(true, after.saturating_sub(1));
+            fits(sight, more, span, &*left, binds, found)
+        }
         Step::Dots => passes(sight, more, span, &*left, binds, found),
         Step::Either(count) => {
             fits(sight, more, span, &*left, binds, found)?;
@@ -203,7 +208,7 @@ pub(crate) fn may_begin(sight: &Sight<'_>, steps: &[Step], end: usize) -> bool
             may_begin(sight, more, end) || may_begin(sight, steps_from(more, count), end)
         }
         Step::Jump(count) => may_begin(sight, steps_from(more, count), end),
-        Step::Done | Step::Leaf(_, _) | Step::Dots => true,
+        Step::Done | Step::Leaf(_, _) | Step::Else | Step::Dots => true,
     }
 }
 

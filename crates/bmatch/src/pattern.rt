@@ -31,6 +31,8 @@ pub enum Step {
     Sides(Kind, Kind, bool),
     /// A branch that is this. Where this is `true`, its first token is told.
     Leaf(Leaf, bool),
+    /// The `else` before the next branch is told.
+    Else,
     /// Any branches.
     Dots,
     /// The next steps fit, or those that come after so many.

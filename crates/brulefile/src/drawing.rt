@@ -23,16 +23,6 @@ pub(crate) struct Sheet<'a> {
     pub is_loose: bool,
 }
 
-/// How else a branch may be spelled.
-#[derive(Clone, Copy)]
-pub(crate) enum Respelled {
-    No,
-    /// Without `!= 0`.
-    Bare,
-    /// With an `else`.
-    WithElse,
-}
-
 impl<'a> Sheet<'a> {
     /// Adds the steps for the branches from one number up to another, the last one first.
     #[cycle(drawing)]
@@ -72,6 +62,9 @@ impl<'a> Sheet<'a> {
         steps: &mut Vec<Step>,
         fuel: usize,
     ) -> Result<(), AllocError> {
+        if self.is_after_told_else(index) {
+            steps.push(Step::Else)?;
+        }
         let is_told = self.is_told(index);
         match self.step_at(index, first) {
             Some(leaf) => {
@@ -100,6 +93,19 @@ impl<'a> Sheet<'a> {
     fn is_told(&self, index: usize) -> bool {
         match self.told {
             Some(told) => told == branch_at(self.rows, index).token,
+            None => false,
+        }
+    }
+
+    // Whether the `else` before a branch is the token that is told.
+    fn is_after_told_else(&self, index: usize) -> bool {
+        match self.told {
+            Some(told) => {
+                matches!(
+                    lexeme_at(self.lexemes, told),
+                    Lexeme::Keyword(Keyword::Else)
+                ) && told + 1 == branch_at(self.rows, index).first
+            }
             None => false,
         }
     }
@@ -148,7 +154,7 @@ impl<'a> Sheet<'a> {
         }
     }
 
-    // A branch with parts, in each way in which it may be spelled.
+    // A branch with parts. A condition may be spelled without `!= 0`, too.
     #[cycle(drawing)]
     fn spelled(
         &self,
@@ -162,8 +168,9 @@ impl<'a> Sheet<'a> {
             return self.in_sides(index, first, steps, fuel);
         }
         let is_told = self.is_told(index);
-        let respelled = self.respelled(index, first);
-        if let Respelled::No = respelled {
+        let is_nonzero = matches!(kind, Kind::Node(Node::Tested))
+            && self.is_nonzero(index.saturating_sub(1));
+        if !self.is_loose || !is_nonzero {
             steps.push(Step::Tree(kind, is_told))?;
             self.row(first, index, steps, fuel)?;
             steps.push(Step::Done)?;
@@ -177,11 +184,8 @@ impl<'a> Sheet<'a> {
         let jump = steps.len();
         steps.push(Step::Jump(0))?;
         set(steps, either, Step::Either(steps_after(steps, either)));
-        steps.push(Step::Tree(respelled_kind(respelled, kind), is_told))?;
-        let end = match respelled {
-            Respelled::Bare => self.begin_in(index.saturating_sub(2), first),
-            _ => index,
-        };
+        steps.push(Step::Tree(kind, is_told))?;
+        let end = self.begin_in(index.saturating_sub(2), first);
         self.row(first, end, steps, fuel)?;
         steps.push(Step::Done)?;
         set(steps, jump, Step::Jump(steps_after(steps, jump)));
@@ -205,27 +209,6 @@ impl<'a> Sheet<'a> {
         self.row(first, middle, steps, fuel)?;
         steps.push(Step::Done)?;
         Ok(())
-    }
-
-    // How else a branch may be spelled.
-    fn respelled(&self, index: usize, first: usize) -> Respelled {
-        match branch_at(self.rows, index).kind {
-            Kind::Node(Node::Tested) => {
-                if self.is_loose && self.is_nonzero(index.saturating_sub(1)) {
-                    Respelled::Bare
-                } else {
-                    Respelled::No
-                }
-            }
-            Kind::Construct(Construct::If) => {
-                if self.is_dots(index.saturating_sub(1), first) {
-                    Respelled::WithElse
-                } else {
-                    Respelled::No
-                }
-            }
-            _ => Respelled::No,
-        }
     }
 
     // Whether it is a comparison by `!=` with 0.
@@ -302,13 +285,6 @@ fn is_zero(lexeme: Lexeme) -> bool {
     match lexeme {
         Lexeme::Number(value) | Lexeme::Character(value) => value == 0,
         _ => false,
-    }
-}
-
-fn respelled_kind(respelled: Respelled, kind: Kind) -> Kind {
-    match respelled {
-        Respelled::WithElse => Kind::Construct(Construct::IfElse),
-        _ => kind,
     }
 }
 
