@@ -36,14 +36,11 @@ any_to_map P f xs a = (a.0, f a.1, omega (arith, a.2, length-map xs f), get_or-m
 
 slip_of_rules : (s : Slip) → IsOfRules (slip_code s) → is_of_rules (warning.Slip s) ≡ true
 slip_of_rules slip.FormKind e = cc
-slip_of_rules slip.LastTurnOnly e = cc
 slip_of_rules slip.SetLater e = cc
-slip_of_rules slip.NextPast e = cc
 slip_of_rules _ e = refl
 
 code_of_rules : (w : Warning) → IsOfRules (warning_code w) → is_of_rules w ≡ true
 code_of_rules warning.CommentGoesOn e = cc
-code_of_rules warning.CountPastVector e = cc
 code_of_rules warning.DanglingElse e = cc
 code_of_rules warning.FormValues e = cc
 code_of_rules warning.HidesExternal e = cc

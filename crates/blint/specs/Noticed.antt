@@ -36,12 +36,6 @@ pub record IsSaid (text : List ℕ) (lexemes : List Lexeme) (places : List Token
 abbrev pub IsNoticed : (text : List ℕ) → List Lexeme → List TokenPlace → List Branch → List Notice → Type 0
 IsNoticed text lexemes places rows notices = IsSaid text lexemes places rows STEPS CLAIMS RULES notices
 
--- where tokens are those of a program
-abbrev pub AreNotices : (text : List ℕ) → List Lexeme → List TokenPlace → List Notice → Type 0
-AreNotices text lexemes places notices =
-    (ds : List Definition) → AllFormed ds → lexemes ≡ lexemes_of ds
-    → IsNoticed text lexemes places (program_rows ds) notices
-
 -- what is said first of a token, and the warning that it is
 abbrev pub first_notice : List Notice → (token : ℕ) → Option Notice
 first_notice [] token = None

@@ -72,11 +72,11 @@ unfolding tokens_at longest greatest whole word_token keyword_of number_in opera
 placed = refl
 
 -- what finders give, and some of what rules alone give
-of_rules : map is_of_rules (warning.CommentGoesOn ∷ warning.CountPastVector ∷ warning.DanglingElse
+of_rules : map is_of_rules (warning.CommentGoesOn ∷ warning.DanglingElse
     ∷ warning.FormValues ∷ warning.HidesExternal ∷ warning.NearMain ∷ warning.NoMain
     ∷ warning.OctalNumber ∷ warning.Unset ∷ warning.UnsetVector ∷ warning.Slip slip.FormKind
-    ∷ warning.Slip slip.LastTurnOnly ∷ warning.Slip slip.SetLater ∷ warning.Slip slip.NextPast
+    ∷ warning.Slip slip.SetLater ∷ warning.Slip slip.LastTurnOnly ∷ warning.Slip slip.NextPast ∷ warning.CountPastVector
     ∷ warning.AndAnd ∷ warning.Backslash ∷ warning.BitsCompared ∷ warning.FallsIntoCase ∷ warning.NoEffect ∷ warning.Power
     ∷ warning.StringForCharacter ∷ warning.LoopUnchanged ∷ warning.Slip slip.SameTwice ∷ [])
-    ≡ replicate 14 false ++ replicate 9 true
+    ≡ replicate 11 false ++ replicate 12 true
 of_rules = refl

@@ -19,7 +19,6 @@ use Rattle.blint.specs.SourceTokens.{IsSource, lexemes_in, token_places, tokens_
 -- what rules alone give: finders give these others, too
 abbrev pub is_of_rules : Warning → Bool
 is_of_rules warning.CommentGoesOn = false
-is_of_rules warning.CountPastVector = false
 is_of_rules warning.DanglingElse = false
 is_of_rules warning.FormValues = false
 is_of_rules warning.HidesExternal = false
@@ -29,9 +28,7 @@ is_of_rules warning.OctalNumber = false
 is_of_rules warning.Unset = false
 is_of_rules warning.UnsetVector = false
 is_of_rules (warning.Slip slip.FormKind) = false
-is_of_rules (warning.Slip slip.LastTurnOnly) = false
 is_of_rules (warning.Slip slip.SetLater) = false
-is_of_rules (warning.Slip slip.NextPast) = false
 is_of_rules w = true
 
 -- A token at this place, in the first file, has this warning, by what is said of it first.

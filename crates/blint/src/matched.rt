@@ -1,24 +1,15 @@
 //! What the rules of `b check` say of the tokens of a source.
 ghost use Rattle.std.specs.Prelude.{◌≡◌, IfOk, None, replicate, slice_get};
-ghost use Rattle.blint.specs.Noticed.{AreNotices, IsSaid, first_notices, notice_at, warning_of, with_notice};
+ghost use Rattle.blint.specs.Noticed.{IsSaid, first_notices, notice_at, warning_of, with_notice};
 
-use crate::check_rules::{CLAIMS, RULES, STEPS, WARNINGS};
+use crate::check_rules::WARNINGS;
 use crate::tokens::Tokens;
 use crate::warnings::Warning;
-use bmatch::{Branch, Claim, Notice, Rule, RuleTable, Step, Tree, grown, notices_of};
+use bmatch::{Branch, Claim, Notice, Rule, RuleTable, Step, Tree, notices_of};
 use std::alloc::{AllocError, Global};
 
-/// What the rules say of a source, each place where one fits.
-pub(crate) fn matched(alloc: Global, tokens: &Tokens<'_>) -> Result<Vec<Notice>, AllocError>
-    ensures { IfOk result (λ notices. AreNotices tokens.now.text.now tokens.now.lexemes.now tokens.now.places.now
-        notices.items) }
-{
-    let rows = grown(alloc, tokens.lexemes)?;
-    said_by(alloc, tokens, rows.as_slice(), &STEPS, &CLAIMS, &RULES)
-}
-
-// What rules say of a source with these branches.
-fn said_by(
+/// What rules say of a source with these branches, each place where one fits.
+pub(crate) fn said_by(
     alloc: Global,
     tokens: &Tokens<'_>,
     rows: &[Branch],

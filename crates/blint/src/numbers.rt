@@ -3,18 +3,18 @@ use crate::remarks::{Remark, Remarks};
 use crate::tokens::Tokens;
 use crate::warnings::Warning;
 use blex::Lexeme;
+use bmatch::Branch;
 use bword::BinOp;
-use std::alloc::AllocError;
 
 /// How many digits a number has, at most.
 const MOST_DIGITS: usize = 8;
 
 /// Says of the numbers of a definition which begin with a 0 among others that don't.
-pub(crate) fn octal_in(tokens: &Tokens<'_>, remarks: &mut Remarks) -> Result<(), AllocError> {
-    let is_function = tokens.at(1) == Lexeme::OpenParen;
+pub(crate) fn octal_in(tokens: &Tokens<'_>, definition: &Branch, remarks: &mut Remarks) {
+    let is_function = tokens.after(definition.first) == Lexeme::OpenParen;
     let mut lengths = [false; MOST_DIGITS];
     let mut has_decimal = false;
-    for token in 0..tokens.len() {
+    for token in definition.first..=definition.last {
         if is_decimal(tokens, token) {
             has_decimal = true;
             if let Some(place) = lengths.get_mut(tokens.bytes(token).len()) {
@@ -22,7 +22,7 @@ pub(crate) fn octal_in(tokens: &Tokens<'_>, remarks: &mut Remarks) -> Result<(),
             }
         }
     }
-    for token in 0..tokens.len() {
+    for token in definition.first..=definition.last {
         let is_padded = lengths.get(tokens.bytes(token).len()) == Some(&true);
         let is_among = if is_function {
             is_padded && !is_of_bits(tokens, token)
@@ -30,10 +30,9 @@ pub(crate) fn octal_in(tokens: &Tokens<'_>, remarks: &mut Remarks) -> Result<(),
             has_decimal
         };
         if is_among && is_octal(tokens, token) {
-            remarks.say(Remark::new(token, Warning::OctalNumber))?;
+            remarks.say(Remark::new(token, Warning::OctalNumber));
         }
     }
-    Ok(())
 }
 
 /// Whether a number of two digits or more doesn't begin with 0, and is no base.

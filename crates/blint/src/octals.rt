@@ -5,7 +5,7 @@ use crate::tokens::Tokens;
 use crate::warnings::Warning;
 use blang::Keyword;
 use blex::Lexeme;
-use std::alloc::AllocError;
+use bmatch::Branch;
 
 /// How many digits such a number has, at most.
 const MOST_DIGITS: usize = 3;
@@ -26,11 +26,12 @@ enum Padded {
 
 /// Says of the initial values of a definition, or of the values of cases, where numbers of two or more digits begin
 /// with 0, and look like decimals.
-pub(crate) fn padded_in(tokens: &Tokens<'_>, remarks: &mut Remarks) -> Result<(), AllocError> {
+pub(crate) fn padded_in(tokens: &Tokens<'_>, definition: &Branch, remarks: &mut Remarks) {
+    let is_function = tokens.after(definition.first) == Lexeme::OpenParen;
     let (mut count, mut has_plain): (u64, bool) = (0, false);
-    for token in 0..tokens.len() {
-        match padding_of(tokens, token) {
-            Padded::Other => return Ok(()),
+    for token in definition.first..=definition.last {
+        match padding_of(tokens, token, is_function) {
+            Padded::Other => return,
             Padded::Plain | Padded::Decimal => {
                 count = count.saturating_add(1);
                 has_plain = true;
@@ -40,21 +41,22 @@ pub(crate) fn padded_in(tokens: &Tokens<'_>, remarks: &mut Remarks) -> Result<()
         }
     }
     if count < 2 || !has_plain {
-        return Ok(());
+        return;
     }
-    for token in 0..tokens.len() {
-        if matches!(padding_of(tokens, token), Padded::Plain | Padded::OneBit) {
-            remarks.say(Remark::new(token, Warning::OctalNumber))?;
+    for token in definition.first..=definition.last {
+        if matches!(
+            padding_of(tokens, token, is_function),
+            Padded::Plain | Padded::OneBit
+        ) {
+            remarks.say(Remark::new(token, Warning::OctalNumber));
         }
     }
-    Ok(())
 }
 
-fn padding_of(tokens: &Tokens<'_>, token: usize) -> Padded {
+fn padding_of(tokens: &Tokens<'_>, token: usize, is_function: bool) -> Padded {
     let Lexeme::Number(value) = tokens.at(token) else {
         return Padded::Little;
     };
-    let is_function = tokens.at(1) == Lexeme::OpenParen;
     let is_case = tokens.at(token.wrapping_sub(1)) == Lexeme::Keyword(Keyword::Case);
     let is_decimal = is_decimal(tokens, token);
     if is_function && !is_case || !is_decimal && !is_octal(tokens, token) {

@@ -149,7 +149,6 @@ fn is_of_rules(warning: Warning) -> bool
     !matches!(
         warning,
         Warning::CommentGoesOn
-            | Warning::CountPastVector
             | Warning::DanglingElse
             | Warning::FormValues
             | Warning::HidesExternal
@@ -158,6 +157,6 @@ fn is_of_rules(warning: Warning) -> bool
             | Warning::OctalNumber
             | Warning::Unset
             | Warning::UnsetVector
-            | Warning::Slip(Slip::FormKind | Slip::LastTurnOnly | Slip::SetLater | Slip::NextPast)
+            | Warning::Slip(Slip::FormKind | Slip::SetLater)
     )
 }

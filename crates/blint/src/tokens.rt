@@ -1,4 +1,4 @@
-//! The tokens of a source, one definition after another.
+//! The tokens of a source.
 ghost use Rattle.std.specs.Prelude.{◌≡◌, ◌+◌, slice_get};
 ghost use Rattle.bmatch.specs.Asking.{are_joined, bytes_at};
 ghost use Rattle.bmatch.specs.Trees.{lexeme_at};
@@ -7,7 +7,7 @@ use blex::Lexeme;
 use bmatch::TokenPlace;
 use bword::Name;
 
-/// The tokens of a definition, which are counted from 0, and where each stands.
+/// The tokens of a source, which are counted from 0, and where each stands.
 #[derive(Clone, Copy)]
 pub(crate) struct Tokens<'a> {
     pub text: &'a [u8],
@@ -16,22 +16,6 @@ pub(crate) struct Tokens<'a> {
 }
 
 impl<'a> Tokens<'a> {
-    /// Those of a definition, where definitions begin with these tokens.
-    pub(crate) fn of_definition(&self, starts: &[usize], index: usize) -> Tokens<'a> {
-        let first = starts.get(index).copied().unwrap_or(0);
-        let next = index.saturating_add(1);
-        let end = starts.get(next).copied().unwrap_or(self.len());
-        Tokens {
-            text: self.text,
-            lexemes: self.lexemes.get(first..end).unwrap_or(&[]),
-            places: self.places.get(first..end).unwrap_or(&[]),
-        }
-    }
-
-    pub(crate) fn len(&self) -> usize {
-        self.lexemes.len()
-    }
-
     /// The token of this number, or the end of the source.
     pub(crate) fn at(&self, token: usize) -> Lexeme
         ensures { result ≡ lexeme_at self.now.lexemes.now token }
@@ -55,14 +39,6 @@ impl<'a> Tokens<'a> {
         match self.at(token) {
             Lexeme::Name(name) => Some(name),
             _ => None,
-        }
-    }
-
-    /// Whether a token is the name of these letters.
-    pub(crate) fn is_word(&self, token: usize, word: &str) -> bool {
-        match self.at(token) {
-            Lexeme::Name(name) => name.as_str() == word,
-            _ => false,
         }
     }
 
@@ -107,11 +83,11 @@ impl<'a> Tokens<'a> {
     /// The blanks before a token that is the first one of its line.
     pub(crate) fn indentation(&self, token: usize) -> Option<&'a [u8]> {
         let start = self.place(token).start;
-        let blanks = blanks_before(self.text, start);
-        let first = start.saturating_sub(blanks);
-        match self.text.get(first.wrapping_sub(1)) {
-            None | Some(b'\n') => self.text.get(first..start),
-            _ => None,
+        let blanks = self.line_blanks(token);
+        if line_start(self.text, start).saturating_add(blanks.len()) == start {
+            Some(blanks)
+        } else {
+            None
         }
     }
 
@@ -137,15 +113,4 @@ fn line_start(text: &[u8], place: usize) -> usize {
         }
     }
     0
-}
-
-// How many blanks are directly before a place.
-fn blanks_before(text: &[u8], start: usize) -> usize {
-    for count in 0..start {
-        let byte = text.get(start.saturating_sub(count).saturating_sub(1));
-        if !matches!(byte, Some(b' ' | b'\t')) {
-            return count;
-        }
-    }
-    start
 }

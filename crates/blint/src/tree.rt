@@ -1,394 +1,151 @@
-//! The constructs of a definition, and the nodes of its expressions with their parts.
-use crate::constructs::constructs_of;
+//! The branches of a source, and of what each is a part.
 use crate::tokens::Tokens;
-use blang::Keyword;
-use blex::Lexeme;
-use btree::{Construct, Node, NodeTag, Tag, nodes_of};
+use bmatch::{Branch, Kind, branch_at};
+use btree::{Construct, Node};
+use bword::Name;
 use std::alloc::{AllocError, Global};
 
-/// In the place of a token, of a branch or of a statement: there is none.
+/// In the place of a branch: there is none.
 pub(crate) const NONE: usize = usize::MAX;
 
-/// A node of an expression, or what an expression is for.
-#[derive(Clone, Copy)]
-pub(crate) struct Branch {
-    pub node: Node,
-    pub first: usize,
-    pub last: usize,
-    /// The token that makes it: its operator, its keyword, or the bracket that opens.
-    pub token: usize,
-    /// Its parts, of which it may have fewer.
-    pub left: usize,
-    pub right: usize,
-    pub third: usize,
-    /// Of what it is a part.
-    pub parent: usize,
-    /// Whether something is called or changed in it.
-    pub acts: bool,
-}
-
-/// A construct with its tokens.
-#[derive(Clone, Copy)]
-pub(crate) struct Statement {
-    pub construct: Construct,
-    pub first: usize,
-    /// The token after its last one.
-    pub end: usize,
-    /// In which one it is.
-    pub parent: usize,
-    /// In how many of its parts control leaves: the last one of a block, or both of an `if`.
-    leaving: u64,
-}
-
-/// What a definition consists of. A branch comes after its parts, and a statement before what is in it.
+/// A source with its branches.
 #[derive(Drop)]
 pub(crate) struct Tree<'a> {
     pub tokens: &'a Tokens<'a>,
-    pub nodes: Vec<NodeTag>,
-    pub tags: Vec<Tag>,
-    pub branches: Vec<Branch>,
-    pub statements: Vec<Statement>,
-    /// For each token the branch that it makes, and the innermost statement that it is in.
+    pub rows: &'a [Branch],
+    /// For each branch the one of which it is a part, and for each token the last branch that it makes, but for plain
+    /// statements.
+    parents: Vec<usize>,
     made: Vec<usize>,
-    around: Vec<usize>,
 }
 
 impl<'a> Tree<'a> {
-    pub(crate) fn new(alloc: Global, tokens: &'a Tokens<'a>) -> Result<Self, AllocError> {
+    pub(crate) fn new(
+        alloc: Global,
+        tokens: &'a Tokens<'a>,
+        rows: &'a [Branch],
+    ) -> Result<Self, AllocError> {
         let mut tree = Tree {
             tokens,
-            nodes: nodes_of(alloc, tokens.lexemes)?,
-            tags: constructs_of(alloc, tokens.lexemes)?,
-            branches: Vec::new(alloc),
-            statements: Vec::new(alloc),
+            rows,
+            parents: Vec::new(alloc),
             made: Vec::new(alloc),
-            around: Vec::new(alloc),
         };
-        tree.grow(alloc)?;
-        tree.frame(alloc)?;
-        tree.find_leaving();
+        for _ in 0..tokens.lexemes.len() {
+            tree.made.push(NONE)?;
+        }
+        for index in 0..rows.len() {
+            tree.parents.push(NONE)?;
+            tree.place(index);
+        }
         Ok(tree)
     }
 
-    fn grow(&mut self, alloc: Global) -> Result<(), AllocError> {
-        let mut parts: Vec<usize> = Vec::new(alloc);
-        for place in 0..self.nodes.len() {
-            match self.nodes.get(place).copied() {
-                Some(NodeTag::Made(node)) => self.make(node, &mut parts)?,
-                _ => self.made.push(NONE)?,
+    // Notes what a branch makes, and that its parts are its own.
+    fn place(&mut self, index: usize) {
+        let branch = self.at(index);
+        if !matches!(branch.kind, Kind::Construct(Construct::Plain)) {
+            if let Some(made) = self.made.get_mut(branch.token) {
+                *made = index;
             }
         }
-        Ok(())
-    }
-
-    // Makes a branch of the last parts.
-    fn make(&mut self, node: Node, parts: &mut Vec<usize>) -> Result<(), AllocError> {
-        let branch = self.branch_of(node, parts);
-        let index = self.branches.len();
-        for part in [branch.left, branch.right, branch.third] {
-            if let Some(part) = self.branches.get_mut(part) {
-                part.parent = index;
+        let mut part = self.last_part(index);
+        for _ in 0..index {
+            let Some(inner) = part else {
+                return;
+            };
+            if let Some(parent) = self.parents.get_mut(inner) {
+                *parent = index;
             }
+            part = self.part_before(index, inner);
         }
-        if let Some(made) = self.made.get_mut(branch.token) {
-            *made = index;
-        }
-        self.branches.push(branch)?;
-        if !is_whole(node) {
-            parts.push(index)?;
-        }
-        Ok(())
     }
 
-    fn branch_of(&self, node: Node, parts: &mut Vec<usize>) -> Branch {
-        let count = parts_of(node);
-        let third = taken(parts, count > 2);
-        let right = taken(parts, count > 1);
-        let left = taken(parts, count > 0);
-        let (before, after) = (self.branch(left), self.branch(right));
-        let last = self.made.len().wrapping_sub(1);
-        let first = match count {
-            0 => last,
-            _ => before.first.wrapping_sub(tokens_before(node)),
+    /// The branch of this number.
+    pub(crate) fn at(&self, index: usize) -> Branch {
+        branch_at(self.rows, index)
+    }
+
+    /// The last part of a branch.
+    pub(crate) fn last_part(&self, index: usize) -> Option<usize> {
+        self.part_before(index, index)
+    }
+
+    /// The part of a branch that stands right before another one.
+    pub(crate) fn part_before(&self, index: usize, part: usize) -> Option<usize> {
+        let end = if part == index {
+            part
+        } else {
+            self.at(part).begin
         };
-        Branch {
-            node,
-            first,
-            last,
-            token: token_of(node, first, after.first, last),
-            left,
-            right,
-            third,
-            parent: NONE,
-            acts: acts(node) || before.acts || after.acts || self.branch(third).acts,
-        }
-    }
-
-    // Takes the constructs of the tags.
-    fn frame(&mut self, alloc: Global) -> Result<(), AllocError> {
-        let mut open: Vec<usize> = Vec::new(alloc);
-        for place in 0..self.tags.len() {
-            let innermost = open.last().copied().unwrap_or(NONE);
-            match self.tags.get(place).copied() {
-                Some(Tag::Begins(construct)) => {
-                    open.push(self.statements.len())?;
-                    self.begin(construct, innermost)?;
-                }
-                None | Some(Tag::Token) => self.around.push(innermost)?,
-                Some(Tag::Ends) => {
-                    let _ = open.pop();
-                    self.end(innermost);
-                }
-            }
-        }
-        Ok(())
-    }
-
-    fn begin(&mut self, construct: Construct, parent: usize) -> Result<(), AllocError> {
-        self.statements.push(Statement {
-            construct,
-            first: self.around.len(),
-            end: self.tokens.len(),
-            parent,
-            leaving: 0,
-        })?;
-        Ok(())
-    }
-
-    fn end(&mut self, statement: usize) {
-        let end = self.around.len();
-        if let Some(statement) = self.statements.get_mut(statement) {
-            statement.end = end;
-        }
-    }
-
-    // Counts of each statement the parts in which control leaves. What is in a statement comes after it.
-    fn find_leaving(&mut self) {
-        for count in 0..self.statements.len() {
-            let index = self.statements.len().wrapping_sub(count).wrapping_sub(1);
-            let here = self.statement(index);
-            if self.leaves(&here) && self.ends_part(&here) {
-                if let Some(around) = self.statements.get_mut(here.parent) {
-                    around.leaving = around.leaving.saturating_add(1);
-                }
-            }
-        }
-    }
-
-    // Whether a statement is a part of an `if`, or the last one of a block.
-    fn ends_part(&self, statement: &Statement) -> bool {
-        let around = self.statement(statement.parent);
-        match around.construct {
-            Construct::If => true,
-            Construct::Block => statement.end.saturating_add(1) == around.end,
-            _ => false,
-        }
-    }
-
-    /// Whether control never comes from a statement to what stands after it.
-    pub(crate) fn leaves(&self, statement: &Statement) -> bool {
-        match statement.construct {
-            Construct::Plain => matches!(
-                self.tokens.at(statement.first),
-                Lexeme::Keyword(Keyword::Return | Keyword::Goto | Keyword::Break)
-            ),
-            Construct::Block => statement.leaving > 0,
-            Construct::If => statement.leaving > 1,
-            _ => false,
-        }
-    }
-
-    /// The statement that ends right before another one, in the same block.
-    pub(crate) fn before(&self, statement: &Statement) -> Option<Statement> {
-        let mut found = self.statement(self.around(statement.first.wrapping_sub(1)));
-        for _ in 0..self.statements.len() {
-            if found.parent == statement.parent || found.end > statement.first {
-                break;
-            }
-            found = self.statement(found.parent);
-        }
-        if found.parent == statement.parent && found.end == statement.first {
-            Some(found)
+        if self.at(index).begin < end {
+            Some(end.wrapping_sub(1))
         } else {
             None
         }
     }
 
-    /// The branch of this number.
-    pub(crate) fn branch(&self, index: usize) -> Branch {
-        match self.branches.get(index) {
-            Some(branch) => *branch,
-            None => Branch {
-                node: Node::NoArguments,
-                first: NONE,
-                last: NONE,
-                token: NONE,
-                left: NONE,
-                right: NONE,
-                third: NONE,
-                parent: NONE,
-                acts: false,
-            },
-        }
+    /// The branch of which one is a part.
+    pub(crate) fn parent(&self, index: usize) -> usize {
+        self.parents.get(index).copied().unwrap_or(NONE)
+    }
+
+    /// Whether a branch without parts is the first part of another one.
+    pub(crate) fn is_left(&self, index: usize, parent: usize) -> bool {
+        self.at(parent).begin == index && self.parent(index) == parent
     }
 
     /// The branch that a token makes.
-    pub(crate) fn made_by(&self, token: usize) -> Branch {
-        self.branch(self.made.get(token).copied().unwrap_or(NONE))
+    pub(crate) fn made_by(&self, token: usize) -> usize {
+        self.made.get(token).copied().unwrap_or(NONE)
     }
 
-    /// The number of the innermost statement that a token is in.
-    pub(crate) fn around(&self, token: usize) -> usize {
-        self.around.get(token).copied().unwrap_or(NONE)
-    }
-
-    /// The statement of this number.
-    pub(crate) fn statement(&self, index: usize) -> Statement {
-        match self.statements.get(index) {
-            Some(statement) => *statement,
-            None => Statement {
-                construct: Construct::Plain,
-                first: NONE,
-                end: NONE,
-                parent: NONE,
-                leaving: 0,
-            },
+    /// The name that a branch is in an expression.
+    pub(crate) fn name(&self, index: usize) -> Option<Name> {
+        let branch = self.at(index);
+        match (branch.kind, self.at(self.parent(index)).kind) {
+            (_, Kind::Construct(Construct::Heading | Construct::Definition)) => None,
+            (Kind::Node(Node::Name), _) => self.tokens.name(branch.token),
+            _ => None,
         }
     }
 
-    /// Whether a token is a label, with its `:`.
+    /// Whether a name is a label, with its `:`.
     pub(crate) fn is_label(&self, token: usize) -> bool {
-        let statement = self.statement(self.around(token));
-        statement.construct == Construct::Heading
-            && statement.first == token
-            && self.tokens.name(token).is_some()
+        let made = self.at(self.made_by(token)).kind;
+        matches!(made, Kind::Construct(Construct::Heading))
     }
 
-    /// The name that a branch is, if it is one.
-    pub(crate) fn name(&self, branch: &Branch) -> Option<bword::Name> {
-        match branch.node {
-            Node::Name => self.tokens.name(branch.token),
-            _ => None,
+    /// The first part of a branch.
+    pub(crate) fn first_part(&self, index: usize) -> usize {
+        let mut part = index;
+        for _ in 0..index {
+            match self.part_before(index, part) {
+                Some(before) => part = before,
+                None => break,
+            }
         }
-    }
-
-    /// The name that a branch calls, if it is a call of one.
-    pub(crate) fn callee(&self, branch: &Branch) -> Option<bword::Name> {
-        match branch.node {
-            Node::Called => self.name(&self.branch(branch.left)),
-            _ => None,
-        }
+        part
     }
 
     /// Whether a branch is a call of the name of these letters.
-    pub(crate) fn is_call_of(&self, branch: &Branch, word: &str) -> bool {
-        match self.callee(branch) {
-            Some(name) => name.as_str() == word,
-            None => false,
-        }
+    pub(crate) fn is_call_of(&self, index: usize, word: &str) -> bool {
+        let call = self.at(index);
+        let callee = match call.kind {
+            Kind::Node(Node::Called) if self.is_left(call.begin, index) => self.name(call.begin),
+            _ => None,
+        };
+        matches!(callee, Some(name) if name.as_str() == word)
     }
 
-    /// How many arguments a call has.
-    pub(crate) fn arguments(&self, call: &Branch) -> u64 {
-        let mut argument = self.branch(call.right);
-        let mut count: u64 = 0;
-        for _ in call.first..call.last {
-            if argument.node != Node::Argument {
-                return count;
+    /// The arguments of a call of a name. They stand after those of which there are none yet.
+    pub(crate) fn arguments(&self, alloc: Global, call: usize) -> Result<Vec<usize>, AllocError> {
+        let mut all = Vec::new(alloc);
+        for index in self.at(call).begin.saturating_add(2)..call {
+            if self.parent(index) == call {
+                all.push(index)?;
             }
-            count = count.saturating_add(1);
-            argument = self.branch(argument.left);
         }
-        count
+        Ok(all)
     }
-
-    /// The argument of a call before which so many come.
-    pub(crate) fn argument(&self, call: &Branch, place: u64) -> Branch {
-        let after = self.arguments(call).saturating_sub(place).saturating_sub(1);
-        let mut argument = self.branch(call.right);
-        for _ in 0..after {
-            argument = self.branch(argument.left);
-        }
-        self.branch(argument.right)
-    }
-
-    /// Whether a branch is the condition of a `while`.
-    pub(crate) fn is_loop(&self, tested: &Branch) -> bool {
-        tested.node == Node::Tested
-            && self.tokens.at(tested.token) == Lexeme::Keyword(Keyword::While)
-    }
-}
-
-fn taken(parts: &mut Vec<usize>, is_wanted: bool) -> usize {
-    if is_wanted {
-        parts.pop().unwrap_or(NONE)
-    } else {
-        NONE
-    }
-}
-
-fn parts_of(node: Node) -> u8 {
-    match node {
-        Node::Name | Node::Constant | Node::Text | Node::NoArguments => 0,
-        Node::Conditional => 3,
-        Node::Indexed | Node::Argument | Node::Called | Node::Binary(_) | Node::Assigned(_) => 2,
-        _ => 1,
-    }
-}
-
-// How many tokens it has before its first part.
-fn tokens_before(node: Node) -> usize {
-    match node {
-        Node::Tested | Node::Returned => 2,
-        Node::Grouped
-        | Node::Negate
-        | Node::Not
-        | Node::Indirection
-        | Node::Address
-        | Node::PreIncrement
-        | Node::PreDecrement
-        | Node::Switched
-        | Node::Target => 1,
-        _ => 0,
-    }
-}
-
-fn token_of(node: Node, first: usize, after: usize, last: usize) -> usize {
-    match node {
-        Node::PostIncrement | Node::PostDecrement | Node::Evaluated => last,
-        Node::Called => after,
-        Node::Indexed | Node::Argument | Node::Binary(_) | Node::Assigned(_) | Node::Conditional =>
-            after.wrapping_sub(1),
-        _ => first,
-    }
-}
-
-// Whether a node is no part of another one.
-fn is_whole(node: Node) -> bool {
-    matches!(
-        node,
-        Node::Evaluated | Node::Tested | Node::Switched | Node::Returned | Node::Target
-    )
-}
-
-fn acts(node: Node) -> bool {
-    matches!(
-        node,
-        Node::Called
-            | Node::Assigned(_)
-            | Node::PostIncrement
-            | Node::PostDecrement
-            | Node::PreIncrement
-            | Node::PreDecrement
-    )
-}
-
-/// Whether an expression has a name.
-pub(crate) fn has_name(tree: &Tree<'_>, branch: &Branch, name: &bword::Name) -> bool {
-    for token in branch.first..=branch.last {
-        if tree.tokens.name(token) == Some(*name) {
-            return true;
-        }
-    }
-    false
 }
