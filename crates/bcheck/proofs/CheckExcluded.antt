@@ -1,28 +1,24 @@
 -- What the contract of a check excludes.
-use Rattle.std.proofs.Common.{◌≡◌, ◌≢◌, ◌∙◌, ◌<◌, ◌≤◌, ◌+◌, ◌*◌, ℕ, suc, zero, List, [], ◌∷◌, ◌++◌, ◌-◌, false, IsTrue}
+use Rattle.std.proofs.Common.{◌≡◌, ◌≢◌, ◌∙◌, ◌<◌, ◌≤◌, ◌+◌, ℕ, suc, List, [], ◌∷◌, ◌++◌, ◌-◌, false, IsTrue}
 use Rattle.std.proofs.Common.{Option, Some, None, ap, append-nil, append_assoc, arith, codes, decimal, drop, length}
 use Rattle.std.proofs.Common.{map, refl, subst, sym, take, inl, inr, ⊎_elim, true, ◌⊎◌}
 use Rattle.std.specs.Io.{StartsWith}
 use Rattle.std.specs.List.{All, AllZip, flat_map, Any}
 use Rattle.std.proofs.Math.Seq.{take-append_seam}
 use Rattle.std.proofs.lemmas.Bool.{both_ways}
-use Rattle.std.proofs.lemmas.List.{append_cancel_left, append_cancel_right, length-append}
+use Rattle.std.proofs.lemmas.List.{append_cancel_left, append_cancel_right}
 use Rattle.std.proofs.lemmas.Slice.Eq.{bytes_eq-Decides}
 use Rattle.std.specs.Prelude.{not}
 use Rattle.bword.specs.Words.{same_name}
-use Rattle.std.specs.Io.KnownBytes.{Appends}
-use Rattle.std.proofs.Math.Nat.{suc-mul}
 use Rattle.bword.specs.ByteEnds.{Grew, Outgoing, Refuses}
 use Rattle.bword.specs.declared.edition.Edition.{Edition}
 use Rattle.bword.specs.declared.edition.Edition.TheVariants as editions
 use Rattle.bword.specs.declared.ends.EndFault.{EndFault}
 use Rattle.bword.specs.declared.ends.EndFault.TheVariants as end_fault
-use Rattle.std.proofs.lemmas.List.Elements.{All-head, All-weaker}
 use Rattle.std.proofs.lemmas.Slice.Zip.{AllZip-long}
-use Rattle.blang.specs.Code.{code_of, fault_of}
-use Rattle.blang.specs.Scan.{identifier_of}
+use Rattle.blang.specs.Code.{code_of}
 use Rattle.blang.specs.declared.code.Definition.{Definition}
-use Rattle.blang.specs.Compiles.{Compilation, CompilesTo, Defined, compilation_of, compilation_with, compiled_text, fault_text, letters_text, line_of, status_of}
+use Rattle.blang.specs.Compiles.{CompilesTo, fault_text, letters_text, line_of, status_of}
 use Rattle.blang.specs.Cut.{line_number_after, tokens_from}
 use Rattle.blang.specs.declared.token.Letters.{Letters}
 use Rattle.blang.specs.declared.token.Letters.TheVariants as letters
@@ -36,27 +32,23 @@ use Rattle.bgrammar.proofs.SourceRows.{a_break_of_one, a_break_outside}
 use Rattle.bmach.proofs.Losing.{appended}
 use Rattle.bcheck.specs.Checks as checks
 use Rattle.bsources.specs.Files.{File, Files, Line, own_line, own_line_among}
-use Rattle.blang.specs.Trees.{Definition as Tree, bare}
-use Rattle.blang.specs.WellFormed.{AllFormed, StopsAt}
+use Rattle.blang.specs.Trees.{Definition as Tree}
+use Rattle.blang.specs.WellFormed.{AllFormed}
 use Rattle.blint.specs.SourceTokens.{IsSource}
 use Rattle.blint.specs.Warns.{IsDueIn}
 use Rattle.bmatch.specs.declared.tree.TokenPlace.{TokenPlace}
 use Rattle.blint.specs.declared.warnings.Warning.{Warning}
-use Rattle.bcheck.specs.CheckExcluded.{least_lines}
 use Rattle.bcheck.specs.Checks.{IsAtToken, IsOver, Reason, StandsOn, code_keyword, diagnostic_code, finding_at}
 use Rattle.bplaces.specs.Columns.{column_after}
 use Rattle.btools.specs.Quoting.{file_text, json_text}
-use Rattle.bcheck.specs.Checks.{EditParts, IsFurther, IsMended, Mends, TellsSection, mended, mended_lines, AreFindings}
+use Rattle.bcheck.specs.Checks.{EditParts, IsFurther, mended, mended_lines, AreFindings}
 use Rattle.bcheck.specs.Checks.{Check, Checks, FindingParts, Outcome, TellsFirst, finding_column, fix_and_places}
 use Rattle.bcheck.specs.Checks.{finding_head, finding_line, finding_mark, finding_shown, finding_start, finding_text}
 use Rattle.bcheck.specs.Checks.{IsWhole, Says, fault_in, outcome_of, findings_text, severity_of, shown_in_form}
 use Rattle.bcheck.specs.Checks.{told_first, told_at}
-use Rattle.bcheck.specs.Sections.{at_fault, sections}
-use Rattle.bcheck.specs.declared.finding.TheConstants.{MOST_FINDINGS}
 use Rattle.bcheck.specs.CheckExcluded.{BeginsWith, ComesTo, Excluded, IsTold, Never, NeverOf, file_at, file_of}
-use Rattle.bcheck.proofs.NearerFault.{no_nearer}
 use Rattle.bcheck.proofs.RightSteps.{done_definitions}
-use Rattle.bcheck.specs.CheckExcluded.{HasLines, IsCount, IsCountOf, outcome_in, has_no_colon, is_printed, newlines}
+use Rattle.bcheck.specs.CheckExcluded.{has_no_colon}
 use Rattle.bcheck.specs.Tokens.{has_token_on, is_in_token}
 use Rattle.bcheck.specs.UndefinedNames.{Tells, told_subjects}
 use Rattle.bcheck.specs.declared.mention.Subject.{Subject}
@@ -65,7 +57,7 @@ use Rattle.bcheck.specs.declared.finding.Severity.{Severity}
 use Rattle.bcheck.specs.declared.finding.Severity.TheVariants as severity
 use Rattle.bcheck.specs.declared.form.FindingForm.{FindingForm}
 use Rattle.bcheck.specs.declared.form.FindingForm.TheVariants as form
-use Rattle.bcheck.proofs.FindingTexts.{both_printed, findings_printed, first_byte, head_placed, lines_of_all, lines_unmended, same_heads, same_places, newlines_in, no_cons, other_severity_after, starts_of, text_placed}
+use Rattle.bcheck.proofs.FindingTexts.{first_byte, head_placed, same_heads, same_places, no_cons, other_severity_first, no_start, starts_of, text_placed}
 
 -- a check of a source that comes to this tells it
 abbrev comes_to : (c : Check) (line : List ℕ) (status : ℕ) → ComesTo c line status → Outcome
@@ -131,18 +123,6 @@ none_of_some : {source : List ℕ} (ps : List (FindingParts source)) → 0 < len
 none_of_some [] some e = let no : ◌<◌ 0 0 = some in absurd (omega (arith, no))
 none_of_some (p ∷ ps) some e = cc
 
--- how many findings there are of a fault, with those of sections
-counted : (o : Outcome) (stop : Option Diagnostic) (f : Option LoadFault) (line : List ℕ) (status : ℕ) (ps further : List (FindingParts o.source)) → told_first stop f ≡ (line, status) → status ≢ DONE → IsWhole Says stop f o.definitions ps → IsFurther o.edition stop further
-    → IsCount o stop f (length (ps ++ further))
-counted o (Some d) f line status ps further told wrong is more =
-    (more.0, more.1, length-append ps further ∙ ap (λ n. n + length further) is ∙ ap (λ n. 1 + n) (AllZip-long (TellsSection o.edition) (take (MOST_FINDINGS - 1) (at_fault (sections o.edition d.line o.source) more.0)) further more.2))
-counted o None None line status ps further told wrong is more = absurd (wrong (sym (ap (λ (p : List ℕ × ℕ). p.1) told)))
-counted o None (Some (fault.Duplicate name)) line status ps further told wrong is more = ap (λ qs. length (ps ++ qs)) more ∙ ap length (append-nil ps) ∙ is
-counted o None (Some fault.TooLarge) line status ps further told wrong is more = ap (λ qs. length (ps ++ qs)) more ∙ ap length (append-nil ps) ∙ is
-counted o None (Some (fault.Undefined name)) line status ps further told wrong is more = ap (λ qs. length (ps ++ qs)) more ∙ ap length (append-nil ps) ∙ AllZip-long Says (told_subjects o.definitions) ps is
-counted o None (Some fault.NoMain) line status ps further told wrong is more = absurd (wrong (sym (ap (λ (p : List ℕ × ℕ). p.1) told)))
-counted o None (Some fault.Memory) line status ps further told wrong is more = ap (λ qs. length (ps ++ qs)) more ∙ ap length (append-nil ps) ∙ is
-
 -- there is one
 some_found : {source : List ℕ} (stop : Option Diagnostic) (f : Option LoadFault) (ds : List Definition) (line : List ℕ) (status : ℕ) (ps : List (FindingParts source)) → load_fault ds ≡ f → told_first stop f ≡ (line, status) → status ≢ DONE → IsWhole Says stop f ds ps → 0 < length ps
 some_found (Some d) f ds line status ps at told wrong is = omega (arith, is)
@@ -156,10 +136,6 @@ some_found None (Some fault.Memory) ds line status ps at told wrong is = omega (
 -- all findings
 abbrev all_of : {form : FindingForm} → {o : Outcome} → {files : Files} → {first : List ℕ} → {status result : ℕ} → {text : List ℕ} → WasTold form o files first status result text → List (FindingParts o.source)
 all_of w = w.are.0 ++ w.are.3
-
-count_told : (c : Check) (line : List ℕ) (status : ℕ) (text : List ℕ) (to : ComesTo c line status) (w : WasTold c.form (comes_to c line status to) c.files (shown_in_form c.form line) status c.status text) → status ≢ DONE → IsCountOf to (length (all_of w))
-count_told c line status text to w wrong =
-    counted (comes_to c line status to) to.outcome.stop (load_fault (map code_of to.goes.definitions)) line status w.are.0 w.are.3 to.told wrong w.are.1 w.are.4
 
 first_some : (c : Check) (line : List ℕ) (status : ℕ) (text : List ℕ) (to : ComesTo c line status) (w : WasTold c.form (comes_to c line status to) c.files (shown_in_form c.form line) status c.status text) → status ≢ DONE → w.are.0 ≡ [] → ⊥
 first_some c line status text to w wrong =
@@ -215,13 +191,12 @@ alone_among file (next ∷ rest) n e = cc
 alone : (files : Files) → files.rest ≡ [] → (n : ℕ) → own_line files n ≡ record { file = files.first.name; line = n }
 alone files e n = alone_among files.first files.rest n e
 
-other_severity : Never (λ c line status text.
-    (before : List (FindingParts c.source)) × (s : Severity) × (row column : ℕ) × (rest : List ℕ) × (s ≢ severity_of status) × (c.files.rest ≡ [])
-    × (text ≡ shown_in_form c.form line ++ (findings_text c.form status c.files before ++ (finding_head c.form s (file_of c) row column ++ rest))))
+other_severity : Never (λ c line status text. (row column : ℕ) × (rest : List ℕ) × (first : BeginsWith c line text (file_of c) row column rest) × (c.files.rest ≡ []) × (first.severity ≢ severity_of status))
 other_severity c line status text to t wrong h =
     let w = told_in c line status text to t h in
-    other_severity_after c.form wrong.1 (severity_of status) c.files (file_of c) (λ n. ap (λ (l : Line). l.file) (alone c.files wrong.6 n)) wrong.0 (all_of w) wrong.2 wrong.3 wrong.4 wrong.5
-    (append_cancel_left (shown_in_form c.form line) _ _ (sym wrong.7 ∙ w.text_is ∙ ap (λ x. shown_in_form c.form line ++ x) w.are.5))
+    let first = wrong.3 in
+    other_severity_first c.form first.severity (severity_of status) c.files (file_of c) (λ n. ap (λ (l : Line). l.file) (alone c.files wrong.4 n)) (all_of w) wrong.0 wrong.1 wrong.2 wrong.5
+    (append_cancel_left (shown_in_form c.form line) _ _ (sym first.is ∙ w.text_is ∙ ap (λ x. shown_in_form c.form line ++ x) w.are.5))
 
 -- the first finding of a fault: it is one of what the source comes to, and the text begins with it
 record Begun (c : Check) (d : Diagnostic) (s : Severity) (file : List ℕ) (row column : ℕ) (rest : List ℕ) : Type 0 where
@@ -361,44 +336,6 @@ other_letters c line status text to d stop t one row column rest b wrong h =
     let code : 34 ∷ wrong.1 ∷ wrong.2 ∷ wrong.3 ≡ json_text (letters_text d.letters ++ code_keyword d.letters d.about) ++ words.0 = sym wrong.4 ∙ here ∙ ap (λ x. json_text x ++ words.0) f.code in
     wrong.5 (letters_in d.letters (code_keyword d.letters d.about) words.0 wrong.1 wrong.2 wrong.3 code)
 
-lines_told : (c : Check) (o : Outcome) (line : List ℕ) (status : ℕ) (text : List ℕ) (w : WasTold c.form o c.files (shown_in_form c.form line) status c.status text)
-    → newlines text ≡ newlines (shown_in_form c.form line) + newlines (findings_text c.form status c.files (all_of w))
-lines_told c o line status text w =
-    ap newlines w.text_is ∙ newlines_in (shown_in_form c.form line) w.more ∙ ap (λ n. newlines (shown_in_form c.form line) + n) (ap newlines w.are.5)
-
-has_lines : (c : Check) (o : Outcome) (line : List ℕ) (status : ℕ) (text : List ℕ) (w : WasTold c.form o c.files (shown_in_form c.form line) status c.status text) → HasLines c.form (shown_in_form c.form line) (length (all_of w)) text
-has_lines c o line status text w =
-    let is = lines_told c o line status text w in
-    let all = lines_of_all c.form (severity_of status) c.files (all_of w) in
-    let least = all.0 in
-    let most = all.1 in
-    record { least = omega (arith, is, least); most = omega (arith, is, most) }
-
-other_lines : (c : Check) (line : List ℕ) (status : ℕ) (text : List ℕ) (to : ComesTo c line status) → IsTold c text → status ≢ DONE
-    → ((count : ℕ) → IsCountOf to count → HasLines c.form (shown_in_form c.form line) count text → ⊥) → Checks c → ⊥
-other_lines c line status text to t wrong other h =
-    let w = told_in c line status text to t h in
-    other (length (all_of w)) (count_told c line status text to w wrong) (has_lines c (comes_to c line status to) line status text w)
-
--- no edit is told where none mends
-none_mend : {source : List ℕ} (o : Outcome) (es : List (EditParts source)) → All (Mends o) es → ((e : EditParts source) → Mends o e → ⊥) → es ≡ []
-none_mend o [] all none = refl
-none_mend o (e ∷ es) all none = absurd (none e (All-head (Mends o) e es all))
-
-unmended : (o : Outcome) (ps : List (FindingParts o.source)) → All (IsMended o) ps → ((e : EditParts o.source) → Mends o e → ⊥) → All (λ p. p.edits ≡ []) ps
-unmended o ps all none = All-weaker (IsMended o) (λ p. p.edits ≡ []) (λ p mended. none_mend o p.edits mended none) ps all
-
-no_mend : (c : Check) (line : List ℕ) (status : ℕ) (text : List ℕ) (to : ComesTo c line status) → IsTold c text → status ≢ DONE → c.form ≡ form.Text → ((e : EditParts c.source) → Mends (outcome_in to) e → ⊥)
-    → ((count : ℕ) → IsCountOf to count → newlines text ≢ newlines line + count * 4) → Checks c → ⊥
-no_mend c line status text to t wrong is none other h =
-    let o = comes_to c line status to in
-    let w = told_in c line status text to t h in
-    let each = unmended o (all_of w) w.are.6 none in
-    let lines : newlines (findings_text c.form status c.files (all_of w)) ≡ length (all_of w) * 4 =
-    ap (λ f. newlines (findings_text f status c.files (all_of w))) is ∙ lines_unmended (severity_of status) c.files (all_of w) each in
-    other (length (all_of w)) (count_told c line status text to w wrong)
-    (lines_told c o line status text w ∙ ap (λ f. newlines (shown_in_form f line) + newlines (findings_text c.form status c.files (all_of w))) is ∙ ap (λ n. newlines line + n) lines)
-
 -- what an edit puts in isn't what it takes out
 other_text : (text old : List ℕ) → text ≡ old → IsTrue (not (same_name text old)) → ⊥
 other_text text old e h =
@@ -448,11 +385,6 @@ name_left_out c line status text to name stop undefined t is before after it tol
     let more = w.are.5 ∙ ap (λ qs. text_of c.form (w.are.0 ++ qs)) none ∙ ap (text_of c.form) (append-nil w.are.0) ∙ ap (λ f. text_of f w.are.0) is ∙ said.3 in
     wrong (first ++ said.0) said.2 said.1 (w.text_is ∙ ap (λ m. first ++ m) more ∙ sym (append_assoc first said.0 (said.1 ++ said.2))) said.4
 
-odd_lines : Never (λ c line status text. (count : ℕ) → HasLines c.form (shown_in_form c.form line) count text → ⊥)
-odd_lines c line status text to t wrong h =
-    let w = told_in c line status text to t h in
-    wrong (length (all_of w)) (has_lines c (comes_to c line status to) line status text w)
-
 clean_stop : (stop : Option Diagnostic) (f : Option LoadFault) (line : List ℕ) → told_first stop f ≡ (line, DONE) → stop ≡ None
 clean_stop None f line e = refl
 clean_stop (Some d) f line e = absurd (let g : 1 ≡ 0 = ap (λ (p : List ℕ × ℕ). p.1) e in cc)
@@ -461,27 +393,26 @@ is_definitions : (c : Check) (line : List ℕ) → ComesTo c line DONE → (ds :
 is_definitions c line to =
     done_definitions c.edition c.source to.outcome to.goes (clean_stop to.outcome.stop (load_fault (map code_of to.goes.definitions)) line to.told)
 
-one_told : {P : List ℕ × List ℕ → Type 0} {Q : Type 0} {source : List ℕ} (f : FindingForm) (first text all : ℕ) (ps : List (FindingParts source)) → Any P (map told_at ps) ⊎ ((100 ≤ length (map told_at ps)) × Q)
-    → length ps ≤ all → first + all * least_lines f ≤ text → text < least_lines f → ⊥
-one_told f first text all [] (inl a) long h few = absurd (omega (arith, a.2))
-one_told f first text all [] (inr g) long h few = absurd (omega (arith, g.0))
-one_told f first text zero (p ∷ ps) told long h few = absurd (omega (arith, long))
-one_told f first text (suc n) (p ∷ ps) told long h few = absurd (omega (arith, h, few, suc-mul n (least_lines f)))
+some_due : {P : List ℕ × List ℕ → Type 0} {Q : Type 0} {source : List ℕ} (ps : List (FindingParts source)) → Any P (map told_at ps) ⊎ ((100 ≤ length (map told_at ps)) × Q) → ps ≡ [] → ⊥
+some_due [] (inl a) e = absurd (omega (arith, a.2))
+some_due [] (inr g) e = absurd (omega (arith, g.0))
+some_due (p ∷ ps) told e = cc
 
-no_warning : (c : Check) (line text : List ℕ) → ComesTo c line DONE → IsTold c text → (ds : List Tree) → AllFormed ds → IsSource c.edition c.source ds → (at : TokenPlace) (w : Warning) → IsDueIn c.edition c.files c.source ds at w
-    → newlines text < least_lines c.form → Checks c → ⊥
-no_warning c line text to t ds formed is at warning d few h =
-    let w = told_in c line DONE text to t h in
+nothing_told : {source : List ℕ} (form : FindingForm) (status : ℕ) (files : Files) (first more : List ℕ) (ps : List (FindingParts source)) → (ps ≡ [] → ⊥) → [] ≡ first ++ more → more ≡ findings_text form status files ps → ⊥
+nothing_told form status files first more [] some e is = some refl
+nothing_told form status files (b ∷ first) more (p ∷ ps) some e is = cc
+nothing_told form status files [] more (p ∷ ps) some e is =
+    let text = text_placed form (severity_of status) files p in
+    let at = finding_at files p in
+    let later = flat_map (finding_text form (severity_of status) files) ps in
+    no_start form (severity_of status) at.file at.line (finding_column p) (text.0 ++ later)
+    (sym (e ∙ is ∙ ap (λ t. t ++ later) text.1 ∙ append_assoc (finding_head form (severity_of status) at.file at.line (finding_column p)) text.0 later))
+
+no_warning : (c : Check) (line : List ℕ) → ComesTo c line DONE → IsTold c [] → (ds : List Tree) → AllFormed ds → IsSource c.edition c.source ds → (at : TokenPlace) (w : Warning) → IsDueIn c.edition c.files c.source ds at w → Checks c → ⊥
+no_warning c line to t ds formed is at warning d h =
+    let w = told_in c line DONE [] to t h in
     let warned = w.are.7 refl ds formed is in
-    let lines = has_lines c (comes_to c line DONE to) line DONE text w in
-    one_told c.form (newlines (shown_in_form c.form line)) (newlines text) (length (all_of w)) w.are.0 (warned.2.all at warning (d warned.0 warned.1)) (omega (arith, length-append w.are.0 w.are.3)) lines.least few
-
-other_bytes : Never (λ c line status text. IsTrue (is_printed (shown_in_form c.form line)) × ((n : ℕ) → IsTrue (is_printed (finding_start c.form (file_at c n)))) × (is_printed text ≡ false))
-other_bytes c line status text to t wrong h =
-    let w = told_in c line status text to t h in
-    let all = both_printed (shown_in_form c.form line) w.more wrong.0 (subst (λ x. IsTrue (is_printed x)) (sym w.are.5) (findings_printed c.files c.form (severity_of status) wrong.1 (all_of w))) in
-    let is : IsTrue (is_printed text) = subst (λ x. IsTrue (is_printed x)) (sym w.text_is) all in
-    cc
+    nothing_told c.form DONE c.files (shown_in_form c.form line) w.more (all_of w) (still_some w.are.0 w.are.3 (some_due w.are.0 (warned.2.all at warning (d warned.0 warned.1)))) w.text_is w.are.5
 
 other_status : Never (λ c line status text. c.status ≢ status)
 other_status c line status text to t wrong h = wrong (told_in c line status text to t h).status_is
@@ -561,15 +492,10 @@ excluded = record {
   other_token = other_token;
   no_place = no_place;
   other_letters = other_letters;
-  other_lines = other_lines;
   name_left_out = name_left_out;
-  odd_lines = odd_lines;
-  no_mend = no_mend;
   no_change = no_change;
-  no_nearer = no_nearer;
   is_definitions = is_definitions;
   no_warning = no_warning;
-  other_bytes = other_bytes;
   no_failure = λ c line status to is none h. device c.form (comes_to c line status to) c.files (shown_in_form c.form line) status c.status c.out c.out_after (comes_small c line status to) is none (tells c line status to h);
   no_refusal = λ c line status to is none some h. memory c.form (comes_to c line status to) c.files (shown_in_form c.form line) status c.status c.out c.out_after (comes_small c line status to) is none some (tells c line status to h);
   no_such_status = λ c line status to is h. above c.form (comes_to c line status to) c.files (shown_in_form c.form line) status c.status c.out c.out_after (comes_small c line status to) is (tells c line status to h);

@@ -10,7 +10,6 @@ pub mod FindingTexts
 pub mod MendSteps
 pub mod MentionLoops
 pub mod MentionSteps
-pub mod NearerFault
 pub mod OnLine
 pub mod TokenPlaces
 pub mod ToldNames

@@ -1,22 +1,19 @@
 -- Promise: what the contract of a check excludes, whatever its source, its file and its output are.
-use Rattle.std.specs.Prelude.{◌≡◌, ◌≢◌, ℕ, ◌+◌, ◌*◌, ◌<◌, ◌≤◌, ◌==◌, Bool, ◌||◌, false, true, not, IsTrue}
-use Rattle.std.specs.Prelude.{List, [], ◌∷◌, ◌++◌, None, Some, codes, decimal, length, map, Option}
-use Rattle.std.specs.Int.{is_in_range}
+use Rattle.std.specs.Prelude.{◌≡◌, ◌≢◌, ℕ, ◌+◌, ◌<◌, ◌≤◌, ◌==◌, Bool, false, true, not, IsTrue}
+use Rattle.std.specs.Prelude.{List, [], ◌∷◌, ◌++◌, None, Some, codes, decimal, map}
 use Rattle.std.specs.Io.{StartsWith}
-use Rattle.std.specs.List.{count_by, list_all}
+use Rattle.std.specs.List.{list_all}
 use Rattle.bword.specs.ByteEnds.{Grew}
 use Rattle.bword.specs.declared.edition.Edition.TheVariants as editions
 use Rattle.blang.specs.Code.{code_of}
 use Rattle.blang.specs.Compiles.{Compilation, CompilesTo, letters_text}
 use Rattle.blang.specs.Cut.{line_number_after, tokens_from}
 use Rattle.blang.specs.declared.token.Diagnostic.{Diagnostic}
-use Rattle.blang.specs.declared.run.LoadFault.{LoadFault}
 use Rattle.blang.specs.declared.run.LoadFault.TheVariants as fault
 use Rattle.blang.specs.Layout.{load_fault}
 use Rattle.blang.specs.declared.status.TheConstants.{DONE, DEVICE, MEMORY}
 use Rattle.bsources.specs.Files.{own_line}
-use Rattle.bcheck.specs.Checks.{Check, Checks, EditParts, FindingParts, IsOver, Mends, Outcome, finding_head, mended}
-use Rattle.bcheck.specs.Checks.{GoesFarther, outcome_of}
+use Rattle.bcheck.specs.Checks.{Check, Checks, EditParts, IsOver, finding_head, mended}
 use Rattle.blang.specs.Trees.{Definition as Tree}
 use Rattle.blang.specs.WellFormed.{AllFormed}
 use Rattle.blint.specs.SourceTokens.{IsSource}
@@ -29,11 +26,8 @@ use Rattle.bcheck.specs.UndefinedNames.{Tells, told_subjects}
 use Rattle.bcheck.specs.declared.mention.Subject.{Subject}
 use Rattle.btools.specs.Quoting.{file_text}
 use Rattle.bcheck.specs.Checks.{finding_start}
-use Rattle.bcheck.specs.Checks.{fault_in, findings_text}
-use Rattle.bcheck.specs.Counts.{IsCountFrom}
 use Rattle.bcheck.specs.Checks.{severity_of, shown_in_form, told_first}
 use Rattle.bcheck.specs.declared.finding.Severity.{Severity}
-use Rattle.bcheck.specs.declared.form.FindingForm.{FindingForm}
 use Rattle.bcheck.specs.declared.form.FindingForm.TheVariants as form
 
 -- The source comes to this line and this status.
@@ -78,42 +72,6 @@ NeverOf Wrong = (c : Check) (line : List ℕ) (status : ℕ) (text : List ℕ) (
 abbrev pub has_no_colon : List ℕ → Bool
 has_no_colon text = list_all (λ b. not (b == 58)) text
 
-abbrev pub newlines : List ℕ → ℕ
-newlines text = count_by (λ b. b == 10) text
-
--- So many findings are told of a diagnostic: one, and one for each section that is at fault alone, up to so many. Of a
--- fault of loading it is one, and of names that nothing defines one for each.
-abbrev pub IsCount : Outcome → Option Diagnostic → Option LoadFault → (count : ℕ) → Type 0
-IsCount o (Some d) f count = IsCountFrom o.edition d.line o.source count
-IsCount o None (Some (fault.Undefined name)) count = count ≡ length (told_subjects o.definitions)
-IsCount o None f count = count ≡ 1
-
--- the outcome that a source comes to
-abbrev pub outcome_in : {c : Check} → {line : List ℕ} → {status : ℕ} → ComesTo c line status → Outcome
-outcome_in {c} to = outcome_of c.edition c.source to.outcome.stop (map code_of to.goes.definitions)
-
--- so many are told of a source
-abbrev pub IsCountOf : {c : Check} → {line : List ℕ} → {status : ℕ} → ComesTo c line status → (count : ℕ) → Type 0
-IsCountOf to count = let o = outcome_in to in IsCount o o.stop (fault_in o) count
-
--- how many newlines the text of a finding has at least, and at most
-abbrev pub least_lines : FindingForm → ℕ
-least_lines form.Text = 4
-least_lines form.Json = 1
-
-abbrev pub most_lines : FindingForm → ℕ
-most_lines form.Text = 7
-most_lines form.Json = 1
-
--- a text after this line has as many lines as this number of findings can have
-pub record HasLines (form : FindingForm) (first : List ℕ) (count : ℕ) (text : List ℕ) : Type 0 where
-  pub least : newlines first + count * least_lines form ≤ newlines text
-  pub most : newlines text ≤ newlines first + count * most_lines form
-
--- printable ASCII and newlines
-abbrev pub is_printed : List ℕ → Bool
-is_printed text = list_all (λ b. (b == 10) || is_in_range 32 126 b) text
-
 pub record Excluded : Type 0 where
   -- another status than the source's, as 0 for a fault, that of code for one of the source, or one for no main
   pub other_status : Never (λ c line status text. c.status ≢ status)
@@ -126,12 +84,10 @@ pub record Excluded : Type 0 where
   -- a line where there is no fault
   pub no_fault : Never (λ c line status text.
       (status ≡ DONE) × (text ≢ []) × ((n : ℕ) → StartsWith text (finding_start c.form (file_at c n)) → ⊥))
-  -- an error told as a warning, or a warning as an error, be it the first finding or after others
+  -- first an error told as a warning, or a warning as an error
   pub other_severity : Never (λ c line status text.
-      (before : List (FindingParts c.source)) × (s : Severity) × (row column : ℕ) × (rest : List ℕ)
-      × (s ≢ severity_of status) × (c.files.rest ≡ [])
-      × (text ≡ shown_in_form c.form line ++ (findings_text c.form status c.files before
-      ++ (finding_head c.form s (file_of c) row column ++ rest))))
+      (row column : ℕ) × (rest : List ℕ) × (first : BeginsWith c line text (file_of c) row column rest)
+      × (c.files.rest ≡ []) × (first.severity ≢ severity_of status))
   -- of a fault, for people, a finding of another file than the one of each line up to its own, or on another line of
   -- it, where colons are in no name
   pub other_file : (c : Check) (line : List ℕ) (status : ℕ) (text : List ℕ) (to : ComesTo c line status)
@@ -158,11 +114,6 @@ pub record Excluded : Type 0 where
   -- of a fault, for an editor, other letters than the diagnostic's
   pub other_letters : NeverOf (λ c d row column rest. (c.form ≡ form.Json) × (first : ℕ) × (second : ℕ)
       × (more : List ℕ) × (rest ≡ 34 ∷ first ∷ second ∷ more) × (first ∷ second ∷ [] ≢ letters_text d.letters))
-  -- of a fault another number of findings than one for it and one for each later section that is at fault, or of names
-  -- that nothing defines than one for each; or a newline in their words, their pieces of the source or names of files
-  pub other_lines : (c : Check) (line : List ℕ) (status : ℕ) (text : List ℕ) (to : ComesTo c line status)
-      → IsTold c text → status ≢ DONE
-      → ((count : ℕ) → IsCountOf to count → HasLines c.form (shown_in_form c.form line) count text → ⊥) → Checks c → ⊥
   -- of names that nothing defines, for people, no sentence on one of those that are to be told
   pub name_left_out : (c : Check) (line : List ℕ) (status : ℕ) (text : List ℕ) (to : ComesTo c line status)
       (name : List ℕ) → to.outcome.stop ≡ None
@@ -170,29 +121,15 @@ pub record Excluded : Type 0 where
       → IsTold c text → c.form ≡ form.Text → (before after : List Subject) (subject : Subject)
       → told_subjects (map code_of to.goes.definitions) ≡ before ++ subject ∷ after
       → ((u v sentence : List ℕ) → text ≡ u ++ (sentence ++ v) → Tells subject sentence → ⊥) → Checks c → ⊥
-  -- lines after the first one that are no whole findings
-  pub odd_lines : Never (λ c line status text.
-      (count : ℕ) → HasLines c.form (shown_in_form c.form line) count text → ⊥)
-  -- for people, of a fault that no edit mends, lines that tell one
-  pub no_mend : (c : Check) (line : List ℕ) (status : ℕ) (text : List ℕ) (to : ComesTo c line status)
-      → IsTold c text → status ≢ DONE → c.form ≡ form.Text → ((e : EditParts c.source) → Mends (outcome_in to) e → ⊥)
-      → ((count : ℕ) → IsCountOf to count → newlines text ≢ newlines line + count * 4) → Checks c → ⊥
   -- an edit that changes nothing
   pub no_change : (source : List ℕ) (e : EditParts source) → mended e ≡ source → ⊥
-  -- one that opens a string, and so makes a fault before the first one
-  pub no_nearer : GoesFarther editions.One (codes "f(){1 b\";=;}") (codes "f(){\"a b\";=;}") → ⊥
-  -- a byte that can't be printed, where the line and the name of the file have none
-  pub other_bytes : Never (λ c line status text.
-      IsTrue (is_printed (shown_in_form c.form line))
-      × ((n : ℕ) → IsTrue (is_printed (finding_start c.form (file_at c n))))
-      × (is_printed text ≡ false))
   -- each source that compiles and loads is definitions
   pub is_definitions : (c : Check) (line : List ℕ) → ComesTo c line DONE
       → (ds : List Tree) × AllFormed ds × IsSource c.edition c.source ds
-  -- of a source that is definitions, compiles and loads no finding, where a warning of a token is due
-  pub no_warning : (c : Check) (line text : List ℕ) → ComesTo c line DONE → IsTold c text → (ds : List Tree)
+  -- of a source that is definitions, compiles and loads nothing, where a warning of a token is due
+  pub no_warning : (c : Check) (line : List ℕ) → ComesTo c line DONE → IsTold c [] → (ds : List Tree)
       → AllFormed ds → IsSource c.edition c.source ds → (at : TokenPlace) (w : Warning)
-      → IsDueIn c.edition c.files c.source ds at w → newlines text < least_lines c.form → Checks c → ⊥
+      → IsDueIn c.edition c.files c.source ds at w → Checks c → ⊥
   -- 133 where no write failed; 134 after something written where no write was refused memory; another status above
   pub no_failure : (c : Check) (line : List ℕ) (status : ℕ) → ComesTo c line status → c.status ≡ DEVICE
       → (Grew c.out.failures c.out_after.failures → ⊥) → Checks c → ⊥

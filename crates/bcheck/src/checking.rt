@@ -86,8 +86,8 @@ fn both(alloc: Global, first: &[u8], more: &[u8]) -> Result<Text, AllocError>
 }
 
 /// What no check tells: the line left out or last, one of the other edition or one without a fault, a fault without a
-/// finding or with two, one name of several left out, nothing where a rule speaks of a token, a finding without its
-/// file, another severity, a byte that can't be printed, another status.
+/// finding, one name of several left out, nothing where a rule speaks of a token, a finding without its file, another
+/// severity, another status.
 pub fn wrong_checks_are_excluded()
     ensures { Excluded }
 {}
