@@ -1,11 +1,11 @@
 -- The search for names that nothing defines, one name after another.
-use Rattle.std.proofs.Common.{◌≡◌, ◌∙◌, ◌+◌, ◌<◌, ℕ, List, [], ◌∷◌, ◌++◌, Bool, true, false, cond, if◌then◌else◌, Option, Some, None, ap, append-nil, append_assoc, drop, get_or, length, map, refl, sym, take}
+use Rattle.std.proofs.Common.{◌≡◌, ◌∙◌, ◌+◌, ℕ, List, [], ◌∷◌, ◌++◌, Bool, true, false, cond, if◌then◌else◌, Option, Some, None, ap, append-nil, append_assoc, drop, length, map, refl, sym}
 use Rattle.std.specs.Prelude.{filter, is_none, is_some, not, zip, ◌&&◌, ◌||◌}
 use Rattle.std.specs.Bool.{OnTrue}
 use Rattle.std.specs.Cmp.Lexicographic.{bytes_decides}
 use Rattle.std.specs.List.{list_any}
 use Rattle.std.specs.Option.{option_or}
-use Rattle.std.proofs.lemmas.List.{length-map, map-append}
+use Rattle.std.proofs.lemmas.List.{length-map}
 use Rattle.std.proofs.lemmas.List.Folds.{list_any-append}
 use Rattle.bword.specs.Words.{same_name}
 use Rattle.bnames.specs.NameTables.{KnowsOneMore, value_in, with_name}
@@ -13,7 +13,6 @@ use Rattle.bnames.proofs.NameMembers.{is_some-value_of, members_more}
 use Rattle.blang.specs.declared.code.Definition.{Definition}
 use Rattle.blang.specs.Layout.{Shape, Spot, address_in, defined_names, library_addresses, shape_of, spots}
 use Rattle.bmach.proofs.Lookups.{is_some-lookup-zip, lookup-append}
-use Rattle.bmach.proofs.Naming.{shapes_more}
 use Rattle.bmach.proofs.Spots.{length-spots_after}
 use Rattle.bcheck.specs.Mentions.{IsOneMore, Knows, Meets, is_in}
 use Rattle.bcheck.specs.UndefinedNames.{first_mentions, is_undefined}
@@ -56,21 +55,8 @@ put_more true old new x there is more = λ y. members_more old new x 0 more y �
 put_more false old new x there is more =
     λ y. ap (λ t. is_in t y) is ∙ again old x y (not_not false (is_in old x) (put_new false old x there)) (same_name y x) refl
 
--- the names of one definition more
-names_more : (ds : List Definition) (i : ℕ) (d : Definition) → i < length ds → d ≡ get_or ds i d → defined_names (map shape_of (take (i + 1) ds)) ≡ defined_names (map shape_of (take i ds)) ++ (shape_of d).name ∷ []
-names_more ds i d lt is = ap defined_names (shapes_more ds i d lt is) ∙ map-append (λ (s : Shape). s.name) (map shape_of (take i ds)) (shape_of d ∷ [])
-
 abbrev pub HasDefined : List Definition → (table : List (List ℕ × ℕ)) → Type 0
 HasDefined ds table = (x : List ℕ) → is_in table x ≡ list_any (same_name x) (defined_names (map shape_of ds))
-
-pub defined_more : (ds : List Definition) (i : ℕ) (d : Definition) (old new : List (List ℕ × ℕ)) → i < length ds → d ≡ get_or ds i d → HasDefined (take i ds) old → IsOneMore old (shape_of d).name new → HasDefined (take (i + 1) ds) new
-defined_more ds i d old new lt is has more =
-    λ x. more x ∙ ap (λ b. b || same_name x (shape_of d).name) (has x)
-    ∙ ap (λ b. list_any (same_name x) (defined_names (map shape_of (take i ds))) || b) (sym (or_false (same_name x (shape_of d).name)))
-    ∙ sym (ap (list_any (same_name x)) (names_more ds i d lt is) ∙ list_any-append (same_name x) (defined_names (map shape_of (take i ds))) ((shape_of d).name ∷ []))
-
-pub knows_defined : (ds : List Definition) (table : List (List ℕ × ℕ)) → HasDefined ds table → Knows ds [] table
-knows_defined ds table has = λ x. has x ∙ sym (or_false (list_any (same_name x) (defined_names (map shape_of ds))))
 
 -- a name is undefined that is neither of the definitions nor of the library
 none_of_two : (a b : Option ℕ) → is_none (option_or a b) ≡ (not (is_some a) && not (is_some b))
@@ -154,7 +140,3 @@ module _ (ds : List Definition) (before : List (List ℕ)) where
   pub all_met : (mentioned : List (List ℕ)) (i : ℕ) (names : List (List ℕ)) (table : List (List ℕ × ℕ)) → drop i mentioned ≡ [] → MeetsSoFar mentioned i names table → Meets ds before mentioned names table
   all_met mentioned i names table over so =
       (sym (so.0 ∙ ap (λ ms. names ++ later names ms) over ∙ append-nil names), so.1)
-
-  pub none_met : (mentioned : List (List ℕ)) (table : List (List ℕ × ℕ)) → Knows ds before table → MeetsSoFar mentioned 0 [] table
-  none_met mentioned table knows =
-      (ap (λ ns. first_mentions ns (filter (is_undefined ds) mentioned)) (sym (append-nil before)), λ y. knows y ∙ ap (λ ns. list_any (same_name y) (defined_names (map shape_of ds)) || list_any (same_name y) ns) (sym (append-nil before)))

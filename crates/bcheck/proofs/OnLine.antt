@@ -1,5 +1,5 @@
 -- Words on one line.
-use Rattle.std.proofs.Common.{◌≡◌, ◌<◌, List, [], ℕ, zero, suc, ◌∷◌, ◌++◌, Bool, true, false, IsTrue, arith, get_or, length, nat_le, refl, replicate, sym, subst}
+use Rattle.std.proofs.Common.{◌≡◌, List, [], ℕ, ◌∷◌, ◌++◌, Bool, true, false, IsTrue, arith, length, nat_le, refl, sym, subst}
 use Rattle.std.specs.Prelude.{◌&&◌}
 use Rattle.std.specs.Int.{is_in_range}
 use Rattle.std.specs.List.{flat_map, list_all}
@@ -40,18 +40,8 @@ name_on_line (b ∷ bs) h =
 pub words_on_line : (old words new : List ℕ) → IsTrue (is_on_line old) → IsTrue (is_on_line words) → new ≡ old ++ words → IsTrue (is_on_line new)
 words_on_line old words new g h e = subst (λ t. IsTrue (is_on_line t)) (sym e) (both_on_line old words g h)
 
--- each byte of words on a line
-pub byte_on_line : (text : List ℕ) (i : ℕ) → IsTrue (is_on_line text) → i < length text → IsTrue (is_in_range 32 126 (get_or text i 0))
-byte_on_line [] i h lt = absurd (omega (arith, lt))
-byte_on_line (b ∷ bs) zero h lt = first (is_in_range 32 126 b) _ h
-byte_on_line (b ∷ bs) (suc i) h lt = byte_on_line bs i (second (is_in_range 32 126 b) _ h) (omega (arith, lt))
-
 pub one_on_line : (b : ℕ) → IsTrue (is_in_range 32 126 b) → IsTrue (is_on_line (b ∷ []))
 one_on_line b h = both _ _ h refl
-
-pub replicate_on_line : (n c : ℕ) → IsTrue (is_in_range 32 126 c) → IsTrue (is_on_line (replicate n c))
-replicate_on_line zero c h = refl
-replicate_on_line (suc n) c h = both _ _ h (replicate_on_line n c h)
 
 shown : (b : ℕ) → IsTrue (is_in_range 32 126 (shown_byte b))
 shown b = grind (arith, nat_tests)

@@ -17,10 +17,6 @@ use Rattle.blex.specs.declared.lexeme.Lexeme.TheVariants as lexeme
 use Rattle.blex.specs.declared.lexeme.Seen.{Seen}
 use Rattle.blex.proofs.CallLaws.{calls_give_first}
 use Rattle.bcheck.specs.Checks.{IsOver, StandsOn}
-use Rattle.bplaces.specs.Columns.{column_after}
-use Rattle.bcheck.specs.Findings.{IsMilestone}
-use Rattle.bplaces.specs.Units.{first_unit, units_after}
-use Rattle.bcheck.specs.declared.places.Milestone.{Milestone}
 
 first_of : (p : Placed) (ts : List Placed) → first_tokens 1 ts ≡ p ∷ [] → (none : List Placed) × (ts ≡ p ∷ none)
 first_of p [] e = cc
@@ -55,16 +51,6 @@ stands_there edition line start source (inr (end, less)) =
     let all : take start source ≡ source = take_all start source (omega (arith, end)) in
     let none : drop start source ≡ [] = drop_all start source (omega (arith, end)) in
     inr (subst (λ (xs : List ℕ). line_number_after 1 xs < line) (sym all) less, subst (IsOver edition) (sym none) (over_at_end edition))
-
--- the source begins with a milestone
-pub at_first : (source : List ℕ) (m : Milestone) → m.start ≡ 0 → m.line ≡ 1 → m.column ≡ 1 → m.units ≡ first_unit → IsMilestone source m
-at_first source m start line column units = record {
-  within = omega (arith, start);
-  line = line ∙ ap (λ n. line_number_after 1 (take n source)) (sym start);
-  column = column ∙ ap (λ n. column_after 1 (take n source)) (sym start);
-  some = omega (arith, column);
-  units = units ∙ ap (λ n. units_after first_unit (take n source) (drop n source)) (sym start);
-}
 
 positive : (m n : ℕ) → not (suc m == 0) ≡ nat_lt 0 (suc n)
 positive m n = grind (arith, nat_tests)

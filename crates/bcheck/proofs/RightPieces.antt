@@ -69,9 +69,6 @@ module _ (edition : Edition) (source : List ℕ) where
   pub record Reads (pieces : List PlacedPiece) (at : ℕ) : Type 0 where
     pub all : pieces ++ coming at ≡ right_pieces edition source
 
-  pub reads_from : Reads [] 0
-  reads_from = record { all = refl }
-
   module _ (pieces : List PlacedPiece) (at : ℕ) (found : PlacedPiece) (is : found ≡ next at) (h : Reads pieces at) where
     pub reads_end : is_end found.lexeme ≡ true → pieces ≡ right_pieces edition source
     reads_end e =

@@ -1,11 +1,11 @@
 -- What two sources begin with alike, and what an edit makes of a source.
-use Rattle.std.proofs.Common.{◌≡◌, ◌∙◌, ℕ, zero, suc, ◌+◌, ◌<◌, ◌≤◌, ◌==◌, Bool, true, false, List, [], ◌∷◌, ◌++◌, ap, arith, drop, length, refl, sym, zero-add}
+use Rattle.std.proofs.Common.{◌≡◌, ◌∙◌, ℕ, suc, ◌+◌, ◌<◌, ◌≤◌, ◌==◌, Bool, true, false, List, [], ◌∷◌, ap, arith, drop, length, refl, sym}
 use Rattle.std.specs.Prelude.{if◌then◌else◌}
 use Rattle.std.proofs.lemmas.Bool.Decides.{nat_tests}
 use Rattle.std.proofs.lemmas.List.{drop-drop, drop_all, length-drop}
 use Rattle.blex.specs.declared.scanner.PlacedPiece.{PlacedPiece}
 use Rattle.bword.specs.declared.edition.Edition.{Edition}
-use Rattle.bcheck.specs.Spares.{Pair, Swap, alike, are_in, before_back, begins_alike, changed_pair, is_same_piece, keeps, rest_back, right_pieces, spares}
+use Rattle.bcheck.specs.Spares.{Pair, Swap, alike, are_in, before_back, begins_alike, changed_pair, keeps, rest_back, right_pieces, spares}
 
 module _ (source new : List ℕ) where
   one_more : (olds news : List PlacedPiece) → begins_alike source olds new news ≡ true
@@ -21,19 +21,11 @@ module _ (source new : List ℕ) where
   one_more (p ∷ ps) (q ∷ qs) h =
       (ap (λ (b : Bool). if b then suc (alike source ps new qs) else 0) h, omega arith)
 
-  none_more : (olds news : List PlacedPiece) → begins_alike source olds new news ≡ false → alike source olds new news ≡ 0
-  none_more [] news h = refl
-  none_more (p ∷ ps) [] h = refl
-  none_more (p ∷ ps) (q ∷ qs) h = ap (λ (b : Bool). if b then suc (alike source ps new qs) else 0) h
-
   module _ (olds news : List PlacedPiece) (i : ℕ) where
     -- so many are alike, and those that come after them
     pub record Counts : Type 0 where
       pub all : alike source olds new news ≡ i + alike source (drop i olds) new (drop i news)
       pub within : i ≤ length news
-
-  pub counts_from : (olds news : List PlacedPiece) → Counts olds news 0
-  counts_from olds news = record { all = sym (zero-add (alike source olds new news)); within = omega arith }
 
   module _ (olds news : List PlacedPiece) (i : ℕ) (h : Counts olds news i) where
     pub counts_more : begins_alike source (drop i olds) new (drop i news) ≡ true → Counts olds news (i + 1)
@@ -47,17 +39,6 @@ module _ (source new : List ℕ) where
         one.0 ∙ ap (λ (ps : List PlacedPiece). suc (alike source ps new (drop 1 (drop i news)))) (drop-drop 1 i olds)
         ∙ ap (λ (qs : List PlacedPiece). suc (alike source (drop (i + 1) olds) new qs)) (drop-drop 1 i news) in
         record { all = omega (arith, all, step); within = omega (arith, long, some, within) }
-
-    pub counts_end : begins_alike source (drop i olds) new (drop i news) ≡ false → i ≡ alike source olds new news
-    counts_end e =
-        let none = none_more (drop i olds) (drop i news) e in
-        let all = h.all in omega (arith, none, all)
-
-    pub counts_all : length olds ≤ i → i ≤ length olds → length olds ≡ alike source olds new news
-    counts_all low high =
-        let none : alike source (drop i olds) new (drop i news) ≡ 0 =
-        ap (λ (ps : List PlacedPiece). alike source ps new (drop i news)) (drop_all i olds low) in
-        let all = h.all in omega (arith, none, all, low, high)
 
 -- the pieces that are left among the others that are left
 module _ (source new : List ℕ) where

@@ -1,19 +1,17 @@
 -- Where the tokens of a source stand, and one of a line.
-use Rattle.std.proofs.Common.{◌≡◌, ◌≢◌, ◌∙◌, ℕ, zero, suc, ◌+◌, ◌<◌, ◌≤◌, ◌==◌, ◌&&◌, ◌||◌, Bool, true, false, List, [], ◌∷◌, ◌++◌, Option, Some, None, ⊎_elim, ap, arith, drop, inl, inr, length, length-drop, nat_lt, nat_le, refl, subst, sym, take}
+use Rattle.std.proofs.Common.{◌≡◌, ◌≢◌, ◌∙◌, ℕ, zero, suc, ◌+◌, ◌<◌, ◌≤◌, ◌==◌, ◌&&◌, ◌||◌, Bool, true, false, List, [], ◌∷◌, Option, Some, None, ⊎_elim, ap, arith, drop, length, length-drop, refl, subst, sym}
 use Rattle.std.proofs.lemmas.Bool.Decides.{nat_tests}
 use Rattle.std.specs.Prelude.{if◌then◌else◌, IfSome}
 use Rattle.std.specs.List.{list_any}
 use Rattle.bword.specs.declared.edition.Edition.{Edition}
-use Rattle.std.proofs.lemmas.List.{length-take-le, take-append-drop}
-use Rattle.blang.specs.Cut.{greatest, line_number_after, longest}
+use Rattle.blang.specs.Cut.{greatest, longest}
 use Rattle.blex.specs.declared.lexeme.Lexeme.{Lexeme}
 use Rattle.blex.specs.declared.lexeme.Lexeme.TheVariants as lexeme
 use Rattle.blex.specs.declared.scanner.PlacedPiece.{PlacedPiece}
 use Rattle.blex.specs.Places.{Finds, Scanner, after_blanks, line_at, next_piece, piece_end}
 use Rattle.blex.proofs.PlaceSteps.{blanks_within, piece_grows}
-use Rattle.bcheck.specs.Checks.{IsAtToken, IsOver, StandsOn}
 use Rattle.bcheck.specs.Findings.{Chooses, FindsOn}
-use Rattle.bcheck.specs.Tokens.{ends, has_token_on, is_around, is_on, is_token, pieces_from, pieces_of}
+use Rattle.bcheck.specs.Tokens.{ends, has_token_on, is_on, is_token, pieces_from, pieces_of}
 
 greatest_within : (p : ℕ → Bool) (n : ℕ) → greatest p n ≤ n
 unfolding greatest
@@ -163,37 +161,4 @@ pub found_in : (old new : Scanner) (found : PlacedPiece) (edition : Edition) (so
     → found ≡ next_piece edition source old.at
 found_in old new found edition source h e f = h.found_is ∙ ap (λ x. next_piece x old.source old.at) e ∙ ap (λ s. next_piece edition s old.at) f
 
-both_are : (a b : Bool) → a ≡ true → b ≡ true → (a && b) ≡ true
-both_are true b e f = f
-both_are false b e f = cc
-
-le_is : (m n : ℕ) → m ≤ n → nat_le m n ≡ true
-le_is m n h = grind (arith, nat_tests)
-
-lt_is : (m n : ℕ) → m < n → nat_lt m n ≡ true
-lt_is m n h = grind (arith, nat_tests)
-
-less_of : (m n : ℕ) → m ≤ n → (m == n) ≡ false → m < n
-less_of m n h e = grind (arith, nat_tests)
-
 module _ (edition : Edition) (line : ℕ) (source : List ℕ) (place : ℕ) where
-  -- on the line, or before it
-  pub up_to_line : (here : ℕ) → here ≡ line_number_after 1 (take place source) → here ≤ line → IsOver edition (drop place source) → StandsOn edition line (take place source) (drop place source)
-  up_to_line here e h over = by (here == line) refl
-    where
-      by : (b : Bool) → (here == line) ≡ b → StandsOn edition line (take place source) (drop place source)
-      by true f = inl (sym e ∙ same_number here line f)
-      by false f = inr (subst (λ n. n < line) e (less_of here line h f), over)
-
-  -- in a token that was found
-  pub in_found : (p : PlacedPiece) → FindsOn edition line source (Some p) → p.first ≤ place → place < p.end → IsAtToken edition line (take place source) (drop place source)
-  in_found p h low high =
-      let within : place ≤ length source = let end = h.3 in omega arith in
-      let here : is_around line place p ≡ true = both_are (is_on line p) _ h.0 (both_are (nat_le p.first place) (nat_lt place p.end) (le_is p.first place low) (lt_is place p.end high)) in
-      inl
-      (ap (λ n. list_any (is_around line n) (pieces_of edition (take place source ++ drop place source))) (length-take-le place source within)
-      ∙ ap (λ s. list_any (is_around line place) (pieces_of edition s)) (take-append-drop place source)
-      ∙ h.4 (is_around line place) here)
-
-  pub none_there : has_token_on edition line source ≡ false → IsAtToken edition line (take place source) (drop place source)
-  none_there e = inr (inl (ap (has_token_on edition line) (take-append-drop place source) ∙ e))
