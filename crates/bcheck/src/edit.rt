@@ -7,7 +7,7 @@ ghost use Rattle.bcheck.specs.Checks.{goes_on, is_in_line, is_on_line};
 ghost use Rattle.bword.specs.Words.{same_name};
 ghost use Rattle.bcheck.specs.Findings.{IsEdit, IsMilestone, IsPlaced, changes_line};
 
-use crate::excerpt::line_length;
+use crate::excerpt::{left_length, line_length};
 use crate::places::{Milestone, parts, position};
 use bsources::{FileLine, SourceFiles};
 use btools::Text;
@@ -85,7 +85,8 @@ pub(crate) fn edit_of<'a>(
         return None;
     }
     let (line, column, units) = position(source, milestones, proposal.start);
-    let left_len = left_length(column, text.len()).min(before.len());
+    let wanted = left_length(column, text.len(), SHOWN_BYTES, SHOWN_BEFORE);
+    let left_len = wanted.min(before.len());
     let (_, left) = before.split_at(before.len() - left_len);
     let room = SHOWN_BYTES.saturating_sub(left_len.saturating_add(text.len()));
     let (right, following) = after.split_at(line_length(after, room));
@@ -117,19 +118,6 @@ fn goes_on(bytes: &[u8]) -> bool
     match bytes.first() {
         Some(byte) => *byte != b'\n',
         None => false,
-    }
-}
-
-// How many bytes before a text of so many are shown.
-fn left_length(column: usize, len: usize) -> usize
-    requires { 0 < column }
-    ensures { result < column }
-{
-    let before = column - 1;
-    if before.saturating_add(len) <= SHOWN_BYTES {
-        before
-    } else {
-        before.min(SHOWN_BEFORE)
     }
 }
 

@@ -50,7 +50,7 @@ pub(crate) fn excerpt_at<'a>(
     let (before, rest) = parts(source, place.start);
     let (line, column, units) = position(source, milestones, place.start);
     let len = place.len.max(1);
-    let left_len = left_length(column, len).min(before.len());
+    let left_len = left_length(column, len, SHOWN_BYTES, BEFORE_MARK).min(before.len());
     let room = SHOWN_BYTES.saturating_sub(left_len);
     let (_, left) = before.split_at(before.len() - left_len);
     let (right, _) = rest.split_at(line_length(rest, room));
@@ -77,16 +77,17 @@ fn unit_end(units: UnitPlace, rest: &[u8], right: &[u8], marks: usize) -> usize
         .saturating_add(marks.saturating_sub(right.len()))
 }
 
-// How many bytes before a place are shown that has so many itself.
-fn left_length(column: usize, len: usize) -> usize
+/// How many bytes are shown before a place that has `len` itself: all, where both are no more than are shown, or else
+/// at most this many.
+pub(crate) fn left_length(column: usize, len: usize, shown: usize, most: usize) -> usize
     requires { 0 < column }
     ensures { result < column }
 {
     let before = column - 1;
-    if before.saturating_add(len) <= SHOWN_BYTES {
+    if before.saturating_add(len) <= shown {
         before
     } else {
-        before.min(BEFORE_MARK)
+        before.min(most)
     }
 }
 
