@@ -1,5 +1,5 @@
 -- Closed facts: what is told of a source, each at its limits and one past them.
-use Rattle.std.specs.Prelude.{◌≡◌, ◌<◌, ◌⊎◌, ℕ, List, [], ◌∷◌, ◌++◌, codes, length, map, Option, None, Some, refl}
+use Rattle.std.specs.Prelude.{◌≡◌, ◌<◌, ◌≤◌, ◌⊎◌, ℕ, List, [], ◌∷◌, ◌++◌, codes, length, map, Option, None, Some, refl}
 use Rattle.std.specs.Prelude.{drop, false, take, true}
 use Rattle.std.specs.Fmt.{digits}
 use Rattle.bword.specs.declared.edition.Edition.TheVariants as editions
@@ -13,11 +13,11 @@ use Rattle.std.specs.List.{AllZip}
 use Rattle.blang.specs.declared.code.Definition.{Definition}
 use Rattle.bcheck.specs.UndefinedNames.{told_subjects}
 use Rattle.bcheck.specs.declared.mention.Subject.{Subject}
-use Rattle.bcheck.specs.Checks.{FindingParts, IsWhole, finding_text, findings_text, is_in_line, is_on_line}
+use Rattle.bcheck.specs.Checks.{FindingParts, IsWhole, Reason, finding_text, findings_text, is_in_line, is_on_line}
 use Rattle.bcheck.specs.Checks.{second_text}
 use Rattle.bcheck.specs.Checks.{diagnostic_code, severity_of, severity_word, shown_byte}
 use Rattle.bcheck.specs.Checks.{shown_in_form, told_first}
-use Rattle.bcheck.specs.Checks.{GoesFarther, tokens_in, with_newline}
+use Rattle.bcheck.specs.Checks.{GoesFarther, StopsBy, StopsPast, tokens_in, with_newline}
 use Rattle.bcheck.specs.Checks.{change_line, cut_mark, goes_on, EditParts, IsBetter, IsLater, Outcome, edit_object}
 use Rattle.bcheck.specs.Checks.{edits_text, fault_in, mended, mended_line}
 use Rattle.bcheck.specs.CheckExcluded.{has_no_colon}
@@ -69,6 +69,15 @@ fault_codes : map codes_about (about.Nothing ∷ about.Name (codes "n") ∷ abou
     ∷ codes_with (codes "sx default") (codes "rd default") ∷ [])
 fault_codes = refl
 
+-- an error has the code of the diagnostic, or that of code that doesn't load, and no other
+error_codes : (d : Diagnostic) (f : Option LoadFault) (code before rest : List ℕ)
+    → Reason editions.Two (Some d) f code before rest → code ≡ diagnostic_code d
+error_codes d f code before rest reason = reason.0
+
+load_codes : (code : List ℕ) → (Reason editions.Two None (Some fault.TooLarge) code [] [] → code ≡ codes "load 2")
+    × (Reason editions.Two None (Some (fault.Undefined (codes "n"))) code [] [] → code ≡ codes "load 3")
+load_codes code = (λ reason. reason, λ reason. reason)
+
 -- one finding of a diagnostic and of data that are too many; and of names that nothing defines one for each
 whole_of_faults : (On : Subject → ℕ → Type 0) (d : Diagnostic) (f : Option LoadFault) (ds : List Definition)
     (told : List ℕ) → (IsWhole On (Some d) f ds told → length told ≡ 1)
@@ -79,21 +88,77 @@ whole_of_names : (On : Subject → ℕ → Type 0) (name : List ℕ) (ds : List 
     → IsWhole On None (Some (fault.Undefined name)) ds told → AllZip On (told_subjects ds) told
 whole_of_names On name ds told = λ is. is
 
--- a warning of each code
+-- the code of each warning
 warning_codes : map warning_code (
-    warning.CommentGoesOn ∷ warning.AndAnd ∷ warning.OperatorAssigns ∷ warning.ConditionAssigns ∷ warning.EmptyIf ∷
-    warning.PastVector ∷ warning.NegativeNumber ∷ warning.StringEnd ∷ warning.StringPut ∷ warning.NameAlone ∷
-    warning.Backslash ∷ warning.BitsCompared ∷ warning.ManyArguments ∷ warning.NoReturn ∷ warning.NeverUsed ∷
-    warning.Unset ∷ warning.HidesExternal ∷ warning.NearMain ∷ warning.DefaultLabel ∷ warning.CallsItself ∷
-    warning.Indented ∷ warning.OctalNumber ∷ warning.DividesFirst ∷ warning.AlwaysTrue ∷ warning.SlashEscape ∷
-    warning.FallsIntoCase ∷ warning.Slip slip.SetLater ∷ [])
-    ≡ codes "*/" ∷ codes "and" ∷ codes "op" ∷ codes "if" ∷ codes "em" ∷ codes "ix" ∷ codes "sg" ∷ codes "en" ∷
-    codes "st" ∷ codes "no" ∷ codes "bs" ∷ codes "pr" ∷ codes "ar" ∷ codes "rt" ∷ codes "us" ∷ codes "in" ∷
-    codes "hi" ∷ codes "ma" ∷ codes "ed" ∷ codes "lp" ∷ codes "la" ∷ codes "nu" ∷ codes "di" ∷ codes "tr" ∷
-    codes "es" ∷ codes "sw" ∷ codes "in" ∷ []
+    warning.CommentGoesOn ∷ warning.AndAnd ∷ warning.Power ∷ warning.OperatorAssigns ∷ warning.ConditionAssigns ∷
+    warning.AssignsComparison ∷ warning.AssignsCompared ∷ warning.EmptyIf ∷ warning.EmptyLoop ∷ warning.PastVector ∷
+    warning.VectorForWord ∷ warning.WordForVector ∷ warning.VectorAddress ∷ warning.ReturnsVector ∷
+    warning.ReturnsAddress ∷ warning.NegativeNumber ∷ warning.StringEnd ∷ warning.InputEnd ∷ warning.InputZero ∷
+    warning.StringForNumber ∷ warning.StringForCharacter ∷ warning.StringPut ∷ warning.StringCompared ∷
+    warning.NameAlone ∷ warning.ComparesAlone ∷ warning.NoEffect ∷ warning.Backslash ∷ warning.BitsCompared ∷
+    warning.ComparesTwice ∷ warning.NotCompared ∷ warning.ManyArguments ∷ warning.FewArguments ∷
+    warning.LibraryArguments ∷ warning.SwappedArguments ∷ warning.WrongBase ∷ warning.NoReturn ∷ warning.NeverUsed ∷
+    warning.Unset ∷ warning.UnsetVector ∷ warning.HidesExternal ∷ warning.HidesLibrary ∷ warning.NearMain ∷
+    warning.DefaultLabel ∷ warning.WordOutside ∷ warning.VectorCalled ∷ warning.WordOfString ∷ warning.CallsItself ∷
+    warning.ChangesNothing ∷ warning.LoopUnchanged ∷ warning.Indented ∷ warning.Overwritten ∷
+    warning.MainParameters ∷ warning.StringsAdded ∷ warning.OrConstant ∷ warning.AssignsItself ∷
+    warning.PassesOldValue ∷ warning.ValueDropped ∷ warning.EndlessLoop ∷ warning.NoMain ∷
+    warning.DanglingElse ∷ warning.IfsInRow ∷ warning.ElseOverwrites ∷ warning.OctalNumber ∷ warning.LargeNumber ∷
+    warning.DividesFirst ∷ warning.ZeroQuotient ∷ warning.AlwaysTrue ∷ warning.NeverTrue ∷ warning.LoopPastVector ∷
+    warning.CountPastVector ∷ warning.CountsAway ∷ warning.InnerOnce ∷ warning.BeginsAnew ∷ warning.InputEndless ∷
+    warning.SameArguments ∷ warning.ResultDropped ∷ warning.StringAdded ∷ warning.StoredBack ∷ warning.NotReached ∷
+    warning.DigitForCharacter ∷ warning.FallsIntoCase ∷ warning.FormValues ∷ warning.TwoIndices ∷
+    warning.AssignsNot ∷ warning.ProductTooLarge ∷ warning.NumberPut ∷ warning.AddressesCompared ∷
+    warning.ValueForAddress ∷ warning.CharacterCounted ∷ warning.SlashEscape ∷ warning.WordCalled ∷
+    warning.SomeReturn ∷ warning.QuotientCut ∷ warning.FirstTurnOnly ∷ warning.StringMoved ∷
+    warning.TestedBefore ∷ warning.OnlyInIf ∷ warning.IndexKept ∷ warning.OwnResultDropped ∷
+    warning.Slip slip.VectorAssigned ∷ warning.Slip slip.VectorCopied ∷ warning.Slip slip.SameNow ∷
+    warning.Slip slip.CopiedLate ∷ warning.Slip slip.OtherExtreme ∷ warning.Slip slip.LeastFromZero ∷
+    warning.Slip slip.LargestFromZero ∷ warning.Slip slip.NotKept ∷ warning.Slip slip.SameTwice ∷
+    warning.Slip slip.NotSetBack ∷ warning.Slip slip.AfterLast ∷ warning.Slip slip.NotEnded ∷
+    warning.Slip slip.ComparedAlone ∷ warning.Slip slip.NewlineNext ∷ warning.Slip slip.PopsAbove ∷
+    warning.Slip slip.WordForAddress ∷ warning.Slip slip.CharacterLost ∷ warning.Slip slip.CharacterForString ∷
+    warning.Slip slip.NumberForString ∷ warning.Slip slip.FormKind ∷ warning.Slip slip.CallsAway ∷
+    warning.Slip slip.StepsPast ∷ warning.Slip slip.NeverAgain ∷ warning.Slip slip.LastTurnOnly ∷
+    warning.Slip slip.DividesByZero ∷ warning.Slip slip.CountsFirst ∷ warning.Slip slip.ValueKept ∷
+    warning.Slip slip.VectorReckoned ∷ warning.Slip slip.CountsEnd ∷ warning.Slip slip.SameAsked ∷
+    warning.Slip slip.WordStored ∷ warning.Slip slip.RemainderBelow ∷ warning.Slip slip.RoomTooSmall ∷
+    warning.Slip slip.NotFirst ∷ warning.Slip slip.ProductOfZero ∷ warning.Slip slip.BaseOfZero ∷
+    warning.Slip slip.ZeroDivisor ∷ warning.Slip slip.RemainderKept ∷ warning.Slip slip.DividedByOne ∷
+    warning.Slip slip.SetLater ∷ warning.Slip slip.ZeroEnd ∷ warning.Slip slip.CallsPast ∷
+    warning.Slip slip.CharacterIndex ∷ warning.Slip slip.HalfStays ∷ warning.Slip slip.NextPast ∷
+    warning.Slip slip.EndTaken ∷ warning.Slip slip.LeavesCountOut ∷ warning.Slip slip.BeginsAgain ∷
+    warning.Slip slip.BothEvaluated ∷ warning.Slip slip.ZeroAfter ∷ warning.Slip slip.SharedCounter ∷
+    warning.Slip slip.MovesAddress ∷ warning.Slip slip.ShiftOfSum ∷ []
+    ) ≡ codes "*/" ∷ codes "and" ∷ codes "and" ∷ codes "op" ∷ codes "if" ∷ codes "if" ∷ codes "if" ∷ codes "em" ∷
+    codes "em" ∷ codes "ix" ∷ codes "ix" ∷ codes "ix" ∷ codes "ix" ∷ codes "ix" ∷ codes "ix" ∷ codes "sg" ∷
+    codes "en" ∷ codes "en" ∷ codes "en" ∷ codes "st" ∷ codes "st" ∷ codes "st" ∷ codes "st" ∷ codes "no" ∷
+    codes "no" ∷ codes "no" ∷ codes "bs" ∷ codes "pr" ∷ codes "pr" ∷ codes "pr" ∷ codes "ar" ∷ codes "ar" ∷
+    codes "ar" ∷ codes "ar" ∷ codes "ar" ∷ codes "rt" ∷ codes "us" ∷ codes "in" ∷ codes "in" ∷ codes "hi" ∷
+    codes "hi" ∷ codes "ma" ∷ codes "ed" ∷ codes "ed" ∷ codes "ix" ∷ codes "st" ∷ codes "lp" ∷ codes "no" ∷
+    codes "lp" ∷ codes "la" ∷ codes "us" ∷ codes "ma" ∷ codes "st" ∷ codes "pr" ∷ codes "op" ∷ codes "ar" ∷
+    codes "no" ∷ codes "lp" ∷ codes "ma" ∷
+    codes "la" ∷ codes "la" ∷ codes "la" ∷ codes "nu" ∷ codes "nu" ∷ codes "di" ∷ codes "di" ∷ codes "tr" ∷
+    codes "tr" ∷ codes "ix" ∷ codes "ix" ∷ codes "lp" ∷ codes "lp" ∷ codes "lp" ∷ codes "en" ∷ codes "lp" ∷
+    codes "no" ∷ codes "st" ∷ codes "us" ∷ codes "no" ∷ codes "en" ∷ codes "sw" ∷ codes "ar" ∷ codes "ix" ∷
+    codes "tr" ∷ codes "nu" ∷ codes "st" ∷ codes "st" ∷ codes "ar" ∷ codes "en" ∷ codes "es" ∷ codes "hi" ∷
+    codes "rt" ∷ codes "di" ∷ codes "no" ∷ codes "st" ∷ codes "no" ∷ codes "lp" ∷ codes "ix" ∷ codes "no" ∷
+    codes "ix" ∷ codes "ix" ∷ codes "us" ∷ codes "us" ∷ codes "tr" ∷ codes "us" ∷ codes "us" ∷ codes "us" ∷
+    codes "ix" ∷ codes "lp" ∷ codes "ix" ∷ codes "st" ∷ codes "st" ∷ codes "en" ∷ codes "ix" ∷ codes "ar" ∷
+    codes "en" ∷ codes "st" ∷ codes "st" ∷ codes "ar" ∷ codes "lp" ∷ codes "lp" ∷ codes "lp" ∷ codes "lp" ∷
+    codes "di" ∷ codes "lp" ∷ codes "ar" ∷ codes "ix" ∷ codes "en" ∷ codes "lp" ∷ codes "st" ∷
+    codes "di" ∷ codes "ix" ∷ codes "tr" ∷ codes "us" ∷ codes "us" ∷ codes "di" ∷ codes "lp" ∷ codes "di" ∷ codes "in" ∷
+    codes "en" ∷ codes "lp" ∷ codes "ix" ∷ codes "lp" ∷ codes "ix" ∷ codes "en" ∷ codes "lp" ∷ codes "lp" ∷ codes "di" ∷
+    codes "lp" ∷ codes "lp" ∷ codes "no" ∷ codes "pr" ∷ []
 warning_codes = refl
 
 -- the codes that rules alone give; those of finders, of faults, a part of one, one with more letters, and none
+by_rules : rule_codes
+    ≡ codes "and" ∷ codes "op" ∷ codes "if" ∷ codes "em" ∷ codes "sg" ∷ codes "en" ∷ codes "st" ∷ codes "no"
+    ∷ codes "bs" ∷ codes "pr" ∷ codes "rt" ∷ codes "us" ∷ codes "ed" ∷ codes "tr" ∷ codes "di" ∷ codes "es" ∷ codes "sw"
+    ∷ []
+by_rules = refl
+
 of_rules : map is_rule_code rule_codes
     ≡ true ∷ true ∷ true ∷ true ∷ true ∷ true ∷ true ∷ true ∷ true ∷ true ∷ true ∷ true ∷ true ∷ true ∷ true ∷ true ∷ true
     ∷ []
@@ -350,6 +415,16 @@ edits_for_people : finding_text form.Text severity.Error (alone (codes "x.b")) o
 unfolding digits
 edits_for_people = refl
 
+-- a diagnostic on a later line, on the same one, where there was none, and none
+abbrev at_line : ℕ → Diagnostic
+at_line line = record { letters = letters.Syntax; about = about.Nothing; line = line }
+
+later_lines : (a b : ℕ) → IsLater (Some (at_line a)) (Some (at_line b)) → b < a
+later_lines a b h = h
+
+new_one_is_not : (d : Diagnostic) → IsLater (Some d) None → ⊥
+new_one_is_not d h = h
+
 -- what mends is better: the fault is gone or later, what loaded loads, and what didn't has fewer undefined names
 mends_are_better : (new old : Outcome) → IsBetter new old
     → (IsLater new.stop old.stop ⊎ GoesFarther old.edition new.source old.source)
@@ -357,6 +432,16 @@ mends_are_better : (new old : Outcome) → IsBetter new old
     × ((told_first old.stop (fault_in old)).1 ≡ 132 → ((told_first new.stop (fault_in new)).1 ≡ 0)
     ⊎ (length (told_subjects new.definitions) < length (told_subjects old.definitions)))
 mends_are_better new old h = h
+
+-- where a newline between both parts of a source shows its fault: on the line of the first part or before it, or after
+stops_by : (a line : ℕ) → StopsBy line (Some (at_line a)) → a ≤ line
+stops_by a line h = h
+
+stops_past : (a line : ℕ) → StopsPast line (Some (at_line a)) → line < a
+stops_past a line h = h
+
+one_that_compiles_stops_by_no_line : (line : ℕ) → StopsBy line None → ⊥
+one_that_compiles_stops_by_no_line line h = h
 
 sources_with_newline : with_newline (codes "a b") (codes " c\n") ≡ codes "a b\n c\n"
 sources_with_newline = refl
@@ -374,7 +459,29 @@ unfolding tokens_from cut longest greatest whole word_token keyword_of number_in
     with_quoted_byte
 tokens_parted = refl
 
--- what the theorems look for
+-- two sources alike but for a string that the new one opens: no newline in it leaves the tokens of the old one alone
+abbrev long_source : List ℕ
+long_source = codes "main() { auto x; putchar(\"ab cd\"); x = ; }"
+
+abbrev count_with : ℕ → ℕ
+count_with n = length (tokens_in editions.One (with_newline (take n long_source) (drop n long_source)))
+
+all_of_long : length (tokens_in editions.One long_source) ≡ 17
+unfolding tokens_from cut longest greatest whole word_token keyword_of number_in operator_of other_of fixed_of escape_of
+    with_quoted_byte
+all_of_long = refl
+
+first_of_long : map count_with (28 ∷ 29 ∷ []) ≡ 10 ∷ 10 ∷ []
+unfolding tokens_from cut longest greatest whole word_token keyword_of number_in operator_of other_of fixed_of escape_of
+    with_quoted_byte
+first_of_long = refl
+
+others_of_long : map count_with (30 ∷ 31 ∷ []) ≡ 10 ∷ 10 ∷ []
+unfolding tokens_from cut longest greatest whole word_token keyword_of number_in operator_of other_of fixed_of escape_of
+    with_quoted_byte
+others_of_long = refl
+
+-- what the theorems look for: colons
 colons : map has_no_colon ([] ∷ codes "x.b" ∷ codes "a:b" ∷ codes "9;" ∷ []) ≡ (true ∷ true ∷ false ∷ true ∷ [])
 colons = refl
 

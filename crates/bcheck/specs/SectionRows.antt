@@ -1,20 +1,24 @@
 -- Closed facts: where the sections of a source begin, and what is told of them.
 use Rattle.std.specs.Prelude.{◌≡◌, ℕ, ◌+◌, ◌-◌, List, [], ◌∷◌, ◌++◌, codes, length, map, replicate, take}
-use Rattle.std.specs.Prelude.{None, Some, refl, true, false}
+use Rattle.std.specs.Prelude.{None, Option, Some, refl, true, false}
 use Rattle.bword.specs.declared.edition.Edition.{Edition}
 use Rattle.bword.specs.declared.edition.Edition.TheVariants as editions
 use Rattle.blang.specs.declared.token.Diagnostic.{Diagnostic}
 use Rattle.blang.specs.declared.token.Letters.TheVariants as letters
+use Rattle.blang.specs.declared.run.LoadFault.{LoadFault}
+use Rattle.blang.specs.declared.run.LoadFault.TheVariants as fault
 use Rattle.blang.specs.Cut.{fixed_of, greatest, keyword_of, longest, number_in, operator_of, other_of, whole}
 use Rattle.blang.specs.Cut.{word_token}
 use Rattle.blex.specs.declared.lexeme.Lexeme.{Lexeme}
 use Rattle.blex.specs.declared.lexeme.Lexeme.TheVariants as lexeme
 use Rattle.blex.specs.declared.scanner.PlacedPiece.{PlacedPiece}
-use Rattle.bcheck.specs.Checks.{FindingParts, IsFurther, IsOfSection, IsOfSections, StandsOn, TellsSection}
+use Rattle.bsources.specs.Files.{Files}
+use Rattle.bcheck.specs.Checks.{FindingParts, IsFurther, IsOfSection, IsOfSections, Outcome, StandsOn, TellsSection}
 use Rattle.bcheck.specs.Checks.{diagnostic_code}
-use Rattle.bcheck.specs.Counts.{IsCountFrom}
+use Rattle.bcheck.specs.Counts.{IsCountFrom, IsCountOfWarnings, IsTallyOf}
 use Rattle.bcheck.specs.Sections.{Section, at_fault, head_after, is_first_column, is_in_head, opened, places_from}
 use Rattle.bcheck.specs.Sections.{section_places, sections_at}
+use Rattle.bcheck.specs.UndefinedNames.{told_subjects}
 use Rattle.bcheck.specs.declared.finding.TheConstants.{MOST_FINDINGS}
 
 -- names, commas, parentheses and comments
@@ -104,3 +108,23 @@ counted = refl
 count_alone : (count : ℕ) → IsCountFrom editions.Two 1 (codes ";") count → count ≡ 1
 unfolding places_from longest greatest whole word_token keyword_of number_in operator_of other_of fixed_of
 count_alone count h = h.2
+
+tally_of_fault : (o : Outcome) (files : Files) (d : Diagnostic) (f : Option LoadFault) (count : ℕ)
+    → IsTallyOf o files (Some d) f count → IsCountFrom o.edition d.line o.source count
+tally_of_fault o files d f count h = h
+
+tally_of_data : (o : Outcome) (files : Files) (count : ℕ) → IsTallyOf o files None (Some fault.TooLarge) count
+    → count ≡ 1
+tally_of_data o files count h = h
+
+tally_of_names : (o : Outcome) (files : Files) (name : List ℕ) (count : ℕ)
+    → IsTallyOf o files None (Some (fault.Undefined name)) count → count ≡ length (told_subjects o.definitions)
+tally_of_names o files name count h = h
+
+tally_of_program : (o : Outcome) (files : Files) (count : ℕ) → IsTallyOf o files None None count
+    → IsCountOfWarnings o.edition files o.source count
+tally_of_program o files count h = h
+
+tally_without_main : (o : Outcome) (files : Files) (count : ℕ) → IsTallyOf o files None (Some fault.NoMain) count
+    → IsCountOfWarnings o.edition files o.source count
+tally_without_main o files count h = h
