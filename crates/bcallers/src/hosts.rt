@@ -1,6 +1,6 @@
 use bhost::calls::{
-    Whereabouts, begin, close, column, end, feed, find, go_on, limit, load, look, name_of, read,
-    store, take, tell, unload,
+    Whereabouts, begin, close, column, copy, end, feed, find, forget, go_on, limit, load, look,
+    name_of, read, store, swap, take, tell, unload,
 };
 use bhost::symbols::{AUTOMATIC_VECTOR, FUNCTION, VECTOR};
 use bhost::{Host, Query, Symbol};
@@ -147,6 +147,41 @@ fn a_host_tells_what_names_stand_for(rt: HostRuntime) -> Result<(), Fail> {
     );
     assert!(rt; symbol.kind == 0 && symbol.name[0] == 0);
     assert_eq!(rt; find(alloc, &mut host, b"1f", &mut symbol), 132);
+    unload(alloc, &mut host);
+    host.forget();
+    Ok(())
+}
+
+#[test]
+fn a_host_keeps_copies(rt: HostRuntime) -> Result<(), Fail> {
+    let alloc = rt.alloc();
+    let mut host = Host::none();
+    assert_eq!(rt;
+        load(alloc, SOURCE, Origin::Source(Edition::One), &mut host),
+        0
+    );
+    assert_eq!(rt; begin(alloc, &mut host), 0);
+    let mut value = 7;
+    assert_eq!(rt; go_on(alloc, &mut host, 1000, &mut value), 133);
+    assert_eq!(rt; copy(alloc, &mut host), 0);
+    assert_eq!(rt; store(alloc, &mut host, 7, 9), 0);
+    assert_eq!(rt; swap(alloc, &mut host, 1), 132);
+    assert_eq!(rt; swap(alloc, &mut host, 0), 0);
+    let mut word = 7;
+    assert_eq!(rt; read(alloc, &mut host, 7, &mut word), 0);
+    assert_eq!(rt; word, 0);
+    assert_eq!(rt; feed(alloc, &mut host, b"HAL"), 0);
+    assert_eq!(rt; close(alloc, &mut host), 0);
+    assert_eq!(rt; go_on(alloc, &mut host, 1000, &mut value), 0);
+    assert_eq!(rt; value, 3);
+    assert_eq!(rt; swap(alloc, &mut host, 0), 0);
+    assert_eq!(rt; forget(alloc, &mut host, 0), 0);
+    assert_eq!(rt; forget(alloc, &mut host, 0), 132);
+    assert_eq!(rt; go_on(alloc, &mut host, 1000, &mut value), 133);
+    assert_eq!(rt; read(alloc, &mut host, 7, &mut word), 0);
+    assert_eq!(rt; word, 9);
+    assert_eq!(rt; copy(alloc, &mut host), 0);
+    assert_eq!(rt; end(alloc, &mut host), 0);
     unload(alloc, &mut host);
     host.forget();
     Ok(())
